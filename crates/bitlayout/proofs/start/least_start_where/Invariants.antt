@@ -1,0 +1,7 @@
+use Rattle.std.proofs.Common.{ℕ, ◌<◌}
+use Rattle.bitlayout.specs.Start.{CanStartAt}
+use Rattle.bitlayout.proofs.start.least_start_where.Given as goal
+
+-- the signal can start at no earlier position
+abbrev pub invariant-loop-start : goal.invariant-loop-start
+invariant-loop-start l = (k : ℕ) → k < l.start → CanStartAt l.places l.length l.size l.order l.mux k → ⊥

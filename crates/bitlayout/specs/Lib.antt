@@ -1,0 +1,7 @@
+pub mod Bits
+pub mod Clash
+pub mod Clear
+pub mod First
+pub mod Interval
+pub mod Mux
+pub mod Start

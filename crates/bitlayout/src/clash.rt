@@ -1,0 +1,98 @@
+ghost use Rattle.std.specs.Prelude.{◌≡◌, ◌↔◌, IfSome, IsNone, position};
+ghost use Rattle.bitlayout.specs.Clash.{IsFirstClash, clash_after, first_clash_among, first_clash_of, collide, has_multiplexor};
+ghost use Rattle.bitlayout.specs.Clear.{IsClear};
+
+use crate::bits::{inside, share_bit};
+use crate::place::{Place, meet};
+
+/// Why places can't stand together in one message. The numbers are indices in the list of places.
+#[derive(Clone, Copy, Debug, PartialEq, Eq, Hash)]
+pub enum Clash {
+    /// A bit of this place lies past the payload.
+    Outside(usize),
+    /// This place is a multiplexor, and an earlier one is too.
+    TwoMultiplexors(usize),
+    /// This place hangs on a value of the multiplexor, and no place is the multiplexor.
+    NoMultiplexor(usize),
+    /// Two places that some value of the multiplexor has present share a bit.
+    Overlap {
+        /// The one that stands earlier in the list.
+        earlier: usize,
+        /// The one that stands later.
+        later: usize,
+    },
+}
+
+/// Whether one of the places is the multiplexor.
+pub(crate) fn any_multiplexor(places: &[Place]) -> bool
+    ensures { result ≡ has_multiplexor places.now }
+{
+    places.iter().any(|place| place.mux.is_multiplexor())
+}
+
+/// Whether some value of the multiplexor has both present, and they share a bit.
+fn collides(a: Place, b: Place) -> bool
+    ensures { result ≡ collide a b }
+{
+    meet(a.mux, b.mux) && share_bit(a.layout, b.layout)
+}
+
+/// The index of the first of the places that collides with `place`.
+fn first_partner(places: &[Place], place: Place) -> Option<usize>
+    ensures { result ≡ position (λ other. collide other place) places.now }
+{
+    places.iter().position(|other| collides(*other, place))
+}
+
+/// The first fault of a place that stands after `earlier`, in a list with or without a multiplexor.
+#[tactic(auto, unfolding(crate::specs::Clash::clash_after))]
+pub(crate) fn fault_after(
+    earlier: &[Place],
+    place: Place,
+    length: u16,
+    multiplexed: bool,
+) -> Option<Clash>
+    ensures { result ≡ clash_after length multiplexed earlier.now place }
+{
+    let index = earlier.len();
+    if !inside(place.layout, length) {
+        Some(Clash::Outside(index))
+    } else if place.mux.is_multiplexor() && any_multiplexor(earlier) {
+        Some(Clash::TwoMultiplexors(index))
+    } else if place.mux.is_under() && !multiplexed {
+        Some(Clash::NoMultiplexor(index))
+    } else {
+        match first_partner(earlier, place) {
+            Some(partner) => Some(Clash::Overlap {
+                earlier: partner,
+                later: index,
+            }),
+            None => None,
+        }
+    }
+}
+
+/// The first clash of the places, in a list with or without a multiplexor.
+pub(crate) fn first_clash_where(places: &[Place], length: u16, multiplexed: bool) -> Option<Clash>
+    ensures { result ≡ first_clash_among length multiplexed places.now }
+{
+    for (index, place) in places.iter().enumerate() {
+        let fault = fault_after(&places[..index], *place, length, multiplexed);
+        if fault.is_some() {
+            return fault;
+        }
+    }
+    None
+}
+
+/// The first reason why the places can't stand together in a message of `length` bytes, or `None` where the
+/// list is clear. It is the clash of the place at the least index, of that place the first of
+/// [`Clash::Outside`], [`Clash::TwoMultiplexors`], [`Clash::NoMultiplexor`] and [`Clash::Overlap`], and of
+/// overlaps the one with the earliest place.
+pub fn first_clash(places: &[Place], length: u16) -> Option<Clash>
+    ensures clear { IsNone result ↔ IsClear places.now length }
+    ensures first { IfSome result (IsFirstClash places.now length) }
+    ensures computed { result ≡ first_clash_of places.now length }
+{
+    first_clash_where(places, length, any_multiplexor(places))
+}

@@ -1,0 +1,68 @@
+ghost use Rattle.std.specs.Prelude.{◌≡◌, ◌≤◌, SomeIff};
+
+use std::marker::Model;
+
+/// How a signal's bits follow one another from its start (the byte order of a signal in Vector's DBC File
+/// Format Documentation). Positions are numbered 8 times the byte plus the bit in the byte, 7 being the
+/// byte's most significant bit.
+#[derive(Clone, Copy, Debug, PartialEq, Eq, Hash)]
+pub enum Order {
+    /// Little endian, `@1` in a DBC file: the start is the least significant bit, and after position `p`
+    /// comes `p + 1`.
+    Intel,
+    /// Big endian, `@0` in a DBC file: the start is the most significant bit, and after position `p` comes
+    /// `p - 1`, or `p + 15` where `p` is a multiple of 8.
+    Motorola,
+}
+
+/// How many bits a signal has: 1 to 64, as which number contracts see it.
+#[derive(Clone, Copy, Debug, PartialEq, Eq, PartialOrd, Ord, Hash)]
+pub struct Size {
+    bits: u8,
+}
+
+impl Model for Size {
+    ghost use Rattle.std.specs.Prelude.{ℕ, ◌≤◌};
+
+    ghost Value = { ℕ };
+
+    ghost view = { λ size. size.bits };
+
+    ghost invariant = { λ size. (1 ≤ size.bits) × (size.bits ≤ 64) };
+
+    ghost inverse = { λ n. record { bits = n } };
+}
+
+impl Size {
+    /// The size of this many bits, or `None` outside 1 to 64.
+    pub fn new(bits: u8) -> Option<Size>
+        ensures { SomeIff result ((1 ≤ bits) × (bits ≤ 64)) bits }
+    {
+        if bits >= 1 && bits <= 64 {
+            Some(Size { bits })
+        } else {
+            None
+        }
+    }
+
+    /// The number of bits, 1 to 64.
+    pub fn bits(self) -> u8
+        ensures value { result ≡ self }
+        ensures least { 1 ≤ result }
+        ensures most { result ≤ 64 }
+    {
+        self.bits
+    }
+}
+
+/// Where a signal lies: the first `size` positions of the walk from `start` in its order.
+#[derive(Clone, Copy, Debug, PartialEq, Eq, Hash)]
+pub struct Layout {
+    /// The position of the first bit of the walk: of an Intel signal the least significant, of a Motorola
+    /// signal the most significant.
+    pub start: u16,
+    /// How many bits the signal has.
+    pub size: Size,
+    /// How the bits follow one another.
+    pub order: Order,
+}

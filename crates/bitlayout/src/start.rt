@@ -1,0 +1,51 @@
+ghost use Rattle.std.specs.Prelude.{◌≡◌, ◌*◌, ◌<◌, ◌||◌, min, IfSome, IfNone};
+ghost use Rattle.bitlayout.specs.Clash.{has_multiplexor};
+ghost use Rattle.bitlayout.specs.Mux.{is_multiplexor};
+ghost use Rattle.bitlayout.specs.Start.{HasNoStart, IsLeastStart, least_start_of};
+
+use crate::clash::{any_multiplexor, fault_after, first_clash_where};
+use crate::layout::{Layout, Order, Size};
+use crate::place::{Mux, Place};
+
+/// The least start, 0 to 65535, from which a further signal leaves the list clear in a message of `length`
+/// bytes: [`first_clash`](crate::first_clash) of the places with the signal's added last is `None`. The
+/// answer is `None` where no start does.
+pub fn least_start(places: &[Place], length: u16, size: Size, order: Order, mux: Mux) -> Option<u16>
+    ensures least { IfSome result (IsLeastStart places.now length size order mux) }
+    ensures none { IfNone result (HasNoStart places.now length size order mux) }
+    ensures computed { result ≡ least_start_of places.now length size order mux }
+{
+    let multiplexed = mux.is_multiplexor() || any_multiplexor(places);
+    least_start_where(places, length, size, order, mux, multiplexed)
+}
+
+/// `least_start`, told whether the list with the added place has a multiplexor.
+fn least_start_where(
+    places: &[Place],
+    length: u16,
+    size: Size,
+    order: Order,
+    mux: Mux,
+    multiplexed: bool,
+) -> Option<u16>
+    requires { multiplexed ≡ (is_multiplexor mux || has_multiplexor places.now) }
+    ensures least { IfSome result (IsLeastStart places.now length size order mux) }
+    ensures none { IfNone result (HasNoStart places.now length size order mux) }
+    ensures payload { IfSome result (λ start. start < min (8 * length) 65536) }
+{
+    let positions = 8 * u32::from(length);
+    if u32::from(size.bits()) > positions {
+        return None;
+    }
+    if first_clash_where(places, length, multiplexed).is_some() {
+        return None;
+    }
+    for start in 0..positions.min(65536) {
+        let start = start as u16;
+        let layout = Layout { start, size, order };
+        if fault_after(places, Place { layout, mux }, length, multiplexed).is_none() {
+            return Some(start);
+        }
+    }
+    None
+}

@@ -1,0 +1,4 @@
+pub mod CommandLine
+pub mod LineExamples
+pub mod Writes
+pub mod Replies

@@ -1,0 +1,48 @@
+-- What the definitions of the command line say of words that are written out.
+use Rattle.std.proofs.Common.{◌≡◌, List, [], ◌∷◌, Option, Some, codes, option_map, refl}
+use Rattle.clap.specs.Words.{Row, Text, first_of, subcommand_of}
+use Rattle.clap.specs.declared.error.kind.ErrorKind.TheVariants.{DisplayHelp, DisplayHelpOnMissingArgumentOrSubcommand, InvalidSubcommand, MissingRequiredArgument, UnknownArgument}
+use Rattle.clap.proofs.OnLiterals.{clap_on_literals}
+use Rattle.canoffice_cli.specs.CommandLine.{canoffice_app, line_faults}
+
+no_word : line_faults (codes "canoffice" ∷ []) ≡ DisplayHelpOnMissingArgumentOrSubcommand ∷ []
+unfolding clap_on_literals
+no_word = refl
+
+help_flag : line_faults (codes "canoffice" ∷ codes "--help" ∷ []) ≡ DisplayHelp ∷ []
+unfolding clap_on_literals
+help_flag = refl
+
+unknown_subcommand : line_faults (codes "canoffice" ∷ codes "frob" ∷ []) ≡ UnknownArgument ∷ InvalidSubcommand ∷ []
+unfolding clap_on_literals
+unknown_subcommand = refl
+
+apply_help : line_faults (codes "canoffice" ∷ codes "apply" ∷ codes "--help" ∷ []) ≡ DisplayHelp ∷ []
+unfolding clap_on_literals
+apply_help = refl
+
+no_script : line_faults (codes "canoffice" ∷ codes "apply" ∷ []) ≡ MissingRequiredArgument ∷ []
+unfolding clap_on_literals
+no_script = refl
+
+two_scripts : line_faults (codes "canoffice" ∷ codes "apply" ∷ codes "a.txt" ∷ codes "b.txt" ∷ []) ≡ UnknownArgument ∷ []
+unfolding clap_on_literals
+two_scripts = refl
+
+abbrev a_script : List Text
+a_script = codes "canoffice" ∷ codes "apply" ∷ codes "a.txt" ∷ []
+
+one_script : line_faults a_script ≡ []
+unfolding clap_on_literals
+one_script = refl
+
+abbrev script_in : Option (Text × List Row) → Option (Option Text)
+script_in = option_map (λ found. first_of (codes "SCRIPT") found.1)
+
+its_name : option_map (λ found. found.0) (subcommand_of canoffice_app a_script) ≡ Some (codes "apply")
+unfolding clap_on_literals
+its_name = refl
+
+its_script : script_in (subcommand_of canoffice_app a_script) ≡ Some (Some (codes "a.txt"))
+unfolding clap_on_literals
+its_script = refl

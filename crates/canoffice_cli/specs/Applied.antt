@@ -1,0 +1,41 @@
+-- What a script comes to on a new office.
+use Rattle.std.specs.Prelude.{◌≡◌, ◌⊎◌, ℕ, ◌≤◌, List, [], ◌∷◌, ◌++◌, length, take, Some, codes}
+use Rattle.office_types.specs.Reply.{reply_text}
+use Rattle.office_types.specs.declared.command.Command.{Command}
+use Rattle.office_types.specs.declared.reply.Reply.{Reply}
+use Rattle.office_types.specs.declared.state.Office.{Office}
+use Rattle.office.specs.Step.{opening, Run}
+use Rattle.office_script.specs.Lines.{lines_of}
+use Rattle.office_script.specs.Script.{asked_by_all, IsFirstWrong}
+use Rattle.canoffice_cli.specs.Outcome.{Outcome, printed, wrong_line}
+use Rattle.canoffice_cli.specs.declared.report.Status.TheVariants.{Failed}
+
+-- each reply on a line of its own
+abbrev pub reply_lines : List Reply → List ℕ
+reply_lines [] = []
+reply_lines (reply ∷ replies) = (reply_text reply ++ codes "\n") ++ reply_lines replies
+
+-- all requests were run, in order, from the office with no network: their replies are printed
+pub record IsRun (requests : List (List ℕ × Command)) (o : Outcome) : Type 0 where
+  pub replies : List Reply
+  pub after : Office
+  pub run : Run opening requests replies after
+  pub told : o ≡ printed (reply_lines replies)
+
+-- memory ran out when so many of them had been run: their replies are printed, and then what was lost
+pub record IsRunUntilLost (requests : List (List ℕ × Command)) (o : Outcome) : Type 0 where
+  pub count : ℕ
+  pub some : count ≤ length requests
+  pub replies : List Reply
+  pub after : Office
+  pub run : Run opening (take count requests) replies after
+  pub told : o ≡ record { output = reply_lines replies; errors = codes "lost 71\n"; status = Failed }
+
+abbrev pub IsRunOf : List (List ℕ × Command) → Outcome → Type 0
+IsRunOf requests o = IsRun requests o ⊎ IsRunUntilLost requests o
+
+-- what the script asks for was run; or a line is wrong, the first one is named, and nothing was run
+abbrev pub IsScriptOutcome : List ℕ → Outcome → Type 0
+IsScriptOutcome script o =
+    ((requests : List (List ℕ × Command)) × (asked_by_all (lines_of script) ≡ Some requests) × IsRunOf requests o)
+    ⊎ ((number : ℕ) × IsFirstWrong (lines_of script) number × (o ≡ wrong_line number))

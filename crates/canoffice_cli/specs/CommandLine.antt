@@ -1,0 +1,69 @@
+-- The command line of the program, which job its words are, and which fault they have.
+use Rattle.std.specs.Prelude.{◌≡◌, ◌≢◌, List, [], codes, Option, Some, true, Result, Ok, Err}
+use Rattle.clap.specs.Words.{App, IsAmong, Kinds, Row, Rule, Text, fault_of, first_of, new_app, new_rule, subcommand_of, with_rule, with_subcommand}
+use Rattle.clap.specs.Simple.{on_top}
+use Rattle.clap.specs.declared.error.kind.ErrorKind.{ErrorKind}
+use Rattle.clap.specs.declared.error.kind.ErrorKind.TheVariants.{DisplayHelp, OutOfMemory}
+use Rattle.canoffice_cli.specs.declared.job.Job.{Job}
+use Rattle.canoffice_cli.specs.declared.job.Job.TheVariants.{Apply}
+use Rattle.canoffice_cli.specs.declared.job.LineFault.{LineFault}
+use Rattle.canoffice_cli.specs.declared.job.LineFault.TheVariants.{Help, Usage, Memory}
+
+-- ---- what clap is told
+
+-- a word that has to be there, known by its place
+abbrev pub required_word : Text → Rule
+required_word id = record (new_rule id) { required = true }
+
+-- apply SCRIPT
+abbrev pub apply_app : App
+apply_app = with_rule (new_app (codes "apply")) (required_word (codes "SCRIPT"))
+
+-- some subcommand has to be named, and no word at all is answered by the help
+abbrev pub wants_subcommand : App → App
+wants_subcommand = on_top (λ s. record s { subcommand_required = true; arg_required_else_help = true })
+
+-- canoffice apply ..
+abbrev pub canoffice_app : App
+canoffice_app = with_subcommand (wants_subcommand (new_app (codes "canoffice"))) apply_app.top
+
+-- the kinds of fault that clap finds in the words
+abbrev pub line_faults : List Text → Kinds
+line_faults words = fault_of canoffice_app words
+
+-- ---- the job that the words are
+
+-- the argument of this name has this value
+abbrev pub HasValue : List Row → Text → Text → Type 0
+HasValue rows id text = first_of id rows ≡ Some text
+
+-- the job is the subcommand, with the values of its arguments
+abbrev pub IsJobOf : Job → Text → List Row → Type 0
+IsJobOf (Apply script) name rows = (name ≡ codes "apply") × HasValue rows (codes "SCRIPT") script.now
+
+-- the job of the subcommand that was found, with its values
+abbrev pub IsJobIn : Option (Text × List Row) → Job → Type 0
+IsJobIn found job = (name : Text) × (rows : List Row) × (found ≡ Some (name, rows)) × IsJobOf job name rows
+
+-- clap finds no fault in the words, and the job is the subcommand and the values that it finds in them
+abbrev pub IsJob : List Text → Job → Type 0
+IsJob words job = (line_faults words ≡ []) × IsJobIn (subcommand_of canoffice_app words) job
+
+-- ---- the fault of words that are no job
+
+-- a fault that clap's error of this kind stands for
+abbrev pub IsFaultOfKind : ErrorKind → LineFault → Type 0
+IsFaultOfKind kind (Help text) = kind ≡ DisplayHelp
+IsFaultOfKind kind (Usage text) = (kind ≢ DisplayHelp) × (kind ≢ OutOfMemory)
+IsFaultOfKind kind Memory = Unit {0}
+
+-- help is what the words ask for; or they have a fault of another kind; or memory ran out
+abbrev pub IsLineFault : List Text → LineFault → Type 0
+IsLineFault words (Help text) = IsAmong DisplayHelp (line_faults words)
+IsLineFault words (Usage text) = (kind : ErrorKind) × (kind ≢ DisplayHelp) × IsAmong kind (line_faults words)
+IsLineFault words Memory = Unit {0}
+
+-- what the words are: a job, or a fault
+abbrev pub IsLine : List Text → Result Job LineFault → Type 0
+IsLine words (Ok job) = IsJob words job
+IsLine words (Err fault) = IsLineFault words fault

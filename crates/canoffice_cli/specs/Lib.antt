@@ -1,0 +1,6 @@
+pub mod CommandLine
+pub mod Holding
+pub mod Outcome
+pub mod Applied
+pub mod Delivery
+pub mod Performance

@@ -1,0 +1,51 @@
+-- What a run of the program comes to: the bytes on its two streams, and its exit status.
+use Rattle.std.specs.Prelude.{◌++◌, ℕ, List, [], codes, decimal, Result, Ok, Err}
+use Rattle.std.specs.declared.alloc.AllocError.{AllocError}
+use Rattle.canoffice_cli.specs.declared.report.Report.{Report}
+use Rattle.canoffice_cli.specs.declared.report.Status.{Status}
+use Rattle.canoffice_cli.specs.declared.report.Status.TheVariants.{Success, FaultFound, WrongInput, Failed}
+
+-- the bytes for standard output and for standard error, and the status
+pub record Outcome : Type 0 where
+  pub output : List ℕ
+  pub errors : List ℕ
+  pub status : Status
+
+abbrev pub outcome_of : Report → Outcome
+outcome_of report = record { output = report.output.items; errors = report.errors.items; status = report.status }
+
+-- the number of a status, by which the program ends
+abbrev pub code_of : Status → ℕ
+code_of Success = 0
+code_of FaultFound = 1
+code_of WrongInput = 2
+code_of Failed = 3
+
+-- this text on standard output, and nothing else to say
+abbrev pub printed : List ℕ → Outcome
+printed text = record { output = text; errors = []; status = Success }
+
+-- this text on standard error, for input that is wrong
+abbrev pub refused : List ℕ → Outcome
+refused text = record { output = []; errors = text; status = WrongInput }
+
+-- this text on standard error, for a run that could not be done
+abbrev pub failed : List ℕ → Outcome
+failed text = record { output = []; errors = text; status = Failed }
+
+-- the file of this path cannot be read
+abbrev pub unreadable : List ℕ → Outcome
+unreadable path = failed (codes "cannot read " ++ (path ++ codes "\n"))
+
+-- the line of this number, from 1, is wrong
+abbrev pub wrong_line : ℕ → Outcome
+wrong_line number = refused (codes "bad line " ++ (decimal number ++ codes "\n"))
+
+-- memory ran out
+abbrev pub memory_lost : Outcome
+memory_lost = failed (codes "lost 71\n")
+
+-- what is told of a report, or of want of memory in its place
+abbrev pub told_of : Result Report AllocError → Outcome
+told_of (Ok report) = outcome_of report
+told_of (Err lost) = memory_lost

@@ -1,0 +1,46 @@
+-- What the program comes to, of its words and of what is known of the files.
+use Rattle.std.specs.Prelude.{◌≡◌, ◌⊎◌, ℕ, List, Result, Ok, Err, string_bytes}
+use Rattle.canoffice_cli.specs.CommandLine.{IsLine}
+use Rattle.canoffice_cli.specs.Holding.{Holding, unknown, absent, holding}
+use Rattle.canoffice_cli.specs.Outcome.{Outcome, memory_lost, printed, refused, unreadable}
+use Rattle.canoffice_cli.specs.Applied.{IsScriptOutcome}
+use Rattle.canoffice_cli.specs.Delivery.{IsDelivered, Writing}
+use Rattle.canoffice_cli.specs.declared.report.Status.{Status}
+use Rattle.canoffice_cli.specs.declared.job.Job.{Job}
+use Rattle.canoffice_cli.specs.declared.job.Job.TheVariants.{Apply}
+use Rattle.canoffice_cli.specs.declared.job.LineFault.{LineFault}
+use Rattle.canoffice_cli.specs.declared.job.LineFault.TheVariants.{Help, Usage, Memory}
+
+-- what is known of the file at each path
+abbrev pub Files : Type 0
+Files = List ℕ → Holding
+
+-- what a job comes to whose file is at the path: that of its bytes, or that it cannot be read
+abbrev pub IsOfFile : (List ℕ → Outcome → Type 0) → List ℕ → Holding → Outcome → Type 0
+IsOfFile IsOf path unknown o = (o ≡ unreadable path) ⊎ ((bytes : List ℕ) × IsOf bytes o)
+IsOfFile IsOf path absent o = o ≡ unreadable path
+IsOfFile IsOf path (holding bytes) o = IsOf bytes o
+
+-- what the job comes to
+abbrev pub IsDone : Files → Job → Outcome → Type 0
+IsDone files (Apply script) o = IsOfFile IsScriptOutcome script.now (files script.now) o
+
+-- what words that are no job come to: the text of their fault
+abbrev pub IsFaultAnswer : LineFault → Outcome → Type 0
+IsFaultAnswer (Help text) o = o ≡ printed (string_bytes text)
+IsFaultAnswer (Usage text) o = o ≡ refused (string_bytes text)
+IsFaultAnswer Memory o = o ≡ memory_lost
+
+-- what a command line comes to
+abbrev pub IsAnswer : Files → Result Job LineFault → Outcome → Type 0
+IsAnswer files (Ok job) o = IsDone files job o
+IsAnswer files (Err fault) o = IsFaultAnswer fault o
+
+-- what the program's words come to, where memory does not run out
+abbrev pub IsAnswered : List (List ℕ) → Files → Outcome → Type 0
+IsAnswered words files o = (line : Result Job LineFault) × IsLine words line × IsAnswer files line o
+
+-- a run of the program: what its words come to is delivered, or that memory ran out
+abbrev pub IsPerformed : List (List ℕ) → Files → Writing → Writing → Status → Type 0
+IsPerformed words files output errors status =
+    (o : Outcome) × ((o ≡ memory_lost) ⊎ IsAnswered words files o) × IsDelivered o output errors status

@@ -1,0 +1,42 @@
+//! The command line, as clap is told it. Each subcommand is a function of its own here, and each kind of
+//! argument too.
+ghost use Rattle.std.specs.Prelude.{◌≡◌, IfOk, false};
+ghost use Rattle.clap.specs.Words.{app_of, rule_of};
+ghost use Rattle.clap.specs.declared.builder.command.Command.TheViews.{out-Command as fields_of};
+ghost use Rattle.canoffice_cli.specs.CommandLine.{apply_app, canoffice_app, required_word};
+
+use clap::{Arg, Command};
+use std::alloc::{AllocError, Global};
+
+// A word that has to be there, known by its place.
+fn required<'a>(alloc: Global, id: &'a str, help: &'a str) -> Arg<'a>
+    ensures rule { rule_of result ≡ required_word id.entry.now }
+    ensures local { result.global ≡ false }
+{
+    Arg::new(alloc, id).required(true).help(help)
+}
+
+// `apply SCRIPT`
+fn apply_command<'a>(alloc: Global) -> Result<Command<'a>, AllocError>
+    ensures app { IfOk result (λ c. app_of c ≡ apply_app) }
+    ensures local { IfOk result (λ c. (fields_of c).has_globals ≡ false) }
+{
+    let named = Command::new(alloc, "apply").about(
+        "Applies a script's lines and prints each reply",
+    );
+    let apply = named.arg(required(alloc, "SCRIPT", "The script's file"))?;
+    Ok(apply)
+}
+
+/// The program's command line with all its subcommands, of which one has to be named.
+pub fn canoffice_command<'a>(alloc: Global) -> Result<Command<'a>, AllocError>
+    ensures app { IfOk result (λ c. app_of c ≡ canoffice_app) }
+    ensures local { IfOk result (λ c. (fields_of c).has_globals ≡ false) }
+{
+    let named = Command::new(alloc, "canoffice").about(
+        "Gives out numbers on a vehicle's CAN networks",
+    );
+    let wanting = named.subcommand_required(true).arg_required_else_help(true);
+    let with_apply = wanting.subcommand(apply_command(alloc)?)?;
+    Ok(with_apply)
+}

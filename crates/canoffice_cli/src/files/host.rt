@@ -1,0 +1,44 @@
+//! The files of the machine that the program runs on.
+ghost use Rattle.std.specs.Prelude.{◌≡◌, ◌↔◌};
+ghost use Rattle.std.specs.IoError.{error_kind};
+
+use super::{FileFault, FileSource};
+use std::alloc::Global;
+use std::fs::File;
+use std::io::{self, ErrorKind, Read};
+use std::rt::Files;
+
+/// The files that the runtime reaches, of which nothing is known before they are read.
+#[derive(Clone, Copy)]
+pub struct HostFiles<'r, R> {
+    pub rt: &'r R,
+}
+
+impl<R: Files> FileSource for HostFiles<'_, R> {
+    ghost use Rattle.canoffice_cli.specs.Holding.{unknown};
+
+    ghost held = { λ _ _. unknown };
+
+    fn read(&self, alloc: Global, path: &str) -> Result<Vec<u8>, FileFault> {
+        let mut file = match File::open(self.rt, path) {
+            Ok(file) => file,
+            Err(error) => return Err(fault_of(&error)),
+        };
+        let mut bytes = Vec::new(alloc);
+        match file.read_to_end(&mut bytes) {
+            Ok(_) => Ok(bytes),
+            Err(error) => Err(fault_of(&error)),
+        }
+    }
+}
+
+// Want of memory is told apart from every other reason.
+fn fault_of(error: &io::Error) -> FileFault
+    ensures { (result ≡ FileFault.Memory) ↔ (error_kind error.now ≡ ErrorKind.OutOfMemory) }
+{
+    if matches!(error.kind(), ErrorKind::OutOfMemory) {
+        FileFault::Memory
+    } else {
+        FileFault::Unreadable
+    }
+}

@@ -1,0 +1,42 @@
+//! Files in memory.
+ghost use Rattle.std.specs.Prelude.{◌≡◌, find, option_map};
+ghost use Rattle.std.specs.Str.{bytes_eq};
+
+use super::{FileFault, FileSource};
+use std::alloc::Global;
+
+/// The bytes of a file, and the path that names it.
+#[derive(Clone, Copy, Debug)]
+pub struct NamedFile<'a> {
+    pub path: &'a str,
+    pub bytes: &'a [u8],
+}
+
+/// The files of a list, and no others. Where a path is named twice, the first file counts.
+#[derive(Clone, Copy, Debug)]
+pub struct ListedFiles<'a> {
+    pub files: &'a [NamedFile<'a>],
+}
+
+impl FileSource for ListedFiles<'_> {
+    ghost use Rattle.canoffice_cli.specs.Holding.{listed_at};
+
+    ghost held = { λ s path. listed_at s.files.now path };
+
+    fn read(&self, alloc: Global, path: &str) -> Result<Vec<u8>, FileFault> {
+        match first_at(self.files, path) {
+            Some(file) => match Vec::from_slice(alloc, file.bytes) {
+                Ok(bytes) => Ok(bytes),
+                Err(_) => Err(FileFault::Memory),
+            },
+            None => Err(FileFault::Unreadable),
+        }
+    }
+}
+
+// The first file of the path.
+fn first_at<'a>(files: &'a [NamedFile<'a>], path: &str) -> Option<&'a NamedFile<'a>>
+    ensures { option_map (λ file. file.now) result ≡ find (λ file. bytes_eq file.path.now path.now) files.now }
+{
+    files.iter().find(|file| file.path == path)
+}

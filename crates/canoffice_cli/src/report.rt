@@ -1,0 +1,92 @@
+//! What the program has to tell: bytes for its two streams, and its exit status.
+ghost use Rattle.std.specs.Prelude.{◌≡◌, IfOk, codes, string_bytes};
+ghost use Rattle.canoffice_cli.specs.Outcome.{code_of, outcome_of, printed, refused, unreadable, wrong_line};
+
+use std::alloc::{AllocError, Global};
+
+/// How the program ends.
+#[derive(Clone, Copy, Debug, PartialEq, Eq)]
+pub enum Status {
+    /// All went well: 0.
+    Success,
+    /// What was looked at has a fault: 1.
+    FaultFound,
+    /// The command line or a script is wrong: 2.
+    WrongInput,
+    /// The store, a device or memory failed: 3.
+    Failed,
+}
+
+impl Status {
+    /// The exit status, 0 to 3.
+    pub fn code(self) -> u8
+        ensures { result ≡ code_of self }
+    {
+        match self {
+            Status::Success => 0,
+            Status::FaultFound => 1,
+            Status::WrongInput => 2,
+            Status::Failed => 3,
+        }
+    }
+}
+
+/// All that a run tells.
+#[derive(Debug, Drop)]
+pub struct Report {
+    /// The bytes for standard output.
+    pub output: Vec<u8>,
+    /// The bytes for standard error.
+    pub errors: Vec<u8>,
+    /// How the program ends.
+    pub status: Status,
+}
+
+/// What standard error is told where memory runs out. It is there without any memory.
+pub const LOST_MEMORY: &[u8] = b"lost 71\n";
+
+/// The report that the file at the path can't be read.
+pub fn cannot_read(alloc: Global, path: &str) -> Result<Report, AllocError>
+    ensures { IfOk result (λ report. outcome_of report ≡ unreadable path.now) }
+{
+    let text = format!(in alloc; "cannot read {path}\n")?;
+    Ok(Report {
+        output: Vec::new(alloc),
+        errors: text.into_bytes(),
+        status: Status::Failed,
+    })
+}
+
+/// The report that the script's line of this number, from 1, is wrong.
+pub fn bad_line(alloc: Global, number: usize) -> Result<Report, AllocError>
+    ensures { IfOk result (λ report. outcome_of report ≡ wrong_line number) }
+{
+    let text = format!(in alloc; "bad line {number}\n")?;
+    Ok(Report {
+        output: Vec::new(alloc),
+        errors: text.into_bytes(),
+        status: Status::WrongInput,
+    })
+}
+
+/// The report that shows this text of help.
+pub fn help(alloc: Global, text: String) -> Report
+    ensures { outcome_of result ≡ printed (string_bytes text) }
+{
+    Report {
+        output: text.into_bytes(),
+        errors: Vec::new(alloc),
+        status: Status::Success,
+    }
+}
+
+/// The report that the command line is wrong, with this text of how and of what the usage is.
+pub fn usage(alloc: Global, text: String) -> Report
+    ensures { outcome_of result ≡ refused (string_bytes text) }
+{
+    Report {
+        output: Vec::new(alloc),
+        errors: text.into_bytes(),
+        status: Status::WrongInput,
+    }
+}

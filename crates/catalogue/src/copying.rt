@@ -1,0 +1,44 @@
+ghost use Rattle.std.specs.Prelude.{◌≡◌, IfOk};
+
+use crate::items::Items;
+use can_id::Ident;
+use std::alloc::{AllocError, Global};
+
+/// A value that can be copied where there is memory: the copy is equal to it, as contracts see both.
+pub trait Copying {
+    /// A copy of the value, or the fault of an allocation that was refused.
+    fn duplicate(&self, alloc: Global) -> Result<Self, AllocError>
+        ensures { IfOk result (λ copy. copy ≡ self.now) };
+}
+
+impl Copying for u32 {
+    fn duplicate(&self, alloc: Global) -> Result<Self, AllocError> {
+        Ok(*self)
+    }
+}
+
+impl Copying for Ident {
+    fn duplicate(&self, alloc: Global) -> Result<Self, AllocError> {
+        Ok(*self)
+    }
+}
+
+impl<T: Copying + Drop> Copying for Items<T> {
+    fn duplicate(&self, alloc: Global) -> Result<Self, AllocError> {
+        let mut copy = Items::new(alloc);
+        let items = self.as_slice();
+        for item in items {
+            copy.push(item.duplicate(alloc)?)?;
+        }
+        Ok(copy)
+    }
+}
+
+impl<T: Copying + Drop> Copying for Option<T> {
+    fn duplicate(&self, alloc: Global) -> Result<Self, AllocError> {
+        match self {
+            None => Ok(None),
+            Some(value) => Ok(Some(value.duplicate(alloc)?)),
+        }
+    }
+}

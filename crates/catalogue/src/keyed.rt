@@ -1,0 +1,75 @@
+ghost use Rattle.std.specs.Prelude.{◌≡◌, OnOk, OnErr};
+ghost use Rattle.std.specs.declared.cmp.Ordering.{Ordering as Order};
+ghost use Rattle.std.specs.Cmp.{IsTotalOrder};
+ghost use Rattle.catalogue.specs.Keyed.{put, IsSlotOf};
+
+use crate::items::Items;
+use can_id::Ident;
+use std::alloc::AllocError;
+use std::cmp::Ordering;
+
+/// A value with a key, by which lists are kept in order.
+pub trait Keyed {
+    /// How the keys of two values compare.
+    ghost order: { Self → Self → Order };
+
+    /// How the key of this value compares with the other's.
+    fn compare(&self, other: &Self) -> Ordering
+        ensures { result ≡ order self.now other.now };
+
+    /// The keys are in a total order.
+    ghost ordered: { IsTotalOrder order };
+}
+
+impl Keyed for Ident {
+    ghost use Rattle.std.specs.Ordering.{on, nat_cmp};
+    ghost use Rattle.can_id.specs.Ident.{dbc_number};
+    ghost use Rattle.std.proofs.Common.{rules};
+    ghost use Rattle.std.specs.Cmp.Rules.{comparing};
+
+    ghost order = { on dbc_number nat_cmp };
+
+    ghost ordered = { Prim.search (comparing, rules) };
+
+    fn compare(&self, other: &Ident) -> Ordering {
+        self.to_dbc().cmp(&other.to_dbc())
+    }
+}
+
+/// Where an item goes in a list.
+#[derive(Clone, Copy, Debug, PartialEq, Eq)]
+pub enum Slot {
+    /// In place of the item at this index, which has its key.
+    At(usize),
+    /// Before the item at this index, or at the end where the index is the length.
+    Before(usize),
+}
+
+/// Where the item goes: at the first one that has its key, or before the first one above it.
+pub fn slot_of<T: Keyed>(items: &[T], item: &T) -> Slot
+    ensures { IsSlotOf T.order item.now items.now result }
+{
+    for (index, other) in items.iter().enumerate() {
+        match item.compare(other) {
+            Ordering::Less => return Slot::Before(index),
+            Ordering::Equal => return Slot::At(index),
+            Ordering::Greater => {}
+        }
+    }
+    Slot::Before(items.len())
+}
+
+/// Puts the item at its place by key, in place of one that has its key. Where memory is refused, nothing
+/// changes.
+pub fn put_item<T: Keyed + Drop>(items: &mut Items<T>, item: T) -> Result<(), AllocError>
+    ensures ok { OnOk result (items.new ≡ put T.order item items.old) }
+    ensures err { OnErr result (items.new ≡ items.old) }
+{
+    match slot_of(items.as_slice(), &item) {
+        Slot::At(index) => {
+            items.replace(index, item);
+            Ok(())
+        }
+        Slot::Before(index) => items.insert(index, item),
+    }
+}

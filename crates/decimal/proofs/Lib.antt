@@ -1,0 +1,11 @@
+pub mod Values
+pub mod DigitLists
+pub mod Tokens
+pub mod Significant
+pub mod Powers
+pub mod Readings
+pub mod Once
+pub mod Texts
+pub mod Back
+pub mod Computed
+pub mod Rows

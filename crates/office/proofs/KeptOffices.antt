@@ -1,0 +1,50 @@
+-- What every office keeps is kept by each step.
+use Rattle.std.proofs.Common.{Bool, List, [], ◌∷◌, Some, sym, subst, arith}
+use Rattle.std.specs.List.{All, find}
+use Rattle.std.specs.List.Sorted.{IsStrictlySortedBy}
+use Rattle.std.specs.Prelude.{IfSome}
+use Rattle.std.specs.Str.{bytes_eq}
+use Rattle.std.proofs.lemmas.Bool.{cond_both}
+use Rattle.std.proofs.lemmas.Cmp.{nat_list_cmp_total, on_total}
+use Rattle.std.proofs.lemmas.List.Elements.{All-nil, All-head, All-tail}
+use Rattle.catalogue.proofs.Put.{All-put, IsStrictlySortedBy-put}
+use Rattle.office_types.specs.State.{by_name, IsNet, IsOffice}
+use Rattle.office_types.specs.declared.state.Net.{Net}
+use Rattle.office_types.specs.declared.state.Office.{Office}
+use Rattle.office.specs.Laws.{OfficesAreKept}
+use Rattle.office.specs.Outcome.{Outcome, Refusing, Changing}
+use Rattle.office.specs.Step.{opening, net_named, office_after, step_outcome}
+use Rattle.office.proofs.KeptCommands.{Keeps, keeps_action}
+
+-- what is found is one of them
+IfSome-find : {A : Type 0} (P : A → Type 0) (p : A → Bool) (xs : List A) → All P xs → IfSome (find p xs) P
+IfSome-find P p [] h = tt
+IfSome-find P p (x ∷ xs) h =
+    cond_both (p x) (Some x) (find p xs) (λ o. IfSome o P) (λ _. All-head P x xs h) (λ _. IfSome-find P p xs (All-tail P x xs h))
+
+-- the office with what is left
+IsOffice-after : (o : Office) (out : Outcome) → IsOffice o → Keeps out → IsOffice (office_after o out)
+IsOffice-after o (Refusing r) h k = h
+IsOffice-after o (Changing r net book) h k = record {
+  nets = All-put IsNet by_name net o.nets k.0 h.nets;
+  nets_rising = IsStrictlySortedBy-put by_name (on_total (λ (n : Net). n.name) nat_list_cmp_total) net o.nets h.nets_rising;
+  book = k.1;
+}
+
+IsOffice-opening : IsOffice opening
+unfolding IsStrictlySortedBy
+IsOffice-opening = record {
+  nets = All-nil _;
+  nets_rising = tt;
+  book = record { blocks = All-nil _; used = All-nil _; used_rising = λ k l. absurd (omega arith) };
+}
+
+pub offices_are_kept : OfficesAreKept
+offices_are_kept = record {
+  opening = IsOffice-opening;
+  step = λ before after team c reply h plain command step.
+      subst IsOffice (sym step.left)
+      (IsOffice-after before (step_outcome before team c) h
+      (keeps_action team (net_named before c.net) before.book c.net c.action (IfSome-find IsNet (λ n. bytes_eq n.name c.net) before.nets h.nets) h.book plain
+      command.0 command.1));
+}

@@ -1,0 +1,26 @@
+//! What the office does with a command.
+//!
+//! [`decide`] answers a team's command on its network: the reply, and the changes that lead to the network
+//! after it. [`PlainOffice`] is an office in memory: [`PlainOffice::step`] carries a command out whole or
+//! refuses it and changes nothing, and [`PlainOffice::run`] takes a list of them.
+//!
+//! What a step is stands in `specs/`: `Outcome.antt` has each command's refusals, a list in the order in which
+//! they are tested, and its change; `Step.antt` has steps and runs of them; `Change.antt` what changes do;
+//! `Net.antt` what the tests ask of a network; `Laws.antt` what holds of every step, which the functions of
+//! `laws.rt` prove.
+#![tactic(auto)]
+
+mod applying;
+mod deciding;
+mod decision;
+mod granting;
+mod laws;
+mod net;
+mod numbers;
+mod opening;
+mod plain;
+mod taking;
+
+pub use deciding::decide;
+pub use laws::{identifiers_are_fresh, offices_are_kept};
+pub use plain::PlainOffice;

@@ -1,0 +1,125 @@
+//! The identifiers of a network that are taken, and those that may be given out.
+ghost use Rattle.std.specs.Prelude.{◌≡◌, ℕ, ◌++◌, ◌∷◌, [], IfOk, OnOk};
+ghost use Rattle.std.specs.Option.{option_to_list};
+ghost use Rattle.std.specs.List.{filter_map};
+ghost use Rattle.std.specs.List.Sorted.{IsStrictlyIncreasing};
+ghost use Rattle.office_types.specs.Free.{is_taken};
+ghost use Rattle.office.specs.Net.{number_in, taken_idents, taken_numbers, blocks_of};
+ghost use Rattle.office.specs.Outcome.{ident_in, number_given, ident_given};
+
+use can_id::{ExtendedId, Ident, StandardId};
+use office_types::{Block, BlockForm, IdentForm, Net, TakeIdent, Team, least_free};
+use std::alloc::{AllocError, Global};
+
+/// The identifier's number, where it has the form.
+fn number_in(form: IdentForm, ident: Ident) -> Option<u32>
+    ensures { result ≡ number_in form ident }
+{
+    match (form, ident) {
+        (IdentForm::Std, Ident::Std(id)) => Some(u32::from(id.number())),
+        (IdentForm::Ext, Ident::Ext(id)) => Some(id.number()),
+        _ => None,
+    }
+}
+
+/// The identifier of the number, where it has the form.
+pub fn ident_in(form: IdentForm, number: u32) -> Option<Ident>
+    ensures { result ≡ ident_in form number }
+{
+    match form {
+        IdentForm::Std => {
+            if number <= 2047 {
+                let id = StandardId::new(number as u16)?;
+                Some(Ident::Std(id))
+            } else {
+                None
+            }
+        }
+        IdentForm::Ext => {
+            let id = ExtendedId::new(number)?;
+            Some(Ident::Ext(id))
+        }
+    }
+}
+
+/// The identifiers of live messages, and then the held ones.
+fn taken_idents(alloc: Global, net: &Net) -> Result<Vec<Ident>, AllocError>
+    ensures { IfOk result (λ v. v.items ≡ taken_idents net.now) }
+{
+    let live = net.live.as_slice().iter().map(|live| live.message.ident);
+    let held = net.held.as_slice().iter().copied();
+    live.chain(held).collect(alloc)
+}
+
+/// Their numbers, where they have the form.
+fn taken_numbers(alloc: Global, net: &Net, form: IdentForm) -> Result<Vec<u32>, AllocError>
+    ensures { IfOk result (λ v. v.items ≡ taken_numbers net.now form) }
+{
+    let idents = taken_idents(alloc, net)?;
+    idents
+        .iter()
+        .filter_map(|ident| number_in(form, *ident))
+        .collect(alloc)
+}
+
+/// The same numbers, rising.
+fn rising_numbers(alloc: Global, net: &Net, form: IdentForm) -> Result<Vec<u32>, AllocError>
+    ensures rising { IfOk result (λ v. IsStrictlyIncreasing v.items) }
+    ensures same { IfOk result (λ v. (n : ℕ) → is_taken n v.items ≡ is_taken n (taken_numbers net.now form)) }
+{
+    let mut numbers = taken_numbers(alloc, net, form)?;
+    numbers.sort()?;
+    numbers.dedup();
+    Ok(numbers)
+}
+
+/// The numbers of the team's blocks of a form.
+pub fn blocks_of(
+    alloc: Global,
+    net: &Net,
+    team: &Team,
+    form: BlockForm,
+) -> Result<Vec<Block>, AllocError>
+    ensures { IfOk result (λ v. v.items ≡ blocks_of net.now team.now form) }
+{
+    net.blocks
+        .as_slice()
+        .iter()
+        .filter(|granted| granted.block.form() == form && granted.team == *team)
+        .map(|granted| granted.block.numbers())
+        .collect(alloc)
+}
+
+/// The number that the command gives out, if there is one: the wanted one, or the least free one.
+fn number_given(
+    alloc: Global,
+    net: &Net,
+    team: &Team,
+    command: &TakeIdent,
+) -> Result<Option<u32>, AllocError>
+    ensures { IfOk result (λ given. given ≡ number_given team.now net.now command.now) }
+{
+    match command.want {
+        Some(number) => Ok(Some(number)),
+        None => {
+            let taken = rising_numbers(alloc, net, command.form)?;
+            let blocks = blocks_of(alloc, net, team, command.form.block_form())?;
+            Ok(least_free(&taken, &blocks, command.form.number_form()))
+        }
+    }
+}
+
+/// The identifier that the command gives out, if there is one.
+pub fn ident_given(
+    alloc: Global,
+    net: &Net,
+    team: &Team,
+    command: &TakeIdent,
+) -> Result<Option<Ident>, AllocError>
+    ensures { IfOk result (λ given. given ≡ ident_given team.now net.now command.now) }
+{
+    match number_given(alloc, net, team, command)? {
+        Some(number) => Ok(ident_in(command.form, number)),
+        None => Ok(None),
+    }
+}

@@ -1,0 +1,10 @@
+mod Parts
+mod WordLaws
+mod LineLaws
+mod Digits
+mod EscapeLaws
+mod FieldLaws
+mod FieldNames
+mod KnownOnce
+mod WholeNumbers
+mod Scripts

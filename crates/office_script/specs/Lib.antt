@@ -1,0 +1,9 @@
+pub mod Lines
+pub mod Words
+pub mod Escapes
+pub mod Fields
+pub mod FieldViews
+pub mod Values
+pub mod Commands
+pub mod Reading
+pub mod Script

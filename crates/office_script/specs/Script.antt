@@ -1,0 +1,40 @@
+-- What a script asks for.
+use Rattle.std.specs.Prelude.{◌≡◌, ◌≢◌, ℕ, ◌+◌, List, [], ◌∷◌, ◌++◌, length, Option, Some, None, Result, Ok, Err, if◌then◌else◌, ⊤}
+use Rattle.std.specs.Option.{option_map, option_and_then}
+use Rattle.office_types.specs.declared.command.Command.{Command}
+use Rattle.office_script.specs.declared.unread.Unread.{Unread}
+use Rattle.office_script.specs.declared.unread.Unread.TheVariants.{Wrong, Memory}
+use Rattle.office_script.specs.declared.script.ScriptFault.{ScriptFault}
+use Rattle.office_script.specs.declared.script.ScriptFault.TheVariants as script
+use Rattle.office_script.specs.Lines.{lines_of, says_nothing}
+use Rattle.office_script.specs.Commands.{request_of}
+
+-- what a line asks for: nothing, or one thing; `None` where it is wrong
+abbrev pub asked_by : List ℕ → Option (List (List ℕ × Command))
+asked_by line = if says_nothing line then Some [] else option_map (λ r. r ∷ []) (request_of line)
+
+-- what the lines ask for, in order, where none is wrong
+abbrev pub asked_by_all : List (List ℕ) → Option (List (List ℕ × Command))
+asked_by_all [] = Some []
+asked_by_all (line ∷ lines) = option_and_then (λ here. option_map (λ rest. here ++ rest) (asked_by_all lines)) (asked_by line)
+
+-- the first wrong line, by its number from 1
+pub record IsFirstWrong (lines : List (List ℕ)) (number : ℕ) : Type 0 where
+  pub before : List (List ℕ)
+  pub line : List ℕ
+  pub after : List (List ℕ)
+  pub parts : lines ≡ before ++ line ∷ after
+  pub numbered : number ≡ length before + 1
+  pub sound : asked_by_all before ≢ None
+  pub wrong : asked_by line ≡ None
+
+-- the fault is the first wrong line, or want of memory, of which nothing is said
+abbrev pub IsScriptFault : List ℕ → ScriptFault → Type 0
+IsScriptFault text (script.BadLine number) = IsFirstWrong (lines_of text) number
+IsScriptFault text script.Memory = ⊤
+
+-- what a line asks for was added
+abbrev pub AddsAsked : List ℕ → List (List ℕ × Command) → List (List ℕ × Command) → Result (Unit {0}) Unread → Type 0
+AddsAsked line before after (Ok u) = (here : List (List ℕ × Command)) × (asked_by line ≡ Some here) × (after ≡ before ++ here)
+AddsAsked line before after (Err Wrong) = asked_by line ≡ None
+AddsAsked line before after (Err Memory) = ⊤

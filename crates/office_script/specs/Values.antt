@@ -1,0 +1,52 @@
+-- What the value of a field is, by its kind; `None` where it is no value of that kind.
+use Rattle.std.specs.Prelude.{ℕ, ◌^◌, nat_lt, nat_le, Bool, false, ◌&&◌, List, [], ◌∷◌, Option, Some, None, if◌then◌else◌, codes}
+use Rattle.std.specs.List.{list_all}
+use Rattle.std.specs.Str.{bytes_eq}
+use Rattle.std.specs.Char.{digit_value}
+use Rattle.std.specs.Str.Parse.{digits_value}
+use Rattle.catalogue.specs.Name.{is_name}
+use Rattle.office_types.specs.PlainName.{is_plain_name}
+use Rattle.office_types.specs.declared.command.NetKind.{NetKind}
+use Rattle.office_types.specs.declared.command.NetKind.TheVariants.{Can, J1939}
+use Rattle.office_types.specs.declared.command.IdentForm.{IdentForm}
+use Rattle.office_types.specs.declared.command.IdentForm.TheVariants as ident
+use Rattle.office_types.specs.declared.block.BlockForm.{BlockForm}
+use Rattle.office_types.specs.declared.block.BlockForm.TheVariants as block
+
+-- one or more decimal digits alone
+abbrev pub is_numeral : List ℕ → Bool
+is_numeral [] = false
+is_numeral (b ∷ bytes) = list_all (λ d. nat_lt (digit_value d) 10) (b ∷ bytes)
+
+-- the number that the digits write, up to 4294967295
+abbrev pub whole_of : List ℕ → Option ℕ
+whole_of bytes = if is_numeral bytes && nat_lt (digits_value 10 bytes) (2 ^ 32) then Some (digits_value 10 bytes) else None
+
+abbrev pub at_most : ℕ → ℕ → Option ℕ
+at_most limit n = if nat_le n limit then Some n else None
+
+-- the name of a team or a network
+abbrev pub plain_name_of : List ℕ → Option (List ℕ)
+plain_name_of bytes = if is_plain_name bytes then Some bytes else None
+
+-- the name of a message or a node
+abbrev pub name_of : List ℕ → Option (List ℕ)
+name_of bytes = if is_name bytes then Some bytes else None
+
+abbrev pub kind_of : List ℕ → Option NetKind
+kind_of bytes =
+    if bytes_eq bytes (codes "can") then Some Can
+    else if bytes_eq bytes (codes "j1939") then Some J1939
+    else None
+
+abbrev pub ident_form_of : List ℕ → Option IdentForm
+ident_form_of bytes =
+    if bytes_eq bytes (codes "std") then Some ident.Std
+    else if bytes_eq bytes (codes "ext") then Some ident.Ext
+    else None
+
+abbrev pub block_form_of : List ℕ → Option BlockForm
+block_form_of bytes =
+    if bytes_eq bytes (codes "std") then Some block.Std
+    else if bytes_eq bytes (codes "ext") then Some block.Ext
+    else None

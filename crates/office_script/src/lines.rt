@@ -1,0 +1,45 @@
+//! The lines of a text.
+ghost use Rattle.std.specs.Prelude.{◌≡◌, ◌↔◌, ◌<◌, ◌∷◌, [], List, ℕ, length, MatchOption, IfSome};
+ghost use Rattle.office_script.specs.Lines.{lines_of, AreLinesOf, says_nothing};
+
+use crate::split::split_once;
+
+/// The first line of a text, and what follows it.
+#[derive(Clone, Copy, Debug)]
+pub struct FirstLine<'a> {
+    /// The bytes before the first line feed, or all of them where there is none. A carriage return is a byte of its line.
+    pub line: &'a [u8],
+    /// What follows that line feed: the text of the further lines.
+    pub rest: &'a [u8],
+}
+
+/// Splits the first line off a text, and gives `None` where no line is left.
+///
+/// The lines of a text are what stands between its line feeds. A line feed at the very end ends the last line and
+/// begins no further one, and the last line may lack it.
+pub fn first_line(text: &[u8]) -> Option<FirstLine<'_>>
+    ensures next { MatchOption result (lines_of text.now ≡ [])
+        (λ first. lines_of text.now ≡ first.line.now ∷ lines_of first.rest.now) }
+    ensures shorter { IfSome result (λ first. length first.rest.now < length text.now) }
+
+    // What the lines of the text are: with a line feed after each they are the text, and no other lists are.
+    ensures lines { (lines : List (List ℕ)) → (AreLinesOf text.now lines ↔ (lines ≡ lines_of text.now)) }
+{
+    if text.is_empty() {
+        return None;
+    }
+    match split_once(text, b'\n') {
+        Some((line, rest)) => Some(FirstLine { line, rest }),
+        None => Some(FirstLine {
+            line: text,
+            rest: &[],
+        }),
+    }
+}
+
+/// Whether a line counts for nothing: it has no bytes, or begins with `#`.
+pub fn says_nothing(line: &[u8]) -> bool
+    ensures { result ≡ says_nothing line.now }
+{
+    matches!(line, [] | [b'#', ..])
+}

@@ -1,0 +1,44 @@
+-- The least number of some blocks that has a form and isn't taken.
+use Rattle.std.specs.Prelude.{ℕ, ◌+◌, ◌-◌, ◌<◌, ◌≤◌, Bool, not, ◌&&◌, ◌==◌, nat_le, List, [], ◌∷◌, length, min, Option, Some, None, slice_index}
+use Rattle.std.specs.List.{list_any}
+use Rattle.office_types.specs.Least.{IsLeastOf, least_from}
+use Rattle.office_types.specs.Block.{in_block}
+use Rattle.office_types.specs.declared.free.Form.{Form}
+use Rattle.office_types.specs.declared.free.Form.TheVariants.{Std, Ext}
+use Rattle.office_types.specs.declared.block.Block.{Block}
+
+abbrev pub greatest_number : Form → ℕ
+greatest_number Std = 2047
+greatest_number Ext = 536870911
+
+abbrev pub has_form : Form → ℕ → Bool
+has_form form n = nat_le n (greatest_number form)
+
+abbrev pub is_taken : ℕ → List ℕ → Bool
+is_taken n taken = list_any (λ t. t == n) taken
+
+-- the number may be given out: it lies in one of the blocks, has the form and isn't taken
+abbrev pub is_free : List ℕ → List Block → Form → ℕ → Bool
+is_free taken blocks form n = list_any (in_block n) blocks && (has_form form n && not (is_taken n taken))
+
+-- the answer is the least number that may be given out, or there is none
+abbrev pub IsLeastFree : List ℕ → List Block → Form → Option ℕ → Type 0
+IsLeastFree taken blocks form = IsLeastOf (is_free taken blocks form)
+
+-- the lesser of what there is
+abbrev pub lesser_of : Option ℕ → Option ℕ → Option ℕ
+lesser_of (Some x) (Some y) = Some (min x y)
+lesser_of (Some x) None = Some x
+lesser_of None b = b
+
+-- the same number, computed block by block
+abbrev pub least_free : List ℕ → List Block → Form → Option ℕ
+least_free taken [] form = None
+least_free taken (b ∷ bs) form =
+    lesser_of (least_from (λ n. has_form form n && not (is_taken n taken)) (b.last + 1 - b.first) b.first) (least_free taken bs form)
+
+-- the first numbers of the list, so many, are below n, and no later one is
+pub record SplitsAt (numbers : List ℕ) (below n : ℕ) : Type 0 where
+  pub within : below ≤ length numbers
+  pub lower : (k : ℕ) → k < below → slice_index numbers k < n
+  pub upper : (k : ℕ) → below ≤ k → k < length numbers → n ≤ slice_index numbers k

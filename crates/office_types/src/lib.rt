@@ -1,0 +1,37 @@
+//! What the office speaks of: teams and networks, commands and replies, the state, and the allocators.
+//!
+//! A [`Command`] asks for one thing on one network; its fields are typed so that no value out of range can be
+//! written. A [`Reply`] is what the office answers. The state is plain data: [`Office`] holds networks in the
+//! order of their names and the [`SpnBook`], a [`Net`] holds its live messages, blocks and held identifiers,
+//! each in the order of a key, so that the state is also what tables ordered by key hold. A [`Change`] is one
+//! thing that a command sets.
+//!
+//! [`least_free`] is the allocator: the least number of some blocks that has a form and isn't taken.
+//!
+//! The definitions are in `specs/`: `PlainName.antt`, `Command.antt` (ranges of a command's fields),
+//! `Reply.antt` (numbers, names and lines of replies), `State.antt` (what every office keeps) and `Free.antt`.
+#![tactic(auto)]
+
+mod block;
+mod change;
+mod command;
+mod free;
+mod net_name;
+mod plain_name;
+mod quantity;
+mod refusal;
+mod reply;
+mod state;
+mod team;
+
+pub use block::{Block, BlockForm, FormBlock};
+pub use change::{Change, Decision, Head};
+pub use command::{Action, Command, Grant, IdentForm, NetKind, OpenNet, TakeIdent};
+pub use free::{Form, least_free, rises};
+pub use net_name::NetName;
+pub use plain_name::PlainName;
+pub use quantity::{PayloadLength, ReviewCount};
+pub use refusal::Refusal;
+pub use reply::Reply;
+pub use state::{GrantedBlock, LiveMessage, Message, Net, Node, Office, Phase, SpnBlock, SpnBook};
+pub use team::Team;

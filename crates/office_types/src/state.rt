@@ -1,0 +1,218 @@
+use crate::block::FormBlock;
+use crate::command::NetKind;
+use crate::net_name::NetName;
+use crate::quantity::{PayloadLength, ReviewCount};
+use crate::team::Team;
+use can_id::Ident;
+use catalogue::{Copying, Items, Keyed, Name};
+use std::alloc::{AllocError, Global};
+use std::cmp::Ordering;
+
+/// The whole office.
+#[derive(Debug, Drop)]
+pub struct Office {
+    /// The networks, by rising name.
+    pub nets: Items<Net>,
+    pub book: SpnBook,
+}
+
+/// One vehicle network.
+#[derive(Debug, Drop)]
+pub struct Net {
+    pub name: NetName,
+    pub kind: NetKind,
+    /// How many approvals a release needs.
+    pub reviews: ReviewCount,
+    pub phase: Phase,
+    /// The nodes, in the order in which they were added.
+    pub nodes: Items<Node>,
+    /// The live messages, by rising DBC number.
+    pub live: Items<LiveMessage>,
+    /// The granted blocks, by form and then by their first number.
+    pub blocks: Items<GrantedBlock>,
+    /// The identifiers that are held for good, by rising DBC number.
+    pub held: Items<Ident>,
+}
+
+/// Whether a network is being changed or reviewed.
+#[derive(Debug, Drop)]
+pub enum Phase {
+    /// Teams may change the network.
+    Draft,
+    /// The network is under review, which this team asked for.
+    Review { submitter: Team },
+}
+
+/// A node of a network.
+#[derive(Debug, Drop)]
+pub struct Node {
+    pub name: Name,
+}
+
+/// A message without signals.
+#[derive(Debug, Drop)]
+pub struct Message {
+    pub ident: Ident,
+    pub name: Name,
+    pub length: PayloadLength,
+    /// The node that transmits it.
+    pub transmitter: Option<Name>,
+}
+
+/// A live message, and the team that took it.
+#[derive(Debug, Drop)]
+pub struct LiveMessage {
+    pub message: Message,
+    pub owner: Team,
+}
+
+/// A block of numbers, and the team that it was granted to.
+#[derive(Debug, Drop)]
+pub struct GrantedBlock {
+    pub block: FormBlock,
+    pub team: Team,
+}
+
+/// The J1939 suspect parameter numbers of the whole office.
+#[derive(Debug, Drop)]
+pub struct SpnBook {
+    /// The granted blocks, by network and then by their first number.
+    pub blocks: Items<SpnBlock>,
+    /// Each number that was ever used, rising.
+    pub used: Items<u32>,
+}
+
+/// A block of suspect parameter numbers from `first` to `last`, both with it, of a team on a network.
+#[derive(Debug, Drop)]
+pub struct SpnBlock {
+    pub net: NetName,
+    pub team: Team,
+    pub first: u32,
+    pub last: u32,
+}
+
+impl Copying for Node {
+    fn duplicate(&self, alloc: Global) -> Result<Self, AllocError> {
+        Ok(Node {
+            name: self.name.duplicate(alloc)?,
+        })
+    }
+}
+
+impl Copying for Message {
+    fn duplicate(&self, alloc: Global) -> Result<Self, AllocError> {
+        Ok(Message {
+            ident: self.ident,
+            name: self.name.duplicate(alloc)?,
+            length: self.length,
+            transmitter: self.transmitter.duplicate(alloc)?,
+        })
+    }
+}
+
+impl Copying for LiveMessage {
+    fn duplicate(&self, alloc: Global) -> Result<Self, AllocError> {
+        Ok(LiveMessage {
+            message: self.message.duplicate(alloc)?,
+            owner: self.owner.duplicate(alloc)?,
+        })
+    }
+}
+
+impl Copying for GrantedBlock {
+    fn duplicate(&self, alloc: Global) -> Result<Self, AllocError> {
+        Ok(GrantedBlock {
+            block: self.block,
+            team: self.team.duplicate(alloc)?,
+        })
+    }
+}
+
+impl Copying for Phase {
+    fn duplicate(&self, alloc: Global) -> Result<Self, AllocError> {
+        match self {
+            Phase::Draft => Ok(Phase::Draft),
+            Phase::Review { submitter } => Ok(Phase::Review {
+                submitter: submitter.duplicate(alloc)?,
+            }),
+        }
+    }
+}
+
+impl Copying for Net {
+    fn duplicate(&self, alloc: Global) -> Result<Self, AllocError> {
+        Ok(Net {
+            name: self.name.duplicate(alloc)?,
+            kind: self.kind,
+            reviews: self.reviews,
+            phase: self.phase.duplicate(alloc)?,
+            nodes: self.nodes.duplicate(alloc)?,
+            live: self.live.duplicate(alloc)?,
+            blocks: self.blocks.duplicate(alloc)?,
+            held: self.held.duplicate(alloc)?,
+        })
+    }
+}
+
+impl Copying for SpnBlock {
+    fn duplicate(&self, alloc: Global) -> Result<Self, AllocError> {
+        Ok(SpnBlock {
+            net: self.net.duplicate(alloc)?,
+            team: self.team.duplicate(alloc)?,
+            first: self.first,
+            last: self.last,
+        })
+    }
+}
+
+impl Copying for SpnBook {
+    fn duplicate(&self, alloc: Global) -> Result<Self, AllocError> {
+        Ok(SpnBook {
+            blocks: self.blocks.duplicate(alloc)?,
+            used: self.used.duplicate(alloc)?,
+        })
+    }
+}
+
+impl Keyed for Net {
+    ghost use Rattle.office_types.specs.State.{by_name};
+    ghost use Rattle.std.specs.Cmp.Lexicographic.{on_texts};
+
+    ghost order = { by_name };
+
+    ghost ordered = { on_texts (λ n. n.name) };
+
+    fn compare(&self, other: &Net) -> Ordering {
+        self.name.compare(&other.name)
+    }
+}
+
+impl Keyed for LiveMessage {
+    ghost use Rattle.office_types.specs.State.{by_number};
+    ghost use Rattle.std.proofs.Common.{rules};
+    ghost use Rattle.std.specs.Cmp.Rules.{comparing};
+
+    ghost order = { by_number };
+
+    ghost ordered = { Prim.search (comparing, rules) };
+
+    fn compare(&self, other: &LiveMessage) -> Ordering {
+        self.message.ident.compare(&other.message.ident)
+    }
+}
+
+impl Keyed for GrantedBlock {
+    ghost use Rattle.office_types.specs.State.{by_first};
+    ghost use Rattle.std.proofs.Common.{rules};
+    ghost use Rattle.std.specs.Cmp.Rules.{comparing};
+
+    ghost order = { by_first };
+
+    ghost ordered = { Prim.search (comparing, rules) };
+
+    fn compare(&self, other: &GrantedBlock) -> Ordering {
+        let rank = self.block.form().rank();
+        let other_rank = other.block.form().rank();
+        rank.cmp(&other_rank).then(self.block.numbers().first.cmp(&other.block.numbers().first))
+    }
+}

@@ -1,0 +1,9 @@
+//! Tests of the program's library, from the words of the command line to the bytes on the two streams.
+#![tactic(auto)]
+
+#[cfg(test)]
+mod parts;
+#[cfg(test)]
+mod scripts;
+#[cfg(test)]
+mod wrong_lines;

@@ -9,7 +9,7 @@ use Rattle.std.proofs.lemmas.List.Elements.{Contains-get_or, Contains-from_at, a
 use Rattle.bitlayout.specs.declared.layout.Order.{Order}
 use Rattle.bitlayout.specs.declared.layout.Order.TheVariants.{Intel, Motorola}
 use Rattle.bitlayout.specs.declared.layout.Layout.{Layout}
-use Rattle.bitlayout.specs.Bits.{next_position, walk, positions, IsBit, SharesBit, IsInside, shares_bit, is_inside}
+use Rattle.bitlayout.specs.Bits.{next_position, walk, positions, IsBit, SharesBit, IsInside, is_bit, shares_bit, is_inside}
 use Rattle.bitlayout.specs.Interval.{rank}
 
 motorola_next : (p : ℕ) → rank Motorola (next_position Motorola p) ≡ rank Motorola p + 1
@@ -91,6 +91,10 @@ has_position : (q : ℕ) (xs : List ℕ) → Decides (list_any (λ x. q == x) xs
 has_position q xs =
     Decides-like (list_any (λ x. q == x) xs) (λ w. Contains-from_at xs q (w.0, w.1, λ d. sym (w.2 d))) (λ w. let v = at_from_Contains xs q w in (v.0, v.1, λ d. sym (v.2 d)))
     (Decides-by_or (λ x. q == x) (λ x. q ≡ x) (list_any (λ x. q == x)) (λ x. Decides-eqb q x) refl (λ _ _. refl) xs)
+
+pub is_bit_decides : (layout : Layout) (q : ℕ) → Decides (is_bit layout q) (IsBit layout q)
+unfolding is_bit
+is_bit_decides layout q = has_position q (positions layout)
 
 pub shares_bit_decides : (a b : Layout) → Decides (shares_bit a b) (SharesBit a b)
 unfolding shares_bit

@@ -35,6 +35,10 @@ IsInside layout bytes = (q : ℕ) → IsBit layout q → q < 8 * bytes
 
 -- The same computed.
 
+-- whether q is the position of one of the signal's bits
+unfoldable pub is_bit : Layout → ℕ → Bool
+is_bit layout q = list_any (λ p. q == p) (positions layout)
+
 -- whether the signals have a position in common
 unfoldable pub shares_bit : Layout → Layout → Bool
 shares_bit a b = list_any (λ p. list_any (λ q. p == q) (positions b)) (positions a)

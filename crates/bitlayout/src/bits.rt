@@ -1,8 +1,17 @@
 ghost use Rattle.std.specs.Prelude.{◌≡◌, ◌≢◌, ◌↔◌, IsTrue};
-ghost use Rattle.bitlayout.specs.Bits.{IsInside, SharesBit, is_inside, shares_bit};
+ghost use Rattle.bitlayout.specs.Bits.{IsBit, IsInside, SharesBit, is_bit, is_inside, shares_bit};
 
-use crate::interval::ranks;
+use crate::interval::{rank_of, ranks};
 use crate::layout::Layout;
+
+/// Whether the position is that of one of the signal's bits.
+pub fn has_bit(layout: Layout, position: u32) -> bool
+    ensures bit { IsTrue result ↔ IsBit layout position }
+    ensures computed { result ≡ is_bit layout position }
+{
+    let rank = rank_of(layout.order, position);
+    ranks(layout).has(rank)
+}
 
 /// Whether each of the signal's bits lies in a payload of `length` bytes: each position is below 8 times
 /// `length`.

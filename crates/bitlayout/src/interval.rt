@@ -13,7 +13,6 @@ pub struct Interval {
 /// Where a position stands if each byte is numbered in the order's own direction: Intel from the least
 /// significant bit, Motorola from the most significant. A walk is then one interval.
 pub fn rank_of(order: Order, position: u32) -> u32
-    requires { position < 2 ^ 20 }
     ensures { result ≡ rank order position }
 {
     match order {
@@ -38,6 +37,13 @@ pub fn ranks(layout: Layout) -> Interval
 }
 
 impl Interval {
+    /// Whether the number lies in it.
+    pub fn has(self, n: u32) -> bool
+        ensures { IsTrue result ↔ IsWithin self n }
+    {
+        self.first <= n && n < self.end
+    }
+
     /// Whether some number lies in both.
     pub fn meets(self, other: Interval) -> bool
         ensures { IsTrue result ↔ ((n : ℕ) × IsWithin self n × IsWithin other n) }

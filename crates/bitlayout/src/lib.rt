@@ -2,8 +2,8 @@
 //! further one can start.
 //!
 //! Positions of bits, the byte order of a signal and its multiplexer indicator are those of Vector's DBC File
-//! Format Documentation. A [`Layout`] is the first positions of a walk from its start; [`inside`] and
-//! [`share_bit`] answer for the set of its positions. A [`Place`] adds the [`Mux`], when the signal is
+//! Format Documentation. A [`Layout`] is the first positions of a walk from its start; [`has_bit`], [`inside`]
+//! and [`share_bit`] answer for the set of its positions. A [`Place`] adds the [`Mux`], when the signal is
 //! present; [`meet`] tells whether two are ever present at once. [`first_clash`] tells whether the places of
 //! a message are clear: every bit in the payload, one multiplexor at most and one where it is needed, and at
 //! no value of it two signals that share a bit. [`least_start`] finds room for one more signal.
@@ -22,7 +22,7 @@ mod start;
 #[cfg(test)]
 mod tests;
 
-pub use bits::{inside, share_bit};
+pub use bits::{has_bit, inside, share_bit};
 pub use clash::{Clash, first_clash};
 pub use layout::{Layout, Order, Size};
 pub use place::{Mux, Place, meet};

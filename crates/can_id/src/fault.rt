@@ -24,6 +24,10 @@ impl IdFault {
 }
 
 impl fmt::Display for IdFault {
+    ghost use Rattle.std.specs.Prelude.{Some, codes};
+
+    ghost output = { λ _. Some (codes "the number is no CAN identifier") };
+
     fn fmt<W: fmt::Write>(&self, f: &mut fmt::Formatter<W>) -> fmt::Result {
         match self {
             IdFault::NotIdentifier => write!(f, "the number is no CAN identifier"),

@@ -1,6 +1,6 @@
 -- What the definitions of the command line say of words that are written out.
 use Rattle.std.proofs.Common.{◌≡◌, List, [], ◌∷◌, Option, Some, codes, option_map, refl}
-use Rattle.clap.specs.Words.{Row, Text, first_of, subcommand_of}
+use Rattle.clap.specs.Words.{Row, Text, all_of, first_of, subcommand_of}
 use Rattle.clap.specs.declared.error.kind.ErrorKind.TheVariants.{DisplayHelp, DisplayHelpOnMissingArgumentOrSubcommand, InvalidSubcommand, MissingRequiredArgument, UnknownArgument}
 use Rattle.clap.proofs.OnLiterals.{clap_on_literals}
 use Rattle.canoffice_cli.specs.CommandLine.{canoffice_app, line_faults}
@@ -46,3 +46,32 @@ its_name = refl
 its_script : script_in (subcommand_of canoffice_app a_script) ≡ Some (Some (codes "a.txt"))
 unfolding clap_on_literals
 its_script = refl
+
+no_length : line_faults (codes "canoffice" ∷ codes "chart" ∷ []) ≡ MissingRequiredArgument ∷ []
+unfolding clap_on_literals
+no_length = refl
+
+no_signal : line_faults (codes "canoffice" ∷ codes "chart" ∷ codes "8" ∷ []) ≡ MissingRequiredArgument ∷ []
+unfolding clap_on_literals
+no_signal = refl
+
+abbrev two_signals : List Text
+two_signals = codes "canoffice" ∷ codes "chart" ∷ codes "8" ∷ codes "A=0|1@1" ∷ codes "B=1|1@1" ∷ []
+
+two_signals_are_right : line_faults two_signals ≡ []
+unfolding clap_on_literals
+two_signals_are_right = refl
+
+abbrev length_in : Option (Text × List Row) → Option (Option Text)
+length_in = option_map (λ found. first_of (codes "LENGTH") found.1)
+
+abbrev signals_in : Option (Text × List Row) → Option (Option (List Text))
+signals_in = option_map (λ found. all_of (codes "SIGNAL") found.1)
+
+its_length : length_in (subcommand_of canoffice_app two_signals) ≡ Some (Some (codes "8"))
+unfolding clap_on_literals
+its_length = refl
+
+its_signals : signals_in (subcommand_of canoffice_app two_signals) ≡ Some (Some (codes "A=0|1@1" ∷ codes "B=1|1@1" ∷ []))
+unfolding clap_on_literals
+its_signals = refl

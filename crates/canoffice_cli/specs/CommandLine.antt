@@ -1,11 +1,12 @@
 -- The command line of the program, which job its words are, and which fault they have.
-use Rattle.std.specs.Prelude.{◌≡◌, ◌≢◌, List, [], codes, Option, Some, true, Result, Ok, Err}
-use Rattle.clap.specs.Words.{App, IsAmong, Kinds, Row, Rule, Text, fault_of, first_of, new_app, new_rule, subcommand_of, with_rule, with_subcommand}
+use Rattle.std.specs.Prelude.{◌≡◌, ◌≢◌, List, [], map, codes, Option, Some, true, Result, Ok, Err}
+use Rattle.clap.specs.Lexer.{usize_max}
+use Rattle.clap.specs.Words.{App, IsAmong, Kinds, Row, Rule, Text, all_of, fault_of, first_of, new_app, new_rule, subcommand_of, with_rule, with_subcommand}
 use Rattle.clap.specs.Simple.{on_top}
 use Rattle.clap.specs.declared.error.kind.ErrorKind.{ErrorKind}
 use Rattle.clap.specs.declared.error.kind.ErrorKind.TheVariants.{DisplayHelp, OutOfMemory}
 use Rattle.canoffice_cli.specs.declared.job.Job.{Job}
-use Rattle.canoffice_cli.specs.declared.job.Job.TheVariants.{Apply}
+use Rattle.canoffice_cli.specs.declared.job.Job.TheVariants.{Apply, Chart}
 use Rattle.canoffice_cli.specs.declared.job.LineFault.{LineFault}
 use Rattle.canoffice_cli.specs.declared.job.LineFault.TheVariants.{Help, Usage, Memory}
 
@@ -15,17 +16,25 @@ use Rattle.canoffice_cli.specs.declared.job.LineFault.TheVariants.{Help, Usage, 
 abbrev pub required_word : Text → Rule
 required_word id = record (new_rule id) { required = true }
 
+-- words of which one has to be there, and that take up all further places
+abbrev pub required_words : Text → Rule
+required_words id = record (required_word id) { range = Some (record { start_inclusive = 1; end_inclusive = usize_max }) }
+
 -- apply SCRIPT
 abbrev pub apply_app : App
 apply_app = with_rule (new_app (codes "apply")) (required_word (codes "SCRIPT"))
+
+-- chart LENGTH SIGNAL..
+abbrev pub chart_app : App
+chart_app = with_rule (with_rule (new_app (codes "chart")) (required_word (codes "LENGTH"))) (required_words (codes "SIGNAL"))
 
 -- some subcommand has to be named, and no word at all is answered by the help
 abbrev pub wants_subcommand : App → App
 wants_subcommand = on_top (λ s. record s { subcommand_required = true; arg_required_else_help = true })
 
--- canoffice apply ..
+-- canoffice apply .., canoffice chart ..
 abbrev pub canoffice_app : App
-canoffice_app = with_subcommand (wants_subcommand (new_app (codes "canoffice"))) apply_app.top
+canoffice_app = with_subcommand (with_subcommand (wants_subcommand (new_app (codes "canoffice"))) apply_app.top) chart_app.top
 
 -- the kinds of fault that clap finds in the words
 abbrev pub line_faults : List Text → Kinds
@@ -37,9 +46,15 @@ line_faults words = fault_of canoffice_app words
 abbrev pub HasValue : List Row → Text → Text → Type 0
 HasValue rows id text = first_of id rows ≡ Some text
 
+-- the argument of this name has these values, in order
+abbrev pub HasValues : List Row → Text → List Text → Type 0
+HasValues rows id texts = all_of id rows ≡ Some texts
+
 -- the job is the subcommand, with the values of its arguments
 abbrev pub IsJobOf : Job → Text → List Row → Type 0
 IsJobOf (Apply script) name rows = (name ≡ codes "apply") × HasValue rows (codes "SCRIPT") script.now
+IsJobOf (Chart length signals) name rows =
+    (name ≡ codes "chart") × HasValue rows (codes "LENGTH") length.now × HasValues rows (codes "SIGNAL") (map (λ s. s.now) signals.items)
 
 -- the job of the subcommand that was found, with its values
 abbrev pub IsJobIn : Option (Text × List Row) → Job → Type 0

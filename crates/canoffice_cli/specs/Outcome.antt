@@ -41,6 +41,10 @@ unreadable path = failed (codes "cannot read " ++ (path ++ codes "\n"))
 abbrev pub wrong_line : ℕ → Outcome
 wrong_line number = refused (codes "bad line " ++ (decimal number ++ codes "\n"))
 
+-- this word of the command line is not of its form
+abbrev pub wrong_word : List ℕ → Outcome
+wrong_word word = refused (codes "bad word " ++ (word ++ codes "\n"))
+
 -- memory ran out
 abbrev pub memory_lost : Outcome
 memory_lost = failed (codes "lost 71\n")

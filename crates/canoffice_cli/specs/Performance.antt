@@ -1,13 +1,14 @@
 -- What the program comes to, of its words and of what is known of the files.
-use Rattle.std.specs.Prelude.{◌≡◌, ◌⊎◌, ℕ, List, Result, Ok, Err, string_bytes}
+use Rattle.std.specs.Prelude.{◌≡◌, ◌⊎◌, ℕ, List, map, Result, Ok, Err, string_bytes}
 use Rattle.canoffice_cli.specs.CommandLine.{IsLine}
 use Rattle.canoffice_cli.specs.Holding.{Holding, unknown, absent, holding}
 use Rattle.canoffice_cli.specs.Outcome.{Outcome, memory_lost, printed, refused, unreadable}
 use Rattle.canoffice_cli.specs.Applied.{IsScriptOutcome}
+use Rattle.canoffice_cli.specs.Charted.{IsChartOutcome}
 use Rattle.canoffice_cli.specs.Delivery.{IsDelivered, Writing}
 use Rattle.canoffice_cli.specs.declared.report.Status.{Status}
 use Rattle.canoffice_cli.specs.declared.job.Job.{Job}
-use Rattle.canoffice_cli.specs.declared.job.Job.TheVariants.{Apply}
+use Rattle.canoffice_cli.specs.declared.job.Job.TheVariants.{Apply, Chart}
 use Rattle.canoffice_cli.specs.declared.job.LineFault.{LineFault}
 use Rattle.canoffice_cli.specs.declared.job.LineFault.TheVariants.{Help, Usage, Memory}
 
@@ -24,6 +25,7 @@ IsOfFile IsOf path (holding bytes) o = IsOf bytes o
 -- what the job comes to
 abbrev pub IsDone : Files → Job → Outcome → Type 0
 IsDone files (Apply script) o = IsOfFile IsScriptOutcome script.now (files script.now) o
+IsDone files (Chart length signals) o = IsChartOutcome length.now (map (λ s. s.now) signals.items) o
 
 -- what words that are no job come to: the text of their fault
 abbrev pub IsFaultAnswer : LineFault → Outcome → Type 0

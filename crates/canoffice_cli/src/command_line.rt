@@ -3,7 +3,7 @@
 ghost use Rattle.std.specs.Prelude.{◌≡◌, IfOk, false};
 ghost use Rattle.clap.specs.Words.{app_of, rule_of};
 ghost use Rattle.clap.specs.declared.builder.command.Command.TheViews.{out-Command as fields_of};
-ghost use Rattle.canoffice_cli.specs.CommandLine.{apply_app, canoffice_app, required_word};
+ghost use Rattle.canoffice_cli.specs.CommandLine.{apply_app, canoffice_app, chart_app, required_word, required_words};
 
 use clap::{Arg, Command};
 use std::alloc::{AllocError, Global};
@@ -14,6 +14,14 @@ fn required<'a>(alloc: Global, id: &'a str, help: &'a str) -> Arg<'a>
     ensures local { result.global ≡ false }
 {
     Arg::new(alloc, id).required(true).help(help)
+}
+
+// Words of which one has to be there, and that take up all further places.
+fn required_many<'a>(alloc: Global, id: &'a str, help: &'a str) -> Arg<'a>
+    ensures rule { rule_of result ≡ required_words id.entry.now }
+    ensures local { result.global ≡ false }
+{
+    required(alloc, id, help).num_args(1..)
 }
 
 // `apply SCRIPT`
@@ -28,6 +36,21 @@ fn apply_command<'a>(alloc: Global) -> Result<Command<'a>, AllocError>
     Ok(apply)
 }
 
+// `chart LENGTH SIGNAL..`
+fn chart_command<'a>(alloc: Global) -> Result<Command<'a>, AllocError>
+    ensures app { IfOk result (λ c. app_of c ≡ chart_app) }
+    ensures local { IfOk result (λ c. (fields_of c).has_globals ≡ false) }
+{
+    let named = Command::new(alloc, "chart").about(
+        "Prints which signal has which bit of a message, and whether they clash",
+    );
+    let length = "How many bytes the message has, 0 to 64";
+    let signal = "A signal: name=start|size@order, then nothing, ,M or ,mN";
+    let with_length = named.arg(required(alloc, "LENGTH", length))?;
+    let chart = with_length.arg(required_many(alloc, "SIGNAL", signal))?;
+    Ok(chart)
+}
+
 /// The program's command line with all its subcommands, of which one has to be named.
 pub fn canoffice_command<'a>(alloc: Global) -> Result<Command<'a>, AllocError>
     ensures app { IfOk result (λ c. app_of c ≡ canoffice_app) }
@@ -38,5 +61,6 @@ pub fn canoffice_command<'a>(alloc: Global) -> Result<Command<'a>, AllocError>
     );
     let wanting = named.subcommand_required(true).arg_required_else_help(true);
     let with_apply = wanting.subcommand(apply_command(alloc)?)?;
-    Ok(with_apply)
+    let with_chart = with_apply.subcommand(chart_command(alloc)?)?;
+    Ok(with_chart)
 }

@@ -12,7 +12,14 @@ use std::alloc::Global;
 #[derive(Debug, Drop)]
 pub enum Job<'a> {
     /// Apply the lines of the script in the file of this name.
-    Apply { script: &'a str },
+    Apply {
+        script: &'a str,
+    },
+    /// Print the chart of the signals that the words write, in a message of the length that a word writes.
+    Chart {
+        length: &'a str,
+        signals: Vec<&'a str>,
+    },
 }
 
 /// Why the words of the command line are no job.
@@ -38,7 +45,7 @@ pub fn job_of<'a>(alloc: Global, words: &'a [&'a str]) -> Result<Job<'a>, LineFa
         return Err(LineFault::Memory);
     };
     match command.try_get_matches_from(words) {
-        Ok(matches) => job_in(&matches).ok_or(LineFault::Memory),
+        Ok(matches) => job_in(alloc, &matches).ok_or(LineFault::Memory),
         Err(error) => Err(line_fault(alloc, &error)),
     }
 }
@@ -71,14 +78,17 @@ fn line_fault(alloc: Global, error: &Error) -> LineFault
     }
 }
 
-// The job of the subcommand that was entered.
+// The job of the subcommand that was entered; `None` too where memory runs out.
 #[tactic(auto, using(crate::proofs::CommandLine::found_pair))]
-fn job_in<'a>(matches: &ArgMatches<'a>) -> Option<Job<'a>>
+fn job_in<'a>(alloc: Global, matches: &ArgMatches<'a>) -> Option<Job<'a>>
     ensures { IfSome result (IsJobIn (subcommand_rows_of matches.now)) }
 {
     let (name, found) = matches.subcommand()?;
     if name == "apply" {
         return apply_job(found);
+    }
+    if name == "chart" {
+        return chart_job(alloc, found);
     }
     None
 }
@@ -90,4 +100,15 @@ fn apply_job<'a>(found: &ArgMatches<'a>) -> Option<Job<'a>>
 {
     let script = found.get_str("SCRIPT")?;
     Some(Job::Apply { script })
+}
+
+// `chart LENGTH SIGNAL..`; `None` too where memory runs out.
+#[tactic(auto, using(crate::proofs::CommandLine::value_in_rows, crate::proofs::CommandLine::values_in_rows))]
+fn chart_job<'a>(alloc: Global, found: &ArgMatches<'a>) -> Option<Job<'a>>
+    ensures { IfSome result (λ job. IsJobOf job (codes "chart") (rows_of (found_of found.now))) }
+{
+    let length = found.get_str("LENGTH")?;
+    let words = found.get_strs("SIGNAL")?;
+    let signals = Vec::from_slice(alloc, words).ok()?;
+    Some(Job::Chart { length, signals })
 }

@@ -11,6 +11,7 @@
 #![tactic(auto)]
 
 mod apply;
+mod charting;
 mod command_line;
 mod delivery;
 mod files;
@@ -19,8 +20,9 @@ mod program;
 mod report;
 
 pub use apply::apply_script;
+pub use charting::chart_report;
 pub use delivery::{deliver, told};
 pub use files::{FileFault, FileSource, HostFiles, ListedFiles, NamedFile};
 pub use job::{Job, LineFault, job_of, words_not_text};
 pub use program::{fault_report, perform, report_of};
-pub use report::{LOST_MEMORY, Report, Status, bad_line, cannot_read, help, usage};
+pub use report::{LOST_MEMORY, Report, Status, bad_line, bad_word, cannot_read, help, usage};

@@ -4,6 +4,7 @@ ghost use Rattle.canoffice_cli.specs.Outcome.{outcome_of};
 ghost use Rattle.canoffice_cli.specs.Performance.{IsAnswered, IsDone, IsFaultAnswer, IsPerformed};
 
 use crate::apply::apply_script;
+use crate::charting::chart_report;
 use crate::delivery::told;
 use crate::files::{FileFault, FileSource};
 use crate::job::{Job, LineFault, job_of};
@@ -65,5 +66,6 @@ pub fn report_of<F: FileSource>(
             Err(FileFault::Unreadable) => cannot_read(alloc, script),
             Err(FileFault::Memory) => Err(AllocError),
         },
+        Job::Chart { length, signals } => chart_report(alloc, length, signals),
     }
 }

@@ -1,6 +1,6 @@
 //! What the program has to tell: bytes for its two streams, and its exit status.
 ghost use Rattle.std.specs.Prelude.{◌≡◌, IfOk, codes, string_bytes};
-ghost use Rattle.canoffice_cli.specs.Outcome.{code_of, outcome_of, printed, refused, unreadable, wrong_line};
+ghost use Rattle.canoffice_cli.specs.Outcome.{code_of, outcome_of, printed, refused, unreadable, wrong_line, wrong_word};
 
 use std::alloc::{AllocError, Global};
 
@@ -62,6 +62,18 @@ pub fn bad_line(alloc: Global, number: usize) -> Result<Report, AllocError>
     ensures { IfOk result (λ report. outcome_of report ≡ wrong_line number) }
 {
     let text = format!(in alloc; "bad line {number}\n")?;
+    Ok(Report {
+        output: Vec::new(alloc),
+        errors: text.into_bytes(),
+        status: Status::WrongInput,
+    })
+}
+
+/// The report that this word of the command line is not of its form.
+pub fn bad_word(alloc: Global, word: &str) -> Result<Report, AllocError>
+    ensures { IfOk result (λ report. outcome_of report ≡ wrong_word word.now) }
+{
+    let text = format!(in alloc; "bad word {word}\n")?;
     Ok(Report {
         output: Vec::new(alloc),
         errors: text.into_bytes(),

@@ -1,2 +1,4 @@
 pub mod Putting
 pub mod Put
+mod Digits
+pub mod WholeNumbers

@@ -1,3 +1,4 @@
 pub mod Keyed
 pub mod Keyword
 pub mod Name
+pub mod WholeNumber

@@ -16,7 +16,7 @@ use Rattle.office_types.specs.declared.reply.Reply.TheVariants.{Number}
 use Rattle.office_types.specs.declared.state.Net.{Net}
 use Rattle.office_types.specs.declared.state.SpnBook.{SpnBook}
 use Rattle.office_types.proofs.Least.{least_free_is}
-use Rattle.office.specs.Laws.{GivesFresh, IdentifiersAreFresh}
+use Rattle.office.specs.Laws.{IsChosen, GivesFresh, IdentifiersAreFresh}
 use Rattle.office.specs.Net.{has_number, is_live, is_held, taken_numbers, blocks_of, lies_in}
 use Rattle.office.specs.Outcome.{Changing, want_tests, take_ident_tests, number_given, ident_given, ident_in, ident_of, ident_number, taken, new_message, with_message}
 use Rattle.office.proofs.Absent.{All-from_none}
@@ -24,7 +24,8 @@ use Rattle.office.proofs.TakenNumbers.{is_taken-numbers}
 use Rattle.office.proofs.Passing.{NoneHolds, NoneHolds-from_changing, refusing_changing, same_Changing}
 
 -- the number may be given out
-record IsFreeNumber (team : List ℕ) (net : Net) (form : IdentForm) (n : ℕ) : Type 0 where
+record IsFreeNumber (team : List ℕ) (net : Net) (form : IdentForm) (want : Option ℕ) (n : ℕ) : Type 0 where
+  chosen : IsChosen want (taken_numbers net form) (blocks_of net team (block_form form)) (number_form form) n
   formed : has_form (number_form form) n ≡ true
   granted : lies_in n (blocks_of net team (block_form form)) ≡ true
   live : is_live net form n ≡ false
@@ -32,10 +33,10 @@ record IsFreeNumber (team : List ℕ) (net : Net) (form : IdentForm) (n : ℕ) :
 
 -- the number that is given out may be
 free_given : (team : List ℕ) (net : Net) (c : TakeIdent) (want : Option ℕ) → NoneHolds (want_tests team net (record c { want = want })) → (n : ℕ)
-    → number_given team net (record c { want = want }) ≡ Some n → IsFreeNumber team net c.form n
+    → number_given team net (record c { want = want }) ≡ Some n → IsFreeNumber team net c.form want n
 free_given team net c (Some m) h n e =
     let inside = and_parts _ _ (not-false _ h.0) in
-    subst (IsFreeNumber team net c.form) (same_Some m n e) (record { formed = inside.0; granted = inside.1; live = h.1.0; held = h.1.1.0 })
+    subst (IsFreeNumber team net c.form (Some m)) (same_Some m n e) (record { chosen = refl; formed = inside.0; granted = inside.1; live = h.1.0; held = h.1.1.0 })
 free_given team net c None h n e =
     let numbers = taken_numbers net c.form in
     let blocks = blocks_of net team (block_form c.form) in
@@ -43,7 +44,7 @@ free_given team net c None h n e =
     let inside = and_parts _ _ least.0 in
     let other = and_parts _ _ inside.1 in
     let free = or_parts _ _ (sym (is_taken-numbers net c.form n) ∙ not-true _ other.1) in
-    record { formed = other.0; granted = inside.0; live = free.0; held = free.1 }
+    record { chosen = least; formed = other.0; granted = inside.0; live = free.0; held = free.1 }
 
 identifier_of : (form : IdentForm) (n : ℕ) → has_form (number_form form) n ≡ true → IsIdentifier (ident_of form n)
 identifier_of Std n h = leb-true n 2047 h
@@ -61,13 +62,14 @@ other_ident : (form : IdentForm) (n : ℕ) (i : Ident) → has_number form n i �
 other_ident form n i h e = false≢true (sym h ∙ ap (has_number form n) e ∙ has_its_number form n)
 
 -- the identifier of a number that may be given out
-fresh_of : (team : List ℕ) (net : Net) (c : TakeIdent) (n : ℕ) → IsFreeNumber team net c.form n
+fresh_of : (team : List ℕ) (net : Net) (c : TakeIdent) (n : ℕ) → IsFreeNumber team net c.form c.want n
     → GivesFresh team net c (Number (ident_number (ident_of c.form n))) (with_message net (new_message team c (ident_of c.form n)))
 fresh_of team net c n free = record {
   ident = ident_of c.form n;
   identifier = identifier_of c.form n free.formed;
   formed = ap (ident_of c.form) (sym (number_of c.form n));
   granted = ap (λ v. lies_in v (blocks_of net team (block_form c.form))) (number_of c.form n) ∙ free.granted;
+  chosen = subst (IsChosen c.want (taken_numbers net c.form) (blocks_of net team (block_form c.form)) (number_form c.form)) (sym (number_of c.form n)) free.chosen;
   not_live = All-weaker (λ m. has_number c.form n m.message.ident ≡ false) (λ m. m.message.ident ≢ ident_of c.form n) (λ m. other_ident c.form n m.message.ident)
       net.live (All-from_none (λ m. has_number c.form n m.message.ident) net.live free.live);
   not_held = All-weaker (λ i. has_number c.form n i ≡ false) (λ i. i ≢ ident_of c.form n) (other_ident c.form n)

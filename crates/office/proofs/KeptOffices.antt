@@ -1,5 +1,5 @@
 -- What every office keeps is kept by each step.
-use Rattle.std.proofs.Common.{Bool, List, [], ◌∷◌, Some, sym, subst, arith}
+use Rattle.std.proofs.Common.{ℕ, Bool, List, [], ◌∷◌, Some, sym, subst, arith}
 use Rattle.std.specs.List.{All, find}
 use Rattle.std.specs.List.Sorted.{IsStrictlySortedBy}
 use Rattle.std.specs.Prelude.{IfSome}
@@ -11,9 +11,13 @@ use Rattle.catalogue.proofs.Put.{All-put, IsStrictlySortedBy-put}
 use Rattle.office_types.specs.State.{by_name, IsNet, IsOffice}
 use Rattle.office_types.specs.declared.state.Net.{Net}
 use Rattle.office_types.specs.declared.state.Office.{Office}
-use Rattle.office.specs.Laws.{OfficesAreKept}
+use Rattle.office_types.specs.PlainName.{IsPlainName}
+use Rattle.office_types.specs.Command.{IsCommand}
+use Rattle.office_types.specs.declared.command.Command.{Command}
+use Rattle.office_types.specs.declared.reply.Reply.{Reply}
+use Rattle.office.specs.Laws.{AreRequests, OfficesAreKept}
 use Rattle.office.specs.Outcome.{Outcome, Refusing, Changing}
-use Rattle.office.specs.Step.{opening, net_named, office_after, step_outcome}
+use Rattle.office.specs.Step.{Step, Run, opening, net_named, office_after, step_outcome}
 use Rattle.office.proofs.KeptCommands.{Keeps, keeps_action}
 
 -- what is found is one of them
@@ -36,15 +40,28 @@ unfolding IsStrictlySortedBy
 IsOffice-opening = record {
   nets = All-nil _;
   nets_rising = tt;
-  book = record { blocks = All-nil _; used = All-nil _; used_rising = λ k l. absurd (omega arith) };
+  book = record {
+    blocks = All-nil _;
+    blocks_rising = tt;
+    blocks_apart = λ i j d l h. absurd (omega arith);
+    used = All-nil _;
+    used_rising = λ k l. absurd (omega arith);
+  };
 }
 
+IsOffice-step : (before after : Office) (team : List ℕ) (c : Command) (reply : Reply) → IsOffice before → IsPlainName team → IsCommand c → Step before team c reply after → IsOffice after
+IsOffice-step before after team c reply h plain command step =
+    subst IsOffice (sym step.left)
+    (IsOffice-after before (step_outcome before team c) h
+    (keeps_action team (net_named before c.net) before.book c.net c.action (IfSome-find IsNet (λ n. bytes_eq n.name c.net) before.nets h.nets) h.book plain
+    command.0 command.1))
+
+IsOffice-run : (before after : Office) (requests : List (List ℕ × Command)) (replies : List Reply) → IsOffice before → AreRequests requests → Run before requests replies after → IsOffice after
+IsOffice-run before after [] [] h all run = subst IsOffice (sym run) h
+IsOffice-run before after [] (r ∷ replies) h all run = absurd run
+IsOffice-run before after (q ∷ requests) [] h all run = absurd run
+IsOffice-run before after (q ∷ requests) (r ∷ replies) h all run =
+    IsOffice-run run.0 after requests replies (IsOffice-step before run.0 q.0 q.1 r h all.0.0 all.0.1 run.1) all.1 run.2
+
 pub offices_are_kept : OfficesAreKept
-offices_are_kept = record {
-  opening = IsOffice-opening;
-  step = λ before after team c reply h plain command step.
-      subst IsOffice (sym step.left)
-      (IsOffice-after before (step_outcome before team c) h
-      (keeps_action team (net_named before c.net) before.book c.net c.action (IfSome-find IsNet (λ n. bytes_eq n.name c.net) before.nets h.nets) h.book plain
-      command.0 command.1));
-}
+offices_are_kept = record { opening = IsOffice-opening; step = IsOffice-step; run = IsOffice-run }

@@ -7,3 +7,4 @@ pub mod Fresh
 pub mod KeptNets
 pub mod KeptCommands
 pub mod KeptOffices
+pub mod Rows

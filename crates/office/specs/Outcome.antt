@@ -144,7 +144,7 @@ taken team net book c None = Refusing no.BlockFull
 abbrev pub take_ident : List ℕ → Net → SpnBook → TakeIdent → Outcome
 take_ident team net book c = unless (take_ident_tests team net c) (taken team net book c (ident_given team net c))
 
--- A command on a network that is there.
+-- A command on a network that is there; opening one has its own rule below.
 abbrev pub on_net : List ℕ → Net → SpnBook → Action → Outcome
 on_net team net book (act.OpenNet c) = Refusing no.NetThere
 on_net team net book (act.Grant c) = grant net book c
@@ -167,7 +167,7 @@ office_tests team a = record { holds = is_for_office a && not (is_office team); 
 abbrev pub outcome : List ℕ → Option Net → SpnBook → Command → Outcome
 outcome team net book c = elim c.action [
   | act.OpenNet o ↦ open_net team net book c.net o
-  | a ↦ unless (record { holds = is_for_office a && not (is_office team); refusal = no.NotOffice } ∷ []) (on_some_net team net book a)
+  | a ↦ unless (office_tests team a) (on_some_net team net book a)
 ]
 
 abbrev pub reply_of : Outcome → Reply

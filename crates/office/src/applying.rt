@@ -87,7 +87,7 @@ fn with_change(
 }
 
 /// Applies changes in order.
-pub fn apply_all(
+pub(crate) fn apply_all(
     alloc: Global,
     name: &NetName,
     net: Option<Net>,

@@ -7,7 +7,11 @@ use office_types::{Change, Decision, Refusal, Reply};
 use std::alloc::{AllocError, Global};
 
 /// The decision that changes one thing.
-pub fn one_change(alloc: Global, change: Change, reply: Reply) -> Result<Decision, AllocError>
+pub(crate) fn one_change(
+    alloc: Global,
+    change: Change,
+    reply: Reply,
+) -> Result<Decision, AllocError>
     ensures changes { IfOk result (λ d. d.changes ≡ change ∷ []) }
     ensures reply { IfOk result (λ d. d.reply ≡ reply) }
 {
@@ -17,7 +21,7 @@ pub fn one_change(alloc: Global, change: Change, reply: Reply) -> Result<Decisio
 }
 
 /// The decision that refuses the command, and so changes nothing.
-pub fn refused(alloc: Global, refusal: Refusal) -> Decision
+pub(crate) fn refused(alloc: Global, refusal: Refusal) -> Decision
     ensures changes { result.changes ≡ [] }
     ensures reply { result.reply ≡ Refused refusal }
 {

@@ -19,7 +19,7 @@ fn grant_refusal(net: &Net, command: &Grant) -> Option<Refusal>
     }
 }
 
-pub fn decide_grant(
+pub(crate) fn decide_grant(
     alloc: Global,
     net: &Net,
     book: &SpnBook,

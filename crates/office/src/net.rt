@@ -8,7 +8,7 @@ use can_id::Ident;
 use catalogue::Name;
 use office_types::{Block, FormBlock, IdentForm, Net, Phase};
 
-pub fn phase_in_review(phase: &Phase) -> bool
+pub(crate) fn phase_in_review(phase: &Phase) -> bool
     ensures { result ≡ in_review phase.now }
 {
     match phase {
@@ -17,13 +17,13 @@ pub fn phase_in_review(phase: &Phase) -> bool
     }
 }
 
-pub fn net_has_node(net: &Net, name: &Name) -> bool
+pub(crate) fn net_has_node(net: &Net, name: &Name) -> bool
     ensures { result ≡ has_node net.now name.now }
 {
     net.nodes.as_slice().iter().any(|node| node.name == *name)
 }
 
-pub fn net_knows_node(net: &Net, node: &Option<Name>) -> bool
+pub(crate) fn net_knows_node(net: &Net, node: &Option<Name>) -> bool
     ensures { result ≡ knows_node net.now node.now }
 {
     match node {
@@ -32,7 +32,7 @@ pub fn net_knows_node(net: &Net, node: &Option<Name>) -> bool
     }
 }
 
-pub fn net_has_message(net: &Net, name: &Name) -> bool
+pub(crate) fn net_has_message(net: &Net, name: &Name) -> bool
     ensures { result ≡ has_message net.now name.now }
 {
     net.live
@@ -42,7 +42,7 @@ pub fn net_has_message(net: &Net, name: &Name) -> bool
 }
 
 /// Whether the identifier has this form and number.
-pub fn ident_has_number(ident: Ident, form: IdentForm, number: u32) -> bool
+pub(crate) fn ident_has_number(ident: Ident, form: IdentForm, number: u32) -> bool
     ensures { result ≡ has_number form number ident }
 {
     match (form, ident) {
@@ -52,7 +52,7 @@ pub fn ident_has_number(ident: Ident, form: IdentForm, number: u32) -> bool
     }
 }
 
-pub fn number_is_live(net: &Net, form: IdentForm, number: u32) -> bool
+pub(crate) fn number_is_live(net: &Net, form: IdentForm, number: u32) -> bool
     ensures { result ≡ is_live net.now form number }
 {
     net.live
@@ -61,7 +61,7 @@ pub fn number_is_live(net: &Net, form: IdentForm, number: u32) -> bool
         .any(|live| ident_has_number(live.message.ident, form, number))
 }
 
-pub fn number_is_held(net: &Net, form: IdentForm, number: u32) -> bool
+pub(crate) fn number_is_held(net: &Net, form: IdentForm, number: u32) -> bool
     ensures { result ≡ is_held net.now form number }
 {
     net.held
@@ -70,7 +70,7 @@ pub fn number_is_held(net: &Net, form: IdentForm, number: u32) -> bool
         .any(|ident| ident_has_number(*ident, form, number))
 }
 
-pub fn number_lies_in(number: u32, blocks: &[Block]) -> bool
+pub(crate) fn number_lies_in(number: u32, blocks: &[Block]) -> bool
     ensures { result ≡ lies_in number blocks.now }
 {
     blocks
@@ -79,7 +79,7 @@ pub fn number_lies_in(number: u32, blocks: &[Block]) -> bool
 }
 
 /// Whether some number lies in both blocks, which have one form.
-pub fn blocks_have_common(a: FormBlock, b: FormBlock) -> bool
+pub(crate) fn blocks_have_common(a: FormBlock, b: FormBlock) -> bool
     ensures { result ≡ have_common a b }
 {
     a.form() == b.form()
@@ -87,7 +87,7 @@ pub fn blocks_have_common(a: FormBlock, b: FormBlock) -> bool
         && b.numbers().first <= a.numbers().last
 }
 
-pub fn block_is_granted(net: &Net, block: FormBlock) -> bool
+pub(crate) fn block_is_granted(net: &Net, block: FormBlock) -> bool
     ensures { result ≡ is_granted net.now block }
 {
     net.blocks

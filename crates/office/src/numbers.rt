@@ -23,7 +23,7 @@ fn number_in(form: IdentForm, ident: Ident) -> Option<u32>
 }
 
 /// The identifier of the number, where it has the form.
-pub fn ident_in(form: IdentForm, number: u32) -> Option<Ident>
+pub(crate) fn ident_in(form: IdentForm, number: u32) -> Option<Ident>
     ensures { result ≡ ident_in form number }
 {
     match form {
@@ -74,7 +74,7 @@ fn rising_numbers(alloc: Global, net: &Net, form: IdentForm) -> Result<Vec<u32>,
 }
 
 /// The numbers of the team's blocks of a form.
-pub fn blocks_of(
+pub(crate) fn blocks_of(
     alloc: Global,
     net: &Net,
     team: &Team,
@@ -110,7 +110,7 @@ fn number_given(
 }
 
 /// The identifier that the command gives out, if there is one.
-pub fn ident_given(
+pub(crate) fn ident_given(
     alloc: Global,
     net: &Net,
     team: &Team,

@@ -20,7 +20,7 @@ fn open_net_refusal(team: &Team, net: Option<&Net>) -> Option<Refusal>
     }
 }
 
-pub fn decide_open_net(
+pub(crate) fn decide_open_net(
     alloc: Global,
     team: &Team,
     name: &NetName,

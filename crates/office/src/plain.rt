@@ -52,7 +52,7 @@ fn changed_by(draft: Draft) -> Option<Changed>
     }
 }
 
-/// Answers the command from copies of the network and the book.
+/// Decides the command, and carries it out on copies of the network and the book.
 fn answer_from_copies(
     alloc: Global,
     team: &Team,

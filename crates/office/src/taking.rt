@@ -138,7 +138,7 @@ fn message_taken(
     one_change(alloc, Change::SetMessage(message), Reply::Number(number))
 }
 
-pub fn decide_take_ident(
+pub(crate) fn decide_take_ident(
     alloc: Global,
     team: &Team,
     net: &Net,

@@ -1,10 +1,9 @@
 mod Parts
 mod WordLaws
 mod LineLaws
-mod Digits
 mod EscapeLaws
 mod FieldLaws
 mod FieldNames
 mod KnownOnce
-mod WholeNumbers
+mod Readings
 mod Scripts

@@ -15,7 +15,8 @@ use Rattle.office_script.specs.declared.verb.Verb.{Verb}
 use Rattle.office_script.specs.declared.verb.Verb.TheVariants as verb
 use Rattle.office_script.specs.Words.{words_of}
 use Rattle.office_script.specs.Fields.{NamedValue, value_of, names_of, fields_of}
-use Rattle.office_script.specs.Values.{whole_of, at_most, plain_name_of, name_of, kind_of, ident_form_of, block_form_of}
+use Rattle.catalogue.specs.WholeNumber.{whole_of}
+use Rattle.office_script.specs.Values.{at_most, plain_name_of, name_of, kind_of, ident_form_of, block_form_of}
 
 infixl 10 ◌>>=◌
 abbrev pub ◌>>=◌ : {A B : Type 0} → Option A → (A → Option B) → Option B

@@ -1,9 +1,6 @@
 -- What the value of a field is, by its kind; `None` where it is no value of that kind.
-use Rattle.std.specs.Prelude.{ℕ, ◌^◌, nat_lt, nat_le, Bool, false, ◌&&◌, List, [], ◌∷◌, Option, Some, None, if◌then◌else◌, codes}
-use Rattle.std.specs.List.{list_all}
+use Rattle.std.specs.Prelude.{ℕ, nat_le, List, Option, Some, None, if◌then◌else◌, codes}
 use Rattle.std.specs.Str.{bytes_eq}
-use Rattle.std.specs.Char.{digit_value}
-use Rattle.std.specs.Str.Parse.{digits_value}
 use Rattle.catalogue.specs.Name.{is_name}
 use Rattle.office_types.specs.PlainName.{is_plain_name}
 use Rattle.office_types.specs.declared.command.NetKind.{NetKind}
@@ -12,15 +9,6 @@ use Rattle.office_types.specs.declared.command.IdentForm.{IdentForm}
 use Rattle.office_types.specs.declared.command.IdentForm.TheVariants as ident
 use Rattle.office_types.specs.declared.block.BlockForm.{BlockForm}
 use Rattle.office_types.specs.declared.block.BlockForm.TheVariants as block
-
--- one or more decimal digits alone
-abbrev pub is_numeral : List ℕ → Bool
-is_numeral [] = false
-is_numeral (b ∷ bytes) = list_all (λ d. nat_lt (digit_value d) 10) (b ∷ bytes)
-
--- the number that the digits write, up to 4294967295
-abbrev pub whole_of : List ℕ → Option ℕ
-whole_of bytes = if is_numeral bytes && nat_lt (digits_value 10 bytes) (2 ^ 32) then Some (digits_value 10 bytes) else None
 
 abbrev pub at_most : ℕ → ℕ → Option ℕ
 at_most limit n = if nat_le n limit then Some n else None

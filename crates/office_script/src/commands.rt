@@ -3,7 +3,8 @@ ghost use Rattle.std.specs.Prelude.{◌≡◌, Some};
 ghost use Rattle.std.specs.Option.{option_map};
 ghost use Rattle.office_script.specs.Reading.{Reads, ReadsBytes};
 ghost use Rattle.office_script.specs.Fields.{value_of};
-ghost use Rattle.office_script.specs.Values.{name_of, whole_of};
+ghost use Rattle.catalogue.specs.WholeNumber.{whole_of};
+ghost use Rattle.office_script.specs.Values.{name_of};
 ghost use Rattle.office_script.specs.Commands.{if_there, open_net_of, range_of, grant_of, take_ident_of, action_of, command_of};
 
 use crate::fields::Fields;

@@ -2,11 +2,11 @@
 ghost use Rattle.std.specs.Prelude.{◌≡◌};
 ghost use Rattle.office_script.specs.Reading.{Reads};
 ghost use Rattle.std.specs.Option.{option_and_then};
-ghost use Rattle.office_script.specs.Values.{whole_of, at_most, plain_name_of, name_of, kind_of, ident_form_of, block_form_of};
+ghost use Rattle.catalogue.specs.WholeNumber.{whole_of};
+ghost use Rattle.office_script.specs.Values.{at_most, plain_name_of, name_of, kind_of, ident_form_of, block_form_of};
 
-use crate::numbers::whole_number;
 use crate::unread::Unread;
-use catalogue::Name;
+use catalogue::{Name, whole_number};
 use office_types::{BlockForm, IdentForm, NetKind, NetName, PayloadLength, ReviewCount, Team};
 use std::alloc::Global;
 

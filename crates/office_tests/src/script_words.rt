@@ -1,5 +1,6 @@
 //! Scripts, lines, words and values as the rules have them.
-use office_script::{first_line, first_word, read_fields, says_nothing, unescape, whole_number};
+use catalogue::whole_number;
+use office_script::{first_line, first_word, read_fields, says_nothing, unescape};
 use std::alloc::{AllocError, Global};
 use std::test::Fail;
 

@@ -1,6 +1,6 @@
 -- What every office keeps: the ranges of its parts, the orders in which they stand, and that nothing is given
 -- out twice.
-use Rattle.std.specs.Prelude.{◌≡◌, ◌≢◌, ◌≤◌, false, length, All, AllPairs, Contains, IfSome}
+use Rattle.std.specs.Prelude.{◌≡◌, ◌≢◌, ◌≤◌, false, length, All, AllPairs, Contains, IfSome, ◌⊎◌, ◌<◌}
 use Rattle.std.specs.Ordering.{on, nat_cmp, then_cmp}
 use Rattle.std.specs.List.Sorted.{IsStrictlySortedBy, IsStrictlyIncreasing}
 use Rattle.std.specs.declared.cmp.Ordering.{Ordering}
@@ -17,6 +17,7 @@ use Rattle.office_types.specs.declared.state.Phase.TheVariants.{Draft, Review}
 use Rattle.office_types.specs.declared.state.Message.{Message}
 use Rattle.office_types.specs.declared.state.LiveMessage.{LiveMessage}
 use Rattle.office_types.specs.declared.state.GrantedBlock.{GrantedBlock}
+use Rattle.office_types.specs.declared.state.SpnBlock.{SpnBlock}
 use Rattle.office_types.specs.declared.state.SpnBook.{SpnBook}
 
 -- the keys by which networks, live messages, blocks and held identifiers are in order
@@ -64,8 +65,15 @@ pub record IsNet (net : Net) : Type 0 where
   pub held_rising : IsStrictlySortedBy by_ident net.held
   pub held_apart : All (λ m. Contains net.held m.message.ident → ⊥) net.live
 
+abbrev pub by_net : SpnBlock → SpnBlock → Ordering
+by_net = then_cmp (on (λ b. b.net) text_cmp) (on (λ b. b.first) nat_cmp)
+
 pub record IsBook (book : SpnBook) : Type 0 where
+  -- no number is in two blocks, of whatever networks
   pub blocks : All (λ b. IsPlainName b.net × IsPlainName b.team × (1 ≤ b.first) × (b.first ≤ b.last) × (b.last ≤ 524287)) book.blocks
+  pub blocks_rising : IsStrictlySortedBy by_net book.blocks
+  pub blocks_apart : AllPairs (λ a b. (b.last < a.first) ⊎ (a.last < b.first)) book.blocks
+  -- no number is used twice
   pub used : All (λ n. (1 ≤ n) × (n ≤ 524287)) book.used
   pub used_rising : IsStrictlyIncreasing book.used
 

@@ -5,7 +5,9 @@ use std::marker::Model;
 /// The numbers from `first` to `last`, both with it; none where `last` is below `first`.
 #[derive(Clone, Copy, Debug, PartialEq, Eq, Hash)]
 pub struct Block {
+    /// The least number.
     pub first: u32,
+    /// The greatest number.
     pub last: u32,
 }
 

@@ -15,7 +15,7 @@ pub enum Change {
     SetBlock(GrantedBlock),
 }
 
-/// What a network has besides its messages, blocks and held identifiers.
+/// A network's kind, and how many approvals its releases need.
 #[derive(Clone, Copy, Debug, PartialEq, Eq)]
 pub struct Head {
     pub kind: NetKind,
@@ -25,6 +25,8 @@ pub struct Head {
 /// What a command changes, in order, and what it is answered.
 #[derive(Debug, Drop)]
 pub struct Decision {
+    /// What is set, in order; nothing where the command is refused.
     pub changes: Items<Change>,
+    /// The answer.
     pub reply: Reply,
 }

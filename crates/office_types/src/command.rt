@@ -10,7 +10,9 @@ use catalogue::Name;
 /// A command on one network.
 #[derive(Debug, PartialEq, Eq, Drop)]
 pub struct Command {
+    /// The network that the command is about.
     pub net: NetName,
+    /// What is asked of it.
     pub action: Action,
 }
 
@@ -28,21 +30,27 @@ pub enum Action {
 /// Whether J1939 parameter groups are allotted on a network.
 #[derive(Clone, Copy, Debug, PartialEq, Eq, Hash)]
 pub enum NetKind {
+    /// A plain CAN network.
     Can,
+    /// A network on which J1939 parameter groups are allotted too.
     J1939,
 }
 
 /// The network's kind, and how many approvals its releases need.
 #[derive(Clone, Copy, Debug, PartialEq, Eq)]
 pub struct OpenNet {
+    /// The network's kind.
     pub kind: NetKind,
+    /// How many approvals each release needs.
     pub reviews: ReviewCount,
 }
 
 /// The block, and the team that it is for.
 #[derive(Debug, PartialEq, Eq, Drop)]
 pub struct Grant {
+    /// The team that may give out the numbers.
     pub team: Team,
+    /// The numbers.
     pub block: FormBlock,
 }
 
@@ -58,9 +66,11 @@ pub enum IdentForm {
 /// A message that is to have an identifier of the team's blocks.
 #[derive(Debug, PartialEq, Eq, Drop)]
 pub struct TakeIdent {
+    /// The length of the identifier.
     pub form: IdentForm,
     /// The message's name.
     pub name: Name,
+    /// How many bytes the message carries.
     pub length: PayloadLength,
     /// The node that transmits the message.
     pub node: Option<Name>,

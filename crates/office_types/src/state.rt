@@ -13,16 +13,20 @@ use std::cmp::Ordering;
 pub struct Office {
     /// The networks, by rising name.
     pub nets: Items<Net>,
+    /// The SPNs of the whole office.
     pub book: SpnBook,
 }
 
 /// One vehicle network.
 #[derive(Debug, Drop)]
 pub struct Net {
+    /// The network's name, by which commands speak of it.
     pub name: NetName,
+    /// Whether J1939 parameter groups are allotted.
     pub kind: NetKind,
     /// How many approvals a release needs.
     pub reviews: ReviewCount,
+    /// Whether the network may be changed.
     pub phase: Phase,
     /// The nodes, in the order in which they were added.
     pub nodes: Items<Node>,
@@ -40,20 +44,27 @@ pub enum Phase {
     /// Teams may change the network.
     Draft,
     /// The network is under review, which this team asked for.
-    Review { submitter: Team },
+    Review {
+        /// The team that asked for the review.
+        submitter: Team,
+    },
 }
 
 /// A node of a network.
 #[derive(Debug, Drop)]
 pub struct Node {
+    /// The node's name.
     pub name: Name,
 }
 
 /// A message without signals.
 #[derive(Debug, Drop)]
 pub struct Message {
+    /// The identifier under which it is sent.
     pub ident: Ident,
+    /// The message's name.
     pub name: Name,
+    /// How many bytes it carries.
     pub length: PayloadLength,
     /// The node that transmits it.
     pub transmitter: Option<Name>,
@@ -62,14 +73,18 @@ pub struct Message {
 /// A live message, and the team that took it.
 #[derive(Debug, Drop)]
 pub struct LiveMessage {
+    /// The message.
     pub message: Message,
+    /// The team, which alone may change it.
     pub owner: Team,
 }
 
 /// A block of numbers, and the team that it was granted to.
 #[derive(Debug, Drop)]
 pub struct GrantedBlock {
+    /// The numbers.
     pub block: FormBlock,
+    /// The team.
     pub team: Team,
 }
 
@@ -85,9 +100,13 @@ pub struct SpnBook {
 /// A block of suspect parameter numbers from `first` to `last`, both with it, of a team on a network.
 #[derive(Debug, Drop)]
 pub struct SpnBlock {
+    /// The network.
     pub net: NetName,
+    /// The team.
     pub team: Team,
+    /// The least number, at least 1.
     pub first: u32,
+    /// The greatest number, at most 524287.
     pub last: u32,
 }
 

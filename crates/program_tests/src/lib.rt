@@ -2,6 +2,8 @@
 #![tactic(auto)]
 
 #[cfg(test)]
+mod charts;
+#[cfg(test)]
 mod parts;
 #[cfg(test)]
 mod scripts;

@@ -1,0 +1,28 @@
+-- What the words of a chart come to.
+use Rattle.std.specs.Prelude.{◌≡◌, ◌⊎◌, ℕ, List, [], map, take, Some, None, is_none, if◌then◌else◌, slice_get}
+use Rattle.chart.specs.declared.signal.ChartSignal.{ChartSignal}
+use Rattle.chart.specs.Text.{chart_of, clash_of}
+use Rattle.chart.specs.Word.{length_of, signal_of}
+use Rattle.canoffice_cli.specs.Outcome.{Outcome, wrong_word}
+use Rattle.canoffice_cli.specs.declared.report.Status.TheVariants.{Success, FaultFound}
+
+-- the chart is printed, and the status says whether the signals are clear
+abbrev pub charted : ℕ → List ChartSignal → Outcome
+charted bytes signals =
+    record { output = chart_of bytes signals; errors = []; status = if is_none (clash_of bytes signals) then Success else FaultFound }
+
+-- each word is its signal
+abbrev pub AreSignals : List (List ℕ) → List ChartSignal → Type 0
+AreSignals words signals = map signal_of words ≡ map Some signals
+
+-- the word is no signal, and those before it are
+abbrev pub IsFirstWrongWord : List (List ℕ) → List ℕ → Type 0
+IsFirstWrongWord words word =
+    (k : ℕ) × (signals : List ChartSignal) × (slice_get words k ≡ Some word) × (signal_of word ≡ None) × AreSignals (take k words) signals
+
+-- the signals were charted; or the length or else the first word that is no signal is named
+abbrev pub IsChartOutcome : List ℕ → List (List ℕ) → Outcome → Type 0
+IsChartOutcome length words o =
+    ((bytes : ℕ) × (signals : List ChartSignal) × (length_of length ≡ Some bytes) × AreSignals words signals × (o ≡ charted bytes signals))
+    ⊎ (((length_of length ≡ None) × (o ≡ wrong_word length))
+    ⊎ ((bytes : ℕ) × (word : List ℕ) × (length_of length ≡ Some bytes) × IsFirstWrongWord words word × (o ≡ wrong_word word)))

@@ -1,0 +1,26 @@
+ghost use Rattle.std.specs.Prelude.{◌≡◌, ◌^◌, ◌<◌, SomeIff};
+ghost use Rattle.std.specs.Str.Parse.{IsNumeral, digits_value};
+ghost use Rattle.catalogue.specs.WholeNumber.{whole_of};
+
+fn digits_number(bytes: &[u8]) -> Option<u32>
+    ensures { SomeIff result (IsNumeral 10 bytes.now × (digits_value 10 bytes.now < 2 ^ 32)) (digits_value 10 bytes.now) }
+{
+    if bytes.is_empty() {
+        return None;
+    }
+    let mut number = 0u32;
+    for byte in bytes {
+        let digit = char::from(*byte).to_digit(10)?;
+        number = number.checked_mul(10)?.checked_add(digit)?;
+    }
+    Some(number)
+}
+
+/// The number that decimal digits write: `None` where the bytes are anything but one or more digits alone, or where
+/// the number is above 4294967295. Leading zeros don't count, however many there are.
+pub fn whole_number(bytes: &[u8]) -> Option<u32>
+    ensures meaning { SomeIff result (IsNumeral 10 bytes.now × (digits_value 10 bytes.now < 2 ^ 32)) (digits_value 10 bytes.now) }
+    ensures computed { result ≡ whole_of bytes.now }
+{
+    digits_number(bytes)
+}

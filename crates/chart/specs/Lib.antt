@@ -1,0 +1,3 @@
+pub mod Fault
+pub mod Text
+pub mod Word

@@ -1,0 +1,99 @@
+-- The chart of a message's signals, line by line.
+use Rattle.std.specs.Prelude.{ℕ, ◌+◌, ◌*◌, ◌-◌, nat_lt, Bool, List, [], ◌∷◌, ◌++◌, length, map, Option, Some, None, if◌then◌else◌, position, slice_get, codes, decimal, replicate}
+use Rattle.std.specs.List.{count_by, flat_map, range_with_len, enumerate_from}
+use Rattle.std.specs.Option.{option_map_or}
+use Rattle.bitlayout.specs.declared.layout.Order.{Order}
+use Rattle.bitlayout.specs.declared.layout.Order.TheVariants.{Intel, Motorola}
+use Rattle.bitlayout.specs.declared.layout.Layout.{Layout}
+use Rattle.bitlayout.specs.declared.place.Mux.{Mux}
+use Rattle.bitlayout.specs.declared.place.Mux.TheVariants.{Always, Multiplexor, Under}
+use Rattle.bitlayout.specs.declared.place.Place.{Place}
+use Rattle.bitlayout.specs.declared.clash.Clash.{Clash}
+use Rattle.bitlayout.specs.declared.clash.Clash.TheVariants.{Outside, TwoMultiplexors, NoMultiplexor, Overlap}
+use Rattle.bitlayout.specs.Bits.{is_bit}
+use Rattle.bitlayout.specs.Clash.{first_clash_of}
+use Rattle.chart.specs.declared.signal.ChartSignal.{ChartSignal}
+use Rattle.chart.specs.Fault.{code_of, title_of}
+
+-- ---- the lines of the bytes
+
+-- the letter of the signal at an index: A (65) for the first to Z for the 26th, + (43) for those after it
+abbrev pub letter_of : ℕ → ℕ
+letter_of i = if nat_lt i 26 then 65 + i else 43
+
+-- the signal has a bit at the position
+abbrev pub holds : ℕ → ChartSignal → Bool
+holds p signal = is_bit signal.place.layout p
+
+-- the cell of a position: # (35) where two or more signals have it, else the letter of the one that has it, else a point (46)
+abbrev pub cell_of : List ChartSignal → ℕ → ℕ
+cell_of signals p = if nat_lt 1 (count_by (holds p) signals) then 35 else option_map_or letter_of (position (holds p) signals) 46
+
+-- the bits of a byte, as they are written from left to right
+abbrev pub bits_of_byte : List ℕ
+bits_of_byte = 7 ∷ 6 ∷ 5 ∷ 4 ∷ 3 ∷ 2 ∷ 1 ∷ 0 ∷ []
+
+-- the cells of a byte, each after a space
+abbrev pub cells_of : List ChartSignal → ℕ → List ℕ
+cells_of signals byte = flat_map (λ bit. 32 ∷ cell_of signals (8 * byte + bit) ∷ []) bits_of_byte
+
+-- a text set right in so many columns
+abbrev pub set_right : ℕ → List ℕ → List ℕ
+set_right columns text = replicate (columns - length text) 32 ++ text
+
+-- the byte's number in 4 columns, and its cells
+abbrev pub byte_line : List ChartSignal → ℕ → List ℕ
+byte_line signals byte = set_right 4 (decimal byte) ++ (cells_of signals byte ++ codes "\n")
+
+-- ---- the lines of the signals
+
+abbrev pub order_text : Order → List ℕ
+order_text Intel = codes "1"
+order_text Motorola = codes "0"
+
+-- start|size@order
+abbrev pub layout_text : Layout → List ℕ
+layout_text layout = decimal layout.start ++ (codes "|" ++ (decimal layout.size ++ (codes "@" ++ order_text layout.order)))
+
+-- a space and the mark, where there is one
+abbrev pub mark_text : Mux → List ℕ
+mark_text Always = []
+mark_text Multiplexor = codes " M"
+mark_text (Under value) = codes " m" ++ decimal value
+
+-- letter, name, layout, mark
+abbrev pub signal_line : ℕ → ChartSignal → List ℕ
+signal_line i signal =
+    letter_of i ∷ 32 ∷ (signal.name ++ (codes " " ++ (layout_text signal.place.layout ++ (mark_text signal.place.mux ++ codes "\n"))))
+
+-- ---- the last line
+
+-- the name of the signal at an index; there is none past the list
+abbrev pub name_at : List ChartSignal → ℕ → List ℕ
+name_at signals i = option_map_or (λ signal. signal.name) (slice_get signals i) []
+
+-- the names of the signals of a clash, each after a space: of two that share a bit the earlier one's first
+abbrev pub names_of : List ChartSignal → Clash → List ℕ
+names_of signals (Outside i) = codes " " ++ name_at signals i
+names_of signals (TwoMultiplexors i) = codes " " ++ name_at signals i
+names_of signals (NoMultiplexor i) = codes " " ++ name_at signals i
+names_of signals (Overlap j i) = (codes " " ++ name_at signals j) ++ (codes " " ++ name_at signals i)
+
+abbrev pub verdict_of : List ChartSignal → Option Clash → List ℕ
+verdict_of signals None = codes "clear\n"
+verdict_of signals (Some clash) = decimal (code_of clash) ++ (codes " " ++ (title_of clash ++ (names_of signals clash ++ codes "\n")))
+
+-- ---- the whole
+
+abbrev pub places_of : List ChartSignal → List Place
+places_of signals = map (λ signal. signal.place) signals
+
+-- the first clash of the signals, if any, in a message of this many bytes
+abbrev pub clash_of : ℕ → List ChartSignal → Option Clash
+clash_of bytes signals = first_clash_of (places_of signals) bytes
+
+-- a line for each byte, then one for each signal, then whether they are clear
+abbrev pub chart_of : ℕ → List ChartSignal → List ℕ
+chart_of bytes signals =
+    flat_map (byte_line signals) (range_with_len 0 bytes)
+    ++ (flat_map (λ p. signal_line p.0 p.1) (enumerate_from 0 signals) ++ verdict_of signals (clash_of bytes signals))

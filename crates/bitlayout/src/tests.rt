@@ -1,5 +1,6 @@
 use crate::{
-    Clash, Layout, Mux, Order, Place, Size, first_clash, inside, least_start, meet, share_bit,
+    Clash, Layout, Mux, Order, Place, Size, first_clash, has_bit, inside, least_start, meet,
+    share_bit,
 };
 use std::alloc::{AllocError, Global};
 use std::test::Fail;
@@ -77,6 +78,16 @@ fn layouts_against_the_walk(rt: HostRuntime) -> Result<(), Fail> {
                 .any(|position| walk_of_b.contains(position));
             assert_eq!(rt; share_bit(*a, *b), common, "{a:?} and {b:?}");
         }
+    }
+    Ok(())
+}
+
+#[test]
+fn bits_of_a_motorola_signal(rt: HostRuntime) -> Result<(), Fail> {
+    let positions = [16, 31, 30, 29, 28, 27, 26, 25, 24, 39, 38, 37];
+    for position in 0..64 {
+        let answer = has_bit(layout(16, 12, Order::Motorola)?, position);
+        assert_eq!(rt; answer, positions.contains(&position), "at {position}");
     }
     Ok(())
 }

@@ -1,4 +1,42 @@
 pub mod Putting
 pub mod Put
 mod Digits
+mod Texts
+mod NameSets
+mod Rosters
+mod Places
+mod Naming
+mod Refusals
+mod Switches
+mod Clearness
+mod MessageRules
+mod SheetRows
+mod CanonRows
 pub mod WholeNumbers
+pub mod Rising
+pub mod OneSheet
+pub mod EachSaid
+pub mod SignalKeys
+mod SayingExamples
+pub mod IdentNumbers
+pub mod SheetSaid
+mod TokenRuns
+mod TokenBytes
+mod TokenNumbers
+mod TokenTexts
+mod TokenWords
+mod TokensOnce
+mod TokenReading
+mod TokenExact
+mod TokenSlices
+mod TokenExamples
+pub mod TokenSteps
+pub mod Exactness
+pub mod Repeating
+pub mod ExactFields
+pub mod ExactLines
+pub mod ExactStatements
+pub mod Divisions
+pub mod Identifiers
+mod StatementExamples
+mod OneReading

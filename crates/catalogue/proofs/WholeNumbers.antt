@@ -1,5 +1,5 @@
 -- The number that digits write, by the test of digits.
-use Rattle.std.proofs.Common.{◌≡◌, ◌<◌, ◌^◌, ◌∷◌, [], ◌&&◌, ℕ, Bool, true, false, List, length, Option, Some, None, refl, sym, ap, arith, Decides, SomeIff}
+use Rattle.std.proofs.Common.{◌≡◌, ◌<◌, ◌^◌, ◌∷◌, [], ◌&&◌, ℕ, Bool, true, false, List, length, Option, Some, None, refl, ap, arith, Decides, SomeIff}
 use Rattle.std.specs.Prelude.{nat_lt, if◌then◌else◌}
 use Rattle.std.specs.List.{list_all}
 use Rattle.std.specs.Char.{digit_value}

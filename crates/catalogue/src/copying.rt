@@ -23,14 +23,23 @@ impl Copying for Ident {
     }
 }
 
+/// Copies of the items, in order.
+pub(crate) fn duplicates<T: Copying + Drop>(
+    alloc: Global,
+    items: &[T],
+) -> Result<Vec<T>, AllocError>
+    ensures { IfOk result (λ copies. copies.items ≡ items.now) }
+{
+    let mut copies = Vec::new(alloc);
+    for item in items {
+        copies.push(item.duplicate(alloc)?)?;
+    }
+    Ok(copies)
+}
+
 impl<T: Copying + Drop> Copying for Items<T> {
     fn duplicate(&self, alloc: Global) -> Result<Self, AllocError> {
-        let mut copy = Items::new(alloc);
-        let items = self.as_slice();
-        for item in items {
-            copy.push(item.duplicate(alloc)?)?;
-        }
-        Ok(copy)
+        Ok(Items::from_vec(duplicates(alloc, self.as_slice())?))
     }
 }
 

@@ -117,6 +117,51 @@ impl Eq for Name {
     ghost laws = { Prim.search (comparing, rules) };
 }
 
+impl PartialOrd for Name {
+    ghost use Rattle.std.specs.Prelude.{Some};
+    ghost use Rattle.std.specs.Cmp.Lexicographic.{texts_po};
+    ghost use Rattle.catalogue.specs.Keyed.{text_cmp};
+
+    ghost partial_cmp = { λ x y. Some (text_cmp x y) };
+
+    ghost laws = { texts_po };
+
+    fn partial_cmp(&self, other: &Name) -> Option<Ordering> {
+        Some(self.cmp(other))
+    }
+}
+
+/// In the order of the bytes.
+impl Ord for Name {
+    ghost use Rattle.std.specs.Prelude.{refl};
+    ghost use Rattle.std.specs.Cmp.Lexicographic.{nat_list_cmp_total, texts_ties};
+    ghost use Rattle.catalogue.specs.Keyed.{text_cmp};
+
+    ghost cmp = { text_cmp };
+
+    ghost total = { nat_list_cmp_total };
+
+    ghost matches_partial_cmp = { λ x y. refl };
+
+    ghost matches_eq = { texts_ties };
+
+    fn cmp(&self, other: &Name) -> Ordering {
+        self.bytes.as_slice().cmp(other.bytes.as_slice())
+    }
+}
+
+impl Clone for Name {
+    ghost use Rattle.std.specs.Prelude.{◌≡◌};
+
+    ghost is_clone = { λ name copy. copy ≡ name };
+
+    fn clone(&self) -> Result<Name, AllocError> {
+        Ok(Name {
+            bytes: self.bytes.clone()?,
+        })
+    }
+}
+
 impl Copying for Name {
     fn duplicate(&self, alloc: Global) -> Result<Self, AllocError> {
         Ok(Name {
@@ -134,6 +179,6 @@ impl Keyed for Name {
     ghost ordered = { nat_list_cmp_total };
 
     fn compare(&self, other: &Name) -> Ordering {
-        self.bytes.as_slice().cmp(&other.bytes.as_slice())
+        self.cmp(other)
     }
 }

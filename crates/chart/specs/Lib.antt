@@ -1,3 +1,2 @@
-pub mod Fault
 pub mod Text
 pub mod Word

@@ -12,8 +12,8 @@ use Rattle.bitlayout.specs.declared.clash.Clash.{Clash}
 use Rattle.bitlayout.specs.declared.clash.Clash.TheVariants.{Outside, TwoMultiplexors, NoMultiplexor, Overlap}
 use Rattle.bitlayout.specs.Bits.{is_bit}
 use Rattle.bitlayout.specs.Clash.{first_clash_of}
+use Rattle.catalogue.specs.Fault.{clash_code, code_name, code_number}
 use Rattle.chart.specs.declared.signal.ChartSignal.{ChartSignal}
-use Rattle.chart.specs.Fault.{code_of, title_of}
 
 -- ---- the lines of the bytes
 
@@ -81,7 +81,8 @@ names_of signals (Overlap j i) = (codes " " ++ name_at signals j) ++ (codes " " 
 
 abbrev pub verdict_of : List ChartSignal → Option Clash → List ℕ
 verdict_of signals None = codes "clear\n"
-verdict_of signals (Some clash) = decimal (code_of clash) ++ (codes " " ++ (title_of clash ++ (names_of signals clash ++ codes "\n")))
+verdict_of signals (Some clash) =
+    decimal (code_number (clash_code clash)) ++ (codes " " ++ (code_name (clash_code clash) ++ (names_of signals clash ++ codes "\n")))
 
 -- ---- the whole
 

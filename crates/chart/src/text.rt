@@ -3,9 +3,9 @@ ghost use Rattle.std.specs.Prelude.{◌≡◌, ◌++◌, ℕ, List, ◌<◌, len
 ghost use Rattle.std.specs.List.{count_by, flat_map, range_with_len, enumerate_from};
 ghost use Rattle.chart.specs.Text.{letter_of, holds, cell_of, cells_of, set_right, byte_line, order_text, layout_text, mark_text, signal_line, name_at, names_of, verdict_of, chart_of};
 
-use crate::fault::{clash_code, clash_name};
 use crate::signal::{ChartSignal, first_clash_of};
 use bitlayout::{Clash, Layout, Mux, Order, has_bit};
+use catalogue::SheetCode;
 use std::alloc::{AllocError, Global};
 
 /// The letters of the signals before the first that has only a `+`.
@@ -179,9 +179,10 @@ fn verdict(
     let Some(clash) = clash else {
         return Vec::from_slice(alloc, b"clear\n");
     };
-    let code = clash_code(clash);
-    let name = clash_name(clash);
-    let mut line = format!(in alloc; "{code} {name}")?.into_bytes();
+    let code = SheetCode::from(clash);
+    let number = code.number();
+    let name = code.name();
+    let mut line = format!(in alloc; "{number} {name}")?.into_bytes();
     line.extend_from_slice(&clash_names(alloc, signals, clash)?)?;
     line.push(b'\n')?;
     Ok(line)

@@ -3,6 +3,7 @@ use Rattle.std.proofs.Common.{◌≡◌, ℕ, ◌≤◌, List, length, Option, S
 use Rattle.std.specs.Prelude.{IfSome}
 use Rattle.std.proofs.lemmas.Bool.{leb-false}
 use Rattle.can_id.specs.declared.ident.Ident.{Ident}
+use Rattle.catalogue.specs.Refusing.{Test, first_refusal}
 use Rattle.office_types.specs.Command.{IsAction}
 use Rattle.office_types.specs.PlainName.{IsPlainName}
 use Rattle.office_types.specs.State.{IsNet, IsBook}
@@ -16,7 +17,7 @@ use Rattle.office_types.specs.declared.reply.Reply.TheVariants.{Done, Number}
 use Rattle.office_types.specs.declared.state.GrantedBlock.{GrantedBlock}
 use Rattle.office_types.specs.declared.state.Net.{Net}
 use Rattle.office_types.specs.declared.state.SpnBook.{SpnBook}
-use Rattle.office.specs.Outcome.{Outcome, Refusing, Changing, Test, first_refusal, refused_or, unless, open_net_tests, open_net, empty_net, grant_tests, grant, with_block, take_ident_tests, take_ident, taken, ident_given, ident_number, new_message, with_message, on_some_net, office_tests, outcome}
+use Rattle.office.specs.Outcome.{Outcome, Refusing, Changing, refused_or, unless, open_net_tests, open_net, empty_net, grant_tests, grant, with_block, take_ident_tests, take_ident, taken, ident_given, ident_number, new_message, with_message, on_some_net, office_tests, outcome}
 use Rattle.office.proofs.Fresh.{GivesFresh-ident_given}
 use Rattle.office.proofs.Passing.{NoneHolds, NoneHolds-from_none}
 use Rattle.office.proofs.KeptNets.{IsNet-empty, IsNet-with_block, IsNet-fresh}
@@ -30,7 +31,7 @@ keeps_or : (o : Option Refusal) (out : Outcome) → (o ≡ None → Keeps out) �
 keeps_or None out h = h refl
 keeps_or (Some r) out h = tt
 
-keeps_unless : (ts : List Test) (out : Outcome) → (NoneHolds ts → Keeps out) → Keeps (unless ts out)
+keeps_unless : (ts : List (Test Refusal)) (out : Outcome) → (NoneHolds ts → Keeps out) → Keeps (unless ts out)
 keeps_unless ts out h = keeps_or (first_refusal ts) out (λ e. h (NoneHolds-from_none ts e))
 
 keeps_open : (team : List ℕ) (net : Option Net) (book : SpnBook) (name : List ℕ) (c : OpenNet) → IsPlainName name → c.reviews ≤ 9 → IsBook book

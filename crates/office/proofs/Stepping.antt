@@ -2,6 +2,7 @@
 use Rattle.std.proofs.Common.{◌≡◌, ℕ, ◌+◌, ◌<◌, List, [], ◌∷◌, ◌++◌, length, take, get_or, Option, Some, None, refl, sym, ap, subst, ◌∙◌, append_assoc}
 use Rattle.std.proofs.lemmas.List.{take_more}
 use Rattle.catalogue.specs.Keyed.{put}
+use Rattle.catalogue.specs.Refusing.{first_refusal}
 use Rattle.office_types.specs.declared.command.Command.{Command}
 use Rattle.office_types.specs.declared.command.Action.{Action}
 use Rattle.office_types.specs.declared.command.Action.TheVariants as act
@@ -17,7 +18,7 @@ use Rattle.office_types.specs.declared.state.SpnBook.{SpnBook}
 use Rattle.can_id.specs.declared.ident.Ident.{Ident}
 use Rattle.office.specs.declared.applying.Draft.{Draft}
 use Rattle.office.specs.declared.plain.Changed.{Changed}
-use Rattle.office.specs.Outcome.{Outcome, Refusing, Changing, first_refusal, refused_or, office_tests, outcome, reply_of, empty_net, open_net_tests, open_net, with_block, grant_tests, grant, take_ident_tests, take_ident, on_net, on_some_net, taken, ident_given}
+use Rattle.office.specs.Outcome.{Outcome, Refusing, Changing, refused_or, office_tests, outcome, reply_of, empty_net, open_net_tests, open_net, with_block, grant_tests, grant, take_ident_tests, take_ident, on_net, on_some_net, taken, ident_given}
 use Rattle.office_types.specs.State.{by_name}
 use Rattle.office.specs.Change.{Excerpt, excerpt_after}
 use Rattle.office.specs.Draft.{excerpt_of, changed_or_none, left_by}

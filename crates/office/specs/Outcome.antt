@@ -5,6 +5,7 @@ use Rattle.std.specs.Option.{option_and_then}
 use Rattle.can_id.specs.declared.ident.Ident.{Ident}
 use Rattle.can_id.specs.declared.ident.Ident.TheVariants as id
 use Rattle.catalogue.specs.Keyed.{put}
+use Rattle.catalogue.specs.Refusing.{Test, first_refusal}
 use Rattle.office_types.specs.PlainName.{is_office}
 use Rattle.office_types.specs.State.{by_number, by_first}
 use Rattle.office_types.specs.Command.{number_form, block_form}
@@ -33,21 +34,11 @@ pub data Outcome : Type 0 where
   Refusing : Refusal → Outcome
   Changing : Reply → Net → SpnBook → Outcome
 
--- a refusal, and whether it holds
-pub record Test : Type 0 where
-  pub holds : Bool
-  pub refusal : Refusal
-
--- the first refusal that holds
-abbrev pub first_refusal : List Test → Option Refusal
-first_refusal [] = None
-first_refusal (t ∷ ts) = elim t.holds [ true ↦ Some t.refusal | false ↦ first_refusal ts ]
-
 abbrev pub refused_or : Option Refusal → Outcome → Outcome
 refused_or (Some r) out = Refusing r
 refused_or None out = out
 
-abbrev pub unless : List Test → Outcome → Outcome
+abbrev pub unless : List (Test Refusal) → Outcome → Outcome
 unless tests out = refused_or (first_refusal tests) out
 
 -- Open a network: only `office` may, and where there is none of that name.
@@ -63,7 +54,7 @@ empty_net name c = record {
   held = [];
 }
 
-abbrev pub open_net_tests : List ℕ → Option Net → List Test
+abbrev pub open_net_tests : List ℕ → Option Net → List (Test Refusal)
 open_net_tests team net =
     record { holds = not (is_office team); refusal = no.NotOffice }
     ∷ record { holds = is_some net; refusal = no.NetThere } ∷ []
@@ -72,7 +63,7 @@ abbrev pub open_net : List ℕ → Option Net → SpnBook → List ℕ → OpenN
 open_net team net book name c = unless (open_net_tests team net) (Changing Done (empty_net name c) book)
 
 -- Grant a block: its numbers may not be granted yet in that form on the network.
-abbrev pub grant_tests : Net → Grant → List Test
+abbrev pub grant_tests : Net → Grant → List (Test Refusal)
 grant_tests net c = record { holds = is_granted net c.block; refusal = no.BlockTaken } ∷ []
 
 abbrev pub with_block : Net → GrantedBlock → Net
@@ -83,7 +74,7 @@ grant net book c =
     unless (grant_tests net c) (Changing Done (with_block net (record { block = c.block; team = c.team })) book)
 
 -- Take an identifier: the wanted one, or the least of the team's blocks that is neither live nor held.
-abbrev pub name_tests : Net → List ℕ → Option (List ℕ) → List Test
+abbrev pub name_tests : Net → List ℕ → Option (List ℕ) → List (Test Refusal)
 name_tests net name node =
     record { holds = in_review net.phase; refusal = no.InReview }
     ∷ record { holds = not (knows_node net node); refusal = no.NoNode }
@@ -108,7 +99,7 @@ number_given team net c = elim c.want [
 abbrev pub ident_given : List ℕ → Net → TakeIdent → Option Ident
 ident_given team net c = option_and_then (ident_in c.form) (number_given team net c)
 
-abbrev pub want_tests : List ℕ → Net → TakeIdent → List Test
+abbrev pub want_tests : List ℕ → Net → TakeIdent → List (Test Refusal)
 want_tests team net c = elim c.want [
   | Some n ↦
       record { holds = not (has_form (number_form c.form) n && lies_in n (blocks_of net team (block_form c.form))); refusal = no.OutsideBlock }
@@ -117,7 +108,7 @@ want_tests team net c = elim c.want [
   | None ↦ record { holds = is_none (ident_given team net c); refusal = no.BlockFull } ∷ []
 ]
 
-abbrev pub take_ident_tests : List ℕ → Net → TakeIdent → List Test
+abbrev pub take_ident_tests : List ℕ → Net → TakeIdent → List (Test Refusal)
 take_ident_tests team net c =
     name_tests net c.name c.node
     ++ record { holds = none_of (blocks_of net team (block_form c.form)); refusal = no.NoBlock } ∷ want_tests team net c
@@ -160,7 +151,7 @@ abbrev pub on_some_net : List ℕ → Option Net → SpnBook → Action → Outc
 on_some_net team (Some net) book a = on_net team net book a
 on_some_net team None book a = Refusing no.NoNet
 
-abbrev pub office_tests : List ℕ → Action → List Test
+abbrev pub office_tests : List ℕ → Action → List (Test Refusal)
 office_tests team a = record { holds = is_for_office a && not (is_office team); refusal = no.NotOffice } ∷ []
 
 -- What a team's command on a network, which may not be there, comes to.

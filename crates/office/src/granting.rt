@@ -1,6 +1,7 @@
 //! Granting a block.
 ghost use Rattle.std.specs.Prelude.{◌≡◌, ℕ, List, IfOk, Some};
-ghost use Rattle.office.specs.Outcome.{first_refusal, grant_tests, grant};
+ghost use Rattle.catalogue.specs.Refusing.{first_refusal};
+ghost use Rattle.office.specs.Outcome.{grant_tests, grant};
 ghost use Rattle.office.specs.Change.{Decides};
 
 use crate::decision::{one_change, refused};

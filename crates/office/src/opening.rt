@@ -1,7 +1,8 @@
 //! Opening a network.
 ghost use Rattle.std.specs.Prelude.{◌≡◌, IfOk};
 ghost use Rattle.std.specs.Option.{option_copied};
-ghost use Rattle.office.specs.Outcome.{first_refusal, open_net_tests, open_net};
+ghost use Rattle.catalogue.specs.Refusing.{first_refusal};
+ghost use Rattle.office.specs.Outcome.{open_net_tests, open_net};
 ghost use Rattle.office.specs.Change.{Decides};
 
 use crate::decision::{one_change, refused};

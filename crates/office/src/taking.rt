@@ -1,10 +1,11 @@
 //! Taking an identifier for a new message.
 ghost use Rattle.std.specs.Prelude.{◌≡◌, ◌∷◌, [], ℕ, List, IfOk, Some};
+ghost use Rattle.catalogue.specs.Refusing.{first_refusal};
 ghost use Rattle.office_types.specs.declared.change.Change.TheVariants.{SetMessage};
 ghost use Rattle.office_types.specs.declared.reply.Reply.TheVariants.{Number};
 ghost use Rattle.office_types.specs.Command.{block_form};
 ghost use Rattle.office.specs.Net.{blocks_of};
-ghost use Rattle.office.specs.Outcome.{first_refusal, name_tests, want_tests, take_ident_tests, take_ident, ident_given, ident_number, new_message};
+ghost use Rattle.office.specs.Outcome.{name_tests, want_tests, take_ident_tests, take_ident, ident_given, ident_number, new_message};
 ghost use Rattle.office.specs.Change.{Decides};
 
 use crate::decision::{one_change, refused};

@@ -6,8 +6,8 @@ ghost use Rattle.catalogue.specs.WholeNumber.{whole_of};
 ghost use Rattle.office_script.specs.Values.{at_most, plain_name_of, name_of, kind_of, ident_form_of, block_form_of};
 
 use crate::unread::Unread;
-use catalogue::{Name, whole_number};
-use office_types::{BlockForm, IdentForm, NetKind, NetName, PayloadLength, ReviewCount, Team};
+use catalogue::{Name, PayloadLength, whole_number};
+use office_types::{BlockForm, IdentForm, NetKind, NetName, ReviewCount, Team};
 use std::alloc::Global;
 
 pub(crate) fn whole_of(bytes: &[u8]) -> Result<u32, Unread>

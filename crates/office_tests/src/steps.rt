@@ -1,9 +1,9 @@
 //! Steps of an office in memory.
-use catalogue::{Items, Name};
+use catalogue::{Items, Name, PayloadLength};
 use office::{PlainOffice, decide};
 use office_types::{
     Action, BlockForm, Command, Decision, FormBlock, Grant, IdentForm, NetKind, NetName, OpenNet,
-    PayloadLength, Refusal, Reply, ReviewCount, SpnBook, TakeIdent, Team,
+    Refusal, Reply, ReviewCount, SpnBook, TakeIdent, Team,
 };
 use std::alloc::Global;
 use std::test::Fail;

@@ -1,7 +1,7 @@
 //! Names of teams and networks, ranges of fields, and the texts of replies.
+use catalogue::PayloadLength;
 use office_types::{
-    Block, BlockForm, FormBlock, NetName, PayloadLength, PlainName, Refusal, Reply, ReviewCount,
-    Team,
+    Block, BlockForm, FormBlock, NetName, PlainName, Refusal, Reply, ReviewCount, Team,
 };
 use std::test::Fail;
 

@@ -3,9 +3,9 @@ ghost use Rattle.std.specs.Prelude.{◌≡◌};
 use crate::block::{BlockForm, FormBlock};
 use crate::free::Form;
 use crate::net_name::NetName;
-use crate::quantity::{PayloadLength, ReviewCount};
+use crate::quantity::ReviewCount;
 use crate::team::Team;
-use catalogue::Name;
+use catalogue::{Name, PayloadLength};
 
 /// A command on one network.
 #[derive(Debug, PartialEq, Eq, Drop)]

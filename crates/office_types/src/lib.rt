@@ -30,7 +30,7 @@ pub use command::{Action, Command, Grant, IdentForm, NetKind, OpenNet, TakeIdent
 pub use free::{Form, least_free, rises};
 pub use net_name::NetName;
 pub use plain_name::PlainName;
-pub use quantity::{PayloadLength, ReviewCount};
+pub use quantity::ReviewCount;
 pub use refusal::Refusal;
 pub use reply::Reply;
 pub use state::{GrantedBlock, LiveMessage, Message, Net, Node, Office, Phase, SpnBlock, SpnBook};

@@ -1,10 +1,10 @@
 use crate::block::FormBlock;
 use crate::command::NetKind;
 use crate::net_name::NetName;
-use crate::quantity::{PayloadLength, ReviewCount};
+use crate::quantity::ReviewCount;
 use crate::team::Team;
 use can_id::Ident;
-use catalogue::{Copying, Items, Keyed, Name};
+use catalogue::{Copying, Items, Keyed, Name, PayloadLength};
 use std::alloc::{AllocError, Global};
 use std::cmp::Ordering;
 

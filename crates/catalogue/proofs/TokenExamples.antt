@@ -1,0 +1,139 @@
+-- Examples of what is read of a text, and of texts that have no tokens. `"` is byte 34, and `\` is byte 92.
+use Rattle.std.proofs.Common.{◌≡◌, ℕ, ◌+◌, List, [], ◌∷◌, length, Some, None, refl, sym, ap, ◌∙◌}
+use Rattle.std.specs.Prelude.{codes}
+use Rattle.catalogue.specs.declared.token.TokenKind.{TokenKind}
+use Rattle.catalogue.specs.declared.token.TokenKind.TheVariants.{Name, Number, Text, Mark}
+use Rattle.catalogue.specs.Lexing.{LexFault, StrayByte, UnclosedText, Lexed, exponent_len, first_token, inside_len, lexed, lexed_in, number_len, power_len, tail_len, token_at, word_len}
+use Rattle.catalogue.specs.Token.{Token}
+use Rattle.catalogue.specs.TokenLaw.{all_read, stopped}
+use Rattle.catalogue.specs.Tokens.{HasTokens}
+use Rattle.catalogue.proofs.TokenExact.{exact}
+
+abbrev token : TokenKind → ℕ → List ℕ → Token
+token kind start text = record { kind = kind; start = start; end = start + length text; text = text }
+
+-- ---- numbers
+
+point_without_digits : lexed 0 (codes "1.") ≡ all_read (token Number 0 (codes "1.") ∷ [])
+unfolding lexed lexed_in first_token token_at word_len number_len tail_len exponent_len
+point_without_digits = refl
+
+point_and_exponent : lexed 0 (codes "1.E5") ≡ all_read (token Number 0 (codes "1.E5") ∷ [])
+unfolding lexed lexed_in first_token token_at word_len number_len tail_len exponent_len power_len
+point_and_exponent = refl
+
+signed_exponent : lexed 0 (codes " 0.5e-07;") ≡ all_read (token Number 1 (codes "0.5e-07") ∷ token Mark 8 (codes ";") ∷ [])
+unfolding lexed lexed_in first_token token_at word_len number_len tail_len exponent_len power_len
+signed_exponent = refl
+
+letter_without_power : lexed 0 (codes "1E") ≡ all_read (token Number 0 (codes "1") ∷ token Name 1 (codes "E") ∷ [])
+unfolding lexed lexed_in first_token token_at word_len number_len tail_len exponent_len power_len
+letter_without_power = refl
+
+sign_without_power : lexed 0 (codes "1E+") ≡ all_read (token Number 0 (codes "1") ∷ token Name 1 (codes "E") ∷ token Mark 2 (codes "+") ∷ [])
+unfolding lexed lexed_in first_token token_at word_len number_len tail_len exponent_len power_len
+sign_without_power = refl
+
+number_then_name : lexed 0 (codes "12abc") ≡ all_read (token Number 0 (codes "12") ∷ token Name 2 (codes "abc") ∷ [])
+unfolding lexed lexed_in first_token token_at word_len number_len tail_len exponent_len
+number_then_name = refl
+
+-- the DBC format has no hexadecimal numbers
+no_hexadecimal : lexed 0 (codes "0x10") ≡ all_read (token Number 0 (codes "0") ∷ token Name 1 (codes "x10") ∷ [])
+unfolding lexed lexed_in first_token token_at word_len number_len tail_len exponent_len
+no_hexadecimal = refl
+
+sign_is_a_mark : lexed 0 (codes "-40") ≡ all_read (token Mark 0 (codes "-") ∷ token Number 1 (codes "40") ∷ [])
+unfolding lexed lexed_in first_token token_at word_len number_len tail_len exponent_len
+sign_is_a_mark = refl
+
+second_point : lexed 0 (codes "1.5.2") ≡ stopped (token Number 0 (codes "1.5") ∷ []) (StrayByte 3)
+unfolding lexed lexed_in first_token token_at word_len number_len tail_len exponent_len
+second_point = refl
+
+-- ---- texts
+
+-- `"a\"b"`: a quote that a backslash takes doesn't end the text
+taken_quote : lexed 0 (34 ∷ 97 ∷ 92 ∷ 34 ∷ 98 ∷ 34 ∷ []) ≡ all_read (token Text 0 (34 ∷ 97 ∷ 92 ∷ 34 ∷ 98 ∷ 34 ∷ []) ∷ [])
+unfolding lexed lexed_in first_token token_at word_len inside_len
+taken_quote = refl
+
+-- `"\\"a`: a backslash that a backslash takes takes no quote
+taken_backslash : lexed 0 (34 ∷ 92 ∷ 92 ∷ 34 ∷ 97 ∷ []) ≡ all_read (token Text 0 (34 ∷ 92 ∷ 92 ∷ 34 ∷ []) ∷ token Name 4 (codes "a") ∷ [])
+unfolding lexed lexed_in first_token token_at word_len inside_len
+taken_backslash = refl
+
+-- `"a\"`: the backslash takes the last quote
+last_quote_taken : lexed 0 (34 ∷ 97 ∷ 92 ∷ 34 ∷ []) ≡ stopped [] (UnclosedText 0)
+unfolding lexed lexed_in first_token token_at word_len inside_len
+last_quote_taken = refl
+
+-- `"a\`
+backslash_at_the_end : lexed 0 (34 ∷ 97 ∷ 92 ∷ []) ≡ stopped [] (UnclosedText 0)
+unfolding lexed lexed_in first_token token_at word_len inside_len
+backslash_at_the_end = refl
+
+-- a degree sign of ISO 8859-1 and `C`, a line feed, and the byte 255
+any_bytes : lexed 0 (34 ∷ 176 ∷ 67 ∷ 10 ∷ 255 ∷ 34 ∷ []) ≡ all_read (token Text 0 (34 ∷ 176 ∷ 67 ∷ 10 ∷ 255 ∷ 34 ∷ []) ∷ [])
+unfolding lexed lexed_in first_token token_at word_len inside_len
+any_bytes = refl
+
+empty_text : lexed 0 (34 ∷ 34 ∷ []) ≡ all_read (token Text 0 (34 ∷ 34 ∷ []) ∷ [])
+unfolding lexed lexed_in first_token token_at word_len inside_len
+empty_text = refl
+
+-- `VERSION "a`
+unclosed_version : lexed 0 (codes "VERSION \"a") ≡ stopped (token Name 0 (codes "VERSION") ∷ []) (UnclosedText 8)
+unfolding lexed lexed_in first_token token_at word_len inside_len
+unclosed_version = refl
+
+-- ---- gaps and other bytes
+
+-- tab, line feed, vertical tab, form feed, carriage return and space
+gaps_alone : lexed 0 (9 ∷ 10 ∷ 11 ∷ 12 ∷ 13 ∷ 32 ∷ []) ≡ all_read []
+unfolding lexed lexed_in first_token token_at
+gaps_alone = refl
+
+nothing : lexed 0 [] ≡ all_read []
+unfolding lexed lexed_in first_token token_at
+nothing = refl
+
+-- a byte order mark is no gap
+byte_order_mark : lexed 0 (239 ∷ 187 ∷ 191 ∷ 66 ∷ []) ≡ stopped [] (StrayByte 0)
+unfolding lexed lexed_in first_token token_at
+byte_order_mark = refl
+
+stray_byte : lexed 0 (codes "BS_: #") ≡ stopped (token Name 0 (codes "BS_") ∷ token Mark 3 (codes ":") ∷ []) (StrayByte 5)
+unfolding lexed lexed_in first_token token_at word_len
+stray_byte = refl
+
+signal_start : lexed 0 (codes "SG_ T m0:16|8@1+(1,-40)")
+    ≡ all_read (
+    token Name 0 (codes "SG_") ∷ token Name 4 (codes "T") ∷ token Name 6 (codes "m0") ∷ token Mark 8 (codes ":") ∷ token Number 9 (codes "16")
+    ∷ token Mark 11 (codes "|") ∷ token Number 12 (codes "8") ∷ token Mark 13 (codes "@") ∷ token Number 14 (codes "1") ∷ token Mark 15 (codes "+")
+    ∷ token Mark 16 (codes "(") ∷ token Number 17 (codes "1") ∷ token Mark 18 (codes ",") ∷ token Mark 19 (codes "-") ∷ token Number 20 (codes "40")
+    ∷ token Mark 22 (codes ")") ∷ []
+    )
+unfolding lexed lexed_in first_token token_at word_len number_len tail_len exponent_len
+signal_start = refl
+
+-- ---- the same of the tokens that a text has
+
+number_and_name : HasTokens 0 (codes "1E") (token Number 0 (codes "1") ∷ token Name 1 (codes "E") ∷ [])
+number_and_name = (exact 0 _ _).1 letter_without_power
+
+-- the number isn't cut short to 1, with another number behind it
+only_longest : (ts : List Token) → HasTokens 0 (codes "12abc") ts → ts ≡ token Number 0 (codes "12") ∷ token Name 2 (codes "abc") ∷ []
+only_longest ts h = ap (λ (l : Lexed). l.tokens) (sym ((exact 0 _ ts).0 h) ∙ number_then_name)
+
+no_tokens : (bytes : List ℕ) (tokens : List Token) (fault : LexFault) → lexed 0 bytes ≡ stopped tokens fault → (ts : List Token) → HasTokens 0 bytes ts → ⊥
+no_tokens bytes tokens fault e ts h = let no : Some fault ≡ None = ap (λ (l : Lexed). l.fault) (sym e ∙ (exact 0 bytes ts).0 h) in absurd cc
+
+two_points_have_none : (ts : List Token) → HasTokens 0 (codes "1.5.2") ts → ⊥
+two_points_have_none = no_tokens _ _ _ second_point
+
+unclosed_has_none : (ts : List Token) → HasTokens 0 (codes "VERSION \"a") ts → ⊥
+unclosed_has_none = no_tokens _ _ _ unclosed_version
+
+stray_has_none : (ts : List Token) → HasTokens 0 (codes "BS_: #") ts → ⊥
+stray_has_none = no_tokens _ _ _ stray_byte

@@ -1,0 +1,6 @@
+-- What a text token says: its bytes without the quotes round them.
+use Rattle.std.specs.Prelude.{ℕ, ◌-◌, List, length, take, drop}
+
+-- all but the first and the last byte
+abbrev pub inside_of : List ℕ → List ℕ
+inside_of text = take (length text - 2) (drop 1 text)

@@ -1,0 +1,34 @@
+-- Things with names, as the nodes of a sheet or the signals of a message.
+use Rattle.std.specs.Prelude.{◌≡◌, ◌≤◌, ℕ, Bool, nat_le, List, [], ◌∷◌, length}
+use Rattle.std.specs.List.{IsDistinct, list_any}
+use Rattle.std.specs.Str.{bytes_eq}
+use Rattle.std.specs.BTreeSet.{contains}
+use Rattle.catalogue.specs.Keyed.{text_cmp}
+use Rattle.catalogue.specs.Limits.{roster_limit}
+use Rattle.catalogue.specs.Refusing.{Test}
+use Rattle.catalogue.specs.declared.fault.SheetCode.{SheetCode}
+use Rattle.catalogue.specs.declared.fault.SheetCode.TheVariants.{DoubleName, TooMany}
+use Rattle.catalogue.specs.declared.name_set.NameSet.{NameSet}
+
+-- whether one of them has the name
+abbrev pub has_name : {A : Type 0} → (A → List ℕ) → List A → List ℕ → Bool
+has_name name things n = list_any (λ a. bytes_eq (name a) n) things
+
+-- no two of them have one name
+abbrev pub AreNamedApart : {A : Type 0} → (A → List ℕ) → List A → Type 0
+AreNamedApart name things = IsDistinct (λ a b. bytes_eq (name a) (name b)) things
+
+-- why one more, of this name, is refused
+abbrev pub roster_tests : {A : Type 0} → (A → List ℕ) → List A → List ℕ → List (Test SheetCode)
+roster_tests name things n = record { holds = nat_le roster_limit (length things); refusal = TooMany }
+    ∷ record { holds = has_name name things n; refusal = DoubleName } ∷ []
+
+-- whether the set has the name
+abbrev pub holds_name : NameSet → List ℕ → Bool
+holds_name set n = contains text_cmp set.names n
+
+-- what a roster keeps: no two of its things have one name, they are few, and the set has their names
+pub record IsRoster {A : Type 0} (name : A → List ℕ) (things : List A) (names : NameSet) : Type 0 where
+  pub apart : AreNamedApart name things
+  pub few : length things ≤ roster_limit
+  pub index : (n : List ℕ) → holds_name names n ≡ has_name name things n

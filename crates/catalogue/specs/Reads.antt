@@ -1,0 +1,27 @@
+-- What a DBC text reads as.
+use Rattle.std.specs.Prelude.{◌≡◌, ℕ, List}
+use Rattle.catalogue.specs.Division.{Divides}
+use Rattle.catalogue.specs.Saying.{Says, passed_by}
+use Rattle.catalogue.specs.Statement.{Statement}
+use Rattle.catalogue.specs.Token.{Token}
+use Rattle.catalogue.specs.Tokens.{HasTokens}
+use Rattle.catalogue.specs.declared.keyword.Keyword.{Keyword}
+use Rattle.catalogue.specs.declared.sheet.Sheet.{Sheet}
+
+-- The bytes have tokens, these divide into statements, and the statements say the sheet and pass over those that begin
+-- at these places with these keywords.
+pub record ReadsAs (bytes : List ℕ) (s : Sheet) (passed : List (ℕ × Keyword)) : Type 0 where
+  pub tokens : List Token
+  pub statements : List Statement
+  pub has_tokens : HasTokens 0 bytes tokens
+  pub divides : Divides tokens statements
+  pub says : Says statements s
+  pub passes : passed ≡ passed_by statements
+
+-- the bytes read as the sheet, whatever they pass over
+abbrev pub Reads : List ℕ → Sheet → Type 0
+Reads bytes s = (passed : List (ℕ × Keyword)) × ReadsAs bytes s passed
+
+-- a text reads as one sheet at most, and passes over one list of statements
+abbrev pub ReadsAsOneAtMost : Type 0
+ReadsAsOneAtMost = (bytes : List ℕ) (s t : Sheet) (p q : List (ℕ × Keyword)) → ReadsAs bytes s p → ReadsAs bytes t q → (s ≡ t) × (p ≡ q)

@@ -1,0 +1,38 @@
+-- A sheet: what a DBC file says of a network (Vector's DBC File Format Documentation, in this project's profile).
+use Rattle.std.specs.Prelude.{◌≡◌, ℕ, List, [], take, All, Some, slice_get}
+use Rattle.bitlayout.specs.Clash.{IsFirstClash}
+use Rattle.bitlayout.specs.declared.clash.Clash.{Clash}
+use Rattle.catalogue.specs.Fault.{clash_code}
+use Rattle.catalogue.specs.Messages.{IsClearMessage, number_of}
+use Rattle.catalogue.specs.Signals.{places_of}
+use Rattle.catalogue.specs.declared.fault.SheetFault.{SheetFault}
+use Rattle.catalogue.specs.declared.message.Message.{Message}
+use Rattle.catalogue.specs.declared.node.Node.{Node}
+use Rattle.catalogue.specs.declared.sheet.Sheet.{Sheet}
+use Rattle.catalogue.specs.declared.value_table.ValueTable.{ValueTable}
+
+abbrev pub node_name : Node → List ℕ
+node_name node = node.name
+
+abbrev pub table_name : ValueTable → List ℕ
+table_name table = table.name
+
+-- the sheet that says nothing
+abbrev pub empty_sheet : Sheet
+empty_sheet = record { version = []; comment = []; nodes = []; tables = []; messages = [] }
+
+-- the signals of each message can stand together in its payload
+abbrev pub IsClearSheet : Sheet → Type 0
+IsClearSheet s = All IsClearMessage s.messages
+
+-- the fault of the first message that isn't clear: its number, and the code of its first clash
+pub record IsFirstFault (s : Sheet) (fault : SheetFault) : Type 0 where
+  pub index : ℕ
+  pub message : Message
+  pub there : slice_get s.messages index ≡ Some message
+  pub clear_before : All IsClearMessage (take index s.messages)
+  pub unclear : ¬ (IsClearMessage message)
+  pub clash : Clash
+  pub first : IsFirstClash (places_of message.signals) message.length clash
+  pub code : fault.code ≡ clash_code clash
+  pub number : fault.number ≡ number_of message

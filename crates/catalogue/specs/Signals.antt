@@ -1,0 +1,48 @@
+-- The signals of a message (Vector's DBC File Format Documentation, signals and their multiplexer indicators).
+use Rattle.std.specs.Prelude.{◌≡◌, ◌≤◌, ◌&&◌, ℕ, Bool, nat_le, List, [], ◌∷◌, length, map}
+use Rattle.std.specs.List.{IsDistinct, list_any}
+use Rattle.bitlayout.specs.Mux.{is_multiplexor}
+use Rattle.bitlayout.specs.declared.place.Place.{Place}
+use Rattle.catalogue.specs.Limits.{roster_limit}
+use Rattle.catalogue.specs.Named.{AreNamedApart, has_name}
+use Rattle.catalogue.specs.Refusing.{Test}
+use Rattle.catalogue.specs.Signal.{place_of}
+use Rattle.catalogue.specs.declared.fault.SheetCode.{SheetCode}
+use Rattle.catalogue.specs.declared.fault.SheetCode.TheVariants.{DoubleName, TooMany, TwoMultiplexors}
+use Rattle.catalogue.specs.declared.signal.Signal.{Signal}
+
+abbrev pub signal_name : Signal → List ℕ
+signal_name s = s.name
+
+-- whether a signal is the multiplexor
+abbrev pub is_switch : Signal → Bool
+is_switch s = is_multiplexor s.mux
+
+-- whether one of them is
+abbrev pub are_switched : List Signal → Bool
+are_switched signals = list_any is_switch signals
+
+-- no two of them are
+abbrev pub HaveOneSwitch : List Signal → Type 0
+HaveOneSwitch signals = IsDistinct (λ a b. is_switch a && is_switch b) signals
+
+-- The signals of one message: no two have one name, no two are the multiplexor, and they are few.
+pub record AreSignals (signals : List Signal) : Type 0 where
+  pub apart : AreNamedApart signal_name signals
+  pub one_switch : HaveOneSwitch signals
+  pub few : length signals ≤ roster_limit
+
+-- why one more signal is refused
+abbrev pub signal_tests : List Signal → Signal → List (Test SheetCode)
+signal_tests signals s = record { holds = nat_le roster_limit (length signals); refusal = TooMany }
+    ∷ record { holds = has_name signal_name signals s.name; refusal = DoubleName }
+    ∷ record { holds = is_switch s && are_switched signals; refusal = TwoMultiplexors } ∷ []
+
+-- the places of the signals, in order
+abbrev pub places_of : List Signal → List Place
+places_of signals = map place_of signals
+
+-- what the code keeps beside the signals: whether one of them is the multiplexor
+pub record IsSwitchKnown (signals : List Signal) (switched : Bool) : Type 0 where
+  pub one_switch : HaveOneSwitch signals
+  pub known : switched ≡ are_switched signals

@@ -1,0 +1,60 @@
+-- What the tokens of a DBC text have to do with what is read from its first byte on.
+use Rattle.std.specs.Prelude.{◌≡◌, ⊤, ℕ, ◌+◌, ◌-◌, ◌≤◌, ◌↔◌, false, List, [], ◌∷◌, ◌++◌, length, take, drop, Some, None, if◌then◌else◌}
+use Rattle.catalogue.specs.declared.token.TokenKind.{TokenKind}
+use Rattle.catalogue.specs.Lexing.{LexFault, StrayByte, UnclosedText, Lexed, lexed}
+use Rattle.catalogue.specs.Inside.{inside_of}
+use Rattle.catalogue.specs.Spelling.{Spells, is_gap, is_quote, quoted}
+use Rattle.catalogue.specs.Token.{Token}
+use Rattle.catalogue.specs.Tokens.{HasTokens, IsFirst, IsGap}
+
+-- these tokens, and no fault
+abbrev pub all_read : List Token → Lexed
+all_read tokens = record { tokens = tokens; fault = None }
+
+-- these tokens, and then the fault
+abbrev pub stopped : List Token → LexFault → Lexed
+stopped tokens fault = record { tokens = tokens; fault = Some fault }
+
+-- A text has the tokens exactly where they are what is read of it, without a fault.
+abbrev pub TokensAreRead : Type 0
+TokensAreRead = (bytes : List ℕ) (tokens : List Token) → HasTokens 0 bytes tokens ↔ (lexed 0 bytes ≡ all_read tokens)
+
+-- A text has at most one list of tokens.
+abbrev pub TokensAreOne : Type 0
+TokensAreOne = (bytes : List ℕ) (ts us : List Token) → HasTokens 0 bytes ts → HasTokens 0 bytes us → ts ≡ us
+
+-- The bytes, which stand at the place, are a gap and then a byte that is no gap and with which no token begins, of any
+-- kind. It is the opening quote of a text that no quote ends, or else a stray byte.
+pub record NoToken (place : ℕ) (bytes : List ℕ) (fault : LexFault) : Type 0 where
+  pub gap : List ℕ
+  pub first : ℕ
+  pub behind : List ℕ
+  pub parts : bytes ≡ gap ++ (first ∷ behind)
+  pub gap_is : IsGap gap
+  pub no_gap : is_gap first ≡ false
+  pub none : (kind : TokenKind) (word rest : List ℕ) → Spells kind word → first ∷ behind ≡ word ++ rest → ⊥
+  pub fault_is : fault ≡ (if is_quote first then UnclosedText (place + length gap) else StrayByte (place + length gap))
+
+-- The bytes, which stand at the place, have first these tokens, and behind them none begins.
+abbrev pub StopsWith : ℕ → List ℕ → List Token → LexFault → Type 0
+StopsWith place bytes [] fault = NoToken place bytes fault
+StopsWith place bytes (token ∷ tokens) fault = (rest : List ℕ) × IsFirst place bytes token rest × StopsWith token.end rest tokens fault
+
+-- Reading ends with a fault exactly where behind the tokens that were read none begins.
+abbrev pub FaultsAreExact : Type 0
+FaultsAreExact = (bytes : List ℕ) (tokens : List Token) (fault : LexFault) → StopsWith 0 bytes tokens fault ↔ (lexed 0 bytes ≡ stopped tokens fault)
+
+-- Each token begins at the place or behind it, ends within the source, and its bytes are those that stand there; the
+-- next ones begin at its end or behind it.
+abbrev pub AreSlices : ℕ → List ℕ → List Token → Type 0
+AreSlices place source [] = ⊤
+AreSlices place source (t ∷ ts) =
+    (place ≤ t.start) × (t.start ≤ t.end) × (t.end ≤ length source) × (t.text ≡ take (t.end - t.start) (drop t.start source)) × AreSlices t.end source ts
+
+-- The tokens that are read of a source are slices of it, also where reading ends with a fault.
+abbrev pub TokensAreSlices : Type 0
+TokensAreSlices = (source : List ℕ) → AreSlices 0 source (lexed 0 source).tokens
+
+-- The value of a text token is what stands inside its quotes.
+abbrev pub InsidesAreKept : Type 0
+InsidesAreKept = (inside : List ℕ) → inside_of (quoted inside) ≡ inside

@@ -1,0 +1,38 @@
+-- Well-formed sheets (Vector's DBC File Format Documentation, in the limits of this project's profile): names and
+-- numbers that are unique, lists that are not too long. The forms of names and texts and the ranges of numbers are not
+-- said here, since the types of a sheet's parts keep them; nor is it said that signals lie clear of one another.
+use Rattle.std.specs.Prelude.{ℕ, ◌≤◌, List, length}
+use Rattle.std.specs.List.{AllByRecursion}
+use Rattle.catalogue.specs.Limits.{roster_limit, value_text_limit}
+use Rattle.catalogue.specs.Messages.{AreMessages}
+use Rattle.catalogue.specs.Named.{AreNamedApart}
+use Rattle.catalogue.specs.Sheet.{node_name, table_name}
+use Rattle.catalogue.specs.Signals.{AreSignals}
+use Rattle.catalogue.specs.declared.message.Message.{Message}
+use Rattle.catalogue.specs.declared.sheet.Sheet.{Sheet}
+use Rattle.catalogue.specs.declared.signal.Signal.{Signal}
+use Rattle.catalogue.specs.declared.value_table.ValueTable.{ValueTable}
+use Rattle.catalogue.specs.declared.value_texts.ValueText.{ValueText}
+
+-- Nodes or value tables of one sheet: no two have one name, and they are few.
+pub record AreRostered {A : Type 0} (name : A → List ℕ) (things : List A) : Type 0 where
+  pub apart : AreNamedApart name things
+  pub few : length things ≤ roster_limit
+
+-- no more texts than one list can have
+abbrev pub AreFewTexts : List ValueText → Type 0
+AreFewTexts texts = length texts ≤ value_text_limit
+
+-- What each message keeps: names that differ and one multiplexor at most among its signals, and value texts of each
+-- that are not too many.
+pub record IsWellFormedMessage (m : Message) : Type 0 where
+  pub signals : AreSignals m.signals
+  pub values : AllByRecursion (λ (s : Signal). AreFewTexts s.values) m.signals
+
+-- What a sheet keeps: its messages rise by number, and no two messages, nodes or value tables have one name.
+pub record IsWellFormed (s : Sheet) : Type 0 where
+  pub nodes : AreRostered node_name s.nodes
+  pub tables : AreRostered table_name s.tables
+  pub entries : AllByRecursion (λ (t : ValueTable). AreFewTexts t.entries) s.tables
+  pub together : AreMessages s.messages
+  pub messages : AllByRecursion IsWellFormedMessage s.messages

@@ -1,0 +1,172 @@
+//! The messages of one sheet.
+ghost use Rattle.std.specs.Prelude.{◌≡◌, [], ℕ, Option, None, Some, if◌then◌else◌, ◌==◌, length, nat_le, false, IfErr, IfOk, OnOk, OnErr};
+ghost use Rattle.std.specs.Option.{option_copied};
+ghost use Rattle.std.specs.List.{IsDistinct};
+ghost use Rattle.std.specs.List.Sorted.{IsStrictlySortedBy};
+ghost use Rattle.catalogue.specs.Fault.{IsRefusal};
+ghost use Rattle.catalogue.specs.Keyed.{put};
+ghost use Rattle.catalogue.specs.Limits.{message_limit};
+ghost use Rattle.catalogue.specs.Messages.{AreMessages, by_number, message_at, message_name, message_tests, number_of, without_number};
+ghost use Rattle.catalogue.specs.Named.{has_name};
+ghost use Rattle.catalogue.specs.Refusing.{first_refusal};
+ghost use Rattle.catalogue.specs.Place.{IsAt, IsGap};
+
+use crate::copying::Copying;
+use crate::fault::SheetCode;
+use crate::items::Items;
+use crate::message::Message;
+use crate::name::Name;
+use crate::name_set::NameSet;
+use std::alloc::{AllocError, Global};
+use std::marker::Model;
+
+/// The greatest number of messages of a sheet.
+pub const MESSAGE_LIMIT: usize = 16_384;
+
+/// At most 16,384 messages by rising DBC number, no two of one number or one name. Contracts see it as the list of
+/// them. A number is sought by halves, a name in an order of the names.
+#[derive(Debug, Drop)]
+pub(crate) struct Messages {
+    messages: Items<Message>,
+    names: NameSet,
+}
+
+impl Model for Messages {
+    ghost use Rattle.std.specs.Prelude.{List};
+    ghost use Rattle.catalogue.specs.Messages.{AreIndexed};
+    ghost use Rattle.catalogue.specs.declared.message.Message.{Message};
+
+    ghost Value = { List Message };
+
+    ghost view = { λ m. m.messages };
+
+    ghost invariant = { λ m. AreIndexed m.messages m.names };
+}
+
+/// Where the message of the number is, or where it would go.
+fn search(messages: &[Message], number: u32) -> Result<usize, usize>
+    requires { IsStrictlySortedBy by_number messages.now }
+    ensures found { IfOk result (IsAt number_of messages.now number) }
+    ensures absent { IfErr result (IsGap number_of messages.now number) }
+{
+    messages.binary_search_by_key(&number, |message| message.number())
+}
+
+impl Messages {
+    /// No messages. Takes no memory.
+    pub(crate) fn new(alloc: Global) -> Messages
+        ensures { result ≡ [] }
+    {
+        Messages {
+            messages: Items::new(alloc),
+            names: NameSet::new(alloc),
+        }
+    }
+
+    /// The messages, by rising number.
+    pub(crate) fn as_slice(&self) -> &[Message]
+        ensures messages { result.now ≡ self.now }
+        ensures together { AreMessages self.now }
+    {
+        self.messages.as_slice()
+    }
+
+    /// The message of the number.
+    pub(crate) fn find(&self, number: u32) -> Option<&Message>
+        ensures { option_copied result ≡ message_at self.now number }
+    {
+        let messages = self.messages.as_slice();
+        match search(messages, number) {
+            Ok(at) => Some(&messages[at]),
+            Err(_) => None,
+        }
+    }
+
+    /// Where the message would go, or why it is refused.
+    fn place_for(&self, message: &Message) -> Result<usize, SheetCode>
+        ensures gap { IfOk result (IsGap number_of self.now (number_of message.now)) }
+        ensures allowed { OnOk result (first_refusal (message_tests self.now message.now) ≡ None) }
+        ensures refused { IfErr result (λ code. first_refusal (message_tests self.now message.now) ≡ Some code) }
+    {
+        let messages = self.messages.as_slice();
+        if messages.len() >= MESSAGE_LIMIT {
+            return Err(SheetCode::TooMany);
+        }
+        let at = match search(messages, message.number()) {
+            Ok(_) => return Err(SheetCode::DoubleNumber),
+            Err(at) => at,
+        };
+        if self.names.has(&message.name) {
+            return Err(SheetCode::DoubleName);
+        }
+        Ok(at)
+    }
+
+    /// Adds a message at its place. It is refused, and nothing changes, with the first of these that holds:
+    /// [`SheetCode::TooMany`] where there are 16,384 messages, [`SheetCode::DoubleNumber`] where one of them has its
+    /// number, [`SheetCode::DoubleName`] where one of them has its name. [`SheetCode::Memory`] is want of memory, and
+    /// nothing changes either.
+    pub(crate) fn add(&mut self, alloc: Global, message: Message) -> Result<(), SheetCode>
+        ensures ok { OnOk result (self.new ≡ put by_number message self.old) }
+        ensures map { OnOk result ((n : ℕ) → message_at self.new n ≡ (if number_of message == n then Some message else message_at self.old n)) }
+        ensures allowed { OnOk result (first_refusal (message_tests self.old message) ≡ None) }
+        ensures refused { IfErr result (IsRefusal (first_refusal (message_tests self.old message))) }
+        ensures err { OnErr result (self.new ≡ self.old) }
+    {
+        let at = self.place_for(&message)?;
+        let name = message.name.duplicate(alloc)?;
+        self.messages.insert(at, message)?;
+        match self.names.insert(name) {
+            Ok(()) => Ok(()),
+            Err(_) => {
+                self.messages.remove(at);
+                Err(SheetCode::Memory)
+            }
+        }
+    }
+
+    /// Takes out the message of the number.
+    pub(crate) fn remove(&mut self, number: u32) -> Option<Message>
+        ensures found { result ≡ message_at self.old number }
+        ensures rest { self.new ≡ without_number self.old number }
+        ensures map { (n : ℕ) → message_at self.new n ≡ (if n == number then None else message_at self.old n) }
+    {
+        match search(self.messages.as_slice(), number) {
+            Ok(index) => {
+                let message = self.messages.remove(index);
+                self.names.remove(&message.name);
+                Some(message)
+            }
+            Err(_) => None,
+        }
+    }
+}
+
+impl Copying for Messages {
+    fn duplicate(&self, alloc: Global) -> Result<Self, AllocError> {
+        Ok(Messages {
+            messages: self.messages.duplicate(alloc)?,
+            names: self.names.duplicate()?,
+        })
+    }
+}
+
+impl PartialEq for Messages {
+    ghost use Rattle.std.specs.Cmp.Lexicographic.{pointwise, lists_per};
+    ghost use Rattle.catalogue.specs.contracts.message.MessagePartialEq.TheImpl.Laws.{laws-law};
+
+    ghost eq = { pointwise ⟦<Message as PartialEq>⟧.eq };
+
+    ghost laws = { lists_per laws-law };
+
+    fn eq(&self, other: &Messages) -> bool {
+        self.messages == other.messages
+    }
+}
+
+impl Eq for Messages {
+    ghost use Rattle.std.specs.Cmp.Lexicographic.{lists_equiv};
+    ghost use Rattle.catalogue.specs.contracts.message.MessageEq.TheImpl.Laws.{laws-law};
+
+    ghost laws = { lists_equiv laws-law };
+}

@@ -1,0 +1,57 @@
+//! Names by their order, beside a list that has them in an order of its own.
+ghost use Rattle.std.specs.Prelude.{◌≡◌, ◌&&◌, ◌||◌, ℕ, List, false, not, OnOk, OnErr, IfOk};
+ghost use Rattle.std.specs.Str.{bytes_eq};
+ghost use Rattle.catalogue.specs.Named.{holds_name};
+
+use crate::name::Name;
+use std::alloc::{AllocError, Global};
+use std::collections::BTreeSet;
+
+/// A set of names.
+#[derive(Debug, Drop)]
+pub(crate) struct NameSet {
+    names: BTreeSet<Name>,
+}
+
+impl NameSet {
+    /// No names. Takes no memory.
+    pub(crate) fn new(alloc: Global) -> NameSet
+        ensures { (n : List ℕ) → holds_name result n ≡ false }
+    {
+        NameSet {
+            names: BTreeSet::new(alloc),
+        }
+    }
+
+    /// Whether the name is in the set.
+    pub(crate) fn has(&self, name: &Name) -> bool
+        ensures { result ≡ holds_name self.now name.now }
+    {
+        self.names.contains(name)
+    }
+
+    /// Adds the name. Where memory is refused, nothing changes.
+    pub(crate) fn insert(&mut self, name: Name) -> Result<(), AllocError>
+        ensures ok { OnOk result ((n : List ℕ) → holds_name self.new n ≡ (bytes_eq name n || holds_name self.old n)) }
+        ensures err { OnErr result ((n : List ℕ) → holds_name self.new n ≡ holds_name self.old n) }
+    {
+        self.names.insert(name)?;
+        Ok(())
+    }
+
+    /// Takes the name out.
+    pub(crate) fn remove(&mut self, name: &Name)
+        ensures { (n : List ℕ) → holds_name self.new n ≡ (not (bytes_eq name.now n) && holds_name self.old n) }
+    {
+        self.names.remove(name);
+    }
+
+    /// A set of the same names.
+    pub(crate) fn duplicate(&self) -> Result<NameSet, AllocError>
+        ensures { IfOk result (λ copy. (n : List ℕ) → holds_name copy n ≡ holds_name self.now n) }
+    {
+        Ok(NameSet {
+            names: self.names.clone()?,
+        })
+    }
+}

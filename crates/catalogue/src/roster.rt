@@ -1,0 +1,153 @@
+//! Lists of things with names, such as the nodes of a sheet or the signals of a message.
+ghost use Rattle.std.specs.Prelude.{◌≡◌, ◌≤◌, ◌++◌, ◌∷◌, [], ℕ, List, None, length, nat_le, false, IfErr, IfOk, OnOk, OnErr};
+ghost use Rattle.catalogue.specs.Fault.{IsRefusal};
+ghost use Rattle.catalogue.specs.Limits.{roster_limit};
+ghost use Rattle.catalogue.specs.Named.{AreNamedApart, has_name, roster_tests};
+ghost use Rattle.catalogue.specs.Refusing.{first_refusal};
+
+use crate::copying::{Copying, duplicates};
+use crate::fault::SheetCode;
+use crate::name::Name;
+use crate::name_set::NameSet;
+use std::alloc::{AllocError, Global};
+use std::marker::Model;
+
+/// A thing that has a name.
+pub trait Named {
+    /// The bytes of the name.
+    ghost name_of: { Self → List ℕ };
+
+    /// The name.
+    fn name(&self) -> &Name
+        ensures { result.now ≡ name_of self.now };
+}
+
+/// The greatest number of nodes or value tables of a sheet, and of signals of a message.
+pub const ROSTER_LIMIT: usize = 4_096;
+
+/// At most 4,096 things in the order in which they were added, no two of one name. Contracts see it as the list of
+/// them. Whether a name is there is asked of an order of the names, not of the list.
+#[derive(Debug, Drop)]
+pub struct Roster<T: Named> {
+    things: Vec<T>,
+    names: NameSet,
+}
+
+impl<T: Named> Model for Roster<T> {
+    ghost use Rattle.std.specs.Prelude.{List};
+    ghost use Rattle.catalogue.specs.Named.{IsRoster};
+
+    ghost Value = { List T };
+
+    ghost view = { λ r. r.things.items };
+
+    ghost invariant = { λ r. IsRoster T.name_of r.things.items r.names };
+}
+
+impl<T: Named> Roster<T> {
+    /// Nothing yet. Takes no memory.
+    pub fn new(alloc: Global) -> Roster<T>
+        ensures { result ≡ [] }
+    {
+        Roster {
+            things: Vec::new(alloc),
+            names: NameSet::new(alloc),
+        }
+    }
+
+    /// The things, in the order in which they were added.
+    pub fn as_slice(&self) -> &[T]
+        ensures things { result.now ≡ self.now }
+        ensures apart { AreNamedApart T.name_of self.now }
+        ensures few { length self.now ≤ roster_limit }
+    {
+        &self.things
+    }
+
+    /// Whether one of them has the name.
+    pub fn has_name(&self, name: &Name) -> bool
+        ensures { result ≡ has_name T.name_of self.now name.now }
+    {
+        self.names.has(name)
+    }
+
+    /// Whether there is no room for one more.
+    pub fn is_full(&self) -> bool
+        ensures { result ≡ nat_le roster_limit (length self.now) }
+    {
+        self.things.len() >= ROSTER_LIMIT
+    }
+
+    /// Why a thing of this name can't be added, in this order: [`SheetCode::TooMany`] where there are 4,096,
+    /// [`SheetCode::DoubleName`] where one of them has the name.
+    pub fn refusal(&self, name: &Name) -> Option<SheetCode>
+        ensures { result ≡ first_refusal (roster_tests T.name_of self.now name.now) }
+    {
+        if self.is_full() {
+            Some(SheetCode::TooMany)
+        } else if self.has_name(name) {
+            Some(SheetCode::DoubleName)
+        } else {
+            None
+        }
+    }
+}
+
+impl<T: Named + Drop> Roster<T> {
+    /// Adds a thing that isn't refused. Where memory is refused, nothing changes.
+    pub(crate) fn push(&mut self, alloc: Global, thing: T) -> Result<(), AllocError>
+        requires room { nat_le roster_limit (length self.old) ≡ false }
+        requires new { has_name T.name_of self.old (T.name_of thing) ≡ false }
+        ensures ok { OnOk result (self.new ≡ self.old ++ thing ∷ []) }
+        ensures err { OnErr result (self.new ≡ self.old) }
+    {
+        let name = thing.name().duplicate(alloc)?;
+        self.things.reserve(1)?;
+        self.names.insert(name)?;
+        self.things.push_reserved(thing);
+        Ok(())
+    }
+
+    /// Adds a thing as the last one. It is refused, and nothing changes, with the first of these that holds:
+    /// [`SheetCode::TooMany`] where there are 4,096, [`SheetCode::DoubleName`] where one of them has its name.
+    /// [`SheetCode::Memory`] is want of memory, and nothing changes either.
+    pub fn add(&mut self, alloc: Global, thing: T) -> Result<(), SheetCode>
+        ensures ok { OnOk result (self.new ≡ self.old ++ thing ∷ []) }
+        ensures allowed { OnOk result (first_refusal (roster_tests T.name_of self.old (T.name_of thing)) ≡ None) }
+        ensures refused { IfErr result (IsRefusal (first_refusal (roster_tests T.name_of self.old (T.name_of thing)))) }
+        ensures err { OnErr result (self.new ≡ self.old) }
+    {
+        if let Some(code) = self.refusal(thing.name()) {
+            return Err(code);
+        }
+        self.push(alloc, thing)?;
+        Ok(())
+    }
+}
+
+impl<T: Named + Copying + Drop> Copying for Roster<T> {
+    fn duplicate(&self, alloc: Global) -> Result<Self, AllocError> {
+        Ok(Roster {
+            things: duplicates(alloc, &self.things)?,
+            names: self.names.duplicate()?,
+        })
+    }
+}
+
+impl<T: Named + PartialEq> PartialEq for Roster<T> {
+    ghost use Rattle.std.specs.Cmp.Lexicographic.{pointwise, lists_per};
+
+    ghost eq = { pointwise T.eq };
+
+    ghost laws = { lists_per T.laws };
+
+    fn eq(&self, other: &Roster<T>) -> bool {
+        self.things.as_slice() == other.things.as_slice()
+    }
+}
+
+impl<T: Named + Eq> Eq for Roster<T> {
+    ghost use Rattle.std.specs.Cmp.Lexicographic.{lists_equiv};
+
+    ghost laws = { lists_equiv T.Eq.laws };
+}

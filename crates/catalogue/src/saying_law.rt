@@ -1,0 +1,8 @@
+//! A law of what the statements of a DBC file say, which holds of their definition: no code stands behind it.
+ghost use Rattle.catalogue.specs.Saying.{SaysOneAtMost};
+
+/// The statements of a DBC file say one sheet at most: two sheets that they say are equal. Code whose contract needs
+/// this calls the function, which does nothing.
+pub fn statements_say_one_sheet()
+    ensures { SaysOneAtMost }
+{}

@@ -1,0 +1,210 @@
+ghost use Rattle.std.specs.Prelude.{◌≡◌, ◌≤◌, length, ◌++◌, ◌∷◌, [], ℕ, Option, None, Some, if◌then◌else◌, ◌==◌, IfErr, IfOk, OnOk, OnErr};
+ghost use Rattle.std.specs.Option.{option_copied};
+ghost use Rattle.catalogue.specs.Fault.{IsMemoryOr, IsRefusal};
+ghost use Rattle.catalogue.specs.Keyed.{put};
+ghost use Rattle.catalogue.specs.Limits.{roster_limit};
+ghost use Rattle.catalogue.specs.Messages.{AreMessages, by_number, message_at, message_tests, number_of, without_number};
+ghost use Rattle.catalogue.specs.Named.{AreNamedApart, roster_tests};
+ghost use Rattle.catalogue.specs.Refusing.{first_refusal};
+ghost use Rattle.catalogue.specs.Sheet.{IsClearSheet, IsFirstFault, empty_sheet, node_name, table_name};
+
+use crate::copying::Copying;
+use crate::fault::{SheetCode, SheetFault};
+use crate::message::Message;
+use crate::messages::Messages;
+use crate::node::Node;
+use crate::roster::Roster;
+use crate::text::Text;
+use crate::value_table::ValueTable;
+use std::alloc::{AllocError, Global};
+
+/// What a DBC file says of a network: a version, a comment, nodes, value tables, and messages by their DBC numbers.
+///
+/// Messages rise by number, and no two of them, no two nodes and no two value tables have one name. There are at most
+/// 16,384 messages, 4,096 nodes and 4,096 value tables. Contracts see the version and the comment as their bytes, and
+/// the nodes, the tables and the messages as lists.
+#[derive(Debug, PartialEq, Eq, Drop)]
+pub struct Sheet {
+    version: Text,
+    comment: Text,
+    nodes: Roster<Node>,
+    tables: Roster<ValueTable>,
+    messages: Messages,
+}
+
+impl Sheet {
+    /// The sheet that says nothing. Takes no memory.
+    pub fn new(alloc: Global) -> Sheet
+        ensures { result ≡ empty_sheet }
+    {
+        Sheet {
+            version: Text::empty(alloc),
+            comment: Text::empty(alloc),
+            nodes: Roster::new(alloc),
+            tables: Roster::new(alloc),
+            messages: Messages::new(alloc),
+        }
+    }
+
+    /// The version, empty where there is none.
+    pub fn version(&self) -> &Text
+        ensures { result.now ≡ self.now.version }
+    {
+        &self.version
+    }
+
+    /// Sets the version.
+    pub fn set_version(&mut self, version: Text)
+        ensures { self.new ≡ record self.old { version = version } }
+    {
+        self.version = version;
+    }
+
+    /// The comment of the whole file, empty where there is none.
+    pub fn comment(&self) -> &Text
+        ensures { result.now ≡ self.now.comment }
+    {
+        &self.comment
+    }
+
+    /// Sets the comment of the whole file.
+    pub fn set_comment(&mut self, comment: Text)
+        ensures { self.new ≡ record self.old { comment = comment } }
+    {
+        self.comment = comment;
+    }
+
+    /// The nodes, in the order in which they were added.
+    pub fn nodes(&self) -> &[Node]
+        ensures nodes { result.now ≡ self.now.nodes }
+        ensures apart { AreNamedApart node_name self.now.nodes }
+        ensures few { length self.now.nodes ≤ roster_limit }
+    {
+        self.nodes.as_slice()
+    }
+
+    /// The value tables, in the order in which they were added.
+    pub fn tables(&self) -> &[ValueTable]
+        ensures tables { result.now ≡ self.now.tables }
+        ensures apart { AreNamedApart table_name self.now.tables }
+        ensures few { length self.now.tables ≤ roster_limit }
+    {
+        self.tables.as_slice()
+    }
+
+    /// The messages, by rising DBC number.
+    pub fn messages(&self) -> &[Message]
+        ensures messages { result.now ≡ self.now.messages }
+        ensures together { AreMessages self.now.messages }
+    {
+        self.messages.as_slice()
+    }
+
+    /// The message of the DBC number, or `None` where there is none.
+    pub fn find(&self, number: u32) -> Option<&Message>
+        ensures { option_copied result ≡ message_at self.now.messages number }
+    {
+        self.messages.find(number)
+    }
+
+    /// Adds a node as the last one. It is refused, and nothing changes, with the first of these that holds:
+    /// 26 `TooMany` where there are 4,096 nodes, 21 `DoubleName` where one of them has its name. `Memory` is want of
+    /// memory, and nothing changes either. The fault's number is 0.
+    pub fn with_node(&mut self, alloc: Global, node: Node) -> Result<(), SheetFault>
+        ensures ok { OnOk result (self.new ≡ record self.old { nodes = self.old.nodes ++ node ∷ [] }) }
+        ensures allowed { OnOk result (first_refusal (roster_tests node_name self.old.nodes node.name) ≡ None) }
+        ensures refused { IfErr result (λ fault. IsRefusal (first_refusal (roster_tests node_name self.old.nodes node.name)) fault.code) }
+        ensures number { IfErr result (λ fault. fault.number ≡ 0) }
+        ensures err { OnErr result (self.new ≡ self.old) }
+    {
+        match self.nodes.add(alloc, node) {
+            Ok(()) => Ok(()),
+            Err(code) => Err(SheetFault { code, number: 0 }),
+        }
+    }
+
+    /// Adds a value table as the last one. It is refused, and nothing changes, with the first of these that holds:
+    /// 26 `TooMany` where there are 4,096 tables, 21 `DoubleName` where one of them has its name. `Memory` is want of
+    /// memory, and nothing changes either. The fault's number is 0.
+    pub fn with_table(&mut self, alloc: Global, table: ValueTable) -> Result<(), SheetFault>
+        ensures ok { OnOk result (self.new ≡ record self.old { tables = self.old.tables ++ table ∷ [] }) }
+        ensures allowed { OnOk result (first_refusal (roster_tests table_name self.old.tables table.name) ≡ None) }
+        ensures refused { IfErr result (λ fault. IsRefusal (first_refusal (roster_tests table_name self.old.tables table.name)) fault.code) }
+        ensures number { IfErr result (λ fault. fault.number ≡ 0) }
+        ensures err { OnErr result (self.new ≡ self.old) }
+    {
+        match self.tables.add(alloc, table) {
+            Ok(()) => Ok(()),
+            Err(code) => Err(SheetFault { code, number: 0 }),
+        }
+    }
+
+    /// Adds a message at its place. It is refused, and nothing changes, with the first of these that holds:
+    /// 26 `TooMany` where there are 16,384 messages, 20 `DoubleNumber` where one of them has its DBC number,
+    /// 21 `DoubleName` where one of them has its name. `Memory` is want of memory, and nothing changes either. The
+    /// fault's number is the message's.
+    pub fn with_message(&mut self, alloc: Global, message: Message) -> Result<(), SheetFault>
+        ensures ok { OnOk result (self.new ≡ record self.old { messages = put by_number message self.old.messages }) }
+        ensures map { OnOk result ((n : ℕ) → message_at self.new.messages n ≡ (if number_of message == n then Some message else message_at self.old.messages n)) }
+        ensures allowed { OnOk result (first_refusal (message_tests self.old.messages message) ≡ None) }
+        ensures refused { IfErr result (λ fault. IsRefusal (first_refusal (message_tests self.old.messages message)) fault.code) }
+        ensures number { IfErr result (λ fault. fault.number ≡ number_of message) }
+        ensures err { OnErr result (self.new ≡ self.old) }
+    {
+        let number = message.number();
+        match self.messages.add(alloc, message) {
+            Ok(()) => Ok(()),
+            Err(code) => Err(SheetFault { code, number }),
+        }
+    }
+
+    /// Takes out the message of the DBC number, or answers `None` and changes nothing where there is none. Takes no
+    /// memory.
+    pub fn without_message(&mut self, number: u32) -> Option<Message>
+        ensures found { result ≡ message_at self.old.messages number }
+        ensures rest { self.new ≡ record self.old { messages = without_number self.old.messages number } }
+        ensures map { (n : ℕ) → message_at self.new.messages n ≡ (if n == number then None else message_at self.old.messages n) }
+    {
+        self.messages.remove(number)
+    }
+
+    /// Whether the signals of each message can stand together in its payload. If not, the fault is that of the first
+    /// message that isn't clear, by rising number: 22 `OutsidePayload`, 23 `Clash`, 24 `NoMultiplexor` or
+    /// 25 `TwoMultiplexors`, whichever its first clash is, with the message's number. `Memory` is want of memory.
+    pub fn is_clear(&self, alloc: Global) -> Result<(), SheetFault>
+        ensures clear { OnOk result (IsClearSheet self.now) }
+        ensures fault { IfErr result (λ fault. IsMemoryOr fault.code (IsFirstFault self.now fault)) }
+    {
+        for message in self.messages.as_slice() {
+            match message.first_clash(alloc)? {
+                Some(clash) => {
+                    return Err(SheetFault {
+                        code: SheetCode::from(clash),
+                        number: message.number(),
+                    });
+                }
+                None => {}
+            }
+        }
+        Ok(())
+    }
+
+    /// A sheet that is equal to this one. The error is want of memory.
+    pub fn copy(&self, alloc: Global) -> Result<Sheet, AllocError>
+        ensures { IfOk result (λ copy. copy ≡ self.now) }
+    {
+        self.duplicate(alloc)
+    }
+}
+
+impl Copying for Sheet {
+    fn duplicate(&self, alloc: Global) -> Result<Self, AllocError> {
+        Ok(Sheet {
+            version: self.version.duplicate(alloc)?,
+            comment: self.comment.duplicate(alloc)?,
+            nodes: self.nodes.duplicate(alloc)?,
+            tables: self.tables.duplicate(alloc)?,
+            messages: self.messages.duplicate(alloc)?,
+        })
+    }
+}

@@ -1,0 +1,88 @@
+ghost use Rattle.std.specs.Prelude.{◌≡◌};
+ghost use Rattle.catalogue.specs.Signal.{place_of};
+
+use crate::copying::Copying;
+use crate::items::Items;
+use crate::name::Name;
+use crate::roster::Named;
+use crate::spn::Spn;
+use crate::text::Text;
+use crate::value_texts::ValueTexts;
+use crate::value_type::ValueType;
+use bitlayout::{Layout, Mux, Place};
+use decimal::Decimal;
+use std::alloc::{AllocError, Global};
+
+/// A signal of a message.
+#[derive(Debug, PartialEq, Eq, Drop)]
+pub struct Signal {
+    /// The signal's name.
+    pub name: Name,
+    /// Where it lies in the payload: its start is 0 to 65535, its size 1 to 64 bits.
+    pub layout: Layout,
+    /// Whether its raw value is signed.
+    pub signed: bool,
+    /// When it is present.
+    pub mux: Mux,
+    /// What a raw value is multiplied by.
+    pub factor: Decimal,
+    /// What is added to it then.
+    pub offset: Decimal,
+    /// The least physical value.
+    pub minimum: Decimal,
+    /// The greatest physical value.
+    pub maximum: Decimal,
+    /// The unit of the physical value, empty where there is none.
+    pub unit: Text,
+    /// The nodes that receive the signal. They needn't be nodes of the sheet, and one may stand there twice.
+    pub receivers: Items<Name>,
+    /// The signal's comment, empty where there is none.
+    pub comment: Text,
+    /// The signal's suspect parameter number.
+    pub spn: Spn,
+    /// Texts for raw values.
+    pub values: ValueTexts,
+    /// How the bits are to be read.
+    pub value_type: ValueType,
+}
+
+impl Signal {
+    /// Where the signal lies, and when it is present.
+    pub fn place(&self) -> Place
+        ensures { result ≡ place_of self.now }
+    {
+        Place {
+            layout: self.layout,
+            mux: self.mux,
+        }
+    }
+}
+
+impl Named for Signal {
+    ghost name_of = { λ signal. signal.name };
+
+    fn name(&self) -> &Name {
+        &self.name
+    }
+}
+
+impl Copying for Signal {
+    fn duplicate(&self, alloc: Global) -> Result<Self, AllocError> {
+        Ok(Signal {
+            name: self.name.duplicate(alloc)?,
+            layout: self.layout,
+            signed: self.signed,
+            mux: self.mux,
+            factor: self.factor,
+            offset: self.offset,
+            minimum: self.minimum,
+            maximum: self.maximum,
+            unit: self.unit.duplicate(alloc)?,
+            receivers: self.receivers.duplicate(alloc)?,
+            comment: self.comment.duplicate(alloc)?,
+            spn: self.spn,
+            values: self.values.duplicate(alloc)?,
+            value_type: self.value_type,
+        })
+    }
+}

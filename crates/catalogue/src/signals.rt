@@ -1,0 +1,135 @@
+//! The signals of one message.
+ghost use Rattle.std.specs.Prelude.{◌≡◌, ◌++◌, ◌∷◌, [], None, IfErr, IfOk, OnOk, OnErr};
+ghost use Rattle.catalogue.specs.Fault.{IsRefusal};
+ghost use Rattle.catalogue.specs.Refusing.{first_refusal};
+ghost use Rattle.catalogue.specs.Signals.{AreSignals, are_switched, places_of, signal_tests};
+
+use crate::copying::Copying;
+use crate::fault::SheetCode;
+use crate::roster::Roster;
+use crate::signal::Signal;
+use bitlayout::Place;
+use std::alloc::{AllocError, Global};
+use std::marker::Model;
+
+/// The signals of one message in the order in which they were added: at most 4,096, no two of one name, and at most
+/// one the multiplexor. Contracts see it as the list of them.
+#[derive(Debug, Drop)]
+pub struct Signals {
+    roster: Roster<Signal>,
+    switched: bool,
+}
+
+impl Model for Signals {
+    ghost use Rattle.std.specs.Prelude.{List};
+    ghost use Rattle.catalogue.specs.Signals.{IsSwitchKnown};
+    ghost use Rattle.catalogue.specs.declared.signal.Signal.{Signal};
+
+    ghost Value = { List Signal };
+
+    ghost view = { λ signals. signals.roster };
+
+    ghost invariant = { λ signals. IsSwitchKnown signals.roster signals.switched };
+}
+
+impl Signals {
+    /// No signals. Takes no memory.
+    pub fn new(alloc: Global) -> Signals
+        ensures { result ≡ [] }
+    {
+        Signals {
+            roster: Roster::new(alloc),
+            switched: false,
+        }
+    }
+
+    /// The signals, in the order in which they were added.
+    pub fn as_slice(&self) -> &[Signal]
+        ensures signals { result.now ≡ self.now }
+        ensures together { AreSignals self.now }
+    {
+        self.roster.as_slice()
+    }
+
+    /// Whether one of them is the multiplexor.
+    pub fn are_multiplexed(&self) -> bool
+        ensures { result ≡ are_switched self.now }
+    {
+        self.switched
+    }
+
+    /// Why the signal can't be added, in this order: [`SheetCode::TooMany`] where there are 4,096 signals,
+    /// [`SheetCode::DoubleName`] where one of them has its name, [`SheetCode::TwoMultiplexors`] where it is the
+    /// multiplexor and one of them is too.
+    pub fn refusal(&self, signal: &Signal) -> Option<SheetCode>
+        ensures { result ≡ first_refusal (signal_tests self.now signal.now) }
+    {
+        if self.roster.is_full() {
+            Some(SheetCode::TooMany)
+        } else if self.roster.has_name(&signal.name) {
+            Some(SheetCode::DoubleName)
+        } else if signal.mux.is_multiplexor() && self.switched {
+            Some(SheetCode::TwoMultiplexors)
+        } else {
+            None
+        }
+    }
+
+    /// Adds a signal as the last one. It is refused, and nothing changes, with what [`Signals::refusal`] says.
+    /// [`SheetCode::Memory`] is want of memory, and nothing changes either.
+    pub fn add(&mut self, alloc: Global, signal: Signal) -> Result<(), SheetCode>
+        ensures ok { OnOk result (self.new ≡ self.old ++ signal ∷ []) }
+        ensures allowed { OnOk result (first_refusal (signal_tests self.old signal) ≡ None) }
+        ensures refused { IfErr result (IsRefusal (first_refusal (signal_tests self.old signal))) }
+        ensures err { OnErr result (self.new ≡ self.old) }
+    {
+        match self.refusal(&signal) {
+            Some(code) => return Err(code),
+            None => {}
+        }
+        let multiplexor = signal.mux.is_multiplexor();
+        self.roster.push(alloc, signal)?;
+        self.switched |= multiplexor;
+        Ok(())
+    }
+
+    /// The places of the signals, in order. The error is want of memory.
+    pub fn places(&self, alloc: Global) -> Result<Vec<Place>, AllocError>
+        ensures { IfOk result (λ places. places.items ≡ places_of self.now) }
+    {
+        let mut places = Vec::new(alloc);
+        for signal in self.as_slice() {
+            places.push(signal.place())?;
+        }
+        Ok(places)
+    }
+}
+
+impl Copying for Signals {
+    fn duplicate(&self, alloc: Global) -> Result<Self, AllocError> {
+        Ok(Signals {
+            roster: self.roster.duplicate(alloc)?,
+            switched: self.switched,
+        })
+    }
+}
+
+impl PartialEq for Signals {
+    ghost use Rattle.std.specs.Cmp.Lexicographic.{pointwise, lists_per};
+    ghost use Rattle.catalogue.specs.contracts.signal.SignalPartialEq.TheImpl.Laws.{laws-law};
+
+    ghost eq = { pointwise ⟦<Signal as PartialEq>⟧.eq };
+
+    ghost laws = { lists_per laws-law };
+
+    fn eq(&self, other: &Signals) -> bool {
+        self.roster == other.roster
+    }
+}
+
+impl Eq for Signals {
+    ghost use Rattle.std.specs.Cmp.Lexicographic.{lists_equiv};
+    ghost use Rattle.catalogue.specs.contracts.signal.SignalEq.TheImpl.Laws.{laws-law};
+
+    ghost laws = { lists_equiv laws-law };
+}

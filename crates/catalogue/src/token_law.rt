@@ -1,0 +1,14 @@
+ghost use Rattle.catalogue.specs.TokenLaw.{TokensAreRead, TokensAreOne, TokensAreSlices, FaultsAreExact, InsidesAreKept};
+
+/// What holds of the tokens of every DBC text, as `specs/TokenLaw.antt` says it; it does nothing.
+///
+/// A text has exactly the tokens that are read of it without a fault, and at most one list of them. Reading ends with a
+/// fault exactly where no token begins behind those that were read. All tokens that are read are slices of the text, in
+/// order, and the value of a text token is what stands inside its quotes.
+pub fn tokens_are_exact()
+    ensures read { TokensAreRead }
+    ensures one { TokensAreOne }
+    ensures slices { TokensAreSlices }
+    ensures faults { FaultsAreExact }
+    ensures insides { InsidesAreKept }
+{}

@@ -1,0 +1,31 @@
+use crate::copying::Copying;
+use crate::name::Name;
+use crate::roster::Named;
+use crate::value_texts::ValueTexts;
+use std::alloc::{AllocError, Global};
+
+/// A named table of texts for values, that stands for itself: signals have lists of their own.
+#[derive(Debug, PartialEq, Eq, Drop)]
+pub struct ValueTable {
+    /// The table's name.
+    pub name: Name,
+    /// The values with their texts.
+    pub entries: ValueTexts,
+}
+
+impl Named for ValueTable {
+    ghost name_of = { λ table. table.name };
+
+    fn name(&self) -> &Name {
+        &self.name
+    }
+}
+
+impl Copying for ValueTable {
+    fn duplicate(&self, alloc: Global) -> Result<Self, AllocError> {
+        Ok(ValueTable {
+            name: self.name.duplicate(alloc)?,
+            entries: self.entries.duplicate(alloc)?,
+        })
+    }
+}

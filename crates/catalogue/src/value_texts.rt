@@ -1,0 +1,91 @@
+//! Texts for values of a signal.
+ghost use Rattle.std.specs.Prelude.{◌≡◌, ◌≤◌, [], length, SomeIff};
+ghost use Rattle.catalogue.specs.Limits.{value_text_limit};
+
+use crate::copying::{Copying, duplicates};
+use crate::items::Items;
+use crate::text::Text;
+use decimal::Decimal;
+use std::alloc::{AllocError, Global};
+use std::marker::Model;
+
+/// A value, and the text that stands for it.
+#[derive(Debug, PartialEq, Eq, Drop)]
+pub struct ValueText {
+    /// The value.
+    pub value: Decimal,
+    /// The text.
+    pub text: Text,
+}
+
+impl Copying for ValueText {
+    fn duplicate(&self, alloc: Global) -> Result<Self, AllocError> {
+        Ok(ValueText {
+            value: self.value,
+            text: self.text.duplicate(alloc)?,
+        })
+    }
+}
+
+/// The greatest number of texts in one list of them.
+pub const VALUE_TEXT_LIMIT: usize = 65_536;
+
+/// At most 65,536 values with their texts, in the order in which they are written; a value may stand there twice.
+/// Contracts see it as the list of them.
+#[derive(Debug, PartialEq, Eq, Drop)]
+pub struct ValueTexts {
+    entries: Items<ValueText>,
+}
+
+impl Model for ValueTexts {
+    ghost use Rattle.std.specs.Prelude.{◌≤◌, List, length};
+    ghost use Rattle.catalogue.specs.Limits.{value_text_limit};
+    ghost use Rattle.catalogue.specs.declared.value_texts.ValueText.{ValueText};
+
+    ghost Value = { List ValueText };
+
+    ghost view = { λ texts. texts.entries };
+
+    ghost invariant = { λ texts. length texts.entries ≤ value_text_limit };
+
+    ghost inverse = { λ entries. record { entries = entries } };
+}
+
+impl ValueTexts {
+    /// No texts. Takes no memory.
+    pub fn empty(alloc: Global) -> ValueTexts
+        ensures { result ≡ [] }
+    {
+        ValueTexts {
+            entries: Items::new(alloc),
+        }
+    }
+
+    /// The list of these entries, or `None` where they are more than 65,536. Takes no memory.
+    pub fn of(entries: Vec<ValueText>) -> Option<ValueTexts>
+        ensures { SomeIff result (length entries.items ≤ value_text_limit) entries.items }
+    {
+        if entries.len() > VALUE_TEXT_LIMIT {
+            return None;
+        }
+        Some(ValueTexts {
+            entries: Items::from_vec(entries),
+        })
+    }
+
+    /// The entries, in order.
+    pub fn as_slice(&self) -> &[ValueText]
+        ensures entries { result.now ≡ self.now }
+        ensures few { length self.now ≤ value_text_limit }
+    {
+        self.entries.as_slice()
+    }
+}
+
+impl Copying for ValueTexts {
+    fn duplicate(&self, alloc: Global) -> Result<Self, AllocError> {
+        Ok(ValueTexts {
+            entries: self.entries.duplicate(alloc)?,
+        })
+    }
+}

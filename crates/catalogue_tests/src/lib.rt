@@ -1,0 +1,13 @@
+//! Tests of sheets and their parts.
+#![tactic(auto)]
+
+#[cfg(test)]
+mod clear;
+#[cfg(test)]
+mod limits;
+#[cfg(test)]
+mod made;
+#[cfg(test)]
+mod parts;
+#[cfg(test)]
+mod sheets;

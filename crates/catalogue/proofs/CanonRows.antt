@@ -14,7 +14,8 @@ use Rattle.catalogue.specs.declared.message.Message.{Message}
 use Rattle.catalogue.specs.declared.sheet.Sheet.{Sheet}
 use Rattle.catalogue.specs.declared.signal.Signal.{Signal}
 use Rattle.catalogue.specs.declared.value_texts.ValueText.{ValueText}
-use Rattle.catalogue.specs.declared.value_type.ValueType.TheVariants.{Integer}
+use Rattle.catalogue.specs.declared.value_type.ValueType.{ValueType}
+use Rattle.catalogue.specs.declared.value_type.ValueType.TheVariants.{Integer, Float, Double}
 
 abbrev lines : List (List ℕ) → List ℕ
 lines ls = flat_map (λ l. l ++ 10 ∷ []) ls
@@ -127,3 +128,56 @@ row_engine : canonical_text engine_sheet ≡ lines (
     ∷ codes "BA_ \"SPN\" SG_ 2364540158 Temp 500;" ∷ [])
 unfolding unsigned_text digits
 row_engine = refl
+
+abbrev labelled : List ℕ → ℕ → ℕ → ValueType → Signal
+labelled name start spn value_type = record {
+  name = name;
+  layout = record { start = start; size = 32; order = Intel };
+  signed = false;
+  mux = Always;
+  factor = record { mantissa = pos 1; exponent = pos 21 };
+  offset = record { mantissa = negsuc 6; exponent = negsuc 20 };
+  minimum = whole 0;
+  maximum = whole 0;
+  unit = [];
+  receivers = [];
+  comment = [];
+  spn = spn;
+  values = [];
+  value_type = value_type;
+}
+
+abbrev labelled_sheet : Sheet
+labelled_sheet = record {
+  version = [];
+  comment = codes "of the file";
+  nodes = record { name = codes "ECU"; comment = codes "a node" } ∷ record { name = codes "Dash"; comment = [] } ∷ [];
+  tables = record { name = codes "Empty"; entries = [] } ∷ [];
+  messages = record {
+    ident = Std 7;
+    name = codes "A";
+    length = 64;
+    transmitter = None;
+    comment = [];
+    signals = labelled (codes "F") 0 1 Float ∷ labelled (codes "I") 32 0 Integer ∷ labelled (codes "D") 64 524287 Double ∷ [];
+  } ∷ [];
+}
+
+-- comments of the file and of a node, an empty table, powers of ten past 20, two suspect parameter numbers and two value types
+row_labelled : canonical_text labelled_sheet ≡ lines (
+    codes "VERSION \"\"" ∷ codes "NS_ :" ∷ codes "BS_:" ∷ codes "BU_: ECU Dash"
+    ∷ codes "VAL_TABLE_ Empty ;"
+    ∷ codes "BO_ 7 A: 64 Vector__XXX"
+    ∷ codes " SG_ F : 0|32@1+ (1E21,-7E-21) [0|0] \"\" Vector__XXX"
+    ∷ codes " SG_ I : 32|32@1+ (1E21,-7E-21) [0|0] \"\" Vector__XXX"
+    ∷ codes " SG_ D : 64|32@1+ (1E21,-7E-21) [0|0] \"\" Vector__XXX"
+    ∷ codes "CM_ \"of the file\";"
+    ∷ codes "CM_ BU_ ECU \"a node\";"
+    ∷ codes "BA_DEF_ SG_ \"SPN\" INT 0 524287;"
+    ∷ codes "BA_DEF_DEF_ \"SPN\" 0;"
+    ∷ codes "BA_ \"SPN\" SG_ 7 F 1;"
+    ∷ codes "BA_ \"SPN\" SG_ 7 D 524287;"
+    ∷ codes "SIG_VALTYPE_ 7 F : 1;"
+    ∷ codes "SIG_VALTYPE_ 7 D : 2;" ∷ [])
+unfolding unsigned_text digits
+row_labelled = refl

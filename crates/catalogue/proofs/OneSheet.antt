@@ -14,6 +14,6 @@ one_sheet statements s t a b =
     let nodes : s.nodes ≡ t.nodes = a.nodes ∙ sym b.nodes in
     let tables : s.tables ≡ t.tables = a.tables ∙ sym b.tables in
     let messages : s.messages ≡ t.messages =
-    one_rising number_of s.messages t.messages a.well_formed.together.rise b.well_formed.together.rise
+    one_rising number_of s.messages t.messages a.is_sheet.well_formed.together.rise b.is_sheet.well_formed.together.rise
     (IsPermutation-trans s.messages (map (whole_message statements) (messages_of statements)) t.messages (IsPermutation-sym _ _ a.messages) b.messages) in
     λ i. record { version = version i; comment = comment i; nodes = nodes i; tables = tables i; messages = messages i }

@@ -2,9 +2,15 @@
 use Rattle.std.proofs.Common.{◌≡◌, ℕ, zero, suc, ◌≤◌, ◌<◌, Bool, true, false, List, [], ◌∷◌, ◌++◌, length, Some, None, refl, sym, ap, ◌∙◌, append_assoc, arith}
 use Rattle.std.specs.Option.{option_and_then}
 use Rattle.std.proofs.lemmas.List.{append-nil}
-use Rattle.catalogue.specs.Parsing.{Parsed, many_by, many_at, with_front}
-use Rattle.catalogue.specs.Rules.{Rule}
+use Rattle.catalogue.specs.Fields.{is_key, goes_on}
+use Rattle.catalogue.specs.Grammar.{is_open}
+use Rattle.catalogue.specs.Parsing.{Parsed, many_by, many_at, with_front, entry_at, further_at, signal_at, statement_at, is_more}
+use Rattle.catalogue.specs.Rules.{Rule, starts}
 use Rattle.catalogue.specs.Token.{Token}
+use Rattle.catalogue.specs.declared.keyword.Keyword.TheVariants.{Signal}
+use Rattle.catalogue.proofs.Divisions.{statements_repeat}
+use Rattle.catalogue.proofs.ExactFields.{entries_repeat, further_repeats}
+use Rattle.catalogue.proofs.ExactLines.{signals_repeat}
 use Rattle.catalogue.proofs.Exactness.{Repeats}
 
 -- reading one takes tokens, and where there are none the test says that there is none
@@ -60,3 +66,17 @@ module _ {A : Type 0} {test : List Token → Bool} {p : List Token → Parsed A}
   pub breaks_off : (front : List A) (ts : List Token) (total : Parsed (List A)) → test ts ≡ true → p ts ≡ None → with_front front (many_at test p ts) ≡ total → total ≡ None
   breaks_off front [] total e f h = absurd (let w = takes.ends in cc)
   breaks_off front (t ∷ ts) total e f h = sym h ∙ rw (e, f) refl
+
+-- What is read one after the other in a file.
+
+pub entries_take : Takes (starts is_open) entry_at
+entries_take = repeats_take entries_repeat refl
+
+pub further_take : Takes goes_on further_at
+further_take = repeats_take further_repeats refl
+
+pub signals_take : Takes (starts (is_key Signal)) signal_at
+signals_take = repeats_take signals_repeat refl
+
+pub statements_take : Takes is_more statement_at
+statements_take = repeats_take statements_repeat refl

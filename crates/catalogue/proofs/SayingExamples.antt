@@ -1,6 +1,7 @@
 -- What some statements say: examples that compute, each the answer that the rules of DBC text give by hand.
-use Rattle.std.proofs.Common.{◌≡◌, ℕ, false, List, [], ◌∷◌, map, Some, None, codes, refl, arith, true≢false}
-use Rattle.std.specs.List.{IsDistinct, flat_map}
+use Rattle.std.proofs.Common.{◌≡◌, ◌<◌, ◌≤◌, ◌%◌, ◌^◌, ℕ, ap, false, List, [], ◌∷◌, map, Some, None, codes, refl, arith, true≢false}
+use Rattle.std.specs.List.{AllByRecursion, IsDistinct, flat_map}
+use Rattle.std.proofs.lemmas.List.Elements.{All-from_recursion}
 use Rattle.std.specs.List.Sorted.{IsStrictlySortedBy}
 use Rattle.std.specs.Str.{bytes_eq}
 use Rattle.std.proofs.lemmas.List.Sorted.{IsPermutation-sym}
@@ -9,9 +10,11 @@ use Rattle.bitlayout.specs.declared.layout.Layout.{Layout}
 use Rattle.bitlayout.specs.declared.layout.Order.TheVariants.{Intel}
 use Rattle.bitlayout.specs.declared.place.Mux.TheVariants.{Always}
 use Rattle.can_id.specs.declared.ident.Ident.TheVariants.{Std, Ext}
-use Rattle.decimal.specs.Number.{Number}
+use Rattle.decimal.specs.Number.{Number, IsDecimal}
 use Rattle.std.specs.Prelude.{pos}
+use Rattle.catalogue.specs.Form.{IsMessage, IsNode, IsSheet, IsSignal, IsTable, IsValueText}
 use Rattle.catalogue.specs.Messages.{message_name}
+use Rattle.catalogue.specs.Name.{IsName, is_name}
 use Rattle.catalogue.specs.Named.{AreNamedApart}
 use Rattle.catalogue.specs.Saying.{Says, ident_of_number, last_in, messages_of, passed_by, version_in, comment_in, whole_message, whole_node, node_names_of}
 use Rattle.catalogue.specs.Statement.{
@@ -47,7 +50,9 @@ use Rattle.catalogue.specs.declared.message.Message.{Message as WholeMessage}
 use Rattle.catalogue.specs.declared.sheet.Sheet.{Sheet}
 use Rattle.catalogue.specs.declared.signal.Signal.{Signal}
 use Rattle.catalogue.specs.declared.value_type.ValueType.TheVariants.{Integer, Double}
+use Rattle.catalogue.specs.Text.{IsText}
 use Rattle.catalogue.proofs.Naming.{bytes_eq-flip}
+use Rattle.catalogue.proofs.Texts.{text-Decides}
 
 -- The statements of a file with two messages: 500 with the signals Speed and Torque, and 100 with Speed alone.
 
@@ -151,11 +156,13 @@ absent =
     ∷ at 60 Comment (MessageCommentIs None (codes "no message has such a number"))
     ∷ at 70 AttributeValue (SpnIs (Some 100) (codes "Speed") 84)
     ∷ at 80 AttributeValue (SpnIs (Some 100) (codes "Torque") 513)
+    ∷ at 85 Comment (SignalCommentIs (Some 100) (codes "Torque") (codes "absent"))
+    ∷ at 87 SignalValueType (ValueTypeIs (Some 101) (codes "Speed") Double)
     ∷ at 90 AttributeDefinition PassedOver
     ∷ at 100 ValueTexts (ValueTextsAre None (codes "Speed") []) ∷ []
 
 absent_are_passed : passed_by absent
-    ≡ (40, Comment) ∷ (50, Comment) ∷ (60, Comment) ∷ (80, AttributeValue) ∷ (90, AttributeDefinition) ∷ (100, ValueTexts) ∷ []
+    ≡ (40, Comment) ∷ (50, Comment) ∷ (60, Comment) ∷ (80, AttributeValue) ∷ (85, Comment) ∷ (87, SignalValueType) ∷ (90, AttributeDefinition) ∷ (100, ValueTexts) ∷ []
 absent_are_passed = refl
 
 absent_say_nothing : map (λ (s : Signal). s.spn) (signals_said absent) ≡ 84 ∷ []
@@ -207,9 +214,39 @@ sheet = record {
       ∷ message_with 500 (codes "Engine") (signal_with (codes "Speed") 0 (codes "last") ∷ signal_with (codes "Torque") 8 [] ∷ []) ∷ [];
 }
 
-says_the_sheet : Says commented sheet
-unfolding IsDistinct IsStrictlySortedBy
-says_the_sheet = record {
+-- that it is a sheet: the forms of its parts, and what they keep together
+whole_decimal : (n : ℕ) → n < 10 ^ 36 → (n % 10 ≡ 0 → n ≡ 0) → IsDecimal (number n)
+whole_decimal n few h = record { digits = few; range = record { low = omega arith; high = omega arith }; stripped = λ e. (ap pos (h e), refl) }
+
+plain_signal : (name : List ℕ) (start : ℕ) (comment : List ℕ) → IsName name → start ≤ 65535 → IsText comment → IsSignal (signal_with name start comment)
+plain_signal name start comment named within text = record {
+  named = named;
+  layout = record { start = within; least = omega arith; most = omega arith };
+  mux = tt;
+  factor = whole_decimal 1 (omega arith) (λ e. absurd (omega (arith, e)));
+  offset = whole_decimal 0 (omega arith) (λ e. refl);
+  minimum = whole_decimal 0 (omega arith) (λ e. refl);
+  maximum = whole_decimal 255 (omega arith) (λ e. absurd (omega (arith, e)));
+  unit = (text-Decides []).0 refl;
+  receivers = All-from_recursion IsName [] tt;
+  comment = text;
+  spn = omega arith;
+  values = All-from_recursion IsValueText [] tt;
+}
+
+plain_message : (n : ℕ) (name : List ℕ) (signals : List Signal) → n ≤ 2047 → IsName name → AllByRecursion IsSignal signals → IsMessage (message_with n name signals)
+plain_message n name signals low named each = record {
+  ident = low;
+  named = named;
+  length = omega arith;
+  transmitter = tt;
+  comment = (text-Decides []).0 refl;
+  signals = All-from_recursion IsSignal signals each;
+}
+
+is_a_sheet : IsSheet sheet
+unfolding IsDistinct IsStrictlySortedBy is_name
+is_a_sheet = record {
   well_formed = record {
     nodes = record { apart = tt; few = omega arith };
     tables = record { apart = tt; few = omega arith };
@@ -226,6 +263,25 @@ says_the_sheet = record {
       ),
     );
   };
+  version = (text-Decides []).0 refl;
+  comment = (text-Decides []).0 refl;
+  nodes = All-from_recursion IsNode [] tt;
+  tables = All-from_recursion IsTable [] tt;
+  messages = All-from_recursion IsMessage sheet.messages (
+    plain_message 100 (codes "Wheel") (signal_with (codes "Speed") 0 [] ∷ []) (omega arith) refl (plain_signal (codes "Speed") 0 [] refl (omega arith) ((text-Decides []).0 refl), tt),
+    (
+      plain_message 500 (codes "Engine") (signal_with (codes "Speed") 0 (codes "last") ∷ signal_with (codes "Torque") 8 [] ∷ []) (omega arith) refl (
+        plain_signal (codes "Speed") 0 (codes "last") refl (omega arith) ((text-Decides (codes "last")).0 refl),
+        (plain_signal (codes "Torque") 8 [] refl (omega arith) ((text-Decides []).0 refl), tt),
+      ),
+      tt,
+    ),
+  );
+}
+
+says_the_sheet : Says commented sheet
+says_the_sheet = record {
+  is_sheet = is_a_sheet;
   version = refl;
   comment = refl;
   nodes = refl;
@@ -242,5 +298,5 @@ unfolding twice IsDistinct
 twice_says_none s says =
     let apart : AreNamedApart message_name (map (whole_message twice) (messages_of twice)) =
     IsDistinct-IsPermutation (λ a b. bytes_eq (message_name a) (message_name b)) (λ a b. bytes_eq-flip a.name b.name) s.messages _
-    (IsPermutation-sym _ _ says.messages) says.well_formed.together.apart in
+    (IsPermutation-sym _ _ says.messages) says.is_sheet.well_formed.together.apart in
     true≢false apart.0.0

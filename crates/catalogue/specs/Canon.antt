@@ -10,6 +10,7 @@ use Rattle.bitlayout.specs.declared.place.Mux.{Mux}
 use Rattle.bitlayout.specs.declared.place.Mux.TheVariants.{Always, Multiplexor, Under}
 use Rattle.decimal.specs.Number.{Number}
 use Rattle.decimal.specs.Printing.{unsigned_text}
+use Rattle.catalogue.specs.Limits.{spn_limit}
 use Rattle.catalogue.specs.Messages.{number_of}
 use Rattle.catalogue.specs.Name.{no_node}
 use Rattle.catalogue.specs.ValueType.{value_type_number}
@@ -146,7 +147,7 @@ spn_lines m s = if s.spn == 0 then [] else
 -- BA_DEF_ SG_ "SPN" INT 0 524287; and BA_DEF_DEF_ "SPN" 0; before the first of them
 abbrev pub spn_definitions : List Line
 spn_definitions =
-    (word tight (codes "BA_DEF_") ∷ word space (codes "SG_") ∷ quoted space (codes "SPN") ∷ word space (codes "INT") ∷ number space 0 ∷ number space 524287 ∷ mark tight 59 ∷ [])
+    (word tight (codes "BA_DEF_") ∷ word space (codes "SG_") ∷ quoted space (codes "SPN") ∷ word space (codes "INT") ∷ number space 0 ∷ number space spn_limit ∷ mark tight 59 ∷ [])
     ∷ (word tight (codes "BA_DEF_DEF_") ∷ quoted space (codes "SPN") ∷ number space 0 ∷ mark tight 59 ∷ []) ∷ []
 
 abbrev pub defined : List Line → List Line

@@ -95,7 +95,7 @@ NumbersAreIdentifiers = (n : ℕ) → Decides (is_dbc_number n) ((ident : Ident)
 abbrev pub message_number : Token → Option ℕ
 message_number t = whole_where is_dbc_number t
 
--- the number of the message that holds the signals of no message, which no identifier has
+-- the number of the message that holds the signals of no message; no identifier has it
 abbrev pub independent_number : Token → Option ℕ
 independent_number t = whole_where (λ n. n == 3221225472) t
 
@@ -130,11 +130,12 @@ abbrev pub under_of : List ℕ → Option Mux
 under_of [] = None
 under_of (b ∷ digits) = if b == 109 then option_map Under (whole_of digits) else None
 
--- the multiplexer indicator of a signal: `M`, or `m` and digits
+-- the multiplexer indicator of a signal: `M`, or `m` and digits up to 4294967295, with leading zeros or without; in
+-- the profile there is none for multiplexing in several steps, `m`, digits and `M`
 abbrev pub mux_of : Token → Option Mux
 mux_of t = if is_a Name t then (if bytes_eq t.text (codes "M") then Some Multiplexor else under_of t.text) else None
 
--- a number token, negated or not, that is a decimal
+-- a number token, negated or not, that has a decimal's value: the decimal, so that `1.0` and `1` say the same
 abbrev pub number_of : Bool → Token → Option Number
 number_of negative t = if is_a NumberKind t then result_ok (reading negative t.text) else None
 

@@ -21,7 +21,7 @@ use Rattle.catalogue.specs.declared.token.TokenKind.TheVariants.{Name, Number, T
 
 -- What may follow a statement.
 
--- a keyword other than `SG_`: any of them, also those that are passed over, and the one that begins no statement
+-- a keyword other than `SG_`: any of them, also those that are passed over, and `SG_MUL_VAL_`, which begins no statement
 abbrev pub begins_next : Token → Bool
 begins_next t = is_some (key_of t) && not (is_key Signal t)
 
@@ -151,7 +151,7 @@ value_texts_line = do
   end ← mark (codes ";")
   done (ValueTextsAre number name entries)
 
--- `SIG_VALTYPE_ number name [:] type ;`: in the profile the colon may be left out, or stand there
+-- `SIG_VALTYPE_ number name [:] type ;`: in the profile with the colon or without
 unfoldable pub value_type_line : Rule Content
 value_type_line = do
   number ← token cited_number
@@ -223,7 +223,7 @@ independent_line = do
 unfoldable pub comment_line : Rule Content
 comment_line = either file_comment (either node_comment (either message_comment (either signal_comment passed_comment)))
 
--- behind the other keywords
+-- behind the other keywords, of which none is kept
 abbrev pub other_line : KeywordGroup → Rule Content
 other_line Passed = passed_line
 other_line Refused = nothing

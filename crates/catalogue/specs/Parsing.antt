@@ -1,5 +1,6 @@
 -- Statements computed: each rule of the fields and the statements as a function from tokens to what they begin with
--- and the tokens behind it. For whoever reads by functions; that these are the rules is a law.
+-- and the tokens behind it. For whoever reads by functions: that they find the
+-- division of a file, where it has one, is a law.
 use Rattle.std.specs.Prelude.{ℕ, zero, suc, Bool, true, false, not, List, [], ◌∷◌, ◌++◌, length, filter_map, Option, Some, None, option_and_then}
 use Rattle.std.specs.Prelude.{unwrap_or, if◌then◌else◌, codes}
 use Rattle.bitlayout.specs.declared.layout.Layout.{Layout}
@@ -59,6 +60,10 @@ many_by test parse (suc n) ts =
 -- as long as the test says that another one stands there
 abbrev pub many_at : {A : Type 0} → (List Token → Bool) → (List Token → Parsed A) → List Token → Parsed (List A)
 many_at test parse ts = many_by test parse (length ts) ts
+
+-- what a loop has read so far, and what it still reads
+abbrev pub with_front : {A : Type 0} → List A → Parsed (List A) → Parsed (List A)
+with_front front o = option_and_then (λ b. Some (front ++ b.0, b.1)) o
 
 -- the first of two where the test holds, and else the second
 abbrev pub either_at : {A : Type 0} → (List Token → Bool) → (List Token → Parsed A) → (List Token → Parsed A) → List Token → Parsed A
@@ -357,7 +362,3 @@ all_of (ss, t ∷ ts) = None
 
 unfoldable pub statements_at : List Token → Option (List Statement)
 statements_at ts = many_at is_more statement_at ts >>= all_of
-
--- what a loop has read so far, and what it still reads
-abbrev pub with_front : {A : Type 0} → List A → Parsed (List A) → Parsed (List A)
-with_front front o = option_and_then (λ b. Some (front ++ b.0, b.1)) o

@@ -31,6 +31,7 @@ use Rattle.std.specs.Option.{option_map}
 use Rattle.std.specs.Str.{bytes_eq}
 use Rattle.can_id.specs.declared.ident.Ident.{Ident}
 use Rattle.can_id.specs.declared.ident.Ident.TheVariants.{Std, Ext}
+use Rattle.catalogue.specs.Form.{IsSheet}
 use Rattle.catalogue.specs.Statement.{
   Cited,
   Content,
@@ -50,7 +51,6 @@ use Rattle.catalogue.specs.Statement.{
   SignalLine,
   Statement,
 }
-use Rattle.catalogue.specs.WellFormed.{IsWellFormed}
 use Rattle.catalogue.specs.declared.keyword.Keyword.{Keyword}
 use Rattle.catalogue.specs.declared.message.Message.{Message}
 use Rattle.catalogue.specs.declared.node.Node.{Node}
@@ -222,10 +222,10 @@ is_passed statements content = false
 abbrev pub passed_by : List Statement → List (ℕ × Keyword)
 passed_by statements = map (λ (s : Statement). (s.start, s.keyword)) (filter (λ (s : Statement). is_passed statements s.content) statements)
 
--- The statements say the sheet: it is well formed, its version and comment are the last ones, its nodes and tables are
+-- The statements say the sheet: it is one, well formed and each part in its form, its version and comment are the last ones, its nodes and tables are
 -- theirs in their order, and its messages are theirs, each once, whichever order they stand in.
 pub record Says (statements : List Statement) (s : Sheet) : Type 0 where
-  pub well_formed : IsWellFormed s
+  pub is_sheet : IsSheet s
   pub version : s.version ≡ last_in [] version_in statements
   pub comment : s.comment ≡ last_in [] comment_in statements
   pub nodes : s.nodes ≡ map (whole_node statements) (node_names_of statements)

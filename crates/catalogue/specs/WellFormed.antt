@@ -1,6 +1,6 @@
 -- Well-formed sheets (Vector's DBC File Format Documentation, in the limits of this project's profile): names and
--- numbers that are unique, lists that are not too long. The forms of names and texts and the ranges of numbers are not
--- said here, since the types of a sheet's parts keep them; nor is it said that signals lie clear of one another.
+-- numbers that are unique, lists that are not too long. The forms of names and texts and the ranges of numbers are said
+-- in `Form`; that signals lie clear of one another is no part of it.
 use Rattle.std.specs.Prelude.{ℕ, ◌≤◌, List, length}
 use Rattle.std.specs.List.{AllByRecursion}
 use Rattle.catalogue.specs.Limits.{roster_limit, value_text_limit}

@@ -93,7 +93,8 @@ impl From<AllocError> for SheetCode {
 pub struct SheetFault {
     /// What is wrong.
     pub code: SheetCode,
-    /// The DBC number of the message, 0 where the fault is about a node or a value table.
+    /// The DBC number of the message, 0 where the fault is about a node or a value table, or where memory was refused
+    /// while a sheet was asked whether it is clear.
     pub number: u32,
 }
 
@@ -123,6 +124,12 @@ impl fmt::Display for SheetCode {
 impl Error for SheetCode {}
 
 impl fmt::Display for SheetFault {
+    ghost use Rattle.std.specs.Prelude.{codes, ◌++◌};
+    ghost use Rattle.std.specs.Fmt.{decimal};
+    ghost use Rattle.catalogue.specs.Fault.{code_name};
+
+    ghost output = { λ fault. Some (code_name fault.code ++ codes " at message " ++ decimal fault.number) };
+
     fn fmt<W: fmt::Write>(&self, f: &mut fmt::Formatter<W>) -> fmt::Result {
         write!(f, "{} at message {}", self.code, self.number)
     }

@@ -4,7 +4,8 @@ ghost use Rattle.std.specs.Str.{bytes_eq};
 /// What the office does with a statement that begins with a keyword.
 #[derive(Clone, Copy, Debug, PartialEq, Eq)]
 pub enum KeywordGroup {
-    /// The statement is read and its content kept.
+    /// The statement is read. Most of what it says is kept; `NS_` and `BS_` say nothing that is, and a few forms are passed
+    /// over and reported.
     Kept,
     /// The statement is passed over and reported.
     Passed,

@@ -1,4 +1,4 @@
-//! Texts for values of a signal.
+//! Texts for the values of a signal, or of a value table.
 ghost use Rattle.std.specs.Prelude.{◌≡◌, ◌≤◌, [], length, SomeIff};
 ghost use Rattle.catalogue.specs.Limits.{value_text_limit};
 

@@ -270,10 +270,12 @@ messages : AreAll (
     ∷ bare (codes "m1") 0 64 Motorola true (Under 7) ∷ [])))) ∷
     is (codes "BO_ 1 A : 8 Vector__XXX SG_ M m4294967295 : 65535 | 8 @ 1 + ( 1 , 0 ) [ 0 | 0 ] \"\" VERSION \"\"")
     (starting 0 Message (MessageIs (message 1 (codes "A") 8 None (bare (codes "M") 65535 8 Intel false (Under 4294967295) ∷ [])))
-    ∷ starting 27 Version (VersionIs []) ∷ []) ∷ [])
+    ∷ starting 27 Version (VersionIs []) ∷ []) ∷
+    is (codes "BO_ 1 A : 8 Vector__XXX SG_ B m" ++ replicate 128 48 ++ codes "7 : 63 | 1 @ 1 + ( 1 , 0 ) [ 0 | 0 ] \"\"")
+    (one Message (MessageIs (message 1 (codes "A") 8 None (bare (codes "B") 63 1 Intel false (Under 7) ∷ [])))) ∷ [])
 unfolding statements_at statement_at line_at message_at signals_at signal_at layout_at pair_at decimal_at nodes_at some_names_at
     no_names_at further_at reading cut is_name version_at
-messages = are (refl, (refl, (refl, (refl, tt))))
+messages = are (refl, (refl, (refl, (refl, (refl, tt)))))
 
 no_messages : IsntAny (
     codes "BO_ 2048 A : 8 ECU" ∷
@@ -328,10 +330,12 @@ comments : AreAll (
     is (codes "CM_ BO_ 007 \"a\" ;") (one Comment (MessageCommentIs (Some 7) (codes "a"))) ∷
     is (codes "CM_ BO_ 4294967296 \"a\" ;") (one Comment (MessageCommentIs None (codes "a"))) ∷
     is (codes "CM_ SG_ 7 S \"a\" ;") (one Comment (SignalCommentIs (Some 7) (codes "S") (codes "a"))) ∷
+    is (codes "CM_ SG_ 7 BO_ \"a\" ;") (one Comment (SignalCommentIs (Some 7) (codes "BO_") (codes "a"))) ∷
+    is (codes "CM_ BU_ " ++ replicate 129 65 ++ codes " \"a\" ;") (one Comment (NodeCommentIs (replicate 129 65) (codes "a"))) ∷
     is (codes "CM_ EV_ E \"a\" ;") (one Comment PassedOver) ∷ [])
 unfolding statements_at statement_at line_at comment_at file_comment_at node_comment_at message_comment_at signal_comment_at
     passed_comment_at skipped_at
-comments = are (refl, (refl, (refl, (refl, (refl, (refl, tt))))))
+comments = are (refl, (refl, (refl, (refl, (refl, (refl, (refl, (refl, tt))))))))
 
 no_comments : IsntAny (
     codes "CM_ VERSION \"a\" ;" ∷
@@ -350,10 +354,11 @@ value_texts : AreAll (
     is (codes "VAL_ 7 S ;") (one ValueTexts (ValueTextsAre (Some 7) (codes "S") [])) ∷
     is (codes "VAL_ 7 S 0 \"off\" 1 \"on\" ;")
     (one ValueTexts (ValueTextsAre (Some 7) (codes "S") (says (decimal 0 (pos 0)) (codes "off") ∷ says (decimal 1 (pos 0)) (codes "on") ∷ []))) ∷
+    is (codes "VAL_ 7 VERSION ;") (one ValueTexts (ValueTextsAre (Some 7) (codes "VERSION") [])) ∷
     is (codes "VAL_ CM_ 0 0 ;") (one ValueTexts PassedOver) ∷ [])
 unfolding statements_at statement_at line_at value_texts_at passed_value_texts_at skipped_at entries_at entry_at decimal_at reading
     cut
-value_texts = are (refl, (refl, (refl, tt)))
+value_texts = are (refl, (refl, (refl, (refl, tt))))
 
 no_value_texts : IsntAny (
     codes "VAL_ \"a\" ;" ∷
@@ -368,9 +373,10 @@ no_value_texts = isnt refl
 
 value_types : AreAll (
     is (codes "SIG_VALTYPE_ 7 S : 1 ;") (one SignalValueType (ValueTypeIs (Some 7) (codes "S") Float)) ∷
-    is (codes "SIG_VALTYPE_ 7 S 02 ;") (one SignalValueType (ValueTypeIs (Some 7) (codes "S") Double)) ∷ [])
+    is (codes "SIG_VALTYPE_ 7 S 02 ;") (one SignalValueType (ValueTypeIs (Some 7) (codes "S") Double)) ∷
+    is (codes "SIG_VALTYPE_ 7 CM_ 1 ;") (one SignalValueType (ValueTypeIs (Some 7) (codes "CM_") Float)) ∷ [])
 unfolding statements_at statement_at line_at value_type_at
-value_types = are (refl, (refl, tt))
+value_types = are (refl, (refl, (refl, tt)))
 
 no_value_types : IsntAny (
     codes "SIG_VALTYPE_ 7 S : 3 ;" ∷
@@ -385,10 +391,12 @@ no_value_types = isnt refl
 attributes : AreAll (
     is (codes "BA_ \"SPN\" SG_ 7 S 524287 ;") (one AttributeValue (SpnIs (Some 7) (codes "S") 524287)) ∷
     is (codes "BA_ \"SPN\" SG_ 7 S 524288 ;") (one AttributeValue PassedOver) ∷
+    is (codes "BA_ \"SPN\" SG_ 7 CM_ 5 ;") (one AttributeValue (SpnIs (Some 7) (codes "CM_") 5)) ∷
+    is (codes "BA_ \"SPN\" SG_ 7.0 S 5 ;") (one AttributeValue PassedOver) ∷
     is (codes "BA_ \"SPN\" BO_ 7 5 ;") (one AttributeValue PassedOver) ∷
     is (codes "BA_ \"Cycle\" BO_ 7 100 ;") (one AttributeValue PassedOver) ∷ [])
 unfolding statements_at statement_at line_at spn_at skipped_at
-attributes = are (refl, (refl, (refl, (refl, tt))))
+attributes = are (refl, (refl, (refl, (refl, (refl, (refl, tt))))))
 
 no_attributes : IsntAny (
     codes "BA_ \"SPN\" SG_ 7 S 500" ∷

@@ -7,6 +7,7 @@ use can_id::Ident;
 use catalogue::{
     Items, Message, Name, PayloadLength, Sheet, Signal, Signals, Spn, Text, ValueTexts, ValueType,
 };
+use dbc_write::text_of;
 use decimal::Decimal;
 use std::alloc::Global;
 use std::io;
@@ -134,10 +135,20 @@ fn finding<R: Runtime>(rt: &R, sheet: &Sheet) -> io::Result<()> {
     Ok(())
 }
 
+/// Writes the sheet's text.
+fn writing<R: Runtime>(rt: &R, alloc: Global, sheet: &Sheet) -> io::Result<()> {
+    let begin = Instant::now(rt)?;
+    let text = text_of(alloc, sheet)?;
+    eprintln!(rt; "written: {} microseconds", begin.elapsed(rt)?.as_micros())?;
+    println!(rt; "text of {} bytes", text.len())?;
+    Ok(())
+}
+
 fn main(rt: HostRuntime) -> io::Result<()> {
     let alloc = rt.alloc();
     let rising = building(&rt, alloc, "16,384 messages in rising order", 16_384, 8, 1)?;
     using(&rt, alloc, &rising)?;
+    writing(&rt, alloc, &rising)?;
     building(&rt, alloc, "8,192 messages in rising order", 8_192, 8, 1)?;
     building(&rt, alloc, "16,384 messages in no order", 16_384, 8, 7_919)?;
     building(&rt, alloc, "48 messages of 4,096 signals", 48, 4_096, 1)?;

@@ -5,3 +5,5 @@ pub mod Replies
 pub mod Performed
 pub mod WrongWords
 pub mod Commands
+pub mod PassedLines
+pub mod OfFile

@@ -6,7 +6,7 @@ use Rattle.clap.specs.Simple.{on_top}
 use Rattle.clap.specs.declared.error.kind.ErrorKind.{ErrorKind}
 use Rattle.clap.specs.declared.error.kind.ErrorKind.TheVariants.{DisplayHelp, OutOfMemory}
 use Rattle.canoffice_cli.specs.declared.job.Job.{Job}
-use Rattle.canoffice_cli.specs.declared.job.Job.TheVariants.{Apply, Chart}
+use Rattle.canoffice_cli.specs.declared.job.Job.TheVariants.{Apply, Chart, Check, Format}
 use Rattle.canoffice_cli.specs.declared.job.LineFault.{LineFault}
 use Rattle.canoffice_cli.specs.declared.job.LineFault.TheVariants.{Help, Usage, Memory}
 
@@ -28,13 +28,25 @@ apply_app = with_rule (new_app (codes "apply")) (required_word (codes "SCRIPT"))
 abbrev pub chart_app : App
 chart_app = with_rule (with_rule (new_app (codes "chart")) (required_word (codes "LENGTH"))) (required_words (codes "SIGNAL"))
 
+-- check FILE
+abbrev pub check_app : App
+check_app = with_rule (new_app (codes "check")) (required_word (codes "FILE"))
+
+-- format FILE
+abbrev pub format_app : App
+format_app = with_rule (new_app (codes "format")) (required_word (codes "FILE"))
+
 -- some subcommand has to be named, and no word at all is answered by the help
 abbrev pub wants_subcommand : App → App
 wants_subcommand = on_top (λ s. record s { subcommand_required = true; arg_required_else_help = true })
 
--- canoffice apply .., canoffice chart ..
+-- canoffice apply .., canoffice chart .., canoffice check .., canoffice format ..
 abbrev pub canoffice_app : App
-canoffice_app = with_subcommand (with_subcommand (wants_subcommand (new_app (codes "canoffice"))) apply_app.top) chart_app.top
+canoffice_app =
+    let to_apply = with_subcommand (wants_subcommand (new_app (codes "canoffice"))) apply_app.top in
+    let to_chart = with_subcommand to_apply chart_app.top in
+    let to_check = with_subcommand to_chart check_app.top in
+    with_subcommand to_check format_app.top
 
 -- the kinds of fault that clap finds in the words
 abbrev pub line_faults : List Text → Kinds
@@ -55,6 +67,8 @@ abbrev pub IsJobOf : Job → Text → List Row → Type 0
 IsJobOf (Apply script) name rows = (name ≡ codes "apply") × HasValue rows (codes "SCRIPT") script.now
 IsJobOf (Chart length signals) name rows =
     (name ≡ codes "chart") × HasValue rows (codes "LENGTH") length.now × HasValues rows (codes "SIGNAL") (map (λ s. s.now) signals.items)
+IsJobOf (Check file) name rows = (name ≡ codes "check") × HasValue rows (codes "FILE") file.now
+IsJobOf (Format file) name rows = (name ≡ codes "format") × HasValue rows (codes "FILE") file.now
 
 -- the job of the subcommand that was found, with its values
 abbrev pub IsJobIn : Option (Text × List Row) → Job → Type 0

@@ -5,10 +5,12 @@ use Rattle.canoffice_cli.specs.Holding.{Holding, unknown, absent, holding}
 use Rattle.canoffice_cli.specs.Outcome.{Outcome, memory_lost, printed, refused, unreadable}
 use Rattle.canoffice_cli.specs.Applied.{IsScriptOutcome}
 use Rattle.canoffice_cli.specs.Charted.{IsChartOutcome}
+use Rattle.canoffice_cli.specs.Checked.{IsCheckOutcome}
+use Rattle.canoffice_cli.specs.Formatted.{IsFormatOutcome}
 use Rattle.canoffice_cli.specs.Delivery.{IsDelivered, Writing}
 use Rattle.canoffice_cli.specs.declared.report.Status.{Status}
 use Rattle.canoffice_cli.specs.declared.job.Job.{Job}
-use Rattle.canoffice_cli.specs.declared.job.Job.TheVariants.{Apply, Chart}
+use Rattle.canoffice_cli.specs.declared.job.Job.TheVariants.{Apply, Chart, Check, Format}
 use Rattle.canoffice_cli.specs.declared.job.LineFault.{LineFault}
 use Rattle.canoffice_cli.specs.declared.job.LineFault.TheVariants.{Help, Usage, Memory}
 
@@ -26,6 +28,8 @@ IsOfFile IsOf path (holding bytes) o = IsOf bytes o
 abbrev pub IsDone : Files → Job → Outcome → Type 0
 IsDone files (Apply script) o = IsOfFile IsScriptOutcome script.now (files script.now) o
 IsDone files (Chart length signals) o = IsChartOutcome length.now (map (λ s. s.now) signals.items) o
+IsDone files (Check file) o = IsOfFile IsCheckOutcome file.now (files file.now) o
+IsDone files (Format file) o = IsOfFile IsFormatOutcome file.now (files file.now) o
 
 -- what words that are no job come to: the text of their fault
 abbrev pub IsFaultAnswer : LineFault → Outcome → Type 0

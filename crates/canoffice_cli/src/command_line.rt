@@ -3,7 +3,7 @@
 ghost use Rattle.std.specs.Prelude.{◌≡◌, IfOk, false};
 ghost use Rattle.clap.specs.Words.{app_of, rule_of};
 ghost use Rattle.clap.specs.declared.builder.command.Command.TheViews.{out-Command as fields_of};
-ghost use Rattle.canoffice_cli.specs.CommandLine.{apply_app, canoffice_app, chart_app, required_word, required_words};
+ghost use Rattle.canoffice_cli.specs.CommandLine.{apply_app, canoffice_app, chart_app, check_app, format_app, required_word, required_words};
 
 use clap::{Arg, Command};
 use std::alloc::{AllocError, Global};
@@ -51,6 +51,30 @@ fn chart_command<'a>(alloc: Global) -> Result<Command<'a>, AllocError>
     Ok(chart)
 }
 
+// `check FILE`
+fn check_command<'a>(alloc: Global) -> Result<Command<'a>, AllocError>
+    ensures app { IfOk result (λ c. app_of c ≡ check_app) }
+    ensures local { IfOk result (λ c. (fields_of c).has_globals ≡ false) }
+{
+    let named = Command::new(alloc, "check").about(
+        "Says what of a DBC file is passed over, and whether its sheet is clear",
+    );
+    let check = named.arg(required(alloc, "FILE", "The DBC file"))?;
+    Ok(check)
+}
+
+// `format FILE`
+fn format_command<'a>(alloc: Global) -> Result<Command<'a>, AllocError>
+    ensures app { IfOk result (λ c. app_of c ≡ format_app) }
+    ensures local { IfOk result (λ c. (fields_of c).has_globals ≡ false) }
+{
+    let named = Command::new(alloc, "format").about(
+        "Prints the canonical text of what a DBC file says",
+    );
+    let format = named.arg(required(alloc, "FILE", "The DBC file"))?;
+    Ok(format)
+}
+
 /// The program's command line with all its subcommands, of which one has to be named.
 pub fn canoffice_command<'a>(alloc: Global) -> Result<Command<'a>, AllocError>
     ensures app { IfOk result (λ c. app_of c ≡ canoffice_app) }
@@ -62,5 +86,7 @@ pub fn canoffice_command<'a>(alloc: Global) -> Result<Command<'a>, AllocError>
     let wanting = named.subcommand_required(true).arg_required_else_help(true);
     let with_apply = wanting.subcommand(apply_command(alloc)?)?;
     let with_chart = with_apply.subcommand(chart_command(alloc)?)?;
-    Ok(with_chart)
+    let with_check = with_chart.subcommand(check_command(alloc)?)?;
+    let with_format = with_check.subcommand(format_command(alloc)?)?;
+    Ok(with_format)
 }

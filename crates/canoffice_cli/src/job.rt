@@ -20,6 +20,14 @@ pub enum Job<'a> {
         length: &'a str,
         signals: Vec<&'a str>,
     },
+    /// Check the DBC text in the file of this name.
+    Check {
+        file: &'a str,
+    },
+    /// Print the DBC text in the file of this name anew.
+    Format {
+        file: &'a str,
+    },
 }
 
 /// Why the words of the command line are no job.
@@ -45,7 +53,10 @@ pub fn job_of<'a>(alloc: Global, words: &'a [&'a str]) -> Result<Job<'a>, LineFa
         return Err(LineFault::Memory);
     };
     match command.try_get_matches_from(words) {
-        Ok(matches) => job_in(alloc, &matches).ok_or(LineFault::Memory),
+        Ok(matches) => match job_in(alloc, &matches) {
+            Some(job) => Ok(job),
+            None => Err(LineFault::Memory),
+        },
         Err(error) => Err(line_fault(alloc, &error)),
     }
 }
@@ -90,6 +101,12 @@ fn job_in<'a>(alloc: Global, matches: &ArgMatches<'a>) -> Option<Job<'a>>
     if name == "chart" {
         return chart_job(alloc, found);
     }
+    if name == "check" {
+        return check_job(found);
+    }
+    if name == "format" {
+        return format_job(found);
+    }
     None
 }
 
@@ -111,4 +128,22 @@ fn chart_job<'a>(alloc: Global, found: &ArgMatches<'a>) -> Option<Job<'a>>
     let words = found.get_strs("SIGNAL")?;
     let signals = Vec::from_slice(alloc, words).ok()?;
     Some(Job::Chart { length, signals })
+}
+
+// `check FILE`
+#[tactic(auto, using(crate::proofs::CommandLine::value_in_rows))]
+fn check_job<'a>(found: &ArgMatches<'a>) -> Option<Job<'a>>
+    ensures { IfSome result (λ job. IsJobOf job (codes "check") (rows_of (found_of found.now))) }
+{
+    let file = found.get_str("FILE")?;
+    Some(Job::Check { file })
+}
+
+// `format FILE`
+#[tactic(auto, using(crate::proofs::CommandLine::value_in_rows))]
+fn format_job<'a>(found: &ArgMatches<'a>) -> Option<Job<'a>>
+    ensures { IfSome result (λ job. IsJobOf job (codes "format") (rows_of (found_of found.now))) }
+{
+    let file = found.get_str("FILE")?;
+    Some(Job::Format { file })
 }

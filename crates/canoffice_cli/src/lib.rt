@@ -12,17 +12,21 @@
 
 mod apply;
 mod charting;
+mod checking;
 mod command_line;
 mod delivery;
 mod files;
+mod formatting;
 mod job;
 mod program;
 mod report;
 
 pub use apply::apply_script;
 pub use charting::chart_report;
+pub use checking::check_report;
 pub use delivery::{deliver, told};
 pub use files::{FileFault, FileSource, HostFiles, ListedFiles, NamedFile};
+pub use formatting::format_report;
 pub use job::{Job, LineFault, job_of, words_not_text};
 pub use program::{fault_report, perform, report_of};
 pub use report::{LOST_MEMORY, Report, Status, bad_line, bad_word, cannot_read, help, usage};

@@ -1,12 +1,18 @@
 //! A run of the program, from its words to its exit status.
-ghost use Rattle.std.specs.Prelude.{IfOk, map};
-ghost use Rattle.canoffice_cli.specs.Outcome.{outcome_of};
-ghost use Rattle.canoffice_cli.specs.Performance.{IsAnswered, IsDone, IsFaultAnswer, IsPerformed};
+ghost use Rattle.std.specs.Prelude.{◌≡◌, IfOk, map};
+ghost use Rattle.canoffice_cli.specs.Applied.{IsScriptOutcome};
+ghost use Rattle.canoffice_cli.specs.Checked.{IsCheckOutcome};
+ghost use Rattle.canoffice_cli.specs.Formatted.{IsFormatOutcome};
+ghost use Rattle.canoffice_cli.specs.Outcome.{outcome_of, unreadable};
+ghost use Rattle.canoffice_cli.specs.declared.files.FileFault.TheVariants.{Unreadable};
+ghost use Rattle.canoffice_cli.specs.Performance.{IsAnswered, IsDone, IsFaultAnswer, IsOfFile, IsPerformed};
 
 use crate::apply::apply_script;
 use crate::charting::chart_report;
+use crate::checking::check_report;
 use crate::delivery::told;
 use crate::files::{FileFault, FileSource};
+use crate::formatting::format_report;
 use crate::job::{Job, LineFault, job_of};
 use crate::report::{Report, Status, cannot_read, help, usage};
 use std::alloc::{AllocError, Global};
@@ -52,6 +58,43 @@ pub fn fault_report(alloc: Global, fault: LineFault) -> Result<Report, AllocErro
     }
 }
 
+// The report that the file can't be read; none where that was for want of memory.
+fn unread(alloc: Global, file: &str, fault: FileFault) -> Result<Report, AllocError>
+    ensures { IfOk result (λ report. (fault ≡ Unreadable) × (outcome_of report ≡ unreadable file.now)) }
+{
+    match fault {
+        FileFault::Unreadable => cannot_read(alloc, file),
+        FileFault::Memory => Err(AllocError),
+    }
+}
+
+fn apply_file<F: FileSource>(alloc: Global, file: &str, files: &F) -> Result<Report, AllocError>
+    ensures { IfOk result (λ report. IsOfFile IsScriptOutcome file.now (F.held files.now file.now) (outcome_of report)) }
+{
+    match files.read(alloc, file) {
+        Ok(bytes) => apply_script(alloc, &bytes),
+        Err(fault) => unread(alloc, file, fault),
+    }
+}
+
+fn check_file<F: FileSource>(alloc: Global, file: &str, files: &F) -> Result<Report, AllocError>
+    ensures { IfOk result (λ report. IsOfFile IsCheckOutcome file.now (F.held files.now file.now) (outcome_of report)) }
+{
+    match files.read(alloc, file) {
+        Ok(bytes) => check_report(alloc, &bytes),
+        Err(fault) => unread(alloc, file, fault),
+    }
+}
+
+fn format_file<F: FileSource>(alloc: Global, file: &str, files: &F) -> Result<Report, AllocError>
+    ensures { IfOk result (λ report. IsOfFile IsFormatOutcome file.now (F.held files.now file.now) (outcome_of report)) }
+{
+    match files.read(alloc, file) {
+        Ok(bytes) => format_report(alloc, &bytes),
+        Err(fault) => unread(alloc, file, fault),
+    }
+}
+
 /// The report on the job that is done.
 pub fn report_of<F: FileSource>(
     alloc: Global,
@@ -61,11 +104,9 @@ pub fn report_of<F: FileSource>(
     ensures { IfOk result (λ report. IsDone (F.held files.now) job.now (outcome_of report)) }
 {
     match job {
-        Job::Apply { script } => match files.read(alloc, script) {
-            Ok(bytes) => apply_script(alloc, &bytes),
-            Err(FileFault::Unreadable) => cannot_read(alloc, script),
-            Err(FileFault::Memory) => Err(AllocError),
-        },
+        Job::Apply { script } => apply_file(alloc, script, files),
         Job::Chart { length, signals } => chart_report(alloc, length, signals),
+        Job::Check { file } => check_file(alloc, file, files),
+        Job::Format { file } => format_file(alloc, file, files),
     }
 }

@@ -6,7 +6,7 @@ mod NameSets
 mod Rosters
 mod Places
 mod Naming
-mod Refusals
+pub mod Refusals
 mod Switches
 mod Clearness
 mod MessageRules
@@ -23,11 +23,11 @@ pub mod SheetSaid
 mod TokenRuns
 mod TokenBytes
 mod TokenNumbers
-mod TokenTexts
+pub mod TokenTexts
 mod TokenWords
-mod TokensOnce
+pub mod TokensOnce
 mod TokenReading
-mod TokenExact
+pub mod TokenExact
 mod TokenSlices
 mod TokenExamples
 pub mod TokenSteps

@@ -49,7 +49,9 @@ pub use keyed::{Keyed, Slot, put_item, slot_of};
 pub use keyword::{Keyword, KeywordGroup};
 pub use message::Message;
 pub use messages::MESSAGE_LIMIT;
-pub use name::{Name, continues_identifier, is_c_identifier, is_name, starts_identifier};
+pub use name::{
+    NAME_LIMIT, NO_NODE, Name, continues_identifier, is_c_identifier, is_name, starts_identifier,
+};
 pub use node::Node;
 pub use numbers::whole_number;
 pub use payload::PayloadLength;

@@ -4,6 +4,8 @@
 #[cfg(test)]
 mod charts;
 #[cfg(test)]
+mod dbc_files;
+#[cfg(test)]
 mod parts;
 #[cfg(test)]
 mod scripts;

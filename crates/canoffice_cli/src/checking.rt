@@ -1,0 +1,109 @@
+//! Checks of DBC texts.
+ghost use Rattle.std.specs.Prelude.{◌≡◌, [], IfOk, map, string_bytes};
+ghost use Rattle.canoffice_cli.specs.Outcome.{outcome_of};
+ghost use Rattle.canoffice_cli.specs.Checked.{clear_line, fault_line, found, passed_lines, signal_count, unclear_line, IsCheckOutcome, IsVerdict};
+ghost use Rattle.dbc_read.specs.Passed.{mentioned};
+
+use crate::report::{Report, Status};
+use catalogue::{Message, Sheet, SheetCode, SheetFault};
+use dbc_read::{Passed, ReadCode, ReadFault, Reading, read};
+use std::alloc::{AllocError, Global};
+
+/// The statements that are passed over, a line each.
+fn passed_lines(alloc: Global, passed: &[Passed]) -> Result<Vec<u8>, AllocError>
+    ensures { IfOk result (λ text. text.items ≡ passed_lines (map mentioned passed.now)) }
+{
+    let mut text = Vec::new(alloc);
+    for statement in passed {
+        let line = format!(in alloc; "passed {} {}\n", statement.at, statement.keyword.text())?;
+        text.extend_from_slice(line.as_bytes())?;
+    }
+    Ok(text)
+}
+
+/// How many signals the sheet's messages have together.
+fn signal_count(sheet: &Sheet) -> usize
+    ensures { result ≡ signal_count sheet.now.messages }
+{
+    let mut count = 0usize;
+    for message in sheet.messages() {
+        count += message.signals.as_slice().len();
+    }
+    count
+}
+
+fn clear_line(alloc: Global, sheet: &Sheet) -> Result<String, AllocError>
+    ensures { IfOk result (λ line. string_bytes line ≡ clear_line sheet.now) }
+{
+    format!(in alloc; "ok {} {}\n", sheet.messages().len(), signal_count(sheet))
+}
+
+fn unclear_line(alloc: Global, fault: SheetFault) -> Result<String, AllocError>
+    ensures { IfOk result (λ line. string_bytes line ≡ unclear_line fault) }
+{
+    let code = fault.code;
+    format!(in alloc; "unclear {} {code} {}\n", code.number(), fault.number)
+}
+
+/// The line that tells of a fault of reading.
+pub(crate) fn fault_line(alloc: Global, fault: ReadFault) -> Result<Vec<u8>, AllocError>
+    ensures { IfOk result (λ line. line.items ≡ fault_line fault) }
+{
+    let code = fault.code;
+    let line = format!(in alloc; "fault {} {code} {}\n", code.number(), fault.at)?;
+    Ok(line.into_bytes())
+}
+
+/// The verdict on the sheet: what was passed over, and whether the sheet is clear.
+fn verdict(alloc: Global, reading: &Reading) -> Result<Report, AllocError>
+    ensures { IfOk result (λ report. IsVerdict reading.now.sheet (map mentioned reading.now.passed) (outcome_of report)) }
+{
+    let mut output = passed_lines(alloc, reading.passed.as_slice())?;
+    match reading.sheet.is_clear(alloc) {
+        Ok(()) => {
+            let line = clear_line(alloc, &reading.sheet)?;
+            output.extend_from_slice(line.as_bytes())?;
+            Ok(told(alloc, output, Status::Success))
+        }
+        Err(
+            SheetFault {
+                code: SheetCode::Memory,
+                ..
+            },
+        ) => Err(AllocError),
+        Err(fault) => {
+            let line = unclear_line(alloc, fault)?;
+            output.extend_from_slice(line.as_bytes())?;
+            Ok(told(alloc, output, Status::FaultFound))
+        }
+    }
+}
+
+/// The check of the DBC text: a line for each statement that is passed over, and then `ok` with the counts of messages
+/// and signals, or `unclear` with the first fault of the sheet; or `fault` alone with why and where the text reads as no
+/// sheet. The status is `Success` for `ok`, and else `FaultFound`.
+pub fn check_report(alloc: Global, source: &[u8]) -> Result<Report, AllocError>
+    ensures { IfOk result (λ report. IsCheckOutcome source.now (outcome_of report)) }
+{
+    match read(alloc, source) {
+        Ok(reading) => verdict(alloc, &reading),
+        Err(fault) => match fault.code {
+            ReadCode::Memory => Err(AllocError),
+            _ => {
+                let line = fault_line(alloc, fault)?;
+                Ok(told(alloc, line, Status::FaultFound))
+            }
+        },
+    }
+}
+
+/// This text on standard output, and nothing on standard error.
+fn told(alloc: Global, output: Vec<u8>, status: Status) -> Report
+    ensures { outcome_of result ≡ record { output = output.items; errors = []; status = status } }
+{
+    Report {
+        output,
+        errors: Vec::new(alloc),
+        status,
+    }
+}

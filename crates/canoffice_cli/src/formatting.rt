@@ -1,0 +1,38 @@
+//! DBC texts written anew.
+ghost use Rattle.std.specs.Prelude.{IfOk};
+ghost use Rattle.canoffice_cli.specs.Outcome.{outcome_of};
+ghost use Rattle.canoffice_cli.specs.Formatted.{IsFormatOutcome};
+
+use crate::checking::fault_line;
+use crate::report::{Report, Status};
+use dbc_read::{ReadCode, read};
+use dbc_write::text_of;
+use std::alloc::{AllocError, Global};
+
+/// The canonical text of the sheet that the DBC text reads as, clear or not; or, where it reads as none, why and where
+/// on standard error, with the status `FaultFound`.
+pub fn format_report(alloc: Global, source: &[u8]) -> Result<Report, AllocError>
+    ensures { IfOk result (λ report. IsFormatOutcome source.now (outcome_of report)) }
+{
+    match read(alloc, source) {
+        Ok(reading) => {
+            let output = text_of(alloc, &reading.sheet)?;
+            Ok(Report {
+                output,
+                errors: Vec::new(alloc),
+                status: Status::Success,
+            })
+        }
+        Err(fault) => match fault.code {
+            ReadCode::Memory => Err(AllocError),
+            _ => {
+                let line = fault_line(alloc, fault)?;
+                Ok(Report {
+                    output: Vec::new(alloc),
+                    errors: line,
+                    status: Status::FaultFound,
+                })
+            }
+        },
+    }
+}

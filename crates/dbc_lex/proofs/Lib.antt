@@ -1,0 +1,2 @@
+mod Insides
+mod Reading

@@ -1,0 +1,4 @@
+pub mod Fault
+pub mod Seen
+pub mod First
+pub mod Next

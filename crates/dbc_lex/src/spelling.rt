@@ -1,0 +1,156 @@
+//! How many bytes a gap or a token takes, where it begins.
+ghost use Rattle.std.specs.Prelude.{◌≡◌, ◌≤◌, ◌<◌, length, false, IfSome};
+ghost use Rattle.std.specs.Char.{is_ascii_digit};
+ghost use Rattle.std.specs.List.{prefix_len};
+ghost use Rattle.decimal.specs.Cutting.{fraction_len};
+ghost use Rattle.catalogue.specs.Name.{continues_identifier};
+ghost use Rattle.catalogue.specs.Spelling.{is_gap, is_mark};
+ghost use Rattle.catalogue.specs.Lexing.{power_len, exponent_len, number_len, inside_len, kind_of, word_len};
+
+use catalogue::{TokenKind, continues_identifier, starts_identifier};
+
+fn is_gap(byte: u8) -> bool
+    ensures { result ≡ is_gap byte }
+{
+    matches!(byte, 9..=13 | 32)
+}
+
+fn is_mark(byte: u8) -> bool
+    ensures { result ≡ is_mark byte }
+{
+    matches!(
+        byte,
+        b':' | b';' | b',' | b'|' | b'@' | b'(' | b')' | b'[' | b']' | b'+' | b'-'
+    )
+}
+
+/// How many gap bytes stand in front.
+pub(crate) fn gap_len(bytes: &[u8]) -> usize
+    ensures is { result ≡ prefix_len is_gap bytes.now }
+    ensures within { result ≤ length bytes.now }
+{
+    bytes.iter().take_while(|byte| is_gap(**byte)).count()
+}
+
+fn name_len(bytes: &[u8]) -> usize
+    ensures is { result ≡ prefix_len continues_identifier bytes.now }
+    ensures within { result ≤ length bytes.now }
+{
+    bytes
+        .iter()
+        .take_while(|byte| continues_identifier(**byte))
+        .count()
+}
+
+fn digits_len(bytes: &[u8]) -> usize
+    ensures is { result ≡ prefix_len is_ascii_digit bytes.now }
+    ensures within { result ≤ length bytes.now }
+{
+    bytes
+        .iter()
+        .take_while(|byte| byte.is_ascii_digit())
+        .count()
+}
+
+/// The length of a point and the digits behind it, 0 where no point stands in front.
+fn fraction_len(bytes: &[u8]) -> usize
+    ensures is { result ≡ fraction_len bytes.now }
+    ensures within { result ≤ length bytes.now }
+{
+    match bytes {
+        [b'.', rest @ ..] => 1 + digits_len(rest),
+        _ => 0,
+    }
+}
+
+/// The length of the digits behind an exponent's letter with their sign, 0 where there are none.
+#[tactic(auto, unfolding(catalogue::specs::Lexing::power_len))]
+fn power_len(bytes: &[u8]) -> usize
+    ensures is { result ≡ power_len bytes.now }
+    ensures within { result ≤ length bytes.now }
+{
+    match bytes {
+        [b'+' | b'-', rest @ ..] => match digits_len(rest) {
+            0 => 0,
+            digits => 1 + digits,
+        },
+        _ => digits_len(bytes),
+    }
+}
+
+/// The length of an exponent with its letter, 0 where there is none.
+#[tactic(auto, unfolding(catalogue::specs::Lexing::exponent_len))]
+fn exponent_len(bytes: &[u8]) -> usize
+    ensures is { result ≡ exponent_len bytes.now }
+    ensures within { result ≤ length bytes.now }
+{
+    match bytes {
+        [b'E' | b'e', rest @ ..] => match power_len(rest) {
+            0 => 0,
+            power => 1 + power,
+        },
+        _ => 0,
+    }
+}
+
+#[tactic(auto, unfolding(catalogue::specs::Lexing::number_len, catalogue::specs::Lexing::tail_len))]
+fn number_len(bytes: &[u8]) -> usize
+    ensures is { result ≡ number_len bytes.now }
+    ensures within { result ≤ length bytes.now }
+{
+    let whole = digits_len(bytes);
+    let rest = &bytes[whole..];
+    let fraction = fraction_len(rest);
+    whole + (fraction + exponent_len(&rest[fraction..]))
+}
+
+/// How many bytes stand before the quote that ends a text, where the bytes begin behind its opening quote; `None` where
+/// no quote ends it. A backslash takes the next byte with it.
+fn inside_len(bytes: &[u8]) -> Option<usize>
+    ensures is { result ≡ inside_len false bytes.now }
+    ensures within { IfSome result (λ n. n < length bytes.now) }
+{
+    let mut taken = false;
+    for (n, byte) in bytes.iter().enumerate() {
+        if taken {
+            taken = false;
+        } else if *byte == b'"' {
+            return Some(n);
+        } else {
+            taken = *byte == b'\\';
+        }
+    }
+    None
+}
+
+/// The kind of the tokens that begin with the byte, `None` where none does.
+pub(crate) fn kind_of(byte: u8) -> Option<TokenKind>
+    ensures { result ≡ kind_of byte }
+{
+    if starts_identifier(byte) {
+        Some(TokenKind::Name)
+    } else if byte.is_ascii_digit() {
+        Some(TokenKind::Number)
+    } else if byte == b'"' {
+        Some(TokenKind::Text)
+    } else if is_mark(byte) {
+        Some(TokenKind::Mark)
+    } else {
+        None
+    }
+}
+
+/// How many bytes the token of the kind takes that begins with the first byte; `None` for a text that no quote ends.
+#[tactic(auto, unfolding(catalogue::specs::Lexing::word_len))]
+pub(crate) fn word_len(kind: TokenKind, bytes: &[u8]) -> Option<usize>
+    requires { 1 ≤ length bytes.now }
+    ensures is { result ≡ word_len kind bytes.now }
+    ensures within { IfSome result (λ n. n ≤ length bytes.now) }
+{
+    match kind {
+        TokenKind::Name => Some(name_len(bytes)),
+        TokenKind::Number => Some(number_len(bytes)),
+        TokenKind::Text => Some(inside_len(&bytes[1..])? + 2),
+        TokenKind::Mark => Some(1),
+    }
+}

@@ -1,0 +1,10 @@
+-- Equality of bytes goes both ways.
+use Rattle.std.proofs.Common.{◌≡◌, ◌&&◌, ℕ, List, [], ◌∷◌, refl}
+use Rattle.std.specs.Str.{bytes_eq}
+use Rattle.catalogue.proofs.SheetSaid.{nat_flip}
+
+pub bytes_flip : (xs ys : List ℕ) → bytes_eq xs ys ≡ bytes_eq ys xs
+bytes_flip [] [] = refl
+bytes_flip [] (y ∷ ys) = refl
+bytes_flip (x ∷ xs) [] = refl
+bytes_flip (x ∷ xs) (y ∷ ys) = λ i. nat_flip x y i && bytes_flip xs ys i

@@ -1,0 +1,13 @@
+pub mod Steps
+pub mod Views
+pub mod Noting
+pub mod Laws
+pub mod Refused
+pub mod SignalsFit
+pub mod Bytes
+pub mod SheetsFit
+pub mod Putting
+pub mod Lines
+pub mod Unsaid
+pub mod Passing
+pub mod Divided

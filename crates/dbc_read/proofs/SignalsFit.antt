@@ -1,0 +1,53 @@
+-- Signals that can't stand in one message.
+use Rattle.std.proofs.Common.{◌≡◌, ◌∙◌, ◌&&◌, ◌||◌, Bool, true, false, List, [], ◌∷◌, ◌++◌, refl, sym, subst}
+use Rattle.std.specs.List.{AllByRecursion, list_any}
+use Rattle.std.specs.Str.{bytes_eq}
+use Rattle.catalogue.specs.Fault.{IsRefusal}
+use Rattle.catalogue.specs.Limits.{roster_limit}
+use Rattle.catalogue.specs.Refusing.{first_refusal}
+use Rattle.catalogue.specs.Signals.{AreSignals, are_switched, is_switch, signal_name, signal_tests}
+use Rattle.catalogue.specs.WellFormed.{AreFewTexts}
+use Rattle.catalogue.specs.declared.fault.SheetCode.{SheetCode}
+use Rattle.catalogue.specs.declared.signal.Signal.{Signal}
+use Rattle.dbc_read.specs.Fit.{AreFit}
+use Rattle.dbc_read.specs.Refusal.{Unless, refusal_of}
+use Rattle.dbc_read.specs.declared.refusal.Refusal.{Refusal}
+use Rattle.dbc_read.proofs.Refused.{each_middle, none_before, refused, room, unless}
+
+other_switch : (s : Signal) (before : List Signal) → list_any (λ x. is_switch x && is_switch s) before ≡ false → (is_switch s && are_switched before) ≡ false
+other_switch s before h = by (is_switch s) before h
+  where
+    by : (b : Bool) (xs : List Signal) → list_any (λ x. is_switch x && b) xs ≡ false → (b && list_any is_switch xs) ≡ false
+    by true [] h = refl
+    by false [] h = refl
+    by false (x ∷ xs) h = refl
+    by true (x ∷ xs) h = all_true (x ∷ xs) ∙ h
+      where
+        all_true : (ys : List Signal) → list_any is_switch ys ≡ list_any (λ z. is_switch z && true) ys
+        all_true [] = refl
+        all_true (y ∷ ys) = λ i. and_true (is_switch y) i || all_true ys i
+          where
+            and_true : (a : Bool) → a ≡ (a && true)
+            and_true true = refl
+            and_true false = refl
+
+none_holds : (before : List Signal) (s : Signal) (after : List Signal) → AreSignals (before ++ s ∷ after) → AllByRecursion (λ t. t.holds ≡ false) (signal_tests before s)
+none_holds before s after h = (
+  room roster_limit before s after h.few,
+  (
+    none_before (λ a b. bytes_eq (signal_name a) (signal_name b)) before s after h.apart,
+    (other_switch s before (none_before (λ a b. is_switch a && is_switch b) before s after h.one_switch), tt),
+  ),
+)
+
+-- a signal that is refused behind others
+pub signal_refused : (before : List Signal) (s : Signal) (after whole : List Signal) (code : SheetCode) → before ++ s ∷ after ≡ whole
+    → IsRefusal (first_refusal (signal_tests before s)) code → Unless (refusal_of code) (AreFit whole → ⊥)
+signal_refused before s after whole code e is =
+    refused (signal_tests before s) code (AreFit whole) (λ fit. none_holds before s after (subst AreSignals (sym e) fit.together)) is
+
+-- a signal with too many texts for its values
+pub values_refused : (before : List Signal) (s : Signal) (after whole : List Signal) (refusal : Refusal) → before ++ s ∷ after ≡ whole
+    → Unless refusal (AreFewTexts s.values → ⊥) → Unless refusal (AreFit whole → ⊥)
+values_refused before s after whole refusal e h =
+    unless refusal _ _ (λ fit. each_middle (λ (x : Signal). AreFewTexts x.values) before s after (subst (AllByRecursion (λ (x : Signal). AreFewTexts x.values)) (sym e) fit.values)) h

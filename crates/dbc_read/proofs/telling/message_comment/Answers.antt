@@ -1,0 +1,14 @@
+use Rattle.std.proofs.Common.{◌≡◌, ◌∙◌, IfOk, ap, subst}
+use Rattle.std.specs.Option.{option_map}
+use Rattle.dbc_read.specs.Cited.{comment_of, content_at}
+use Rattle.dbc_read.specs.Told.{told}
+use Rattle.dbc_statements.specs.Said.{said}
+use Rattle.dbc_read.proofs.Laws.{message_comment_told}
+use Rattle.dbc_read.proofs.telling.message_comment.Goals as goal
+
+pub returns : goal.returns
+returns c =
+    let ss = said c.args.statements.now in
+    let e = ap comment_of (c.content_at-content.ensures ∙ ap (λ o. told (option_map (content_at ss) o)) c.get.ensures.value ∙ ap told (c.requires.message_comments c.args.number))
+    ∙ message_comment_told c.args.number ss in
+    subst (λ v. IfOk c.comment_in.result (λ t. t ≡ v)) e c.comment_in.ensures

@@ -1,0 +1,10 @@
+pub mod Refusal
+pub mod Seen
+pub mod Cited
+pub mod Attached
+pub mod Told
+pub mod Fit
+pub mod Sheets
+pub mod Present
+pub mod Passed
+pub mod Reading

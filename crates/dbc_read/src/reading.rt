@@ -1,0 +1,38 @@
+//! Reading a DBC text.
+ghost use Rattle.std.specs.Prelude.{IfErr, IfOk, map};
+ghost use Rattle.catalogue.specs.Reads.{ReadsAs};
+ghost use Rattle.dbc_lex.specs.Fault.{UnlessMemory};
+ghost use Rattle.dbc_read.specs.Passed.{mentioned};
+ghost use Rattle.dbc_read.specs.Reading.{ReadsAsNothing};
+
+use crate::passed::Passed;
+use crate::saying::sheet_of;
+use catalogue::{Items, Sheet};
+use dbc_lex::ReadFault;
+use dbc_statements::statements_of;
+use std::alloc::Global;
+
+/// What a DBC text says.
+#[derive(Debug, Drop)]
+pub struct Reading {
+    /// The sheet. It need not be clear.
+    pub sheet: Sheet,
+    /// The statements that are passed over, in the text's order.
+    pub passed: Items<Passed>,
+}
+
+/// The sheet that the text reads as, and the statements that it passes over. The grammar is that of Vector's DBC File
+/// Format Documentation, in this project's profile (docs/GRAMMAR.md).
+///
+/// A fault comes only where the text reads as no sheet, or where memory was refused. The first of these three that the
+/// text has is told: code 30 or 31 at the first place where no token begins; one of 32 to 39 at the first token at which
+/// no statement can go on, or at the text's length where it ends too early; and else 20, 21, 25 or 26 at the first item
+/// that can't stand in one sheet with those before it, or is above a limit.
+pub fn read(alloc: Global, source: &[u8]) -> Result<Reading, ReadFault>
+    ensures reads { IfOk result (λ reading. ReadsAs source.now reading.sheet (map mentioned reading.passed)) }
+    ensures none { IfErr result (λ fault. UnlessMemory fault.code (ReadsAsNothing source.now)) }
+{
+    let statements = statements_of(alloc, source)?;
+    let reading = sheet_of(alloc, &statements)?;
+    Ok(reading)
+}

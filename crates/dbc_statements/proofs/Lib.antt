@@ -1,0 +1,5 @@
+pub mod Spelled
+pub mod Rounds
+pub mod NameLists
+pub mod Skip
+pub mod Whole

@@ -1,0 +1,28 @@
+use Rattle.std.proofs.Common.{[], ◌∷◌, sym, ◌∙◌}
+use Rattle.std.proofs.lemmas.List.{map-append}
+use Rattle.std.proofs.lemmas.Result.{err_from_is_err_and}
+use Rattle.catalogue.specs.Parsing.{many_at, is_more, statement_at}
+use Rattle.catalogue.proofs.Repeating.{statements_take, goes_round}
+use Rattle.dbc_statements.specs.Said.{said, statement_of}
+use Rattle.dbc_statements.proofs.Rounds.{at_start}
+use Rattle.dbc_statements.proofs.Whole.{are_all, are_none}
+use Rattle.dbc_statements.proofs.reading.all.Goals as goal
+
+pub statements-init : goal.statements-init
+statements-init c = rw c.new-statements.ensures.items (at_start (many_at is_more statement_at c.args.tokens.now))
+
+pub statements-smaller : goal.statements-smaller
+statements-smaller c =
+    statements_take.shorter c.statements.tokens (statement_of c.in_ok-next.next, c.statement.new.tokens) (sym c.is_more.ensures ∙ c.statements-test.true) c.in_ok-next.ensures
+
+pub statements-preserved : goal.statements-preserved
+statements-preserved c =
+    rw (c.in_ok-push.ensures.items, map-append statement_of c.statements.statements.items (c.in_ok-next.next ∷ [])) (goes_round statements_take (said c.statements.statements.items) c.statements.tokens (statement_of c.in_ok-next.next, c.statement.new.tokens) _ (sym c.is_more.ensures ∙ c.statements-test.true) c.in_ok-next.ensures c.statements.invariant)
+
+pub returns-in_err-next-clause-err : goal.returns-in_err-next-clause-err
+returns-in_err-next-clause-err c =
+    let p = err_from_is_err_and c.from_residual.result c.from_residual.ensures.1 in
+    rw (p.1, p.2) (λ memory. are_none c.args.tokens.now c.statements.tokens (said c.statements.statements.items) c.statements.invariant (sym c.is_more.ensures ∙ c.statements-test.true) (c.in_err-next.ensures memory))
+
+pub returns-clause-ok : goal.returns-clause-ok
+returns-clause-ok c = are_all c.args.tokens.now c.statements.tokens (said c.statements.statements.items) c.statements.invariant (sym c.is_more.ensures ∙ c.statements-test.false)

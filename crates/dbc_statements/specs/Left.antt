@@ -1,0 +1,45 @@
+-- The tokens that are left of a text: the next one, and those that the lexer hasn't given yet.
+use Rattle.std.specs.Prelude.{◌≡◌, List, [], ◌∷◌, Option, Some, None, drop, ⊤}
+use Rattle.std.specs.List.{AllByRecursion}
+use Rattle.catalogue.specs.Lexing.{LexFault, Lexed}
+use Rattle.catalogue.specs.Spelling.{Spells}
+use Rattle.catalogue.specs.Token.{Token}
+use Rattle.catalogue.specs.TokenLaw.{all_read}
+use Rattle.dbc_lex.specs.Seen.{seen, fault_of}
+use Rattle.dbc_lex.specs.declared.fault.ReadFault.{ReadFault}
+use Rattle.dbc_lex.specs.declared.token.Token.{Token as TextToken}
+
+abbrev pub left : Option TextToken → Lexed → List Token
+left None lexer = lexer.tokens
+left (Some t) lexer = seen t ∷ lexer.tokens
+
+-- each is spelled as its kind is
+abbrev pub AreSpelled : List Token → Type 0
+AreSpelled tokens = AllByRecursion (λ (t : Token). Spells t.kind t.text) tokens
+
+-- no fault stands behind them, and the next one is in sight where there is one
+abbrev pub IsInSight : Option TextToken → Lexed → Type 0
+IsInSight None lexer = lexer ≡ all_read []
+IsInSight (Some t) lexer = lexer.fault ≡ None
+
+pub record AreLeft (next : Option TextToken) (lexer : Lexed) : Type 0 where
+  pub in_sight : IsInSight next lexer
+  pub spelled : AreSpelled (left next lexer)
+
+-- where there is one, it is spelled as its kind is
+abbrev pub IsSpelled : Option TextToken → Type 0
+IsSpelled None = ⊤
+IsSpelled (Some t) = Spells t.kind t.text.now
+
+-- this is the first of the tokens, or there is none
+abbrev pub IsFirst : List Token → Option TextToken → Type 0
+IsFirst tokens None = tokens ≡ []
+IsFirst tokens (Some t) = tokens ≡ seen t ∷ drop 1 tokens
+
+-- this is the one behind the first
+abbrev pub IsSecond : List Token → Option TextToken → Type 0
+IsSecond tokens second = IsFirst (drop 1 tokens) second
+
+-- reading ends with this fault
+abbrev pub EndsWith : Lexed → ReadFault → Type 0
+EndsWith read fault = (cause : LexFault) × (read.fault ≡ Some cause) × (fault ≡ fault_of cause)

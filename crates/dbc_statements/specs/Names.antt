@@ -1,0 +1,16 @@
+-- Names of lists, those that stand for no node left out.
+use Rattle.std.specs.Prelude.{ℕ, ◌++◌, List, Option, Some, option_and_then, option_map, filter_map}
+use Rattle.catalogue.specs.Parsing.{Parsed}
+use Rattle.dbc_statements.specs.declared.statement.NodeName.{NodeName}
+
+-- the name, where it stands for a node
+abbrev pub name_of : Option NodeName → Option (List ℕ)
+name_of o = option_map (λ (n : NodeName). n.name) o
+
+-- those that stand for nodes
+abbrev pub kept : List (Option (List ℕ)) → List (List ℕ)
+kept names = filter_map (λ name. name) names
+
+-- what a loop has kept so far, and what it still reads
+abbrev pub with_kept : List (List ℕ) → Parsed (List (Option (List ℕ))) → Parsed (List (List ℕ))
+with_kept front o = option_and_then (λ b. Some (front ++ kept b.0, b.1)) o

@@ -1,0 +1,101 @@
+//! What statements attach to signals: texts for their values, types, and suspect parameter numbers.
+ghost use Rattle.std.specs.Prelude.{◌≡◌, Some, codes};
+ghost use Rattle.catalogue.specs.Fields as fields;
+ghost use Rattle.catalogue.specs.Parsing.{either_at, mark_at, optional_at, or_else, passed_value_texts_at, skipped_at, spn_at, value_texts_at, value_type_at};
+ghost use Rattle.catalogue.specs.Rules.{begins, starts};
+ghost use Rattle.dbc_statements.specs.Reading.{Reads};
+ghost use Rattle.dbc_statements.specs.Said.{content_of};
+
+use crate::entries::entries;
+use crate::fields::{
+    attribute, begins_number, cited_name, cited_number, key, mark, spn, value_type,
+};
+use crate::passing::{passed_value_texts, skipped};
+use crate::statement::{CitedSignal, Content};
+use crate::tokens::Tokens;
+use crate::words::is_mark;
+use catalogue::Keyword;
+use dbc_lex::{ReadCode, ReadFault};
+use std::alloc::Global;
+
+#[tactic(auto, unfolding(catalogue::specs::Parsing::value_texts_at))]
+fn of_signal(alloc: Global, tokens: &mut Tokens) -> Result<Content, ReadFault>
+    ensures { Reads content_of result (value_texts_at tokens.old) tokens.new }
+{
+    let number = cited_number(tokens)?;
+    let name = cited_name(alloc, tokens)?;
+    let entries = entries(alloc, tokens)?;
+    mark(tokens, b';')?;
+    Ok(Content::ValueTexts(CitedSignal { number, name }, entries))
+}
+
+/// Behind `VAL_`.
+pub(crate) fn value_texts(alloc: Global, tokens: &mut Tokens) -> Result<Content, ReadFault>
+    ensures { Reads content_of result (either_at (begins fields.cited_number) value_texts_at passed_value_texts_at tokens.old) tokens.new }
+{
+    if begins_number(tokens) {
+        of_signal(alloc, tokens)
+    } else {
+        passed_value_texts(tokens)
+    }
+}
+
+/// A colon, where one stands there.
+#[tactic(auto, unfolding(catalogue::specs::Parsing::optional_at))]
+fn colon(tokens: &mut Tokens) -> Option<()>
+    ensures { optional_at (starts (fields.is_mark (codes ":"))) (mark_at (codes ":")) tokens.old ≡ Some (result, tokens.new) }
+{
+    match tokens.first() {
+        Some(token) if is_mark(&token, b':') => {
+            tokens.skip();
+            Some(())
+        }
+        _ => None,
+    }
+}
+
+/// Behind `SIG_VALTYPE_`.
+#[tactic(auto, unfolding(catalogue::specs::Parsing::value_type_at))]
+pub(crate) fn value_types(alloc: Global, tokens: &mut Tokens) -> Result<Content, ReadFault>
+    ensures { Reads content_of result (value_type_at tokens.old) tokens.new }
+{
+    let number = cited_number(tokens)?;
+    let name = cited_name(alloc, tokens)?;
+    colon(tokens);
+    let value_type = value_type(tokens)?;
+    mark(tokens, b';')?;
+    Ok(Content::ValueType(CitedSignal { number, name }, value_type))
+}
+
+#[tactic(auto, unfolding(catalogue::specs::Parsing::spn_at))]
+fn spn_of_signal(alloc: Global, tokens: &mut Tokens) -> Result<Content, ReadFault>
+    ensures { Reads content_of result (spn_at tokens.old) tokens.new }
+{
+    attribute(tokens)?;
+    key(tokens, Keyword::Signal)?;
+    let number = cited_number(tokens)?;
+    let name = cited_name(alloc, tokens)?;
+    let spn = spn(tokens)?;
+    mark(tokens, b';')?;
+    Ok(Content::Spn(CitedSignal { number, name }, spn))
+}
+
+/// Behind `BA_`: a suspect parameter number, or else anything up to `;`.
+pub(crate) fn attribute_value(alloc: Global, tokens: &mut Tokens) -> Result<Content, ReadFault>
+    ensures { Reads content_of result (or_else (spn_at tokens.old) (skipped_at tokens.old)) tokens.new }
+{
+    let mut ahead = tokens.fork();
+    match spn_of_signal(alloc, &mut ahead) {
+        Ok(content) => {
+            *tokens = ahead;
+            Ok(content)
+        }
+        Err(
+            ReadFault {
+                code: ReadCode::Memory,
+                ..
+            },
+        ) => Err(ReadFault::MEMORY),
+        Err(_) => skipped(tokens),
+    }
+}

@@ -1,0 +1,72 @@
+//! Comments.
+ghost use Rattle.std.specs.Prelude.{◌≡◌};
+ghost use Rattle.catalogue.specs.Fields as fields;
+ghost use Rattle.catalogue.specs.Parsing.{comment_at, file_comment_at, message_comment_at, node_comment_at, signal_comment_at};
+ghost use Rattle.dbc_statements.specs.Reading.{Reads};
+ghost use Rattle.dbc_statements.specs.Said.{content_of};
+
+use crate::fields::{cited_name, cited_number, key, mark, text};
+use crate::passing::passed_comment;
+use crate::statement::{CitedSignal, Content};
+use crate::tokens::Tokens;
+use crate::words::{is_key, is_text};
+use catalogue::Keyword;
+use dbc_lex::ReadFault;
+use std::alloc::Global;
+
+#[tactic(auto, unfolding(catalogue::specs::Parsing::file_comment_at))]
+fn of_file(alloc: Global, tokens: &mut Tokens) -> Result<Content, ReadFault>
+    ensures { Reads content_of result (file_comment_at tokens.old) tokens.new }
+{
+    let text = text(alloc, tokens)?;
+    mark(tokens, b';')?;
+    Ok(Content::Comment(text))
+}
+
+#[tactic(auto, unfolding(catalogue::specs::Parsing::node_comment_at))]
+fn of_node(alloc: Global, tokens: &mut Tokens) -> Result<Content, ReadFault>
+    ensures { Reads content_of result (node_comment_at tokens.old) tokens.new }
+{
+    key(tokens, Keyword::Nodes)?;
+    let node = cited_name(alloc, tokens)?;
+    let text = text(alloc, tokens)?;
+    mark(tokens, b';')?;
+    Ok(Content::NodeComment(node, text))
+}
+
+#[tactic(auto, unfolding(catalogue::specs::Parsing::message_comment_at))]
+fn of_message(alloc: Global, tokens: &mut Tokens) -> Result<Content, ReadFault>
+    ensures { Reads content_of result (message_comment_at tokens.old) tokens.new }
+{
+    key(tokens, Keyword::Message)?;
+    let number = cited_number(tokens)?;
+    let text = text(alloc, tokens)?;
+    mark(tokens, b';')?;
+    Ok(Content::MessageComment(number, text))
+}
+
+#[tactic(auto, unfolding(catalogue::specs::Parsing::signal_comment_at))]
+fn of_signal(alloc: Global, tokens: &mut Tokens) -> Result<Content, ReadFault>
+    ensures { Reads content_of result (signal_comment_at tokens.old) tokens.new }
+{
+    key(tokens, Keyword::Signal)?;
+    let number = cited_number(tokens)?;
+    let name = cited_name(alloc, tokens)?;
+    let text = text(alloc, tokens)?;
+    mark(tokens, b';')?;
+    Ok(Content::SignalComment(CitedSignal { number, name }, text))
+}
+
+/// Behind `CM_`.
+#[tactic(auto, unfolding(catalogue::specs::Parsing::comment_at))]
+pub(crate) fn comment(alloc: Global, tokens: &mut Tokens) -> Result<Content, ReadFault>
+    ensures { Reads content_of result (comment_at tokens.old) tokens.new }
+{
+    match tokens.first() {
+        Some(token) if is_text(&token) => of_file(alloc, tokens),
+        Some(token) if is_key(&token, Keyword::Nodes) => of_node(alloc, tokens),
+        Some(token) if is_key(&token, Keyword::Message) => of_message(alloc, tokens),
+        Some(token) if is_key(&token, Keyword::Signal) => of_signal(alloc, tokens),
+        _ => passed_comment(tokens),
+    }
+}

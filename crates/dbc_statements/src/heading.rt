@@ -1,0 +1,149 @@
+//! What stands at the head of a file: its version, new symbols, bit timing, nodes and value tables.
+ghost use Rattle.std.specs.Prelude.{◌≡◌, codes};
+ghost use Rattle.catalogue.specs.Fields as fields;
+ghost use Rattle.catalogue.specs.Grammar as grammar;
+ghost use Rattle.catalogue.specs.Parsing.{registers_at, symbols_at, table_at, timing_at, timing_line_at, nodes_line_at, version_at};
+ghost use Rattle.catalogue.specs.Rules.{starts};
+ghost use Rattle.catalogue.specs.declared.token.TokenKind.TheVariants.{Number};
+ghost use Rattle.dbc_statements.specs.Reading.{Reads, itself};
+ghost use Rattle.dbc_statements.specs.Skipping.{Skips};
+ghost use Rattle.dbc_statements.specs.Said.{content_of};
+
+use crate::entries::entries;
+use crate::fields::{any_number, made_name, mark, text};
+use crate::names::nodes;
+use crate::statement::{Content, TableLine};
+use crate::tokens::Tokens;
+use crate::words::{is_key, is_mark, is_number, is_word};
+use catalogue::Keyword;
+use dbc_lex::ReadFault;
+use std::alloc::Global;
+
+/// Behind `VERSION`.
+#[tactic(auto, unfolding(catalogue::specs::Parsing::version_at))]
+pub(crate) fn version(alloc: Global, tokens: &mut Tokens) -> Result<Content, ReadFault>
+    ensures { Reads content_of result (version_at tokens.old) tokens.new }
+{
+    let version = text(alloc, tokens)?;
+    Ok(Content::Version(version))
+}
+
+/// Whether a name stands there, other than `BS_` and `BU_`.
+fn is_symbol(tokens: &Tokens) -> bool
+    ensures { result ≡ starts grammar.is_symbol tokens.now }
+{
+    match tokens.first() {
+        Some(token) => {
+            is_word(&token)
+                && !(is_key(&token, Keyword::BitTiming) || is_key(&token, Keyword::Nodes))
+        }
+        None => false,
+    }
+}
+
+/// Whether a list of new symbols ends there: at `BS_`, `BU_`, or the end.
+fn ends_symbols(tokens: &Tokens) -> bool
+    ensures { result ≡ grammar.ends_symbols tokens.now }
+{
+    match tokens.first() {
+        Some(token) => is_key(&token, Keyword::BitTiming) || is_key(&token, Keyword::Nodes),
+        None => true,
+    }
+}
+
+fn skip_symbols(tokens: &mut Tokens)
+    ensures { Skips grammar.is_symbol tokens.old tokens.new }
+{
+    'symbols: while is_symbol(tokens) {
+        tokens.skip();
+    }
+}
+
+/// Behind `NS_`.
+#[tactic(auto, unfolding(catalogue::specs::Parsing::symbols_at))]
+pub(crate) fn new_symbols(tokens: &mut Tokens) -> Result<Content, ReadFault>
+    ensures { Reads content_of result (symbols_at tokens.old) tokens.new }
+{
+    mark(tokens, b':')?;
+    skip_symbols(tokens);
+    if ends_symbols(tokens) {
+        Ok(Content::Dropped)
+    } else {
+        Err(tokens.unexpected())
+    }
+}
+
+/// A colon, a number, a comma and a number, where a colon stands there.
+#[tactic(auto, unfolding(catalogue::specs::Parsing::registers_at))]
+fn registers(tokens: &mut Tokens) -> Result<(), ReadFault>
+    ensures { Reads itself result (registers_at tokens.old) tokens.new }
+{
+    mark(tokens, b':')?;
+    any_number(tokens)?;
+    mark(tokens, b',')?;
+    any_number(tokens)?;
+    Ok(())
+}
+
+fn is_colon(tokens: &Tokens) -> bool
+    ensures { result ≡ starts (fields.is_mark (codes ":")) tokens.now }
+{
+    match tokens.first() {
+        Some(token) => is_mark(&token, b':'),
+        None => false,
+    }
+}
+
+#[tactic(auto, unfolding(catalogue::specs::Parsing::timing_at))]
+fn timing(tokens: &mut Tokens) -> Result<(), ReadFault>
+    ensures { Reads itself result (timing_at tokens.old) tokens.new }
+{
+    any_number(tokens)?;
+    if is_colon(tokens) {
+        registers(tokens)?;
+    }
+    Ok(())
+}
+
+fn is_timing(tokens: &Tokens) -> bool
+    ensures { result ≡ starts (fields.is_a Number) tokens.now }
+{
+    match tokens.first() {
+        Some(token) => is_number(&token),
+        None => false,
+    }
+}
+
+/// Behind `BS_`.
+#[tactic(auto, unfolding(catalogue::specs::Parsing::timing_line_at))]
+pub(crate) fn bit_timing(tokens: &mut Tokens) -> Result<Content, ReadFault>
+    ensures { Reads content_of result (timing_line_at tokens.old) tokens.new }
+{
+    mark(tokens, b':')?;
+    if is_timing(tokens) {
+        timing(tokens)?;
+    }
+    Ok(Content::Dropped)
+}
+
+/// Behind `BU_`.
+#[tactic(auto, unfolding(catalogue::specs::Parsing::nodes_line_at))]
+pub(crate) fn node_names(alloc: Global, tokens: &mut Tokens) -> Result<Content, ReadFault>
+    ensures { Reads content_of result (nodes_line_at tokens.old) tokens.new }
+{
+    mark(tokens, b':')?;
+    let nodes = nodes(alloc, tokens)?;
+    Ok(Content::Nodes(nodes))
+}
+
+/// Behind `VAL_TABLE_`.
+#[tactic(auto, unfolding(catalogue::specs::Parsing::table_at))]
+pub(crate) fn value_table(alloc: Global, tokens: &mut Tokens) -> Result<Content, ReadFault>
+    ensures { Reads content_of result (table_at tokens.old) tokens.new }
+{
+    let at = tokens.place();
+    let name = made_name(alloc, tokens)?;
+    let entries = entries(alloc, tokens)?;
+    mark(tokens, b';')?;
+    Ok(Content::Table(TableLine { at, name, entries }))
+}

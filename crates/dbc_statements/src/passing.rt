@@ -1,0 +1,88 @@
+//! Statements that are passed over.
+ghost use Rattle.std.specs.Prelude.{◌≡◌, true};
+ghost use Rattle.catalogue.specs.Grammar as grammar;
+ghost use Rattle.catalogue.specs.Parsing.{independent_at, passed_comment_at, passed_value_texts_at, skipped_at};
+ghost use Rattle.catalogue.specs.Rules.{starts};
+ghost use Rattle.dbc_lex.specs.Seen.{seen};
+ghost use Rattle.dbc_statements.specs.Reading.{Reads};
+ghost use Rattle.dbc_statements.specs.Said.{content_of};
+ghost use Rattle.dbc_statements.specs.Skipping.{Skips, is_behind};
+
+use crate::entries::is_open;
+use crate::fields::{any_name, independent_number, key, mark};
+use crate::statement::Content;
+use crate::tokens::Tokens;
+use crate::words::{is_key, key_of};
+use catalogue::Keyword;
+use dbc_lex::{ReadFault, Token};
+
+fn skip_open(tokens: &mut Tokens)
+    ensures { Skips grammar.is_open tokens.old tokens.new }
+{
+    'open: while is_open(tokens) {
+        tokens.skip();
+    }
+}
+
+/// All up to `;`, and that.
+#[tactic(auto, unfolding(catalogue::specs::Parsing::skipped_at))]
+pub(crate) fn skipped(tokens: &mut Tokens) -> Result<Content, ReadFault>
+    ensures { Reads content_of result (skipped_at tokens.old) tokens.new }
+{
+    skip_open(tokens);
+    mark(tokens, b';')?;
+    Ok(Content::PassedOver)
+}
+
+/// Behind `CM_`, where an environment variable is meant.
+#[tactic(auto, unfolding(catalogue::specs::Parsing::passed_comment_at))]
+pub(crate) fn passed_comment(tokens: &mut Tokens) -> Result<Content, ReadFault>
+    ensures { Reads content_of result (passed_comment_at tokens.old) tokens.new }
+{
+    key(tokens, Keyword::EnvironmentVariable)?;
+    skipped(tokens)
+}
+
+/// Behind `VAL_`, where an environment variable is meant.
+#[tactic(auto, unfolding(catalogue::specs::Parsing::passed_value_texts_at))]
+pub(crate) fn passed_value_texts(tokens: &mut Tokens) -> Result<Content, ReadFault>
+    ensures { Reads content_of result (passed_value_texts_at tokens.old) tokens.new }
+{
+    any_name(tokens)?;
+    skipped(tokens)
+}
+
+fn begins_next(token: &Token) -> bool
+    ensures { result ≡ grammar.begins_next (seen token.now) }
+{
+    key_of(token).is_some() && !is_key(token, Keyword::Signal)
+}
+
+/// Whether a token stands there with which no other statement begins.
+fn goes_on(tokens: &Tokens) -> bool
+    ensures { result ≡ starts is_behind tokens.now }
+{
+    match tokens.first() {
+        Some(token) => !begins_next(&token),
+        None => false,
+    }
+}
+
+fn skip_behind(tokens: &mut Tokens)
+    ensures skips { Skips is_behind tokens.old tokens.new }
+    ensures next { grammar.next tokens.new ≡ true }
+{
+    'behind: while goes_on(tokens) {
+        tokens.skip();
+    }
+}
+
+/// Behind `BO_`, where the number is that of the message which holds the signals of no message.
+#[tactic(auto, unfolding(catalogue::specs::Parsing::independent_at))]
+pub(crate) fn independent(tokens: &mut Tokens) -> Result<Content, ReadFault>
+    ensures { Reads content_of result (independent_at tokens.old) tokens.new }
+{
+    independent_number(tokens)?;
+    skip_behind(tokens);
+    Ok(Content::PassedOver)
+}

@@ -1,0 +1,106 @@
+//! The signals of a message.
+ghost use Rattle.std.specs.Prelude.{◌≡◌, [], ◌∷◌, Some, codes};
+ghost use Rattle.catalogue.specs.Fields as fields;
+ghost use Rattle.catalogue.specs.Parsing.{token_at, optional_at, mark_at, signal_at, signals_at};
+ghost use Rattle.catalogue.specs.Rules.{begins, starts};
+ghost use Rattle.catalogue.specs.declared.keyword.Keyword.TheVariants.{Signal};
+ghost use Rattle.dbc_statements.specs.Reading.{Reads, itself};
+ghost use Rattle.dbc_statements.specs.Said.{signal_of, signals_of};
+
+use crate::fields::{key, layout, made_name, mark, pair, text};
+use crate::names::receivers;
+use crate::statement::SignalLine;
+use crate::tokens::Tokens;
+use crate::words::{is_key, is_numeral, is_word, mux_of};
+use bitlayout::Mux;
+use catalogue::Keyword;
+use dbc_lex::{ReadCode, ReadFault, Token};
+use std::alloc::Global;
+
+/// A multiplexer indicator, where one stands there.
+#[tactic(auto, unfolding(catalogue::specs::Parsing::optional_at))]
+fn mux(tokens: &mut Tokens) -> Option<Mux>
+    ensures { optional_at (begins fields.mux_of) (token_at fields.mux_of) tokens.old ≡ Some (result, tokens.new) }
+{
+    let mux = mux_of(&tokens.first()?)?;
+    tokens.skip();
+    Some(mux)
+}
+
+/// What is wrong with a word where a multiplexer indicator may stand: code 34 for one in several steps, `m`, digits and
+/// `M`; 35 for a number above 4294967295; and else 32.
+fn mux_code(word: &[u8]) -> ReadCode {
+    match word {
+        [b'm', digits @ .., b'M'] if is_numeral(digits) => ReadCode::ExtendedMultiplexing,
+        [b'm', digits @ ..] if is_numeral(digits) => ReadCode::Number,
+        _ => ReadCode::Unexpected,
+    }
+}
+
+/// The colon behind the name and the multiplexer indicator, where there was one (`marked`). Where there was none, a word
+/// in its place has the fault of an indicator.
+fn colon(tokens: &mut Tokens, marked: bool) -> Result<(), ReadFault>
+    ensures { Reads itself result (mark_at (codes ":") tokens.old) tokens.new }
+{
+    match tokens.first() {
+        Some(token) if !marked && is_word(&token) => Err(ReadFault {
+            code: mux_code(token.text),
+            at: token.start,
+        }),
+        _ => mark(tokens, b':'),
+    }
+}
+
+/// `SG_` and what stands behind it.
+#[tactic(auto, unfolding(catalogue::specs::Parsing::signal_at))]
+fn signal(alloc: Global, tokens: &mut Tokens) -> Result<SignalLine, ReadFault>
+    ensures { Reads signal_of result (signal_at tokens.old) tokens.new }
+{
+    key(tokens, Keyword::Signal)?;
+    let at = tokens.place();
+    let name = made_name(alloc, tokens)?;
+    let mux_at = tokens.place();
+    let mux = mux(tokens);
+    colon(tokens, mux.is_some())?;
+    let (layout, signed) = layout(tokens)?;
+    let (factor, offset) = pair(tokens, b'(', b',', b')')?;
+    let (minimum, maximum) = pair(tokens, b'[', b'|', b']')?;
+    let unit = text(alloc, tokens)?;
+    let receivers = receivers(alloc, tokens)?;
+    Ok(SignalLine {
+        at,
+        mux_at,
+        name,
+        layout,
+        signed,
+        mux: mux.unwrap_or(Mux::Always),
+        factor,
+        offset,
+        minimum,
+        maximum,
+        unit,
+        receivers,
+    })
+}
+
+/// Whether a signal stands there.
+fn is_signal(tokens: &Tokens) -> bool
+    ensures { result ≡ starts (fields.is_key Signal) tokens.now }
+{
+    match tokens.first() {
+        Some(token) => is_key(&token, Keyword::Signal),
+        None => false,
+    }
+}
+
+/// Signals, up to something else.
+pub(crate) fn signals(alloc: Global, tokens: &mut Tokens) -> Result<Vec<SignalLine>, ReadFault>
+    ensures { Reads (λ signals. signals_of signals.items) result (signals_at tokens.old) tokens.new }
+{
+    let mut signals = Vec::new(alloc);
+    'signals: while is_signal(tokens) {
+        let next = signal(alloc, tokens)?;
+        signals.push(next)?;
+    }
+    Ok(signals)
+}

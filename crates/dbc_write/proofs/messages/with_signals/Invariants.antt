@@ -1,0 +1,7 @@
+use Rattle.std.proofs.Common.{map, take}
+use Rattle.catalogue.specs.Canon.{line_text, signal_line}
+use Rattle.dbc_write.specs.Adding.{Adds}
+use Rattle.dbc_write.proofs.messages.with_signals.Given as goal
+
+abbrev pub invariant-loop-signal : goal.invariant-loop-signal
+invariant-loop-signal l = Adds line_text l.initial.text.items l.text.items (map signal_line (take l.signal-index l.signal-items))

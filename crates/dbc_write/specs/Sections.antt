@@ -1,0 +1,23 @@
+-- What the lines behind the messages say of their signals, and whether any of it is there.
+use Rattle.std.specs.Prelude.{Bool, ◌==◌, not, List}
+use Rattle.std.specs.List.{list_any}
+use Rattle.catalogue.specs.Canon.{Line, spn_lines, type_lines, value_lines}
+use Rattle.catalogue.specs.declared.message.Message.{Message}
+use Rattle.catalogue.specs.declared.sheet.Sheet.{Sheet}
+use Rattle.catalogue.specs.declared.signal.Signal.{Signal}
+use Rattle.dbc_write.specs.declared.sections.Section.{Section}
+use Rattle.dbc_write.specs.declared.sections.Section.TheVariants.{Spns, Values, ValueTypes}
+
+-- the lines of a signal in a section
+abbrev pub section_lines : Section → Message → Signal → List Line
+section_lines Spns = spn_lines
+section_lines Values = value_lines
+section_lines ValueTypes = type_lines
+
+-- a signal of the message has a suspect parameter number
+abbrev pub message_has_spn : Message → Bool
+message_has_spn m = list_any (λ (s : Signal). not (s.spn == 0)) m.signals
+
+-- a signal of some message has one
+abbrev pub has_spn : Sheet → Bool
+has_spn s = list_any message_has_spn s.messages

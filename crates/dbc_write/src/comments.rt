@@ -1,0 +1,101 @@
+//! Comments: of the file, of its nodes, and of its messages and their signals.
+ghost use Rattle.std.specs.Prelude.{◌∷◌, [], OnOk, codes};
+ghost use Rattle.std.specs.List.{flat_map};
+ghost use Rattle.catalogue.specs.Canon.{comment_lines, line_text, message_comments, node_comment, number, signal_pieces, space, word};
+ghost use Rattle.catalogue.specs.Messages.{number_of};
+ghost use Rattle.dbc_write.specs.Adding.{Adds};
+
+use crate::places;
+use crate::tokens::{quoted, spaced_number, spaced_word, tight_mark, tight_word};
+use catalogue::{Message, Node, Signal, Text};
+use std::alloc::AllocError;
+
+/// The comment of the whole file.
+pub(crate) fn of_file(text: &mut Vec<u8>, comment: &Text) -> Result<(), AllocError>
+    ensures { OnOk result (Adds line_text text.old.items text.new.items (comment_lines [] comment.now)) }
+{
+    if comment.is_empty() {
+        return Ok(());
+    }
+    tight_word(text, b"CM_")?;
+    quoted(text, comment.as_bytes())?;
+    tight_mark(text, b';')?;
+    text.push(b'\n')?;
+    Ok(())
+}
+
+fn of_node(text: &mut Vec<u8>, node: &Node) -> Result<(), AllocError>
+    ensures { OnOk result (Adds line_text text.old.items text.new.items (node_comment node.now)) }
+{
+    if node.comment.is_empty() {
+        return Ok(());
+    }
+    tight_word(text, b"CM_")?;
+    spaced_word(text, b"BU_")?;
+    spaced_word(text, node.name.as_bytes())?;
+    quoted(text, node.comment.as_bytes())?;
+    tight_mark(text, b';')?;
+    text.push(b'\n')?;
+    Ok(())
+}
+
+/// The comments of the nodes.
+pub(crate) fn of_nodes(text: &mut Vec<u8>, nodes: &[Node]) -> Result<(), AllocError>
+    ensures { OnOk result (Adds line_text text.old.items text.new.items (flat_map node_comment nodes.now)) }
+{
+    for node in nodes {
+        of_node(text, node)?;
+    }
+    Ok(())
+}
+
+fn of_message(text: &mut Vec<u8>, message: &Message) -> Result<(), AllocError>
+    ensures { OnOk result (Adds line_text text.old.items text.new.items
+        (comment_lines (word space (codes "BO_") ∷ number space (number_of message.now) ∷ []) message.now.comment)) }
+{
+    if message.comment.is_empty() {
+        return Ok(());
+    }
+    tight_word(text, b"CM_")?;
+    spaced_word(text, b"BO_")?;
+    spaced_number(text, message.number())?;
+    quoted(text, message.comment.as_bytes())?;
+    tight_mark(text, b';')?;
+    text.push(b'\n')?;
+    Ok(())
+}
+
+fn of_signal(text: &mut Vec<u8>, message: &Message, signal: &Signal) -> Result<(), AllocError>
+    ensures { OnOk result (Adds line_text text.old.items text.new.items
+        (comment_lines (signal_pieces message.now signal.now) signal.now.comment)) }
+{
+    if signal.comment.is_empty() {
+        return Ok(());
+    }
+    tight_word(text, b"CM_")?;
+    places::of_signal(text, message, signal)?;
+    quoted(text, signal.comment.as_bytes())?;
+    tight_mark(text, b';')?;
+    text.push(b'\n')?;
+    Ok(())
+}
+
+fn with_signals(text: &mut Vec<u8>, message: &Message) -> Result<(), AllocError>
+    ensures { OnOk result (Adds line_text text.old.items text.new.items (message_comments message.now)) }
+{
+    of_message(text, message)?;
+    for signal in message.signals.as_slice() {
+        of_signal(text, message, signal)?;
+    }
+    Ok(())
+}
+
+/// The comments of the messages, each with those of its signals behind it.
+pub(crate) fn of_messages(text: &mut Vec<u8>, messages: &[Message]) -> Result<(), AllocError>
+    ensures { OnOk result (Adds line_text text.old.items text.new.items (flat_map message_comments messages.now)) }
+{
+    for message in messages {
+        with_signals(text, message)?;
+    }
+    Ok(())
+}

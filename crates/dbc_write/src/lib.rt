@@ -1,0 +1,23 @@
+//! The text of a sheet, as a DBC file.
+//!
+//! [`text_of`] writes the one canonical text of a sheet: the lines that `catalogue`'s `specs/Canon.antt` lists, each as
+//! pieces that are a gap and a token. Everything is appended to one buffer, in one walk over the sheet for each section
+//! of the file. Each function here says which pieces or lines it adds to the text before it (`Adds` of
+//! `specs/Adding.antt`), and so the functions join as the lists of the definition do: tokens to lines (`tokens`),
+//! lines to sections (`heading`, `entries`, `messages`, `comments`, `sections`), and these to the text.
+//!
+//! It fails only for want of memory. No sheet is refused, and none needs to be clear: what a sheet says is written, and
+//! whether it reads back is a matter of the layers that read.
+#![tactic(auto)]
+
+mod comments;
+mod entries;
+mod heading;
+mod messages;
+mod places;
+mod sections;
+mod sheet;
+mod signals;
+mod tokens;
+
+pub use sheet::text_of;

@@ -1,0 +1,53 @@
+//! Messages with their signals.
+ghost use Rattle.std.specs.Prelude.{◌≡◌, ◌∷◌, [], OnOk, unwrap_or};
+ghost use Rattle.std.specs.List.{flat_map};
+ghost use Rattle.catalogue.specs.Canon.{line_text, message_line, message_lines};
+ghost use Rattle.catalogue.specs.Name.{no_node};
+ghost use Rattle.dbc_write.specs.Adding.{Adds};
+
+use crate::signals::signal_line;
+use crate::tokens::{spaced_number, spaced_word, tight_mark, tight_word};
+use catalogue::{Message, NO_NODE};
+use std::alloc::AllocError;
+
+fn transmitter(message: &Message) -> &[u8]
+    ensures { result.now ≡ unwrap_or message.now.transmitter no_node }
+{
+    match &message.transmitter {
+        Some(name) => name.as_bytes(),
+        None => NO_NODE,
+    }
+}
+
+fn message_line(text: &mut Vec<u8>, message: &Message) -> Result<(), AllocError>
+    ensures { OnOk result (Adds line_text text.old.items text.new.items (message_line message.now ∷ [])) }
+{
+    tight_word(text, b"BO_")?;
+    spaced_number(text, message.number())?;
+    spaced_word(text, message.name.as_bytes())?;
+    tight_mark(text, b':')?;
+    spaced_number(text, u32::from(message.length.bytes()))?;
+    spaced_word(text, transmitter(message))?;
+    text.push(b'\n')?;
+    Ok(())
+}
+
+fn with_signals(text: &mut Vec<u8>, message: &Message) -> Result<(), AllocError>
+    ensures { OnOk result (Adds line_text text.old.items text.new.items (message_lines message.now)) }
+{
+    message_line(text, message)?;
+    for signal in message.signals.as_slice() {
+        signal_line(text, signal)?;
+    }
+    Ok(())
+}
+
+/// The lines of the messages, each with those of its signals behind it.
+pub(crate) fn messages(text: &mut Vec<u8>, messages: &[Message]) -> Result<(), AllocError>
+    ensures { OnOk result (Adds line_text text.old.items text.new.items (flat_map message_lines messages.now)) }
+{
+    for message in messages {
+        with_signals(text, message)?;
+    }
+    Ok(())
+}

@@ -1,0 +1,142 @@
+//! What stands behind the comments: suspect parameter numbers, texts of values, and value types, each for signal after
+//! signal.
+ghost use Rattle.std.specs.Prelude.{◌≡◌, OnOk};
+ghost use Rattle.std.specs.List.{flat_map};
+ghost use Rattle.catalogue.specs.Canon.{defined, each_signal, line_text, spn_definitions, spn_lines, type_lines, value_lines};
+ghost use Rattle.dbc_write.specs.Adding.{Adds};
+ghost use Rattle.dbc_write.specs.Sections.{has_spn, message_has_spn, section_lines};
+
+use crate::entries::entries;
+use crate::places;
+use crate::tokens::{quoted, spaced_mark, spaced_number, tight_mark, tight_word};
+use catalogue::{Message, Sheet, Signal};
+use std::alloc::AllocError;
+
+/// What a line of a section says of its signal.
+#[derive(Clone, Copy)]
+pub(crate) enum Section {
+    /// The suspect parameter number.
+    Spns,
+    /// The texts of its values.
+    Values,
+    /// How its bits are to be read.
+    ValueTypes,
+}
+
+fn spn_line(text: &mut Vec<u8>, message: &Message, signal: &Signal) -> Result<(), AllocError>
+    ensures { OnOk result (Adds line_text text.old.items text.new.items (spn_lines message.now signal.now)) }
+{
+    let spn = signal.spn.number();
+    if spn == 0 {
+        return Ok(());
+    }
+    tight_word(text, b"BA_")?;
+    quoted(text, b"SPN")?;
+    places::of_signal(text, message, signal)?;
+    spaced_number(text, spn)?;
+    tight_mark(text, b';')?;
+    text.push(b'\n')?;
+    Ok(())
+}
+
+fn value_line(text: &mut Vec<u8>, message: &Message, signal: &Signal) -> Result<(), AllocError>
+    ensures { OnOk result (Adds line_text text.old.items text.new.items (value_lines message.now signal.now)) }
+{
+    if signal.values.as_slice().is_empty() {
+        return Ok(());
+    }
+    tight_word(text, b"VAL_")?;
+    places::place(text, message, signal)?;
+    entries(text, &signal.values)?;
+    text.push(b'\n')?;
+    Ok(())
+}
+
+fn type_line(text: &mut Vec<u8>, message: &Message, signal: &Signal) -> Result<(), AllocError>
+    ensures { OnOk result (Adds line_text text.old.items text.new.items (type_lines message.now signal.now)) }
+{
+    let number = u32::from(signal.value_type.number());
+    if number == 0 {
+        return Ok(());
+    }
+    tight_word(text, b"SIG_VALTYPE_")?;
+    places::place(text, message, signal)?;
+    spaced_mark(text, b':')?;
+    spaced_number(text, number)?;
+    tight_mark(text, b';')?;
+    text.push(b'\n')?;
+    Ok(())
+}
+
+fn signal_line(
+    text: &mut Vec<u8>,
+    section: Section,
+    message: &Message,
+    signal: &Signal,
+) -> Result<(), AllocError>
+    ensures { OnOk result (Adds line_text text.old.items text.new.items (section_lines section message.now signal.now)) }
+{
+    match section {
+        Section::Spns => spn_line(text, message, signal),
+        Section::Values => value_line(text, message, signal),
+        Section::ValueTypes => type_line(text, message, signal),
+    }
+}
+
+fn message_lines(text: &mut Vec<u8>, section: Section, message: &Message) -> Result<(), AllocError>
+    ensures { OnOk result (Adds line_text text.old.items text.new.items
+        (flat_map (section_lines section message.now) message.now.signals)) }
+{
+    for signal in message.signals.as_slice() {
+        signal_line(text, section, message, signal)?;
+    }
+    Ok(())
+}
+
+/// The lines of a section.
+pub(crate) fn lines(text: &mut Vec<u8>, section: Section, sheet: &Sheet) -> Result<(), AllocError>
+    ensures { OnOk result (Adds line_text text.old.items text.new.items (each_signal (section_lines section) sheet.now)) }
+{
+    for message in sheet.messages() {
+        message_lines(text, section, message)?;
+    }
+    Ok(())
+}
+
+fn message_has_spn(message: &Message) -> bool
+    ensures { result ≡ message_has_spn message.now }
+{
+    message
+        .signals
+        .as_slice()
+        .iter()
+        .any(|signal| signal.spn.number() != 0)
+}
+
+fn has_spn(sheet: &Sheet) -> bool
+    ensures { result ≡ has_spn sheet.now }
+{
+    sheet
+        .messages()
+        .iter()
+        .any(|message| message_has_spn(message))
+}
+
+fn definitions(text: &mut Vec<u8>) -> Result<(), AllocError>
+    ensures { OnOk result (Adds line_text text.old.items text.new.items spn_definitions) }
+{
+    text.extend_from_slice(b"BA_DEF_ SG_ \"SPN\" INT 0 524287;\nBA_DEF_DEF_ \"SPN\" 0;\n")?;
+    Ok(())
+}
+
+/// The suspect parameter numbers, behind their definition where there is any.
+pub(crate) fn spns(text: &mut Vec<u8>, sheet: &Sheet) -> Result<(), AllocError>
+    ensures { OnOk result (Adds line_text text.old.items text.new.items (defined (each_signal spn_lines sheet.now))) }
+{
+    if !has_spn(sheet) {
+        return Ok(());
+    }
+    definitions(text)?;
+    lines(text, Section::Spns, sheet)?;
+    Ok(())
+}

@@ -1,0 +1,35 @@
+//! The text of a whole sheet.
+ghost use Rattle.std.specs.Prelude.{◌≡◌, IfOk, OnOk};
+ghost use Rattle.catalogue.specs.Canon.{canonical_lines, canonical_text, line_text};
+ghost use Rattle.dbc_write.specs.Adding.{Adds};
+
+use crate::sections::Section;
+use crate::{comments, entries, heading, messages, sections};
+use catalogue::Sheet;
+use std::alloc::{AllocError, Global};
+
+fn lines(text: &mut Vec<u8>, sheet: &Sheet) -> Result<(), AllocError>
+    ensures { OnOk result (Adds line_text text.old.items text.new.items (canonical_lines sheet.now)) }
+{
+    heading::heading(text, sheet)?;
+    entries::table_lines(text, sheet.tables())?;
+    messages::messages(text, sheet.messages())?;
+    comments::of_file(text, sheet.comment())?;
+    comments::of_nodes(text, sheet.nodes())?;
+    comments::of_messages(text, sheet.messages())?;
+    sections::spns(text, sheet)?;
+    sections::lines(text, Section::Values, sheet)?;
+    sections::lines(text, Section::ValueTypes, sheet)?;
+    Ok(())
+}
+
+/// The text of the sheet as a DBC file, in the one order and spelling that this project writes: what the sheet says and
+/// nothing else, line after line, each ended by LF. A sheet that says nothing has the four lines `VERSION ""`, `NS_ :`,
+/// `BS_:` and `BU_:`. The error is want of memory.
+pub fn text_of(alloc: Global, sheet: &Sheet) -> Result<Vec<u8>, AllocError>
+    ensures { IfOk result (λ text. text.items ≡ canonical_text sheet.now) }
+{
+    let mut text = Vec::new(alloc);
+    lines(&mut text, sheet)?;
+    Ok(text)
+}

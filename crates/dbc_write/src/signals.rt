@@ -1,0 +1,99 @@
+//! The line of a signal.
+ghost use Rattle.std.specs.Prelude.{◌≡◌, ◌∷◌, [], OnOk};
+ghost use Rattle.catalogue.specs.Canon.{layout_pieces, line_text, mux_pieces, order_number, pair, receiver_pieces, signal_line};
+ghost use Rattle.dbc_write.specs.Adding.{Adds, piece_text};
+
+use crate::tokens::{
+    quoted, spaced_mark, spaced_number, spaced_word, tight_mark, tight_number, tight_value,
+    tight_word,
+};
+use bitlayout::{Mux, Order};
+use catalogue::{NO_NODE, Name, Signal};
+use decimal::Decimal;
+use itoa::Buffer;
+use std::alloc::AllocError;
+
+fn mux_mark(text: &mut Vec<u8>, mux: Mux) -> Result<(), AllocError>
+    ensures { OnOk result (Adds piece_text text.old.items text.new.items (mux_pieces mux)) }
+{
+    match mux {
+        Mux::Always => {}
+        Mux::Multiplexor => spaced_word(text, b"M")?,
+        Mux::Under(value) => {
+            text.extend_from_slice(b" m")?;
+            text.extend_from_slice(Buffer::new().format(value).as_bytes())?;
+        }
+    }
+    Ok(())
+}
+
+fn order_number(order: Order) -> u32
+    ensures { result ≡ order_number order }
+{
+    match order {
+        Order::Intel => 1,
+        Order::Motorola => 0,
+    }
+}
+
+fn layout(text: &mut Vec<u8>, signal: &Signal) -> Result<(), AllocError>
+    ensures { OnOk result (Adds piece_text text.old.items text.new.items (layout_pieces signal.now)) }
+{
+    spaced_number(text, u32::from(signal.layout.start))?;
+    tight_mark(text, b'|')?;
+    tight_number(text, u32::from(signal.layout.size.bits()))?;
+    tight_mark(text, b'@')?;
+    tight_number(text, order_number(signal.layout.order))?;
+    tight_mark(text, if signal.signed { b'-' } else { b'+' })?;
+    Ok(())
+}
+
+// Two decimals between brackets.
+fn pair(
+    text: &mut Vec<u8>,
+    left: u8,
+    between: u8,
+    right: u8,
+    first: &Decimal,
+    second: &Decimal,
+) -> Result<(), AllocError>
+    ensures { OnOk result (Adds piece_text text.old.items text.new.items (pair left between right first.now second.now)) }
+{
+    spaced_mark(text, left)?;
+    tight_value(text, first)?;
+    tight_mark(text, between)?;
+    tight_value(text, second)?;
+    tight_mark(text, right)?;
+    Ok(())
+}
+
+fn receivers(text: &mut Vec<u8>, names: &[Name]) -> Result<(), AllocError>
+    ensures { OnOk result (Adds piece_text text.old.items text.new.items (receiver_pieces names.now)) }
+{
+    let [first, others @ ..] = names else {
+        return spaced_word(text, NO_NODE);
+    };
+    spaced_word(text, first.as_bytes())?;
+    for other in others {
+        tight_mark(text, b',')?;
+        tight_word(text, other.as_bytes())?;
+    }
+    Ok(())
+}
+
+/// The line of a signal, behind that of its message.
+pub(crate) fn signal_line(text: &mut Vec<u8>, signal: &Signal) -> Result<(), AllocError>
+    ensures { OnOk result (Adds line_text text.old.items text.new.items (signal_line signal.now ∷ [])) }
+{
+    spaced_word(text, b"SG_")?;
+    spaced_word(text, signal.name.as_bytes())?;
+    mux_mark(text, signal.mux)?;
+    spaced_mark(text, b':')?;
+    layout(text, signal)?;
+    pair(text, b'(', b',', b')', &signal.factor, &signal.offset)?;
+    pair(text, b'[', b'|', b']', &signal.minimum, &signal.maximum)?;
+    quoted(text, signal.unit.as_bytes())?;
+    receivers(text, signal.receivers.as_slice())?;
+    text.push(b'\n')?;
+    Ok(())
+}

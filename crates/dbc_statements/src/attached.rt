@@ -1,19 +1,18 @@
 //! What statements attach to signals: texts for their values, types, and suspect parameter numbers.
-ghost use Rattle.std.specs.Prelude.{◌≡◌, Some, codes};
+ghost use Rattle.std.specs.Prelude.{◌≡◌};
 ghost use Rattle.catalogue.specs.Fields as fields;
-ghost use Rattle.catalogue.specs.Parsing.{either_at, mark_at, optional_at, or_else, passed_value_texts_at, skipped_at, spn_at, value_texts_at, value_type_at};
-ghost use Rattle.catalogue.specs.Rules.{begins, starts};
+ghost use Rattle.catalogue.specs.Parsing.{either_at, or_else, passed_value_texts_at, skipped_at, spn_at, value_texts_at, value_type_at};
+ghost use Rattle.catalogue.specs.Rules.{begins};
 ghost use Rattle.dbc_statements.specs.Reading.{Reads};
 ghost use Rattle.dbc_statements.specs.Said.{content_of};
 
 use crate::entries::entries;
 use crate::fields::{
-    attribute, begins_number, cited_name, cited_number, key, mark, spn, value_type,
+    attribute, begins_number, cited_name, cited_number, key, mark, optional_mark, spn, value_type,
 };
 use crate::passing::{passed_value_texts, skipped};
 use crate::statement::{CitedSignal, Content};
 use crate::tokens::Tokens;
-use crate::words::is_mark;
 use catalogue::Keyword;
 use dbc_lex::{ReadCode, ReadFault};
 use std::alloc::Global;
@@ -40,20 +39,6 @@ pub(crate) fn value_texts(alloc: Global, tokens: &mut Tokens) -> Result<Content,
     }
 }
 
-/// A colon, where one stands there.
-#[tactic(auto, unfolding(catalogue::specs::Parsing::optional_at))]
-fn colon(tokens: &mut Tokens) -> Option<()>
-    ensures { optional_at (starts (fields.is_mark (codes ":"))) (mark_at (codes ":")) tokens.old ≡ Some (result, tokens.new) }
-{
-    match tokens.first() {
-        Some(token) if is_mark(&token, b':') => {
-            tokens.skip();
-            Some(())
-        }
-        _ => None,
-    }
-}
-
 /// Behind `SIG_VALTYPE_`.
 #[tactic(auto, unfolding(catalogue::specs::Parsing::value_type_at))]
 pub(crate) fn value_types(alloc: Global, tokens: &mut Tokens) -> Result<Content, ReadFault>
@@ -61,7 +46,7 @@ pub(crate) fn value_types(alloc: Global, tokens: &mut Tokens) -> Result<Content,
 {
     let number = cited_number(tokens)?;
     let name = cited_name(alloc, tokens)?;
-    colon(tokens);
+    optional_mark(tokens, b':');
     let value_type = value_type(tokens)?;
     mark(tokens, b';')?;
     Ok(Content::ValueType(CitedSignal { number, name }, value_type))

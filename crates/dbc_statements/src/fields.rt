@@ -4,7 +4,7 @@ ghost use Rattle.std.specs.Prelude.{◌≡◌, [], ◌∷◌, Some};
 ghost use Rattle.catalogue.specs.Fields as fields;
 ghost use Rattle.catalogue.specs.Grammar as grammar;
 ghost use Rattle.catalogue.specs.Parsing.{token_at, one_at, optional_at, key_at, mark_at, decimal_at, pair_at, layout_at};
-ghost use Rattle.catalogue.specs.Rules.{begins};
+ghost use Rattle.catalogue.specs.Rules.{begins, starts};
 ghost use Rattle.catalogue.specs.declared.token.TokenKind.TheVariants.{Number};
 ghost use Rattle.dbc_lex.specs.Seen.{seen};
 ghost use Rattle.dbc_statements.specs.Reading.{Reads, itself};
@@ -43,6 +43,20 @@ pub(crate) fn mark(tokens: &mut Tokens, mark: u8) -> Result<(), ReadFault>
             Ok(())
         }
         _ => Err(tokens.unexpected()),
+    }
+}
+
+/// A mark of this spelling, where it stands there.
+#[tactic(auto, unfolding(catalogue::specs::Parsing::optional_at))]
+pub(crate) fn optional_mark(tokens: &mut Tokens, mark: u8) -> Option<()>
+    ensures { optional_at (starts (fields.is_mark (mark ∷ []))) (mark_at (mark ∷ [])) tokens.old ≡ Some (result, tokens.new) }
+{
+    match tokens.first() {
+        Some(token) if is_mark(&token, mark) => {
+            tokens.skip();
+            Some(())
+        }
+        _ => None,
     }
 }
 

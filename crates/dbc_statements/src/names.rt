@@ -1,13 +1,14 @@
 //! Lists of nodes.
-ghost use Rattle.std.specs.Prelude.{◌≡◌, [], ◌∷◌, ◌++◌, Some, codes, false, IfErr, OnOk};
+ghost use Rattle.std.specs.Prelude.{◌≡◌, [], ◌∷◌, ◌++◌, Some, false, IfErr, OnOk};
 ghost use Rattle.catalogue.specs.Fields as fields;
-ghost use Rattle.catalogue.specs.Parsing.{token_at, optional_at, mark_at, many_at, further_at, some_names_at, nodes_at};
-ghost use Rattle.catalogue.specs.Rules.{begins, starts};
+ghost use Rattle.catalogue.specs.Parsing.{token_at, many_at, further_at, some_names_at, nodes_at};
+ghost use Rattle.catalogue.specs.Rules.{begins};
 ghost use Rattle.dbc_lex.specs.Fault.{UnlessMemory};
 ghost use Rattle.dbc_statements.specs.Names.{kept, name_of, with_kept};
 ghost use Rattle.dbc_statements.specs.Reading.{Reads, itself};
 ghost use Rattle.dbc_statements.specs.Said.{names_of};
 
+use crate::fields::optional_mark;
 use crate::statement::NodeName;
 use crate::tokens::{Behind, Tokens};
 use crate::words::{is_mark, is_no_node, is_node, is_word};
@@ -63,24 +64,11 @@ fn node(alloc: Global, tokens: &mut Tokens) -> Result<Option<NodeName>, ReadFaul
     }
 }
 
-#[tactic(auto, unfolding(catalogue::specs::Parsing::optional_at))]
-fn comma(tokens: &mut Tokens) -> Option<()>
-    ensures { optional_at (starts (fields.is_mark (codes ","))) (mark_at (codes ",")) tokens.old ≡ Some (result, tokens.new) }
-{
-    match tokens.first() {
-        Some(token) if is_mark(&token, b',') => {
-            tokens.skip();
-            Some(())
-        }
-        _ => None,
-    }
-}
-
 #[tactic(auto, unfolding(catalogue::specs::Parsing::further_at))]
 fn further(alloc: Global, tokens: &mut Tokens) -> Result<Option<NodeName>, ReadFault>
     ensures { Reads name_of result (further_at tokens.old) tokens.new }
 {
-    comma(tokens);
+    optional_mark(tokens, b',');
     node(alloc, tokens)
 }
 

@@ -7,3 +7,4 @@ pub mod WrongWords
 pub mod Commands
 pub mod PassedLines
 pub mod OfFile
+pub mod Canonical

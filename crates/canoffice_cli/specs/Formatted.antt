@@ -1,6 +1,7 @@
 -- What a DBC text comes to that is written anew.
 use Rattle.std.specs.Prelude.{◌≡◌, ◌⊎◌, ℕ, List, []}
 use Rattle.catalogue.specs.Canon.{canonical_text}
+use Rattle.catalogue.specs.Form.{IsSheet}
 use Rattle.catalogue.specs.Reads.{Reads}
 use Rattle.catalogue.specs.declared.sheet.Sheet.{Sheet}
 use Rattle.dbc_lex.specs.declared.fault.ReadFault.{ReadFault}
@@ -18,3 +19,7 @@ abbrev pub IsFormatOutcome : List ℕ → Outcome → Type 0
 IsFormatOutcome bytes o =
     ((s : Sheet) × Reads bytes s × (o ≡ printed (canonical_text s)))
     ⊎ (ReadsAsNothing bytes × ((fault : ReadFault) × (o ≡ faulty (fault_line fault))))
+
+-- the canonical text of a sheet is printed as it stands
+abbrev pub KeepsCanonical : List ℕ → Outcome → Type 0
+KeepsCanonical bytes o = (s : Sheet) → IsSheet s → bytes ≡ canonical_text s → o ≡ printed bytes

@@ -1,19 +1,22 @@
 //! DBC texts written anew.
 ghost use Rattle.std.specs.Prelude.{IfOk};
 ghost use Rattle.canoffice_cli.specs.Outcome.{outcome_of};
-ghost use Rattle.canoffice_cli.specs.Formatted.{IsFormatOutcome};
+ghost use Rattle.canoffice_cli.specs.Formatted.{IsFormatOutcome, KeepsCanonical};
 
 use crate::checking::fault_line;
 use crate::report::{Report, Status};
+use dbc_law::canonical_texts_read_as_their_sheets;
 use dbc_read::{ReadCode, read};
 use dbc_write::text_of;
 use std::alloc::{AllocError, Global};
 
 /// The canonical text of the sheet that the DBC text reads as, clear or not; or, where it reads as none, why and where
-/// on standard error, with the status `FaultFound`.
+/// on standard error, with the status `FaultFound`. A text that is canonical already is printed as it stands.
 pub fn format_report(alloc: Global, source: &[u8]) -> Result<Report, AllocError>
-    ensures { IfOk result (λ report. IsFormatOutcome source.now (outcome_of report)) }
+    ensures outcome { IfOk result (λ report. IsFormatOutcome source.now (outcome_of report)) }
+    ensures canonical { IfOk result (λ report. KeepsCanonical source.now (outcome_of report)) }
 {
+    canonical_texts_read_as_their_sheets();
     match read(alloc, source) {
         Ok(reading) => {
             let output = text_of(alloc, &reading.sheet)?;

@@ -1,7 +1,7 @@
 pub mod Putting
 pub mod Put
 mod Digits
-mod Texts
+pub mod Texts
 mod NameSets
 mod Rosters
 mod Places
@@ -21,10 +21,10 @@ mod SayingExamples
 pub mod IdentNumbers
 pub mod SheetSaid
 mod TokenRuns
-mod TokenBytes
+pub mod TokenBytes
 mod TokenNumbers
 pub mod TokenTexts
-mod TokenWords
+pub mod TokenWords
 pub mod TokensOnce
 mod TokenReading
 pub mod TokenExact

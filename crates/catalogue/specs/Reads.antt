@@ -22,6 +22,11 @@ pub record ReadsAs (bytes : List ℕ) (s : Sheet) (passed : List (ℕ × Keyword
 abbrev pub Reads : List ℕ → Sheet → Type 0
 Reads bytes s = (passed : List (ℕ × Keyword)) × ReadsAs bytes s passed
 
+-- the bytes read as the sheet, and every sheet that they read as is that one
+pub record ReadsOnlyAs (bytes : List ℕ) (s : Sheet) : Type 0 where
+  pub reads : Reads bytes s
+  pub only : (t : Sheet) → Reads bytes t → t ≡ s
+
 -- a text reads as one sheet at most, and passes over one list of statements
 abbrev pub ReadsAsOneAtMost : Type 0
 ReadsAsOneAtMost = (bytes : List ℕ) (s t : Sheet) (p q : List (ℕ × Keyword)) → ReadsAs bytes s p → ReadsAs bytes t q → (s ≡ t) × (p ≡ q)

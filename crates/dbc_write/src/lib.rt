@@ -7,7 +7,7 @@
 //! lines to sections (`heading`, `entries`, `messages`, `comments`, `sections`), and these to the text.
 //!
 //! It fails only for want of memory. No sheet is refused, and none needs to be clear: what a sheet says is written, and
-//! whether it reads back is a matter of the layers that read.
+//! by the grammar law (`dbc_law`) the text reads as this sheet and as no other.
 #![tactic(auto)]
 
 mod comments;

@@ -1,11 +1,13 @@
 //! The text of a whole sheet.
 ghost use Rattle.std.specs.Prelude.{◌≡◌, IfOk, OnOk};
 ghost use Rattle.catalogue.specs.Canon.{canonical_lines, canonical_text, line_text};
+ghost use Rattle.catalogue.specs.Reads.{ReadsOnlyAs};
 ghost use Rattle.dbc_write.specs.Adding.{Adds};
 
 use crate::sections::Section;
 use crate::{comments, entries, heading, messages, sections};
-use catalogue::Sheet;
+use catalogue::{Sheet, sheets_are_well_formed};
+use dbc_law::canonical_texts_read_as_their_sheets;
 use std::alloc::{AllocError, Global};
 
 fn lines(text: &mut Vec<u8>, sheet: &Sheet) -> Result<(), AllocError>
@@ -25,10 +27,13 @@ fn lines(text: &mut Vec<u8>, sheet: &Sheet) -> Result<(), AllocError>
 
 /// The text of the sheet as a DBC file, in the one order and spelling that this project writes: what the sheet says and
 /// nothing else, line after line, each ended by LF. A sheet that says nothing has the four lines `VERSION ""`, `NS_ :`,
-/// `BS_:` and `BU_:`. The error is want of memory.
+/// `BS_:` and `BU_:`. The text reads as this sheet, and as no other. The error is want of memory.
 pub fn text_of(alloc: Global, sheet: &Sheet) -> Result<Vec<u8>, AllocError>
-    ensures { IfOk result (λ text. text.items ≡ canonical_text sheet.now) }
+    ensures text { IfOk result (λ text. text.items ≡ canonical_text sheet.now) }
+    ensures reads { IfOk result (λ text. ReadsOnlyAs text.items sheet.now) }
 {
+    sheets_are_well_formed(sheet);
+    canonical_texts_read_as_their_sheets();
     let mut text = Vec::new(alloc);
     lines(&mut text, sheet)?;
     Ok(text)

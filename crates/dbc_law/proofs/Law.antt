@@ -1,0 +1,24 @@
+-- The canonical text of a sheet has tokens, these divide into statements, and the statements say the sheet.
+use Rattle.std.proofs.Common.{refl}
+use Rattle.catalogue.specs.Canon.{canonical_text}
+use Rattle.catalogue.specs.Form.{IsSheet}
+use Rattle.catalogue.specs.Reads.{Reads, ReadsAsOneAtMost}
+use Rattle.catalogue.specs.Saying.{passed_by}
+use Rattle.catalogue.specs.declared.sheet.Sheet.{Sheet}
+use Rattle.dbc_law.specs.Law.{GrammarLaw}
+use Rattle.dbc_law.proofs.Saying.{contents_say}
+use Rattle.dbc_law.proofs.Statements.{lines_divide}
+use Rattle.dbc_law.proofs.Tokens.{text_has_tokens}
+
+canonical_reads : (s : Sheet) → IsSheet s → Reads (canonical_text s) s
+canonical_reads s h =
+    let (tokens, has_tokens, stand) = text_has_tokens s h in
+    let (statements, divides, contents) = lines_divide s h tokens stand in (
+      passed_by statements,
+      record { tokens = tokens; statements = statements; has_tokens = has_tokens; divides = divides; says = contents_say s h statements contents; passes = refl },
+    )
+
+pub grammar_law : ReadsAsOneAtMost → GrammarLaw
+grammar_law one s h =
+    let here = canonical_reads s h in
+    record { reads = here; only = λ t other. (one (canonical_text s) t s other.0 here.0 other.1 here.1).0 }

@@ -49,7 +49,7 @@ exact_symbols ts =
 
 -- A keyword is a name, and no number or mark.
 
-next_name : (t : Token) → begins_next t ≡ true → is_a Name t ≡ true
+pub next_name : (t : Token) → begins_next t ≡ true → is_a Name t ≡ true
 next_name t h = by_name (is_a Name t) (keyword_of t.text) (and_parts (is_some (key_of t)) (not (is_key Signal t)) h).0
   where
     by_name : (b : Bool) (o : Option Keyword) → is_some (if b then o else None) ≡ true → b ≡ true

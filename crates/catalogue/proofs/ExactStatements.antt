@@ -31,7 +31,7 @@ use Rattle.catalogue.proofs.ExactLines.{exact_passed_value_texts, exact_independ
 
 -- A keyword is spelled in one way, and each spelling is one keyword.
 
-keyword_back : (k : Keyword) → keyword_of (keyword_text k) ≡ Some k
+pub keyword_back : (k : Keyword) → keyword_of (keyword_text k) ≡ Some k
 keyword_back Version = refl
 keyword_back k = refl
 

@@ -22,7 +22,7 @@ pub mod IdentNumbers
 pub mod SheetSaid
 mod TokenRuns
 pub mod TokenBytes
-mod TokenNumbers
+pub mod TokenNumbers
 pub mod TokenTexts
 pub mod TokenWords
 pub mod TokensOnce

@@ -16,11 +16,11 @@ use Rattle.catalogue.proofs.TokenRuns.{prefix_le}
 
 -- ---- no number is longer
 
-numeral_parts : (bytes : List ℕ) → is_numeral bytes ≡ true → (0 < length bytes) × (are_digits bytes ≡ true)
+pub numeral_parts : (bytes : List ℕ) → is_numeral bytes ≡ true → (0 < length bytes) × (are_digits bytes ≡ true)
 numeral_parts [] h = absurd cc
 numeral_parts (b ∷ bytes) h = (omega arith, (and_parts _ (are_digits (b ∷ bytes)) h).1)
 
-with_front-is : (n : ℕ) → 0 < n → with_front n ≡ n + 1
+pub with_front-is : (n : ℕ) → 0 < n → with_front n ≡ n + 1
 with_front-is zero h = absurd (omega arith)
 with_front-is (suc n) h = omega arith
 

@@ -39,7 +39,7 @@ IsFound kind b bytes (Some n) = IsWord kind (b ∷ bytes) n
 continues : (b : ℕ) → starts_identifier b ≡ true → continues_identifier b ≡ true
 continues b h = rw h refl
 
-name_continues : (word : List ℕ) → is_c_identifier word ≡ true → list_all continues_identifier word ≡ true
+pub name_continues : (word : List ℕ) → is_c_identifier word ≡ true → list_all continues_identifier word ≡ true
 name_continues [] h = refl
 name_continues (b ∷ bytes) h =
     let parts = and_parts (starts_identifier b) (list_all continues_identifier bytes) h in

@@ -16,7 +16,7 @@ digits : (bytes : List ℕ) → Decides (list_all (λ b. nat_lt (digit_value b) 
 digits [] = (λ _. tt, λ _. refl)
 digits (b ∷ bytes) = both _ _ (Decides-ltb (digit_value b) 10) (digits bytes)
 
-numeral : (bytes : List ℕ) → Decides (is_numeral bytes) (IsNumeral 10 bytes)
+pub numeral : (bytes : List ℕ) → Decides (is_numeral bytes) (IsNumeral 10 bytes)
 numeral [] = (λ e. absurd (false≢true e), λ h. absurd (let few : 0 < length {A = ℕ} [] = h.0 in omega arith))
 numeral (b ∷ bytes) =
     let all = digits (b ∷ bytes) in

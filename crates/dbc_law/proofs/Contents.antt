@@ -20,6 +20,7 @@ use Rattle.catalogue.specs.Statement.{
   PassedOver,
   MessageLine,
   SignalLine,
+  Statement,
 }
 use Rattle.catalogue.specs.ValueType.{value_type_number}
 use Rattle.catalogue.specs.declared.message.Message.{Message}
@@ -28,6 +29,9 @@ use Rattle.catalogue.specs.declared.sheet.Sheet.{Sheet}
 use Rattle.catalogue.specs.declared.signal.Signal.{Signal}
 use Rattle.catalogue.specs.declared.value_table.ValueTable.{ValueTable}
 use Rattle.catalogue.specs.declared.value_texts.ValueText.{ValueText}
+
+abbrev pub contents_of : List Statement → List Content
+contents_of statements = map (λ (s : Statement). s.content) statements
 
 -- a signal and a message as their statement says them
 abbrev pub signal_line : Signal → SignalLine
@@ -92,8 +96,11 @@ value_texts m s = texts (number_of m) s.name s.values
 abbrev pub value_types : Message → Signal → List Content
 value_types m s = if value_type_number s.value_type == 0 then [] else (ValueTypeIs (Some (number_of m)) s.name s.value_type ∷ [])
 
-abbrev pub contents : Sheet → List Content
-contents s = VersionIs s.version ∷ Dropped ∷ Dropped ∷ NodesAre (node_names s)
-    ∷ map table s.tables ++ map message s.messages
+-- all but the lines before the first table, section after section
+abbrev pub sections : Sheet → List Content
+sections s = map table s.tables ++ map message s.messages
     ++ comments CommentIs s.comment ++ flat_map node_comments s.nodes ++ flat_map message_comments s.messages
     ++ defined (each_signal spns s) ++ each_signal value_texts s ++ each_signal value_types s
+
+abbrev pub contents : Sheet → List Content
+contents s = VersionIs s.version ∷ Dropped ∷ Dropped ∷ NodesAre (node_names s) ∷ sections s

@@ -39,10 +39,10 @@ use Rattle.catalogue.specs.declared.value_type.ValueType.TheVariants.{Integer}
 use Rattle.catalogue.proofs.EachSaid.{kept, said}
 use Rattle.catalogue.proofs.IdentNumbers.{ident_of_number-dbc_number}
 use Rattle.catalogue.proofs.SheetSaid.{message_signals, messages_said, nodes_said, part_entries, signal_key, signals_said}
-use Rattle.dbc_law.proofs.Contents.{comments, contents, message_line, node_names, signal_line}
+use Rattle.dbc_law.proofs.Contents.{comments, contents, contents_of, message_line, node_names, signal_line}
+use Rattle.dbc_law.proofs.SayingContents.{each_in-contents}
 use Rattle.dbc_law.proofs.SayingEntries.{empty_list, empty_number, empty_type, some_number, some_of, some_type}
 use Rattle.dbc_law.proofs.SayingKinds as kinds
-use Rattle.dbc_law.proofs.SayingSections.{each_in-contents}
 
 -- a comment that is left out where it is empty is said
 last_comment : (t : List ℕ) → t ≡ unwrap_or (last_or None (filter_map comment_in (comments CommentIs t))) []
@@ -50,7 +50,7 @@ last_comment [] = refl
 last_comment (b ∷ bs) = refl
 
 module _ (statements : List Statement) where
-  -- What the statements say of each node, message and signal is its own value.
+  -- ---- what the statements say of each node, message and signal is its own value
 
   abbrev NodesSaid : List Node → Type 0
   NodesSaid ns = AllByRecursion (λ (n : Node). last_said bytes_eq n.name [] node_comment_in statements ≡ n.comment) ns
@@ -64,7 +64,7 @@ module _ (statements : List Statement) where
   abbrev EachSignalSaid : {V : Type 0} → V → (Content → Option (SignalKey × V)) → (Signal → V) → List Message → Type 0
   EachSignalSaid v kind value ms = AllByRecursion (λ (m : Message). SignalsSaid v kind value m m.signals) ms
 
-  -- So they are whole.
+  -- ---- so they are whole
 
   whole_nodes : (ns : List Node) → NodesSaid ns → map (whole_node statements) (map node_name ns) ≡ ns
   whole_nodes [] all = refl
@@ -104,7 +104,7 @@ module _ (statements : List Statement) where
     signals = whole_signals m m.signals c.0 p.0 v.0 t.0 i;
   } ∷ whole_messages ms are.1 own.1 c.1 p.1 v.1 t.1 i
 
-module _ (s : Sheet) (is : IsSheet s) (statements : List Statement) (say : map (λ (x : Statement). x.content) statements ≡ contents s) where
+module _ (s : Sheet) (is : IsSheet s) (statements : List Statement) (say : contents_of statements ≡ contents s) where
   -- what the contents say the statements say
   said_by : {X : Type 0} (kind : Content → Option X) (xs : List X) → filter_map kind (contents s) ≡ xs → each_in kind statements ≡ xs
   said_by kind xs e = each_in-contents kind statements ∙ ap (filter_map kind) say ∙ e
@@ -144,7 +144,7 @@ module _ (s : Sheet) (is : IsSheet s) (statements : List Statement) (say : map (
       ∙ ap (map (whole_node statements)) (append-nil (node_names s)) ∙ whole_nodes statements s.nodes nodes_own
 
 -- so they say the sheet
-pub contents_say : (s : Sheet) → IsSheet s → (statements : List Statement) → map (λ (x : Statement). x.content) statements ≡ contents s → Says statements s
+pub contents_say : (s : Sheet) → IsSheet s → (statements : List Statement) → contents_of statements ≡ contents s → Says statements s
 contents_say s is statements say = record {
   is_sheet = is;
   version = sym (ap (λ vs. unwrap_or (last_or None vs) []) (said_by s is statements say version_in _ (kinds.version_in-contents s)));

@@ -1,15 +1,17 @@
 -- How long a word is, read from its first byte, where a byte follows it that continues no word.
-use Rattle.std.proofs.Common.{◌≡◌, ◌==◌, ◌||◌, ℕ, zero, suc, ◌+◌, ◌<◌, Bool, true, false, cond, eqb, List, [], ◌∷◌, ◌++◌, length, refl, ap, ◌∙◌, arith, append_assoc}
+use Rattle.std.proofs.Common.{◌≡◌, ◌==◌, ◌||◌, ℕ, ◌+◌, ◌<◌, Bool, true, false, cond, eqb, List, [], ◌∷◌, ◌++◌, length, refl, ap, ◌∙◌, arith, append_assoc}
 use Rattle.std.specs.Char.{is_ascii_digit}
-use Rattle.std.specs.List.{prefix_len, list_all}
-use Rattle.std.proofs.lemmas.Bool.{and_parts, and_from, or_parts}
+use Rattle.std.specs.List.{prefix_len}
+use Rattle.std.proofs.lemmas.Bool.{and_parts, or_parts}
 use Rattle.std.proofs.lemmas.Bool.Decides.{nat_tests}
 use Rattle.std.proofs.lemmas.List.{length-append, drop_at}
 use Rattle.decimal.specs.Cutting.{fraction_len}
 use Rattle.decimal.specs.Spelling.{Spelling, IsNumberToken, are_digits, is_exponent, is_fraction, is_letter_e, is_numeral, is_power, is_sign}
-use Rattle.decimal.proofs.Tokens.{Stops, prefix_exact}
-use Rattle.catalogue.specs.Lexing.{exponent_len, number_len, power_len, tail_len, with_front}
-use Rattle.catalogue.specs.Name.{continues_identifier, is_c_identifier, starts_identifier}
+use Rattle.decimal.proofs.Tokens.{Stops, e_digit, e_point, point_digit, prefix_exact}
+use Rattle.catalogue.specs.Lexing.{exponent_len, number_len, power_len, tail_len}
+use Rattle.catalogue.specs.Name.{continues_identifier, is_c_identifier}
+use Rattle.catalogue.proofs.TokenNumbers.{numeral_parts, with_front-is}
+use Rattle.catalogue.proofs.TokenWords.{name_continues}
 
 -- the byte continues a name or a number
 abbrev pub continues_word : ℕ → Bool
@@ -20,15 +22,6 @@ abbrev pub Breaks : List ℕ → Type 0
 Breaks rest = Stops continues_word rest
 
 -- ---- names
-
-continues : (b : ℕ) → starts_identifier b ≡ true → continues_identifier b ≡ true
-continues b h = rw h refl
-
-name_continues : (word : List ℕ) → is_c_identifier word ≡ true → list_all continues_identifier word ≡ true
-name_continues [] h = refl
-name_continues (b ∷ bytes) h =
-    let parts = and_parts (starts_identifier b) (list_all continues_identifier bytes) h in
-    and_from _ _ (continues b parts.0) parts.1
 
 no_name : (rest : List ℕ) → Breaks rest → Stops continues_identifier rest
 no_name [] h = tt
@@ -48,26 +41,9 @@ no_letter b h = grind (arith, nat_tests)
 no_point : (b : ℕ) → continues_word b ≡ false → eqb b 46 ≡ false
 no_point b h = (or_parts (continues_identifier b) (eqb b 46) h).1
 
-e_digit : (b : ℕ) → is_letter_e b ≡ true → is_ascii_digit b ≡ false
-e_digit b h = grind (arith, nat_tests)
-
-e_point : (b : ℕ) → is_letter_e b ≡ true → eqb b 46 ≡ false
-e_point b h = grind (arith, nat_tests)
-
-point_digit : (b : ℕ) → eqb b 46 ≡ true → is_ascii_digit b ≡ false
-point_digit b h = grind (arith, nat_tests)
-
 no_digits : (rest : List ℕ) → Breaks rest → Stops is_ascii_digit rest
 no_digits [] h = tt
 no_digits (b ∷ rest) h = no_digit b h
-
-with_front-is : (n : ℕ) → 0 < n → with_front n ≡ n + 1
-with_front-is zero h = absurd (omega arith)
-with_front-is (suc n) h = omega arith
-
-numeral_parts : (bytes : List ℕ) → is_numeral bytes ≡ true → (0 < length bytes) × (are_digits bytes ≡ true)
-numeral_parts [] h = absurd cc
-numeral_parts (b ∷ bytes) h = (omega arith, (and_parts _ (are_digits (b ∷ bytes)) h).1)
 
 numeral_exact : (bytes rest : List ℕ) → is_numeral bytes ≡ true → Breaks rest → (prefix_len is_ascii_digit (bytes ++ rest) ≡ length bytes) × (0 < length bytes)
 numeral_exact bytes rest h breaks = let n = numeral_parts bytes h in (prefix_exact is_ascii_digit bytes rest n.1 (no_digits rest breaks), n.0)
@@ -93,7 +69,7 @@ exponent_exact (b ∷ bytes) rest h breaks =
     let p = power_exact bytes rest e.1 breaks in
     rw (e.0, p.0) (omega (arith, with_front-is (length bytes) p.1))
 
--- what follows the digits of a fraction, and those before a point
+-- no digit stands behind those of a fraction, nor behind the whole ones
 exponent_stops : (exponent rest : List ℕ) → is_exponent exponent ≡ true → Breaks rest → Stops is_ascii_digit (exponent ++ rest)
 exponent_stops [] rest h breaks = no_digits rest breaks
 exponent_stops (b ∷ bytes) rest h breaks = e_digit b (and_parts (is_letter_e b) _ h).0

@@ -1,117 +1,40 @@
--- Good pieces, one line after the other, have the tokens that stand for them.
-use Rattle.std.proofs.Common.{◌≡◌, ◌+◌, ℕ, List, [], ◌∷◌, ◌++◌, length, refl, sym, ap, subst, ◌∙◌, append_assoc, arith}
-use Rattle.std.specs.List.{AllByRecursion, flat_map, list_all}
-use Rattle.std.proofs.lemmas.Bool.{and_from, and_parts}
-use Rattle.std.proofs.lemmas.List.{length-append}
-use Rattle.catalogue.specs.Canon.{Line, Piece, line_text}
-use Rattle.catalogue.specs.Spelling.{Spells, is_gap}
-use Rattle.catalogue.specs.Token.{Token}
-use Rattle.catalogue.specs.Tokens.{HasTokens, IsGap}
-use Rattle.catalogue.specs.declared.token.TokenKind.{TokenKind}
-use Rattle.catalogue.specs.declared.token.TokenKind.TheVariants.{Name, Number, Text, Mark}
-use Rattle.dbc_law.proofs.Standing.{line, lines, token_of}
-use Rattle.dbc_law.proofs.TokenEnds.{Ends, word_longest}
-use Rattle.dbc_law.proofs.TokenLengths.{Breaks}
+-- Lists of legible lines.
+use Rattle.std.proofs.Common.{Bool, true, false, List, [], ◌∷◌, ◌++◌, map, if◌then◌else◌}
+use Rattle.std.specs.List.{All, AllByRecursion, flat_map}
+use Rattle.std.proofs.lemmas.List.Elements.{All-head, All-tail}
+use Rattle.catalogue.specs.Canon.{Line}
+use Rattle.dbc_law.proofs.TokenLegible.{AreLegible}
 
--- ---- a gap in front of bytes
+pub record AreLegibleLines (ls : List Line) : Type 0 where
+  pub each : AllByRecursion AreLegible ls
 
-gap_append : (gap more : List ℕ) → IsGap gap → IsGap more → IsGap (gap ++ more)
-gap_append [] more h k = k
-gap_append (b ∷ gap) more h k =
-    let parts = and_parts (is_gap b) (list_all is_gap gap) h in
-    and_from (is_gap b) (list_all is_gap (gap ++ more)) parts.0 (gap_append gap more parts.1 k)
+pub no_lines : AreLegibleLines []
+no_lines = record { each = tt }
 
-pub behind_gap : (place : ℕ) (gap bytes : List ℕ) (ts : List Token) → IsGap gap → HasTokens (place + length gap) bytes ts → HasTokens place (gap ++ bytes) ts
-behind_gap place gap bytes [] h has = gap_append gap bytes h has
-behind_gap place gap bytes (t ∷ ts) h (rest, first, others) = (
-  rest,
-  record {
-    gap = gap ++ first.gap;
-    parts = ap (λ v. gap ++ v) first.parts ∙ sym (append_assoc gap first.gap (t.text ++ rest));
-    gap_is = gap_append gap first.gap h first.gap_is;
-    start = omega (arith, first.start, length-append gap first.gap);
-    end = first.end;
-    spelled = first.spelled;
-    longest = first.longest;
-  },
-  others,
-)
+pub with_line : (l : Line) (ls : List Line) → AreLegible l → AreLegibleLines ls → AreLegibleLines (l ∷ ls)
+with_line l ls h k = record { each = (h, k.each) }
 
--- ---- good pieces
+pub one_line : (l : Line) → AreLegible l → AreLegibleLines (l ∷ [])
+one_line l h = with_line l [] h no_lines
 
--- the bytes of pieces
-abbrev pub pieces_text : List Piece → List ℕ
-pieces_text ps = flat_map (λ (p : Piece). p.gap ++ p.text) ps
+-- a line that is left out where the test holds
+pub line_unless : (test : Bool) (l : Line) → AreLegible l → AreLegibleLines (if test then [] else (l ∷ []))
+line_unless true l h = no_lines
+line_unless false l h = one_line l h
 
--- no word goes on where these pieces follow, to the end of their line
-abbrev pub AreApart : List Piece → Type 0
-AreApart ps = Breaks (pieces_text ps ++ 10 ∷ [])
+lines_append : (ls ks : List Line) → AreLegibleLines ls → AreLegibleLines ks → AreLegibleLines (ls ++ ks)
+lines_append [] ks h k = k
+lines_append (l ∷ ls) ks h k = with_line l (ls ++ ks) h.each.0 (lines_append ls ks (record { each = h.each.1 }) k)
 
--- the same, where the kind of what stands before needs it
-abbrev pub AreApartFrom : TokenKind → List Piece → Type 0
-AreApartFrom Name ps = AreApart ps
-AreApartFrom Number ps = AreApart ps
-AreApartFrom Text ps = Unit {0}
-AreApartFrom Mark ps = Unit {0}
+infixl 10 ◌also◌
+pub ◌also◌ : {ls ks : List Line} → AreLegibleLines ls → AreLegibleLines ks → AreLegibleLines (ls ++ ks)
+◌also◌ {ls} {ks} h k = lines_append ls ks h k
 
--- a piece, and those behind it in its line
-pub record IsGood (p : Piece) (behind : List Piece) : Type 0 where
-  pub gap : IsGap p.gap
-  pub spelled : Spells p.kind p.text
-  pub apart : AreApartFrom p.kind behind
+module _ {A : Type 0} (P : A → Type 0) where
+  pub line_of_each : (line : A → Line) → ((x : A) → P x → AreLegible (line x)) → (xs : List A) → All P xs → AreLegibleLines (map line xs)
+  line_of_each line each [] h = no_lines
+  line_of_each line each (x ∷ xs) h = with_line (line x) (map line xs) (each x (All-head P x xs h)) (line_of_each line each xs (All-tail P x xs h))
 
-abbrev pub AreGood : List Piece → Type 0
-AreGood [] = Unit {0}
-AreGood (p ∷ ps) = IsGood p ps × AreGood ps
-
--- ---- their tokens
-
-breaks_further : (bytes more : List ℕ) → Breaks (bytes ++ 10 ∷ []) → Breaks (bytes ++ 10 ∷ more)
-breaks_further [] more h = h
-breaks_further (b ∷ bytes) more h = h
-
-ends_further : (kind : TokenKind) (ps : List Piece) (more : List ℕ) → AreApartFrom kind ps → Ends kind (pieces_text ps ++ 10 ∷ more)
-ends_further Name ps more h = breaks_further (pieces_text ps) more h
-ends_further Number ps more h = breaks_further (pieces_text ps) more h
-ends_further Text ps more h = tt
-ends_further Mark ps more h = tt
-
--- where pieces end that stand at the place
-abbrev end_of : ℕ → List Piece → ℕ
-end_of place [] = place
-end_of place (p ∷ ps) = end_of (place + length p.gap + length p.text) ps
-
--- pieces of a line, before its end and whatever follows
-pieces_have : (place : ℕ) (ps : List Piece) (more : List ℕ) (ts : List Token) → AreGood ps → HasTokens (end_of place ps) (10 ∷ more) ts
-    → (us : List Token) × HasTokens place (pieces_text ps ++ 10 ∷ more) us × line us ps ts
-pieces_have place [] more ts good has = (ts, has, refl)
-pieces_have place (p ∷ ps) more ts good has =
-    let start = place + length p.gap in
-    let end = place + length p.gap + length p.text in
-    let rest = pieces_text ps ++ 10 ∷ more in
-    let (us, behind, stands) = pieces_have end ps more ts good.1 has in (
-      token_of p start end ∷ us,
-      (
-        rest,
-        record {
-          gap = p.gap;
-          parts = simp append_assoc;
-          gap_is = good.0.gap;
-          start = refl;
-          end = refl;
-          spelled = good.0.spelled;
-          longest = word_longest p.kind p.text rest good.0.spelled (ends_further p.kind ps more good.0.apart);
-        },
-        behind,
-      ),
-      (us, record { start = start; end = end; front = refl }, stands),
-    )
-
-pub lines_have : (place : ℕ) (ls : List Line) → AllByRecursion AreGood ls → (ts : List Token) × HasTokens place (flat_map line_text ls) ts × lines ts ls []
-lines_have place [] good = ([], refl, refl)
-lines_have place (l ∷ ls) good =
-    let more = flat_map line_text ls in
-    let (ts, has, stands) = lines_have (end_of place l + 1) ls good.1 in
-    let (us, here, front) = pieces_have place l more ts good.0 (behind_gap (end_of place l) (10 ∷ []) more ts refl has) in
-    let parts : line_text l ++ more ≡ pieces_text l ++ 10 ∷ more = simp append_assoc in
-    (us, subst (λ v. HasTokens place v us) (sym parts) here, (ts, front, stands))
+  pub lines_of_each : (lines : A → List Line) → ((x : A) → P x → AreLegibleLines (lines x)) → (xs : List A) → All P xs → AreLegibleLines (flat_map lines xs)
+  lines_of_each lines each [] h = no_lines
+  lines_of_each lines each (x ∷ xs) h = each x (All-head P x xs h) also lines_of_each lines each xs (All-tail P x xs h)

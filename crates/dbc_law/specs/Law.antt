@@ -4,6 +4,7 @@ use Rattle.catalogue.specs.Form.{IsSheet}
 use Rattle.catalogue.specs.Reads.{ReadsOnlyAs}
 use Rattle.catalogue.specs.declared.sheet.Sheet.{Sheet}
 
--- the canonical text of every sheet reads as that sheet, and as no other
+-- Of each sheet that is one, well formed and each part in its form: its canonical text reads as that sheet, and every
+-- sheet that it reads as is that one.
 abbrev pub GrammarLaw : Type 0
 GrammarLaw = (s : Sheet) → IsSheet s → ReadsOnlyAs (canonical_text s) s

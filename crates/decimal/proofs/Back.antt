@@ -28,10 +28,10 @@ from_all_digits (c ∷ cs) h =
     and_from (is_ascii_digit c) (are_digits cs) (grind (arith, nat_tests)) (from_all_digits cs h.1)
 
 -- a number that `decimal` writes
-abbrev IsSmall : ℕ → Type 0
+abbrev pub IsSmall : ℕ → Type 0
 IsSmall n = n < 10 ^ 64
 
-decimal_digits : (n : ℕ) → IsSmall n → are_digits (decimal n) ≡ true
+pub decimal_digits : (n : ℕ) → IsSmall n → are_digits (decimal n) ≡ true
 decimal_digits n small = from_all_digits (decimal n) (decimal_is_IsNumeral_wide n small).0.1
 
 decimal_value : (n : ℕ) → IsSmall n → digits_value 10 (decimal n) ≡ n
@@ -43,7 +43,7 @@ some_length ds h = ap not (ne_eqb (length ds) 0 (λ e. omega (arith, h, e)))
 numeral_from : (ds : List ℕ) → 0 < length ds → are_digits ds ≡ true → is_numeral ds ≡ true
 numeral_from ds some digits = and_from _ (are_digits ds) (some_length ds some) digits
 
-decimal_numeral : (n : ℕ) → IsSmall n → is_numeral (decimal n) ≡ true
+pub decimal_numeral : (n : ℕ) → IsSmall n → is_numeral (decimal n) ≡ true
 decimal_numeral n small = numeral_from (decimal n) (decimal_is_IsNumeral_wide n small).0.0 (decimal_digits n small)
 
 zeros_are_zeros : (k : ℕ) → AreZeros (replicate k 48)

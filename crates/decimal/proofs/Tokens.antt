@@ -32,13 +32,13 @@ pub prefix_all : (p : ℕ → Bool) (bs : List ℕ) → list_all p (take (prefix
 prefix_all p [] = refl
 prefix_all p (b ∷ bs) = prefix_all_at p b bs (p b) refl (prefix_all p bs)
 
-e_digit : (b : ℕ) → is_letter_e b ≡ true → is_ascii_digit b ≡ false
+pub e_digit : (b : ℕ) → is_letter_e b ≡ true → is_ascii_digit b ≡ false
 e_digit b h = grind (arith, nat_tests)
 
-e_point : (b : ℕ) → is_letter_e b ≡ true → eqb b 46 ≡ false
+pub e_point : (b : ℕ) → is_letter_e b ≡ true → eqb b 46 ≡ false
 e_point b h = grind (arith, nat_tests)
 
-point_digit : (b : ℕ) → eqb b 46 ≡ true → is_ascii_digit b ≡ false
+pub point_digit : (b : ℕ) → eqb b 46 ≡ true → is_ascii_digit b ≡ false
 point_digit b h = grind (arith, nat_tests)
 
 -- no digit follows the whole part, and none the fraction

@@ -1,4 +1,4 @@
--- Comments.
+-- The lines of comments are statements.
 use Rattle.std.proofs.Common.{◌++◌, ℕ, List, [], ◌∷◌, Some, refl, inl, inr}
 use Rattle.std.specs.Prelude.{codes}
 use Rattle.catalogue.specs.Canon as canon
@@ -12,11 +12,10 @@ use Rattle.catalogue.specs.declared.message.Message.{Message}
 use Rattle.catalogue.specs.declared.node.Node.{Node}
 use Rattle.catalogue.specs.declared.signal.Signal.{Signal}
 use Rattle.dbc_law.proofs.Contents.{comments, message_comments, node_comments, signal_comments}
-use Rattle.dbc_law.proofs.MessageLines.{small_number}
-use Rattle.dbc_law.proofs.Reading.{chain, read}
 use Rattle.dbc_law.proofs.Standing.{line}
-use Rattle.dbc_law.proofs.Words.{says_cited, says_text}
-use Rattle.dbc_law.proofs.Writing.{Writes, writes_both, writes_each, writes_line, writes_none}
+use Rattle.dbc_law.proofs.StatementLines.{Writes, ◌also◌, writes_each, writes_line, writes_none}
+use Rattle.dbc_law.proofs.StatementRules.{finish, past}
+use Rattle.dbc_law.proofs.StatementWords.{says_cited, says_text}
 
 abbrev text_and_end : List ℕ → List canon.Piece
 text_and_end text = canon.quoted canon.space text ∷ canon.mark canon.tight 59 ∷ []
@@ -28,48 +27,45 @@ comment_writes : (of_what : List canon.Piece) (says : List ℕ → Content) (tex
 unfolding grammar.line
 comment_writes of_what says [] reads = writes_none
 comment_writes of_what says (b ∷ bs) reads =
-    writes_line keyword.Comment (canon.word canon.tight (codes "CM_")) (of_what ++ text_and_end (b ∷ bs)) (says (b ∷ bs)) (λ _ _. refl) (λ _ _. refl)
-    (λ ts rest stands next. reads ts rest stands)
+    writes_line keyword.Comment (of_what ++ text_and_end (b ∷ bs)) (says (b ∷ bs)) refl (λ ts rest stands next. reads ts rest stands)
 
 pub file_comment_writes : (text : List ℕ) → Writes (canon.comment_lines [] text) (comments CommentIs text)
 unfolding grammar.comment_line grammar.file_comment
-file_comment_writes text = comment_writes [] CommentIs text (λ ts rest (a, quoted, (b, mark, same)).
-    inl (chain text a (read (canon.quoted canon.space text) quoted (says_text canon.space text))
-    (chain tt b (read (canon.mark canon.tight 59) mark (λ _ _. refl)) (record { value = refl; all = same }))))
+file_comment_writes text =
+    comment_writes [] CommentIs text (λ ts rest (a, quoted, (b, mark, same)).
+    inl (past quoted (says_text canon.space text) (past mark (λ _ _. refl) (finish same))))
 
 pub node_comment_writes : (n : Node) → Writes (canon.node_comment n) (node_comments n)
 unfolding grammar.comment_line grammar.node_comment
 node_comment_writes n =
     comment_writes (canon.word canon.space (codes "BU_") ∷ canon.word canon.space n.name ∷ []) (NodeCommentIs n.name) n.comment
     (λ ts rest (a, word, (b, name, (c, quoted, (d, mark, same)))).
-    inr (inl (chain tt a (read (canon.word canon.space (codes "BU_")) word (λ _ _. refl))
-    (chain n.name b (read (canon.word canon.space n.name) name (λ _ _. refl))
-    (chain n.comment c (read (canon.quoted canon.space n.comment) quoted (says_text canon.space n.comment))
-    (chain tt d (read (canon.mark canon.tight 59) mark (λ _ _. refl)) (record { value = refl; all = same })))))))
+    inr (inl (past word (λ _ _. refl) (past name (λ _ _. refl) (past quoted (says_text canon.space n.comment) (past mark (λ _ _. refl) (finish same)))))))
 
 message_comment_writes : (m : Message) → IsMessage m
-    → Writes (canon.comment_lines (canon.word canon.space (codes "BO_") ∷ canon.number canon.space (number_of m) ∷ []) m.comment) (comments (MessageCommentIs (Some (number_of m))) m.comment)
+    → Writes (canon.comment_lines (canon.word canon.space (codes "BO_") ∷ canon.number canon.space (number_of m) ∷ []) m.comment)
+    (comments (MessageCommentIs (Some (number_of m))) m.comment)
 unfolding grammar.comment_line grammar.message_comment
 message_comment_writes m h =
     comment_writes (canon.word canon.space (codes "BO_") ∷ canon.number canon.space (number_of m) ∷ []) (MessageCommentIs (Some (number_of m))) m.comment
     (λ ts rest (a, word, (b, number, (c, quoted, (d, mark, same)))).
-    inr (inr (inl (chain tt a (read (canon.word canon.space (codes "BO_")) word (λ _ _. refl))
-    (chain (Some (number_of m)) b (read (canon.number canon.space (number_of m)) number (says_cited canon.space (number_of m) (small_number m h)))
-    (chain m.comment c (read (canon.quoted canon.space m.comment) quoted (says_text canon.space m.comment))
-    (chain tt d (read (canon.mark canon.tight 59) mark (λ _ _. refl)) (record { value = refl; all = same }))))))))
+    inr (inr (inl (past word (λ _ _. refl)
+    (past number (says_cited m h)
+    (past quoted (says_text canon.space m.comment)
+    (past mark (λ _ _. refl) (finish same))))))))
 
 signal_comment_writes : (m : Message) (s : Signal) → IsMessage m → Writes (canon.comment_lines (canon.signal_pieces m s) s.comment) (signal_comments m s)
 unfolding grammar.comment_line grammar.signal_comment
 signal_comment_writes m s h =
     comment_writes (canon.signal_pieces m s) (SignalCommentIs (Some (number_of m)) s.name) s.comment
     (λ ts rest (a, word, (b, number, (c, name, (d, quoted, (e, mark, same))))).
-    inr (inr (inr (inl (chain tt a (read (canon.word canon.space (codes "SG_")) word (λ _ _. refl))
-    (chain (Some (number_of m)) b (read (canon.number canon.space (number_of m)) number (says_cited canon.space (number_of m) (small_number m h)))
-    (chain s.name c (read (canon.word canon.space s.name) name (λ _ _. refl))
-    (chain s.comment d (read (canon.quoted canon.space s.comment) quoted (says_text canon.space s.comment))
-    (chain tt e (read (canon.mark canon.tight 59) mark (λ _ _. refl)) (record { value = refl; all = same }))))))))))
+    inr (inr (inr (inl (past word (λ _ _. refl)
+    (past number (says_cited m h)
+    (past name (λ _ _. refl)
+    (past quoted (says_text canon.space s.comment)
+    (past mark (λ _ _. refl) (finish same))))))))))
 
 pub message_comments_write : (m : Message) → IsMessage m → Writes (canon.message_comments m) (message_comments m)
 message_comments_write m h =
-    writes_both _ _ _ _ (message_comment_writes m h)
-    (writes_each IsSignal (λ (s : Signal). canon.comment_lines (canon.signal_pieces m s) s.comment) (signal_comments m) (λ s _. signal_comment_writes m s h) m.signals h.signals)
+    message_comment_writes m h
+    also writes_each IsSignal (λ (s : Signal). canon.comment_lines (canon.signal_pieces m s) s.comment) (signal_comments m) (λ s _. signal_comment_writes m s h) m.signals h.signals

@@ -1,0 +1,16 @@
+-- The pieces of a decimal, by its sign.
+use Rattle.std.specs.Prelude.{Bool, List, [], ◌∷◌, ℕ, unsigned_abs, if◌then◌else◌}
+use Rattle.decimal.specs.Number.{Number}
+use Rattle.decimal.specs.Printing.{unsigned_text}
+use Rattle.catalogue.specs.Canon.{Piece, mark, tight}
+use Rattle.catalogue.specs.declared.token.TokenKind.TheVariants as kind
+
+abbrev pub digits : Number → List ℕ
+digits n = unsigned_text (unsigned_abs n.mantissa) n.exponent
+
+abbrev pub digits_piece : List ℕ → Number → Piece
+digits_piece gap n = record { gap = gap; kind = kind.Number; text = digits n }
+
+-- as `value` of the catalogue's `Canon`, where the sign is `is_negative n.mantissa`
+abbrev pub signed_pieces : Bool → List ℕ → Number → List Piece
+signed_pieces negative gap n = if negative then mark gap 45 ∷ digits_piece tight n ∷ [] else (digits_piece gap n ∷ [])

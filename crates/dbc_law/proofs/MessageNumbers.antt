@@ -1,0 +1,20 @@
+-- The numbers of messages are those that statements may write.
+use Rattle.std.proofs.Common.{◌≡◌, ◌<◌, ◌^◌, true, refl, arith}
+use Rattle.can_id.specs.Ident.{IsIdentifier, dbc_number}
+use Rattle.can_id.specs.declared.ident.Ident.{Ident}
+use Rattle.can_id.specs.declared.ident.Ident.TheVariants.{Std, Ext}
+use Rattle.catalogue.specs.Fields.{is_dbc_number}
+use Rattle.catalogue.specs.Form.{IsMessage}
+use Rattle.catalogue.specs.Messages.{number_of}
+use Rattle.catalogue.specs.declared.message.Message.{Message}
+use Rattle.catalogue.proofs.Identifiers.{numbers_are_identifiers}
+
+pub number_range : (m : Message) → IsMessage m → is_dbc_number (number_of m) ≡ true
+number_range m h = (numbers_are_identifiers (number_of m)).1 (m.ident, h.ident, refl)
+
+pub number_small : (m : Message) → IsMessage m → number_of m < 2 ^ 32
+number_small m h = of_ident m.ident h.ident
+  where
+    of_ident : (i : Ident) → IsIdentifier i → dbc_number i < 2 ^ 32
+    of_ident (Std n) range = omega (arith, range)
+    of_ident (Ext n) range = omega (arith, range)

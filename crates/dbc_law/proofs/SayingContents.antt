@@ -1,0 +1,34 @@
+-- What contents say of one kind, one after the other.
+use Rattle.std.proofs.Common.{◌≡◌, ◌∙◌, List, [], ◌∷◌, ◌++◌, Option, None, Some, refl, ap}
+use Rattle.std.specs.List.{cons_option, filter_map}
+use Rattle.std.proofs.lemmas.List.Elements.{filter_map-append}
+use Rattle.catalogue.specs.Saying.{each_in}
+use Rattle.catalogue.specs.Statement.{Content, Statement}
+use Rattle.dbc_law.proofs.Contents.{contents_of}
+
+-- of this kind the contents say these
+pub record Tell {X : Type 0} (kind : Content → Option X) (cs : List Content) (xs : List X) : Type 0 where
+  pub told : filter_map kind cs ≡ xs
+
+module _ {X : Type 0} {kind : Content → Option X} where
+  pub no_contents : Tell kind [] []
+  no_contents = record { told = refl }
+
+  -- a content that says nothing of the kind, or x, before others
+  pub silent : {c : Content} {cs : List Content} {xs : List X} → kind c ≡ None → Tell kind cs xs → Tell kind (c ∷ cs) xs
+  silent {cs} e more = record { told = ap (λ o. cons_option o (filter_map kind cs)) e ∙ more.told }
+
+  pub speaks : {c : Content} {cs : List Content} {x : X} {xs : List X} → kind c ≡ Some x → Tell kind cs xs → Tell kind (c ∷ cs) (x ∷ xs)
+  speaks {cs} {x} e more = record { told = ap (λ o. cons_option o (filter_map kind cs)) e ∙ ap (λ rest. x ∷ rest) more.told }
+
+  infixl 10 ◌also◌
+  pub ◌also◌ : {cs ds : List Content} {xs ys : List X} → Tell kind cs xs → Tell kind ds ys → Tell kind (cs ++ ds) (xs ++ ys)
+  ◌also◌ {cs} {ds} first second = record { told = filter_map-append kind cs ds ∙ (λ i. first.told i ++ second.told i) }
+
+  pub told_as : {cs : List Content} {xs ys : List X} → xs ≡ ys → Tell kind cs xs → Tell kind cs ys
+  told_as e tell = record { told = tell.told ∙ e }
+
+-- statements say what their contents say
+pub each_in-contents : {X : Type 0} (kind : Content → Option X) (statements : List Statement) → each_in kind statements ≡ filter_map kind (contents_of statements)
+each_in-contents kind [] = refl
+each_in-contents kind (x ∷ xs) = ap (λ r. cons_option (kind x.content) r) (each_in-contents kind xs)

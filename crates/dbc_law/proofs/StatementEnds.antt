@@ -1,0 +1,44 @@
+-- What follows a statement or a signal is a keyword, at which no list of nodes goes on.
+use Rattle.std.proofs.Common.{◌≡◌, ◌&&◌, ◌∙◌, ℕ, true, false, not, List, [], ◌∷◌, length, is_some, nat_le, refl, sym, ap}
+use Rattle.std.specs.Prelude.{codes}
+use Rattle.std.specs.Str.{bytes_eq}
+use Rattle.std.proofs.lemmas.Bool.{and_left, and_parts, and_right, false_from_ne_true, false≢true, not_from_true}
+use Rattle.std.proofs.lemmas.Slice.Eq.{bytes_eq-Decides}
+use Rattle.catalogue.specs.Canon.{space, word}
+use Rattle.catalogue.specs.Fields.{is_key, key_of}
+use Rattle.catalogue.specs.Grammar.{next}
+use Rattle.catalogue.specs.Keyword.{is_keyword}
+use Rattle.catalogue.specs.Name.{is_c_identifier, is_name, no_node}
+use Rattle.catalogue.specs.Token.{Token}
+use Rattle.catalogue.specs.declared.keyword.Keyword.TheVariants.{Signal}
+use Rattle.catalogue.specs.declared.token.TokenKind.TheVariants.{Name}
+use Rattle.catalogue.proofs.ExactFields.{kind_is}
+use Rattle.catalogue.proofs.ExactLines.{next_name}
+use Rattle.dbc_law.proofs.Standing.{token_of}
+use Rattle.dbc_law.proofs.StatementNodes.{EndsList}
+
+keyword_is_no_name : (w : List ℕ) → is_keyword w ≡ true → is_name w ≡ false
+unfolding is_name
+keyword_is_no_name w h =
+    let known = is_c_identifier w && nat_le (length w) 128 in
+    and_left (known && not (is_keyword w)) (not (bytes_eq w no_node)) (and_right known (not (is_keyword w)) (not_from_true (is_keyword w) h))
+
+keyword_is_some_node : (w : List ℕ) → is_keyword w ≡ true → bytes_eq w no_node ≡ false
+keyword_is_some_node w h =
+    false_from_ne_true (bytes_eq w no_node) (λ e.
+    let same : w ≡ no_node = (bytes_eq-Decides w no_node).0 e in
+    let keyword : is_keyword no_node ≡ true = ap is_keyword (sym same) ∙ h in
+    false≢true keyword)
+
+keyword_ends : (t : Token) (ts : List Token) → t.kind ≡ Name → is_keyword t.text ≡ true → EndsList (t ∷ ts)
+keyword_ends t ts name h = rw (name, keyword_is_some_node t.text h, keyword_is_no_name t.text h) refl
+
+pub next_ends : (rest : List Token) → next rest ≡ true → EndsList rest
+next_ends [] h = refl
+next_ends (t ∷ ts) h =
+    let name = kind_is Name t (next_name t h) in
+    let keyword = (and_parts (is_some (key_of t)) (not (is_key Signal t)) h).0 in
+    keyword_ends t ts name (rw name at keyword)
+
+pub signal_ends : (start end : ℕ) (ts : List Token) → EndsList (token_of (word space (codes "SG_")) start end ∷ ts)
+signal_ends start end ts = keyword_ends (token_of (word space (codes "SG_")) start end) ts refl refl

@@ -1,0 +1,37 @@
+-- Rules, applied to tokens that stand for pieces.
+use Rattle.std.proofs.Common.{◌≡◌, ◌++◌, ℕ, Bool, true, List, Option, Some, refl}
+use Rattle.catalogue.specs.Canon.{Piece}
+use Rattle.catalogue.specs.Rules.{Rule, ◌>>=◌, done, followed, token}
+use Rattle.catalogue.specs.Token.{Token}
+use Rattle.dbc_law.proofs.Standing.{Front, line, many_parts, piece, token_of}
+
+-- the token of the piece says x; `λ _ _. refl` shows it where the piece alone tells
+pub read : {A : Type 0} {says : Token → Option A} {x : A} {p : Piece} {ts rest : List Token} → Front ts p rest
+    → ((start end : ℕ) → says (token_of p start end) ≡ Some x) → token says ts x rest
+read {p} f e = record { first = token_of p f.start f.end; front = f.front; value = e f.start f.end }
+
+-- first one rule, then the others
+pub chain : {A B : Type 0} {rule : Rule A} {others : A → Rule B} {ts rest : List Token} {y : B} (x : A) (middle : List Token) → rule ts x middle
+    → others x middle y rest → (rule >>= others) ts y rest
+chain x middle first more = record { value = x; middle = middle; begins = first; goes_on = more }
+
+-- first the token of the piece
+pub past : {A B : Type 0} {says : Token → Option A} {others : A → Rule B} {x : A} {p : Piece} {ts middle rest : List Token} {y : B} → Front ts p middle
+    → ((start end : ℕ) → says (token_of p start end) ≡ Some x) → others x middle y rest → (token says >>= others) ts y rest
+past {x} {middle} f e more = chain x middle (read f e) more
+
+-- first a look at what follows, which passes the test
+pub seen : {B : Type 0} {test : List Token → Bool} {others : Unit {0} → Rule B} {ts rest : List Token} {y : B} → test ts ≡ true
+    → others tt ts y rest → (followed test >>= others) ts y rest
+seen {ts} e more = chain tt ts (record { passes = e; all = refl }) more
+
+pub finish : {A : Type 0} {x : A} {ts rest : List Token} → rest ≡ ts → done x ts x rest
+finish e = record { value = refl; all = e }
+
+-- Where pieces stand before others there is a place between them. What follows from it is said as a function of that
+-- place, which keeps the terms small.
+pub parted : {C : Type 0} (front back : List Piece) (ts rest : List Token) → line ts (front ++ back) rest
+    → ((middle : List Token) → line ts front middle → line middle back rest → C) → C
+parted front back ts rest stands says =
+    let (middle, first, others) = many_parts piece ts front back rest stands in
+    says middle first others

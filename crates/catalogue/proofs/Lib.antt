@@ -2,6 +2,7 @@ pub mod Putting
 pub mod Put
 mod Digits
 pub mod Texts
+mod KeywordEndings
 mod NameSets
 mod Rosters
 mod Places

@@ -1,9 +1,8 @@
 -- A text reads as one sheet at most.
-use Rattle.std.proofs.Common.{◌≡◌, ◌∙◌, ℕ, List, sym, ap, subst}
+use Rattle.std.proofs.Common.{◌∙◌, sym, ap, subst}
 use Rattle.catalogue.specs.Division.{Divides, OneDivision}
-use Rattle.catalogue.specs.Reads.{ReadsAs, ReadsAsOneAtMost}
+use Rattle.catalogue.specs.Reads.{ReadsAsOneAtMost}
 use Rattle.catalogue.specs.Saying.{Says, SaysOneAtMost, passed_by}
-use Rattle.catalogue.specs.Tokens.{HasTokens}
 use Rattle.catalogue.specs.TokenLaw.{TokensAreOne}
 
 pub one_reading : TokensAreOne → OneDivision → SaysOneAtMost → ReadsAsOneAtMost

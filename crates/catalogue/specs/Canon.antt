@@ -1,9 +1,9 @@
 -- The canonical text of a sheet, line after line (the statements of Vector's DBC File Format Documentation, in the one
 -- order and spelling that this project writes).
-use Rattle.std.specs.Prelude.{ℕ, ◌==◌, Bool, true, false, not, List, [], ◌∷◌, ◌++◌, map, filter, Option, unwrap_or, codes, unsigned_abs, if◌then◌else◌}
+use Rattle.std.specs.Prelude.{ℕ, ◌==◌, List, [], ◌∷◌, ◌++◌, map, unwrap_or, codes, unsigned_abs, if◌then◌else◌}
 use Rattle.std.specs.Fmt.{decimal}
 use Rattle.std.specs.Int.{is_negative}
-use Rattle.std.specs.List.{flat_map, list_any}
+use Rattle.std.specs.List.{flat_map}
 use Rattle.bitlayout.specs.declared.layout.Order.{Order}
 use Rattle.bitlayout.specs.declared.layout.Order.TheVariants.{Intel, Motorola}
 use Rattle.bitlayout.specs.declared.place.Mux.{Mux}

@@ -1,6 +1,6 @@
 -- The words that DBC text reserves (Vector's DBC File Format Documentation, the keywords of its statements),
 -- and what becomes of a statement that begins with one: a choice of this project.
-use Rattle.std.specs.Prelude.{ℕ, Bool, List, [], ◌∷◌, Option, find, is_some, codes}
+use Rattle.std.specs.Prelude.{ℕ, ◌-◌, ◌==◌, Bool, ◌||◌, List, [], ◌∷◌, length, slice_get, Option, unwrap_or, find, is_some, codes}
 use Rattle.std.specs.Str.{bytes_eq}
 use Rattle.catalogue.specs.declared.keyword.KeywordGroup.{KeywordGroup}
 use Rattle.catalogue.specs.declared.keyword.KeywordGroup.TheVariants.{Kept, Passed, Refused}
@@ -99,6 +99,14 @@ keyword_of word = find (λ k. bytes_eq (keyword_text k) word) keywords
 
 abbrev pub is_keyword : List ℕ → Bool
 is_keyword word = is_some (keyword_of word)
+
+-- `_`, or the last letter of `VERSION` or `FILTER`
+abbrev pub is_ending : ℕ → Bool
+is_ending b = (b == 95) || (b == 78) || (b == 82)
+
+-- the last byte is one with which a keyword ends
+abbrev pub ends_keyword : List ℕ → Bool
+ends_keyword word = is_ending (unwrap_or (slice_get word (length word - 1)) 0)
 
 -- statements that are read, those that are passed over, and the one that is refused
 abbrev pub keyword_group : Keyword → KeywordGroup

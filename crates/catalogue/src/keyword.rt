@@ -1,5 +1,6 @@
-ghost use Rattle.std.specs.Prelude.{◌≡◌, find};
+ghost use Rattle.std.specs.Prelude.{◌≡◌, Some, find, IfSome};
 ghost use Rattle.std.specs.Str.{bytes_eq};
+ghost use Rattle.catalogue.specs.Keyword.{keyword_of, ends_keyword};
 
 /// What the office does with a statement that begins with a keyword.
 #[derive(Clone, Copy, Debug, PartialEq, Eq)]
@@ -126,11 +127,48 @@ const KEYWORDS: [Keyword; 35] = [
     Keyword::ExtendedMultiplexing,
 ];
 
+/// Whether the last byte is one with which a keyword ends. Few names end so.
+fn ends_keyword(word: &[u8]) -> bool
+    ensures { result ≡ ends_keyword word.now }
+{
+    let last = word.last().copied().unwrap_or(0);
+    matches!(last, b'_' | b'N' | b'R')
+}
+
+/// The keywords that stand most often in a file, looked for first.
+fn frequent(word: &[u8]) -> Option<Keyword>
+    ensures { IfSome result (λ keyword. keyword_of word.now ≡ Some keyword) }
+{
+    if word == b"SG_".as_slice() {
+        Some(Keyword::Signal)
+    } else if word == b"CM_".as_slice() {
+        Some(Keyword::Comment)
+    } else if word == b"BO_".as_slice() {
+        Some(Keyword::Message)
+    } else if word == b"VAL_".as_slice() {
+        Some(Keyword::ValueTexts)
+    } else {
+        None
+    }
+}
+
 impl Keyword {
     ghost use Rattle.catalogue.specs.Keyword.{keyword_of, keyword_text, keyword_group};
 
     /// The keyword that the bytes spell, or `None` where they are no keyword.
     pub fn of(word: &[u8]) -> Option<Keyword>
+        ensures { result ≡ keyword_of word.now }
+    {
+        if !ends_keyword(word) {
+            return None;
+        }
+        match frequent(word) {
+            Some(keyword) => Some(keyword),
+            None => Keyword::listed(word),
+        }
+    }
+
+    fn listed(word: &[u8]) -> Option<Keyword>
         ensures { result ≡ keyword_of word.now }
     {
         KEYWORDS

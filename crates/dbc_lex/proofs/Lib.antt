@@ -1,2 +1,3 @@
 mod Insides
 mod Reading
+mod KindTables

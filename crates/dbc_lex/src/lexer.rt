@@ -1,14 +1,16 @@
 //! Reading a text token by token.
-ghost use Rattle.std.specs.Prelude.{◌≡◌, ◌+◌, ◌≤◌, ◌<◌, ◌^◌, length, IfSome, IfOk};
+ghost use Rattle.std.specs.Prelude.{◌≡◌, ◌+◌, ◌≤◌, ◌<◌, ◌^◌, length, min, drop, IfSome, IfOk};
 ghost use Rattle.catalogue.specs.Lexing.{token_at};
 ghost use Rattle.dbc_lex.specs.First.{GivesFirst};
 
 use crate::fault::{ReadCode, ReadFault};
-use crate::spelling::{gap_len, kind_of, word_len};
+use crate::kinds::kind_of;
+use crate::spelling::{gap_len, word_len};
 use crate::token::Token;
 use std::marker::Model;
 
 /// The token at the place where a gap ends and the rest begins; `None` at the end of the text.
+#[inline(always)]
 #[tactic(auto, unfolding(catalogue::specs::Lexing::token_at))]
 fn token_at<'a>(start: usize, rest: &'a [u8]) -> Result<Option<Token<'a>>, ReadFault>
     requires { start + length rest.now < 2 ^ 64 }
@@ -71,6 +73,17 @@ impl<'a> Lexer<'a> {
         }
     }
 
+    /// The lexer of the text at a place of it, or at its end where the place is behind that.
+    pub fn at(source: &'a [u8], place: usize) -> Lexer<'a>
+        ensures { result ≡ lexed (min place (length source.now)) (drop place source.now) }
+    {
+        let at = place.min(source.len());
+        Lexer {
+            at,
+            rest: &source[at..],
+        }
+    }
+
     /// Another lexer at the same place, for looking ahead.
     pub fn fork(&self) -> Lexer<'a>
         ensures { result ≡ self.now }
@@ -90,6 +103,7 @@ impl<'a> Lexer<'a> {
     /// Names, unsigned numbers, character strings and punctuation are those of Vector's DBC File Format Documentation;
     /// that gaps alone stand between tokens, and that each is as long as it can be, is this project's profile. That the
     /// tokens are slices of the text, in order, is a law of `catalogue` (`tokens_are_exact`).
+    #[inline(always)]
     pub fn next_token(&mut self) -> Result<Option<Token<'a>>, ReadFault>
         ensures { GivesNext self.old result self.new }
     {

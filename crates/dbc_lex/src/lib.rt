@@ -11,6 +11,7 @@
 #![tactic(auto)]
 
 mod fault;
+mod kinds;
 mod lexer;
 mod spelling;
 #[cfg(test)]

@@ -4,24 +4,16 @@ ghost use Rattle.std.specs.Char.{is_ascii_digit};
 ghost use Rattle.std.specs.List.{prefix_len};
 ghost use Rattle.decimal.specs.Cutting.{fraction_len};
 ghost use Rattle.catalogue.specs.Name.{continues_identifier};
-ghost use Rattle.catalogue.specs.Spelling.{is_gap, is_mark};
-ghost use Rattle.catalogue.specs.Lexing.{power_len, exponent_len, number_len, inside_len, kind_of, word_len};
+ghost use Rattle.catalogue.specs.Spelling.{is_gap};
+ghost use Rattle.catalogue.specs.Lexing.{power_len, exponent_len, number_len, inside_len, word_len};
 
-use catalogue::{TokenKind, continues_identifier, starts_identifier};
+use crate::kinds::kind_of;
+use catalogue::TokenKind;
 
 fn is_gap(byte: u8) -> bool
     ensures { result ≡ is_gap byte }
 {
     matches!(byte, 9..=13 | 32)
-}
-
-fn is_mark(byte: u8) -> bool
-    ensures { result ≡ is_mark byte }
-{
-    matches!(
-        byte,
-        b':' | b';' | b',' | b'|' | b'@' | b'(' | b')' | b'[' | b']' | b'+' | b'-'
-    )
 }
 
 /// How many gap bytes stand in front.
@@ -30,6 +22,12 @@ pub(crate) fn gap_len(bytes: &[u8]) -> usize
     ensures within { result ≤ length bytes.now }
 {
     bytes.iter().take_while(|byte| is_gap(**byte)).count()
+}
+
+fn continues_identifier(byte: u8) -> bool
+    ensures { result ≡ continues_identifier byte }
+{
+    matches!(kind_of(byte), Some(TokenKind::Name | TokenKind::Number))
 }
 
 fn name_len(bytes: &[u8]) -> usize
@@ -106,6 +104,7 @@ fn number_len(bytes: &[u8]) -> usize
 
 /// How many bytes stand before the quote that ends a text, where the bytes begin behind its opening quote; `None` where
 /// no quote ends it. A backslash takes the next byte with it.
+#[inline(never)]
 fn inside_len(bytes: &[u8]) -> Option<usize>
     ensures is { result ≡ inside_len false bytes.now }
     ensures within { IfSome result (λ n. n < length bytes.now) }
@@ -123,24 +122,8 @@ fn inside_len(bytes: &[u8]) -> Option<usize>
     None
 }
 
-/// The kind of the tokens that begin with the byte, `None` where none does.
-pub(crate) fn kind_of(byte: u8) -> Option<TokenKind>
-    ensures { result ≡ kind_of byte }
-{
-    if starts_identifier(byte) {
-        Some(TokenKind::Name)
-    } else if byte.is_ascii_digit() {
-        Some(TokenKind::Number)
-    } else if byte == b'"' {
-        Some(TokenKind::Text)
-    } else if is_mark(byte) {
-        Some(TokenKind::Mark)
-    } else {
-        None
-    }
-}
-
 /// How many bytes the token of the kind takes that begins with the first byte; `None` for a text that no quote ends.
+#[inline(always)]
 #[tactic(auto, unfolding(catalogue::specs::Lexing::word_len))]
 pub(crate) fn word_len(kind: TokenKind, bytes: &[u8]) -> Option<usize>
     requires { 1 ≤ length bytes.now }

@@ -1,31 +1,33 @@
 -- The tokens that are read of a text are spelled as their kinds are.
-use Rattle.std.proofs.Common.{◌≡◌, ℕ, List, [], ◌∷◌, Option, Some, None, Ok, sym, ap, subst, ◌∙◌}
-use Rattle.catalogue.specs.Lexing.{Lexed, lexed}
+use Rattle.std.proofs.Common.{◌≡◌, ℕ, List, [], ◌∷◌, Option, Some, None, Ok, Err, sym, ap, subst, ◌∙◌}
+use Rattle.catalogue.specs.Lexing.{LexFault, Lexed, lexed}
 use Rattle.catalogue.specs.Token.{Token}
-use Rattle.catalogue.specs.TokenLaw.{all_read}
-use Rattle.catalogue.specs.Tokens.{HasTokens}
-use Rattle.catalogue.proofs.TokenExact.{exact}
+use Rattle.catalogue.proofs.TokenExact.{IsRead, first_of, read_is_there}
 use Rattle.dbc_lex.specs.Next.{GivesNext}
-use Rattle.dbc_lex.specs.Seen.{seen}
+use Rattle.dbc_lex.specs.declared.fault.ReadFault.{ReadFault}
 use Rattle.dbc_lex.specs.declared.token.Token.{Token as TextToken}
 use Rattle.dbc_statements.specs.Left.{AreLeft, AreSpelled}
 
-are_spelled : (place : ℕ) (bytes : List ℕ) (tokens : List Token) → HasTokens place bytes tokens → AreSpelled tokens
-are_spelled place bytes [] h = tt
-are_spelled place bytes (t ∷ ts) (rest, first, more) = (first.spelled, are_spelled t.end rest ts more)
+are_spelled : (place : ℕ) (bytes : List ℕ) (tokens : List Token) (o : Option LexFault) → IsRead place bytes tokens o → AreSpelled tokens
+are_spelled place bytes [] o h = tt
+are_spelled place bytes (t ∷ ts) o h =
+    let (rest, first, more) = first_of place bytes t ts o h in
+    (first.spelled, are_spelled t.end rest ts o more)
 
-pub read_are_spelled : (bytes : List ℕ) (tokens : List Token) → lexed 0 bytes ≡ all_read tokens → AreSpelled tokens
-read_are_spelled bytes tokens e = are_spelled 0 bytes tokens ((exact 0 bytes tokens).1 e)
+pub read_are_spelled : (bytes : List ℕ) → AreSpelled (lexed 0 bytes).tokens
+read_are_spelled bytes = are_spelled 0 bytes (lexed 0 bytes).tokens (lexed 0 bytes).fault (read_is_there 0 bytes)
 
--- the tokens of a text without a fault, once the first one is in sight
-pub at_first : (next : Option TextToken) (bytes : List ℕ) (old lexer : Lexed) → old ≡ lexed 0 bytes → (lexed 0 bytes).fault ≡ None → GivesNext old (Ok next) lexer → AreLeft next lexer
-at_first None bytes old lexer e f g = record {
-  in_sight = g.1 ∙ g.0;
-  spelled = subst AreSpelled (sym (ap (λ (l : Lexed). l.tokens) (g.1 ∙ g.0))) tt;
+none_are_left : (lexer : Lexed) → lexer.tokens ≡ [] → AreLeft None lexer
+none_are_left lexer none = record { in_sight = none; spelled = subst AreSpelled (sym none) tt }
+
+-- the tokens of a text, once the first one is in sight
+pub at_first : (next : Option TextToken) (bytes : List ℕ) (old lexer : Lexed) → old ≡ lexed 0 bytes → GivesNext old (Ok next) lexer → AreLeft next lexer
+at_first None bytes old lexer e g = none_are_left lexer (ap (λ (l : Lexed). l.tokens) (g.1 ∙ g.0))
+at_first (Some t) bytes old lexer e g = record {
+  in_sight = tt;
+  spelled = subst AreSpelled (ap (λ (l : Lexed). l.tokens) (sym e) ∙ g.0) (read_are_spelled bytes);
 }
-at_first (Some t) bytes old lexer e f g =
-    let none : old.fault ≡ None = ap (λ (l : Lexed). l.fault) e ∙ f in
-    record {
-      in_sight = sym g.1 ∙ none;
-      spelled = read_are_spelled bytes (seen t ∷ lexer.tokens) (sym e ∙ (λ i. record { tokens = g.0 i; fault = none i }));
-    }
+
+-- and where none is
+pub at_fault : (fault : ReadFault) (old lexer : Lexed) → GivesNext old (Err fault) lexer → AreLeft None lexer
+at_fault fault old lexer (cause, is, same, stays) = none_are_left lexer (ap (λ (l : Lexed). l.tokens) (stays ∙ is))

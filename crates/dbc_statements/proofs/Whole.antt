@@ -32,6 +32,10 @@ module _ (bytes : List ℕ) where
   no_tokens fault (cause, ends, is) ss d =
       absurd (let w : Some cause ≡ None = sym ends ∙ ap (λ (l : Lexed). l.fault) ((exact 0 bytes d.tokens).0 d.has_tokens) in cc)
 
+  -- all that is read, where no fault comes
+  pub whole : (tokens : List Token) → tokens ≡ (lexed 0 bytes).tokens → (lexed 0 bytes).fault ≡ None → lexed 0 bytes ≡ all_read tokens
+  whole tokens same none = λ i. record { tokens = sym same i; fault = none i }
+
   module _ (tokens : List Token) (read : lexed 0 bytes ≡ all_read tokens) where
     pub is_divided : (ss : List Statement) → statements_at tokens ≡ Some ss → IsDivided bytes ss
     is_divided ss e = record { tokens = tokens; has_tokens = (exact 0 bytes tokens).1 read; divides = (reading_is_exact tokens ss).1 e }

@@ -1,10 +1,9 @@
 -- The tokens that are left of a text: the next one, and those that the lexer hasn't given yet.
-use Rattle.std.specs.Prelude.{◌≡◌, List, [], ◌∷◌, Option, Some, None, drop, ⊤}
+use Rattle.std.specs.Prelude.{◌≡◌, ◌⊎◌, ℕ, List, [], ◌∷◌, ◌++◌, Option, Some, None, drop, ⊤}
 use Rattle.std.specs.List.{AllByRecursion}
 use Rattle.catalogue.specs.Lexing.{LexFault, Lexed}
 use Rattle.catalogue.specs.Spelling.{Spells}
 use Rattle.catalogue.specs.Token.{Token}
-use Rattle.catalogue.specs.TokenLaw.{all_read}
 use Rattle.dbc_lex.specs.Seen.{seen, fault_of}
 use Rattle.dbc_lex.specs.declared.fault.ReadFault.{ReadFault}
 use Rattle.dbc_lex.specs.declared.token.Token.{Token as TextToken}
@@ -17,10 +16,10 @@ left (Some t) lexer = seen t ∷ lexer.tokens
 abbrev pub AreSpelled : List Token → Type 0
 AreSpelled tokens = AllByRecursion (λ (t : Token). Spells t.kind t.text) tokens
 
--- no fault stands behind them, and the next one is in sight where there is one
+-- the next one is in sight where there is one
 abbrev pub IsInSight : Option TextToken → Lexed → Type 0
-IsInSight None lexer = lexer ≡ all_read []
-IsInSight (Some t) lexer = lexer.fault ≡ None
+IsInSight None lexer = lexer.tokens ≡ []
+IsInSight (Some t) lexer = ⊤
 
 pub record AreLeft (next : Option TextToken) (lexer : Lexed) : Type 0 where
   pub in_sight : IsInSight next lexer
@@ -43,3 +42,7 @@ IsSecond tokens second = IsFirst (drop 1 tokens) second
 -- reading ends with this fault
 abbrev pub EndsWith : Lexed → ReadFault → Type 0
 EndsWith read fault = (cause : LexFault) × (read.fault ≡ Some cause) × (fault ≡ fault_of cause)
+
+-- the place where one of the tokens ends, or that of the first byte
+abbrev pub IsReached : List Token → ℕ → Type 0
+IsReached tokens place = (place ≡ 0) ⊎ ((front : List Token) × (t : Token) × (rest : List Token) × (tokens ≡ front ++ t ∷ rest) × (t.end ≡ place))

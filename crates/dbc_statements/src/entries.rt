@@ -34,11 +34,14 @@ fn entry(alloc: Global, tokens: &mut Tokens) -> Result<ValueText, ReadFault>
     Ok(ValueText { value, text })
 }
 
+/// The room for entries that is reserved at once: most lists have two.
+const USUAL_ENTRIES: usize = 2;
+
 /// Values and their texts, up to `;`.
 pub(crate) fn entries(alloc: Global, tokens: &mut Tokens) -> Result<Entries, ReadFault>
     ensures { Reads entries_of result (entries_at tokens.old) tokens.new }
 {
-    let mut entries = Vec::new(alloc);
+    let mut entries = Vec::with_capacity(alloc, USUAL_ENTRIES)?;
     let mut above = 0;
     'entries: while is_open(tokens) {
         if entries.len() == VALUE_TEXT_LIMIT {

@@ -153,10 +153,17 @@ pub(crate) fn cited_number(tokens: &mut Tokens) -> Result<Option<u32>, ReadFault
     ensures { Reads itself result (token_at fields.cited_number tokens.old) tokens.new }
 {
     match tokens.first() {
-        Some(token) if is_number(&token) && is_numeral(token.text) => {
-            tokens.skip();
-            Ok(whole_number(token.text))
-        }
+        Some(token) if is_number(&token) => match whole_number(token.text) {
+            Some(number) => {
+                tokens.skip();
+                Ok(Some(number))
+            }
+            None if is_numeral(token.text) => {
+                tokens.skip();
+                Ok(None)
+            }
+            None => Err(tokens.unexpected()),
+        },
         _ => Err(tokens.unexpected()),
     }
 }

@@ -6,8 +6,8 @@
 //! the places that faults are about besides. Contracts see the statements of the grammar (`said` of
 //! `specs/Said.antt`).
 //!
-//! A text is read twice: once for its tokens alone, since a fault of these comes before any other, and once for its
-//! statements, token by token (`tokens`). Above the tokens stand fields (`words`, `fields`, `names`, `entries`), then
+//! A text is read once, token by token (`tokens`). A place where no token begins is at fault before any other, wherever it
+//! is, so what stands behind the last statement that was begun is then read for such a place (`fault_behind`). Above the tokens stand fields (`words`, `fields`, `names`, `entries`), then
 //! the lines behind each keyword (`heading`, `messages`, `signals`, `comments`, `attached`, `passing`), then the
 //! statements (`reading`). What the statements say together, and whether that is a sheet, is the next layer's matter.
 #![tactic(auto)]

@@ -131,11 +131,11 @@ pub(crate) fn receivers(alloc: Global, tokens: &mut Tokens) -> Result<Items<Name
     ensures { Reads itself result (nodes_at tokens.old) tokens.new }
 {
     let nodes = nodes(alloc, tokens)?;
-    let mut names = Items::new(alloc);
+    let mut names = Vec::with_capacity(alloc, nodes.len())?;
     for node in nodes {
         names.push(node.name)?;
     }
-    Ok(names)
+    Ok(Items::from_vec(names))
 }
 
 /// The node that sends a message, or none for the name that stands for no node.

@@ -4,6 +4,7 @@ ghost use Rattle.catalogue.specs.Grammar as grammar;
 ghost use Rattle.catalogue.specs.Parsing.{is_more, line_at, statement_at, statements_at, token_at};
 ghost use Rattle.dbc_lex.specs.Fault.{UnlessMemory};
 ghost use Rattle.dbc_statements.specs.Division.{HasNoDivision, IsDivided, TokensComeFirst};
+ghost use Rattle.dbc_statements.specs.Left.{IsReached};
 ghost use Rattle.dbc_statements.specs.Reading.{Reads, itself};
 ghost use Rattle.dbc_statements.specs.Said.{content_of, said, statement_of};
 
@@ -13,7 +14,7 @@ use crate::heading::{bit_timing, new_symbols, node_names, value_table, version};
 use crate::messages::message_or_independent;
 use crate::passing::skipped;
 use crate::statement::{Content, Statement};
-use crate::tokens::{Behind, Tokens};
+use crate::tokens::{Behind, Tokens, end_of_first, fault_behind};
 use crate::words::{is_mark, is_word, key_of};
 use catalogue::{Keyword, NAME_LIMIT};
 use dbc_lex::{ReadCode, ReadFault, Token};
@@ -128,12 +129,16 @@ fn is_more(tokens: &Tokens) -> bool
     tokens.first().is_some()
 }
 
-fn all(alloc: Global, tokens: &mut Tokens) -> Result<Vec<Statement>, ReadFault>
+/// Reads all statements, and says up to where the tokens were read at least, whatever it answers.
+fn all(alloc: Global, tokens: &mut Tokens, reached: &mut usize) -> Result<Vec<Statement>, ReadFault>
+    requires { reached.old ≡ 0 }
     ensures ok { IfOk result (λ statements. statements_at tokens.old ≡ Some (said statements.items)) }
     ensures err { IfErr result (λ fault. UnlessMemory fault.code (statements_at tokens.old ≡ None)) }
+    ensures reached { IsReached tokens.old reached.new }
 {
     let mut statements = Vec::new(alloc);
     'statements: while is_more(tokens) {
+        *reached = end_of_first(tokens);
         let next = statement(alloc, tokens)?;
         statements.push(next)?;
     }
@@ -151,7 +156,10 @@ pub fn statements_of(alloc: Global, source: &[u8]) -> Result<Vec<Statement>, Rea
     ensures err { IfErr result (λ fault. UnlessMemory fault.code (HasNoDivision source.now)) }
     ensures tokens { TokensComeFirst source.now result }
 {
-    let mut tokens = Tokens::of(source)?;
-    let statements = all(alloc, &mut tokens)?;
+    let mut tokens = Tokens::of(source);
+    let mut reached = 0;
+    let read = all(alloc, &mut tokens, &mut reached);
+    fault_behind(source, reached)?;
+    let statements = read?;
     Ok(statements)
 }

@@ -1,8 +1,8 @@
-//! The tokens of a text that is known to have tokens, one after the other, with the next one in sight.
+//! The tokens of a text up to its end, or up to the first place where none begins, one after the other and with the next
+//! one in sight.
 ghost use Rattle.std.specs.Prelude.{◌≡◌, IfOk, IfErr, None, drop};
 ghost use Rattle.catalogue.specs.Lexing.{lexed};
-ghost use Rattle.catalogue.specs.TokenLaw.{all_read};
-ghost use Rattle.dbc_statements.specs.Left.{IsFirst, IsSpelled, IsSecond, EndsWith};
+ghost use Rattle.dbc_statements.specs.Left.{IsFirst, IsSpelled, IsSecond, IsReached, EndsWith};
 
 use dbc_lex::{Lexer, ReadCode, ReadFault, Token};
 use std::marker::Model;
@@ -39,12 +39,14 @@ impl<'a> Model for Tokens<'a> {
     ghost invariant = { λ t. AreLeft t.next t.lexer };
 }
 
-/// Reads the text to its end, for its first fault.
-fn fault_in(source: &[u8]) -> Result<(), ReadFault>
+/// The fault of the text where it has one, at the first place where no token begins. The place that is given is one that
+/// its tokens reach, so what stands before it is not read again.
+pub(crate) fn fault_behind(source: &[u8], place: usize) -> Result<(), ReadFault>
+    requires { IsReached (lexed 0 source.now).tokens place }
     ensures ok { IfOk result (λ u. (lexed 0 source.now).fault ≡ None) }
     ensures err { IfErr result (λ fault. EndsWith (lexed 0 source.now) fault) }
 {
-    let mut lexer = Lexer::of(source);
+    let mut lexer = Lexer::at(source, place);
     'tokens: loop {
         match lexer.next_token() {
             Ok(Some(_)) => {}
@@ -54,22 +56,31 @@ fn fault_in(source: &[u8]) -> Result<(), ReadFault>
     }
 }
 
+/// Where the first of the tokens ends, 0 where there is none.
+pub(crate) fn end_of_first(tokens: &Tokens) -> usize
+    ensures { IsReached tokens.now result }
+{
+    match tokens.first() {
+        Some(token) => token.end,
+        None => 0,
+    }
+}
+
 impl<'a> Tokens<'a> {
-    /// The tokens of the source. Where it has none, code 30 or 31 at its first fault.
-    pub(crate) fn of(source: &'a [u8]) -> Result<Tokens<'a>, ReadFault>
-        ensures ok { IfOk result (λ tokens. lexed 0 source.now ≡ all_read tokens) }
-        ensures err { IfErr result (λ fault. EndsWith (lexed 0 source.now) fault) }
+    /// The tokens of the source.
+    pub(crate) fn of(source: &'a [u8]) -> Tokens<'a>
+        ensures { result ≡ (lexed 0 source.now).tokens }
     {
-        fault_in(source)?;
         let mut lexer = Lexer::of(source);
-        match lexer.next_token() {
-            Ok(next) => Ok(Tokens {
-                next,
-                lexer,
-                end: source.len(),
-                behind: Behind::Other,
-            }),
-            Err(fault) => Err(fault),
+        let next = match lexer.next_token() {
+            Ok(next) => next,
+            Err(_) => None,
+        };
+        Tokens {
+            next,
+            lexer,
+            end: source.len(),
+            behind: Behind::Other,
         }
     }
 
@@ -92,6 +103,7 @@ impl<'a> Tokens<'a> {
     }
 
     /// Leaves the first of them behind.
+    #[inline(never)]
     pub(crate) fn skip(&mut self)
         ensures { self.new ≡ drop 1 self.old }
     {

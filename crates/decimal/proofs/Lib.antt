@@ -4,6 +4,7 @@ pub mod Tokens
 pub mod Significant
 pub mod Powers
 pub mod Readings
+pub mod PlainNumbers
 pub mod Once
 pub mod Texts
 pub mod Back

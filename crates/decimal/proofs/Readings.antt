@@ -147,3 +147,18 @@ reads_decimal negative bytes s token start end v e digits ends is short at range
 
 pub moved_at : (s : Spelling) (f k end : ℕ) → f ≡ length (drop 1 s.fraction) → k ≡ length (digits_of s) → power_of (drop 1 s.exponent) -ℤ pos f +ℤ pos (k - end) ≡ moved s (length (digits_of s) - end)
 moved_at s f k end p q = rw (p, q) refl
+
+-- a number that machine arithmetic read of the digits, and then took the zeros from
+pub reads_plain : (negative : Bool) (bytes : List ℕ) (s : Spelling) → IsNumberToken bytes s → (v z : ℕ) (e : ℤ) → digits_value 10 (digits_of s) ≡ v * 10 ^ z → v % 10 ≢ 0 → v < 10 ^ 36 → e ≡ moved s z → IsInRange e → Reads negative bytes (Ok (record { mantissa = signed negative v; exponent = e }))
+reads_plain negative bytes s token v z e value last short at range =
+    (writes negative bytes s token v z e value at, decimal_from_stripped negative v e short last range)
+
+pub reads_nothing : (negative : Bool) (bytes : List ℕ) (s : Spelling) → IsNumberToken bytes s → digits_value 10 (digits_of s) ≡ 0 → Reads negative bytes (Ok (record { mantissa = pos 0; exponent = pos 0 }))
+reads_nothing negative bytes s token value = (
+  record {
+    spelling = s;
+    token = token;
+    value = zero_same _ (number_of negative s) refl (ap (signed negative) value ∙ signed_zero negative);
+  },
+  zero_decimal,
+)

@@ -12,6 +12,7 @@
 mod digits;
 mod fault;
 mod number;
+mod plain;
 mod printing;
 mod reading;
 mod spelling;

@@ -5,21 +5,12 @@ ghost use Rattle.decimal.specs.Cutting.{spelling};
 ghost use Rattle.decimal.specs.Reading.{Reads};
 
 use crate::digits::Digits;
-use crate::spelling::{Parts, exponent_of, parts_of};
+use crate::plain::plain_decimal;
+use crate::spelling::{Parts, after_point, exponent_of, parts_of};
 use crate::{Decimal, DecimalFault};
 
 // The most digits that a mantissa may have.
 const MOST_DIGITS: usize = 36;
-
-// The digits after the point of a fraction that has one.
-fn after_point(fraction: &[u8]) -> &[u8]
-    ensures { result.now ≡ drop 1 fraction.now }
-{
-    match fraction {
-        [] => &[],
-        [_, digits @ ..] => digits,
-    }
-}
 
 fn signed(negative: bool, magnitude: u128) -> i128
     requires { magnitude < 10 ^ 36 }
@@ -29,8 +20,8 @@ fn signed(negative: bool, magnitude: u128) -> i128
     if negative { -magnitude } else { magnitude }
 }
 
-// The decimal that a number token in these parts writes, negated or not.
-fn decimal_of(negative: bool, parts: Parts) -> Result<Decimal, DecimalFault>
+// The decimal that a number token in these parts writes, negated or not, of any number of digits.
+fn long_decimal(negative: bool, parts: Parts) -> Result<Decimal, DecimalFault>
     requires token { IsNumberToken (bytes_of (spelling parts)) (spelling parts) }
     requires within { length parts.whole.now + length parts.fraction.now < 2 ^ 64 }
     ensures { Reads negative (bytes_of (spelling parts.entry)) result }
@@ -50,6 +41,18 @@ fn decimal_of(negative: bool, parts: Parts) -> Result<Decimal, DecimalFault>
     match exponent_of(parts.exponent, fraction.len(), zeros) {
         Some(exponent) => Ok(Decimal::new(signed(negative, magnitude), exponent)),
         None => Err(DecimalFault::ExponentRange),
+    }
+}
+
+// The decimal that a number token in these parts writes, negated or not.
+fn decimal_of(negative: bool, parts: Parts) -> Result<Decimal, DecimalFault>
+    requires token { IsNumberToken (bytes_of (spelling parts)) (spelling parts) }
+    requires within { length parts.whole.now + length parts.fraction.now < 2 ^ 64 }
+    ensures { Reads negative (bytes_of (spelling parts.entry)) result }
+{
+    match plain_decimal(negative, parts) {
+        Some(decimal) => Ok(decimal),
+        None => long_decimal(negative, parts),
     }
 }
 

@@ -46,6 +46,16 @@ fn cut(bytes: &[u8]) -> Parts<'_>
     }
 }
 
+/// The digits after the point of a fraction that has one.
+pub(crate) fn after_point(fraction: &[u8]) -> &[u8]
+    ensures { result.now ≡ drop 1 fraction.now }
+{
+    match fraction {
+        [] => &[],
+        [_, digits @ ..] => digits,
+    }
+}
+
 fn are_digits(bytes: &[u8]) -> bool
     ensures { result ≡ are_digits bytes.now }
 {

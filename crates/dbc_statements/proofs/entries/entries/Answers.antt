@@ -8,7 +8,7 @@ use Rattle.dbc_statements.proofs.entries.entries.Goals as goal
 
 pub entries-init : goal.entries-init
 unfolding entries_at
-entries-init c = rw c.new-entries.ensures.items (at_start (many_at (starts is_open) entry_at c.args.tokens.now))
+entries-init c = rw c.in_ok-entries.ensures.items (at_start (many_at (starts is_open) entry_at c.args.tokens.now))
 
 pub entries-smaller : goal.entries-smaller
 entries-smaller c =

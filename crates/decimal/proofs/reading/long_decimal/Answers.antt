@@ -9,7 +9,7 @@ use Rattle.decimal.specs.Spelling.{digits_of, bytes_of, signed}
 use Rattle.decimal.specs.Cutting.{spelling, is_zero}
 use Rattle.decimal.proofs.DigitLists.{ten_le}
 use Rattle.decimal.proofs.Readings.{AreEnds, between, ends_ordered, reads_zero, zero_decimal, reads_long, reads_far, token_digits, decimal_between, reads_decimal, moved_at}
-use Rattle.decimal.proofs.reading.decimal_of.Goals as goal
+use Rattle.decimal.proofs.reading.long_decimal.Goals as goal
 
 pub returns-then-end-eq0 : goal.returns-then-end-eq0
 returns-then-end-eq0 c =

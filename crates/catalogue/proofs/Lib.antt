@@ -40,4 +40,4 @@ pub mod ExactStatements
 pub mod Divisions
 pub mod Identifiers
 mod StatementExamples
-mod OneReading
+pub mod OneReading

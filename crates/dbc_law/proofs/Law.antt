@@ -5,6 +5,7 @@ use Rattle.catalogue.specs.Form.{IsSheet}
 use Rattle.catalogue.specs.Reads.{Reads, ReadsAsOneAtMost}
 use Rattle.catalogue.specs.Saying.{passed_by}
 use Rattle.catalogue.specs.declared.sheet.Sheet.{Sheet}
+use Rattle.catalogue.proofs.OneReading.{reads_only}
 use Rattle.dbc_law.specs.Law.{GrammarLaw}
 use Rattle.dbc_law.proofs.Saying.{contents_say}
 use Rattle.dbc_law.proofs.Statements.{lines_divide}
@@ -19,6 +20,4 @@ canonical_reads s h =
     )
 
 pub grammar_law : ReadsAsOneAtMost → GrammarLaw
-grammar_law one s h =
-    let here = canonical_reads s h in
-    record { reads = here; only = λ t other. (one (canonical_text s) t s other.0 here.0 other.1 here.1).0 }
+grammar_law one s h = reads_only one (canonical_text s) s (canonical_reads s h)

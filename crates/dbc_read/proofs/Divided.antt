@@ -1,13 +1,14 @@
 -- What a text that is divided into statements reads as.
-use Rattle.std.proofs.Common.{◌≡◌, ◌∙◌, ℕ, List, sym, ap, subst}
+use Rattle.std.proofs.Common.{◌≡◌, ℕ, List, refl, subst}
 use Rattle.catalogue.specs.Division.{Divides}
-use Rattle.catalogue.specs.Reads.{ReadsAs}
+use Rattle.catalogue.specs.Reads.{ReadsAs, ReadsAsOneAtMost, ReadsOnlyAs}
 use Rattle.catalogue.specs.Saying.{Says, passed_by}
 use Rattle.catalogue.specs.Statement.{Statement}
 use Rattle.catalogue.specs.Token.{Token}
 use Rattle.catalogue.specs.declared.keyword.Keyword.{Keyword}
 use Rattle.catalogue.specs.declared.sheet.Sheet.{Sheet}
 use Rattle.catalogue.proofs.Divisions.{one_division}
+use Rattle.catalogue.proofs.OneReading.{reads_only}
 use Rattle.catalogue.proofs.TokensOnce.{tokens_once}
 use Rattle.dbc_statements.specs.Division.{HasNoDivision, IsDivided}
 use Rattle.dbc_read.specs.Reading.{ReadsAsNothing}
@@ -27,6 +28,9 @@ module _ (bytes : List ℕ) where
       says = says;
       passes = is;
     }
+
+    pub reads_one : ReadsAsOneAtMost → (s : Sheet) → Says ss s → ReadsOnlyAs bytes s
+    reads_one one s says = reads_only one bytes s (passed_by ss, reads_as s (passed_by ss) says refl)
 
     pub unsaid : SaysNothing ss → ReadsAsNothing bytes
     unsaid none s (passed, r) =

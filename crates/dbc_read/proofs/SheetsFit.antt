@@ -65,7 +65,7 @@ pub entries_refused : (before : List ValueTable) (x : ValueTable) (after whole :
 entries_refused before x after whole refusal e h =
     unless refusal _ _ (λ fit. each_middle (λ (t : ValueTable). AreFewTexts t.entries) before x after (subst (AllByRecursion (λ (t : ValueTable). AreFewTexts t.entries)) (sym e) fit.entries)) h
 
-number_flip : (a b : Message) → number_of a == number_of b ≡ (number_of b == number_of a)
+pub number_flip : (a b : Message) → number_of a == number_of b ≡ (number_of b == number_of a)
 number_flip a b = nat_flip (number_of a) (number_of b)
 
 name_flip : (a b : Message) → bytes_eq (message_name a) (message_name b) ≡ bytes_eq (message_name b) (message_name a)

@@ -1,49 +1,113 @@
--- What a sheet that statements say would have, and what is refused says that there is none.
-use Rattle.std.proofs.Common.{List, [], ◌∷◌, map, subst, IsPermutation}
-use Rattle.std.specs.List.{AllByRecursion}
+-- What is gathered of statements: the sheet that is built of it is the one that they say, and where it can't stand in
+-- one sheet they say none.
+use Rattle.std.proofs.Common.{◌≡◌, ◌==◌, ◌∙◌, ℕ, List, [], ◌∷◌, map, nat_eq, ap, sym, subst, IsPermutation}
+use Rattle.std.specs.Prelude.{unwrap_or}
+use Rattle.std.specs.List.{AllByRecursion, IsDistinct}
+use Rattle.std.specs.Str.{bytes_eq}
 use Rattle.std.proofs.lemmas.List.Elements.{recursion_from_All}
-use Rattle.std.proofs.lemmas.List.Sorted.{IsPermutation-sym, IsPermutation-trans}
-use Rattle.catalogue.specs.Form.{IsMessage}
+use Rattle.std.proofs.lemmas.List.Sorted.{IsPermutation-sym}
+use Rattle.std.proofs.lemmas.Map.Keys.{IsDistinct-IsPermutation}
+use Rattle.catalogue.specs.Form.{IsMessage, IsSheet}
 use Rattle.catalogue.specs.Messages.{number_of}
-use Rattle.catalogue.specs.Saying.{Says, each_in, messages_of, node_names_of, table_in, whole_message, whole_node}
+use Rattle.catalogue.specs.Named.{AreNamedApart}
+use Rattle.catalogue.specs.Saying.{Says, messages_of, node_names_of, numbers_of, same_signal, signal_keys_of, whole_message, whole_node}
 use Rattle.catalogue.specs.Sheet.{node_name}
+use Rattle.catalogue.specs.Signals.{signal_name}
 use Rattle.catalogue.specs.Statement.{Statement}
 use Rattle.catalogue.specs.WellFormed.{AreRostered, IsWellFormedMessage}
 use Rattle.catalogue.specs.declared.message.Message.{Message}
 use Rattle.catalogue.specs.declared.sheet.Sheet.{Sheet}
 use Rattle.catalogue.proofs.Rising.{all_permutation, distinct_rising}
-use Rattle.dbc_read.specs.Fit.{CanMeet, IsFit, TablesFit}
+use Rattle.dbc_read.specs.Built.{CanStand, IsBuilt, feeds_in, messages_from, messages_in, nodes_from, nodes_in}
+use Rattle.dbc_read.specs.Fit.{IsFit, TablesFit}
+use Rattle.dbc_read.specs.Gathered.{AreGathered}
 use Rattle.dbc_read.specs.Refusal.{Unless}
 use Rattle.dbc_read.specs.Sheets.{SaysNothing}
+use Rattle.dbc_read.specs.declared.feeds.Feeds.{Feeds}
+use Rattle.dbc_read.specs.declared.gathered.Gathered.{Gathered}
 use Rattle.dbc_read.specs.declared.refusal.Refusal.{Refusal}
 use Rattle.dbc_read.specs.declared.refusal.Refusal.TheVariants.{Memory, NoSheet}
-use Rattle.dbc_read.proofs.SheetsFit.{meet_anyhow}
+use Rattle.dbc_read.proofs.Apart.{keys_apart, names_apart, numbers_apart}
+use Rattle.dbc_read.proofs.SheetsFit.{meet_anyhow, number_flip}
+use Rattle.dbc_read.proofs.Wholes.{feeds_said, message_comment, messages_whole, node_comment, nodes_whole}
 
-module _ (ss : List Statement) where
-  unsaid : (refusal : Refusal) (P : Type 0) → ((s : Sheet) → Says ss s → P) → Unless refusal (P → ⊥) → Unless refusal (SaysNothing ss)
-  unsaid Memory P f h = tt
-  unsaid NoSheet P f h = λ s says. h (f s says)
+each_named_apart : (ms : List Message) → AllByRecursion IsWellFormedMessage ms → AllByRecursion (λ (m : Message). AreNamedApart signal_name m.signals) ms
+each_named_apart [] h = tt
+each_named_apart (m ∷ ms) h = (h.0.signals.apart, each_named_apart ms h.1)
 
-  pub nodes_unsaid : (refusal : Refusal) → Unless refusal (AreRostered node_name (map (whole_node ss) (node_names_of ss)) → ⊥) → Unless refusal (SaysNothing ss)
-  nodes_unsaid refusal = unsaid refusal _ (λ s says. subst (AreRostered node_name) says.nodes says.is_sheet.well_formed.nodes)
+fit_each : (ms : List Message) → AllByRecursion IsMessage ms → AllByRecursion IsWellFormedMessage ms → AllByRecursion IsFit ms
+fit_each [] a b = tt
+fit_each (m ∷ ms) a b = (record { ident = a.0.ident; signals = record { together = b.0.signals; values = b.0.values } }, fit_each ms a.1 b.1)
 
-  pub tables_unsaid : (refusal : Refusal) → Unless refusal (TablesFit (each_in table_in ss) → ⊥) → Unless refusal (SaysNothing ss)
-  tables_unsaid refusal =
-      unsaid refusal _ (λ s says. subst TablesFit says.tables (record { together = says.is_sheet.well_formed.tables; entries = says.is_sheet.well_formed.entries }))
+-- The messages of a sheet, in another order: numbers differ, and names of signals in each message.
+module _ (s : Sheet) (is : IsSheet s) (ms : List Message) (p : IsPermutation ms s.messages) where
+  numbers_of_sheet : IsDistinct (λ a b. number_of a == number_of b) ms
+  numbers_of_sheet =
+      IsDistinct-IsPermutation (λ a b. number_of a == number_of b) number_flip s.messages ms (IsPermutation-sym _ _ p) (distinct_rising number_of s.messages is.well_formed.together.rise)
 
-  fit_each : (ms : List Message) → AllByRecursion IsMessage ms → AllByRecursion IsWellFormedMessage ms → AllByRecursion IsFit ms
-  fit_each [] a b = tt
-  fit_each (m ∷ ms) a b = (record { ident = a.0.ident; signals = record { together = b.0.signals; values = b.0.values } }, fit_each ms a.1 b.1)
+  names_of_sheet : AllByRecursion (λ (m : Message). AreNamedApart signal_name m.signals) ms
+  names_of_sheet = each_named_apart ms (all_permutation IsWellFormedMessage s.messages ms (IsPermutation-sym _ _ p) is.well_formed.messages)
 
-  pub messages_unfit : (refusal : Refusal) → Unless refusal (AllByRecursion IsFit (map (whole_message ss) (messages_of ss)) → ⊥) → Unless refusal (SaysNothing ss)
-  messages_unfit refusal =
-      unsaid refusal _ (λ s says. all_permutation IsFit s.messages _ (IsPermutation-sym _ _ says.messages)
-      (fit_each s.messages (recursion_from_All IsMessage s.messages says.is_sheet.messages) says.is_sheet.well_formed.messages))
+module _ (ss : List Statement) (g : Gathered) (are : AreGathered ss g) where
+  -- names and numbers are single, so each thing takes what the statements say of it
+  record AreSingle : Type 0 where
+    pub names : IsDistinct bytes_eq (node_names_of ss)
+    pub numbers : IsDistinct nat_eq (numbers_of ss)
+    pub keys : IsDistinct same_signal (signal_keys_of ss)
 
-  pub messages_unsaid : (refusal : Refusal) (ms : List Message) → IsPermutation (map (whole_message ss) (messages_of ss)) ms → Unless refusal (CanMeet ms → ⊥)
-      → Unless refusal (SaysNothing ss)
-  messages_unsaid refusal ms p =
-      unsaid refusal _ (λ s says.
+  nodes_are : AreSingle → nodes_in g ≡ map (whole_node ss) (node_names_of ss)
+  nodes_are single = (λ i. nodes_from (are.nodes i) (are.node_comments single.names i)) ∙ nodes_whole ss (node_names_of ss)
+
+  messages_are : AreSingle → messages_in g ≡ map (whole_message ss) (messages_of ss)
+  messages_are single =
+      (λ i. messages_from (are.messages i) (are.message_comments single.numbers i)
+      (record { comments = are.signal_comments single.keys i; values = are.signal_values single.keys i; types = are.signal_types single.keys i; spns = are.signal_spns single.keys i }))
+      ∙ messages_whole ss (messages_of ss)
+
+  module _ (s : Sheet) (is : IsSheet s) where
+    single_in : (comments message_comments : List (List ℕ)) (f : Feeds) → s.nodes ≡ nodes_from (node_names_of ss) comments
+        → IsPermutation (messages_from (messages_of ss) message_comments f) s.messages → AreSingle
+    single_in comments message_comments f nodes p = record {
+      names = names_apart (node_names_of ss) comments (subst (AreNamedApart node_name) nodes is.well_formed.nodes.apart);
+      numbers = numbers_apart (messages_of ss) message_comments f (numbers_of_sheet s is _ p);
+      keys = keys_apart (messages_of ss) message_comments f (numbers_of_sheet s is _ p) (names_of_sheet s is _ p);
+    }
+
+  single_built : (s : Sheet) → IsBuilt g s → AreSingle
+  single_built s built =
+      single_in s built.is_sheet g.node_comments g.message_comments (feeds_in g) (built.nodes ∙ ap (λ names. nodes_from names g.node_comments) are.nodes)
+      (subst (λ lines. IsPermutation (messages_from lines g.message_comments (feeds_in g)) s.messages) are.messages built.messages)
+
+  single_said : (s : Sheet) → Says ss s → AreSingle
+  single_said s says =
+      single_in s says.is_sheet (map (node_comment ss) (node_names_of ss)) (map (message_comment ss) (numbers_of ss)) (feeds_said ss (signal_keys_of ss))
+      (says.nodes ∙ sym (nodes_whole ss (node_names_of ss))) (subst (λ ms. IsPermutation ms s.messages) (sym (messages_whole ss (messages_of ss))) says.messages)
+
+  pub says_built : (s : Sheet) → IsBuilt g s → Says ss s
+  says_built s built =
+      let single = single_built s built in
+      record {
+        is_sheet = built.is_sheet;
+        version = built.version ∙ ap (λ o. unwrap_or o []) are.version;
+        comment = built.comment ∙ ap (λ o. unwrap_or o []) are.comment;
+        nodes = built.nodes ∙ nodes_are single;
+        tables = built.tables ∙ are.tables;
+        messages = subst (λ ms. IsPermutation ms s.messages) (messages_are single) built.messages;
+      }
+
+  stands : (s : Sheet) → Says ss s → CanStand g
+  stands s says =
+      let single = single_said s says in
       let t = says.is_sheet.well_formed.together in
-      meet_anyhow s.messages ms (IsPermutation-trans s.messages (map (whole_message ss) (messages_of ss)) ms (IsPermutation-sym _ _ says.messages) p)
-      (record { numbers = distinct_rising number_of s.messages t.rise; names = t.apart; few = t.few }))
+      let p = subst (λ ms. IsPermutation ms s.messages) (sym (messages_are single)) says.messages in
+      record {
+        nodes = subst (AreRostered node_name) (says.nodes ∙ sym (nodes_are single)) says.is_sheet.well_formed.nodes;
+        tables = subst TablesFit (says.tables ∙ sym are.tables) (record { together = says.is_sheet.well_formed.tables; entries = says.is_sheet.well_formed.entries });
+        messages = all_permutation IsFit s.messages _ (IsPermutation-sym _ _ p)
+            (fit_each s.messages (recursion_from_All IsMessage s.messages says.is_sheet.messages) says.is_sheet.well_formed.messages);
+        together = meet_anyhow s.messages _ (IsPermutation-sym _ _ p) (record { numbers = distinct_rising number_of s.messages t.rise; names = t.apart; few = t.few });
+      }
+
+  pub unsaid_built : (refusal : Refusal) → Unless refusal (CanStand g → ⊥) → Unless refusal (SaysNothing ss)
+  unsaid_built Memory h = tt
+  unsaid_built NoSheet h = λ s says. h (stands s says)

@@ -1,10 +1,11 @@
 pub mod Refusal
 pub mod Seen
-pub mod Cited
-pub mod Attached
-pub mod Told
-pub mod Fit
-pub mod Sheets
-pub mod Present
+pub mod Keys
+pub mod Found
+pub mod Places
 pub mod Passed
+pub mod Gathered
+pub mod Fit
+pub mod Built
+pub mod Sheets
 pub mod Reading

@@ -1,21 +1,19 @@
 //! Which fault a text has first, where its statements say no sheet.
 //!
-//! No contract says which it is. That the statements say no sheet is proved where a part of the sheet is refused.
-use crate::attached::Attached;
-use crate::cited::key_of;
-use crate::present::{Present, has_signal, present_of};
-use catalogue::{MESSAGE_LIMIT, ROSTER_LIMIT, VALUE_TEXT_LIMIT};
+//! No contract says which it is. That the statements say no sheet is proved where a part of the sheet is refused. By then
+//! the statements are gone, so the text is divided once more: a fault may take twice the time of a sheet.
+use crate::places::{Places, place_of, places_of};
+use catalogue::{Copying, MESSAGE_LIMIT, Name, ROSTER_LIMIT, VALUE_TEXT_LIMIT};
 use dbc_lex::{ReadCode, ReadFault};
 use dbc_statements::{
-    CitedSignal, Content, Entries, MessageLine, NodeName, SignalLine, Statement, TableLine,
+    Content, Entries, MessageLine, NodeName, SignalLine, Statement, TableLine, statements_of,
 };
-use indexmap::IndexSet;
 use std::alloc::{AllocError, Global};
-use std::hash::Hash;
+use std::collections::BTreeSet;
 
 /// Adds an item to those before it; where it can't stand beside them, the code of the fault.
-fn add<T: Eq + Hash + Copy>(
-    items: &mut IndexSet<T>,
+fn add<T: Ord + Drop>(
+    items: &mut BTreeSet<T>,
     item: T,
     limit: usize,
     double: ReadCode,
@@ -27,12 +25,13 @@ fn add<T: Eq + Hash + Copy>(
     if is_new { Ok(None) } else { Ok(Some(double)) }
 }
 
-fn fault_of_nodes<'s>(
-    nodes: &'s [NodeName],
-    names: &mut IndexSet<&'s [u8]>,
+fn fault_of_nodes(
+    alloc: Global,
+    nodes: &[NodeName],
+    names: &mut BTreeSet<Name>,
 ) -> Result<Option<ReadFault>, AllocError> {
     for node in nodes {
-        let name = node.name.as_bytes();
+        let name = node.name.duplicate(alloc)?;
         if let Some(code) = add(names, name, ROSTER_LIMIT, ReadCode::DoubleName)? {
             return Ok(Some(ReadFault { code, at: node.at }));
         }
@@ -51,11 +50,12 @@ fn fault_of_entries(entries: &Entries) -> Option<ReadFault> {
     })
 }
 
-fn fault_of_table<'s>(
-    line: &'s TableLine,
-    names: &mut IndexSet<&'s [u8]>,
+fn fault_of_table(
+    alloc: Global,
+    line: &TableLine,
+    names: &mut BTreeSet<Name>,
 ) -> Result<Option<ReadFault>, AllocError> {
-    let name = line.name.as_bytes();
+    let name = line.name.duplicate(alloc)?;
     match add(names, name, ROSTER_LIMIT, ReadCode::DoubleName)? {
         Some(code) => Ok(Some(ReadFault { code, at: line.at })),
         None => Ok(fault_of_entries(&line.entries)),
@@ -66,10 +66,10 @@ fn fault_of_signals(
     alloc: Global,
     signals: &[SignalLine],
 ) -> Result<Option<ReadFault>, AllocError> {
-    let mut names = IndexSet::with_capacity(alloc, signals.len())?;
+    let mut names = BTreeSet::new(alloc);
     let mut switched = false;
     for signal in signals {
-        let name = signal.name.as_bytes();
+        let name = signal.name.duplicate(alloc)?;
         if let Some(code) = add(&mut names, name, ROSTER_LIMIT, ReadCode::DoubleName)? {
             return Ok(Some(ReadFault {
                 code,
@@ -91,17 +91,17 @@ fn fault_of_signals(
 
 /// What the statements before one have.
 #[derive(Drop)]
-struct Before<'s> {
-    nodes: IndexSet<&'s [u8]>,
-    tables: IndexSet<&'s [u8]>,
-    numbers: IndexSet<u32>,
-    messages: IndexSet<&'s [u8]>,
+struct Before {
+    nodes: BTreeSet<Name>,
+    tables: BTreeSet<Name>,
+    numbers: BTreeSet<u32>,
+    messages: BTreeSet<Name>,
 }
 
-fn fault_of_message<'s>(
+fn fault_of_message(
     alloc: Global,
-    line: &'s MessageLine,
-    before: &mut Before<'s>,
+    line: &MessageLine,
+    before: &mut Before,
 ) -> Result<Option<ReadFault>, AllocError> {
     let number = line.number;
     if let Some(code) = add(
@@ -112,7 +112,7 @@ fn fault_of_message<'s>(
     )? {
         return Ok(Some(ReadFault { code, at: line.at }));
     }
-    let name = line.name.as_bytes();
+    let name = line.name.duplicate(alloc)?;
     if let Some(code) = add(
         &mut before.messages,
         name,
@@ -127,51 +127,79 @@ fn fault_of_message<'s>(
     fault_of_signals(alloc, &line.signals)
 }
 
+/// The places of what the statements cite. Each is sought by itself, so that equal keys, of which a text with a fault may
+/// have some, always have one place.
+fn sought_places(
+    alloc: Global,
+    places: &Places,
+    statements: &[Statement],
+) -> Result<Vec<Option<usize>>, AllocError> {
+    let mut found = Vec::with_capacity(alloc, statements.len())?;
+    for statement in statements {
+        let mut nowhere = usize::MAX;
+        found.push(place_of(places, &statement.content, &mut nowhere))?;
+    }
+    Ok(found)
+}
+
+/// For each signal the number, from 1, of the last statement that has texts for its values, or 0.
+fn last_texts(
+    alloc: Global,
+    count: usize,
+    statements: &[Statement],
+    cited: &[Option<usize>],
+) -> Result<Vec<usize>, AllocError> {
+    let mut last = Vec::from_elem(alloc, 0usize, count)?;
+    let mut number = 0usize;
+    for (statement, place) in statements.iter().zip(cited) {
+        number = number.saturating_add(1);
+        if let (Content::ValueTexts(_, _), Some(place)) = (&statement.content, *place) {
+            if place < last.len() {
+                last[place] = number;
+            }
+        }
+    }
+    Ok(last)
+}
+
 /// The fault of a list of value texts, where it counts: the file has its signal, and no later statement replaces it.
 fn fault_of_values(
-    attached: &Attached,
-    present: &Present,
-    index: usize,
-    cited: &CitedSignal,
+    last: &[usize],
+    place: Option<usize>,
+    number: usize,
     entries: &Entries,
 ) -> Option<ReadFault> {
-    if !has_signal(present, cited) {
-        return None;
-    }
-    let key = key_of(cited)?;
-    let last = attached.values.get(&key)?;
-    if *last == index {
+    let latest = last.get(place?)?;
+    if *latest == number {
         fault_of_entries(entries)
     } else {
         None
     }
 }
 
-fn nothing_before<'s>(alloc: Global) -> Result<Before<'s>, AllocError> {
-    Ok(Before {
-        nodes: IndexSet::with_capacity(alloc, 0)?,
-        tables: IndexSet::with_capacity(alloc, 0)?,
-        numbers: IndexSet::with_capacity(alloc, 0)?,
-        messages: IndexSet::with_capacity(alloc, 0)?,
-    })
+fn nothing_before(alloc: Global) -> Before {
+    Before {
+        nodes: BTreeSet::new(alloc),
+        tables: BTreeSet::new(alloc),
+        numbers: BTreeSet::new(alloc),
+        messages: BTreeSet::new(alloc),
+    }
 }
 
-/// The fault that stands first in the text.
-pub(crate) fn first_fault(
-    alloc: Global,
-    attached: &Attached,
-    statements: &[Statement],
-) -> Result<ReadFault, AllocError> {
-    let present = present_of(alloc, statements)?;
-    let mut before = nothing_before(alloc)?;
-    for (index, statement) in statements.iter().enumerate() {
+/// The fault that stands first in the text of the statements.
+fn first_fault(alloc: Global, statements: &[Statement]) -> Result<ReadFault, AllocError> {
+    let places = places_of(alloc, statements)?;
+    let cited = sought_places(alloc, &places, statements)?;
+    let last = last_texts(alloc, places.signals.len(), statements, &cited)?;
+    let mut before = nothing_before(alloc);
+    let mut number = 0usize;
+    for (statement, place) in statements.iter().zip(&cited) {
+        number = number.saturating_add(1);
         let fault = match &statement.content {
-            Content::Nodes(nodes) => fault_of_nodes(nodes, &mut before.nodes)?,
-            Content::Table(line) => fault_of_table(line, &mut before.tables)?,
+            Content::Nodes(nodes) => fault_of_nodes(alloc, nodes, &mut before.nodes)?,
+            Content::Table(line) => fault_of_table(alloc, line, &mut before.tables)?,
             Content::Message(line) => fault_of_message(alloc, line, &mut before)?,
-            Content::ValueTexts(cited, entries) => {
-                fault_of_values(attached, &present, index, cited, entries)
-            }
+            Content::ValueTexts(_, entries) => fault_of_values(&last, *place, number, entries),
             _ => None,
         };
         if let Some(fault) = fault {
@@ -183,4 +211,15 @@ pub(crate) fn first_fault(
         code: ReadCode::Identifier,
         at: 0,
     })
+}
+
+/// The fault that stands first in a text whose statements say no sheet.
+pub(crate) fn fault_of(alloc: Global, source: &[u8]) -> ReadFault {
+    match statements_of(alloc, source) {
+        Ok(statements) => match first_fault(alloc, &statements) {
+            Ok(fault) => fault,
+            Err(error) => ReadFault::from(error),
+        },
+        Err(fault) => fault,
+    }
 }

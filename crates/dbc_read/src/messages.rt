@@ -1,19 +1,20 @@
 //! Messages, with what other statements say of them.
-ghost use Rattle.std.specs.Prelude.{◌≡◌, [], IfErr, IfOk};
+ghost use Rattle.std.specs.Prelude.{◌≡◌, IfErr, IfOk, OnOk, map};
+ghost use Rattle.std.specs.List.{AllByRecursion};
 ghost use Rattle.can_id.specs.Ident.{IsIdentifier};
-ghost use Rattle.catalogue.specs.Saying.{ident_of_number, whole_message};
-ghost use Rattle.dbc_read.specs.Attached.{IsAttached};
+ghost use Rattle.catalogue.specs.Saying.{ident_of_number};
+ghost use Rattle.dbc_read.specs.Built.{behind, message_with, messages_from};
 ghost use Rattle.dbc_read.specs.Fit.{IsFit};
 ghost use Rattle.dbc_read.specs.Refusal.{Unless};
-ghost use Rattle.dbc_statements.specs.Said.{message_of, said};
+ghost use Rattle.dbc_statements.specs.Said.{message_of, signals_of};
 
-use crate::attached::Attached;
+use crate::feed::Feed;
+use crate::feeds::Feeds;
 use crate::refusal::Refusal;
 use crate::signals::add_signals;
-use crate::telling::message_comment;
 use can_id::Ident;
-use catalogue::{Copying, Message, Signals};
-use dbc_statements::{MessageLine, Statement};
+use catalogue::{Items, Message, Signals, Text};
+use dbc_statements::MessageLine;
 use std::alloc::Global;
 
 /// The least number of a 29-bit identifier.
@@ -36,46 +37,47 @@ fn ident_of(number: u32) -> Result<Ident, Refusal>
     }
 }
 
-/// The message without its signals.
-fn bare_message(
+/// The message of a line, whose signals take the next of what is attached.
+fn message_of(
     alloc: Global,
-    attached: &Attached,
-    statements: &[Statement],
-    line: &MessageLine,
+    line: MessageLine,
+    comment: Text,
+    feeds: &mut Feeds,
 ) -> Result<Message, Refusal>
-    requires { IsAttached attached.now (said statements.now) }
-    ensures said { IfOk result (λ message. message ≡ record (whole_message (said statements.now) (message_of line.now)) { signals = [] }) }
-    ensures refused { IfErr result (λ refusal. Unless refusal (¬ IsIdentifier (whole_message (said statements.now) (message_of line.now)).ident)) }
+    ensures said { IfOk result (λ message. message ≡ message_with (message_of line) comment feeds.old) }
+    ensures rest { OnOk result (feeds.new ≡ behind (signals_of line.signals.items) feeds.old) }
+    ensures refused { IfErr result (λ refusal. Unless refusal (¬ IsFit (message_with (message_of line) comment feeds.old))) }
 {
-    Ok(Message {
-        ident: ident_of(line.number)?,
-        name: line.name.duplicate(alloc)?,
+    let ident = ident_of(line.number)?;
+    let mut message = Message {
+        ident,
+        name: line.name,
         length: line.length,
-        transmitter: line.transmitter.duplicate(alloc)?,
-        comment: message_comment(alloc, attached, statements, line.number)?,
+        transmitter: line.transmitter,
+        comment,
         signals: Signals::new(alloc),
-    })
+    };
+    add_signals(alloc, line.signals, feeds, &mut message)?;
+    Ok(message)
 }
 
-/// The message of a line.
-pub(crate) fn message_of(
+/// The messages of the lines, in their order.
+pub(crate) fn messages_of(
     alloc: Global,
-    attached: &Attached,
-    statements: &[Statement],
-    line: &MessageLine,
-) -> Result<Message, Refusal>
-    requires { IsAttached attached.now (said statements.now) }
-    ensures said { IfOk result (λ message. message ≡ whole_message (said statements.now) (message_of line.now)) }
-    ensures refused { IfErr result (λ refusal. Unless refusal (¬ IsFit (whole_message (said statements.now) (message_of line.now)))) }
+    lines: Items<MessageLine>,
+    comments: Items<Text>,
+    feeds: Feeds,
+) -> Result<Items<Message>, Refusal>
+    ensures said { IfOk result (λ messages. messages ≡ messages_from (map message_of lines) comments feeds) }
+    ensures refused { IfErr result (λ refusal. Unless refusal (¬ AllByRecursion IsFit (messages_from (map message_of lines) comments feeds))) }
 {
-    let mut message = bare_message(alloc, attached, statements, line)?;
-    add_signals(
-        alloc,
-        attached,
-        statements,
-        line.number,
-        &line.signals,
-        &mut message,
-    )?;
-    Ok(message)
+    let mut comments = Feed::of(comments);
+    let mut feeds = feeds;
+    let mut messages = Items::new(alloc);
+    for line in lines.into_vec() {
+        let comment = comments.next_or(Text::empty(alloc));
+        let message = message_of(alloc, line, comment, &mut feeds)?;
+        messages.push(message)?;
+    }
+    Ok(messages)
 }

@@ -1,13 +1,15 @@
 //! Reading a DBC text.
 ghost use Rattle.std.specs.Prelude.{IfErr, IfOk, map};
-ghost use Rattle.catalogue.specs.Reads.{ReadsAs};
+ghost use Rattle.catalogue.specs.Reads.{ReadsAs, ReadsOnlyAs};
 ghost use Rattle.dbc_lex.specs.Fault.{UnlessMemory};
 ghost use Rattle.dbc_read.specs.Passed.{mentioned};
 ghost use Rattle.dbc_read.specs.Reading.{ReadsAsNothing};
 
+use crate::first_fault::fault_of;
 use crate::passed::Passed;
-use crate::saying::sheet_of;
-use catalogue::{Items, Sheet};
+use crate::refusal::Refusal;
+use crate::saying::reading_said;
+use catalogue::{Items, Sheet, texts_read_as_one_sheet};
 use dbc_lex::ReadFault;
 use dbc_statements::statements_of;
 use std::alloc::Global;
@@ -21,7 +23,7 @@ pub struct Reading {
     pub passed: Items<Passed>,
 }
 
-/// The sheet that the text reads as, and the statements that it passes over. The grammar is that of Vector's DBC File
+/// The one sheet that the text reads as, and the statements that it passes over. The grammar is that of Vector's DBC File
 /// Format Documentation, in this project's profile (docs/GRAMMAR.md).
 ///
 /// A fault comes only where the text reads as no sheet, or where memory was refused. The first of these three that the
@@ -30,9 +32,14 @@ pub struct Reading {
 /// that can't stand in one sheet with those before it, or is above a limit.
 pub fn read(alloc: Global, source: &[u8]) -> Result<Reading, ReadFault>
     ensures reads { IfOk result (λ reading. ReadsAs source.now reading.sheet (map mentioned reading.passed)) }
+    ensures only { IfOk result (λ reading. ReadsOnlyAs source.now reading.sheet) }
     ensures none { IfErr result (λ fault. UnlessMemory fault.code (ReadsAsNothing source.now)) }
 {
+    texts_read_as_one_sheet();
     let statements = statements_of(alloc, source)?;
-    let reading = sheet_of(alloc, &statements)?;
-    Ok(reading)
+    match reading_said(alloc, statements) {
+        Ok(reading) => Ok(reading),
+        Err(Refusal::Memory) => Err(ReadFault::MEMORY),
+        Err(Refusal::NoSheet) => Err(fault_of(alloc, source)),
+    }
 }

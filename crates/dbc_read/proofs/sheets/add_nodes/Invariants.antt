@@ -1,11 +1,11 @@
-use Rattle.std.proofs.Common.{◌≡◌, ◌++◌, drop, map}
-use Rattle.catalogue.specs.Saying.{node_names_of, whole_node}
-use Rattle.dbc_statements.specs.Said.{said}
+use Rattle.std.proofs.Common.{◌≡◌, ◌++◌}
+use Rattle.std.specs.Vec.Iter.{into_iter_items}
+use Rattle.dbc_read.specs.Built.{nodes_from}
+use Rattle.dbc_statements.specs.Said.{names_of}
 use Rattle.dbc_read.proofs.sheets.add_nodes.Given as goal
 
-abbrev pub invariant-loop-statement : goal.invariant-loop-statement
-invariant-loop-statement l = record {
-  rest : l.sheet.nodes ++ map (whole_node (said l.statements)) (node_names_of (said (drop l.statement-index l.statements)))
-      ≡ l.initial.sheet.nodes ++ map (whole_node (said l.statements)) (node_names_of (said l.statements));
+abbrev pub invariant-loop-node : goal.invariant-loop-node
+invariant-loop-node l = record {
+  rest : l.sheet.nodes ++ nodes_from (names_of (into_iter_items l.node-iterator)) l.comments ≡ l.initial.sheet.nodes ++ nodes_from (names_of l.fn.nodes) l.fn.comments;
   same : l.sheet ≡ record l.initial.sheet { nodes = l.sheet.nodes };
 }

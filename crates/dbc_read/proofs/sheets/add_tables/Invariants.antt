@@ -1,10 +1,10 @@
-use Rattle.std.proofs.Common.{◌≡◌, ◌++◌, drop}
-use Rattle.catalogue.specs.Saying.{each_in, table_in}
-use Rattle.dbc_statements.specs.Said.{said}
+use Rattle.std.proofs.Common.{◌≡◌, ◌++◌, map}
+use Rattle.std.specs.Vec.Iter.{into_iter_items}
+use Rattle.dbc_read.specs.Gathered.{table_of}
 use Rattle.dbc_read.proofs.sheets.add_tables.Given as goal
 
-abbrev pub invariant-loop-statement : goal.invariant-loop-statement
-invariant-loop-statement l = record {
-  rest : l.sheet.tables ++ each_in table_in (said (drop l.statement-index l.statements)) ≡ l.initial.sheet.tables ++ each_in table_in (said l.statements);
+abbrev pub invariant-loop-line : goal.invariant-loop-line
+invariant-loop-line l = record {
+  rest : l.sheet.tables ++ map table_of (into_iter_items l.line-iterator) ≡ l.initial.sheet.tables ++ map table_of l.fn.lines;
   same : l.sheet ≡ record l.initial.sheet { tables = l.sheet.tables };
 }

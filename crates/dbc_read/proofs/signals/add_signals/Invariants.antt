@@ -1,11 +1,13 @@
-use Rattle.std.proofs.Common.{◌≡◌, ◌++◌, drop, map}
-use Rattle.catalogue.specs.Saying.{whole_signal}
-use Rattle.dbc_statements.specs.Said.{said, signals_of}
+use Rattle.std.proofs.Common.{◌≡◌, ◌++◌}
+use Rattle.std.specs.Vec.Iter.{into_iter_items}
+use Rattle.dbc_read.specs.Built.{behind, signals_from}
+use Rattle.dbc_statements.specs.Said.{signals_of}
 use Rattle.dbc_read.proofs.signals.add_signals.Given as goal
 
 abbrev pub invariant-loop-line : goal.invariant-loop-line
 invariant-loop-line l = record {
-  rest : l.message.signals ++ map (whole_signal (said l.statements) l.number) (signals_of (drop l.line-index l.lines))
-      ≡ l.initial.message.signals ++ map (whole_signal (said l.statements) l.number) (signals_of l.lines);
+  rest : l.message.signals ++ signals_from (signals_of (into_iter_items l.line-iterator)) l.feeds
+      ≡ l.initial.message.signals ++ signals_from (signals_of l.fn.lines.items) l.initial.feeds;
+  left : behind (signals_of (into_iter_items l.line-iterator)) l.feeds ≡ behind (signals_of l.fn.lines.items) l.initial.feeds;
   same : l.message ≡ record l.initial.message { signals = l.message.signals };
 }

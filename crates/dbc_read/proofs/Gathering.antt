@@ -1,0 +1,339 @@
+-- A loop that takes in one statement after the other: what is gathered so far and what is left to say is all that the
+-- statements say.
+use Rattle.std.proofs.Common.{◌≡◌, ◌==◌, ◌&&◌, ◌||◌, ◌++◌, ◌∙◌, ℕ, zero, suc, Bool, true, false, not, cond, List, [], ◌∷◌, length, map, filter, replicate, Option, Some, None, is_some, if◌then◌else◌, nat_eq, refl, sym, ap, append_assoc, append-nil, subst, true≢false}
+use Rattle.std.specs.Prelude.{drop, slice_get, unwrap_or}
+use Rattle.std.specs.Cmp.{IsEquivalence, nat_eq_equiv}
+use Rattle.std.specs.Cmp.Lexicographic.{lists_equiv}
+use Rattle.std.specs.List.{AllByRecursion, IsDistinct, cons_option, last_or, list_any}
+use Rattle.std.specs.Str.{bytes_eq}
+use Rattle.std.proofs.lemmas.List.{map-append}
+use Rattle.catalogue.specs.Saying.{SignalKey, comment_in, each_in, has_message, has_signal, is_passed, last_at, last_said, message_comment_in, messages_of, node_comment_in, node_names_of, numbers_of, of_signal, passed_by, same_signal, signal_comment_in, signal_keys_of, spn_in, table_in, value_texts_in, value_type_in, version_in}
+use Rattle.catalogue.specs.Statement as says
+use Rattle.catalogue.specs.Statement.{Cited}
+use Rattle.catalogue.specs.declared.keyword.Keyword.{Keyword}
+use Rattle.catalogue.specs.declared.value_texts.ValueText.{ValueText}
+use Rattle.catalogue.specs.declared.value_type.ValueType.{ValueType}
+use Rattle.catalogue.specs.declared.value_type.ValueType.TheVariants.{Integer}
+use Rattle.dbc_read.specs.Built.{first_or}
+use Rattle.dbc_read.specs.Found.{IsPlaceOf}
+use Rattle.dbc_read.specs.Gathered.{AreGathered, IsNothing, mention, noted, set_at, table_of, taken}
+use Rattle.dbc_read.specs.Passed.{mentioned}
+use Rattle.dbc_read.specs.Places.{AreCitedPlaces, IsCitedPlace, IsMessagePlace, IsSignalPlace}
+use Rattle.dbc_read.specs.declared.gathered.Gathered.{Gathered}
+use Rattle.dbc_read.specs.declared.passed.Passed.{Passed}
+use Rattle.dbc_statements.specs.Said.{content_of, entries_of, message_of, names_of, statement_of}
+use Rattle.dbc_statements.specs.declared.statement.Content.{Content}
+use Rattle.dbc_statements.specs.declared.statement.Content.TheVariants as content
+use Rattle.dbc_statements.specs.declared.statement.NodeName.{NodeName}
+use Rattle.dbc_statements.specs.declared.statement.Statement.{Statement}
+
+some_true : (b : Bool) → Some b ≡ Some true → b ≡ true
+some_true b e = ap (λ o. unwrap_or o false) e
+
+none_true : {A : Type 0} → ◌≡◌ {A = Option Bool} None (Some true) → A
+none_true e = absurd (true≢false (sym (ap is_some e)))
+
+or_parts : (a b : Bool) → (a || b) ≡ false → (a ≡ false) × (b ≡ false)
+or_parts true b h = absurd (true≢false h)
+or_parts false b h = (refl, h)
+
+or_true : (b : Bool) → (b || true) ≡ true
+or_true true = refl
+or_true false = refl
+
+-- Values of keys, each the last one of the pairs so far, and the pairs that are left.
+module _ {K V : Type 0} (same : K → K → Bool) (d : V) where
+  -- the values, once the pairs that are left are taken in
+  abbrev pub finished : List (K × V) → List K → List V → List V
+  finished ps [] vs = vs
+  finished ps (k ∷ ks) [] = []
+  finished ps (k ∷ ks) (v ∷ vs) = unwrap_or (last_at same k (Some v) ps) d ∷ finished ps ks vs
+
+  pub none_left : (ks : List K) (vs : List V) → finished [] ks vs ≡ vs
+  none_left [] vs = refl
+  none_left (k ∷ ks) [] = refl
+  none_left (k ∷ ks) (v ∷ vs) = ap (λ l. v ∷ l) (none_left ks vs)
+
+  from_none : (k : K) (o p : Option V) (ps : List (K × V)) → unwrap_or o d ≡ unwrap_or p d → unwrap_or (last_at same k o ps) d ≡ unwrap_or (last_at same k p ps) d
+  from_none k o p [] e = e
+  from_none k o p (q ∷ ps) e = from_none k (if same q.0 k then Some q.1 else o) (if same q.0 k then Some q.1 else p) ps (by (same q.0 k))
+    where
+      by : (b : Bool) → unwrap_or (if b then Some q.1 else o) d ≡ unwrap_or (if b then Some q.1 else p) d
+      by true = refl
+      by false = e
+
+  pub all_left : (ps : List (K × V)) (ks : List K) → finished ps ks (replicate (length ks) d) ≡ map (λ k. unwrap_or (last_at same k None ps) d) ks
+  all_left ps [] = refl
+  all_left ps (k ∷ ks) = λ i. from_none k (Some d) None ps refl i ∷ all_left ps ks i
+
+  module _ (laws : IsEquivalence same) (k₀ : K) (v₀ : V) (ps : List (K × V)) where
+    one_value : (k : K) (v : V) (b : Bool) → same k k₀ ≡ b → unwrap_or (last_at same k (Some v) ((k₀, v₀) ∷ ps)) d ≡ unwrap_or (last_at same k (if b then Some v₀ else Some v) ps) d
+    one_value k v b e = ap (λ t. unwrap_or (last_at same k (if t then Some v₀ else Some v) ps) d) (laws.symm k₀ k ∙ e)
+
+    others : (ks : List K) (vs : List V) → list_any (λ k. same k k₀) ks ≡ false → finished ((k₀, v₀) ∷ ps) ks vs ≡ finished ps ks vs
+    others [] vs h = refl
+    others (k ∷ ks) [] h = refl
+    others (k ∷ ks) (v ∷ vs) h =
+        let parts = or_parts (same k k₀) (list_any (λ x. same x k₀) ks) h in
+        λ i. one_value k v false parts.0 i ∷ others ks vs parts.1 i
+
+    none_alike : (k : K) (ks : List K) → same k k₀ ≡ true → AllByRecursion (λ x. same k x ≡ false) ks → list_any (λ x. same x k₀) ks ≡ false
+    none_alike k [] e h = refl
+    none_alike k (x ∷ ks) e h = ap (λ b. b || list_any (λ y. same y k₀) ks) (laws.symm x k₀ ∙ sym (laws.congr k k₀ x e) ∙ h.0) ∙ none_alike k ks e h.1
+
+    apart_from : (k : K) (ks : List K) (i : ℕ) → AllByRecursion (λ x. same k x ≡ false) ks → slice_get (map (λ x. same x k₀) ks) i ≡ Some true → same k k₀ ≡ false
+    apart_from k [] i h e = none_true e
+    apart_from k (x ∷ ks) zero h e = laws.symm k k₀ ∙ sym (laws.congr x k₀ k (some_true _ e)) ∙ laws.symm x k ∙ h.0
+    apart_from k (x ∷ ks) (suc i) h e = apart_from k ks i h.1 e
+
+    -- the next pair is taken in by its value's going to the place of its key
+    pub settled : (ks : List K) (vs : List V) (place : Option ℕ) → IsDistinct same ks → IsPlaceOf (λ k. same k k₀) ks place
+        → finished ((k₀, v₀) ∷ ps) ks vs ≡ finished ps ks (set_at place v₀ vs)
+    unfolding IsDistinct
+    settled ks vs None distinct h = others ks vs h
+    settled [] vs (Some i) distinct h = none_true h
+    settled (k ∷ ks) [] (Some zero) distinct h = refl
+    settled (k ∷ ks) [] (Some (suc i)) distinct h = refl
+    settled (k ∷ ks) (v ∷ vs) (Some zero) distinct h =
+        let e = some_true (same k k₀) h in
+        λ i. one_value k v true e i ∷ others ks vs (none_alike k ks e distinct.0) i
+    settled (k ∷ ks) (v ∷ vs) (Some (suc n)) distinct h =
+        λ i. one_value k v false (apart_from k ks n distinct.0 h) i ∷ settled ks vs (Some n) distinct.1 h i
+
+-- a key has a place exactly where the list has it
+pub has_place : {K : Type 0} (test : K → Bool) (keys : List K) (place : Option ℕ) → IsPlaceOf test keys place → list_any test keys ≡ is_some place
+has_place test keys None h = h
+has_place test keys (Some i) h = by keys i h
+  where
+    by : (ks : List _) (j : ℕ) → slice_get (map test ks) j ≡ Some true → list_any test ks ≡ true
+    by [] j e = none_true e
+    by (k ∷ ks) zero e = ap (λ b. b || list_any test ks) (some_true (test k) e)
+    by (k ∷ ks) (suc j) e = ap (λ b. test k || b) (by ks j e) ∙ or_true (test k)
+
+bytes_equiv : IsEquivalence bytes_eq
+bytes_equiv = lists_equiv nat_eq_equiv
+
+and_parts : (a b : Bool) → (a && b) ≡ true → (a ≡ true) × (b ≡ true)
+and_parts true b h = (refl, h)
+and_parts false b h = absurd (true≢false (sym h))
+
+signals_equiv : IsEquivalence same_signal
+signals_equiv = record {
+  refl = λ x. λ i. nat_eq_equiv.refl x.0 i && bytes_equiv.refl x.1 i;
+  symm = λ x y. λ i. nat_eq_equiv.symm x.0 y.0 i && bytes_equiv.symm x.1 y.1 i;
+  congr = λ x y z h. let parts = and_parts (x.0 == y.0) (bytes_eq x.1 y.1) h in λ i. nat_eq_equiv.congr x.0 y.0 z.0 parts.0 i && bytes_equiv.congr x.1 y.1 z.1 parts.1 i;
+}
+
+signal_settled : {V : Type 0} (d : V) (all : List says.Statement) (number : Cited) (name : List ℕ) (v : V) (ps : List (SignalKey × V)) (vs : List V) (place : Option ℕ)
+    → IsSignalPlace all number name place → IsDistinct same_signal (signal_keys_of all)
+    → finished same_signal d (cons_option (of_signal number name v) ps) (signal_keys_of all) vs ≡ finished same_signal d ps (signal_keys_of all) (set_at place v vs)
+signal_settled d all None name v ps vs place is distinct = ap (λ o. finished same_signal d ps (signal_keys_of all) (set_at o v vs)) (sym is)
+signal_settled d all (Some n) name v ps vs place is distinct = settled same_signal d signals_equiv (n, name) v ps (signal_keys_of all) vs place distinct is
+
+message_settled : (all : List says.Statement) (cited : Cited) (v : List ℕ) (rest : List says.Statement) (vs : List (List ℕ)) (place : Option ℕ)
+    → IsMessagePlace all cited place → IsDistinct nat_eq (numbers_of all)
+    → finished nat_eq [] (cons_option (message_comment_in (says.MessageCommentIs cited v)) (each_in message_comment_in rest)) (numbers_of all) vs
+    ≡ finished nat_eq [] (each_in message_comment_in rest) (numbers_of all) (set_at place v vs)
+message_settled all None v rest vs place is distinct = ap (λ o. finished nat_eq [] (each_in message_comment_in rest) (numbers_of all) (set_at o v vs)) (sym is)
+message_settled all (Some n) v rest vs place is distinct = settled nat_eq [] nat_eq_equiv n v (each_in message_comment_in rest) (numbers_of all) vs place distinct is
+
+has_message_place : (all : List says.Statement) (cited : Cited) (place : Option ℕ) → IsMessagePlace all cited place → has_message all cited ≡ is_some place
+has_message_place all None place is = ap is_some (sym is)
+has_message_place all (Some n) place is = has_place (λ m. m == n) (numbers_of all) place is
+
+has_signal_place : (all : List says.Statement) (cited : Cited) (name : List ℕ) (place : Option ℕ) → IsSignalPlace all cited name place → has_signal all cited name ≡ is_some place
+has_signal_place all None name place is = ap is_some (sym is)
+has_signal_place all (Some n) name place is = has_place (λ key. same_signal key (n, name)) (signal_keys_of all) place is
+
+abbrev seen : says.Statement → ℕ × Keyword
+seen s = (s.start, s.keyword)
+
+abbrev passed_in : List says.Statement → List says.Statement → List (ℕ × Keyword)
+passed_in all rest = map seen (filter (λ (s : says.Statement). is_passed all s.content) rest)
+
+-- What is gathered, and what is left to say, are all that the statements say.
+pub record Gathers (all : List says.Statement) (g : Gathered) (rest : List says.Statement) : Type 0 where
+  pub version : last_or g.version (each_in version_in rest) ≡ last_or None (each_in version_in all)
+  pub comment : last_or g.comment (each_in comment_in rest) ≡ last_or None (each_in comment_in all)
+  pub nodes : names_of g.nodes ++ node_names_of rest ≡ node_names_of all
+  pub tables : map table_of g.tables ++ each_in table_in rest ≡ each_in table_in all
+  pub messages : map message_of g.messages ++ messages_of rest ≡ messages_of all
+  pub node_comments : IsDistinct bytes_eq (node_names_of all) → finished bytes_eq [] (each_in node_comment_in rest) (node_names_of all) g.node_comments
+      ≡ map (λ name. last_said bytes_eq name [] node_comment_in all) (node_names_of all)
+  pub message_comments : IsDistinct nat_eq (numbers_of all) → finished nat_eq [] (each_in message_comment_in rest) (numbers_of all) g.message_comments
+      ≡ map (λ number. last_said nat_eq number [] message_comment_in all) (numbers_of all)
+  pub signal_comments : IsDistinct same_signal (signal_keys_of all) → finished same_signal [] (each_in signal_comment_in rest) (signal_keys_of all) g.signal_comments
+      ≡ map (λ key. last_said same_signal key [] signal_comment_in all) (signal_keys_of all)
+  pub signal_values : IsDistinct same_signal (signal_keys_of all) → finished same_signal [] (each_in value_texts_in rest) (signal_keys_of all) g.signal_values
+      ≡ map (λ key. last_said same_signal key [] value_texts_in all) (signal_keys_of all)
+  pub signal_types : IsDistinct same_signal (signal_keys_of all) → finished same_signal Integer (each_in value_type_in rest) (signal_keys_of all) g.signal_types
+      ≡ map (λ key. last_said same_signal key Integer value_type_in all) (signal_keys_of all)
+  pub signal_spns : IsDistinct same_signal (signal_keys_of all) → finished same_signal 0 (each_in spn_in rest) (signal_keys_of all) g.signal_spns
+      ≡ map (λ key. last_said same_signal key 0 spn_in all) (signal_keys_of all)
+  pub passed : map mentioned g.passed ++ passed_in all rest ≡ passed_by all
+
+-- One statement more, of the content c, whose citation has this place.
+module _ (all : List says.Statement) (start : ℕ) (keyword : Keyword) (place : Option ℕ) (g : Gathered) (rest : List says.Statement) where
+  abbrev p : Passed
+  p = record { at = start; keyword = keyword }
+
+  abbrev these : Content → List says.Statement
+  these c = record { start = start; keyword = keyword; content = content_of c } ∷ rest
+
+  abbrev new : Content → Gathered
+  new c = taken place p c g
+
+  version_step : (c : Content) (all_said : Option (List ℕ)) → last_or g.version (each_in version_in (these c)) ≡ all_said → last_or (new c).version (each_in version_in rest) ≡ all_said
+  version_step (content.Version text) all_said h = h
+  version_step c all_said h = h
+
+  comment_step : (c : Content) (all_said : Option (List ℕ)) → last_or g.comment (each_in comment_in (these c)) ≡ all_said → last_or (new c).comment (each_in comment_in rest) ≡ all_said
+  comment_step (content.Comment text) all_said h = h
+  comment_step c all_said h = h
+
+  nodes_step : (c : Content) (all_said : List (List ℕ)) → names_of g.nodes ++ node_names_of (these c) ≡ all_said → names_of (new c).nodes ++ node_names_of rest ≡ all_said
+  nodes_step (content.Nodes nodes) all_said h =
+      ap (λ l. l ++ node_names_of rest) (map-append (λ (n : NodeName). n.name) g.nodes nodes.items) ∙ append_assoc (names_of g.nodes) (names_of nodes.items) (node_names_of rest) ∙ h
+  nodes_step c all_said h = h
+
+  tables_step : (c : Content) → map table_of g.tables ++ each_in table_in (these c) ≡ each_in table_in all → map table_of (new c).tables ++ each_in table_in rest ≡ each_in table_in all
+  tables_step (content.Table line) h =
+      ap (λ l. l ++ each_in table_in rest) (map-append table_of g.tables (line ∷ [])) ∙ append_assoc (map table_of g.tables) (table_of line ∷ []) (each_in table_in rest) ∙ h
+  tables_step c h = h
+
+  messages_step : (c : Content) → map message_of g.messages ++ messages_of (these c) ≡ messages_of all → map message_of (new c).messages ++ messages_of rest ≡ messages_of all
+  messages_step (content.Message line) h =
+      ap (λ l. l ++ messages_of rest) (map-append message_of g.messages (line ∷ [])) ∙ append_assoc (map message_of g.messages) (message_of line ∷ []) (messages_of rest) ∙ h
+  messages_step c h = h
+
+  node_comments_step : (c : Content) (all_said : List (List ℕ)) → IsCitedPlace all (content_of c) place → IsDistinct bytes_eq (node_names_of all)
+      → finished bytes_eq [] (each_in node_comment_in (these c)) (node_names_of all) g.node_comments ≡ all_said
+      → finished bytes_eq [] (each_in node_comment_in rest) (node_names_of all) (new c).node_comments ≡ all_said
+  node_comments_step (content.NodeComment name text) all_said is distinct h =
+      sym (settled bytes_eq [] bytes_equiv name text (each_in node_comment_in rest) (node_names_of all) g.node_comments place distinct is) ∙ h
+  node_comments_step c all_said is distinct h = h
+
+  message_comments_step : (c : Content) (all_said : List (List ℕ)) → IsCitedPlace all (content_of c) place → IsDistinct nat_eq (numbers_of all)
+      → finished nat_eq [] (each_in message_comment_in (these c)) (numbers_of all) g.message_comments ≡ all_said
+      → finished nat_eq [] (each_in message_comment_in rest) (numbers_of all) (new c).message_comments ≡ all_said
+  message_comments_step (content.MessageComment cited text) all_said is distinct h = sym (message_settled all cited text rest g.message_comments place is distinct) ∙ h
+  message_comments_step c all_said is distinct h = h
+
+  signal_comments_step : (c : Content) (all_said : List (List ℕ)) → IsCitedPlace all (content_of c) place → IsDistinct same_signal (signal_keys_of all)
+      → finished same_signal [] (each_in signal_comment_in (these c)) (signal_keys_of all) g.signal_comments ≡ all_said
+      → finished same_signal [] (each_in signal_comment_in rest) (signal_keys_of all) (new c).signal_comments ≡ all_said
+  signal_comments_step (content.SignalComment cited text) all_said is distinct h =
+      sym (signal_settled [] all cited.number cited.name text (each_in signal_comment_in rest) g.signal_comments place is distinct) ∙ h
+  signal_comments_step c all_said is distinct h = h
+
+  signal_values_step : (c : Content) (all_said : List (List ValueText)) → IsCitedPlace all (content_of c) place → IsDistinct same_signal (signal_keys_of all)
+      → finished same_signal [] (each_in value_texts_in (these c)) (signal_keys_of all) g.signal_values ≡ all_said
+      → finished same_signal [] (each_in value_texts_in rest) (signal_keys_of all) (new c).signal_values ≡ all_said
+  signal_values_step (content.ValueTexts cited entries) all_said is distinct h =
+      sym (signal_settled [] all cited.number cited.name (entries_of entries) (each_in value_texts_in rest) g.signal_values place is distinct) ∙ h
+  signal_values_step c all_said is distinct h = h
+
+  signal_types_step : (c : Content) (all_said : List ValueType) → IsCitedPlace all (content_of c) place → IsDistinct same_signal (signal_keys_of all)
+      → finished same_signal Integer (each_in value_type_in (these c)) (signal_keys_of all) g.signal_types ≡ all_said
+      → finished same_signal Integer (each_in value_type_in rest) (signal_keys_of all) (new c).signal_types ≡ all_said
+  signal_types_step (content.ValueType cited value_type) all_said is distinct h =
+      sym (signal_settled Integer all cited.number cited.name value_type (each_in value_type_in rest) g.signal_types place is distinct) ∙ h
+  signal_types_step c all_said is distinct h = h
+
+  signal_spns_step : (c : Content) (all_said : List ℕ) → IsCitedPlace all (content_of c) place → IsDistinct same_signal (signal_keys_of all)
+      → finished same_signal 0 (each_in spn_in (these c)) (signal_keys_of all) g.signal_spns ≡ all_said
+      → finished same_signal 0 (each_in spn_in rest) (signal_keys_of all) (new c).signal_spns ≡ all_said
+  signal_spns_step (content.Spn cited spn) all_said is distinct h =
+      sym (signal_settled 0 all cited.number cited.name spn (each_in spn_in rest) g.signal_spns place is distinct) ∙ h
+  signal_spns_step c all_said is distinct h = h
+
+  one_more : (kept : List says.Statement) (all_passed : List (ℕ × Keyword)) → map mentioned g.passed ++ (start, keyword) ∷ map seen kept ≡ all_passed
+      → map mentioned (g.passed ++ p ∷ []) ++ map seen kept ≡ all_passed
+  one_more kept all_passed h =
+      ap (λ l. l ++ map seen kept) (map-append mentioned g.passed (p ∷ [])) ∙ append_assoc (map mentioned g.passed) ((start, keyword) ∷ []) (map seen kept) ∙ h
+
+  noted_step : (x : says.Statement) (kept : List says.Statement) (all_passed : List (ℕ × Keyword)) (test : Bool) (o : Option ℕ) → seen x ≡ (start, keyword) → test ≡ is_some o
+      → map mentioned g.passed ++ map seen (cond (not test) (x ∷ kept) kept) ≡ all_passed → map mentioned (noted o p g.passed) ++ map seen kept ≡ all_passed
+  noted_step x kept all_passed true (Some i) here e h = h
+  noted_step x kept all_passed false None here e h = one_more kept all_passed (ap (λ t. map mentioned g.passed ++ t ∷ map seen kept) (sym here) ∙ h)
+  noted_step x kept all_passed true None here e h = absurd (true≢false e)
+  noted_step x kept all_passed false (Some i) here e h = absurd (true≢false (sym e))
+
+  abbrev kept : List says.Statement
+  kept = filter (λ (s : says.Statement). is_passed all s.content) rest
+
+  passed_step : (c : Content) (all_passed : List (ℕ × Keyword)) → IsCitedPlace all (content_of c) place
+      → map mentioned g.passed ++ passed_in all (these c) ≡ all_passed → map mentioned (new c).passed ++ passed_in all rest ≡ all_passed
+  passed_step (content.NodeComment name text) all_passed is h = noted_step _ kept all_passed _ place refl (has_place (λ n. bytes_eq n name) (node_names_of all) place is) h
+  passed_step (content.MessageComment cited text) all_passed is h = noted_step _ kept all_passed _ place refl (has_message_place all cited place is) h
+  passed_step (content.SignalComment cited text) all_passed is h = noted_step _ kept all_passed _ place refl (has_signal_place all cited.number cited.name place is) h
+  passed_step (content.ValueTexts cited entries) all_passed is h = noted_step _ kept all_passed _ place refl (has_signal_place all cited.number cited.name place is) h
+  passed_step (content.ValueType cited value_type) all_passed is h = noted_step _ kept all_passed _ place refl (has_signal_place all cited.number cited.name place is) h
+  passed_step (content.Spn cited spn) all_passed is h = noted_step _ kept all_passed _ place refl (has_signal_place all cited.number cited.name place is) h
+  passed_step content.PassedOver all_passed is h = one_more kept all_passed h
+  passed_step c all_passed is h = h
+
+  content_taken : (c : Content) → IsCitedPlace all (content_of c) place → Gathers all g (these c) → Gathers all (new c) rest
+  content_taken c is h = record {
+    version = version_step c _ h.version;
+    comment = comment_step c _ h.comment;
+    nodes = nodes_step c _ h.nodes;
+    tables = tables_step c h.tables;
+    messages = messages_step c h.messages;
+    node_comments = λ distinct. node_comments_step c _ is distinct (h.node_comments distinct);
+    message_comments = λ distinct. message_comments_step c _ is distinct (h.message_comments distinct);
+    signal_comments = λ distinct. signal_comments_step c _ is distinct (h.signal_comments distinct);
+    signal_values = λ distinct. signal_values_step c _ is distinct (h.signal_values distinct);
+    signal_types = λ distinct. signal_types_step c _ is distinct (h.signal_types distinct);
+    signal_spns = λ distinct. signal_spns_step c _ is distinct (h.signal_spns distinct);
+    passed = passed_step c _ is h.passed;
+  }
+
+-- a statement that is taken in
+pub one_taken : (all : List says.Statement) (s : Statement) (rest : List says.Statement) (place : Option ℕ) (old now : Gathered) → IsCitedPlace all (content_of s.content) place
+    → now ≡ taken place (mention s) s.content old → Gathers all old (statement_of s ∷ rest) → Gathers all now rest
+one_taken all s rest place old now is_place is h = subst (λ g. Gathers all g rest) (sym is) (content_taken all s.start s.keyword place old rest s.content is_place h)
+
+-- the first of the places is the next statement's, and the others are those of the others
+pub next_place : (all : List says.Statement) (s : says.Statement) (rest : List says.Statement) (places : List (Option ℕ)) → AreCitedPlaces all (s ∷ rest) places
+    → IsCitedPlace all s.content (first_or None places) × AreCitedPlaces all rest (drop 1 places)
+next_place all s rest [] h = absurd h
+next_place all s rest (place ∷ places) h = (h.0, h.1)
+
+-- before all statements
+pub nothing_gathered : (all : List says.Statement) (g : Gathered) → IsNothing all g → Gathers all g all
+nothing_gathered all g is = record {
+  version = ap (λ o. last_or o (each_in version_in all)) is.version;
+  comment = ap (λ o. last_or o (each_in comment_in all)) is.comment;
+  nodes = ap (λ l. names_of l ++ node_names_of all) is.nodes;
+  tables = ap (λ l. map table_of l ++ each_in table_in all) is.tables;
+  messages = ap (λ l. map message_of l ++ messages_of all) is.messages;
+  node_comments = λ distinct. ap (finished bytes_eq [] (each_in node_comment_in all) (node_names_of all)) is.node_comments ∙ all_left bytes_eq [] (each_in node_comment_in all) (node_names_of all);
+  message_comments = λ distinct. ap (finished nat_eq [] (each_in message_comment_in all) (numbers_of all)) is.message_comments ∙ all_left nat_eq [] (each_in message_comment_in all) (numbers_of all);
+  signal_comments = λ distinct. ap (finished same_signal [] (each_in signal_comment_in all) (signal_keys_of all)) is.signal_comments
+      ∙ all_left same_signal [] (each_in signal_comment_in all) (signal_keys_of all);
+  signal_values = λ distinct. ap (finished same_signal [] (each_in value_texts_in all) (signal_keys_of all)) is.signal_values
+      ∙ all_left same_signal [] (each_in value_texts_in all) (signal_keys_of all);
+  signal_types = λ distinct. ap (finished same_signal Integer (each_in value_type_in all) (signal_keys_of all)) is.signal_types
+      ∙ all_left same_signal Integer (each_in value_type_in all) (signal_keys_of all);
+  signal_spns = λ distinct. ap (finished same_signal 0 (each_in spn_in all) (signal_keys_of all)) is.signal_spns
+      ∙ all_left same_signal 0 (each_in spn_in all) (signal_keys_of all);
+  passed = ap (λ l. map mentioned l ++ passed_by all) is.passed;
+}
+
+-- behind all statements
+pub all_gathered : (all : List says.Statement) (g : Gathered) → Gathers all g [] → AreGathered all g
+all_gathered all g h = record {
+  version = h.version;
+  comment = h.comment;
+  nodes = sym (append-nil (names_of g.nodes)) ∙ h.nodes;
+  tables = sym (append-nil (map table_of g.tables)) ∙ h.tables;
+  messages = sym (append-nil (map message_of g.messages)) ∙ h.messages;
+  node_comments = λ distinct. sym (none_left bytes_eq [] (node_names_of all) g.node_comments) ∙ h.node_comments distinct;
+  message_comments = λ distinct. sym (none_left nat_eq [] (numbers_of all) g.message_comments) ∙ h.message_comments distinct;
+  signal_comments = λ distinct. sym (none_left same_signal [] (signal_keys_of all) g.signal_comments) ∙ h.signal_comments distinct;
+  signal_values = λ distinct. sym (none_left same_signal [] (signal_keys_of all) g.signal_values) ∙ h.signal_values distinct;
+  signal_types = λ distinct. sym (none_left same_signal Integer (signal_keys_of all) g.signal_types) ∙ h.signal_types distinct;
+  signal_spns = λ distinct. sym (none_left same_signal 0 (signal_keys_of all) g.signal_spns) ∙ h.signal_spns distinct;
+  passed = sym (append-nil (map mentioned g.passed)) ∙ h.passed;
+}

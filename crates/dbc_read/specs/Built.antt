@@ -1,0 +1,107 @@
+-- The parts of a sheet, made of what is gathered: each node, message and signal takes what stands at its place.
+use Rattle.std.specs.Prelude.{◌≡◌, ◌++◌, ℕ, List, [], ◌∷◌, drop, map, unwrap_or, IsPermutation}
+use Rattle.std.specs.List.{AllByRecursion}
+use Rattle.catalogue.specs.Form.{IsSheet}
+use Rattle.catalogue.specs.Saying.{ident_of_number}
+use Rattle.catalogue.specs.Sheet.{node_name}
+use Rattle.catalogue.specs.Statement as says
+use Rattle.catalogue.specs.WellFormed.{AreRostered}
+use Rattle.catalogue.specs.declared.message.Message.{Message}
+use Rattle.catalogue.specs.declared.node.Node.{Node}
+use Rattle.catalogue.specs.declared.sheet.Sheet.{Sheet}
+use Rattle.catalogue.specs.declared.signal.Signal.{Signal}
+use Rattle.catalogue.specs.declared.value_table.ValueTable.{ValueTable}
+use Rattle.catalogue.specs.declared.value_type.ValueType.TheVariants.{Integer}
+use Rattle.dbc_read.specs.Fit.{CanMeet, IsFit, TablesFit}
+use Rattle.dbc_read.specs.Gathered.{table_of}
+use Rattle.dbc_read.specs.declared.feeds.Feeds.{Feeds}
+use Rattle.dbc_read.specs.declared.gathered.Gathered.{Gathered}
+use Rattle.dbc_statements.specs.Said.{message_of, names_of}
+
+abbrev pub first_or : {A : Type 0} → A → List A → A
+first_or d [] = d
+first_or d (x ∷ xs) = x
+
+abbrev pub nodes_from : List (List ℕ) → List (List ℕ) → List Node
+nodes_from [] comments = []
+nodes_from (name ∷ names) comments = record { name = name; comment = first_or [] comments } ∷ nodes_from names (drop 1 comments)
+
+-- what is left once one signal took its own
+abbrev pub rest_of : Feeds → Feeds
+rest_of f = record { comments = drop 1 f.comments; values = drop 1 f.values; types = drop 1 f.types; spns = drop 1 f.spns }
+
+abbrev pub signal_with : says.SignalLine → Feeds → Signal
+signal_with line f = record {
+  name = line.name;
+  layout = line.layout;
+  signed = line.signed;
+  mux = line.mux;
+  factor = line.factor;
+  offset = line.offset;
+  minimum = line.minimum;
+  maximum = line.maximum;
+  unit = line.unit;
+  receivers = line.receivers;
+  comment = first_or [] f.comments;
+  spn = first_or 0 f.spns;
+  values = first_or [] f.values;
+  value_type = first_or Integer f.types;
+}
+
+abbrev pub signals_from : List says.SignalLine → Feeds → List Signal
+signals_from [] f = []
+signals_from (line ∷ lines) f = signal_with line f ∷ signals_from lines (rest_of f)
+
+-- what is left once these signals took theirs
+abbrev pub behind : List says.SignalLine → Feeds → Feeds
+behind [] f = f
+behind (line ∷ lines) f = behind lines (rest_of f)
+
+abbrev pub message_with : says.MessageLine → List ℕ → Feeds → Message
+message_with line comment f = record {
+  ident = ident_of_number line.number;
+  name = line.name;
+  length = line.length;
+  transmitter = line.transmitter;
+  comment = comment;
+  signals = signals_from line.signals f;
+}
+
+abbrev pub messages_from : List says.MessageLine → List (List ℕ) → Feeds → List Message
+messages_from [] comments f = []
+messages_from (line ∷ lines) comments f = message_with line (first_or [] comments) f ∷ messages_from lines (drop 1 comments) (behind line.signals f)
+
+-- each of these messages is fit, and they can meet those that are there
+pub record AreAddable (before messages : List Message) : Type 0 where
+  pub fit : AllByRecursion IsFit messages
+  pub together : CanMeet (before ++ messages)
+
+-- of all that is gathered
+
+abbrev pub nodes_in : Gathered → List Node
+nodes_in g = nodes_from (names_of g.nodes) g.node_comments
+
+abbrev pub tables_in : Gathered → List ValueTable
+tables_in g = map table_of g.tables
+
+abbrev pub feeds_in : Gathered → Feeds
+feeds_in g = record { comments = g.signal_comments; values = g.signal_values; types = g.signal_types; spns = g.signal_spns }
+
+abbrev pub messages_in : Gathered → List Message
+messages_in g = messages_from (map message_of g.messages) g.message_comments (feeds_in g)
+
+-- the sheet of all that is gathered
+pub record IsBuilt (g : Gathered) (s : Sheet) : Type 0 where
+  pub is_sheet : IsSheet s
+  pub version : s.version ≡ unwrap_or g.version []
+  pub comment : s.comment ≡ unwrap_or g.comment []
+  pub nodes : s.nodes ≡ nodes_in g
+  pub tables : s.tables ≡ tables_in g
+  pub messages : IsPermutation (messages_in g) s.messages
+
+-- all that is gathered can stand in one sheet
+pub record CanStand (g : Gathered) : Type 0 where
+  pub nodes : AreRostered node_name (nodes_in g)
+  pub tables : TablesFit (tables_in g)
+  pub messages : AllByRecursion IsFit (messages_in g)
+  pub together : CanMeet (messages_in g)

@@ -1,0 +1,46 @@
+//! Values that are handed out one at a time.
+ghost use Rattle.std.specs.Prelude.{◌≡◌, drop};
+ghost use Rattle.dbc_read.specs.Built.{first_or};
+
+use catalogue::Items;
+use std::marker::Model;
+use std::vec::IntoIter;
+
+/// Values that are handed out one at a time, from the first on. Contracts see those that are left.
+#[derive(Drop)]
+pub(crate) struct Feed<T> {
+    left: IntoIter<T>,
+}
+
+impl<T> Model for Feed<T> {
+    ghost use Rattle.std.specs.Prelude.{List};
+    ghost use Rattle.std.specs.Vec.Iter.{into_iter_items};
+
+    ghost Value = { List T };
+
+    ghost view = { λ feed. into_iter_items feed.left };
+}
+
+impl<T> Feed<T> {
+    /// All of these values.
+    pub(crate) fn of(items: Items<T>) -> Feed<T>
+        ensures { result ≡ items }
+    {
+        Feed {
+            left: items.into_vec().into_iter(),
+        }
+    }
+}
+
+impl<T: Drop> Feed<T> {
+    /// The next value, or this one where none is left.
+    pub(crate) fn next_or(&mut self, other: T) -> T
+        ensures value { result ≡ first_or other self.old }
+        ensures rest { self.new ≡ drop 1 self.old }
+    {
+        match self.left.next() {
+            Some(value) => value,
+            None => other,
+        }
+    }
+}

@@ -35,6 +35,31 @@ fn report(alloc: Global, source: &[u8]) -> Result<String, Fail> {
     Ok(text)
 }
 
+/// The kind and the places of the first token that a lexer at the place gives.
+fn first_at(alloc: Global, source: &[u8], place: usize) -> Result<String, Fail> {
+    let mut lexer = Lexer::at(source, place);
+    match lexer.next_token()? {
+        Some(token) => Ok(format!(in alloc; "{:?} {}-{}", token.kind, token.start, token.end)?),
+        None => Ok(String::from_str(alloc, "end")?),
+    }
+}
+
+#[test]
+fn lexers_at_a_place(rt: HostRuntime) -> Result<(), Fail> {
+    for (place, wanted) in [
+        (0, "Name 0-3"),
+        (1, "Name 1-3"),
+        (3, "Mark 3-4"),
+        (4, "Number 5-7"),
+        (7, "end"),
+        (9, "end"),
+    ] {
+        let text = first_at(rt.alloc(), b"BS_: 12", place)?;
+        assert_eq!(rt; text.as_str(), wanted, "{place}");
+    }
+    Ok(())
+}
+
 #[test]
 fn gaps_and_marks(rt: HostRuntime) -> Result<(), Fail> {
     for (source, wanted) in [

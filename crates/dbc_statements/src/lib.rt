@@ -7,9 +7,10 @@
 //! `specs/Said.antt`).
 //!
 //! A text is read once, token by token (`tokens`). A place where no token begins is at fault before any other, wherever it
-//! is, so what stands behind the last statement that was begun is then read for such a place (`fault_behind`). Above the tokens stand fields (`words`, `fields`, `names`, `entries`), then
-//! the lines behind each keyword (`heading`, `messages`, `signals`, `comments`, `attached`, `passing`), then the
-//! statements (`reading`). What the statements say together, and whether that is a sheet, is the next layer's matter.
+//! is, so what stands behind the last statement that was begun is then read for such a place (`fault_behind`). Above the
+//! tokens stand fields (`words`, `fields`, `names`, `entries`), then the lines behind each keyword (`heading`, `messages`,
+//! `signals`, `comments`, `attached`, `passing`), then the statements (`reading`). What the statements say together, and
+//! whether that is a sheet, is the next layer's matter.
 #![tactic(auto)]
 
 mod attached;

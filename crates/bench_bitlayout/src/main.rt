@@ -1,5 +1,5 @@
 //! Prints how long the searches of `bitlayout` take on large messages, on standard error. On standard output
-//! stand their answers alone, which are the same at each run.
+//! are their answers alone, which are the same at each run.
 #![tactic(auto)]
 
 use bitlayout::{Layout, Mux, Order, Place, Size, first_clash, least_start};

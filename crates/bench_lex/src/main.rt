@@ -1,7 +1,7 @@
-//! Prints how long the tokens of a large DBC text take, on standard error. On standard output stand counts alone.
+//! Prints how long the tokens of a large DBC text take, on standard error. Standard output has counts alone.
 //!
 //! With no words it makes a text of 16,384 messages, each with 8 signals and a comment on each signal, and counts its
-//! tokens. `write COUNT` writes the text of so many messages, and `count FILE` counts the tokens of a file.
+//! tokens. `write COUNT` writes the text of the given number of messages, and `count FILE` counts the tokens of a file.
 #![tactic(auto)]
 
 use dbc_lex::{Lexer, ReadFault};
@@ -47,7 +47,7 @@ fn write_comments(out: &mut impl Write, number: u32) -> io::Result<()> {
     Ok(())
 }
 
-/// Writes a text of so many messages.
+/// Writes a text of the given number of messages.
 fn write_text(out: &mut impl Write, messages: u32) -> io::Result<()> {
     write_head(out)?;
     for number in 0..messages {

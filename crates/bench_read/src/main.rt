@@ -1,5 +1,5 @@
 //! Prints how long a DBC file takes to be read, or to be divided into statements alone, on standard error. On standard
-//! output stand counts alone.
+//! output has counts alone.
 #![tactic(auto)]
 
 use dbc_read::read;

@@ -1,4 +1,4 @@
-//! Prints how long sheets of the greatest size take, on standard error. On standard output stand counts alone, which
+//! Prints how long sheets of the greatest size take, on standard error. Standard output has counts alone, which
 //! are the same at each run.
 #![tactic(auto)]
 
@@ -46,7 +46,7 @@ fn signal(alloc: Global, number: u32, byte: u32) -> io::Result<Signal> {
     })
 }
 
-/// A message of 8 bytes with so many signals.
+/// A message of 8 bytes with the given number of signals.
 fn message(alloc: Global, number: u32, signals: u32) -> io::Result<Message> {
     let ident = Ident::from_dbc(2_147_483_648 + number % 536_870_912);
     let length = PayloadLength::new(8).ok_or(io::ErrorKind::InvalidData)?;
@@ -65,7 +65,7 @@ fn message(alloc: Global, number: u32, signals: u32) -> io::Result<Message> {
     Ok(message)
 }
 
-/// A sheet of so many messages, whose numbers rise by `step` modulo their count.
+/// A sheet of the given number of messages, whose numbers rise by `step` modulo their count.
 fn sheet(alloc: Global, messages: u32, signals: u32, step: u32) -> io::Result<Sheet> {
     let mut sheet = Sheet::new(alloc);
     for i in 0..messages {

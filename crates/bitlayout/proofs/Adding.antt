@@ -29,7 +29,7 @@ has_multiplexor-added places place = list_any-append (λ p. is_multiplexor p.mux
 length-added : (places : List Place) (place : Place) → length (places ++ place ∷ []) ≡ length places + 1
 length-added places place = length-append places (place ∷ [])
 
--- the earlier places stand as before, and the added one after them all
+-- the earlier places are as before, and the added one comes after them all
 clash_at_earlier : (bytes : ℕ) (multiplexed : Bool) (places : List Place) (place : Place) (k : ℕ) → k < length places → clash_at bytes multiplexed (places ++ place ∷ []) k ≡ clash_at bytes multiplexed places k
 clash_at_earlier bytes multiplexed places place k below =
     let many = length-added places place in

@@ -2,7 +2,7 @@
 use Rattle.std.proofs.Common.{◌≡◌, [], ◌∷◌, Some, None, refl}
 use Rattle.bitlayout.specs.declared.layout.Order.TheVariants.{Intel, Motorola}
 use Rattle.bitlayout.specs.declared.place.Mux.TheVariants.{Always, Multiplexor, Under}
-use Rattle.bitlayout.specs.declared.clash.Clash.TheVariants.{TwoMultiplexors, NoMultiplexor, Overlap}
+use Rattle.bitlayout.specs.declared.clash.Clash.TheVariants.{TwoMultiplexors, NoMultiplexor, Overlap, Outside}
 use Rattle.bitlayout.specs.Bits.{positions, walk, shares_bit, is_inside}
 use Rattle.bitlayout.specs.Clash.{clash_after, first_clash_of}
 use Rattle.bitlayout.specs.First.{first_answer}
@@ -36,3 +36,35 @@ two_multiplexors = refl
 next_to_the_first : least_start_of (place_from 16 Intel Always 0 ∷ []) 8 12 Motorola Always ≡ Some 16
 unfolding walk shares_bit is_inside clash_after first_answer
 next_to_the_first = refl
+
+inside_its_payload : first_clash_of (place_from 12 Motorola Always 16 ∷ []) 5 ≡ None
+unfolding walk shares_bit is_inside clash_after first_answer
+inside_its_payload = refl
+
+outside_its_payload : first_clash_of (place_from 12 Motorola Always 16 ∷ []) 4 ≡ Some (Outside 0)
+unfolding walk shares_bit is_inside clash_after first_answer
+outside_its_payload = refl
+
+no_signals : first_clash_of [] 0 ≡ None
+unfolding walk shares_bit is_inside clash_after first_answer
+no_signals = refl
+
+intel_next_to_the_first : least_start_of (place_from 16 Intel Always 0 ∷ []) 8 12 Intel Always ≡ Some 16
+unfolding walk shares_bit is_inside clash_after first_answer
+intel_next_to_the_first = refl
+
+no_room : least_start_of (place_from 16 Intel Always 0 ∷ []) 3 12 Intel Always ≡ None
+unfolding walk shares_bit is_inside clash_after first_answer
+no_room = refl
+
+no_room_in_a_byte : least_start_of [] 1 12 Intel Always ≡ None
+unfolding walk shares_bit is_inside clash_after first_answer
+no_room_in_a_byte = refl
+
+always_lacks_its_multiplexor : least_start_of (place_from 4 Intel (Under 0) 0 ∷ []) 1 4 Intel Always ≡ None
+unfolding walk shares_bit is_inside clash_after first_answer
+always_lacks_its_multiplexor = refl
+
+multiplexor_beside_what_hangs_on_it : least_start_of (place_from 4 Intel (Under 0) 0 ∷ []) 1 4 Intel Multiplexor ≡ Some 4
+unfolding walk shares_bit is_inside clash_after first_answer
+multiplexor_beside_what_hangs_on_it = refl

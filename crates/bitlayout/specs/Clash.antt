@@ -58,11 +58,11 @@ pub record IsFirstClash (places : List Place) (bytes : ℕ) (clash : Clash) : Ty
 abbrev pub has_multiplexor : List Place → Bool
 has_multiplexor places = list_any (λ place. is_multiplexor place.mux) places
 
--- whether some value has both present, and they have a position in common
+-- whether both are present for some value, and they have a position in common
 abbrev pub collide : Place → Place → Bool
 collide a b = meets a.mux b.mux && shares_bit a.layout b.layout
 
--- the first fault of a place that stands after these in a list with or without a multiplexor
+-- the first fault of a place that comes after these in a list with or without a multiplexor
 unfoldable pub clash_after : ℕ → Bool → List Place → Place → Option Clash
 clash_after bytes multiplexed earlier place =
     if not (is_inside place.layout bytes) then Some (Outside (length earlier))

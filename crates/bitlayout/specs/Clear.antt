@@ -1,4 +1,4 @@
--- Places that can stand together in one message.
+-- Places that fit together in one message.
 use Rattle.std.specs.Prelude.{◌≡◌, ℕ, List, All, AllPairs, Any}
 use Rattle.bitlayout.specs.declared.place.Mux.TheVariants.{Multiplexor}
 use Rattle.bitlayout.specs.declared.place.Place.{Place}
@@ -9,7 +9,7 @@ use Rattle.bitlayout.specs.Mux.{IsPresent, IsUnder}
 abbrev pub IsMultiplexor : Place → Type 0
 IsMultiplexor place = place.mux ≡ Multiplexor
 
--- both are present where the multiplexor has the value, and they have a position in common
+-- both are present when the multiplexor has the value, and they have a position in common
 abbrev pub CollideAt : ℕ → Place → Place → Type 0
 CollideAt value a b = IsPresent a.mux value × IsPresent b.mux value × SharesBit a.layout b.layout
 
@@ -19,7 +19,7 @@ pub record IsClear (places : List Place) (bytes : ℕ) : Type 0 where
   pub inside : All (λ place. IsInside place.layout bytes) places
   -- at most one is the multiplexor: no two are
   pub one_multiplexor : AllPairs (λ a b. ¬ (IsMultiplexor a × IsMultiplexor b)) places
-  -- one is, if any hangs on its value
+  -- one is, if any depends on its value
   pub multiplexor : Any (λ place. IsUnder place.mux) places → Any IsMultiplexor places
-  -- at no value do any two of them collide, each with each
+  -- for no value do any two of them collide, each with each
   pub apart : (value : ℕ) → AllPairs (λ a b. ¬ (CollideAt value a b)) places

@@ -4,7 +4,7 @@ use Rattle.bitlayout.specs.declared.layout.Order.{Order}
 use Rattle.bitlayout.specs.declared.layout.Order.TheVariants.{Intel, Motorola}
 use Rattle.bitlayout.specs.declared.interval.Interval.{Interval}
 
--- where a position stands once each byte is numbered in the order's own direction
+-- the number of a position once each byte is numbered in the order's own direction
 abbrev pub rank : Order → ℕ → ℕ
 rank Intel p = p
 rank Motorola p = 8 * (p / 8) + (7 - p % 8)

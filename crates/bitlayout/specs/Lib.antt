@@ -4,4 +4,5 @@ pub mod Clear
 pub mod First
 pub mod Interval
 pub mod Mux
+pub mod Order
 pub mod Start

@@ -1,6 +1,7 @@
--- Where a further signal can start.
-use Rattle.std.specs.Prelude.{ℕ, ◌*◌, ◌<◌, ◌≤◌, min, List, [], ◌∷◌, ◌++◌, Option, Some, None, if◌then◌else◌, is_none}
+-- Where one more signal can start.
+use Rattle.std.specs.Prelude.{ℕ, ◌+◌, ◌*◌, ◌≤◌, min, List, [], ◌∷◌, ◌++◌, Option, Some, None, if◌then◌else◌, is_none}
 use Rattle.bitlayout.specs.declared.layout.Order.{Order}
+use Rattle.bitlayout.specs.declared.layout.TheConstants.{GREATEST_START}
 use Rattle.bitlayout.specs.declared.place.Mux.{Mux}
 use Rattle.bitlayout.specs.declared.place.Place.{Place}
 use Rattle.bitlayout.specs.Clash.{first_clash_of}
@@ -20,9 +21,9 @@ abbrev pub IsLeastStart : List Place → ℕ → ℕ → Order → Mux → ℕ �
 IsLeastStart places bytes size order mux start =
     CanStartAt places bytes size order mux start × ((other : ℕ) → CanStartAt places bytes size order mux other → start ≤ other)
 
--- from no start of 16 bits does the signal leave the list clear
+-- from no start does the signal leave the list clear
 abbrev pub HasNoStart : List Place → ℕ → ℕ → Order → Mux → Type 0
-HasNoStart places bytes size order mux = (start : ℕ) → start < 65536 → ¬ (CanStartAt places bytes size order mux start)
+HasNoStart places bytes size order mux = (start : ℕ) → start ≤ GREATEST_START → ¬ (CanStartAt places bytes size order mux start)
 
 -- The same computed.
 
@@ -31,6 +32,6 @@ abbrev pub start_if_clear : List Place → ℕ → ℕ → Order → Mux → ℕ
 start_if_clear places bytes size order mux start =
     if is_none (first_clash_of (places ++ place_from size order mux start ∷ []) bytes) then Some start else None
 
--- the least start of 16 bits; past the payload none is clear
+-- the least start; past the payload none is clear
 abbrev pub least_start_of : List Place → ℕ → ℕ → Order → Mux → Option ℕ
-least_start_of places bytes size order mux = first_answer (start_if_clear places bytes size order mux) (min (8 * bytes) 65536)
+least_start_of places bytes size order mux = first_answer (start_if_clear places bytes size order mux) (min (8 * bytes) (GREATEST_START + 1))

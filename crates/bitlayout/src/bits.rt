@@ -1,3 +1,4 @@
+//! Questions about the set of a signal's bits.
 ghost use Rattle.std.specs.Prelude.{◌≡◌, ◌≢◌, ◌↔◌, IsTrue};
 ghost use Rattle.bitlayout.specs.Bits.{IsBit, IsInside, SharesBit, is_bit, is_inside, shares_bit};
 
@@ -35,7 +36,7 @@ pub fn share_bit(a: Layout, b: Layout) -> bool
 }
 
 /// `share_bit` of signals in different orders. Each has one interval in each byte that it touches, and one
-/// order counts a byte's bits the other way round.
+/// order counts a byte's bits in the other direction.
 fn share_bit_across(a: Layout, b: Layout) -> bool
     requires { a.order ≢ b.order }
     ensures { IsTrue result ↔ SharesBit a b }

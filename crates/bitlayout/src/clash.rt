@@ -1,3 +1,4 @@
+//! The first reason why the signals of a message do not fit together.
 ghost use Rattle.std.specs.Prelude.{◌≡◌, ◌↔◌, IfSome, IsNone, position};
 ghost use Rattle.bitlayout.specs.Clash.{IsFirstClash, clash_after, first_clash_among, first_clash_of, collide, has_multiplexor};
 ghost use Rattle.bitlayout.specs.Clear.{IsClear};
@@ -5,20 +6,20 @@ ghost use Rattle.bitlayout.specs.Clear.{IsClear};
 use crate::bits::{inside, share_bit};
 use crate::place::{Place, meet};
 
-/// Why places can't stand together in one message. The numbers are indices in the list of places.
+/// Why places do not fit together in one message. The numbers are indices in the list of places.
 #[derive(Clone, Copy, Debug, PartialEq, Eq, Hash)]
 pub enum Clash {
-    /// A bit of this place lies past the payload.
+    /// A bit of this place lies past the end of the payload.
     Outside(usize),
     /// This place is a multiplexor, and an earlier one is too.
     TwoMultiplexors(usize),
-    /// This place hangs on a value of the multiplexor, and no place is the multiplexor.
+    /// This place depends on a value of the multiplexor, and no place is the multiplexor.
     NoMultiplexor(usize),
-    /// Two places that some value of the multiplexor has present share a bit.
+    /// Two places that are both present for some value of the multiplexor share a bit.
     Overlap {
-        /// The one that stands earlier in the list.
+        /// The index of the first of them.
         earlier: usize,
-        /// The one that stands later.
+        /// The index of the second.
         later: usize,
     },
 }
@@ -30,7 +31,7 @@ pub(crate) fn any_multiplexor(places: &[Place]) -> bool
     places.iter().any(|place| place.mux.is_multiplexor())
 }
 
-/// Whether some value of the multiplexor has both present, and they share a bit.
+/// Whether both are present for some value of the multiplexor, and they share a bit.
 fn collides(a: Place, b: Place) -> bool
     ensures { result ≡ collide a b }
 {
@@ -44,7 +45,7 @@ fn first_partner(places: &[Place], place: Place) -> Option<usize>
     places.iter().position(|other| collides(*other, place))
 }
 
-/// The first fault of a place that stands after `earlier`, in a list with or without a multiplexor.
+/// The first fault of a place that comes after `earlier`, in a list with or without a multiplexor.
 #[tactic(auto, unfolding(crate::specs::Clash::clash_after))]
 pub(crate) fn fault_after(
     earlier: &[Place],
@@ -85,9 +86,9 @@ pub(crate) fn first_clash_where(places: &[Place], length: u16, multiplexed: bool
     None
 }
 
-/// The first reason why the places can't stand together in a message of `length` bytes, or `None` where the
-/// list is clear. It is the clash of the place at the least index, of that place the first of
-/// [`Clash::Outside`], [`Clash::TwoMultiplexors`], [`Clash::NoMultiplexor`] and [`Clash::Overlap`], and of
+/// The first reason why the places do not fit together in a message of `length` bytes, or `None` where the
+/// list is clear. It is the clash of the place at the least index; of that place the first of
+/// [`Clash::Outside`], [`Clash::TwoMultiplexors`], [`Clash::NoMultiplexor`] and [`Clash::Overlap`]; and of
 /// overlaps the one with the earliest place.
 pub fn first_clash(places: &[Place], length: u16) -> Option<Clash>
     ensures clear { IsNone result ↔ IsClear places.now length }

@@ -1,7 +1,8 @@
+//! Walks as intervals of ranks.
 ghost use Rattle.std.specs.Prelude.{◌≡◌, ℕ, ◌+◌, ◌-◌, ◌*◌, ◌^◌, ◌<◌, ◌≤◌, ◌↔◌, IsTrue, min, max};
 ghost use Rattle.bitlayout.specs.Interval.{rank, IsWithin};
 
-use crate::layout::{Layout, Order};
+use crate::layout::{Layout, Order, SIZE_LIMIT};
 
 /// The numbers from `first` to before `end`.
 #[derive(Clone, Copy, Debug, PartialEq, Eq)]
@@ -10,8 +11,8 @@ pub struct Interval {
     pub end: u32,
 }
 
-/// Where a position stands if each byte is numbered in the order's own direction: Intel from the least
-/// significant bit, Motorola from the most significant. A walk is then one interval.
+/// The rank of a position: its number if each byte is numbered in the order's own direction, Intel from the
+/// least significant bit, Motorola from the most significant. The ranks of a walk are one interval.
 pub fn rank_of(order: Order, position: u32) -> u32
     ensures { result ≡ rank order position }
 {
@@ -26,7 +27,7 @@ pub fn ranks(layout: Layout) -> Interval
     ensures first { result.first ≡ rank layout.order layout.start }
     ensures end { result.end ≡ rank layout.order layout.start + layout.size }
     ensures some { result.first < result.end }
-    ensures few { result.end ≤ result.first + 64 }
+    ensures few { result.end ≤ result.first + SIZE_LIMIT }
     ensures small { result.end < 2 ^ 17 }
 {
     let first = rank_of(layout.order, u32::from(layout.start));

@@ -1,6 +1,13 @@
+//! Which bits of a payload a signal has: its start, its size and its byte order.
 ghost use Rattle.std.specs.Prelude.{◌≡◌, ◌≤◌, SomeIff};
 
 use std::marker::Model;
+
+/// The greatest start of a signal, a bit position. A start has 16 bits.
+pub const GREATEST_START: u16 = 65_535;
+
+/// The greatest size of a signal, in bits.
+pub const SIZE_LIMIT: u8 = 64;
 
 /// How a signal's bits follow one another from its start (the byte order of a signal in Vector's DBC File
 /// Format Documentation). Positions are numbered 8 times the byte plus the bit in the byte, 7 being the
@@ -15,7 +22,32 @@ pub enum Order {
     Motorola,
 }
 
-/// How many bits a signal has: 1 to 64, as which number contracts see it.
+impl Order {
+    ghost use Rattle.bitlayout.specs.Order.{order_number, order_numbered};
+
+    /// The order that a DBC file writes as this number after `@`: 0 or 1, `None` for any other number.
+    pub fn from_number(number: u32) -> Option<Order>
+        ensures { result ≡ order_numbered number }
+    {
+        match number {
+            0 => Some(Order::Motorola),
+            1 => Some(Order::Intel),
+            _ => None,
+        }
+    }
+
+    /// The number that a DBC file writes for the order after `@`: 1 for Intel, 0 for Motorola.
+    pub fn number(self) -> u8
+        ensures { result ≡ order_number self }
+    {
+        match self {
+            Order::Intel => 1,
+            Order::Motorola => 0,
+        }
+    }
+}
+
+/// How many bits a signal has, 1 to 64. Contracts see it as the number.
 #[derive(Clone, Copy, Debug, PartialEq, Eq, PartialOrd, Ord, Hash)]
 pub struct Size {
     bits: u8,
@@ -23,12 +55,13 @@ pub struct Size {
 
 impl Model for Size {
     ghost use Rattle.std.specs.Prelude.{ℕ, ◌≤◌};
+    ghost use Rattle.bitlayout.specs.declared.layout.TheConstants.{SIZE_LIMIT};
 
     ghost Value = { ℕ };
 
     ghost view = { λ size. size.bits };
 
-    ghost invariant = { λ size. (1 ≤ size.bits) × (size.bits ≤ 64) };
+    ghost invariant = { λ size. (1 ≤ size.bits) × (size.bits ≤ SIZE_LIMIT) };
 
     ghost inverse = { λ n. record { bits = n } };
 }
@@ -36,9 +69,9 @@ impl Model for Size {
 impl Size {
     /// The size of this many bits, or `None` outside 1 to 64.
     pub fn new(bits: u8) -> Option<Size>
-        ensures { SomeIff result ((1 ≤ bits) × (bits ≤ 64)) bits }
+        ensures { SomeIff result ((1 ≤ bits) × (bits ≤ SIZE_LIMIT)) bits }
     {
-        if bits >= 1 && bits <= 64 {
+        if bits >= 1 && bits <= SIZE_LIMIT {
             Some(Size { bits })
         } else {
             None
@@ -49,7 +82,7 @@ impl Size {
     pub fn bits(self) -> u8
         ensures value { result ≡ self }
         ensures least { 1 ≤ result }
-        ensures most { result ≤ 64 }
+        ensures most { result ≤ SIZE_LIMIT }
     {
         self.bits
     }

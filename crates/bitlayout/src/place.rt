@@ -1,6 +1,10 @@
+//! A signal's place in a message: where it lies, and when it is present.
 ghost use Rattle.std.specs.Prelude.{◌≡◌, ◌↔◌, IsTrue};
+ghost use Rattle.bitlayout.specs.Mux.{Meet, meets};
 
 use crate::layout::Layout;
+use arrayvec::ArrayString;
+use itoa::Buffer;
 
 /// When a signal of a multiplexed message is present (the multiplexer indicator of a signal in Vector's DBC
 /// File Format Documentation).
@@ -15,7 +19,7 @@ pub enum Mux {
 }
 
 impl Mux {
-    ghost use Rattle.bitlayout.specs.Mux.{is_multiplexor, is_under};
+    ghost use Rattle.bitlayout.specs.Mux.{indicator_of, is_multiplexor, is_under};
 
     /// Whether it is the multiplexor.
     pub fn is_multiplexor(self) -> bool
@@ -24,11 +28,28 @@ impl Mux {
         matches!(self, Mux::Multiplexor)
     }
 
-    /// Whether it hangs on a value of the multiplexor.
+    /// Whether it depends on a value of the multiplexor.
     pub fn is_under(self) -> bool
         ensures { result ≡ is_under self }
     {
         matches!(self, Mux::Under(_))
+    }
+
+    /// The indicator that a DBC file writes after the signal's name: `M`, or `m` and the value, or no bytes for
+    /// [`Mux::Always`].
+    pub fn indicator(self) -> ArrayString<11>
+        ensures { result.bytes ≡ indicator_of self }
+    {
+        let mut text = ArrayString::new();
+        match self {
+            Mux::Always => {}
+            Mux::Multiplexor => text.push('M'),
+            Mux::Under(value) => {
+                text.push('m');
+                text.push_str(Buffer::new().format(value));
+            }
+        }
+        text
     }
 }
 
@@ -41,9 +62,7 @@ pub struct Place {
     pub mux: Mux,
 }
 
-ghost use Rattle.bitlayout.specs.Mux.{Meet, meets};
-
-/// Whether some value of the multiplexor has both signals present: all but two that are under different
+/// Whether both signals are present for some value of the multiplexor: all but two that are under different
 /// values.
 pub fn meet(a: Mux, b: Mux) -> bool
     ensures both_present { IsTrue result ↔ Meet a b }

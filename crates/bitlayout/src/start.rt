@@ -1,15 +1,16 @@
-ghost use Rattle.std.specs.Prelude.{◌≡◌, ◌*◌, ◌<◌, ◌||◌, min, IfSome, IfNone};
+//! Room for one more signal.
+ghost use Rattle.std.specs.Prelude.{◌≡◌, ◌+◌, ◌*◌, ◌<◌, ◌||◌, min, IfSome, IfNone};
 ghost use Rattle.bitlayout.specs.Clash.{has_multiplexor};
 ghost use Rattle.bitlayout.specs.Mux.{is_multiplexor};
 ghost use Rattle.bitlayout.specs.Start.{HasNoStart, IsLeastStart, least_start_of};
 
 use crate::clash::{any_multiplexor, fault_after, first_clash_where};
-use crate::layout::{Layout, Order, Size};
+use crate::layout::{GREATEST_START, Layout, Order, Size};
 use crate::place::{Mux, Place};
 
-/// The least start, 0 to 65535, from which a further signal leaves the list clear in a message of `length`
+/// The least start, 0 to 65535, from which one more signal leaves the list clear in a message of `length`
 /// bytes: [`first_clash`](crate::first_clash) of the places with the signal's added last is `None`. The
-/// answer is `None` where no start does.
+/// answer is `None` where there is no such start.
 pub fn least_start(places: &[Place], length: u16, size: Size, order: Order, mux: Mux) -> Option<u16>
     ensures least { IfSome result (IsLeastStart places.now length size order mux) }
     ensures none { IfNone result (HasNoStart places.now length size order mux) }
@@ -31,7 +32,7 @@ fn least_start_where(
     requires { multiplexed ≡ (is_multiplexor mux || has_multiplexor places.now) }
     ensures least { IfSome result (IsLeastStart places.now length size order mux) }
     ensures none { IfNone result (HasNoStart places.now length size order mux) }
-    ensures payload { IfSome result (λ start. start < min (8 * length) 65536) }
+    ensures payload { IfSome result (λ start. start < min (8 * length) (GREATEST_START + 1)) }
 {
     let positions = 8 * u32::from(length);
     if u32::from(size.bits()) > positions {
@@ -40,7 +41,7 @@ fn least_start_where(
     if first_clash_where(places, length, multiplexed).is_some() {
         return None;
     }
-    for start in 0..positions.min(65536) {
+    for start in 0..positions.min(u32::from(GREATEST_START) + 1) {
         let start = start as u16;
         let layout = Layout { start, size, order };
         if fault_after(places, Place { layout, mux }, length, multiplexed).is_none() {

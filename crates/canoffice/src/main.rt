@@ -2,7 +2,7 @@
 //! program's library.
 #![tactic(auto)]
 
-use canoffice_cli::{HostFiles, LineFault, Status, fault_report, perform, told, words_not_text};
+use canoffice_cli::{HostFiles, LineFault, Status, deliver, fault_report, perform, words_not_text};
 use std::alloc::AllocError;
 use std::env;
 use std::io::ErrorKind;
@@ -12,22 +12,22 @@ fn main(rt: HostRuntime) -> ExitCode {
     ExitCode::from(run(&rt).code())
 }
 
-// Reads the words, and performs what they ask for.
+/// Reads the words, and performs what they ask for.
 fn run(rt: &HostRuntime) -> Status {
     let alloc = rt.alloc();
     let mut out = rt.stdout();
     let mut errors = rt.stderr();
     let words = match words(rt) {
         Ok(words) => words,
-        Err(fault) => return told(fault_report(alloc, fault), &mut out, &mut errors),
+        Err(fault) => return deliver(fault_report(alloc, fault), &mut out, &mut errors),
     };
     match texts(rt, &words) {
         Ok(texts) => perform(alloc, &texts, &HostFiles { rt }, &mut out, &mut errors),
-        Err(lost) => told(Err(lost), &mut out, &mut errors),
+        Err(lost) => deliver(Err(lost), &mut out, &mut errors),
     }
 }
 
-// The program's words, of which the first is its own name.
+/// The program's words, of which the first is its own name.
 fn words(rt: &HostRuntime) -> Result<Vec<String>, LineFault> {
     match env::args(rt) {
         Ok(words) => words.collect(rt.alloc()).map_err(|_| LineFault::Memory),

@@ -1,4 +1,4 @@
--- A canonical text that is formatted is printed as it stands.
+-- A canonical text that is formatted is printed unchanged.
 use Rattle.std.proofs.Common.{◌≡◌, ◌∙◌, ℕ, List, sym, ap, subst}
 use Rattle.catalogue.specs.Canon.{canonical_text}
 use Rattle.catalogue.specs.Reads.{Reads}
@@ -6,13 +6,13 @@ use Rattle.catalogue.specs.declared.sheet.Sheet.{Sheet}
 use Rattle.dbc_law.specs.Law.{GrammarLaw}
 use Rattle.dbc_read.specs.Reading.{ReadsAsNothing}
 use Rattle.canoffice_cli.specs.Formatted.{KeepsCanonical}
-use Rattle.canoffice_cli.specs.Outcome.{Outcome, printed}
+use Rattle.canoffice_cli.specs.Outcome.{Outcome, success}
 
 -- the canonical text of what it reads as is that text
-pub printed_again : GrammarLaw → (bytes : List ℕ) (read : Sheet) (o : Outcome) → Reads bytes read → o ≡ printed (canonical_text read) → KeepsCanonical bytes o
+pub printed_again : GrammarLaw → (bytes : List ℕ) (read : Sheet) (o : Outcome) → Reads bytes read → o ≡ success (canonical_text read) → KeepsCanonical bytes o
 printed_again law bytes read o reads told s form same =
     let is : read ≡ s = (law s form).only read (subst (λ b. Reads b read) same reads) in
-    told ∙ ap printed (ap canonical_text is ∙ sym same)
+    told ∙ ap success (ap canonical_text is ∙ sym same)
 
 -- and it reads as something
 pub not_nothing : GrammarLaw → (bytes : List ℕ) (o : Outcome) → ReadsAsNothing bytes → KeepsCanonical bytes o

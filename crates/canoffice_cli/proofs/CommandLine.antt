@@ -1,27 +1,43 @@
 -- What clap's matches and errors say of the job and of the fault.
-use Rattle.std.proofs.Common.{◌≡◌, ◌⊎◌, inl, inr, List, Option, Some, None, option_map, refl, subst, true, sym, ◌∙◌}
-use Rattle.clap.specs.Words.{App, IsAmong, Row, Text, all_of, matched_of, raw_values, first_value, fault_of, first_of, is_simple_and_free, rows_of}
+use Rattle.std.proofs.Common.{◌≡◌, ◌∷◌, map, ◌⊎◌, inl, inr, List, Option, Some, None, option_map, refl, subst, true, sym, ◌∙◌}
+use Rattle.std.specs.Prelude.{find}
+use Rattle.std.specs.Borrow.{Bor}
+use Rattle.std.specs.Option.{IsSome}
+use Rattle.std.specs.Str.{bytes_eq}
+use Rattle.std.proofs.lemmas.Slice.Eq.{bytes_eq-Decides}
+use Rattle.std.specs.Prelude.{Box}
+use Rattle.std.specs.Box.{box_value}
+use Rattle.clap.specs.Simple.{subcommand_rows}
+use Rattle.clap.specs.declared.parser.matches.ArgMatches.{ArgMatches}
+use Rattle.clap.specs.declared.parser.matches.ArgMatches.TheViews.{out-ArgMatches, out-SubCommand}
+use Rattle.clap.specs.declared.parser.matches.SubCommand.{SubCommand}
+use Rattle.clap.specs.Words.{App, subcommand_name_of, subcommand_rows_of, IsAmong, Row, Text, all_of, matched_of, raw_values, first_value, fault_of, first_of, is_simple_and_free, rows_of}
 use Rattle.clap.specs.declared.error.kind.ErrorKind.{ErrorKind}
 use Rattle.clap.specs.declared.error.kind.ErrorKind.TheVariants.{OutOfMemory}
-use Rattle.canoffice_cli.specs.CommandLine.{IsFaultOfKind, IsLineFault, canoffice_app, line_faults}
+use Rattle.canoffice_cli.specs.CommandLine.{IsFaultOfKind, IsLineFault, HasSome, IsEntered, IsWhole, canoffice_app, line_faults}
 use Rattle.canoffice_cli.specs.declared.job.LineFault.{LineFault}
 use Rattle.canoffice_cli.specs.declared.job.LineFault.TheVariants.{Help, Usage, Memory}
 use Rattle.clap.specs.declared.parser.matches.Found.{Found}
 use Rattle.clap.proofs.WalkLemmas.{first_value-rows, raw_values-rows}
 
--- the value that a getter gives is the one that stands in the rows
+-- the value that a getter gives is the one that is in the rows
 pub value_in_rows : (f : Found) (id text : Text) → first_value f id ≡ Some text → first_of id (rows_of f) ≡ Some text
 value_in_rows f id text e = sym (first_value-rows f id) ∙ e
 
--- the values that a getter gives are those that stand in the rows
+-- the values that a getter gives are those that are in the rows
 pub values_in_rows : (f : Found) (id : Text) (vs : List Text) → option_map raw_values (matched_of f id) ≡ Some vs → all_of id (rows_of f) ≡ Some vs
 values_in_rows f id vs e = sym (raw_values-rows f id) ∙ e
 
--- the subcommand that was found has this name and these rows
-pub found_pair : (found : Option (Text × List Row)) (name : Text) (rows : List Row) → option_map (λ p. p.0) found ≡ Some name → option_map (λ p. p.1) found ≡ Some rows
-    → found ≡ Some (name, rows)
-found_pair None name rows a b = cc
-found_pair (Some (n, r)) name rows a b = cc
+module _ {Z : Type 0} where
+  pair_of_parts : (sub : Option (Box SubCommand Z)) (name : Text) (rows : List Row) → Some name ≡ option_map (λ b. (out-SubCommand (box_value b)).name.now) sub
+      → Some rows ≡ option_map (λ p. p.1) (subcommand_rows sub) → subcommand_rows sub ≡ Some (name, rows)
+  pair_of_parts None name rows a b = cc
+  pair_of_parts (Some sub) name rows a b = cc
+
+-- the subcommand that a parse entered has this name and these rows
+pub found_pair : (m : ArgMatches) (name : Text) (rows : List Row) → Some name ≡ subcommand_name_of m → Some rows ≡ option_map (λ p. p.1) (subcommand_rows_of m)
+    → subcommand_rows_of m ≡ Some (name, rows)
+found_pair m name rows a b = pair_of_parts (out-ArgMatches m).subcommand name rows a b
 
 -- a fault of the kind of clap's error is one that the words have
 pub line_fault_of : (words : List Text) (kind : ErrorKind) (fault : LineFault) → (kind ≡ OutOfMemory) ⊎ IsAmong kind (line_faults words) → IsFaultOfKind kind fault → IsLineFault words fault
@@ -40,3 +56,23 @@ pub line_fault_by : (app : App) (words : List Text) (kind : ErrorKind) (fault : 
 line_fault_by app words kind fault same kinds is =
     let known = subst (λ a. is_simple_and_free a ≡ true → (kind ≡ OutOfMemory) ⊎ IsAmong kind (fault_of a words)) same kinds in
     line_fault_of words kind fault (known is_simple_line) is
+
+-- ---- what is there where clap finds no fault
+
+-- an argument that has a value is given by its getter
+pub text_is_given : (f : Found) (id : Text) (r : Option (Bor Text)) → option_map (λ s. s.now) r ≡ first_value f id → HasSome (rows_of f) id → IsSome r
+text_is_given f id None is h = let bad : None ≡ Some h.0 = is ∙ first_value-rows f id ∙ h.2 in cc
+text_is_given f id (Some text) is h = refl
+
+-- and so are all its values
+pub texts_are_given : (f : Found) (id : Text) (r : Option (Bor (List (Bor Text)))) → option_map (λ s. map (λ v. v.now) s.now) r ≡ option_map raw_values (matched_of f id)
+    → HasSome (rows_of f) id → IsSome r
+texts_are_given f id None is h = let bad : None ≡ Some (h.0 ∷ h.1) = is ∙ raw_values-rows f id ∙ h.3 in cc
+texts_are_given f id (Some texts) is h = refl
+
+-- the subcommand that was entered is the program's own of that name, with all that it needs
+pub entered_by_name : (m : ArgMatches) (name : Text) (rows : List Row) (known : Text) → Some name ≡ subcommand_name_of m → Some rows ≡ option_map (λ p. p.1) (subcommand_rows_of m)
+    → bytes_eq name known ≡ true → IsEntered (subcommand_rows_of m) → IsWhole (find (λ s. bytes_eq known s.name) canoffice_app.subs) rows
+entered_by_name m name rows known a b same entered =
+    let by_name : IsEntered (Some (name, rows)) = subst IsEntered (found_pair m name rows a b) entered in
+    subst (λ n. IsEntered (Some (n, rows))) ((bytes_eq-Decides name known).0 same) by_name

@@ -8,3 +8,10 @@ pub mod Commands
 pub mod PassedLines
 pub mod OfFile
 pub mod Canonical
+pub mod ReadFaults
+pub mod NoFault
+pub mod FilledRows
+pub mod FilledWalk
+pub mod GivenValues
+pub mod EnteredSubcommand
+pub mod EnteredLine

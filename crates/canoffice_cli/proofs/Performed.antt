@@ -5,10 +5,10 @@ use Rattle.std.specs.declared.alloc.AllocError.{AllocError}
 use Rattle.canoffice_cli.specs.declared.report.Report.{Report}
 use Rattle.canoffice_cli.specs.declared.report.Status.{Status}
 use Rattle.canoffice_cli.specs.Delivery.{IsDelivered, Writing}
-use Rattle.canoffice_cli.specs.Outcome.{memory_lost, outcome_of, told_of}
+use Rattle.canoffice_cli.specs.Outcome.{memory_lost, outcome_of, final_outcome}
 use Rattle.canoffice_cli.specs.Performance.{Files, IsAnswered, IsPerformed}
 
 pub performed : (words : List (List ℕ)) (files : Files) (output errors : Writing) (status : Status) (answer : Result Report AllocError)
-    → IfOk answer (λ report. IsAnswered words files (outcome_of report)) → IsDelivered (told_of answer) output errors status → IsPerformed words files output errors status
+    → IfOk answer (λ report. IsAnswered words files (outcome_of report)) → IsDelivered (final_outcome answer) output errors status → IsPerformed words files output errors status
 performed words files output errors status (Ok report) answered delivered = (outcome_of report, inr answered, delivered)
 performed words files output errors status (Err lost) answered delivered = (memory_lost, inl refl, delivered)

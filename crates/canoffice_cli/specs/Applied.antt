@@ -7,7 +7,7 @@ use Rattle.office_types.specs.declared.state.Office.{Office}
 use Rattle.office.specs.Step.{opening, Run}
 use Rattle.office_script.specs.Lines.{lines_of}
 use Rattle.office_script.specs.Script.{asked_by_all, IsFirstWrong}
-use Rattle.canoffice_cli.specs.Outcome.{Outcome, printed, wrong_line}
+use Rattle.canoffice_cli.specs.Outcome.{Outcome, success, wrong_line}
 use Rattle.canoffice_cli.specs.declared.report.Status.TheVariants.{Failed}
 
 -- each reply on a line of its own
@@ -20,16 +20,16 @@ pub record IsRun (requests : List (List ℕ × Command)) (o : Outcome) : Type 0 
   pub replies : List Reply
   pub after : Office
   pub run : Run opening requests replies after
-  pub told : o ≡ printed (reply_lines replies)
+  pub outcome : o ≡ success (reply_lines replies)
 
--- memory ran out when so many of them had been run: their replies are printed, and then what was lost
+-- memory ran out when this many of them had been run: their replies are printed, and then what was lost
 pub record IsRunUntilLost (requests : List (List ℕ × Command)) (o : Outcome) : Type 0 where
   pub count : ℕ
   pub some : count ≤ length requests
   pub replies : List Reply
   pub after : Office
   pub run : Run opening (take count requests) replies after
-  pub told : o ≡ record { output = reply_lines replies; errors = codes "lost 71\n"; status = Failed }
+  pub outcome : o ≡ record { output = reply_lines replies; errors = codes "lost 71\n"; status = Failed }
 
 abbrev pub IsRunOf : List (List ℕ × Command) → Outcome → Type 0
 IsRunOf requests o = IsRun requests o ⊎ IsRunUntilLost requests o

@@ -7,8 +7,8 @@ use Rattle.canoffice_cli.specs.Outcome.{Outcome, wrong_word}
 use Rattle.canoffice_cli.specs.declared.report.Status.TheVariants.{Success, FaultFound}
 
 -- the chart is printed, and the status says whether the signals are clear
-abbrev pub charted : ℕ → List ChartSignal → Outcome
-charted bytes signals =
+abbrev pub chart_outcome : ℕ → List ChartSignal → Outcome
+chart_outcome bytes signals =
     record { output = chart_of bytes signals; errors = []; status = if is_none (clash_of bytes signals) then Success else FaultFound }
 
 -- each word is its signal
@@ -23,6 +23,6 @@ IsFirstWrongWord words word =
 -- the signals were charted; or the length or else the first word that is no signal is named
 abbrev pub IsChartOutcome : List ℕ → List (List ℕ) → Outcome → Type 0
 IsChartOutcome length words o =
-    ((bytes : ℕ) × (signals : List ChartSignal) × (length_of length ≡ Some bytes) × AreSignals words signals × (o ≡ charted bytes signals))
+    ((bytes : ℕ) × (signals : List ChartSignal) × (length_of length ≡ Some bytes) × AreSignals words signals × (o ≡ chart_outcome bytes signals))
     ⊎ (((length_of length ≡ None) × (o ≡ wrong_word length))
     ⊎ ((bytes : ℕ) × (word : List ℕ) × (length_of length ≡ Some bytes) × IsFirstWrongWord words word × (o ≡ wrong_word word)))

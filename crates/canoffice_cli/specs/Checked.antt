@@ -1,23 +1,27 @@
 -- What a check of a DBC text comes to.
-use Rattle.std.specs.Prelude.{◌≡◌, ◌⊎◌, ◌++◌, ℕ, List, [], codes, decimal, length}
+use Rattle.std.specs.Prelude.{◌≡◌, ◌≢◌, ◌≤◌, ◌⊎◌, ◌++◌, ℕ, List, [], Some, codes, decimal, length}
 use Rattle.std.specs.List.{flat_map}
-use Rattle.catalogue.specs.Fault.{code_name, code_number}
+use Rattle.catalogue.specs.Fault.{code_name, code_number, message_about}
 use Rattle.catalogue.specs.Keyword.{keyword_text}
 use Rattle.catalogue.specs.Reads.{ReadsAs}
 use Rattle.catalogue.specs.Sheet.{IsClearSheet, IsFirstFault}
+use Rattle.catalogue.specs.declared.fault.SheetCode.{SheetCode}
 use Rattle.catalogue.specs.declared.fault.SheetFault.{SheetFault}
 use Rattle.catalogue.specs.declared.keyword.Keyword.{Keyword}
 use Rattle.catalogue.specs.declared.message.Message.{Message}
 use Rattle.catalogue.specs.declared.sheet.Sheet.{Sheet}
+use Rattle.catalogue.specs.Lexing.{LexFault, lexed}
 use Rattle.dbc_lex.specs.Fault as reading
+use Rattle.dbc_lex.specs.Fault.{fault_of}
+use Rattle.dbc_lex.specs.declared.fault.ReadCode.TheVariants.{Memory}
 use Rattle.dbc_lex.specs.declared.fault.ReadFault.{ReadFault}
 use Rattle.dbc_read.specs.Reading.{ReadsAsNothing}
-use Rattle.canoffice_cli.specs.Outcome.{Outcome, printed}
+use Rattle.canoffice_cli.specs.Outcome.{Outcome, success}
 use Rattle.canoffice_cli.specs.declared.report.Status.TheVariants.{FaultFound}
 
 -- this text on standard output, for a fault that was looked for
-abbrev pub found : List ℕ → Outcome
-found text = record { output = text; errors = []; status = FaultFound }
+abbrev pub fault_output : List ℕ → Outcome
+fault_output text = record { output = text; errors = []; status = FaultFound }
 
 -- `passed AT KEYWORD`: where a statement that is passed over begins, and its first keyword
 abbrev pub passed_line : ℕ × Keyword → List ℕ
@@ -34,24 +38,35 @@ signal_count messages = length (flat_map (λ (m : Message). m.signals) messages)
 abbrev pub clear_line : Sheet → List ℕ
 clear_line s = codes "ok " ++ (decimal (length s.messages) ++ (codes " " ++ (decimal (signal_count s.messages) ++ codes "\n")))
 
--- `unclear CODE NAME NUMBER`: the fault, and the number of the message
-abbrev pub unclear_line : SheetFault → List ℕ
-unclear_line fault =
-    codes "unclear " ++ (decimal (code_number fault.code) ++ (codes " " ++ (code_name fault.code ++ (codes " " ++ (decimal fault.number ++ codes "\n")))))
+-- `unclear CODE NAME NUMBER`: the code of the fault, and the DBC number of the message
+abbrev pub unclear_line : SheetCode → ℕ → List ℕ
+unclear_line code number =
+    codes "unclear " ++ (decimal (code_number code) ++ (codes " " ++ (code_name code ++ (codes " " ++ (decimal number ++ codes "\n")))))
 
--- `fault CODE NAME AT`: the fault, and its place
+-- `fault CODE NAME AT`: the fault, and its offset
 abbrev pub fault_line : ReadFault → List ℕ
 fault_line fault =
     codes "fault " ++ (decimal (reading.code_number fault.code) ++ (codes " " ++ (reading.code_name fault.code ++ (codes " " ++ (decimal fault.at ++ codes "\n")))))
 
--- the sheet is clear, or else its first fault is told
+-- ---- what is said
+
+-- A fault that `read` gives of the text, other than out of memory: the text reads as no sheet, the offset is in it or at
+-- its end, and where no token begins at some offset, the fault is the first one of this kind.
+pub record IsReadFault (bytes : List ℕ) (fault : ReadFault) : Type 0 where
+  pub named : fault.code ≢ Memory
+  pub nothing : ReadsAsNothing bytes
+  pub within : fault.at ≤ length bytes
+  pub tokens : (cause : LexFault) → (lexed 0 bytes).fault ≡ Some cause → fault ≡ fault_of cause
+
+-- the sheet is clear, or else the line is that of its first fault, with the number of its message
 abbrev pub IsVerdict : Sheet → List (ℕ × Keyword) → Outcome → Type 0
 IsVerdict s passed o =
-    (IsClearSheet s × (o ≡ printed (passed_lines passed ++ clear_line s)))
-    ⊎ ((fault : SheetFault) × IsFirstFault s fault × (o ≡ found (passed_lines passed ++ unclear_line fault)))
+    (IsClearSheet s × (o ≡ success (passed_lines passed ++ clear_line s)))
+    ⊎ ((fault : SheetFault) × (number : ℕ) × IsFirstFault s fault × (message_about fault.about ≡ Some number)
+    × (o ≡ fault_output (passed_lines passed ++ unclear_line fault.code number)))
 
--- the text reads as a sheet, of which the verdict is told; or as none, and a fault is told
+-- the text reads as a sheet, which gets its verdict; or as none, and the line is that of the fault of `read`
 abbrev pub IsCheckOutcome : List ℕ → Outcome → Type 0
 IsCheckOutcome bytes o =
     ((s : Sheet) × (passed : List (ℕ × Keyword)) × ReadsAs bytes s passed × IsVerdict s passed o)
-    ⊎ (ReadsAsNothing bytes × ((fault : ReadFault) × (o ≡ found (fault_line fault))))
+    ⊎ ((fault : ReadFault) × IsReadFault bytes fault × (o ≡ fault_output (fault_line fault)))

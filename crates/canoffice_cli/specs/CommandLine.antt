@@ -1,7 +1,8 @@
 -- The command line of the program, which job its words are, and which fault they have.
-use Rattle.std.specs.Prelude.{◌≡◌, ◌≢◌, List, [], map, codes, Option, Some, true, Result, Ok, Err}
+use Rattle.std.specs.Prelude.{◌≡◌, ◌≢◌, List, [], ◌∷◌, find, map, codes, Option, Some, None, true, Result, Ok, Err}
+use Rattle.std.specs.Str.{bytes_eq}
 use Rattle.clap.specs.Lexer.{usize_max}
-use Rattle.clap.specs.Words.{App, IsAmong, Kinds, Row, Rule, Text, all_of, fault_of, first_of, new_app, new_rule, subcommand_of, with_rule, with_subcommand}
+use Rattle.clap.specs.Words.{App, Shape, IsAmong, Kinds, Row, Rule, Text, all_of, fault_of, first_of, new_app, new_rule, subcommand_of, with_rule, with_subcommand}
 use Rattle.clap.specs.Simple.{on_top}
 use Rattle.clap.specs.declared.error.kind.ErrorKind.{ErrorKind}
 use Rattle.clap.specs.declared.error.kind.ErrorKind.TheVariants.{DisplayHelp, OutOfMemory}
@@ -77,6 +78,31 @@ IsJobIn found job = (name : Text) × (rows : List Row) × (found ≡ Some (name,
 -- clap finds no fault in the words, and the job is the subcommand and the values that it finds in them
 abbrev pub IsJob : List Text → Job → Type 0
 IsJob words job = (line_faults words ≡ []) × IsJobIn (subcommand_of canoffice_app words) job
+
+-- ---- what clap's matches have where it finds no fault
+
+-- the argument of this name has a value, and its values are these
+abbrev pub HasSome : List Row → Text → Type 0
+HasSome rows id = (v : Text) × (vs : List Text) × HasValue rows id v × HasValues rows id (v ∷ vs)
+
+-- each argument that has to be there has a value
+abbrev pub HasRequired : List Rule → List Row → Type 0
+HasRequired [] rows = Unit {0}
+HasRequired (r ∷ rs) rows = (r.required ≡ true → HasSome rows r.id) × HasRequired rs rows
+
+-- some subcommand, with all the arguments that it needs
+abbrev pub IsWhole : Option Shape → List Row → Type 0
+IsWhole None rows = ⊥
+IsWhole (Some s) rows = HasRequired s.rules rows
+
+-- one of the subcommands was entered, and has all the arguments that it needs
+abbrev pub IsEntered : Option (Text × List Row) → Type 0
+IsEntered None = ⊥
+IsEntered (Some found) = IsWhole (find (λ s. bytes_eq found.0 s.name) canoffice_app.subs) found.1
+
+-- the subcommand that was entered has this name
+abbrev pub IsNamed : Text → Option (Text × List Row) → Type 0
+IsNamed name found = (rows : List Row) × (found ≡ Some (name, rows))
 
 -- ---- the fault of words that are no job
 

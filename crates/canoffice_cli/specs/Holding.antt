@@ -17,7 +17,7 @@ Gives unknown bytes = Unit {0}
 Gives absent bytes = ⊥
 Gives (holding known) bytes = bytes ≡ known
 
--- a read may fail so: where the bytes are known, only for want of memory
+-- a read may fail so: where the bytes are known, only where memory runs out
 abbrev pub FailsWith : Holding → FileFault → Type 0
 FailsWith unknown fault = Unit {0}
 FailsWith absent fault = Unit {0}

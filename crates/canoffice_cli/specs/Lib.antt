@@ -3,6 +3,7 @@ pub mod Holding
 pub mod Outcome
 pub mod Applied
 pub mod Charted
+pub mod WordFault
 pub mod Checked
 pub mod Formatted
 pub mod Delivery

@@ -22,34 +22,34 @@ code_of WrongInput = 2
 code_of Failed = 3
 
 -- this text on standard output, and nothing else to say
-abbrev pub printed : List ℕ → Outcome
-printed text = record { output = text; errors = []; status = Success }
+abbrev pub success : List ℕ → Outcome
+success text = record { output = text; errors = []; status = Success }
 
 -- this text on standard error, for input that is wrong
-abbrev pub refused : List ℕ → Outcome
-refused text = record { output = []; errors = text; status = WrongInput }
+abbrev pub wrong_input : List ℕ → Outcome
+wrong_input text = record { output = []; errors = text; status = WrongInput }
 
 -- this text on standard error, for a run that could not be done
-abbrev pub failed : List ℕ → Outcome
-failed text = record { output = []; errors = text; status = Failed }
+abbrev pub failure : List ℕ → Outcome
+failure text = record { output = []; errors = text; status = Failed }
 
 -- the file of this path cannot be read
 abbrev pub unreadable : List ℕ → Outcome
-unreadable path = failed (codes "cannot read " ++ (path ++ codes "\n"))
+unreadable path = failure (codes "cannot read " ++ (path ++ codes "\n"))
 
 -- the line of this number, from 1, is wrong
 abbrev pub wrong_line : ℕ → Outcome
-wrong_line number = refused (codes "bad line " ++ (decimal number ++ codes "\n"))
+wrong_line number = wrong_input (codes "bad line " ++ (decimal number ++ codes "\n"))
 
 -- this word of the command line is not of its form
 abbrev pub wrong_word : List ℕ → Outcome
-wrong_word word = refused (codes "bad word " ++ (word ++ codes "\n"))
+wrong_word word = wrong_input (codes "bad word " ++ (word ++ codes "\n"))
 
 -- memory ran out
 abbrev pub memory_lost : Outcome
-memory_lost = failed (codes "lost 71\n")
+memory_lost = failure (codes "lost 71\n")
 
--- what is told of a report, or of want of memory in its place
-abbrev pub told_of : Result Report AllocError → Outcome
-told_of (Ok report) = outcome_of report
-told_of (Err lost) = memory_lost
+-- the outcome of a report, or that memory ran out
+abbrev pub final_outcome : Result Report AllocError → Outcome
+final_outcome (Ok report) = outcome_of report
+final_outcome (Err lost) = memory_lost

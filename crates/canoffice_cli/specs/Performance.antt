@@ -2,13 +2,15 @@
 use Rattle.std.specs.Prelude.{◌≡◌, ◌⊎◌, ℕ, List, map, Result, Ok, Err, string_bytes}
 use Rattle.canoffice_cli.specs.CommandLine.{IsLine}
 use Rattle.canoffice_cli.specs.Holding.{Holding, unknown, absent, holding}
-use Rattle.canoffice_cli.specs.Outcome.{Outcome, memory_lost, printed, refused, unreadable}
+use Rattle.canoffice_cli.specs.Outcome.{Outcome, memory_lost, success, wrong_input, unreadable}
 use Rattle.canoffice_cli.specs.Applied.{IsScriptOutcome}
 use Rattle.canoffice_cli.specs.Charted.{IsChartOutcome}
 use Rattle.canoffice_cli.specs.Checked.{IsCheckOutcome}
 use Rattle.canoffice_cli.specs.Formatted.{IsFormatOutcome}
 use Rattle.canoffice_cli.specs.Delivery.{IsDelivered, Writing}
 use Rattle.canoffice_cli.specs.declared.report.Status.{Status}
+use Rattle.canoffice_cli.specs.declared.program.FileTask.{FileTask}
+use Rattle.canoffice_cli.specs.declared.program.FileTask.TheVariants as task
 use Rattle.canoffice_cli.specs.declared.job.Job.{Job}
 use Rattle.canoffice_cli.specs.declared.job.Job.TheVariants.{Apply, Chart, Check, Format}
 use Rattle.canoffice_cli.specs.declared.job.LineFault.{LineFault}
@@ -24,17 +26,23 @@ IsOfFile IsOf path unknown o = (o ≡ unreadable path) ⊎ ((bytes : List ℕ) �
 IsOfFile IsOf path absent o = o ≡ unreadable path
 IsOfFile IsOf path (holding bytes) o = IsOf bytes o
 
+-- what the bytes of a file come to, by what is done with them
+abbrev pub ComesTo : FileTask → List ℕ → Outcome → Type 0
+ComesTo task.Apply bytes o = IsScriptOutcome bytes o
+ComesTo task.Check bytes o = IsCheckOutcome bytes o
+ComesTo task.Format bytes o = IsFormatOutcome bytes o
+
 -- what the job comes to
 abbrev pub IsDone : Files → Job → Outcome → Type 0
-IsDone files (Apply script) o = IsOfFile IsScriptOutcome script.now (files script.now) o
+IsDone files (Apply script) o = IsOfFile (ComesTo task.Apply) script.now (files script.now) o
 IsDone files (Chart length signals) o = IsChartOutcome length.now (map (λ s. s.now) signals.items) o
-IsDone files (Check file) o = IsOfFile IsCheckOutcome file.now (files file.now) o
-IsDone files (Format file) o = IsOfFile IsFormatOutcome file.now (files file.now) o
+IsDone files (Check file) o = IsOfFile (ComesTo task.Check) file.now (files file.now) o
+IsDone files (Format file) o = IsOfFile (ComesTo task.Format) file.now (files file.now) o
 
 -- what words that are no job come to: the text of their fault
 abbrev pub IsFaultAnswer : LineFault → Outcome → Type 0
-IsFaultAnswer (Help text) o = o ≡ printed (string_bytes text)
-IsFaultAnswer (Usage text) o = o ≡ refused (string_bytes text)
+IsFaultAnswer (Help text) o = o ≡ success (string_bytes text)
+IsFaultAnswer (Usage text) o = o ≡ wrong_input (string_bytes text)
 IsFaultAnswer Memory o = o ≡ memory_lost
 
 -- what a command line comes to

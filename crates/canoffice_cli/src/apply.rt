@@ -28,11 +28,10 @@ fn run_report(alloc: Global, requests: &[(Team, Command)]) -> Result<Report, All
     let mut office = PlainOffice::new(alloc);
     let mut replies = Vec::new(alloc);
     match office.run(alloc, requests, &mut replies) {
-        Ok(()) => Ok(Report {
-            output: reply_lines(alloc, &replies)?,
-            errors: Vec::new(alloc),
-            status: Status::Success,
-        }),
+        Ok(()) => {
+            let output = reply_lines(alloc, &replies)?;
+            Ok(Report::of_output(alloc, output, Status::Success))
+        }
         Err(_) => Ok(Report {
             output: reply_lines(alloc, &replies)?,
             errors: LOST_MEMORY.to_vec(alloc)?,

@@ -1,34 +1,62 @@
 //! Charts of signals that are written out as words.
-ghost use Rattle.std.specs.Prelude.{◌≡◌, IfOk, MatchResult, map};
+ghost use Rattle.std.specs.Prelude.{◌≡◌, IfErr, IfOk, map};
 ghost use Rattle.canoffice_cli.specs.Outcome.{outcome_of};
-ghost use Rattle.canoffice_cli.specs.Charted.{charted, AreSignals, IsFirstWrongWord, IsChartOutcome};
+ghost use Rattle.canoffice_cli.specs.Charted.{chart_outcome, AreSignals, IsChartOutcome};
+ghost use Rattle.canoffice_cli.specs.WordFault.{IsWordFault};
 
 use crate::report::{Report, Status, bad_word};
 use chart::{ChartSignal, chart_text, first_clash_of, length_of, signal_of};
-use std::alloc::{AllocError, Global};
+use std::alloc::{AllocError, AllocFailed, Global};
 
-// The signals that the words write, or the first word that writes none.
-fn signals_of<'a>(
-    alloc: Global,
-    words: &[&'a str],
-) -> Result<Result<Vec<ChartSignal>, &'a str>, AllocError>
-    ensures { IfOk result (λ found. MatchResult found
-        (λ signals. AreSignals (map (λ s. s.now) words.now) signals.items)
-        (λ word. IsFirstWrongWord (map (λ s. s.now) words.now) word.now)) }
+/// Why words are no signals.
+#[derive(Debug, Drop)]
+pub(crate) enum WordFault<'a> {
+    /// This word writes no signal, and those before it do.
+    Wrong(&'a str),
+    /// Memory ran out.
+    Memory,
+}
+
+impl From<AllocError> for WordFault<'_> {
+    ghost use Rattle.std.specs.Prelude.{◌≡◌};
+    ghost use Rattle.canoffice_cli.specs.declared.charting.WordFault.TheVariants.{Memory};
+
+    ghost from_gives = { λ _ fault. fault ≡ Memory };
+
+    fn from(_error: AllocError) -> Self {
+        WordFault::Memory
+    }
+}
+
+impl<T: Drop> From<AllocFailed<T>> for WordFault<'_> {
+    ghost use Rattle.std.specs.Prelude.{◌≡◌};
+    ghost use Rattle.canoffice_cli.specs.declared.charting.WordFault.TheVariants.{Memory};
+
+    ghost from_gives = { λ _ fault. fault ≡ Memory };
+
+    fn from(_error: AllocFailed<T>) -> Self {
+        WordFault::Memory
+    }
+}
+
+/// The signals that the words write, or the first word that writes none.
+fn signals_of<'a>(alloc: Global, words: &[&'a str]) -> Result<Vec<ChartSignal>, WordFault<'a>>
+    ensures signals { IfOk result (λ signals. AreSignals (map (λ s. s.now) words.now) signals.items) }
+    ensures fault { IfErr result (IsWordFault (map (λ s. s.now) words.now)) }
 {
     let mut signals = Vec::new(alloc);
     for word in words {
         match signal_of(alloc, word.as_bytes())? {
             Some(signal) => signals.push(signal)?,
-            None => return Ok(Err(*word)),
+            None => return Err(WordFault::Wrong(*word)),
         }
     }
-    Ok(Ok(signals))
+    Ok(signals)
 }
 
-// The chart of the signals, and whether they are clear.
-fn charted(alloc: Global, length: u16, signals: &[ChartSignal]) -> Result<Report, AllocError>
-    ensures { IfOk result (λ report. outcome_of report ≡ charted length signals.now) }
+/// The chart of the signals, and whether they are clear.
+fn signals_report(alloc: Global, length: u16, signals: &[ChartSignal]) -> Result<Report, AllocError>
+    ensures { IfOk result (λ report. outcome_of report ≡ chart_outcome length signals.now) }
 {
     let clash = first_clash_of(alloc, length, signals)?;
     let output = chart_text(alloc, length, signals)?;
@@ -37,11 +65,7 @@ fn charted(alloc: Global, length: u16, signals: &[ChartSignal]) -> Result<Report
     } else {
         Status::FaultFound
     };
-    Ok(Report {
-        output,
-        errors: Vec::new(alloc),
-        status,
-    })
+    Ok(Report::of_output(alloc, output, status))
 }
 
 /// The chart of the signals that the words write, in a message of the length that `length` writes: `Success` where
@@ -55,8 +79,9 @@ pub fn chart_report(alloc: Global, length: &str, words: &[&str]) -> Result<Repor
     let Some(bytes) = length_of(length.as_bytes()) else {
         return bad_word(alloc, length);
     };
-    match signals_of(alloc, words)? {
-        Ok(signals) => charted(alloc, bytes, &signals),
-        Err(word) => bad_word(alloc, word),
+    match signals_of(alloc, words) {
+        Ok(signals) => signals_report(alloc, bytes, &signals),
+        Err(WordFault::Wrong(word)) => bad_word(alloc, word),
+        Err(WordFault::Memory) => Err(AllocError),
     }
 }

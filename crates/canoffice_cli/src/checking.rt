@@ -1,8 +1,8 @@
 //! Checks of DBC texts.
-ghost use Rattle.std.specs.Prelude.{◌≡◌, [], IfOk, map, string_bytes};
+ghost use Rattle.std.specs.Prelude.{◌≡◌, IfOk, map, string_bytes};
 ghost use Rattle.canoffice_cli.specs.Outcome.{outcome_of};
-ghost use Rattle.canoffice_cli.specs.Checked.{clear_line, fault_line, found, passed_lines, signal_count, unclear_line, IsCheckOutcome, IsVerdict};
-ghost use Rattle.dbc_read.specs.Passed.{mentioned};
+ghost use Rattle.canoffice_cli.specs.Checked.{clear_line, fault_line, fault_output, passed_lines, signal_count, unclear_line, IsCheckOutcome, IsVerdict};
+ghost use Rattle.dbc_read.specs.Passed.{start_and_keyword};
 
 use crate::report::{Report, Status};
 use catalogue::{Message, Sheet, SheetCode, SheetFault};
@@ -11,7 +11,7 @@ use std::alloc::{AllocError, Global};
 
 /// The statements that are passed over, a line each.
 fn passed_lines(alloc: Global, passed: &[Passed]) -> Result<Vec<u8>, AllocError>
-    ensures { IfOk result (λ text. text.items ≡ passed_lines (map mentioned passed.now)) }
+    ensures { IfOk result (λ text. text.items ≡ passed_lines (map start_and_keyword passed.now)) }
 {
     let mut text = Vec::new(alloc);
     for statement in passed {
@@ -32,17 +32,18 @@ fn signal_count(sheet: &Sheet) -> usize
     count
 }
 
+/// The line of a sheet that is clear.
 fn clear_line(alloc: Global, sheet: &Sheet) -> Result<String, AllocError>
     ensures { IfOk result (λ line. string_bytes line ≡ clear_line sheet.now) }
 {
     format!(in alloc; "ok {} {}\n", sheet.messages().len(), signal_count(sheet))
 }
 
-fn unclear_line(alloc: Global, fault: SheetFault) -> Result<String, AllocError>
-    ensures { IfOk result (λ line. string_bytes line ≡ unclear_line fault) }
+/// The line of a message that isn't clear.
+fn unclear_line(alloc: Global, code: SheetCode, number: u32) -> Result<String, AllocError>
+    ensures { IfOk result (λ line. string_bytes line ≡ unclear_line code number) }
 {
-    let code = fault.code;
-    format!(in alloc; "unclear {} {code} {}\n", code.number(), fault.number)
+    format!(in alloc; "unclear {} {code} {number}\n", code.number())
 }
 
 /// The line that tells of a fault of reading.
@@ -56,14 +57,14 @@ pub(crate) fn fault_line(alloc: Global, fault: ReadFault) -> Result<Vec<u8>, All
 
 /// The verdict on the sheet: what was passed over, and whether the sheet is clear.
 fn verdict(alloc: Global, reading: &Reading) -> Result<Report, AllocError>
-    ensures { IfOk result (λ report. IsVerdict reading.now.sheet (map mentioned reading.now.passed) (outcome_of report)) }
+    ensures { IfOk result (λ report. IsVerdict reading.now.sheet (map start_and_keyword reading.now.passed) (outcome_of report)) }
 {
     let mut output = passed_lines(alloc, reading.passed.as_slice())?;
     match reading.sheet.is_clear(alloc) {
         Ok(()) => {
             let line = clear_line(alloc, &reading.sheet)?;
             output.extend_from_slice(line.as_bytes())?;
-            Ok(told(alloc, output, Status::Success))
+            Ok(Report::of_output(alloc, output, Status::Success))
         }
         Err(
             SheetFault {
@@ -72,9 +73,12 @@ fn verdict(alloc: Global, reading: &Reading) -> Result<Report, AllocError>
             },
         ) => Err(AllocError),
         Err(fault) => {
-            let line = unclear_line(alloc, fault)?;
+            let Some(number) = fault.number() else {
+                unreachable!()
+            };
+            let line = unclear_line(alloc, fault.code, number)?;
             output.extend_from_slice(line.as_bytes())?;
-            Ok(told(alloc, output, Status::FaultFound))
+            Ok(Report::of_output(alloc, output, Status::FaultFound))
         }
     }
 }
@@ -91,19 +95,8 @@ pub fn check_report(alloc: Global, source: &[u8]) -> Result<Report, AllocError>
             ReadCode::Memory => Err(AllocError),
             _ => {
                 let line = fault_line(alloc, fault)?;
-                Ok(told(alloc, line, Status::FaultFound))
+                Ok(Report::of_output(alloc, line, Status::FaultFound))
             }
         },
-    }
-}
-
-/// This text on standard output, and nothing on standard error.
-fn told(alloc: Global, output: Vec<u8>, status: Status) -> Report
-    ensures { outcome_of result ≡ record { output = output.items; errors = []; status = status } }
-{
-    Report {
-        output,
-        errors: Vec::new(alloc),
-        status,
     }
 }

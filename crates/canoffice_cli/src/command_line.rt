@@ -8,7 +8,7 @@ ghost use Rattle.canoffice_cli.specs.CommandLine.{apply_app, canoffice_app, char
 use clap::{Arg, Command};
 use std::alloc::{AllocError, Global};
 
-// A word that has to be there, known by its place.
+/// A word that has to be there, known by its place.
 fn required<'a>(alloc: Global, id: &'a str, help: &'a str) -> Arg<'a>
     ensures rule { rule_of result ≡ required_word id.entry.now }
     ensures local { result.global ≡ false }
@@ -16,7 +16,7 @@ fn required<'a>(alloc: Global, id: &'a str, help: &'a str) -> Arg<'a>
     Arg::new(alloc, id).required(true).help(help)
 }
 
-// Words of which one has to be there, and that take up all further places.
+/// Words of which one has to be there, and that take up all further places.
 fn required_many<'a>(alloc: Global, id: &'a str, help: &'a str) -> Arg<'a>
     ensures rule { rule_of result ≡ required_words id.entry.now }
     ensures local { result.global ≡ false }
@@ -24,7 +24,7 @@ fn required_many<'a>(alloc: Global, id: &'a str, help: &'a str) -> Arg<'a>
     required(alloc, id, help).num_args(1..)
 }
 
-// `apply SCRIPT`
+/// `apply SCRIPT`
 fn apply_command<'a>(alloc: Global) -> Result<Command<'a>, AllocError>
     ensures app { IfOk result (λ c. app_of c ≡ apply_app) }
     ensures local { IfOk result (λ c. (fields_of c).has_globals ≡ false) }
@@ -36,7 +36,7 @@ fn apply_command<'a>(alloc: Global) -> Result<Command<'a>, AllocError>
     Ok(apply)
 }
 
-// `chart LENGTH SIGNAL..`
+/// `chart LENGTH SIGNAL..`
 fn chart_command<'a>(alloc: Global) -> Result<Command<'a>, AllocError>
     ensures app { IfOk result (λ c. app_of c ≡ chart_app) }
     ensures local { IfOk result (λ c. (fields_of c).has_globals ≡ false) }
@@ -51,7 +51,7 @@ fn chart_command<'a>(alloc: Global) -> Result<Command<'a>, AllocError>
     Ok(chart)
 }
 
-// `check FILE`
+/// `check FILE`
 fn check_command<'a>(alloc: Global) -> Result<Command<'a>, AllocError>
     ensures app { IfOk result (λ c. app_of c ≡ check_app) }
     ensures local { IfOk result (λ c. (fields_of c).has_globals ≡ false) }
@@ -63,7 +63,7 @@ fn check_command<'a>(alloc: Global) -> Result<Command<'a>, AllocError>
     Ok(check)
 }
 
-// `format FILE`
+/// `format FILE`
 fn format_command<'a>(alloc: Global) -> Result<Command<'a>, AllocError>
     ensures app { IfOk result (λ c. app_of c ≡ format_app) }
     ensures local { IfOk result (λ c. (fields_of c).has_globals ≡ false) }

@@ -1,46 +1,41 @@
-//! Giving what the program has to tell to its two streams.
+//! Writing what the program has to say to its two streams.
 ghost use Rattle.std.specs.Prelude.{OnErr, OnOk};
-ghost use Rattle.canoffice_cli.specs.Outcome.{outcome_of, told_of};
+ghost use Rattle.canoffice_cli.specs.Outcome.{final_outcome};
 ghost use Rattle.canoffice_cli.specs.Delivery.{IsCut, IsDelivered, IsWritten};
 
 use crate::report::{LOST_MEMORY, Report, Status};
 use std::alloc::AllocError;
 use std::io::Write;
 
-// A writer failed.
+/// A writer failed.
 #[derive(Clone, Copy)]
 struct Unwritten;
 
-/// Writes the report's output to `out` and then its errors to `errors`, and answers its status.
+/// Writes the report's output to `out` and then its errors to `errors`, and answers its status. Where memory ran out,
+/// `LOST_MEMORY` is the errors, and the status is `Failed`.
 ///
-/// Where a write or a flush fails, the status is `Failed`: a front of the output was written and none of the errors,
-/// or the output and a front of the errors.
-pub fn deliver<O: Write, E: Write>(report: &Report, out: &mut O, errors: &mut E) -> Status
-    ensures { IsDelivered (outcome_of report.now) (O.contents out.old, O.contents out.new) (E.contents errors.old, E.contents errors.new) result }
-{
-    let Report {
-        output,
-        errors: text,
-        status,
-    } = report;
-    write_both(output, text, *status, out, errors)
-}
-
-/// Delivers the report, or where memory ran out `LOST_MEMORY` as the errors, with the status `Failed`.
-pub fn told<O: Write, E: Write>(
+/// Where a write or a flush fails, the status is `Failed`: a prefix of the output was written and none of the errors,
+/// or the output and a prefix of the errors.
+pub fn deliver<O: Write, E: Write>(
     report: Result<Report, AllocError>,
     out: &mut O,
     errors: &mut E,
 ) -> Status
-    ensures { IsDelivered (told_of report) (O.contents out.old, O.contents out.new) (E.contents errors.old, E.contents errors.new) result }
+    ensures { IsDelivered (final_outcome report) (O.contents out.old, O.contents out.new) (E.contents errors.old, E.contents errors.new) result }
 {
     match report {
-        Ok(report) => deliver(&report, out, errors),
+        Ok(
+            Report {
+                output,
+                errors: text,
+                status,
+            },
+        ) => write_both(&output, &text, status, out, errors),
         Err(AllocError) => write_both(&[], LOST_MEMORY, Status::Failed, out, errors),
     }
 }
 
-// As `deliver`, of the parts of a report.
+/// As `deliver`, of the parts of a report.
 fn write_both<O: Write, E: Write>(
     output: &[u8],
     text: &[u8],
@@ -59,7 +54,7 @@ fn write_both<O: Write, E: Write>(
     status
 }
 
-// Writes the whole text and flushes.
+/// Writes the whole text and flushes.
 fn write_whole<W: Write>(writer: &mut W, text: &[u8]) -> Result<(), Unwritten>
     ensures whole { OnOk result (IsWritten (W.contents writer.old, W.contents writer.new) text.now) }
     ensures cut { OnErr result (IsCut (W.contents writer.old, W.contents writer.new) text.now) }

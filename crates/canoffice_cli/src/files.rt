@@ -25,7 +25,7 @@ pub trait FileSource {
 
     /// All bytes of the file at the path.
     ///
-    /// Where the file's bytes are known it gives just these, and fails only for want of memory. Where it is known
+    /// Where the file's bytes are known it gives just these, and fails only where memory runs out. Where it is known
     /// that no file can be read at the path, it fails.
     fn read(&self, alloc: Global, path: &str) -> Result<Vec<u8>, FileFault>
         ensures bytes { IfOk result (λ v. Gives (held self.now path.now) v.items) }

@@ -11,7 +11,7 @@ use dbc_write::text_of;
 use std::alloc::{AllocError, Global};
 
 /// The canonical text of the sheet that the DBC text reads as, clear or not; or, where it reads as none, why and where
-/// on standard error, with the status `FaultFound`. A text that is canonical already is printed as it stands.
+/// on standard error, with the status `FaultFound`. A text that is canonical already is printed unchanged.
 pub fn format_report(alloc: Global, source: &[u8]) -> Result<Report, AllocError>
     ensures outcome { IfOk result (λ report. IsFormatOutcome source.now (outcome_of report)) }
     ensures canonical { IfOk result (λ report. KeepsCanonical source.now (outcome_of report)) }
@@ -20,21 +20,13 @@ pub fn format_report(alloc: Global, source: &[u8]) -> Result<Report, AllocError>
     match read(alloc, source) {
         Ok(reading) => {
             let output = text_of(alloc, &reading.sheet)?;
-            Ok(Report {
-                output,
-                errors: Vec::new(alloc),
-                status: Status::Success,
-            })
+            Ok(Report::of_output(alloc, output, Status::Success))
         }
         Err(fault) => match fault.code {
             ReadCode::Memory => Err(AllocError),
             _ => {
                 let line = fault_line(alloc, fault)?;
-                Ok(Report {
-                    output: Vec::new(alloc),
-                    errors: line,
-                    status: Status::FaultFound,
-                })
+                Ok(Report::of_errors(alloc, line, Status::FaultFound))
             }
         },
     }

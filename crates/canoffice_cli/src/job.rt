@@ -1,12 +1,12 @@
 //! The job that the words of the command line are.
-ghost use Rattle.std.specs.Prelude.{◌≡◌, IfOk, IfErr, IfSome, map, codes};
+ghost use Rattle.std.specs.Prelude.{◌≡◌, IfOk, IfErr, map, codes};
 ghost use Rattle.clap.specs.Words.{found_of, kind_of, rows_of, subcommand_rows_of};
-ghost use Rattle.canoffice_cli.specs.CommandLine.{IsJob, IsJobIn, IsJobOf, IsFaultOfKind, IsLineFault};
+ghost use Rattle.canoffice_cli.specs.CommandLine.{HasSome, IsEntered, IsJob, IsJobIn, IsJobOf, IsFaultOfKind, IsLineFault, IsNamed};
 
 use crate::command_line::canoffice_command;
 use clap::error::ErrorKind;
 use clap::{ArgMatches, Error};
-use std::alloc::Global;
+use std::alloc::{AllocError, Global};
 
 /// What the program is to do: a subcommand with the values of its arguments.
 #[derive(Debug, Drop)]
@@ -54,8 +54,8 @@ pub fn job_of<'a>(alloc: Global, words: &'a [&'a str]) -> Result<Job<'a>, LineFa
     };
     match command.try_get_matches_from(words) {
         Ok(matches) => match job_in(alloc, &matches) {
-            Some(job) => Ok(job),
-            None => Err(LineFault::Memory),
+            Ok(job) => Ok(job),
+            Err(AllocError) => Err(LineFault::Memory),
         },
         Err(error) => Err(line_fault(alloc, &error)),
     }
@@ -75,7 +75,7 @@ pub fn words_not_text(alloc: Global) -> LineFault
     }
 }
 
-// The fault that clap's error is, with clap's text.
+/// The fault that clap's error is, with clap's text.
 fn line_fault(alloc: Global, error: &Error) -> LineFault
     ensures { IsFaultOfKind (kind_of error.now) result }
 {
@@ -89,61 +89,71 @@ fn line_fault(alloc: Global, error: &Error) -> LineFault
     }
 }
 
-// The job of the subcommand that was entered; `None` too where memory runs out.
+/// The job of the subcommand that was entered, which is one of the program's, with all that it needs. Only the
+/// list of a chart's signals takes memory, so no other subcommand is told as a lack of it.
 #[tactic(auto, using(crate::proofs::CommandLine::found_pair))]
-fn job_in<'a>(alloc: Global, matches: &ArgMatches<'a>) -> Option<Job<'a>>
-    ensures { IfSome result (IsJobIn (subcommand_rows_of matches.now)) }
+fn job_in<'a>(alloc: Global, matches: &ArgMatches<'a>) -> Result<Job<'a>, AllocError>
+    requires { IsEntered (subcommand_rows_of matches.now) }
+    ensures job { IfOk result (IsJobIn (subcommand_rows_of matches.now)) }
+    ensures memory { IfErr result (λ e. IsNamed (codes "chart") (subcommand_rows_of matches.now)) }
 {
-    let (name, found) = matches.subcommand()?;
+    let Some((name, found)) = matches.subcommand() else {
+        unreachable!("clap wants a subcommand")
+    };
     if name == "apply" {
-        return apply_job(found);
+        return Ok(apply_job(found));
     }
     if name == "chart" {
         return chart_job(alloc, found);
     }
     if name == "check" {
-        return check_job(found);
+        return Ok(check_job(found));
     }
     if name == "format" {
-        return format_job(found);
+        return Ok(format_job(found));
     }
-    None
+    unreachable!("clap knows no other subcommand")
 }
 
-// `apply SCRIPT`
-#[tactic(auto, using(crate::proofs::CommandLine::value_in_rows))]
-fn apply_job<'a>(found: &ArgMatches<'a>) -> Option<Job<'a>>
-    ensures { IfSome result (λ job. IsJobOf job (codes "apply") (rows_of (found_of found.now))) }
+/// `apply SCRIPT`
+#[tactic(auto, using(crate::proofs::CommandLine::value_in_rows, crate::proofs::CommandLine::text_is_given))]
+fn apply_job<'a>(found: &ArgMatches<'a>) -> Job<'a>
+    requires { HasSome (rows_of (found_of found.now)) (codes "SCRIPT") }
+    ensures { IsJobOf result (codes "apply") (rows_of (found_of found.now)) }
 {
-    let script = found.get_str("SCRIPT")?;
-    Some(Job::Apply { script })
+    let script = found.get_str("SCRIPT").unwrap();
+    Job::Apply { script }
 }
 
-// `chart LENGTH SIGNAL..`; `None` too where memory runs out.
-#[tactic(auto, using(crate::proofs::CommandLine::value_in_rows, crate::proofs::CommandLine::values_in_rows))]
-fn chart_job<'a>(alloc: Global, found: &ArgMatches<'a>) -> Option<Job<'a>>
-    ensures { IfSome result (λ job. IsJobOf job (codes "chart") (rows_of (found_of found.now))) }
+/// `chart LENGTH SIGNAL..`
+#[tactic(auto, using(crate::proofs::CommandLine::value_in_rows, crate::proofs::CommandLine::values_in_rows, crate::proofs::CommandLine::text_is_given, crate::proofs::CommandLine::texts_are_given))]
+fn chart_job<'a>(alloc: Global, found: &ArgMatches<'a>) -> Result<Job<'a>, AllocError>
+    requires length { HasSome (rows_of (found_of found.now)) (codes "LENGTH") }
+    requires signals { HasSome (rows_of (found_of found.now)) (codes "SIGNAL") }
+    ensures { IfOk result (λ job. IsJobOf job (codes "chart") (rows_of (found_of found.now))) }
 {
-    let length = found.get_str("LENGTH")?;
-    let words = found.get_strs("SIGNAL")?;
-    let signals = Vec::from_slice(alloc, words).ok()?;
-    Some(Job::Chart { length, signals })
+    let length = found.get_str("LENGTH").unwrap();
+    let words = found.get_strs("SIGNAL").unwrap();
+    let signals = Vec::from_slice(alloc, words)?;
+    Ok(Job::Chart { length, signals })
 }
 
-// `check FILE`
-#[tactic(auto, using(crate::proofs::CommandLine::value_in_rows))]
-fn check_job<'a>(found: &ArgMatches<'a>) -> Option<Job<'a>>
-    ensures { IfSome result (λ job. IsJobOf job (codes "check") (rows_of (found_of found.now))) }
+/// `check FILE`
+#[tactic(auto, using(crate::proofs::CommandLine::value_in_rows, crate::proofs::CommandLine::text_is_given))]
+fn check_job<'a>(found: &ArgMatches<'a>) -> Job<'a>
+    requires { HasSome (rows_of (found_of found.now)) (codes "FILE") }
+    ensures { IsJobOf result (codes "check") (rows_of (found_of found.now)) }
 {
-    let file = found.get_str("FILE")?;
-    Some(Job::Check { file })
+    let file = found.get_str("FILE").unwrap();
+    Job::Check { file }
 }
 
-// `format FILE`
-#[tactic(auto, using(crate::proofs::CommandLine::value_in_rows))]
-fn format_job<'a>(found: &ArgMatches<'a>) -> Option<Job<'a>>
-    ensures { IfSome result (λ job. IsJobOf job (codes "format") (rows_of (found_of found.now))) }
+/// `format FILE`
+#[tactic(auto, using(crate::proofs::CommandLine::value_in_rows, crate::proofs::CommandLine::text_is_given))]
+fn format_job<'a>(found: &ArgMatches<'a>) -> Job<'a>
+    requires { HasSome (rows_of (found_of found.now)) (codes "FILE") }
+    ensures { IsJobOf result (codes "format") (rows_of (found_of found.now)) }
 {
-    let file = found.get_str("FILE")?;
-    Some(Job::Format { file })
+    let file = found.get_str("FILE").unwrap();
+    Job::Format { file }
 }

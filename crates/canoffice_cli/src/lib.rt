@@ -3,7 +3,7 @@
 //! - `command_line` tells clap the subcommands and their arguments; `job` reads the words by it, as a `Job` or a
 //!   `LineFault`.
 //! - `files` is where a job reads files: those of the machine, or of a list in memory.
-//! - `report` is what a run has to tell: bytes for standard output and standard error, and a `Status`.
+//! - `report` is what a run has to say: bytes for standard output and standard error, and a `Status`.
 //! - `delivery` writes a report to the two streams.
 //! - `program` joins them: `perform` is a whole run.
 //!
@@ -24,7 +24,7 @@ mod report;
 pub use apply::apply_script;
 pub use charting::chart_report;
 pub use checking::check_report;
-pub use delivery::{deliver, told};
+pub use delivery::deliver;
 pub use files::{FileFault, FileSource, HostFiles, ListedFiles, NamedFile};
 pub use formatting::format_report;
 pub use job::{Job, LineFault, job_of, words_not_text};

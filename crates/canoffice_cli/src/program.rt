@@ -1,16 +1,13 @@
 //! A run of the program, from its words to its exit status.
 ghost use Rattle.std.specs.Prelude.{◌≡◌, IfOk, map};
-ghost use Rattle.canoffice_cli.specs.Applied.{IsScriptOutcome};
-ghost use Rattle.canoffice_cli.specs.Checked.{IsCheckOutcome};
-ghost use Rattle.canoffice_cli.specs.Formatted.{IsFormatOutcome};
 ghost use Rattle.canoffice_cli.specs.Outcome.{outcome_of, unreadable};
 ghost use Rattle.canoffice_cli.specs.declared.files.FileFault.TheVariants.{Unreadable};
-ghost use Rattle.canoffice_cli.specs.Performance.{IsAnswered, IsDone, IsFaultAnswer, IsOfFile, IsPerformed};
+ghost use Rattle.canoffice_cli.specs.Performance.{ComesTo, IsAnswered, IsDone, IsFaultAnswer, IsOfFile, IsPerformed};
 
 use crate::apply::apply_script;
 use crate::charting::chart_report;
 use crate::checking::check_report;
-use crate::delivery::told;
+use crate::delivery::deliver;
 use crate::files::{FileFault, FileSource};
 use crate::formatting::format_report;
 use crate::job::{Job, LineFault, job_of};
@@ -18,9 +15,20 @@ use crate::report::{Report, Status, cannot_read, help, usage};
 use std::alloc::{AllocError, Global};
 use std::io::Write;
 
-/// Does what the program's words ask for, tells it on `out` and `errors`, and answers how the program ends.
+/// What is done with the bytes of a file.
+#[derive(Clone, Copy, Debug)]
+pub(crate) enum FileTask {
+    /// They are a script, which is applied.
+    Apply,
+    /// They are DBC text, which is checked.
+    Check,
+    /// They are DBC text, which is printed in its canonical form.
+    Format,
+}
+
+/// Does what the program's words ask for, writes the result to `out` and `errors`, and answers how the program ends.
 ///
-/// The first word is the program's own name. Where memory runs out, `LOST_MEMORY` is told in place of all else.
+/// The first word is the program's own name. Where memory runs out, `LOST_MEMORY` is written in place of all else.
 pub fn perform<'a, F: FileSource, O: Write, E: Write>(
     alloc: Global,
     words: &'a [&'a str],
@@ -30,10 +38,10 @@ pub fn perform<'a, F: FileSource, O: Write, E: Write>(
 ) -> Status
     ensures { IsPerformed (map (λ s. s.now) words.entry.now) (F.held files.now) (O.contents out.old, O.contents out.new) (E.contents errors.old, E.contents errors.new) result }
 {
-    told(answer(alloc, words, files), out, errors)
+    deliver(answer(alloc, words, files), out, errors)
 }
 
-// The report on the words: of their job, or of their fault.
+/// The report on the words: of their job, or of their fault.
 fn answer<'a, F: FileSource>(
     alloc: Global,
     words: &'a [&'a str],
@@ -58,8 +66,8 @@ pub fn fault_report(alloc: Global, fault: LineFault) -> Result<Report, AllocErro
     }
 }
 
-// The report that the file can't be read; none where that was for want of memory.
-fn unread(alloc: Global, file: &str, fault: FileFault) -> Result<Report, AllocError>
+/// The report that the file can't be read, where it wasn't memory that ran out.
+fn unreadable_report(alloc: Global, file: &str, fault: FileFault) -> Result<Report, AllocError>
     ensures { IfOk result (λ report. (fault ≡ Unreadable) × (outcome_of report ≡ unreadable file.now)) }
 {
     match fault {
@@ -68,30 +76,29 @@ fn unread(alloc: Global, file: &str, fault: FileFault) -> Result<Report, AllocEr
     }
 }
 
-fn apply_file<F: FileSource>(alloc: Global, file: &str, files: &F) -> Result<Report, AllocError>
-    ensures { IfOk result (λ report. IsOfFile IsScriptOutcome file.now (F.held files.now file.now) (outcome_of report)) }
+/// The report on the file at the path: what its bytes come to, or that it can't be read.
+fn file_report<F: FileSource>(
+    alloc: Global,
+    task: FileTask,
+    path: &str,
+    files: &F,
+) -> Result<Report, AllocError>
+    ensures { IfOk result (λ report. IsOfFile (ComesTo task) path.now (F.held files.now path.now) (outcome_of report)) }
 {
-    match files.read(alloc, file) {
-        Ok(bytes) => apply_script(alloc, &bytes),
-        Err(fault) => unread(alloc, file, fault),
+    match files.read(alloc, path) {
+        Ok(bytes) => task_report(alloc, task, &bytes),
+        Err(fault) => unreadable_report(alloc, path, fault),
     }
 }
 
-fn check_file<F: FileSource>(alloc: Global, file: &str, files: &F) -> Result<Report, AllocError>
-    ensures { IfOk result (λ report. IsOfFile IsCheckOutcome file.now (F.held files.now file.now) (outcome_of report)) }
+/// The report on the bytes of a file.
+fn task_report(alloc: Global, task: FileTask, bytes: &[u8]) -> Result<Report, AllocError>
+    ensures { IfOk result (λ report. ComesTo task bytes.now (outcome_of report)) }
 {
-    match files.read(alloc, file) {
-        Ok(bytes) => check_report(alloc, &bytes),
-        Err(fault) => unread(alloc, file, fault),
-    }
-}
-
-fn format_file<F: FileSource>(alloc: Global, file: &str, files: &F) -> Result<Report, AllocError>
-    ensures { IfOk result (λ report. IsOfFile IsFormatOutcome file.now (F.held files.now file.now) (outcome_of report)) }
-{
-    match files.read(alloc, file) {
-        Ok(bytes) => format_report(alloc, &bytes),
-        Err(fault) => unread(alloc, file, fault),
+    match task {
+        FileTask::Apply => apply_script(alloc, bytes),
+        FileTask::Check => check_report(alloc, bytes),
+        FileTask::Format => format_report(alloc, bytes),
     }
 }
 
@@ -104,9 +111,9 @@ pub fn report_of<F: FileSource>(
     ensures { IfOk result (λ report. IsDone (F.held files.now) job.now (outcome_of report)) }
 {
     match job {
-        Job::Apply { script } => apply_file(alloc, script, files),
+        Job::Apply { script } => file_report(alloc, FileTask::Apply, script, files),
         Job::Chart { length, signals } => chart_report(alloc, length, signals),
-        Job::Check { file } => check_file(alloc, file, files),
-        Job::Format { file } => format_file(alloc, file, files),
+        Job::Check { file } => file_report(alloc, FileTask::Check, file, files),
+        Job::Format { file } => file_report(alloc, FileTask::Format, file, files),
     }
 }

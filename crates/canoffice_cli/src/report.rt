@@ -1,6 +1,6 @@
-//! What the program has to tell: bytes for its two streams, and its exit status.
-ghost use Rattle.std.specs.Prelude.{◌≡◌, IfOk, codes, string_bytes};
-ghost use Rattle.canoffice_cli.specs.Outcome.{code_of, outcome_of, printed, refused, unreadable, wrong_line, wrong_word};
+//! What the program has to say: bytes for its two streams, and its exit status.
+ghost use Rattle.std.specs.Prelude.{◌≡◌, [], IfOk, codes, string_bytes};
+ghost use Rattle.canoffice_cli.specs.Outcome.{code_of, outcome_of, success, wrong_input, unreadable, wrong_line, wrong_word};
 
 use std::alloc::{AllocError, Global};
 
@@ -31,7 +31,7 @@ impl Status {
     }
 }
 
-/// All that a run tells.
+/// All that a run has to say.
 #[derive(Debug, Drop)]
 pub struct Report {
     /// The bytes for standard output.
@@ -42,7 +42,31 @@ pub struct Report {
     pub status: Status,
 }
 
-/// What standard error is told where memory runs out. It is there without any memory.
+impl Report {
+    /// The report with these bytes for standard output and none for standard error.
+    pub fn of_output(alloc: Global, output: Vec<u8>, status: Status) -> Report
+        ensures { outcome_of result ≡ record { output = output.items; errors = []; status = status } }
+    {
+        Report {
+            output,
+            errors: Vec::new(alloc),
+            status,
+        }
+    }
+
+    /// The report with these bytes for standard error and none for standard output.
+    pub fn of_errors(alloc: Global, errors: Vec<u8>, status: Status) -> Report
+        ensures { outcome_of result ≡ record { output = []; errors = errors.items; status = status } }
+    {
+        Report {
+            output: Vec::new(alloc),
+            errors,
+            status,
+        }
+    }
+}
+
+/// What standard error gets when memory runs out. It takes no memory itself.
 pub const LOST_MEMORY: &[u8] = b"lost 71\n";
 
 /// The report that the file at the path can't be read.
@@ -50,11 +74,7 @@ pub fn cannot_read(alloc: Global, path: &str) -> Result<Report, AllocError>
     ensures { IfOk result (λ report. outcome_of report ≡ unreadable path.now) }
 {
     let text = format!(in alloc; "cannot read {path}\n")?;
-    Ok(Report {
-        output: Vec::new(alloc),
-        errors: text.into_bytes(),
-        status: Status::Failed,
-    })
+    Ok(Report::of_errors(alloc, text.into_bytes(), Status::Failed))
 }
 
 /// The report that the script's line of this number, from 1, is wrong.
@@ -62,11 +82,7 @@ pub fn bad_line(alloc: Global, number: usize) -> Result<Report, AllocError>
     ensures { IfOk result (λ report. outcome_of report ≡ wrong_line number) }
 {
     let text = format!(in alloc; "bad line {number}\n")?;
-    Ok(Report {
-        output: Vec::new(alloc),
-        errors: text.into_bytes(),
-        status: Status::WrongInput,
-    })
+    Ok(Report::of_errors(alloc, text.into_bytes(), Status::WrongInput))
 }
 
 /// The report that this word of the command line is not of its form.
@@ -74,31 +90,19 @@ pub fn bad_word(alloc: Global, word: &str) -> Result<Report, AllocError>
     ensures { IfOk result (λ report. outcome_of report ≡ wrong_word word.now) }
 {
     let text = format!(in alloc; "bad word {word}\n")?;
-    Ok(Report {
-        output: Vec::new(alloc),
-        errors: text.into_bytes(),
-        status: Status::WrongInput,
-    })
+    Ok(Report::of_errors(alloc, text.into_bytes(), Status::WrongInput))
 }
 
 /// The report that shows this text of help.
 pub fn help(alloc: Global, text: String) -> Report
-    ensures { outcome_of result ≡ printed (string_bytes text) }
+    ensures { outcome_of result ≡ success (string_bytes text) }
 {
-    Report {
-        output: text.into_bytes(),
-        errors: Vec::new(alloc),
-        status: Status::Success,
-    }
+    Report::of_output(alloc, text.into_bytes(), Status::Success)
 }
 
 /// The report that the command line is wrong, with this text of how and of what the usage is.
 pub fn usage(alloc: Global, text: String) -> Report
-    ensures { outcome_of result ≡ refused (string_bytes text) }
+    ensures { outcome_of result ≡ wrong_input (string_bytes text) }
 {
-    Report {
-        output: Vec::new(alloc),
-        errors: text.into_bytes(),
-        status: Status::WrongInput,
-    }
+    Report::of_errors(alloc, text.into_bytes(), Status::WrongInput)
 }

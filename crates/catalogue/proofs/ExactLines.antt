@@ -3,7 +3,7 @@ use Rattle.std.proofs.Common.{◌≡◌, ℕ, Bool, true, false, not, List, [], 
 use Rattle.std.specs.Prelude.{if◌then◌else◌, codes}
 use Rattle.std.proofs.lemmas.Bool.{and_parts, and_right}
 use Rattle.catalogue.specs.Fields.{is_a, is_mark, is_key, key_of, text_of, cited_name, made_name, node_of, whole, cited_number}
-use Rattle.catalogue.specs.Fields.{message_number, independent_number, length_of, type_of, mark, signal}
+use Rattle.catalogue.specs.Fields.{message_ident, independent_number, length_of, type_of, mark, signal}
 use Rattle.catalogue.specs.Grammar.{begins_next, next, is_open, version_line, is_symbol, ends_symbols, symbols_line, registers, timing}
 use Rattle.catalogue.specs.Grammar.{timing_line, nodes_line, table_line, message_line, file_comment, node_comment, message_comment}
 use Rattle.catalogue.specs.Grammar.{signal_comment, value_texts_line, value_type_line, is_spn_name, spn_of, spn_line, skipped}
@@ -141,7 +141,7 @@ signals_repeat = record {
 pub exact_message : (ts : List Token) → Exact Next ts (message_line ts) (message_at ts)
 unfolding message_line message_at signals_at
 exact_message ts =
-    exact_next _ (exact_token message_number ts) (λ number a.
+    exact_next _ (exact_token message_ident ts) (λ ident a.
     exact_next _ (exact_token made_name a) (λ name b.
     exact_next _ (exact_one (is_mark (codes ":")) b) (λ colon c.
     exact_next _ (exact_token length_of c) (λ length d.

@@ -4,12 +4,12 @@ use Rattle.std.specs.Str.{bytes_eq}
 use Rattle.std.proofs.lemmas.Bool.{and_parts}
 use Rattle.std.proofs.lemmas.Bool.Decides.{Decides-eqb}
 use Rattle.std.proofs.lemmas.Slice.Eq.{bytes_eq-Decides}
-use Rattle.catalogue.specs.Fields.{is_a, is_key, key_of, key, text_of, cited_name, whole, cited_number, is_dbc_number, message_number}
+use Rattle.catalogue.specs.Fields.{is_a, is_key, key_of, key, text_of, cited_name, whole, cited_number, ident_of, message_ident}
 use Rattle.catalogue.specs.Fields.{independent_number}
 use Rattle.catalogue.specs.Grammar.{message_line, file_comment, node_comment, message_comment, signal_comment, value_texts_line}
 use Rattle.catalogue.specs.Grammar.{passed_line, passed_comment, passed_value_texts, passed_attribute, independent_line, comment_line}
 use Rattle.catalogue.specs.Grammar.{other_line, line, first_word, statement}
-use Rattle.catalogue.specs.Keyword.{keyword_of, keyword_text, keyword_group}
+use Rattle.catalogue.specs.Keyword.{KeywordGroup, Kept, Passed, Refused, keyword_of, keyword_text, keyword_group}
 use Rattle.catalogue.specs.Parsing.{signal_or_passed_at, message_or_signal_at, named_comment_at, comment_at, either_at, message_at}
 use Rattle.catalogue.specs.Parsing.{independent_at, value_texts_at, passed_value_texts_at, other_line_at, line_at, statement_at}
 use Rattle.catalogue.specs.Rules.{Rule, Then, only, either, starts, begins}
@@ -18,8 +18,6 @@ use Rattle.catalogue.specs.Token.{Token}
 use Rattle.catalogue.specs.declared.keyword.Keyword.{Keyword}
 use Rattle.catalogue.specs.declared.keyword.Keyword.TheVariants.{Version, NewSymbols, BitTiming, Nodes, ValueTable, Message, Signal}
 use Rattle.catalogue.specs.declared.keyword.Keyword.TheVariants.{Comment, ValueTexts, SignalValueType, AttributeValue, EnvironmentVariable}
-use Rattle.catalogue.specs.declared.keyword.KeywordGroup.{KeywordGroup}
-use Rattle.catalogue.specs.declared.keyword.KeywordGroup.TheVariants.{Kept, Passed, Refused}
 use Rattle.catalogue.specs.declared.token.TokenKind.TheVariants.{Name}
 use Rattle.catalogue.proofs.Exactness.{Exact, Any, bind_takes, exact_then, exact_any, exact_done, exact_either, exact_unless, Eats, eats}
 use Rattle.catalogue.proofs.Exactness.{said, passed_only, first_answers}
@@ -56,7 +54,7 @@ other_key k j apart t e = by_answer (is_key j t) refl
 
 -- Comments.
 
--- what stands first in a rule that begins with a keyword
+-- what comes first in a rule that begins with a keyword
 key_first : {B : Type 0} {q : Unit {0} → Rule B} {ts rest : List Token} {x : B} (k : Keyword) (test : Token → Bool) (b : Bool)
     → ((t : Token) → is_key k t ≡ true → test t ≡ b) → Then (key k) q ts x rest → starts test ts ≡ b
 key_first {ts} k test b f h = first_answers (λ t. only (is_key k t) tt) test b (λ t u e. f t (passes (is_key k) t u e)) ts h.value h.middle h.begins
@@ -109,26 +107,26 @@ exact_comment ts =
 
 -- Messages.
 
-is_independent : (n x : ℕ) → only (n == 3221225472) n ≡ Some x → is_dbc_number n ≡ false
+is_independent : (n x : ℕ) → only (n == 3221225472) n ≡ Some x → ident_of n ≡ None
 is_independent n x e = rw ((Decides-eqb n 3221225472).0 (passed_only (n == 3221225472) n x e)) refl
 
-independent_no_message : (t : Token) (x : ℕ) → independent_number t ≡ Some x → is_some (message_number t) ≡ false
+independent_no_message : (t : Token) (x : ℕ) → independent_number t ≡ Some x → is_some (message_ident t) ≡ false
 independent_no_message t x e =
     let b = bind_takes (whole t) (λ n. only (n == 3221225472) n) x e in
     rw (b.1, is_independent b.0 x b.2) refl
 
-message_begins : (ts : List Token) (x : Content) (rest : List Token) → message_line ts x rest → begins message_number ts ≡ true
+message_begins : (ts : List Token) (x : Content) (rest : List Token) → message_line ts x rest → begins message_ident ts ≡ true
 unfolding message_line
-message_begins ts x rest h = said message_number ts h.value h.middle h.begins
+message_begins ts x rest h = said message_ident ts h.value h.middle h.begins
 
-independent_begins : (ts : List Token) (x : Content) (rest : List Token) → independent_line ts x rest → begins message_number ts ≡ false
+independent_begins : (ts : List Token) (x : Content) (rest : List Token) → independent_line ts x rest → begins message_ident ts ≡ false
 unfolding independent_line
 independent_begins ts x rest h =
-    first_answers independent_number (λ t. is_some (message_number t)) false independent_no_message ts h.value h.middle h.begins
+    first_answers independent_number (λ t. is_some (message_ident t)) false independent_no_message ts h.value h.middle h.begins
 
-exact_numbered : (ts : List Token) → Exact Next ts (either message_line independent_line ts) (either_at (begins message_number) message_at independent_at ts)
+exact_numbered : (ts : List Token) → Exact Next ts (either message_line independent_line ts) (either_at (begins message_ident) message_at independent_at ts)
 exact_numbered ts =
-    exact_either (begins message_number ts) (exact_message ts) (exact_any (exact_independent ts)) (message_begins ts) (independent_begins ts)
+    exact_either (begins message_ident ts) (exact_message ts) (exact_any (exact_independent ts)) (message_begins ts) (independent_begins ts)
 
 -- Value texts.
 

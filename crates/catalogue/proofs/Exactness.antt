@@ -6,7 +6,7 @@ use Rattle.catalogue.specs.Parsing.{Parsed, token_at, one_at, followed_at, optio
 use Rattle.catalogue.specs.Rules.{Rule, Read, token, one, only, starts, begins, ◌>>=◌, Done, done, Followed, followed, optional, many, either, unless}
 use Rattle.catalogue.specs.Token.{Token}
 
--- rest stands at the end of ts
+-- rest is the end of ts
 abbrev pub Within : List Token → List Token → Type 0
 Within ts rest = (run : List Token) × (ts ≡ run ++ rest)
 
@@ -98,7 +98,7 @@ pub passed_only : {A : Type 0} (b : Bool) (x y : A) → only b x ≡ Some y → 
 passed_only true x y e = refl
 passed_only false x y e = absurd cc
 
--- what stands first passes the test
+-- what comes first passes the test
 pub tested : (test : Token → Bool) (ts : List Token) (x : Unit {0}) (rest : List Token) → one test ts x rest → starts test ts ≡ true
 tested test ts x rest h = ap (starts test) h.front ∙ passed_only (test h.first) tt x h.value
 
@@ -133,7 +133,7 @@ exact_followed test ts = followed_by test ts (test ts) refl
 
 -- At most once.
 
--- what is asked of a rule that may stand there once, and of what follows
+-- what is asked of a rule that may be read once, and of what follows
 pub record Chance {A : Type 0} (F : List Token → Type 0) (r : Rule A) (test : List Token → Bool) (p : List Token → Parsed A) : Type 0 where
   pub each : (ts : List Token) → Exact F ts (r ts) (p ts)
   pub begins : (ts : List Token) (x : A) (rest : List Token) → r ts x rest → test ts ≡ true
@@ -219,7 +219,7 @@ module _ {A : Type 0} {F I : List Token → Type 0} {r : Rule A} {test : List To
       → many_by test p n mid ≡ Some (xs, rest) → many_by test p (suc n) ts ≡ Some (x ∷ xs, rest)
   some_again n ts x mid xs rest e e1 e2 = rw (e, e1, e2) refl
 
-  -- what stands after one
+  -- what comes after one
   after_one : (mid : List Token) (xs : List A) (rest : List Token) → many r mid xs rest → F rest → I mid
   after_one mid [] rest m f = repeats.last mid (subst F m f)
   after_one mid (x ∷ xs) rest m f = repeats.before mid x m.0 m.1

@@ -1,36 +1,42 @@
--- The numbers that DBC files write for identifiers.
-use Rattle.std.proofs.Common.{◌≡◌, ◌≤◌, ◌-◌, ℕ, true, refl, ◌&&◌, nat_le, arith, inl, inr}
-use Rattle.std.proofs.lemmas.Bool.{or_cases}
+-- The identifiers that DBC files write as numbers.
+use Rattle.std.proofs.Common.{◌≡◌, ◌≤◌, ◌-◌, ℕ, Bool, true, false, Option, Some, None, refl, ap, ◌&&◌, nat_le, arith}
+use Rattle.std.specs.Prelude.{if◌then◌else◌}
 use Rattle.std.proofs.lemmas.Bool.Decides.{nat_tests}
 use Rattle.can_id.specs.Ident.{IsIdentifier, dbc_number}
 use Rattle.can_id.specs.declared.ident.Ident.{Ident}
 use Rattle.can_id.specs.declared.ident.Ident.TheVariants.{Std, Ext}
-use Rattle.catalogue.specs.Fields.{is_dbc_number, NumbersAreIdentifiers}
+use Rattle.catalogue.specs.Fields.{ident_of, NumbersAreIdentifiers}
+use Rattle.catalogue.specs.Rules.{only}
 
-from_ident : (n : ℕ) (ident : Ident) → IsIdentifier ident → dbc_number ident ≡ n → is_dbc_number n ≡ true
-from_ident n (Std k) h e = grind (arith, nat_tests)
-from_ident n (Ext k) h e = grind (arith, nat_tests)
+abbrev Writes : ℕ → Ident → Type 0
+Writes n ident = IsIdentifier ident × (dbc_number ident ≡ n)
 
-abbrev Numbers : ℕ → Type 0
-Numbers n = (ident : Ident) × IsIdentifier ident × (dbc_number ident ≡ n)
+extended : (n : ℕ) (in_range : Bool) → (nat_le 2147483648 n && nat_le n 2684354559) ≡ in_range → (ident : Ident) → only in_range (Ext (n - 2147483648)) ≡ Some ident → Writes n ident
+extended n false test ident e = absurd cc
+extended n true test (Std k) e = absurd cc
+extended n true test (Ext k) e =
+    let same : n - 2147483648 ≡ k = cc in
+    let low : 2147483648 ≤ n = grind (arith, nat_tests) in
+    let high : n ≤ 2684354559 = grind (arith, nat_tests) in
+    (omega (arith, same, low, high), omega (arith, same, low, high))
 
-at_most : (n k : ℕ) → nat_le n k ≡ true → n ≤ k
-at_most n k e = grind (arith, nat_tests)
+written : (n : ℕ) (standard : Bool) → nat_le n 2047 ≡ standard → (ident : Ident)
+    → (if standard then Some (Std n) else only (nat_le 2147483648 n && nat_le n 2684354559) (Ext (n - 2147483648))) ≡ Some ident → Writes n ident
+written n true test (Std k) e =
+    let same : n ≡ k = cc in
+    let low : n ≤ 2047 = grind (arith, nat_tests) in
+    (omega (arith, same, low), omega (arith, same))
+written n true test (Ext k) e = absurd cc
+written n false test ident e = extended n (nat_le 2147483648 n && nat_le n 2684354559) refl ident e
 
-between : (n a b : ℕ) → (nat_le a n && nat_le n b) ≡ true → (a ≤ n) × (n ≤ b)
-between n a b e = (grind (arith, nat_tests), grind (arith, nat_tests))
-
-standard : (n : ℕ) → n ≤ 2047 → Numbers n
-standard n h = (Std n, h, refl)
-
-extended : (n : ℕ) → 2147483648 ≤ n → n ≤ 2684354559 → Numbers n
-extended n low high = (Ext (n - 2147483648), omega (arith, low, high), omega (arith, low, high))
-
-to_ident : (n : ℕ) → is_dbc_number n ≡ true → Numbers n
-to_ident n e = elim (or_cases (nat_le n 2047) (nat_le 2147483648 n && nat_le n 2684354559) e) [
-  | inl h ↦ standard n (at_most n 2047 h)
-  | inr h ↦ (let w = between n 2147483648 2684354559 h in extended n w.0 w.1)
-]
+found : (n : ℕ) (ident : Ident) → Writes n ident → ident_of n ≡ Some ident
+found n (Std k) (range, e) =
+    let test : nat_le n 2047 ≡ true = grind (arith, nat_tests) in
+    rw test (ap (λ m. Some (Std m)) (omega (arith, e)))
+found n (Ext k) (range, e) =
+    let test : nat_le n 2047 ≡ false = grind (arith, nat_tests) in
+    let in_range : (nat_le 2147483648 n && nat_le n 2684354559) ≡ true = grind (arith, nat_tests) in
+    rw (test, in_range) (ap (λ m. Some (Ext m)) (omega (arith, e)))
 
 pub numbers_are_identifiers : NumbersAreIdentifiers
-numbers_are_identifiers n = (to_ident n, λ h. from_ident n h.0 h.1 h.2)
+numbers_are_identifiers n ident = (λ e. written n (nat_le n 2047) refl ident e, found n ident)

@@ -5,7 +5,7 @@ pub mod Texts
 mod KeywordEndings
 mod NameSets
 mod Rosters
-mod Places
+mod AscendingLists
 mod Naming
 pub mod Refusals
 mod Switches
@@ -14,12 +14,12 @@ mod MessageRules
 mod SheetRows
 mod CanonRows
 pub mod WholeNumbers
+pub mod Separators
 pub mod Rising
 pub mod OneSheet
 pub mod EachSaid
 pub mod SignalKeys
 mod SayingExamples
-pub mod IdentNumbers
 pub mod SheetSaid
 mod TokenRuns
 pub mod TokenBytes
@@ -39,5 +39,6 @@ pub mod ExactLines
 pub mod ExactStatements
 pub mod Divisions
 pub mod Identifiers
+pub mod DecimalNumbers
 mod StatementExamples
 pub mod OneReading

@@ -11,13 +11,13 @@ use Rattle.catalogue.specs.Keyed.{put}
 use Rattle.catalogue.specs.Limits.{message_limit}
 use Rattle.catalogue.specs.Messages.{AreIndexed, by_number, message_name, message_tests, number_of}
 use Rattle.catalogue.specs.Named.{AreNamedApart, has_name, holds_name}
-use Rattle.catalogue.specs.Place.{IsAt, IsGap}
+use Rattle.catalogue.specs.Ascending.{IsAt, IsGap}
 use Rattle.catalogue.specs.Refusing.{first_refusal}
 use Rattle.catalogue.specs.declared.fault.SheetCode.TheVariants.{DoubleNumber, DoubleName}
 use Rattle.catalogue.specs.declared.message.Message.{Message}
 use Rattle.catalogue.specs.declared.name_set.NameSet.{NameSet}
 use Rattle.catalogue.proofs.Naming.{any-insert, apart-insert, apart-filter, names-remove}
-use Rattle.catalogue.proofs.Places.{put_gap, remove_at, any_at, any_gap}
+use Rattle.catalogue.proofs.AscendingLists.{put_gap, remove_at, any_at, any_gap}
 use Rattle.catalogue.proofs.Put.{IsStrictlySortedBy-put}
 use Rattle.catalogue.proofs.Refusals.{none_holds}
 

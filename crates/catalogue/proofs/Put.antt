@@ -47,7 +47,7 @@ pairs_placed R Less x y ys zs h p k q = AllPairs-cons R x (y ∷ ys) h p
 pairs_placed R Equal x y ys zs h p k q = AllPairs-cons R x ys (All-tail (R x) y ys h) (AllPairs-tail R y ys p)
 pairs_placed R Greater x y ys zs h p k q = AllPairs-cons R y zs k q
 
--- what holds between any two items, whichever stands first, and between it and each item
+-- what holds between any two items, whichever comes first, and between it and each item
 pub AllPairs-put : {A : Type 0} (R : A → A → Type 0) → ((a b : A) → R a b → R b a) → (order : A → A → Ordering) (x : A) (xs : List A)
     → All (R x) xs → AllPairs R xs → AllPairs R (put order x xs)
 AllPairs-put R flip order x [] h p = AllPairs-cons R x [] h p

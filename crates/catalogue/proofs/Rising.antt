@@ -1,4 +1,4 @@
--- Lists in the rising order of a number: given members have one such list at most, and their numbers are distinct.
+-- Lists in ascending order of a number: given members have one such list at most, and their numbers are distinct.
 use Rattle.std.proofs.Common.{◌≡◌, ◌==◌, ◌<◌, ◌⊎◌, ℕ, zero, suc, false, List, [], ◌∷◌, length, get_or, inl, inr, refl, sym, ap, subst, Contains, IsPermutation, arith}
 use Rattle.std.specs.List.{AllByRecursion, IsDistinct}
 use Rattle.std.specs.List.Sorted.{IsStrictlySortedBy}
@@ -69,7 +69,7 @@ module _ {A : Type 0} (key : A → ℕ) where
       (λ z h. elim (back z (inr h)) [ inl e ↦ absurd (omega (arith, above y ys z ry.0 h, ap key e, keys)) | inr k ↦ k ]) in
       λ i. heads i ∷ tails i
 
-  -- two lists of the same elements that both rise are one
+  -- two ascending lists of the same elements are one
   pub one_rising : (xs ys : List A) → IsStrictlySortedBy (on key nat_cmp) xs → IsStrictlySortedBy (on key nat_cmp) ys → IsPermutation xs ys → xs ≡ ys
   one_rising xs ys rx ry p = same_rising xs ys rx ry (λ x. in_permutation xs ys x p) (λ x. in_permutation ys xs x (IsPermutation-sym xs ys p))
 
@@ -77,7 +77,7 @@ module _ {A : Type 0} (key : A → ℕ) where
   differ x [] all = tt
   differ x (y ∷ ys) all = let lt : key x < key y = below x y all.0 in (grind (arith, nat_tests), differ x ys all.1)
 
-  -- numbers that rise are distinct
+  -- ascending numbers are distinct
   pub distinct_rising : (xs : List A) → IsStrictlySortedBy (on key nat_cmp) xs → IsDistinct (λ x y. key x == key y) xs
   unfolding IsDistinct IsStrictlySortedBy
   distinct_rising [] rise = tt

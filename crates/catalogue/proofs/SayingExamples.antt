@@ -9,14 +9,14 @@ use Rattle.std.proofs.lemmas.Map.Keys.{IsDistinct-IsPermutation}
 use Rattle.bitlayout.specs.declared.layout.Layout.{Layout}
 use Rattle.bitlayout.specs.declared.layout.Order.TheVariants.{Intel}
 use Rattle.bitlayout.specs.declared.place.Mux.TheVariants.{Always}
-use Rattle.can_id.specs.declared.ident.Ident.TheVariants.{Std, Ext}
+use Rattle.can_id.specs.declared.ident.Ident.TheVariants.{Std}
 use Rattle.decimal.specs.Number.{Number, IsDecimal}
 use Rattle.std.specs.Prelude.{pos}
 use Rattle.catalogue.specs.Form.{IsMessage, IsNode, IsSheet, IsSignal, IsTable, IsValueText}
 use Rattle.catalogue.specs.Messages.{message_name}
 use Rattle.catalogue.specs.Name.{IsName, is_name}
 use Rattle.catalogue.specs.Named.{AreNamedApart}
-use Rattle.catalogue.specs.Saying.{Says, ident_of_number, last_in, messages_of, passed_by, version_in, comment_in, whole_message, whole_node, node_names_of}
+use Rattle.catalogue.specs.Saying.{Says, last_in, messages_of, passed_by, version_in, comment_in, whole_message, whole_node, node_names_of}
 use Rattle.catalogue.specs.Statement.{
   Content,
   VersionIs,
@@ -77,7 +77,7 @@ signal name start = record {
 }
 
 abbrev message : ℕ → List ℕ → List SignalLine → Content
-message n name signals = MessageIs (record { number = n; name = name; length = 8; transmitter = None; signals = signals })
+message n name signals = MessageIs (record { ident = Std n; name = name; length = 8; transmitter = None; signals = signals })
 
 abbrev engine : Content
 engine = message 500 (codes "Engine") (signal (codes "Speed") 0 ∷ signal (codes "Torque") 8 ∷ [])
@@ -123,7 +123,7 @@ last_of_one_counts = refl
 no_comment_is_empty : last_in [] comment_in versions ≡ []
 no_comment_is_empty = refl
 
--- What stands before its message is said of it too: an SPN, a value type and value texts.
+-- What comes before its message is said of it too: an SPN, a value type and value texts.
 abbrev attached_before : List Statement
 attached_before =
     at 0 AttributeValue (SpnIs (Some 500) (codes "Torque") 513)
@@ -178,11 +178,7 @@ nodes_add_up : map (whole_node nodes) (node_names_of nodes)
     ≡ record { name = codes "Dash"; comment = codes "there" } ∷ record { name = codes "ECU"; comment = [] } ∷ record { name = codes "Gate"; comment = [] } ∷ []
 nodes_add_up = refl
 
--- The two forms of numbers.
-numbers : map ident_of_number (0 ∷ 2047 ∷ 2147483648 ∷ 2364540158 ∷ []) ≡ Std 0 ∷ Std 2047 ∷ Ext 0 ∷ Ext 217056510 ∷ []
-numbers = refl
-
--- A whole sheet: its messages rise, though the file has them the other way round.
+-- A whole sheet: its messages are in ascending order, though the file has them in descending order.
 abbrev signal_with : List ℕ → ℕ → List ℕ → Signal
 signal_with name start comment = record {
   name = name;

@@ -55,7 +55,7 @@ row_without = refl
 row_node : first_refusal (roster_tests node_name (node (codes "ECU") ∷ node (codes "Dash") ∷ []) (codes "Dash")) ≡ Some DoubleName
 row_node = refl
 
--- texts: empty, plain, a quote that is taken, a backslash that is taken
+-- texts: empty, plain, a quote that is escaped, a backslash that is escaped
 row_empty : is_text [] ≡ true
 row_empty = refl
 
@@ -68,7 +68,7 @@ row_taken_quote = refl
 row_taken_backslash : is_text (92 ∷ 92 ∷ []) ≡ true
 row_taken_backslash = refl
 
--- a lone quote, a lone backslash, a quote behind a backslash that is taken
+-- a lone quote, a lone backslash, a quote after a backslash that is escaped
 row_lone_quote : is_text (97 ∷ 34 ∷ []) ≡ false
 row_lone_quote = refl
 

@@ -1,5 +1,5 @@
 -- Examples of what is a statement, and of what is none.
-use Rattle.std.proofs.Common.{◌≡◌, ℕ, ◌+◌, Bool, true, false, List, [], ◌∷◌, ◌++◌, replicate, Option, Some, None, is_none, refl}
+use Rattle.std.proofs.Common.{◌≡◌, ℕ, ◌+◌, Bool, true, false, List, [], ◌∷◌, ◌++◌, map, replicate, Option, Some, None, is_none, refl}
 use Rattle.std.specs.Prelude.{ℤ, pos, negsuc, neg_ℤ, nat_le, ◌==◌, ◌&&◌, if◌then◌else◌, codes}
 use Rattle.std.specs.List.{AllByRecursion, list_all}
 use Rattle.std.proofs.lemmas.Bool.{and_parts}
@@ -7,10 +7,13 @@ use Rattle.bitlayout.specs.declared.layout.Order.{Order}
 use Rattle.bitlayout.specs.declared.layout.Order.TheVariants.{Intel, Motorola}
 use Rattle.bitlayout.specs.declared.place.Mux.{Mux}
 use Rattle.bitlayout.specs.declared.place.Mux.TheVariants.{Always, Multiplexor, Under}
+use Rattle.can_id.specs.declared.ident.Ident.{Ident}
+use Rattle.can_id.specs.declared.ident.Ident.TheVariants.{Std, Ext}
 use Rattle.decimal.specs.Cutting.{cut}
 use Rattle.decimal.specs.Number.{Number}
 use Rattle.decimal.specs.Reading.{reading}
 use Rattle.catalogue.specs.Division.{Divides}
+use Rattle.catalogue.specs.Fields.{ident_of}
 use Rattle.catalogue.specs.Name.{starts_identifier, is_name}
 use Rattle.catalogue.specs.Parsing.{decimal_at, pair_at, entry_at, entries_at, further_at, some_names_at, no_names_at, nodes_at, layout_at, signal_at}
 use Rattle.catalogue.specs.Parsing.{version_at, symbols_at, registers_at, timing_at, timing_line_at, nodes_line_at, table_at, signals_at, message_at}
@@ -28,7 +31,7 @@ use Rattle.catalogue.specs.declared.value_texts.ValueText.{ValueText}
 use Rattle.catalogue.specs.declared.value_type.ValueType.TheVariants.{Float, Double}
 use Rattle.catalogue.proofs.Divisions.{statements_are_runs, reading_is_exact}
 
--- The tokens of an example are its words, with a blank between two; the n-th of them stands at the place n.
+-- The tokens of an example are its words, with a blank between two; the n-th of them has the offset n.
 
 abbrev kind_by : ℕ → TokenKind
 kind_by b = if nat_le 48 b && nat_le b 57 then NumberKind else (if b == 34 then Text else (if starts_identifier b then Name else Mark))
@@ -103,9 +106,9 @@ negative n exponent = record { mantissa = neg_ℤ (pos n); exponent = exponent }
 abbrev says : Number → List ℕ → ValueText
 says value text = record { value = value; text = text }
 
-abbrev message : ℕ → List ℕ → ℕ → Option (List ℕ) → List SignalLine → MessageLine
-message number name length transmitter signals = record {
-  number = number;
+abbrev message : Ident → List ℕ → ℕ → Option (List ℕ) → List SignalLine → MessageLine
+message ident name length transmitter signals = record {
+  ident = ident;
   name = name;
   length = length;
   transmitter = transmitter;
@@ -202,7 +205,7 @@ no_timings : IsntAny (
 unfolding statements_at statement_at line_at timing_line_at timing_at registers_at
 no_timings = isnt refl
 
--- `BU_`: a list of nodes, in which `Vector__XXX` stands for none and a name may stand twice.
+-- `BU_`: a list of nodes, in which `Vector__XXX` means none and a name may occur twice.
 
 nodes : AreAll (
     is (codes "BU_ :") (one Nodes (NodesAre [])) ∷
@@ -260,19 +263,23 @@ no_tables = isnt refl
 
 -- `BO_` with its signals
 
+idents : map ident_of (0 ∷ 2047 ∷ 2048 ∷ 2147483647 ∷ 2147483648 ∷ 2364540158 ∷ 2684354559 ∷ 2684354560 ∷ [])
+    ≡ Some (Std 0) ∷ Some (Std 2047) ∷ None ∷ None ∷ Some (Ext 0) ∷ Some (Ext 217056510) ∷ Some (Ext 536870911) ∷ None ∷ []
+idents = refl
+
 messages : AreAll (
-    is (codes "BO_ 2047 A : 64 Vector__XXX") (one Message (MessageIs (message 2047 (codes "A") 64 None []))) ∷
+    is (codes "BO_ 2047 A : 64 Vector__XXX") (one Message (MessageIs (message (Std 2047) (codes "A") 64 None []))) ∷
     is (codes "BO_ 2364540158 Msg : 8 ECU SG_ T : 16 | 8 @ 1 + ( 1 , - 40 ) [ - 40 | 210 ] \"C\" Dash")
-    (one Message (MessageIs (message 2364540158 (codes "Msg") 8 (Some (codes "ECU")) (temperature ∷ [])))) ∷
+    (one Message (MessageIs (message (Ext 217056510) (codes "Msg") 8 (Some (codes "ECU")) (temperature ∷ [])))) ∷
     is (codes "BO_ 1 A : 8 Vector__XXX SG_ S M : 0 | 8 @ 1 + ( 1 , 0 ) [ 0 | 0 ] \"\" SG_ m1 m007 : 0 | 64 @ 00 - ( 1 , 0 ) [ 0 | 0 ] \"\"")
-    (one Message (MessageIs (message 1 (codes "A") 8 None (
+    (one Message (MessageIs (message (Std 1) (codes "A") 8 None (
     bare (codes "S") 0 8 Intel false Multiplexor
     ∷ bare (codes "m1") 0 64 Motorola true (Under 7) ∷ [])))) ∷
     is (codes "BO_ 1 A : 8 Vector__XXX SG_ M m4294967295 : 65535 | 8 @ 1 + ( 1 , 0 ) [ 0 | 0 ] \"\" VERSION \"\"")
-    (starting 0 Message (MessageIs (message 1 (codes "A") 8 None (bare (codes "M") 65535 8 Intel false (Under 4294967295) ∷ [])))
+    (starting 0 Message (MessageIs (message (Std 1) (codes "A") 8 None (bare (codes "M") 65535 8 Intel false (Under 4294967295) ∷ [])))
     ∷ starting 27 Version (VersionIs []) ∷ []) ∷
     is (codes "BO_ 1 A : 8 Vector__XXX SG_ B m" ++ replicate 128 48 ++ codes "7 : 63 | 1 @ 1 + ( 1 , 0 ) [ 0 | 0 ] \"\"")
-    (one Message (MessageIs (message 1 (codes "A") 8 None (bare (codes "B") 63 1 Intel false (Under 7) ∷ [])))) ∷ [])
+    (one Message (MessageIs (message (Std 1) (codes "A") 8 None (bare (codes "B") 63 1 Intel false (Under 7) ∷ [])))) ∷ [])
 unfolding statements_at statement_at line_at message_at signals_at signal_at layout_at pair_at decimal_at nodes_at some_names_at
     no_names_at further_at reading cut is_name version_at
 messages = are (refl, (refl, (refl, (refl, (refl, tt)))))
@@ -305,7 +312,7 @@ unfolding statements_at statement_at line_at message_at signals_at signal_at lay
     no_names_at further_at reading cut is_name independent_at
 no_signals = isnt refl
 
--- `BO_ 3221225472` is passed over, whatever stands behind it, up to the next keyword other than `SG_`.
+-- `BO_ 3221225472` is passed over, whatever follows it, up to the next keyword other than `SG_`.
 
 independents : AreAll (
     is (codes "BO_ 3221225472") (one Message PassedOver) ∷

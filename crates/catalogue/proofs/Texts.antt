@@ -45,15 +45,15 @@ joined ((b ∷ c ∷ d ∷ more) ∷ pieces) h = absurd h.0
 pub text-Decides : (bytes : List ℕ) → Decides (is_text bytes) (IsText bytes)
 text-Decides bytes = (pieces_of bytes, λ text. ap is_text (sym text.whole) ∙ joined text.pieces text.each)
 
--- the test at one byte more: one that is taken, and one that stands for itself or takes the next
-pub after_taken : (bytes : List ℕ) (i : ℕ) (taken next r : Bool) → i < length bytes → taken ≡ true → next ≡ false
-    → is_text_after taken (drop i bytes) ≡ r → is_text_after next (drop (i + 1) bytes) ≡ r
-after_taken bytes i taken next r h t n e =
+-- the test at one byte more: one that is escaped, and one that means itself or escapes the next
+pub after_escaped : (bytes : List ℕ) (i : ℕ) (escaped next r : Bool) → i < length bytes → escaped ≡ true → next ≡ false
+    → is_text_after escaped (drop i bytes) ≡ r → is_text_after next (drop (i + 1) bytes) ≡ r
+after_escaped bytes i escaped next r h t n e =
     let here : is_text_after true (get_or bytes i 0 ∷ drop (suc i) bytes) ≡ r = rw (t, drop-cons bytes i 0 h) at e in
     rw (n, add-one) here
 
-pub after_plain : (bytes : List ℕ) (i : ℕ) (taken next r : Bool) → i < length bytes → taken ≡ false → get_or bytes i 0 ≢ 34
-    → next ≡ (get_or bytes i 0 == 92) → is_text_after taken (drop i bytes) ≡ r → is_text_after next (drop (i + 1) bytes) ≡ r
-after_plain bytes i taken next r h t q n e =
+pub after_plain : (bytes : List ℕ) (i : ℕ) (escaped next r : Bool) → i < length bytes → escaped ≡ false → get_or bytes i 0 ≢ 34
+    → next ≡ (get_or bytes i 0 == 92) → is_text_after escaped (drop i bytes) ≡ r → is_text_after next (drop (i + 1) bytes) ≡ r
+after_plain bytes i escaped next r h t q n e =
     let here : is_text_after false (get_or bytes i 0 ∷ drop (suc i) bytes) ≡ r = rw (t, drop-cons bytes i 0 h) at e in
     rw (n, add-one) (rw (tells (get_or bytes i 0) 34 q) at here)

@@ -8,7 +8,7 @@ use Rattle.catalogue.specs.Tokens.{HasTokens, IsFirst}
 use Rattle.catalogue.proofs.TokenReading.{Means, first_is_read, first_token_means, gap_is_read, stop_is_read}
 use Rattle.catalogue.proofs.TokensOnce.{spelling_some}
 
--- what stands behind the first token
+-- what follows the first token
 pub behind_first : (place : ℕ) (bytes : List ℕ) (t : Token) (rest : List ℕ) → IsFirst place bytes t rest → drop (t.end - place) bytes ≡ rest
 behind_first place bytes t rest f =
     let whole : bytes ≡ (f.gap ++ t.text) ++ rest = f.parts ∙ sym (append_assoc f.gap t.text rest) in
@@ -20,7 +20,7 @@ rest_is_shorter place bytes t rest f =
     let some = spelling_some t.kind t.text f.spelled in
     omega (arith, some, ap length f.parts, length-append f.gap (t.text ++ rest), length-append t.text rest)
 
--- the tokens are the first ones, and behind them is a gap alone, or none begins, as the fault says
+-- the tokens are the first ones, and after them is a gap alone, or none begins, as the fault says
 abbrev pub IsRead : ℕ → List ℕ → List Token → Option LexFault → Type 0
 IsRead place bytes tokens None = HasTokens place bytes tokens
 IsRead place bytes tokens (Some fault) = StopsWith place bytes tokens fault

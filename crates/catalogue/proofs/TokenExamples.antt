@@ -122,7 +122,7 @@ signal_start = refl
 number_and_name : HasTokens 0 (codes "1E") (token Number 0 (codes "1") ∷ token Name 1 (codes "E") ∷ [])
 number_and_name = (exact 0 _ _).1 letter_without_power
 
--- the number isn't cut short to 1, with another number behind it
+-- the number isn't cut short to 1, with another number after it
 only_longest : (ts : List Token) → HasTokens 0 (codes "12abc") ts → ts ≡ token Number 0 (codes "12") ∷ token Name 2 (codes "abc") ∷ []
 only_longest ts h = ap (λ (l : Lexed). l.tokens) (sym ((exact 0 _ ts).0 h) ∙ number_then_name)
 

@@ -1,4 +1,4 @@
--- The longest number at a place is found part by part: digits, a point with digits, an exponent.
+-- The longest number at an offset is found part by part: digits, a point with digits, an exponent.
 use Rattle.std.proofs.Common.{◌≡◌, ℕ, zero, suc, ◌+◌, ◌≤◌, ◌<◌, Bool, true, false, cond, eqb, List, [], ◌∷◌, ◌++◌, length, take, drop, refl, ap, subst, ◌∙◌, arith, append_assoc}
 use Rattle.std.specs.Char.{is_ascii_digit}
 use Rattle.std.specs.List.{prefix_len}

@@ -17,7 +17,7 @@ use Rattle.catalogue.proofs.TokenRuns.{prefix_stops}
 use Rattle.catalogue.proofs.TokensOnce.{behind_first_gap, first_once, gap_has_none}
 use Rattle.catalogue.proofs.TokenWords.{IsFound, longest_of_all, of_that_kind, word_found}
 
--- what it means to read this of bytes that stand at the place
+-- what it means to read this of bytes at the offset
 abbrev pub Means : ℕ → List ℕ → Result (Option Token) LexFault → Type 0
 Means place bytes (Err fault) = NoToken place bytes fault
 Means place bytes (Ok None) = IsGap bytes
@@ -82,7 +82,7 @@ unfolding token_at
 token_at_means place [] stops = refl
 token_at_means place (b ∷ bytes) stops = kind_means place b bytes (kind_of b) stops refl
 
--- ---- behind a gap
+-- ---- after a gap
 
 gaps_join : (xs ys : List ℕ) → IsGap xs → IsGap ys → IsGap (xs ++ ys)
 gaps_join xs ys h k = rw list_all-append (and_from _ _ h k)
@@ -126,7 +126,7 @@ first_token_means place bytes =
 
 -- ---- what is there is read
 
--- where no token begins, behind a gap
+-- where no token begins, after a gap
 module _ (place : ℕ) (bytes : List ℕ) (fault : LexFault) (m : NoToken place bytes fault) where
   stop_len : prefix_len is_gap bytes ≡ length m.gap
   stop_len = ap (prefix_len is_gap) m.parts ∙ prefix_exact is_gap m.gap (m.first ∷ m.behind) m.gap_is m.no_gap

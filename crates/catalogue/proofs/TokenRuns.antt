@@ -18,7 +18,7 @@ prefix_stops_at p b bytes true e h =
     rw next h
 prefix_stops_at p b bytes false e h = e
 
--- behind the longest run
+-- after the longest run
 pub prefix_stops : (p : ℕ → Bool) (bytes : List ℕ) → Stops p (drop (prefix_len p bytes) bytes)
 prefix_stops p [] = tt
 prefix_stops p (b ∷ bytes) = prefix_stops_at p b bytes (p b) refl (prefix_stops p bytes)

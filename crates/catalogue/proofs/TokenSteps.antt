@@ -5,7 +5,7 @@ use Rattle.catalogue.specs.Token.{Token}
 use Rattle.catalogue.proofs.TokenExact.{behind_first, rest_is_shorter}
 use Rattle.catalogue.proofs.TokenReading.{Means, first_token_means}
 
--- fewer bytes stand behind the first token
+-- fewer bytes come after the first token
 pub fewer : (place : ℕ) (bytes : List ℕ) (t : Token) → first_token place bytes ≡ Ok (Some t) → length (drop (t.end - place) bytes) < length bytes
 fewer place bytes t e =
     let (rest, first) = subst (Means place bytes) e (first_token_means place bytes) in
@@ -25,7 +25,7 @@ enough (suc n) (suc m) place bytes p q = same_behind (first_token place bytes) _
     let less = fewer place bytes t e in
     enough n m t.end (drop (t.end - place) bytes) (omega arith) (omega arith))
 
--- what is read is the first token, and then what is read of the bytes behind it
+-- what is read is the first token, and then what is read of the bytes after it
 pub lexed_step : (place : ℕ) (bytes : List ℕ) → lexed place bytes ≡ with_first (first_token place bytes) (λ t. lexed t.end (drop (t.end - place) bytes))
 unfolding lexed lexed_in
 lexed_step place bytes =

@@ -8,7 +8,7 @@ use Rattle.catalogue.specs.Inside.{inside_of}
 use Rattle.catalogue.specs.Spelling.{is_quote, quoted}
 use Rattle.catalogue.specs.Text.{is_text_after}
 
--- ---- the length of what stands inside
+-- ---- the length of what is inside
 
 past_one : (b : ℕ) (bytes rest : List ℕ) (quote : Bool) → is_quote b ≡ quote → is_text_after false (b ∷ bytes) ≡ true
     → (is_text_after (eqb b 92) bytes ≡ true → inside_len (eqb b 92) (bytes ++ 34 ∷ rest) ≡ Some (length bytes))
@@ -17,7 +17,7 @@ unfolding inside_len
 past_one b bytes rest true q h behind = let no : false ≡ true = rw q at h in absurd cc
 past_one b bytes rest false q h behind = rw (q, behind (rw q at h)) refl
 
-pub inside_exact : (taken : Bool) (inside rest : List ℕ) → is_text_after taken inside ≡ true → inside_len taken (inside ++ 34 ∷ rest) ≡ Some (length inside)
+pub inside_exact : (escaped : Bool) (inside rest : List ℕ) → is_text_after escaped inside ≡ true → inside_len escaped (inside ++ 34 ∷ rest) ≡ Some (length inside)
 unfolding inside_len
 inside_exact true [] rest h = absurd cc
 inside_exact false [] rest h = refl
@@ -26,19 +26,19 @@ inside_exact false (b ∷ bytes) rest h = past_one b bytes rest (is_quote b) ref
 
 -- ---- what is found
 
--- n bytes stand inside, and a quote behind them
-pub record Closes (taken : Bool) (bytes : List ℕ) (n : ℕ) : Type 0 where
+-- n bytes are inside, and a quote after them
+pub record Closes (escaped : Bool) (bytes : List ℕ) (n : ℕ) : Type 0 where
   pub within : n < length bytes
-  pub inside : is_text_after taken (take n bytes) ≡ true
+  pub inside : is_text_after escaped (take n bytes) ≡ true
   pub quote : take (suc n) bytes ≡ take n bytes ++ 34 ∷ []
 
 map_some : (o : Option ℕ) (n : ℕ) → option_map suc o ≡ Some n → (k : ℕ) × (o ≡ Some k) × (suc k ≡ n)
 map_some None n e = absurd cc
 map_some (Some k) n e = (k, refl, cc)
 
-behind_one : (taken next : Bool) (b : ℕ) (bytes : List ℕ) (n : ℕ)
-    → (is_text_after next (take n bytes) ≡ true → is_text_after taken (b ∷ take n bytes) ≡ true) → Closes next bytes n → Closes taken (b ∷ bytes) (suc n)
-behind_one taken next b bytes n step c = record { within = omega (arith, c.within); inside = step c.inside; quote = ap (λ v. b ∷ v) c.quote }
+behind_one : (escaped next : Bool) (b : ℕ) (bytes : List ℕ) (n : ℕ)
+    → (is_text_after next (take n bytes) ≡ true → is_text_after escaped (b ∷ take n bytes) ≡ true) → Closes next bytes n → Closes escaped (b ∷ bytes) (suc n)
+behind_one escaped next b bytes n step c = record { within = omega (arith, c.within); inside = step c.inside; quote = ap (λ v. b ∷ v) c.quote }
 
 closes_plain : (b : ℕ) (bytes : List ℕ) (n : ℕ) (quote : Bool) → is_quote b ≡ quote
     → ((k : ℕ) → inside_len (eqb b 92) bytes ≡ Some k → Closes (eqb b 92) bytes k)
@@ -52,9 +52,9 @@ closes_plain b bytes n false q behind h =
     let (k, e, next) = map_some (inside_len (eqb b 92) bytes) n (rw q at h) in
     subst (Closes false (b ∷ bytes)) next (behind_one false (eqb b 92) b bytes k (λ t. rw q t) (behind k e))
 
-pub closes : (taken : Bool) (bytes : List ℕ) (n : ℕ) → inside_len taken bytes ≡ Some n → Closes taken bytes n
+pub closes : (escaped : Bool) (bytes : List ℕ) (n : ℕ) → inside_len escaped bytes ≡ Some n → Closes escaped bytes n
 unfolding inside_len
-closes taken [] n h = absurd cc
+closes escaped [] n h = absurd cc
 closes true (b ∷ bytes) n h =
     let m = map_some (inside_len false bytes) n h in
     subst (Closes true (b ∷ bytes)) m.2 (behind_one true false b bytes m.0 (λ t. t) (closes false bytes m.0 m.1))

@@ -29,7 +29,7 @@ pub record IsWord (kind : TokenKind) (bytes : List ℕ) (n : ℕ) : Type 0 where
   pub spelled : Spells kind (take n bytes)
   pub longest : (word rest : List ℕ) → Spells kind word → bytes ≡ word ++ rest → length word ≤ n
 
--- what it means to find so many bytes; only a text that does not end is not found where its first byte tells it
+-- what it means to find this many bytes; only a text that does not end is not found where its first byte tells it
 abbrev pub IsFound : TokenKind → ℕ → List ℕ → Option ℕ → Type 0
 IsFound kind b bytes None = (is_quote b ≡ true) × IsNone kind (b ∷ bytes)
 IsFound kind b bytes (Some n) = IsWord kind (b ∷ bytes) n
@@ -64,7 +64,7 @@ number_is_found b bytes h = record {
   longest = λ word rest s e. rw e (number_le word rest s.0 s.1);
 }
 
--- what stands inside a text that the bytes begin with
+-- what is inside a text that the bytes begin with
 text_inside : (b : ℕ) (bytes word rest : List ℕ) → (s : Spells Text word) → b ∷ bytes ≡ word ++ rest → inside_len false bytes ≡ Some (length s.0)
 text_inside b bytes word rest (inside, text, q) e =
     let all : b ∷ bytes ≡ 34 ∷ (inside ++ 34 ∷ rest) = e ∙ ap (λ v. v ++ rest) q ∙ simp append_assoc in

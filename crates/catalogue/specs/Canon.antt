@@ -4,10 +4,10 @@ use Rattle.std.specs.Prelude.{ℕ, ◌==◌, List, [], ◌∷◌, ◌++◌, map,
 use Rattle.std.specs.Fmt.{decimal}
 use Rattle.std.specs.Int.{is_negative}
 use Rattle.std.specs.List.{flat_map}
-use Rattle.bitlayout.specs.declared.layout.Order.{Order}
-use Rattle.bitlayout.specs.declared.layout.Order.TheVariants.{Intel, Motorola}
+use Rattle.bitlayout.specs.Mux.{indicator_of}
+use Rattle.bitlayout.specs.Order.{order_number}
 use Rattle.bitlayout.specs.declared.place.Mux.{Mux}
-use Rattle.bitlayout.specs.declared.place.Mux.TheVariants.{Always, Multiplexor, Under}
+use Rattle.bitlayout.specs.declared.place.Mux.TheVariants.{Always}
 use Rattle.decimal.specs.Number.{Number}
 use Rattle.decimal.specs.Printing.{unsigned_text}
 use Rattle.catalogue.specs.Limits.{spn_limit}
@@ -33,7 +33,7 @@ abbrev pub tight : List ℕ
 tight = []
 
 abbrev pub space : List ℕ
-space = 32 ∷ []
+space = codes " "
 
 abbrev pub word : List ℕ → List ℕ → Piece
 word gap w = record { gap = gap; kind = kind.Name; text = w }
@@ -41,19 +41,18 @@ word gap w = record { gap = gap; kind = kind.Name; text = w }
 abbrev pub number : List ℕ → ℕ → Piece
 number gap n = record { gap = gap; kind = kind.Number; text = decimal n }
 
--- : is 58, ; is 59, a comma 44, | is 124, @ is 64, brackets are 40 and 41, 91 and 93, + is 43, - is 45
-abbrev pub mark : List ℕ → ℕ → Piece
-mark gap m = record { gap = gap; kind = kind.Mark; text = m ∷ [] }
+abbrev pub mark : List ℕ → List ℕ → Piece
+mark gap m = record { gap = gap; kind = kind.Mark; text = m }
 
 abbrev pub quoted : List ℕ → List ℕ → Piece
-quoted gap t = record { gap = gap; kind = kind.Text; text = 34 ∷ t ++ 34 ∷ [] }
+quoted gap t = record { gap = gap; kind = kind.Text; text = codes "\"" ++ t ++ codes "\"" }
 
 -- a decimal: a minus where it is negative, and its digits
 abbrev pub value : List ℕ → Number → List Piece
 value gap n =
     let digits = unsigned_text (unsigned_abs n.mantissa) n.exponent in
     if is_negative n.mantissa
-    then mark gap 45 ∷ record { gap = tight; kind = kind.Number; text = digits } ∷ []
+    then mark gap (codes "-") ∷ record { gap = tight; kind = kind.Number; text = digits } ∷ []
     else record { gap = gap; kind = kind.Number; text = digits } ∷ []
 
 abbrev pub Line : Type 0
@@ -64,54 +63,49 @@ abbrev pub version_line : Sheet → Line
 version_line s = word tight (codes "VERSION") ∷ quoted space s.version ∷ []
 
 abbrev pub symbols_line : Line
-symbols_line = word tight (codes "NS_") ∷ mark space 58 ∷ []
+symbols_line = word tight (codes "NS_") ∷ mark space (codes ":") ∷ []
 
 abbrev pub timing_line : Line
-timing_line = word tight (codes "BS_") ∷ mark tight 58 ∷ []
+timing_line = word tight (codes "BS_") ∷ mark tight (codes ":") ∷ []
 
 abbrev pub nodes_line : Sheet → Line
-nodes_line s = word tight (codes "BU_") ∷ mark tight 58 ∷ map (λ (n : Node). word space n.name) s.nodes
+nodes_line s = word tight (codes "BU_") ∷ mark tight (codes ":") ∷ map (λ (n : Node). word space n.name) s.nodes
 
 -- values with their texts, and ` ;`
 abbrev pub entry : ValueText → List Piece
 entry v = value space v.value ++ quoted space v.text ∷ []
 
 abbrev pub entries : List ValueText → List Piece
-entries vs = flat_map entry vs ++ mark space 59 ∷ []
+entries vs = flat_map entry vs ++ mark space (codes ";") ∷ []
 
 abbrev pub table_line : ValueTable → Line
 table_line t = word tight (codes "VAL_TABLE_") ∷ word space t.name ∷ entries t.entries
 
 -- BO_ number name: length transmitter
 abbrev pub message_line : Message → Line
-message_line m = word tight (codes "BO_") ∷ number space (number_of m) ∷ word space m.name ∷ mark tight 58 ∷ number space m.length
+message_line m = word tight (codes "BO_") ∷ number space (number_of m) ∷ word space m.name ∷ mark tight (codes ":") ∷ number space m.length
     ∷ word space (unwrap_or m.transmitter no_node) ∷ []
 
 abbrev pub mux_pieces : Mux → List Piece
 mux_pieces Always = []
-mux_pieces Multiplexor = word space (codes "M") ∷ []
-mux_pieces (Under n) = word space (109 ∷ decimal n) ∷ []
-
-abbrev pub order_number : Order → ℕ
-order_number Intel = 1
-order_number Motorola = 0
+mux_pieces mux = word space (indicator_of mux) ∷ []
 
 abbrev pub receiver_pieces : List (List ℕ) → List Piece
 receiver_pieces [] = word space no_node ∷ []
-receiver_pieces (r ∷ rs) = word space r ∷ flat_map (λ n. mark tight 44 ∷ word tight n ∷ []) rs
+receiver_pieces (r ∷ rs) = word space r ∷ flat_map (λ n. mark tight (codes ",") ∷ word tight n ∷ []) rs
 
 -- two decimals between brackets
-abbrev pub pair : ℕ → ℕ → ℕ → Number → Number → List Piece
+abbrev pub pair : List ℕ → List ℕ → List ℕ → Number → Number → List Piece
 pair left between right a b = mark space left ∷ value tight a ++ mark tight between ∷ value tight b ++ mark tight right ∷ []
 
 -- ` SG_ name mux : start|size@order+ (factor,offset) [minimum|maximum] "unit" receivers`
 abbrev pub layout_pieces : Signal → List Piece
-layout_pieces s = number space s.layout.start ∷ mark tight 124 ∷ number tight s.layout.size ∷ mark tight 64 ∷ number tight (order_number s.layout.order)
-    ∷ mark tight (if s.signed then 45 else 43) ∷ []
+layout_pieces s = number space s.layout.start ∷ mark tight (codes "|") ∷ number tight s.layout.size ∷ mark tight (codes "@") ∷ number tight (order_number s.layout.order)
+    ∷ mark tight (if s.signed then codes "-" else codes "+") ∷ []
 
 abbrev pub signal_line : Signal → Line
-signal_line s = word space (codes "SG_") ∷ word space s.name ∷ mux_pieces s.mux ++ mark space 58 ∷ layout_pieces s
-    ++ pair 40 44 41 s.factor s.offset ++ pair 91 124 93 s.minimum s.maximum ++ quoted space s.unit ∷ receiver_pieces s.receivers
+signal_line s = word space (codes "SG_") ∷ word space s.name ∷ mux_pieces s.mux ++ mark space (codes ":") ∷ layout_pieces s
+    ++ pair (codes "(") (codes ",") (codes ")") s.factor s.offset ++ pair (codes "[") (codes "|") (codes "]") s.minimum s.maximum ++ quoted space s.unit ∷ receiver_pieces s.receivers
 
 abbrev pub message_lines : Message → List Line
 message_lines m = message_line m ∷ map signal_line m.signals
@@ -119,7 +113,7 @@ message_lines m = message_line m ∷ map signal_line m.signals
 -- CM_, of what, and the comment; nothing where it is empty
 abbrev pub comment_lines : List Piece → List ℕ → List Line
 comment_lines of_what [] = []
-comment_lines of_what (b ∷ bs) = (word tight (codes "CM_") ∷ of_what ++ quoted space (b ∷ bs) ∷ mark tight 59 ∷ []) ∷ []
+comment_lines of_what (b ∷ bs) = (word tight (codes "CM_") ∷ of_what ++ quoted space (b ∷ bs) ∷ mark tight (codes ";") ∷ []) ∷ []
 
 abbrev pub node_comment : Node → List Line
 node_comment n = comment_lines (word space (codes "BU_") ∷ word space n.name ∷ []) n.comment
@@ -142,13 +136,20 @@ each_signal f s = flat_map (λ (m : Message). flat_map (f m) m.signals) s.messag
 -- BA_ "SPN" SG_ number name spn;
 abbrev pub spn_lines : Message → Signal → List Line
 spn_lines m s = if s.spn == 0 then [] else
-    ((word tight (codes "BA_") ∷ quoted space (codes "SPN") ∷ signal_pieces m s ++ number space s.spn ∷ mark tight 59 ∷ []) ∷ [])
+    ((word tight (codes "BA_") ∷ quoted space (codes "SPN") ∷ signal_pieces m s ++ number space s.spn ∷ mark tight (codes ";") ∷ []) ∷ [])
 
--- BA_DEF_ SG_ "SPN" INT 0 524287; and BA_DEF_DEF_ "SPN" 0; before the first of them
+-- BA_DEF_ SG_ "SPN" INT 0 spn_limit;
+abbrev pub spn_definition : Line
+spn_definition = word tight (codes "BA_DEF_") ∷ word space (codes "SG_") ∷ quoted space (codes "SPN") ∷ word space (codes "INT")
+    ∷ number space 0 ∷ number space spn_limit ∷ mark tight (codes ";") ∷ []
+
+-- BA_DEF_DEF_ "SPN" 0;
+abbrev pub spn_default : Line
+spn_default = word tight (codes "BA_DEF_DEF_") ∷ quoted space (codes "SPN") ∷ number space 0 ∷ mark tight (codes ";") ∷ []
+
+-- both, before the first of the numbers
 abbrev pub spn_definitions : List Line
-spn_definitions =
-    (word tight (codes "BA_DEF_") ∷ word space (codes "SG_") ∷ quoted space (codes "SPN") ∷ word space (codes "INT") ∷ number space 0 ∷ number space spn_limit ∷ mark tight 59 ∷ [])
-    ∷ (word tight (codes "BA_DEF_DEF_") ∷ quoted space (codes "SPN") ∷ number space 0 ∷ mark tight 59 ∷ []) ∷ []
+spn_definitions = spn_definition ∷ spn_default ∷ []
 
 abbrev pub defined : List Line → List Line
 defined [] = []
@@ -165,7 +166,7 @@ value_lines m s = texts_of s.values
 -- SIG_VALTYPE_ number name : type;
 abbrev pub type_lines : Message → Signal → List Line
 type_lines m s = if value_type_number s.value_type == 0 then [] else
-    ((word tight (codes "SIG_VALTYPE_") ∷ place_pieces m s ++ mark space 58 ∷ number space (value_type_number s.value_type) ∷ mark tight 59 ∷ []) ∷ [])
+    ((word tight (codes "SIG_VALTYPE_") ∷ place_pieces m s ++ mark space (codes ":") ∷ number space (value_type_number s.value_type) ∷ mark tight (codes ";") ∷ []) ∷ [])
 
 abbrev pub canonical_lines : Sheet → List Line
 canonical_lines s = version_line s ∷ symbols_line ∷ timing_line ∷ nodes_line s
@@ -175,7 +176,7 @@ canonical_lines s = version_line s ∷ symbols_line ∷ timing_line ∷ nodes_li
 
 -- the bytes of a line, and its LF
 abbrev pub line_text : Line → List ℕ
-line_text l = flat_map (λ (p : Piece). p.gap ++ p.text) l ++ 10 ∷ []
+line_text l = flat_map (λ (p : Piece). p.gap ++ p.text) l ++ codes "\n"
 
 abbrev pub canonical_text : Sheet → List ℕ
 canonical_text s = flat_map line_text (canonical_lines s)

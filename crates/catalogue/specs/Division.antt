@@ -10,7 +10,8 @@ use Rattle.catalogue.specs.Token.{Token}
 abbrev pub IsStatement : List Token → Statement → List Token → Type 0
 IsStatement run s rest = statement (run ++ rest) s rest
 
--- Of the runs from one place that the end follows, or a keyword other than `SG_`, at most one is a statement, and it is
+-- Of the runs that begin with one token and are followed by the end or by a keyword other than `SG_`, at most one is a
+-- statement, and it is
 -- a single one.
 abbrev pub OneStatement : Type 0
 OneStatement = (run other rest more : List Token) (s t : Statement)

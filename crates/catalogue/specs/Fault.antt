@@ -1,7 +1,10 @@
 -- The faults of sheets, with their numbers and names.
-use Rattle.std.specs.Prelude.{◌≡◌, ⊤, ℕ, List, Option, Some, codes}
+use Rattle.std.specs.Prelude.{◌≡◌, ⊤, ℕ, List, ◌++◌, Option, Some, None, codes}
+use Rattle.std.specs.Fmt.{decimal}
 use Rattle.bitlayout.specs.declared.clash.Clash.{Clash as BitClash}
 use Rattle.bitlayout.specs.declared.clash.Clash.TheVariants as clash
+use Rattle.catalogue.specs.declared.fault.About.{About}
+use Rattle.catalogue.specs.declared.fault.About.TheVariants as about
 use Rattle.catalogue.specs.declared.fault.SheetCode.{SheetCode}
 use Rattle.catalogue.specs.declared.fault.SheetCode.TheVariants.{DoubleNumber, DoubleName, OutsidePayload, Clash, NoMultiplexor, TwoMultiplexors, TooMany, Memory}
 
@@ -32,7 +35,23 @@ clash_code (clash.Overlap j i) = Clash
 clash_code (clash.NoMultiplexor i) = NoMultiplexor
 clash_code (clash.TwoMultiplexors i) = TwoMultiplexors
 
--- A call that is refused by its tests answers the first that holds; want of memory may come in place of any other answer.
+-- the number of the message that a fault is about
+abbrev pub message_about : About → Option ℕ
+message_about about.Sheet = None
+message_about about.Node = None
+message_about about.Table = None
+message_about (about.Message number) = Some number
+message_about (about.Signals number clash) = Some number
+
+-- what a fault is about, in words
+abbrev pub about_text : About → List ℕ
+about_text about.Sheet = codes "the sheet"
+about_text about.Node = codes "a node"
+about_text about.Table = codes "a value table"
+about_text (about.Message number) = codes "message " ++ decimal number
+about_text (about.Signals number clash) = codes "signals of message " ++ decimal number
+
+-- A call that is refused by its tests answers the first that holds; out of memory may be the answer instead of any other.
 abbrev pub IsRefusal : Option SheetCode → SheetCode → Type 0
 IsRefusal refusal DoubleNumber = refusal ≡ Some DoubleNumber
 IsRefusal refusal DoubleName = refusal ≡ Some DoubleName
@@ -43,7 +62,7 @@ IsRefusal refusal TwoMultiplexors = refusal ≡ Some TwoMultiplexors
 IsRefusal refusal TooMany = refusal ≡ Some TooMany
 IsRefusal refusal Memory = ⊤
 
--- what a fault says, but where it is want of memory
+-- what a fault says, unless it is out of memory
 abbrev pub IsMemoryOr : SheetCode → Type 0 → Type 0
 IsMemoryOr Memory P = ⊤
 IsMemoryOr DoubleNumber P = P

@@ -1,19 +1,23 @@
 -- The fields of the statements of a DBC file: what single tokens say, and the rules of what several say together.
 -- They are those of Vector's DBC File Format Documentation; the ranges of numbers and the length of names, and that a
--- comma may stand between any two names of a list or be left out, are this project's profile.
-use Rattle.std.specs.Prelude.{◌≡◌, ℕ, Bool, true, false, ◌&&◌, ◌||◌, ◌==◌, not, nat_le, List, [], ◌∷◌, filter_map, Option, Some, None}
-use Rattle.std.specs.Prelude.{is_some, option_map, option_and_then, unwrap_or, if◌then◌else◌, codes, Decides}
+-- comma may be between any two names of a list or be left out, are this project's profile.
+use Rattle.std.specs.Prelude.{◌≡◌, ◌↔◌, ℕ, ◌+◌, ◌-◌, Bool, true, false, ◌&&◌, ◌||◌, ◌==◌, not, nat_le, List, [], ◌∷◌, filter_map, Option, Some, None}
+use Rattle.std.specs.Prelude.{is_some, option_map, option_and_then, unwrap_or, if◌then◌else◌, codes}
 use Rattle.std.specs.Result.{result_ok}
 use Rattle.std.specs.Str.{bytes_eq}
 use Rattle.can_id.specs.Ident.{IsIdentifier, dbc_number}
+use Rattle.can_id.specs.declared.form.TheConstants.{EXTENDED_FLAG, GREATEST_EXTENDED, GREATEST_STANDARD}
 use Rattle.can_id.specs.declared.ident.Ident.{Ident}
+use Rattle.can_id.specs.declared.ident.Ident.TheVariants.{Std, Ext}
 use Rattle.bitlayout.specs.declared.layout.Layout.{Layout}
 use Rattle.bitlayout.specs.declared.layout.Order.{Order}
-use Rattle.bitlayout.specs.declared.layout.Order.TheVariants.{Intel, Motorola}
 use Rattle.bitlayout.specs.declared.place.Mux.{Mux}
-use Rattle.bitlayout.specs.declared.place.Mux.TheVariants.{Always, Multiplexor, Under}
-use Rattle.decimal.specs.Number.{Number}
+use Rattle.bitlayout.specs.declared.place.Mux.TheVariants.{Always}
+use Rattle.bitlayout.specs.Order.{order_numbered}
+use Rattle.decimal.specs.Number.{IsDecimal, Number}
 use Rattle.decimal.specs.Reading.{reading}
+use Rattle.decimal.specs.Spelling.{Writes}
+use Rattle.catalogue.specs.Indicator.{mux_of_indicator}
 use Rattle.catalogue.specs.Inside.{inside_of}
 use Rattle.catalogue.specs.Keyword.{keyword_of, keyword_text}
 use Rattle.catalogue.specs.Limits.{length_limit, size_limit, start_limit}
@@ -68,7 +72,7 @@ cited_name t = only (is_a Name t) t.text
 abbrev pub made_name : Token → Option (List ℕ)
 made_name t = only (is_a Name t && is_name t.text) t.text
 
--- a node, or none for the name that stands for no node
+-- a node, or none for the name that means no node
 abbrev pub node_of : Token → Option (Option (List ℕ))
 node_of t = if is_a Name t && bytes_eq t.text no_node then Some None else option_map Some (made_name t)
 
@@ -84,16 +88,19 @@ whole_where test t = option_and_then (λ n. only (test n) n) (whole t)
 abbrev pub cited_number : Token → Option Cited
 cited_number t = only (is_a NumberKind t && is_numeral t.text) (whole_of t.text)
 
--- the number of a message: one of the two ranges that DBC files write for identifiers
-abbrev pub is_dbc_number : ℕ → Bool
-is_dbc_number n = nat_le n 2047 || (nat_le 2147483648 n && nat_le n 2684354559)
+-- the identifier that DBC files write as the number: an 11-bit one as itself, a 29-bit one with bit 31 set
+abbrev pub ident_of : ℕ → Option Ident
+ident_of n =
+    if nat_le n GREATEST_STANDARD then Some (Std n)
+    else only (nat_le EXTENDED_FLAG n && nat_le n (EXTENDED_FLAG + GREATEST_EXTENDED)) (Ext (n - EXTENDED_FLAG))
 
--- the numbers of messages are those of identifiers
+-- it is the one identifier whose DBC number this is, and where there is none no identifier has the number
 abbrev pub NumbersAreIdentifiers : Type 0
-NumbersAreIdentifiers = (n : ℕ) → Decides (is_dbc_number n) ((ident : Ident) × IsIdentifier ident × (dbc_number ident ≡ n))
+NumbersAreIdentifiers = (n : ℕ) (ident : Ident) → (ident_of n ≡ Some ident) ↔ (IsIdentifier ident × (dbc_number ident ≡ n))
 
-abbrev pub message_number : Token → Option ℕ
-message_number t = whole_where is_dbc_number t
+-- the identifier of a message
+abbrev pub message_ident : Token → Option Ident
+message_ident t = option_and_then ident_of (whole t)
 
 -- the number of the message that holds the signals of no message; no identifier has it
 abbrev pub independent_number : Token → Option ℕ
@@ -111,10 +118,7 @@ start_of t = whole_where (λ n. nat_le n start_limit) t
 abbrev pub size_of : Token → Option ℕ
 size_of t = whole_where (λ n. nat_le 1 n && nat_le n size_limit) t
 
--- the byte orders by their numbers, which may have leading zeros
-abbrev pub order_numbered : ℕ → Option Order
-order_numbered n = if n == 0 then Some Motorola else (if n == 1 then Some Intel else None)
-
+-- a byte order by its number, which may have leading zeros
 abbrev pub order_of : Token → Option Order
 order_of t = option_and_then order_numbered (whole t)
 
@@ -125,19 +129,18 @@ type_of t = option_and_then value_type_of (whole t)
 abbrev pub sign_of : Token → Option Bool
 sign_of t = if is_mark (codes "+") t then Some false else only (is_mark (codes "-") t) true
 
--- `m` and digits
-abbrev pub under_of : List ℕ → Option Mux
-under_of [] = None
-under_of (b ∷ digits) = if b == 109 then option_map Under (whole_of digits) else None
-
--- the multiplexer indicator of a signal: `M`, or `m` and digits up to 4294967295, with leading zeros or without; in
--- the profile there is none for multiplexing in several steps, `m`, digits and `M`
+-- the multiplexer indicator of a signal
 abbrev pub mux_of : Token → Option Mux
-mux_of t = if is_a Name t then (if bytes_eq t.text (codes "M") then Some Multiplexor else under_of t.text) else None
+mux_of t = if is_a Name t then mux_of_indicator t.text else None
 
 -- a number token, negated or not, that has a decimal's value: the decimal, so that `1.0` and `1` say the same
 abbrev pub number_of : Bool → Token → Option Number
 number_of negative t = if is_a NumberKind t then result_ok (reading negative t.text) else None
+
+-- They are the decimals that number tokens write, by the equation of values.
+abbrev pub NumbersAreDecimals : Type 0
+NumbersAreDecimals = (negative : Bool) (t : Token) (n : Number)
+    → (number_of negative t ≡ Some n) ↔ ((is_a NumberKind t ≡ true) × Writes negative t.text n × IsDecimal n)
 
 -- Rules.
 
@@ -171,7 +174,7 @@ entry = do
   text ← token text_of
   done (record { value = value; text = text })
 
--- whether a further name of a list stands there, with at most one comma before it
+-- whether one more name of a list follows, with at most one comma before it
 abbrev pub goes_on : List Token → Bool
 goes_on [] = false
 goes_on (t ∷ ts) = is_some (node_of t) || (is_mark (codes ",") t && begins node_of ts)
@@ -183,13 +186,13 @@ further = do
   node ← token node_of
   done node
 
--- the empty list: no name stands there
+-- the empty list: no name follows
 unfoldable pub no_names : Rule (List (List ℕ))
 no_names = do
   end ← followed (λ ts. not (begins node_of ts))
   done []
 
--- names with at most one comma between two, and no further one behind them
+-- names with at most one comma between two, and no more of them after the last
 unfoldable pub some_names : Rule (List (List ℕ))
 some_names = do
   node ← token node_of
@@ -197,7 +200,7 @@ some_names = do
   end ← followed (λ ts. not (goes_on ts))
   done (filter_map (λ name. name) (node ∷ others))
 
--- A list of nodes, without those that stand for none. It ends before the next keyword, or where something else stands.
+-- A list of nodes, without those that mean none. It ends before the next keyword, or where anything else follows.
 unfoldable pub nodes : Rule (List (List ℕ))
 nodes = either some_names no_names
 

@@ -1,12 +1,12 @@
--- The statements of a DBC file. A statement is a keyword and what stands behind it; each line below is what stands
--- behind one keyword. The lines are those of Vector's DBC File Format Documentation. This project's profile of them is
+-- The statements of a DBC file. A statement is a keyword and what follows it; each line below is what follows
+-- one keyword. The lines are those of Vector's DBC File Format Documentation. This project's profile of them is
 -- said at each: what it lets through beyond them, the ranges of numbers, and which statements it passes over.
 use Rattle.std.specs.Prelude.{ℕ, Bool, true, ◌&&◌, ◌||◌, not, nat_le, List, [], ◌∷◌, Option, is_some, option_map, codes}
 use Rattle.std.specs.Str.{bytes_eq}
 use Rattle.catalogue.specs.Fields.{is_a, is_mark, is_key, key_of, text_of, cited_name, made_name, node_of, whole_where, cited_number}
-use Rattle.catalogue.specs.Fields.{message_number, independent_number, length_of, type_of, key, mark, entry, nodes, signal}
+use Rattle.catalogue.specs.Fields.{message_ident, independent_number, length_of, type_of, key, mark, entry, nodes, signal}
 use Rattle.catalogue.specs.Inside.{inside_of}
-use Rattle.catalogue.specs.Keyword.{keyword_group}
+use Rattle.catalogue.specs.Keyword.{KeywordGroup, Kept, Passed, Refused, keyword_group}
 use Rattle.catalogue.specs.Limits.{spn_limit}
 use Rattle.catalogue.specs.Rules.{Rule, token, one, ◌>>=◌, done, followed, optional, many, either, unless, nothing}
 use Rattle.catalogue.specs.Statement.{Statement, Content, VersionIs, NodesAre, TableIs, MessageIs, CommentIs, NodeCommentIs}
@@ -15,8 +15,6 @@ use Rattle.catalogue.specs.Token.{Token}
 use Rattle.catalogue.specs.declared.keyword.Keyword.{Keyword}
 use Rattle.catalogue.specs.declared.keyword.Keyword.TheVariants.{Version, NewSymbols, BitTiming, Nodes, ValueTable, Message, Signal}
 use Rattle.catalogue.specs.declared.keyword.Keyword.TheVariants.{Comment, ValueTexts, SignalValueType, AttributeValue, EnvironmentVariable}
-use Rattle.catalogue.specs.declared.keyword.KeywordGroup.{KeywordGroup}
-use Rattle.catalogue.specs.declared.keyword.KeywordGroup.TheVariants.{Kept, Passed, Refused}
 use Rattle.catalogue.specs.declared.token.TokenKind.TheVariants.{Name, Number, Text}
 
 -- What may follow a statement.
@@ -42,7 +40,7 @@ version_line = do
   version ← token text_of
   done (VersionIs version)
 
--- a name of the list behind `NS_`: any but `BS_` and `BU_`, of any length
+-- a name of the list after `NS_`: any but `BS_` and `BU_`, of any length
 abbrev pub is_symbol : Token → Bool
 is_symbol t = is_a Name t && not (is_key BitTiming t || is_key Nodes t)
 
@@ -74,14 +72,14 @@ timing = do
   others ← optional registers
   done tt
 
--- `BS_ : [number [: number , number]]`: in the profile one number may stand alone; nothing is kept
+-- `BS_ : [number [: number , number]]`: in the profile one number may come alone; nothing is kept
 unfoldable pub timing_line : Rule Content
 timing_line = do
   colon ← mark (codes ":")
   numbers ← optional timing
   done Dropped
 
--- `BU_ : nodes`: in the profile a comma may stand between two
+-- `BU_ : nodes`: in the profile a comma may be between two
 unfoldable pub nodes_line : Rule Content
 nodes_line = do
   colon ← mark (codes ":")
@@ -99,13 +97,13 @@ table_line = do
 -- `BO_ number name : length transmitter {signal}`
 unfoldable pub message_line : Rule Content
 message_line = do
-  number ← token message_number
+  ident ← token message_ident
   name ← token made_name
   colon ← mark (codes ":")
   length ← token length_of
   transmitter ← token node_of
   signals ← many signal
-  done (MessageIs (record { number = number; name = name; length = length; transmitter = transmitter; signals = signals }))
+  done (MessageIs (record { ident = ident; name = name; length = length; transmitter = transmitter; signals = signals }))
 
 -- `CM_ text ;`
 unfoldable pub file_comment : Rule Content
@@ -188,7 +186,7 @@ skipped = do
   end ← mark (codes ";")
   done PassedOver
 
--- what stands behind a keyword that is passed over
+-- what follows a keyword that is passed over
 unfoldable pub passed_line : Rule Content
 passed_line = skipped
 
@@ -210,7 +208,7 @@ passed_value_texts = do
 unfoldable pub passed_attribute : Rule Content
 passed_attribute = unless spn_line skipped
 
--- `BO_ 3221225472`, the signals of no message, up to the next keyword other than `SG_`, whatever stands there
+-- `BO_ 3221225472`, the signals of no message, up to the next keyword other than `SG_`, whatever it is
 unfoldable pub independent_line : Rule Content
 independent_line = do
   number ← token independent_number
@@ -223,13 +221,13 @@ independent_line = do
 unfoldable pub comment_line : Rule Content
 comment_line = either file_comment (either node_comment (either message_comment (either signal_comment passed_comment)))
 
--- behind the other keywords, of which none is kept
+-- after the other keywords, of which none is kept
 abbrev pub other_line : KeywordGroup → Rule Content
 other_line Passed = passed_line
 other_line Refused = nothing
 other_line Kept = nothing
 
--- what stands behind each keyword; `SG_` begins no statement
+-- what follows each keyword; `SG_` begins no statement
 unfoldable pub line : Keyword → Rule Content
 line Version = version_line
 line NewSymbols = symbols_line
@@ -244,7 +242,7 @@ line SignalValueType = value_type_line
 line AttributeValue = either spn_line passed_attribute
 line k = other_line (keyword_group k)
 
--- a keyword, and where it stands
+-- a keyword, and its offset
 abbrev pub first_word : Token → Option (ℕ × Keyword)
 first_word t = option_map (λ k. (t.start, k)) (key_of t)
 

@@ -12,7 +12,7 @@ placed Less x y ys zs = x ∷ y ∷ ys
 placed Equal x y ys zs = x ∷ ys
 placed Greater x y ys zs = y ∷ zs
 
--- the list with x at its place, and in place of what has its key
+-- the list with x where its key belongs, in place of an item that has its key
 abbrev pub put : {A : Type 0} → (A → A → Ordering) → A → List A → List A
 put order x [] = x ∷ []
 put order x (y ∷ ys) = placed (order x y) x y ys (put order x ys)

@@ -2,8 +2,6 @@
 -- and what becomes of a statement that begins with one: a choice of this project.
 use Rattle.std.specs.Prelude.{ℕ, ◌-◌, ◌==◌, Bool, ◌||◌, List, [], ◌∷◌, length, slice_get, Option, unwrap_or, find, is_some, codes}
 use Rattle.std.specs.Str.{bytes_eq}
-use Rattle.catalogue.specs.declared.keyword.KeywordGroup.{KeywordGroup}
-use Rattle.catalogue.specs.declared.keyword.KeywordGroup.TheVariants.{Kept, Passed, Refused}
 use Rattle.catalogue.specs.declared.keyword.Keyword.{Keyword}
 use Rattle.catalogue.specs.declared.keyword.Keyword.TheVariants.{
   Version,
@@ -108,7 +106,17 @@ is_ending b = (b == 95) || (b == 78) || (b == 82)
 abbrev pub ends_keyword : List ℕ → Bool
 ends_keyword word = is_ending (unwrap_or (slice_get word (length word - 1)) 0)
 
--- statements that are read, those that are passed over, and the one that is refused
+-- what becomes of a statement that begins with a keyword
+pub data KeywordGroup : Type 0 where
+  -- It is read. Most of what it says is kept; `NS_` and `BS_` say nothing that is, and a few forms are skipped and
+  -- reported.
+  Kept : KeywordGroup
+  -- It is skipped and reported.
+  Passed : KeywordGroup
+  -- A file that has it is refused, since without it other signals would be present at once.
+  Refused : KeywordGroup
+
+-- statements that are read, those that are skipped, and the one that is refused
 abbrev pub keyword_group : Keyword → KeywordGroup
 keyword_group Version = Kept
 keyword_group NewSymbols = Kept

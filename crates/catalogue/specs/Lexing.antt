@@ -10,13 +10,14 @@ use Rattle.catalogue.specs.declared.token.TokenKind.{TokenKind}
 use Rattle.catalogue.specs.declared.token.TokenKind.TheVariants.{Name, Number, Text, Mark}
 use Rattle.catalogue.specs.Name.{starts_identifier, continues_identifier}
 use Rattle.catalogue.specs.Spelling.{is_gap, is_quote, is_mark}
+use Rattle.catalogue.specs.Text.{backslash}
 use Rattle.catalogue.specs.Token.{Token}
 
--- why reading ends before the end of the bytes, and the place
+-- why reading ends before the end of the bytes, and the offset
 pub data LexFault : Type 0 where
-  -- no quote ends the text whose opening quote stands there
+  -- no quote ends the text whose opening quote is there
   UnclosedText : ℕ → LexFault
-  -- no token begins with the byte that stands there
+  -- no token begins with the byte there
   StrayByte : ℕ → LexFault
 
 -- what is read: the tokens, and why there are no more, None where the bytes end
@@ -24,12 +25,12 @@ pub record Lexed : Type 0 where
   pub tokens : List Token
   pub fault : Option LexFault
 
--- the length with one byte in front, 0 where there is nothing behind that byte
+-- the length with one byte in front, 0 where nothing follows that byte
 abbrev pub with_front : ℕ → ℕ
 with_front zero = 0
 with_front (suc n) = suc (suc n)
 
--- how many bytes the digits behind `E` or `e` take with their sign, 0 where there are no digits
+-- how many bytes the digits after `E` or `e` take with their sign, 0 where there are no digits
 unfoldable pub power_len : List ℕ → ℕ
 power_len [] = 0
 power_len (b ∷ bytes) = if is_sign b then with_front (prefix_len is_ascii_digit bytes) else prefix_len is_ascii_digit (b ∷ bytes)
@@ -47,12 +48,12 @@ tail_len bytes = fraction_len bytes + exponent_len (drop (fraction_len bytes) by
 unfoldable pub number_len : List ℕ → ℕ
 number_len bytes = prefix_len is_ascii_digit bytes + tail_len (drop (prefix_len is_ascii_digit bytes) bytes)
 
--- How many bytes stand before the quote that ends a text, None where none does; `taken` says that a backslash stands
+-- How many bytes come before the quote that ends a text, None where none does; `escaped` says that a backslash comes
 -- before the first.
 unfoldable pub inside_len : Bool → List ℕ → Option ℕ
-inside_len taken [] = None
+inside_len escaped [] = None
 inside_len true (b ∷ bytes) = option_map suc (inside_len false bytes)
-inside_len false (b ∷ bytes) = if is_quote b then Some 0 else option_map suc (inside_len (b == 92) bytes)
+inside_len false (b ∷ bytes) = if is_quote b then Some 0 else option_map suc (inside_len (b == backslash) bytes)
 
 -- the kind of the tokens that begin with the byte
 abbrev pub kind_of : ℕ → Option TokenKind
@@ -70,39 +71,39 @@ word_len Number bytes = Some (number_len bytes)
 word_len Text bytes = option_map (λ n. n + 2) (inside_len false (drop 1 bytes))
 word_len Mark bytes = Some 1
 
--- the token of so many bytes, at the place
+-- the token of this many bytes, at the offset
 abbrev pub token_of : ℕ → List ℕ → TokenKind → ℕ → Token
-token_of place bytes kind n = record { kind = kind; start = place; end = place + n; text = take n bytes }
+token_of offset bytes kind n = record { kind = kind; start = offset; end = offset + n; text = take n bytes }
 
 abbrev pub token_or_fault : ℕ → List ℕ → TokenKind → Option ℕ → Result (Option Token) LexFault
-token_or_fault place bytes kind None = Err (UnclosedText place)
-token_or_fault place bytes kind (Some n) = Ok (Some (token_of place bytes kind n))
+token_or_fault offset bytes kind None = Err (UnclosedText offset)
+token_or_fault offset bytes kind (Some n) = Ok (Some (token_of offset bytes kind n))
 
 abbrev pub of_kind : ℕ → List ℕ → Option TokenKind → Result (Option Token) LexFault
-of_kind place bytes None = Err (StrayByte place)
-of_kind place bytes (Some kind) = token_or_fault place bytes kind (word_len kind bytes)
+of_kind offset bytes None = Err (StrayByte offset)
+of_kind offset bytes (Some kind) = token_or_fault offset bytes kind (word_len kind bytes)
 
 -- the token that begins where a gap ends; None at the end of the bytes
 unfoldable pub token_at : ℕ → List ℕ → Result (Option Token) LexFault
-token_at place [] = Ok None
-token_at place (b ∷ bytes) = of_kind place (b ∷ bytes) (kind_of b)
+token_at offset [] = Ok None
+token_at offset (b ∷ bytes) = of_kind offset (b ∷ bytes) (kind_of b)
 
 -- the first token of the bytes
 unfoldable pub first_token : ℕ → List ℕ → Result (Option Token) LexFault
-first_token place bytes = token_at (place + prefix_len is_gap bytes) (drop (prefix_len is_gap bytes) bytes)
+first_token offset bytes = token_at (offset + prefix_len is_gap bytes) (drop (prefix_len is_gap bytes) bytes)
 
--- what is read of the bytes, from their first token and from what is read behind it
+-- what is read of the bytes, from their first token and from what is read after it
 abbrev pub with_first : Result (Option Token) LexFault → (Token → Lexed) → Lexed
 with_first (Err fault) behind = record { tokens = []; fault = Some fault }
 with_first (Ok None) behind = record { tokens = []; fault = None }
 with_first (Ok (Some token)) behind = record { tokens = token ∷ (behind token).tokens; fault = (behind token).fault }
 
--- what is read in so many steps at most
+-- what is read in at most this many steps
 unfoldable pub lexed_in : ℕ → ℕ → List ℕ → Lexed
-lexed_in zero place bytes = record { tokens = []; fault = None }
-lexed_in (suc steps) place bytes = with_first (first_token place bytes) (λ token. lexed_in steps token.end (drop (token.end - place) bytes))
+lexed_in zero offset bytes = record { tokens = []; fault = None }
+lexed_in (suc steps) offset bytes = with_first (first_token offset bytes) (λ token. lexed_in steps token.end (drop (token.end - offset) bytes))
 
--- What is read of bytes that stand at the place. Each token takes a byte, so one step more than there are bytes is
+-- What is read of bytes at the offset. Each token takes a byte, so one step more than there are bytes is
 -- always enough.
 unfoldable pub lexed : ℕ → List ℕ → Lexed
-lexed place bytes = lexed_in (length bytes + 1) place bytes
+lexed offset bytes = lexed_in (length bytes + 1) offset bytes

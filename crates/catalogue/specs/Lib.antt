@@ -1,9 +1,11 @@
+pub mod Ascending
 pub mod Canon
 pub mod Division
 pub mod Fault
 pub mod Fields
 pub mod Form
 pub mod Grammar
+pub mod Indicator
 pub mod Inside
 pub mod Keyed
 pub mod Keyword
@@ -13,7 +15,6 @@ pub mod Messages
 pub mod Name
 pub mod Named
 pub mod Parsing
-pub mod Place
 pub mod Reads
 pub mod Refusing
 pub mod Rules
@@ -22,6 +23,7 @@ pub mod Sheet
 pub mod Signal
 pub mod Signals
 pub mod Spelling
+pub mod Split
 pub mod Statement
 pub mod Text
 pub mod Token

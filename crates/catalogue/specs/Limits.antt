@@ -1,30 +1,36 @@
--- The limits of this project's profile of DBC files.
+-- The limits of this project's profile of DBC files. The numbers themselves are constants of the code.
 use Rattle.std.specs.Prelude.{ℕ}
+use Rattle.bitlayout.specs.declared.layout.TheConstants.{GREATEST_START, SIZE_LIMIT}
+use Rattle.catalogue.specs.declared.limits.TheConstants.{MESSAGE_LIMIT, ROSTER_LIMIT, VALUE_TEXT_LIMIT, NAME_LIMIT, LENGTH_LIMIT, SPN_LIMIT}
 
 -- the greatest number of messages of a sheet
 abbrev pub message_limit : ℕ
-message_limit = 16384
+message_limit = MESSAGE_LIMIT
 
 -- the greatest number of nodes or value tables of a sheet, and of signals of a message
 abbrev pub roster_limit : ℕ
-roster_limit = 4096
+roster_limit = ROSTER_LIMIT
 
 -- the greatest number of texts in one list of them
 abbrev pub value_text_limit : ℕ
-value_text_limit = 65536
+value_text_limit = VALUE_TEXT_LIMIT
+
+-- the greatest length of a name, in bytes
+abbrev pub name_limit : ℕ
+name_limit = NAME_LIMIT
 
 -- the greatest length of a message, in bytes
 abbrev pub length_limit : ℕ
-length_limit = 64
+length_limit = LENGTH_LIMIT
 
 -- the greatest start of a signal, a bit position
 abbrev pub start_limit : ℕ
-start_limit = 65535
+start_limit = GREATEST_START
 
 -- the greatest size of a signal, in bits
 abbrev pub size_limit : ℕ
-size_limit = 64
+size_limit = SIZE_LIMIT
 
 -- the greatest suspect parameter number (SAE J1939)
 abbrev pub spn_limit : ℕ
-spn_limit = 524287
+spn_limit = SPN_LIMIT

@@ -1,5 +1,5 @@
 -- The messages of a sheet (Vector's DBC File Format Documentation, messages): a finite map from DBC number to
--- message, kept as the list of the messages by rising number.
+-- message, kept as the list of the messages in ascending order of their numbers.
 use Rattle.std.specs.Prelude.{◌≡◌, ◌≤◌, ◌==◌, ℕ, Bool, not, nat_le, List, [], ◌∷◌, length, filter, find, Option}
 use Rattle.std.specs.List.{list_any}
 use Rattle.std.specs.List.Sorted.{IsStrictlySortedBy}
@@ -38,11 +38,11 @@ has_number messages n = list_any (λ m. number_of m == n) messages
 abbrev pub without_number : List Message → ℕ → List Message
 without_number messages n = filter (λ m. not (number_of m == n)) messages
 
--- the signals of the message can stand together in its payload
+-- the signals of the message fit together in its payload
 abbrev pub IsClearMessage : Message → Type 0
 IsClearMessage m = IsClear (places_of m.signals) m.length
 
--- The messages of one sheet: each number once, in rising order, each name once, and they are few.
+-- The messages of one sheet: each number once, in ascending order, each name once, and they are few.
 pub record AreMessages (messages : List Message) : Type 0 where
   pub rise : IsStrictlySortedBy by_number messages
   pub apart : AreNamedApart message_name messages

@@ -1,9 +1,10 @@
 -- Names of messages, signals, nodes and value tables: C identifiers (Vector's DBC File Format Documentation),
--- here of at most 128 bytes, that are no keyword and not the name that stands for no node.
+-- here of at most `name_limit` bytes, that are no keyword and not the name that means no node.
 use Rattle.std.specs.Prelude.{ℕ, ◌==◌, nat_le, Bool, false, not, ◌&&◌, ◌||◌, List, [], ◌∷◌, length, codes, IsTrue}
 use Rattle.std.specs.List.{list_all}
 use Rattle.std.specs.Str.{bytes_eq}
 use Rattle.catalogue.specs.Keyword.{is_keyword}
+use Rattle.catalogue.specs.Limits.{name_limit}
 
 -- the letters A to Z and a to z, and `_`
 abbrev pub starts_identifier : ℕ → Bool
@@ -22,7 +23,7 @@ abbrev pub no_node : List ℕ
 no_node = codes "Vector__XXX"
 
 unfoldable pub is_name : List ℕ → Bool
-is_name bytes = is_c_identifier bytes && nat_le (length bytes) 128 && not (is_keyword bytes) && not (bytes_eq bytes no_node)
+is_name bytes = is_c_identifier bytes && nat_le (length bytes) name_limit && not (is_keyword bytes) && not (bytes_eq bytes no_node)
 
 abbrev pub IsName : List ℕ → Type 0
 IsName bytes = IsTrue (is_name bytes)

@@ -1,15 +1,15 @@
 -- Statements computed: each rule of the fields and the statements as a function from tokens to what they begin with
--- and the tokens behind it. For whoever reads by functions: that they find the
--- division of a file, where it has one, is a law.
+-- and the tokens after it. For whoever reads by functions: that they find the division of a file, where it has one, is
+-- a law.
 use Rattle.std.specs.Prelude.{ℕ, zero, suc, Bool, true, false, not, List, [], ◌∷◌, ◌++◌, length, filter_map, Option, Some, None, option_and_then}
 use Rattle.std.specs.Prelude.{unwrap_or, if◌then◌else◌, codes}
 use Rattle.bitlayout.specs.declared.layout.Layout.{Layout}
 use Rattle.bitlayout.specs.declared.place.Mux.TheVariants.{Always}
 use Rattle.decimal.specs.Number.{Number}
-use Rattle.catalogue.specs.Fields.{is_a, is_mark, is_key, text_of, cited_name, made_name, node_of, cited_number, message_number}
+use Rattle.catalogue.specs.Fields.{is_a, is_mark, is_key, text_of, cited_name, made_name, node_of, cited_number, message_ident}
 use Rattle.catalogue.specs.Fields.{independent_number, length_of, start_of, size_of, order_of, type_of, sign_of, mux_of, number_of, goes_on}
 use Rattle.catalogue.specs.Grammar.{begins_next, next, is_open, is_symbol, ends_symbols, is_spn_name, spn_of, first_word}
-use Rattle.catalogue.specs.Keyword.{keyword_group}
+use Rattle.catalogue.specs.Keyword.{KeywordGroup, Kept, Passed, Refused, keyword_group}
 use Rattle.catalogue.specs.Rules.{only, starts, begins}
 use Rattle.catalogue.specs.Statement.{SignalLine, Statement, Content, VersionIs, NodesAre, TableIs, MessageIs, CommentIs, NodeCommentIs}
 use Rattle.catalogue.specs.Statement.{MessageCommentIs, SignalCommentIs, ValueTextsAre, ValueTypeIs, SpnIs, Dropped, PassedOver}
@@ -17,12 +17,10 @@ use Rattle.catalogue.specs.Token.{Token}
 use Rattle.catalogue.specs.declared.keyword.Keyword.{Keyword}
 use Rattle.catalogue.specs.declared.keyword.Keyword.TheVariants.{Version, NewSymbols, BitTiming, Nodes, ValueTable, Message, Signal}
 use Rattle.catalogue.specs.declared.keyword.Keyword.TheVariants.{Comment, ValueTexts, SignalValueType, AttributeValue, EnvironmentVariable}
-use Rattle.catalogue.specs.declared.keyword.KeywordGroup.{KeywordGroup}
-use Rattle.catalogue.specs.declared.keyword.KeywordGroup.TheVariants.{Kept, Passed, Refused}
 use Rattle.catalogue.specs.declared.token.TokenKind.TheVariants.{Number as NumberKind}
 use Rattle.catalogue.specs.declared.value_texts.ValueText.{ValueText}
 
--- what the tokens begin with, and those behind it; or that they don't begin so
+-- what the tokens begin with, and those after it; or that they don't begin so
 abbrev pub Parsed : Type 0 → Type 0
 Parsed A = Option (A × List Token)
 
@@ -47,7 +45,7 @@ mark_at spelling ts = one_at (is_mark spelling) ts
 abbrev pub followed_at : (List Token → Bool) → List Token → Parsed (Unit {0})
 followed_at test ts = only (test ts) (tt, ts)
 
--- at most once, where the test says that one stands there
+-- at most once, where the test says that one follows
 abbrev pub optional_at : {A : Type 0} → (List Token → Bool) → (List Token → Parsed A) → List Token → Parsed (Option A)
 optional_at test parse ts = if test ts then option_and_then (λ a. Some (Some a.0, a.1)) (parse ts) else Some (None, ts)
 
@@ -57,7 +55,7 @@ many_by test parse zero ts = Some ([], ts)
 many_by test parse (suc n) ts =
     if test ts then (parse ts >>= λ a. many_by test parse n a.1 >>= λ b. Some (a.0 ∷ b.0, b.1)) else Some ([], ts)
 
--- as long as the test says that another one stands there
+-- as long as the test says that another one follows
 abbrev pub many_at : {A : Type 0} → (List Token → Bool) → (List Token → Parsed A) → List Token → Parsed (List A)
 many_at test parse ts = many_by test parse (length ts) ts
 
@@ -210,15 +208,15 @@ signals_at ts = many_at (starts (is_key Signal)) signal_at ts
 
 unfoldable pub message_at : List Token → Parsed Content
 message_at ts = do
-  number ← token_at message_number ts
-  name ← token_at made_name number.1
+  ident ← token_at message_ident ts
+  name ← token_at made_name ident.1
   colon ← mark_at (codes ":") name.1
   length ← token_at length_of colon.1
   transmitter ← token_at node_of length.1
   signals ← signals_at transmitter.1
   Some (
     MessageIs (record {
-      number = number.0;
+      ident = ident.0;
       name = name.0;
       length = length.0;
       transmitter = transmitter.0;
@@ -337,7 +335,7 @@ line_at NewSymbols ts = symbols_at ts
 line_at BitTiming ts = timing_line_at ts
 line_at Nodes ts = nodes_line_at ts
 line_at ValueTable ts = table_at ts
-line_at Message ts = either_at (begins message_number) message_at independent_at ts
+line_at Message ts = either_at (begins message_ident) message_at independent_at ts
 line_at Signal ts = None
 line_at Comment ts = comment_at ts
 line_at ValueTexts ts = either_at (begins cited_number) value_texts_at passed_value_texts_at ts

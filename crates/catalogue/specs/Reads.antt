@@ -9,7 +9,7 @@ use Rattle.catalogue.specs.declared.keyword.Keyword.{Keyword}
 use Rattle.catalogue.specs.declared.sheet.Sheet.{Sheet}
 
 -- The bytes have tokens, these divide into statements, and the statements say the sheet and pass over those that begin
--- at these places with these keywords.
+-- at these offsets with these keywords.
 pub record ReadsAs (bytes : List ℕ) (s : Sheet) (passed : List (ℕ × Keyword)) : Type 0 where
   pub tokens : List Token
   pub statements : List Statement

@@ -1,5 +1,4 @@
--- Rules: what a list of tokens begins with, and what follows it. A rule says what stands there and not how it is
--- found, so it may have more than one reading; that statements have one is a law.
+-- Rules: what a list of tokens begins with, and what follows it. A rule says what is there and not how it is found, so it may have more than one reading; that statements have one is a law.
 use Rattle.std.specs.Prelude.{◌≡◌, ◌⊎◌, Bool, true, false, List, [], ◌∷◌, Option, Some, None, is_some, if◌then◌else◌}
 use Rattle.catalogue.specs.Token.{Token}
 
@@ -77,7 +76,7 @@ unless rule other = λ ts x rest. Unless rule other ts x rest
 abbrev pub nothing : {A : Type 0} → Rule A
 nothing = λ ts x rest. ⊥
 
--- Tests of what stands first.
+-- Tests of what comes first.
 
 -- whether the first token passes
 abbrev pub starts : (Token → Bool) → List Token → Bool

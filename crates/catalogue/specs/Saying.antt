@@ -1,14 +1,12 @@
 -- What the statements of a DBC file say together (Vector's DBC File Format Documentation, in this project's profile):
--- a sheet, and which of them are passed over. They stand in any order, so a comment may come before its message. Of
+-- a sheet, and which of them are passed over. They are in any order, so a comment may come before its message. Of
 -- several that speak of one thing the last one counts, and where none does the value is the empty one: no bytes, no
 -- texts, the number 0, or the type of whole numbers.
 use Rattle.std.specs.Prelude.{
   ◌≡◌,
   ℕ,
-  ◌-◌,
   ◌==◌,
   nat_eq,
-  nat_lt,
   Bool,
   true,
   false,
@@ -29,8 +27,7 @@ use Rattle.std.specs.Prelude.{
 use Rattle.std.specs.List.{filter_map, flat_map, last_or, list_any}
 use Rattle.std.specs.Option.{option_map}
 use Rattle.std.specs.Str.{bytes_eq}
-use Rattle.can_id.specs.declared.ident.Ident.{Ident}
-use Rattle.can_id.specs.declared.ident.Ident.TheVariants.{Std, Ext}
+use Rattle.can_id.specs.Ident.{dbc_number}
 use Rattle.catalogue.specs.Form.{IsSheet}
 use Rattle.catalogue.specs.Statement.{
   Cited,
@@ -145,11 +142,11 @@ abbrev pub messages_of : List Statement → List MessageLine
 messages_of statements = each_in message_in statements
 
 abbrev pub numbers_of : List Statement → List ℕ
-numbers_of statements = map (λ (m : MessageLine). m.number) (messages_of statements)
+numbers_of statements = map (λ (m : MessageLine). dbc_number m.ident) (messages_of statements)
 
 -- the keys of one message's signals, and of all signals
 abbrev pub keys_of : MessageLine → List SignalKey
-keys_of m = map (λ (s : SignalLine). (m.number, s.name)) m.signals
+keys_of m = map (λ (s : SignalLine). (dbc_number m.ident, s.name)) m.signals
 
 abbrev pub signal_keys_of : List Statement → List SignalKey
 signal_keys_of statements = flat_map keys_of (messages_of statements)
@@ -179,19 +176,14 @@ whole_signal statements number line =
       value_type = last_said same_signal key Integer value_type_in statements;
     }
 
--- The identifier for which a message statement writes the number: below 2048 an 11-bit one, else a 29-bit one with bit
--- 31 above it. No such statement has another number.
-abbrev pub ident_of_number : ℕ → Ident
-ident_of_number number = if nat_lt number 2048 then Std number else Ext (number - 2147483648)
-
 abbrev pub whole_message : List Statement → MessageLine → Message
 whole_message statements line = record {
-  ident = ident_of_number line.number;
+  ident = line.ident;
   name = line.name;
   length = line.length;
   transmitter = line.transmitter;
-  comment = last_said nat_eq line.number [] message_comment_in statements;
-  signals = map (whole_signal statements line.number) line.signals;
+  comment = last_said nat_eq (dbc_number line.ident) [] message_comment_in statements;
+  signals = map (whole_signal statements (dbc_number line.ident)) line.signals;
 }
 
 -- Whether what a statement cites is in the file.
@@ -223,7 +215,7 @@ abbrev pub passed_by : List Statement → List (ℕ × Keyword)
 passed_by statements = map (λ (s : Statement). (s.start, s.keyword)) (filter (λ (s : Statement). is_passed statements s.content) statements)
 
 -- The statements say the sheet: it is one, well formed and each part in its form, its version and comment are the last ones, its nodes and tables are
--- theirs in their order, and its messages are theirs, each once, whichever order they stand in.
+-- theirs in their order, and its messages are theirs, each once, in whichever order.
 pub record Says (statements : List Statement) (s : Sheet) : Type 0 where
   pub is_sheet : IsSheet s
   pub version : s.version ≡ last_in [] version_in statements

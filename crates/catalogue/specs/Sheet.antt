@@ -5,6 +5,7 @@ use Rattle.bitlayout.specs.declared.clash.Clash.{Clash}
 use Rattle.catalogue.specs.Fault.{clash_code}
 use Rattle.catalogue.specs.Messages.{IsClearMessage, number_of}
 use Rattle.catalogue.specs.Signals.{places_of}
+use Rattle.catalogue.specs.declared.fault.About.TheVariants as about
 use Rattle.catalogue.specs.declared.fault.SheetFault.{SheetFault}
 use Rattle.catalogue.specs.declared.message.Message.{Message}
 use Rattle.catalogue.specs.declared.node.Node.{Node}
@@ -21,11 +22,11 @@ table_name table = table.name
 abbrev pub empty_sheet : Sheet
 empty_sheet = record { version = []; comment = []; nodes = []; tables = []; messages = [] }
 
--- the signals of each message can stand together in its payload
+-- the signals of each message fit together in its payload
 abbrev pub IsClearSheet : Sheet → Type 0
 IsClearSheet s = All IsClearMessage s.messages
 
--- the fault of the first message that isn't clear: its number, and the code of its first clash
+-- the fault of the first message that isn't clear: its first clash, the code of that, and the message's number
 pub record IsFirstFault (s : Sheet) (fault : SheetFault) : Type 0 where
   pub index : ℕ
   pub message : Message
@@ -35,4 +36,4 @@ pub record IsFirstFault (s : Sheet) (fault : SheetFault) : Type 0 where
   pub clash : Clash
   pub first : IsFirstClash (places_of message.signals) message.length clash
   pub code : fault.code ≡ clash_code clash
-  pub number : fault.number ≡ number_of message
+  pub about : fault.about ≡ about.Signals (number_of message) clash

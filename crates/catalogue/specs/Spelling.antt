@@ -1,11 +1,12 @@
 -- How the tokens of DBC text are spelled. Names, unsigned numbers, character strings and punctuation are those of
 -- Vector's DBC File Format Documentation. This project's profile settles what that leaves open: which bytes are gaps,
--- that a name may have any length, how a number may be written, and that in a text any byte may stand and a backslash
--- takes the next byte with it.
-use Rattle.std.specs.Prelude.{◌≡◌, ℕ, ◌==◌, nat_le, Bool, ◌&&◌, ◌||◌, List, [], ◌∷◌, ◌++◌, IsTrue}
+-- that a name may have any length, how a number may be written, and that in a text any byte may occur and a backslash
+-- escapes the next byte.
+use Rattle.std.specs.Prelude.{◌≡◌, ℕ, ◌==◌, nat_le, Bool, ◌&&◌, ◌||◌, List, [], ◌∷◌, ◌++◌, IsTrue, codes}
+use Rattle.std.specs.List.{list_any}
 use Rattle.decimal.specs.Spelling.{Spelling, IsNumberToken}
 use Rattle.catalogue.specs.Name.{is_c_identifier}
-use Rattle.catalogue.specs.Text.{IsText}
+use Rattle.catalogue.specs.Text.{IsText, quote_mark}
 use Rattle.catalogue.specs.declared.token.TokenKind.{TokenKind}
 use Rattle.catalogue.specs.declared.token.TokenKind.TheVariants.{Name, Number, Text, Mark}
 
@@ -13,18 +14,17 @@ use Rattle.catalogue.specs.declared.token.TokenKind.TheVariants.{Name, Number, T
 abbrev pub is_gap : ℕ → Bool
 is_gap b = (nat_le 9 b && nat_le b 13) || (b == 32)
 
--- the quote `"`, with which a text begins and ends
+-- with a quote a text begins and ends
 abbrev pub is_quote : ℕ → Bool
-is_quote b = b == 34
+is_quote b = b == quote_mark
 
--- `: ; , | @ ( ) [ ] + -`, the punctuation of Vector's statements
+-- the punctuation of Vector's statements
 abbrev pub is_mark : ℕ → Bool
-is_mark b =
-    (b == 58) || (b == 59) || (b == 44) || (b == 124) || (b == 64) || (b == 40) || (b == 41) || (b == 91) || (b == 93) || (b == 43) || (b == 45)
+is_mark b = list_any (λ mark. b == mark) (codes ":;,|@()[]+-")
 
 -- a text, with its quotes
 abbrev pub quoted : List ℕ → List ℕ
-quoted inside = 34 ∷ (inside ++ 34 ∷ [])
+quoted inside = codes "\"" ++ (inside ++ codes "\"")
 
 -- The bytes spell one token of the kind. A name is a C identifier, keywords too. A number is an unsigned integer or
 -- double: its sign is a mark of its own. A text has its quotes. A mark is one byte.

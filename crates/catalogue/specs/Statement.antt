@@ -2,6 +2,7 @@
 use Rattle.std.specs.Prelude.{ℕ, Bool, List, Option}
 use Rattle.bitlayout.specs.declared.layout.Layout.{Layout}
 use Rattle.bitlayout.specs.declared.place.Mux.{Mux}
+use Rattle.can_id.specs.declared.ident.Ident.{Ident}
 use Rattle.decimal.specs.Number.{Number}
 use Rattle.catalogue.specs.declared.keyword.Keyword.{Keyword}
 use Rattle.catalogue.specs.declared.value_texts.ValueText.{ValueText}
@@ -21,7 +22,7 @@ pub record SignalLine : Type 0 where
   pub receivers : List (List ℕ)
 
 pub record MessageLine : Type 0 where
-  pub number : ℕ
+  pub ident : Ident
   pub name : List ℕ
   pub length : ℕ
   pub transmitter : Option (List ℕ)
@@ -49,7 +50,7 @@ pub data Content : Type 0 where
   -- passed over and reported
   PassedOver : Content
 
--- where its first keyword stands, that keyword, and what it says
+-- the offset of its first keyword, that keyword, and what it says
 pub record Statement : Type 0 where
   pub start : ℕ
   pub keyword : Keyword

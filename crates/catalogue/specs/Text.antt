@@ -1,13 +1,20 @@
--- What stands between the quotes of one text (Vector's DBC File Format Documentation, character strings), in this
--- project's profile: any bytes, of which a backslash takes the next one with it, and no other is a quote.
+-- What is between the quotes of one text (Vector's DBC File Format Documentation, character strings), in this
+-- project's profile: any bytes, of which a backslash escapes the next one, and no other is a quote.
 use Rattle.std.specs.Prelude.{◌≡◌, ◌≢◌, ◌==◌, ℕ, Bool, true, false, not, List, [], ◌∷◌, if◌then◌else◌}
 use Rattle.std.specs.List.{AllByRecursion, flat_map}
 
--- a byte that stands for itself, or a backslash and the byte that it takes with it
+-- `"` and `\`
+abbrev pub quote_mark : ℕ
+quote_mark = 34
+
+abbrev pub backslash : ℕ
+backslash = 92
+
+-- a byte that means itself, or a backslash and the byte that it escapes
 abbrev pub IsPiece : List ℕ → Type 0
 IsPiece [] = ⊥
-IsPiece (b ∷ []) = (b ≢ 34) × (b ≢ 92)
-IsPiece (b ∷ c ∷ []) = b ≡ 92
+IsPiece (b ∷ []) = (b ≢ quote_mark) × (b ≢ backslash)
+IsPiece (b ∷ c ∷ []) = b ≡ backslash
 IsPiece (b ∷ c ∷ d ∷ bytes) = ⊥
 
 -- pieces, one after the other
@@ -16,11 +23,11 @@ pub record IsText (bytes : List ℕ) : Type 0 where
   pub each : AllByRecursion IsPiece pieces
   pub whole : flat_map (λ piece. piece) pieces ≡ bytes
 
--- The same computed; `taken` says that a backslash stands before.
+-- The same computed; `escaped` says that a backslash comes before.
 abbrev pub is_text_after : Bool → List ℕ → Bool
-is_text_after taken [] = not taken
+is_text_after escaped [] = not escaped
 is_text_after true (b ∷ bytes) = is_text_after false bytes
-is_text_after false (b ∷ bytes) = if b == 34 then false else is_text_after (b == 92) bytes
+is_text_after false (b ∷ bytes) = if b == quote_mark then false else is_text_after (b == backslash) bytes
 
 abbrev pub is_text : List ℕ → Bool
 is_text bytes = is_text_after false bytes

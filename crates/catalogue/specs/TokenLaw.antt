@@ -23,9 +23,9 @@ TokensAreRead = (bytes : List ℕ) (tokens : List Token) → HasTokens 0 bytes t
 abbrev pub TokensAreOne : Type 0
 TokensAreOne = (bytes : List ℕ) (ts us : List Token) → HasTokens 0 bytes ts → HasTokens 0 bytes us → ts ≡ us
 
--- The bytes, which stand at the place, are a gap and then a byte that is no gap and with which no token begins, of any
+-- The bytes, which are at the offset, are a gap and then a byte that is no gap and with which no token begins, of any
 -- kind. It is the opening quote of a text that no quote ends, or else a stray byte.
-pub record NoToken (place : ℕ) (bytes : List ℕ) (fault : LexFault) : Type 0 where
+pub record NoToken (offset : ℕ) (bytes : List ℕ) (fault : LexFault) : Type 0 where
   pub gap : List ℕ
   pub first : ℕ
   pub behind : List ℕ
@@ -33,28 +33,28 @@ pub record NoToken (place : ℕ) (bytes : List ℕ) (fault : LexFault) : Type 0 
   pub gap_is : IsGap gap
   pub no_gap : is_gap first ≡ false
   pub none : (kind : TokenKind) (word rest : List ℕ) → Spells kind word → first ∷ behind ≡ word ++ rest → ⊥
-  pub fault_is : fault ≡ (if is_quote first then UnclosedText (place + length gap) else StrayByte (place + length gap))
+  pub fault_is : fault ≡ (if is_quote first then UnclosedText (offset + length gap) else StrayByte (offset + length gap))
 
--- The bytes, which stand at the place, have first these tokens, and behind them none begins.
+-- The bytes, which are at the offset, have first these tokens, and after them none begins.
 abbrev pub StopsWith : ℕ → List ℕ → List Token → LexFault → Type 0
-StopsWith place bytes [] fault = NoToken place bytes fault
-StopsWith place bytes (token ∷ tokens) fault = (rest : List ℕ) × IsFirst place bytes token rest × StopsWith token.end rest tokens fault
+StopsWith offset bytes [] fault = NoToken offset bytes fault
+StopsWith offset bytes (token ∷ tokens) fault = (rest : List ℕ) × IsFirst offset bytes token rest × StopsWith token.end rest tokens fault
 
--- Reading ends with a fault exactly where behind the tokens that were read none begins.
+-- Reading ends with a fault exactly where after the tokens that were read none begins.
 abbrev pub FaultsAreExact : Type 0
 FaultsAreExact = (bytes : List ℕ) (tokens : List Token) (fault : LexFault) → StopsWith 0 bytes tokens fault ↔ (lexed 0 bytes ≡ stopped tokens fault)
 
--- Each token begins at the place or behind it, ends within the source, and its bytes are those that stand there; the
--- next ones begin at its end or behind it.
+-- Each token begins at the offset or after it, ends within the source, and its bytes are those between; the next ones
+-- begin at its end or after it.
 abbrev pub AreSlices : ℕ → List ℕ → List Token → Type 0
-AreSlices place source [] = ⊤
-AreSlices place source (t ∷ ts) =
-    (place ≤ t.start) × (t.start ≤ t.end) × (t.end ≤ length source) × (t.text ≡ take (t.end - t.start) (drop t.start source)) × AreSlices t.end source ts
+AreSlices offset source [] = ⊤
+AreSlices offset source (t ∷ ts) =
+    (offset ≤ t.start) × (t.start ≤ t.end) × (t.end ≤ length source) × (t.text ≡ take (t.end - t.start) (drop t.start source)) × AreSlices t.end source ts
 
 -- The tokens that are read of a source are slices of it, also where reading ends with a fault.
 abbrev pub TokensAreSlices : Type 0
 TokensAreSlices = (source : List ℕ) → AreSlices 0 source (lexed 0 source).tokens
 
--- The value of a text token is what stands inside its quotes.
+-- The value of a text token is what is inside its quotes.
 abbrev pub InsidesAreKept : Type 0
 InsidesAreKept = (inside : List ℕ) → inside_of (quoted inside) ≡ inside

@@ -29,7 +29,8 @@ pub record IsWellFormedMessage (m : Message) : Type 0 where
   pub signals : AreSignals m.signals
   pub values : AllByRecursion (λ (s : Signal). AreFewTexts s.values) m.signals
 
--- What a sheet keeps: its messages rise by number, and no two messages, nodes or value tables have one name.
+-- What a sheet keeps: its messages are in ascending order of their numbers, and no two messages, nodes or value tables
+-- have one name.
 pub record IsWellFormed (s : Sheet) : Type 0 where
   pub nodes : AreRostered node_name s.nodes
   pub tables : AreRostered table_name s.tables

@@ -1,3 +1,4 @@
+//! Copies of values that hold memory.
 ghost use Rattle.std.specs.Prelude.{◌≡◌, IfOk};
 
 use crate::items::Items;

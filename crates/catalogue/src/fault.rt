@@ -1,3 +1,4 @@
+//! Why a sheet or a message refuses something, or is not clear, and what that is about.
 ghost use Rattle.std.specs.Prelude.{◌≡◌, Some};
 
 use bitlayout::Clash;
@@ -5,31 +6,31 @@ use std::alloc::AllocError;
 use std::error::Error;
 use std::fmt;
 
-/// Why a sheet or a message can't take something, or isn't clear.
+/// Why a sheet or a message refuses something, or is not clear.
 #[derive(Clone, Copy, Debug, PartialEq, Eq, Hash)]
 pub enum SheetCode {
     /// 20: the sheet has a message of that number.
     DoubleNumber,
     /// 21: a node, a value table or a message of the sheet, or a signal of the message, has that name.
     DoubleName,
-    /// 22: a bit of a signal lies past the payload.
+    /// 22: a bit of a signal lies past the end of the payload.
     OutsidePayload,
     /// 23: two signals that are ever present at once share a bit.
     Clash,
-    /// 24: a signal hangs on a value of the multiplexor, and no signal is the multiplexor.
+    /// 24: a signal depends on a value of the multiplexor, and no signal is the multiplexor.
     NoMultiplexor,
     /// 25: the message has a multiplexor.
     TwoMultiplexors,
     /// 26: a limit of the catalogue is reached.
     TooMany,
-    /// 71: memory was refused.
+    /// 71: out of memory.
     Memory,
 }
 
 impl SheetCode {
     ghost use Rattle.catalogue.specs.Fault.{code_number, code_name};
 
-    /// The code's number, which stands for it in reports.
+    /// The code's number in reports.
     pub fn number(self) -> u8
         ensures { result ≡ code_number self }
     {
@@ -45,7 +46,7 @@ impl SheetCode {
         }
     }
 
-    /// The code's name, which stands beside its number.
+    /// The code's name, which reports show beside its number.
     pub fn name(self) -> &'static str
         ensures { result.now ≡ code_name self }
     {
@@ -88,25 +89,61 @@ impl From<AllocError> for SheetCode {
     }
 }
 
-/// A fault of a sheet, and the message that it is about.
+/// What a fault of a sheet is about.
+#[derive(Clone, Copy, Debug, PartialEq, Eq, Hash)]
+pub enum About {
+    /// The sheet as a whole.
+    Sheet,
+    /// A node.
+    Node,
+    /// A value table.
+    Table,
+    /// The message of this DBC number.
+    Message(u32),
+    /// Signals of a message that do not fit together in its payload.
+    Signals {
+        /// The DBC number of the message.
+        message: u32,
+        /// What is wrong with them. Its indices are those of the message's signals.
+        clash: Clash,
+    },
+}
+
+/// A fault of a sheet, and what it is about.
 #[derive(Clone, Copy, Debug, PartialEq, Eq, Hash)]
 pub struct SheetFault {
     /// What is wrong.
     pub code: SheetCode,
-    /// The DBC number of the message, 0 where the fault is about a node or a value table, or where memory was refused
-    /// while a sheet was asked whether it is clear.
-    pub number: u32,
+    /// What it is about.
+    pub about: About,
 }
 
+impl SheetFault {
+    ghost use Rattle.catalogue.specs.Fault.{message_about};
+
+    /// The DBC number of the message that the fault is about, or `None` where it is about something else.
+    pub fn number(&self) -> Option<u32>
+        ensures { result ≡ message_about self.now.about }
+    {
+        match self.about {
+            About::Sheet | About::Node | About::Table => None,
+            About::Message(number) => Some(number),
+            About::Signals { message, .. } => Some(message),
+        }
+    }
+}
+
+/// Out of memory while the sheet is asked about itself.
 impl From<AllocError> for SheetFault {
     ghost use Rattle.catalogue.specs.declared.fault.SheetCode.TheVariants.{Memory};
+    ghost use Rattle.catalogue.specs.declared.fault.About.TheVariants.{Sheet};
 
-    ghost from_gives = { λ _ fault. (fault.code ≡ Memory) × (fault.number ≡ 0) };
+    ghost from_gives = { λ _ fault. (fault.code ≡ Memory) × (fault.about ≡ Sheet) };
 
     fn from(error: AllocError) -> SheetFault {
         SheetFault {
             code: SheetCode::Memory,
-            number: 0,
+            about: About::Sheet,
         }
     }
 }
@@ -123,15 +160,30 @@ impl fmt::Display for SheetCode {
 
 impl Error for SheetCode {}
 
-impl fmt::Display for SheetFault {
-    ghost use Rattle.std.specs.Prelude.{codes, ◌++◌};
-    ghost use Rattle.std.specs.Fmt.{decimal};
-    ghost use Rattle.catalogue.specs.Fault.{code_name};
+impl fmt::Display for About {
+    ghost use Rattle.catalogue.specs.Fault.{about_text};
 
-    ghost output = { λ fault. Some (code_name fault.code ++ codes " at message " ++ decimal fault.number) };
+    ghost output = { λ about. Some (about_text about) };
 
     fn fmt<W: fmt::Write>(&self, f: &mut fmt::Formatter<W>) -> fmt::Result {
-        write!(f, "{} at message {}", self.code, self.number)
+        match self {
+            About::Sheet => write!(f, "the sheet"),
+            About::Node => write!(f, "a node"),
+            About::Table => write!(f, "a value table"),
+            About::Message(number) => write!(f, "message {number}"),
+            About::Signals { message, .. } => write!(f, "signals of message {message}"),
+        }
+    }
+}
+
+impl fmt::Display for SheetFault {
+    ghost use Rattle.std.specs.Prelude.{codes, ◌++◌};
+    ghost use Rattle.catalogue.specs.Fault.{about_text, code_name};
+
+    ghost output = { λ fault. Some (code_name fault.code ++ codes ": " ++ about_text fault.about) };
+
+    fn fmt<W: fmt::Write>(&self, f: &mut fmt::Formatter<W>) -> fmt::Result {
+        write!(f, "{}: {}", self.code, self.about)
     }
 }
 

@@ -142,7 +142,7 @@ impl Formed for ValueTable {
     }
 }
 
-/// Every sheet is well formed: each part has its form, names and numbers are unique, messages rise by number, and the
+/// Every sheet is well formed: each part has its form, names and numbers are unique, messages are in ascending order of their numbers, and the
 /// limits are kept.
 pub fn sheets_are_well_formed(sheet: &Sheet)
     ensures { IsSheet sheet.now }

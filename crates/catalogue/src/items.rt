@@ -1,3 +1,4 @@
+//! A vector that contracts see as a list.
 ghost use Rattle.std.specs.Prelude.{◌≡◌, ◌++◌, ◌∷◌, [], ◌<◌, ◌≤◌, ℕ, List, length, IfOk, OnOk, OnErr, insert, remove, slice_get, slice_set};
 
 use std::alloc::{AllocError, Global};
@@ -5,7 +6,7 @@ use std::marker::Model;
 
 /// A vector that contracts see as the list of its items, so that two of them are compared by what they hold
 /// and not by the memory that they reserve.
-#[derive(Debug, Drop)]
+#[derive(Debug)]
 pub struct Items<T> {
     items: Vec<T>,
 }
@@ -50,7 +51,7 @@ impl<T> Items<T> {
 }
 
 impl<T: Drop> Items<T> {
-    /// Adds an item at the end. Where memory is refused, nothing changes.
+    /// Adds an item at the end. When memory runs out, nothing changes.
     pub fn push(&mut self, item: T) -> Result<(), AllocError>
         ensures ok { OnOk result (self.new ≡ self.old ++ item ∷ []) }
         ensures err { OnErr result (self.new ≡ self.old) }
@@ -59,7 +60,7 @@ impl<T: Drop> Items<T> {
         Ok(())
     }
 
-    /// Adds an item before the one at `at`, from 0. Where memory is refused, nothing changes.
+    /// Adds an item before the one at `at`, from 0. When memory runs out, nothing changes.
     pub fn insert(&mut self, at: usize, item: T) -> Result<(), AllocError>
         requires { at ≤ length self.old }
         ensures ok { OnOk result (self.new ≡ insert self.old at item) }
@@ -78,7 +79,7 @@ impl<T: Drop> Items<T> {
         self.items.remove(at)
     }
 
-    /// Puts the item in place of the one at `at`, from 0.
+    /// Replaces the item at `at`, from 0, by this one.
     pub fn replace(&mut self, at: usize, item: T)
         requires { at < length self.old }
         ensures { self.new ≡ slice_set self.old at item }
@@ -103,4 +104,10 @@ impl<T: Eq> Eq for Items<T> {
     ghost use Rattle.std.specs.Cmp.Lexicographic.{lists_equiv};
 
     ghost laws = { lists_equiv T.Eq.laws };
+}
+
+impl<T: Drop> Drop for Items<T> {
+    fn drop(self) {
+        let Items { items: _items } = self;
+    }
 }

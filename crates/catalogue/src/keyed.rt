@@ -1,3 +1,4 @@
+//! Lists in the order of a key.
 ghost use Rattle.std.specs.Prelude.{◌≡◌, OnOk, OnErr};
 ghost use Rattle.std.specs.declared.cmp.Ordering.{Ordering as Order};
 ghost use Rattle.std.specs.Cmp.{IsTotalOrder};
@@ -39,7 +40,7 @@ impl Keyed for Ident {
 /// Where an item goes in a list.
 #[derive(Clone, Copy, Debug, PartialEq, Eq)]
 pub enum Slot {
-    /// In place of the item at this index, which has its key.
+    /// It replaces the item at this index, which has its key.
     At(usize),
     /// Before the item at this index, or at the end where the index is the length.
     Before(usize),
@@ -59,7 +60,7 @@ pub fn slot_of<T: Keyed>(items: &[T], item: &T) -> Slot
     Slot::Before(items.len())
 }
 
-/// Puts the item at its place by key, in place of one that has its key. Where memory is refused, nothing
+/// Puts the item where its key belongs, and replaces an item that has its key. When memory runs out, nothing
 /// changes.
 pub fn put_item<T: Keyed + Drop>(items: &mut Items<T>, item: T) -> Result<(), AllocError>
     ensures ok { OnOk result (items.new ≡ put T.order item items.old) }

@@ -1,18 +1,7 @@
+//! The words that DBC text reserves.
 ghost use Rattle.std.specs.Prelude.{◌≡◌, Some, find, IfSome};
 ghost use Rattle.std.specs.Str.{bytes_eq};
 ghost use Rattle.catalogue.specs.Keyword.{keyword_of, ends_keyword};
-
-/// What the office does with a statement that begins with a keyword.
-#[derive(Clone, Copy, Debug, PartialEq, Eq)]
-pub enum KeywordGroup {
-    /// The statement is read. Most of what it says is kept; `NS_` and `BS_` say nothing that is, and a few forms are passed
-    /// over and reported.
-    Kept,
-    /// The statement is passed over and reported.
-    Passed,
-    /// A file with the statement is refused, since passing it over would change which signals meet.
-    Refused,
-}
 
 /// A word that DBC text reserves (Vector's DBC File Format Documentation, the keywords of its statements).
 #[derive(Clone, Copy, Debug, PartialEq, Eq)]
@@ -89,6 +78,7 @@ pub enum Keyword {
     ExtendedMultiplexing,
 }
 
+/// All of them.
 const KEYWORDS: [Keyword; 35] = [
     Keyword::Version,
     Keyword::NewSymbols,
@@ -135,7 +125,7 @@ fn ends_keyword(word: &[u8]) -> bool
     matches!(last, b'_' | b'N' | b'R')
 }
 
-/// The keywords that stand most often in a file, looked for first.
+/// The most frequent keywords of a file, which are looked for first.
 fn frequent(word: &[u8]) -> Option<Keyword>
     ensures { IfSome result (λ keyword. keyword_of word.now ≡ Some keyword) }
 {
@@ -153,7 +143,7 @@ fn frequent(word: &[u8]) -> Option<Keyword>
 }
 
 impl Keyword {
-    ghost use Rattle.catalogue.specs.Keyword.{keyword_of, keyword_text, keyword_group};
+    ghost use Rattle.catalogue.specs.Keyword.{keyword_of, keyword_text};
 
     /// The keyword that the bytes spell, or `None` where they are no keyword.
     pub fn of(word: &[u8]) -> Option<Keyword>
@@ -168,6 +158,7 @@ impl Keyword {
         }
     }
 
+    /// The keyword among all of them that the bytes spell.
     fn listed(word: &[u8]) -> Option<Keyword>
         ensures { result ≡ keyword_of word.now }
     {
@@ -217,27 +208,6 @@ impl Keyword {
             Keyword::NodeEnvironmentRelation => "BU_EV_REL_",
             Keyword::NodeMessageRelation => "BU_BO_REL_",
             Keyword::ExtendedMultiplexing => "SG_MUL_VAL_",
-        }
-    }
-
-    /// What the office does with a statement that begins with the keyword.
-    pub fn group(self) -> KeywordGroup
-        ensures { result ≡ keyword_group self }
-    {
-        match self {
-            Keyword::Version
-            | Keyword::NewSymbols
-            | Keyword::BitTiming
-            | Keyword::Nodes
-            | Keyword::ValueTable
-            | Keyword::Message
-            | Keyword::Signal
-            | Keyword::Comment
-            | Keyword::ValueTexts
-            | Keyword::SignalValueType
-            | Keyword::AttributeValue => KeywordGroup::Kept,
-            Keyword::ExtendedMultiplexing => KeywordGroup::Refused,
-            _ => KeywordGroup::Passed,
         }
     }
 }

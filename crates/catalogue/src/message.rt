@@ -1,3 +1,4 @@
+//! A message and its signals.
 ghost use Rattle.std.specs.Prelude.{◌≡◌, ◌↔◌, ◌++◌, ◌∷◌, [], None, IfErr, IfOk, IfSome, IsNone, OnOk, OnErr};
 ghost use Rattle.bitlayout.specs.Clash.{IsFirstClash, first_clash_of};
 ghost use Rattle.catalogue.specs.Fault.{IsRefusal};
@@ -6,7 +7,7 @@ ghost use Rattle.catalogue.specs.Refusing.{first_refusal};
 ghost use Rattle.catalogue.specs.Signals.{places_of, signal_tests};
 
 use crate::copying::Copying;
-use crate::fault::SheetFault;
+use crate::fault::{About, SheetFault};
 use crate::name::Name;
 use crate::payload::PayloadLength;
 use crate::roster::Named;
@@ -18,15 +19,15 @@ use can_id::Ident;
 use std::alloc::{AllocError, Global};
 
 /// A message of a network.
-#[derive(Debug, PartialEq, Eq, Drop)]
+#[derive(Debug, PartialEq, Eq)]
 pub struct Message {
-    /// The identifier under which it is sent.
+    /// The identifier with which it is sent.
     pub ident: Ident,
     /// The message's name.
     pub name: Name,
     /// How many bytes it carries.
     pub length: PayloadLength,
-    /// The node that transmits it, which needn't be a node of the sheet.
+    /// The node that transmits it, which need not be a node of the sheet.
     pub transmitter: Option<Name>,
     /// The message's comment, empty where there is none.
     pub comment: Text,
@@ -42,33 +43,32 @@ impl Message {
         self.ident.to_dbc()
     }
 
-    /// The first reason why the signals can't stand together in the message's payload, or `None` where they are clear.
-    /// The indices are those of the signals. The error is want of memory.
+    /// The first reason why the signals do not fit together in the message's payload, or `None` where they are clear.
+    /// The indices are those of the signals. The error is out of memory.
     pub fn first_clash(&self, alloc: Global) -> Result<Option<Clash>, AllocError>
         ensures clear { IfOk result (λ clash. IsNone clash ↔ IsClearMessage self.now) }
         ensures first { IfOk result (λ clash. IfSome clash (IsFirstClash (places_of self.now.signals) self.now.length)) }
         ensures computed { IfOk result (λ clash. clash ≡ first_clash_of (places_of self.now.signals) self.now.length) }
     {
         let places = self.signals.places(alloc)?;
-        Ok(first_clash(&places, u16::from(self.length.bytes())))
+        Ok(first_clash(&places, self.length.bytes()))
     }
 
     /// Adds a signal as the last one. It is refused, and nothing changes, with the first of these that holds:
-    /// 26 `TooMany` where the message has 4,096 signals, 21 `DoubleName` where one of them has its name,
-    /// 25 `TwoMultiplexors` where it is the multiplexor and one of them is too. `Memory` is want of memory, and nothing
-    /// changes either. The fault's number is the message's.
+    /// 26 `TooMany` where the message has [`ROSTER_LIMIT`](crate::ROSTER_LIMIT) signals, 21 `DoubleName` where one of
+    /// them has its name, 25 `TwoMultiplexors` where it is the multiplexor and one of them is too. `Memory` is out of
+    /// memory, and nothing changes either. The fault is about the message.
     pub fn with_signal(&mut self, alloc: Global, signal: Signal) -> Result<(), SheetFault>
         ensures ok { OnOk result (self.new ≡ record self.old { signals = self.old.signals ++ signal ∷ [] }) }
         ensures allowed { OnOk result (first_refusal (signal_tests self.old.signals signal) ≡ None) }
         ensures refused { IfErr result (λ fault. IsRefusal (first_refusal (signal_tests self.old.signals signal)) fault.code) }
-        ensures number { IfErr result (λ fault. fault.number ≡ number_of self.old) }
+        ensures about { IfErr result (λ fault. fault.about ≡ About.Message (number_of self.old)) }
         ensures err { OnErr result (self.new ≡ self.old) }
     {
-        let number = self.number();
-        match self.signals.add(alloc, signal) {
-            Ok(()) => Ok(()),
-            Err(code) => Err(SheetFault { code, number }),
-        }
+        let about = About::Message(self.number());
+        self.signals
+            .add(alloc, signal)
+            .map_err(|code| SheetFault { code, about })
     }
 }
 
@@ -90,5 +90,18 @@ impl Copying for Message {
             comment: self.comment.duplicate(alloc)?,
             signals: self.signals.duplicate(alloc)?,
         })
+    }
+}
+
+impl Drop for Message {
+    fn drop(self) {
+        let Message {
+            ident: _ident,
+            name: _name,
+            length: _length,
+            transmitter: _transmitter,
+            comment: _comment,
+            signals: _signals,
+        } = self;
     }
 }

@@ -9,23 +9,21 @@ ghost use Rattle.catalogue.specs.Limits.{message_limit};
 ghost use Rattle.catalogue.specs.Messages.{AreMessages, by_number, message_at, message_name, message_tests, number_of, without_number};
 ghost use Rattle.catalogue.specs.Named.{has_name};
 ghost use Rattle.catalogue.specs.Refusing.{first_refusal};
-ghost use Rattle.catalogue.specs.Place.{IsAt, IsGap};
+ghost use Rattle.catalogue.specs.Ascending.{IsAt, IsGap};
 
 use crate::copying::Copying;
 use crate::fault::SheetCode;
 use crate::items::Items;
+use crate::limits::MESSAGE_LIMIT;
 use crate::message::Message;
 use crate::name::Name;
 use crate::name_set::NameSet;
 use std::alloc::{AllocError, Global};
 use std::marker::Model;
 
-/// The greatest number of messages of a sheet.
-pub const MESSAGE_LIMIT: usize = 16_384;
-
-/// At most 16,384 messages by rising DBC number, no two of one number or one name. Contracts see it as the list of
-/// them. A number is sought by halves, a name in an order of the names.
-#[derive(Debug, Drop)]
+/// At most [`MESSAGE_LIMIT`] messages in ascending order of their DBC numbers, no two of one number or one name.
+/// Contracts see it as the list of them. A number is found by binary search, a name in a set of the names.
+#[derive(Debug)]
 pub(crate) struct Messages {
     messages: Items<Message>,
     names: NameSet,
@@ -43,7 +41,7 @@ impl Model for Messages {
     ghost invariant = { λ m. AreIndexed m.messages m.names };
 }
 
-/// Where the message of the number is, or where it would go.
+/// The index of the message of the number, or the index at which it would go.
 fn search(messages: &[Message], number: u32) -> Result<usize, usize>
     requires { IsStrictlySortedBy by_number messages.now }
     ensures found { IfOk result (IsAt number_of messages.now number) }
@@ -63,7 +61,7 @@ impl Messages {
         }
     }
 
-    /// The messages, by rising number.
+    /// The messages, in ascending order of their numbers.
     pub(crate) fn as_slice(&self) -> &[Message]
         ensures messages { result.now ≡ self.now }
         ensures together { AreMessages self.now }
@@ -82,8 +80,8 @@ impl Messages {
         }
     }
 
-    /// Where the message would go, or why it is refused.
-    fn place_for(&self, message: &Message) -> Result<usize, SheetCode>
+    /// The index at which the message would go, or why it is refused.
+    fn index_for(&self, message: &Message) -> Result<usize, SheetCode>
         ensures gap { IfOk result (IsGap number_of self.now (number_of message.now)) }
         ensures allowed { OnOk result (first_refusal (message_tests self.now message.now) ≡ None) }
         ensures refused { IfErr result (λ code. first_refusal (message_tests self.now message.now) ≡ Some code) }
@@ -102,10 +100,10 @@ impl Messages {
         Ok(at)
     }
 
-    /// Adds a message at its place. It is refused, and nothing changes, with the first of these that holds:
-    /// [`SheetCode::TooMany`] where there are 16,384 messages, [`SheetCode::DoubleNumber`] where one of them has its
-    /// number, [`SheetCode::DoubleName`] where one of them has its name. [`SheetCode::Memory`] is want of memory, and
-    /// nothing changes either.
+    /// Adds a message where its number belongs. It is refused, and nothing changes, with the first of these that holds:
+    /// [`SheetCode::TooMany`] where there are [`MESSAGE_LIMIT`] messages, [`SheetCode::DoubleNumber`] where one of them
+    /// has its number, [`SheetCode::DoubleName`] where one of them has its name. [`SheetCode::Memory`] is out of memory,
+    /// and nothing changes either.
     pub(crate) fn add(&mut self, alloc: Global, message: Message) -> Result<(), SheetCode>
         ensures ok { OnOk result (self.new ≡ put by_number message self.old) }
         ensures map { OnOk result ((n : ℕ) → message_at self.new n ≡ (if number_of message == n then Some message else message_at self.old n)) }
@@ -113,7 +111,7 @@ impl Messages {
         ensures refused { IfErr result (IsRefusal (first_refusal (message_tests self.old message))) }
         ensures err { OnErr result (self.new ≡ self.old) }
     {
-        let at = self.place_for(&message)?;
+        let at = self.index_for(&message)?;
         let name = message.name.duplicate(alloc)?;
         self.messages.insert(at, message)?;
         match self.names.insert(name) {
@@ -169,4 +167,13 @@ impl Eq for Messages {
     ghost use Rattle.catalogue.specs.contracts.message.MessageEq.TheImpl.Laws.{laws-law};
 
     ghost laws = { lists_equiv laws-law };
+}
+
+impl Drop for Messages {
+    fn drop(self) {
+        let Messages {
+            messages: _messages,
+            names: _names,
+        } = self;
+    }
 }

@@ -1,28 +1,28 @@
+//! Names of messages, signals, nodes and value tables.
 ghost use Rattle.std.specs.Prelude.{◌≡◌, IfOk, SomeIff};
 ghost use Rattle.std.specs.List.{list_all};
 ghost use Rattle.catalogue.specs.Name.{starts_identifier, continues_identifier, is_c_identifier, is_name, IsName};
 
 use crate::copying::Copying;
-use crate::keyed::Keyed;
 use crate::keyword::Keyword;
+use crate::limits::NAME_LIMIT;
 use std::alloc::{AllocError, Global};
 use std::cmp::Ordering;
 use std::marker::Model;
 
-/// What a DBC file writes in the place of a node where there is none.
+/// What a DBC file writes instead of a node's name where there is no node.
 pub const NO_NODE: &[u8] = b"Vector__XXX";
 
-/// The greatest length of a name, in bytes.
-pub const NAME_LIMIT: usize = 128;
-
 /// Whether the byte may begin a C identifier: a letter `A` to `Z`, `a` to `z`, or `_`.
+#[inline]
 pub fn starts_identifier(byte: u8) -> bool
     ensures { result ≡ starts_identifier byte }
 {
     byte.is_ascii_uppercase() || byte.is_ascii_lowercase() || byte == b'_'
 }
 
-/// Whether the byte may stand in a C identifier behind its first: a letter, a digit or `_`.
+/// Whether the byte may come after the first one of a C identifier: a letter, a digit or `_`.
+#[inline]
 pub fn continues_identifier(byte: u8) -> bool
     ensures { result ≡ continues_identifier byte }
 {
@@ -45,7 +45,8 @@ pub fn is_c_identifier(bytes: &[u8]) -> bool
     }
 }
 
-/// Whether the bytes are a name: a C identifier of 1 to 128 bytes that is no keyword and not `Vector__XXX`.
+/// Whether the bytes are a name: a C identifier of at most [`NAME_LIMIT`] bytes that is no keyword and not
+/// `Vector__XXX`.
 #[tactic(auto, unfolding(crate::specs::Name::is_name))]
 pub fn is_name(bytes: &[u8]) -> bool
     ensures { result ≡ is_name bytes.now }
@@ -57,7 +58,7 @@ pub fn is_name(bytes: &[u8]) -> bool
 }
 
 /// The name of a message, a signal, a node or a value table. Contracts see it as its bytes.
-#[derive(Debug, Drop)]
+#[derive(Debug)]
 pub struct Name {
     bytes: Vec<u8>,
 }
@@ -74,8 +75,8 @@ impl Model for Name {
 }
 
 impl Name {
-    /// The name that the bytes are, or `None` where they are none: a name is a C identifier of 1 to 128 bytes
-    /// that is no DBC keyword and not `Vector__XXX`.
+    /// The name that the bytes are, or `None` where they are none: a name is a C identifier of at most
+    /// [`NAME_LIMIT`] bytes that is no DBC keyword and not `Vector__XXX`.
     pub fn of(alloc: Global, bytes: &[u8]) -> Result<Option<Name>, AllocError>
         ensures { IfOk result (λ found. SomeIff found (IsName bytes.now) bytes.now) }
     {
@@ -87,7 +88,7 @@ impl Name {
         }))
     }
 
-    /// The name's bytes, 1 to 128.
+    /// The name's bytes, 1 to [`NAME_LIMIT`].
     pub fn as_bytes(&self) -> &[u8]
         ensures bytes { result.now ≡ self.now }
         ensures name { IsName self.now }
@@ -170,15 +171,8 @@ impl Copying for Name {
     }
 }
 
-impl Keyed for Name {
-    ghost use Rattle.catalogue.specs.Keyed.{text_cmp};
-    ghost use Rattle.std.proofs.lemmas.Cmp.{nat_list_cmp_total};
-
-    ghost order = { text_cmp };
-
-    ghost ordered = { nat_list_cmp_total };
-
-    fn compare(&self, other: &Name) -> Ordering {
-        self.cmp(other)
+impl Drop for Name {
+    fn drop(self) {
+        let Name { bytes: _bytes } = self;
     }
 }

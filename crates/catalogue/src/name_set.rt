@@ -8,7 +8,7 @@ use std::alloc::{AllocError, Global};
 use std::collections::BTreeSet;
 
 /// A set of names.
-#[derive(Debug, Drop)]
+#[derive(Debug)]
 pub(crate) struct NameSet {
     names: BTreeSet<Name>,
 }
@@ -30,7 +30,7 @@ impl NameSet {
         self.names.contains(name)
     }
 
-    /// Adds the name. Where memory is refused, nothing changes.
+    /// Adds the name. When memory runs out, nothing changes.
     pub(crate) fn insert(&mut self, name: Name) -> Result<(), AllocError>
         ensures ok { OnOk result ((n : List ℕ) → holds_name self.new n ≡ (bytes_eq name n || holds_name self.old n)) }
         ensures err { OnErr result ((n : List ℕ) → holds_name self.new n ≡ holds_name self.old n) }
@@ -53,5 +53,11 @@ impl NameSet {
         Ok(NameSet {
             names: self.names.clone()?,
         })
+    }
+}
+
+impl Drop for NameSet {
+    fn drop(self) {
+        let NameSet { names: _names } = self;
     }
 }

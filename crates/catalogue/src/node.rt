@@ -1,3 +1,4 @@
+//! Nodes of a network.
 use crate::copying::Copying;
 use crate::name::Name;
 use crate::roster::Named;
@@ -5,7 +6,7 @@ use crate::text::Text;
 use std::alloc::{AllocError, Global};
 
 /// A node of a network.
-#[derive(Debug, PartialEq, Eq, Drop)]
+#[derive(Debug, PartialEq, Eq)]
 pub struct Node {
     /// The node's name.
     pub name: Name,
@@ -27,5 +28,14 @@ impl Copying for Node {
             name: self.name.duplicate(alloc)?,
             comment: self.comment.duplicate(alloc)?,
         })
+    }
+}
+
+impl Drop for Node {
+    fn drop(self) {
+        let Node {
+            name: _name,
+            comment: _comment,
+        } = self;
     }
 }

@@ -1,3 +1,4 @@
+//! Whole numbers, as digits write them.
 ghost use Rattle.std.specs.Prelude.{◌≡◌, ◌^◌, ◌<◌, SomeIff};
 ghost use Rattle.std.specs.Str.Parse.{IsNumeral, digits_value};
 ghost use Rattle.catalogue.specs.WholeNumber.{whole_of};

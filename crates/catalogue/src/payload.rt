@@ -1,12 +1,14 @@
+//! Lengths of messages.
 ghost use Rattle.std.specs.Prelude.{◌≡◌, ◌≤◌, SomeIff};
 ghost use Rattle.catalogue.specs.Limits.{length_limit};
 
+use crate::limits::LENGTH_LIMIT;
 use std::marker::Model;
 
-/// A message's length: 0 to 64 bytes. Contracts see it as the number.
+/// A message's length: 0 to [`LENGTH_LIMIT`] bytes. Contracts see it as the number.
 #[derive(Clone, Copy, Debug, PartialEq, Eq, PartialOrd, Ord, Hash)]
 pub struct PayloadLength {
-    bytes: u8,
+    bytes: u16,
 }
 
 impl Model for PayloadLength {
@@ -23,19 +25,21 @@ impl Model for PayloadLength {
 }
 
 impl PayloadLength {
-    /// The length of so many bytes, or `None` above 64.
+    /// The length of this many bytes, or `None` above [`LENGTH_LIMIT`].
     pub fn new(bytes: u32) -> Option<PayloadLength>
         ensures { SomeIff result (bytes ≤ length_limit) bytes }
     {
-        if bytes <= 64 {
-            Some(PayloadLength { bytes: bytes as u8 })
+        if bytes <= u32::from(LENGTH_LIMIT) {
+            Some(PayloadLength {
+                bytes: bytes as u16,
+            })
         } else {
             None
         }
     }
 
-    /// The number of bytes, 0 to 64.
-    pub fn bytes(self) -> u8
+    /// The number of bytes, 0 to [`LENGTH_LIMIT`].
+    pub fn bytes(self) -> u16
         ensures value { result ≡ self }
         ensures range { result ≤ length_limit }
     {

@@ -1,4 +1,4 @@
-//! A law of what DBC texts read as, which holds of their definition: no code stands behind it.
+//! A law of what DBC texts read as, which holds of their definition: no code is part of it.
 ghost use Rattle.catalogue.specs.Reads.{ReadsAsOneAtMost};
 
 use crate::saying_law::statements_say_one_sheet;

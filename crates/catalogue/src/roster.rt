@@ -1,4 +1,4 @@
-//! Lists of things with names, such as the nodes of a sheet or the signals of a message.
+//! Lists of things with unique names, such as the nodes of a sheet or the signals of a message.
 ghost use Rattle.std.specs.Prelude.{◌≡◌, ◌≤◌, ◌++◌, ◌∷◌, [], ℕ, List, None, length, nat_le, false, IfErr, IfOk, OnOk, OnErr};
 ghost use Rattle.catalogue.specs.Fault.{IsRefusal};
 ghost use Rattle.catalogue.specs.Limits.{roster_limit};
@@ -7,6 +7,7 @@ ghost use Rattle.catalogue.specs.Refusing.{first_refusal};
 
 use crate::copying::{Copying, duplicates};
 use crate::fault::SheetCode;
+use crate::limits::ROSTER_LIMIT;
 use crate::name::Name;
 use crate::name_set::NameSet;
 use std::alloc::{AllocError, Global};
@@ -22,12 +23,9 @@ pub trait Named {
         ensures { result.now ≡ name_of self.now };
 }
 
-/// The greatest number of nodes or value tables of a sheet, and of signals of a message.
-pub const ROSTER_LIMIT: usize = 4_096;
-
-/// At most 4,096 things in the order in which they were added, no two of one name. Contracts see it as the list of
-/// them. Whether a name is there is asked of an order of the names, not of the list.
-#[derive(Debug, Drop)]
+/// At most [`ROSTER_LIMIT`] things in the order in which they were added, no two of one name. Contracts see it as the
+/// list of them. A set of the names tells whether a name is there without a walk over the list.
+#[derive(Debug)]
 pub struct Roster<T: Named> {
     things: Vec<T>,
     names: NameSet,
@@ -78,7 +76,7 @@ impl<T: Named> Roster<T> {
         self.things.len() >= ROSTER_LIMIT
     }
 
-    /// Why a thing of this name can't be added, in this order: [`SheetCode::TooMany`] where there are 4,096,
+    /// Why a thing of this name can't be added, in this order: [`SheetCode::TooMany`] where there are [`ROSTER_LIMIT`],
     /// [`SheetCode::DoubleName`] where one of them has the name.
     pub fn refusal(&self, name: &Name) -> Option<SheetCode>
         ensures { result ≡ first_refusal (roster_tests T.name_of self.now name.now) }
@@ -94,7 +92,7 @@ impl<T: Named> Roster<T> {
 }
 
 impl<T: Named + Drop> Roster<T> {
-    /// Adds a thing that isn't refused. Where memory is refused, nothing changes.
+    /// Adds a thing that isn't refused. When memory runs out, nothing changes.
     pub(crate) fn push(&mut self, alloc: Global, thing: T) -> Result<(), AllocError>
         requires room { nat_le roster_limit (length self.old) ≡ false }
         requires new { has_name T.name_of self.old (T.name_of thing) ≡ false }
@@ -108,9 +106,8 @@ impl<T: Named + Drop> Roster<T> {
         Ok(())
     }
 
-    /// Adds a thing as the last one. It is refused, and nothing changes, with the first of these that holds:
-    /// [`SheetCode::TooMany`] where there are 4,096, [`SheetCode::DoubleName`] where one of them has its name.
-    /// [`SheetCode::Memory`] is want of memory, and nothing changes either.
+    /// Adds a thing as the last one. It is refused, and nothing changes, with what [`Roster::refusal`] says.
+    /// [`SheetCode::Memory`] is out of memory, and nothing changes either.
     pub fn add(&mut self, alloc: Global, thing: T) -> Result<(), SheetCode>
         ensures ok { OnOk result (self.new ≡ self.old ++ thing ∷ []) }
         ensures allowed { OnOk result (first_refusal (roster_tests T.name_of self.old (T.name_of thing)) ≡ None) }
@@ -150,4 +147,13 @@ impl<T: Named + Eq> Eq for Roster<T> {
     ghost use Rattle.std.specs.Cmp.Lexicographic.{lists_equiv};
 
     ghost laws = { lists_equiv T.Eq.laws };
+}
+
+impl<T: Named + Drop> Drop for Roster<T> {
+    fn drop(self) {
+        let Roster {
+            things: _things,
+            names: _names,
+        } = self;
+    }
 }

@@ -1,4 +1,4 @@
-//! A law of what the statements of a DBC file say, which holds of their definition: no code stands behind it.
+//! A law of what the statements of a DBC file say, which holds of their definition: no code is part of it.
 ghost use Rattle.catalogue.specs.Saying.{SaysOneAtMost};
 
 /// The statements of a DBC file say one sheet at most: two sheets that they say are equal. Code whose contract needs

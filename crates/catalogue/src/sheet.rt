@@ -1,3 +1,4 @@
+//! A sheet: what a DBC file says of a network.
 ghost use Rattle.std.specs.Prelude.{◌≡◌, ◌≤◌, length, ◌++◌, ◌∷◌, [], ℕ, Option, None, Some, if◌then◌else◌, ◌==◌, IfErr, IfOk, OnOk, OnErr};
 ghost use Rattle.std.specs.Option.{option_copied};
 ghost use Rattle.catalogue.specs.Fault.{IsMemoryOr, IsRefusal};
@@ -9,7 +10,7 @@ ghost use Rattle.catalogue.specs.Refusing.{first_refusal};
 ghost use Rattle.catalogue.specs.Sheet.{IsClearSheet, IsFirstFault, empty_sheet, node_name, table_name};
 
 use crate::copying::Copying;
-use crate::fault::{SheetCode, SheetFault};
+use crate::fault::{About, SheetCode, SheetFault};
 use crate::message::Message;
 use crate::messages::Messages;
 use crate::node::Node;
@@ -20,10 +21,11 @@ use std::alloc::{AllocError, Global};
 
 /// What a DBC file says of a network: a version, a comment, nodes, value tables, and messages by their DBC numbers.
 ///
-/// Messages rise by number, and no two of them, no two nodes and no two value tables have one name. There are at most
-/// 16,384 messages, 4,096 nodes and 4,096 value tables. Contracts see the version and the comment as their bytes, and
-/// the nodes, the tables and the messages as lists.
-#[derive(Debug, PartialEq, Eq, Drop)]
+/// Messages are in ascending order of their numbers, and no two of them, no two nodes and no two value tables have one
+/// name. There are at most [`MESSAGE_LIMIT`](crate::MESSAGE_LIMIT) messages, and at most
+/// [`ROSTER_LIMIT`](crate::ROSTER_LIMIT) nodes and as many value tables. Contracts see the version and the comment as
+/// their bytes, and the nodes, the tables and the messages as lists.
+#[derive(Debug, PartialEq, Eq)]
 pub struct Sheet {
     version: Text,
     comment: Text,
@@ -92,7 +94,7 @@ impl Sheet {
         self.tables.as_slice()
     }
 
-    /// The messages, by rising DBC number.
+    /// The messages, in ascending order of their DBC numbers.
     pub fn messages(&self) -> &[Message]
         ensures messages { result.now ≡ self.now.messages }
         ensures together { AreMessages self.now.messages }
@@ -108,54 +110,53 @@ impl Sheet {
     }
 
     /// Adds a node as the last one. It is refused, and nothing changes, with the first of these that holds:
-    /// 26 `TooMany` where there are 4,096 nodes, 21 `DoubleName` where one of them has its name. `Memory` is want of
-    /// memory, and nothing changes either. The fault's number is 0.
+    /// 26 `TooMany` where there are [`ROSTER_LIMIT`](crate::ROSTER_LIMIT) nodes, 21 `DoubleName` where one of them has
+    /// its name. `Memory` is out of memory, and nothing changes either. The fault is about a node.
     pub fn with_node(&mut self, alloc: Global, node: Node) -> Result<(), SheetFault>
         ensures ok { OnOk result (self.new ≡ record self.old { nodes = self.old.nodes ++ node ∷ [] }) }
         ensures allowed { OnOk result (first_refusal (roster_tests node_name self.old.nodes node.name) ≡ None) }
         ensures refused { IfErr result (λ fault. IsRefusal (first_refusal (roster_tests node_name self.old.nodes node.name)) fault.code) }
-        ensures number { IfErr result (λ fault. fault.number ≡ 0) }
+        ensures about { IfErr result (λ fault. fault.about ≡ About.Node) }
         ensures err { OnErr result (self.new ≡ self.old) }
     {
-        match self.nodes.add(alloc, node) {
-            Ok(()) => Ok(()),
-            Err(code) => Err(SheetFault { code, number: 0 }),
-        }
+        let about = About::Node;
+        self.nodes
+            .add(alloc, node)
+            .map_err(|code| SheetFault { code, about })
     }
 
     /// Adds a value table as the last one. It is refused, and nothing changes, with the first of these that holds:
-    /// 26 `TooMany` where there are 4,096 tables, 21 `DoubleName` where one of them has its name. `Memory` is want of
-    /// memory, and nothing changes either. The fault's number is 0.
+    /// 26 `TooMany` where there are [`ROSTER_LIMIT`](crate::ROSTER_LIMIT) tables, 21 `DoubleName` where one of them has
+    /// its name. `Memory` is out of memory, and nothing changes either. The fault is about a table.
     pub fn with_table(&mut self, alloc: Global, table: ValueTable) -> Result<(), SheetFault>
         ensures ok { OnOk result (self.new ≡ record self.old { tables = self.old.tables ++ table ∷ [] }) }
         ensures allowed { OnOk result (first_refusal (roster_tests table_name self.old.tables table.name) ≡ None) }
         ensures refused { IfErr result (λ fault. IsRefusal (first_refusal (roster_tests table_name self.old.tables table.name)) fault.code) }
-        ensures number { IfErr result (λ fault. fault.number ≡ 0) }
+        ensures about { IfErr result (λ fault. fault.about ≡ About.Table) }
         ensures err { OnErr result (self.new ≡ self.old) }
     {
-        match self.tables.add(alloc, table) {
-            Ok(()) => Ok(()),
-            Err(code) => Err(SheetFault { code, number: 0 }),
-        }
+        let about = About::Table;
+        self.tables
+            .add(alloc, table)
+            .map_err(|code| SheetFault { code, about })
     }
 
-    /// Adds a message at its place. It is refused, and nothing changes, with the first of these that holds:
-    /// 26 `TooMany` where there are 16,384 messages, 20 `DoubleNumber` where one of them has its DBC number,
-    /// 21 `DoubleName` where one of them has its name. `Memory` is want of memory, and nothing changes either. The
-    /// fault's number is the message's.
+    /// Adds a message where its DBC number belongs. It is refused, and nothing changes, with the first of these that
+    /// holds: 26 `TooMany` where there are [`MESSAGE_LIMIT`](crate::MESSAGE_LIMIT) messages, 20 `DoubleNumber` where one
+    /// of them has its DBC number, 21 `DoubleName` where one of them has its name. `Memory` is out of memory, and
+    /// nothing changes either. The fault is about the message.
     pub fn with_message(&mut self, alloc: Global, message: Message) -> Result<(), SheetFault>
         ensures ok { OnOk result (self.new ≡ record self.old { messages = put by_number message self.old.messages }) }
         ensures map { OnOk result ((n : ℕ) → message_at self.new.messages n ≡ (if number_of message == n then Some message else message_at self.old.messages n)) }
         ensures allowed { OnOk result (first_refusal (message_tests self.old.messages message) ≡ None) }
         ensures refused { IfErr result (λ fault. IsRefusal (first_refusal (message_tests self.old.messages message)) fault.code) }
-        ensures number { IfErr result (λ fault. fault.number ≡ number_of message) }
+        ensures about { IfErr result (λ fault. fault.about ≡ About.Message (number_of message)) }
         ensures err { OnErr result (self.new ≡ self.old) }
     {
-        let number = message.number();
-        match self.messages.add(alloc, message) {
-            Ok(()) => Ok(()),
-            Err(code) => Err(SheetFault { code, number }),
-        }
+        let about = About::Message(message.number());
+        self.messages
+            .add(alloc, message)
+            .map_err(|code| SheetFault { code, about })
     }
 
     /// Takes out the message of the DBC number, or answers `None` and changes nothing where there is none. Takes no
@@ -168,9 +169,9 @@ impl Sheet {
         self.messages.remove(number)
     }
 
-    /// Whether the signals of each message can stand together in its payload. If not, the fault is that of the first
-    /// message that isn't clear, by rising number: 22 `OutsidePayload`, 23 `Clash`, 24 `NoMultiplexor` or
-    /// 25 `TwoMultiplexors`, whichever its first clash is, with the message's number. `Memory` is want of memory.
+    /// Whether the signals of each message fit together in its payload. If not, the fault is that of the message with
+    /// the least number that is not clear: 22 `OutsidePayload`, 23 `Clash`, 24 `NoMultiplexor` or 25 `TwoMultiplexors`,
+    /// whichever its first clash is. It is about the signals of that clash. `Memory` is out of memory.
     pub fn is_clear(&self, alloc: Global) -> Result<(), SheetFault>
         ensures clear { OnOk result (IsClearSheet self.now) }
         ensures fault { IfErr result (λ fault. IsMemoryOr fault.code (IsFirstFault self.now fault)) }
@@ -180,7 +181,10 @@ impl Sheet {
                 Some(clash) => {
                     return Err(SheetFault {
                         code: SheetCode::from(clash),
-                        number: message.number(),
+                        about: About::Signals {
+                            message: message.number(),
+                            clash,
+                        },
                     });
                 }
                 None => {}
@@ -189,7 +193,7 @@ impl Sheet {
         Ok(())
     }
 
-    /// A sheet that is equal to this one. The error is want of memory.
+    /// A sheet that is equal to this one. The error is out of memory.
     pub fn copy(&self, alloc: Global) -> Result<Sheet, AllocError>
         ensures { IfOk result (λ copy. copy ≡ self.now) }
     {
@@ -206,5 +210,17 @@ impl Copying for Sheet {
             tables: self.tables.duplicate(alloc)?,
             messages: self.messages.duplicate(alloc)?,
         })
+    }
+}
+
+impl Drop for Sheet {
+    fn drop(self) {
+        let Sheet {
+            version: _version,
+            comment: _comment,
+            nodes: _nodes,
+            tables: _tables,
+            messages: _messages,
+        } = self;
     }
 }

@@ -1,3 +1,4 @@
+//! A signal of a message.
 ghost use Rattle.std.specs.Prelude.{◌≡◌};
 ghost use Rattle.catalogue.specs.Signal.{place_of};
 
@@ -14,7 +15,7 @@ use decimal::Decimal;
 use std::alloc::{AllocError, Global};
 
 /// A signal of a message.
-#[derive(Debug, PartialEq, Eq, Drop)]
+#[derive(Debug, PartialEq, Eq)]
 pub struct Signal {
     /// The signal's name.
     pub name: Name,
@@ -34,7 +35,7 @@ pub struct Signal {
     pub maximum: Decimal,
     /// The unit of the physical value, empty where there is none.
     pub unit: Text,
-    /// The nodes that receive the signal. They needn't be nodes of the sheet, and one may stand there twice.
+    /// The nodes that receive the signal. They need not be nodes of the sheet, and one may occur twice.
     pub receivers: Items<Name>,
     /// The signal's comment, empty where there is none.
     pub comment: Text,
@@ -84,5 +85,26 @@ impl Copying for Signal {
             values: self.values.duplicate(alloc)?,
             value_type: self.value_type,
         })
+    }
+}
+
+impl Drop for Signal {
+    fn drop(self) {
+        let Signal {
+            name: _name,
+            layout: _layout,
+            signed: _signed,
+            mux: _mux,
+            factor: _factor,
+            offset: _offset,
+            minimum: _minimum,
+            maximum: _maximum,
+            unit: _unit,
+            receivers: _receivers,
+            comment: _comment,
+            spn: _spn,
+            values: _values,
+            value_type: _value_type,
+        } = self;
     }
 }

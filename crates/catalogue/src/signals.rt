@@ -12,12 +12,12 @@ use bitlayout::Place;
 use std::alloc::{AllocError, Global};
 use std::marker::Model;
 
-/// The signals of one message in the order in which they were added: at most 4,096, no two of one name, and at most
-/// one the multiplexor. Contracts see it as the list of them.
-#[derive(Debug, Drop)]
+/// The signals of one message in the order in which they were added: at most [`ROSTER_LIMIT`](crate::ROSTER_LIMIT), no
+/// two of one name, and at most one the multiplexor. Contracts see it as the list of them.
+#[derive(Debug)]
 pub struct Signals {
     roster: Roster<Signal>,
-    switched: bool,
+    multiplexed: bool,
 }
 
 impl Model for Signals {
@@ -29,7 +29,7 @@ impl Model for Signals {
 
     ghost view = { λ signals. signals.roster };
 
-    ghost invariant = { λ signals. IsSwitchKnown signals.roster signals.switched };
+    ghost invariant = { λ signals. IsSwitchKnown signals.roster signals.multiplexed };
 }
 
 impl Signals {
@@ -39,7 +39,7 @@ impl Signals {
     {
         Signals {
             roster: Roster::new(alloc),
-            switched: false,
+            multiplexed: false,
         }
     }
 
@@ -55,28 +55,26 @@ impl Signals {
     pub fn are_multiplexed(&self) -> bool
         ensures { result ≡ are_switched self.now }
     {
-        self.switched
+        self.multiplexed
     }
 
-    /// Why the signal can't be added, in this order: [`SheetCode::TooMany`] where there are 4,096 signals,
-    /// [`SheetCode::DoubleName`] where one of them has its name, [`SheetCode::TwoMultiplexors`] where it is the
-    /// multiplexor and one of them is too.
+    /// Why the signal can't be added, in this order: [`SheetCode::TooMany`] where there are
+    /// [`ROSTER_LIMIT`](crate::ROSTER_LIMIT) signals, [`SheetCode::DoubleName`] where one of them has its name,
+    /// [`SheetCode::TwoMultiplexors`] where it is the multiplexor and one of them is too.
     pub fn refusal(&self, signal: &Signal) -> Option<SheetCode>
         ensures { result ≡ first_refusal (signal_tests self.now signal.now) }
     {
-        if self.roster.is_full() {
-            Some(SheetCode::TooMany)
-        } else if self.roster.has_name(&signal.name) {
-            Some(SheetCode::DoubleName)
-        } else if signal.mux.is_multiplexor() && self.switched {
-            Some(SheetCode::TwoMultiplexors)
-        } else {
-            None
+        match self.roster.refusal(&signal.name) {
+            Some(code) => Some(code),
+            None if signal.mux.is_multiplexor() && self.multiplexed => {
+                Some(SheetCode::TwoMultiplexors)
+            }
+            None => None,
         }
     }
 
     /// Adds a signal as the last one. It is refused, and nothing changes, with what [`Signals::refusal`] says.
-    /// [`SheetCode::Memory`] is want of memory, and nothing changes either.
+    /// [`SheetCode::Memory`] is out of memory, and nothing changes either.
     pub fn add(&mut self, alloc: Global, signal: Signal) -> Result<(), SheetCode>
         ensures ok { OnOk result (self.new ≡ self.old ++ signal ∷ []) }
         ensures allowed { OnOk result (first_refusal (signal_tests self.old signal) ≡ None) }
@@ -89,11 +87,11 @@ impl Signals {
         }
         let multiplexor = signal.mux.is_multiplexor();
         self.roster.push(alloc, signal)?;
-        self.switched |= multiplexor;
+        self.multiplexed |= multiplexor;
         Ok(())
     }
 
-    /// The places of the signals, in order. The error is want of memory.
+    /// The places of the signals, in order. The error is out of memory.
     pub fn places(&self, alloc: Global) -> Result<Vec<Place>, AllocError>
         ensures { IfOk result (λ places. places.items ≡ places_of self.now) }
     {
@@ -109,7 +107,7 @@ impl Copying for Signals {
     fn duplicate(&self, alloc: Global) -> Result<Self, AllocError> {
         Ok(Signals {
             roster: self.roster.duplicate(alloc)?,
-            switched: self.switched,
+            multiplexed: self.multiplexed,
         })
     }
 }
@@ -132,4 +130,13 @@ impl Eq for Signals {
     ghost use Rattle.catalogue.specs.contracts.signal.SignalEq.TheImpl.Laws.{laws-law};
 
     ghost laws = { lists_equiv laws-law };
+}
+
+impl Drop for Signals {
+    fn drop(self) {
+        let Signals {
+            roster: _roster,
+            multiplexed: _multiplexed,
+        } = self;
+    }
 }

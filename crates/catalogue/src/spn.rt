@@ -1,9 +1,11 @@
+//! Suspect parameter numbers.
 ghost use Rattle.std.specs.Prelude.{◌≡◌, ◌≤◌, SomeIff};
 ghost use Rattle.catalogue.specs.Limits.{spn_limit};
 
+use crate::limits::SPN_LIMIT;
 use std::marker::Model;
 
-/// The suspect parameter number of a signal (SAE J1939): 0 to 524287, where 0 is none. Contracts see it as the
+/// The suspect parameter number of a signal (SAE J1939): 0 to [`SPN_LIMIT`], where 0 is none. Contracts see it as the
 /// number.
 #[derive(Clone, Copy, Debug, PartialEq, Eq, PartialOrd, Ord, Hash)]
 pub struct Spn {
@@ -27,18 +29,18 @@ impl Spn {
     /// No number.
     pub const NONE: Spn = Spn { number: 0 };
 
-    /// The suspect parameter number of this value, or `None` above 524287.
+    /// The suspect parameter number of this value, or `None` above [`SPN_LIMIT`].
     pub fn new(number: u32) -> Option<Spn>
         ensures { SomeIff result (number ≤ spn_limit) number }
     {
-        if number <= 524_287 {
+        if number <= SPN_LIMIT {
             Some(Spn { number })
         } else {
             None
         }
     }
 
-    /// The number, 0 to 524287, where 0 is none.
+    /// The number, 0 to [`SPN_LIMIT`], where 0 is none.
     pub fn number(self) -> u32
         ensures value { result ≡ self }
         ensures range { result ≤ spn_limit }

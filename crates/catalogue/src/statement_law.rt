@@ -1,17 +1,12 @@
 //! Laws of the statements of a DBC file. The functions do nothing: what they say is their contracts.
-ghost use Rattle.catalogue.specs.Division.{
-  DivisionsAreParts,
-  OneDivision,
-  OneParting,
-  OneStatement,
-  ReadingIsExact,
-  StatementsAreRuns,
-};
-ghost use Rattle.catalogue.specs.Fields.{NumbersAreIdentifiers};
+ghost use Rattle.catalogue.specs.Division.{DivisionsAreParts, OneDivision, OneParting, OneStatement, ReadingIsExact, StatementsAreRuns};
+ghost use Rattle.catalogue.specs.Fields.{NumbersAreDecimals, NumbersAreIdentifiers};
 
-/// No two statements begin at one place: of the runs of tokens from there that the end follows, or a keyword other
-/// than `SG_`, at most one is a statement, and it says one thing. What a statement leaves is what follows such a run,
-/// which isn't empty.
+use decimal::readings_are_computed;
+
+/// Of the runs of tokens that begin with one token and are followed by the end or by a keyword other than `SG_`, at most
+/// one is a statement, and it can be read in only one way. What a statement leaves is what follows such a run, which is
+/// not empty.
 pub fn statements_are_single()
     ensures one { OneStatement }
     ensures runs { StatementsAreRuns }
@@ -34,3 +29,10 @@ pub fn reading_is_exact()
 pub fn message_numbers_are_identifiers()
     ensures { NumbersAreIdentifiers }
 {}
+
+/// The decimals that the grammar reads are those that number tokens write, by the equation of values.
+pub fn numbers_are_decimals()
+    ensures { NumbersAreDecimals }
+{
+    readings_are_computed();
+}

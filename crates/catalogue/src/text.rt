@@ -1,3 +1,4 @@
+//! What is between the quotes of a text.
 ghost use Rattle.std.specs.Prelude.{◌≡◌, ◌↔◌, [], IfOk, IsTrue, SomeIff};
 ghost use Rattle.catalogue.specs.Text.{IsText, is_text};
 
@@ -5,29 +6,29 @@ use crate::copying::Copying;
 use std::alloc::{AllocError, Global};
 use std::marker::Model;
 
-/// Whether the bytes can stand between the quotes of one text.
+/// Whether the bytes can be between the quotes of one text.
 fn is_text(bytes: &[u8]) -> bool
     ensures { result ≡ is_text bytes.now }
 {
-    let mut taken = false;
+    let mut escaped = false;
     for byte in bytes {
-        if taken {
-            taken = false;
+        if escaped {
+            escaped = false;
         } else if *byte == b'"' {
             return false;
         } else {
-            taken = *byte == b'\\';
+            escaped = *byte == b'\\';
         }
     }
-    !taken
+    !escaped
 }
 
-/// What stands between the quotes of one text of a DBC file: a version, a comment, a unit, the text of a value.
+/// What is between the quotes of one text of a DBC file: a version, a comment, a unit, the text of a value.
 /// Contracts see it as its bytes, and the bytes stay as they are written, backslashes too.
 ///
-/// Any byte may stand there. A backslash takes the next byte with it, so none stands alone at the end, and no other
+/// Any byte may occur. A backslash escapes the next byte, so none is alone at the end, and no other
 /// byte is a quote (Vector's DBC File Format Documentation, character strings, in this project's profile).
-#[derive(Debug, Drop)]
+#[derive(Debug)]
 pub struct Text {
     bytes: Vec<u8>,
 }
@@ -53,7 +54,7 @@ impl Text {
         }
     }
 
-    /// The text that the bytes are, or `None` where they can't stand between the quotes of one text: a quote has no
+    /// The text that the bytes are, or `None` where they can't be between the quotes of one text: a quote has no
     /// backslash before it that takes it, or the last byte is such a backslash.
     pub fn of(alloc: Global, bytes: &[u8]) -> Result<Option<Text>, AllocError>
         ensures { IfOk result (λ found. SomeIff found (IsText bytes.now) bytes.now) }
@@ -109,5 +110,11 @@ impl Copying for Text {
         Ok(Text {
             bytes: Vec::from_slice(alloc, self.as_bytes())?,
         })
+    }
+}
+
+impl Drop for Text {
+    fn drop(self) {
+        let Text { bytes: _bytes } = self;
     }
 }

@@ -1,3 +1,4 @@
+//! Kinds of token.
 /// The kinds of token of a DBC file.
 #[derive(Clone, Copy, Debug, PartialEq, Eq, Hash)]
 pub enum TokenKind {

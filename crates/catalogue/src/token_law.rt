@@ -1,10 +1,11 @@
+//! A law of the tokens of a DBC text, which holds of their definition: no code is part of it.
 ghost use Rattle.catalogue.specs.TokenLaw.{TokensAreRead, TokensAreOne, TokensAreSlices, FaultsAreExact, InsidesAreKept};
 
 /// What holds of the tokens of every DBC text, as `specs/TokenLaw.antt` says it; it does nothing.
 ///
 /// A text has exactly the tokens that are read of it without a fault, and at most one list of them. Reading ends with a
-/// fault exactly where no token begins behind those that were read. All tokens that are read are slices of the text, in
-/// order, and the value of a text token is what stands inside its quotes.
+/// fault exactly where no token begins after those that were read. All tokens that are read are slices of the text, in
+/// order, and the value of a text token is what is inside its quotes.
 pub fn tokens_are_exact()
     ensures read { TokensAreRead }
     ensures one { TokensAreOne }

@@ -1,11 +1,12 @@
+//! Named tables of texts for values.
 use crate::copying::Copying;
 use crate::name::Name;
 use crate::roster::Named;
 use crate::value_texts::ValueTexts;
 use std::alloc::{AllocError, Global};
 
-/// A named table of texts for values, that stands for itself: signals have lists of their own.
-#[derive(Debug, PartialEq, Eq, Drop)]
+/// A named table of texts for values. No signal refers to it: signals have lists of their own.
+#[derive(Debug, PartialEq, Eq)]
 pub struct ValueTable {
     /// The table's name.
     pub name: Name,
@@ -27,5 +28,14 @@ impl Copying for ValueTable {
             name: self.name.duplicate(alloc)?,
             entries: self.entries.duplicate(alloc)?,
         })
+    }
+}
+
+impl Drop for ValueTable {
+    fn drop(self) {
+        let ValueTable {
+            name: _name,
+            entries: _entries,
+        } = self;
     }
 }

@@ -4,13 +4,14 @@ ghost use Rattle.catalogue.specs.Limits.{value_text_limit};
 
 use crate::copying::{Copying, duplicates};
 use crate::items::Items;
+use crate::limits::VALUE_TEXT_LIMIT;
 use crate::text::Text;
 use decimal::Decimal;
 use std::alloc::{AllocError, Global};
 use std::marker::Model;
 
-/// A value, and the text that stands for it.
-#[derive(Debug, PartialEq, Eq, Drop)]
+/// A value, and the text that describes it.
+#[derive(Debug, PartialEq, Eq)]
 pub struct ValueText {
     /// The value.
     pub value: Decimal,
@@ -27,12 +28,9 @@ impl Copying for ValueText {
     }
 }
 
-/// The greatest number of texts in one list of them.
-pub const VALUE_TEXT_LIMIT: usize = 65_536;
-
-/// At most 65,536 values with their texts, in the order in which they are written; a value may stand there twice.
-/// Contracts see it as the list of them.
-#[derive(Debug, PartialEq, Eq, Drop)]
+/// At most [`VALUE_TEXT_LIMIT`] values with their texts, in the order in which they are written; a value may occur
+/// twice. Contracts see it as the list of them.
+#[derive(Debug, PartialEq, Eq)]
 pub struct ValueTexts {
     entries: Items<ValueText>,
 }
@@ -61,7 +59,7 @@ impl ValueTexts {
         }
     }
 
-    /// The list of these entries, or `None` where they are more than 65,536. Takes no memory.
+    /// The list of these entries, or `None` where there are more than [`VALUE_TEXT_LIMIT`]. Takes no memory.
     pub fn of(entries: Vec<ValueText>) -> Option<ValueTexts>
         ensures { SomeIff result (length entries.items ≤ value_text_limit) entries.items }
     {
@@ -87,5 +85,20 @@ impl Copying for ValueTexts {
         Ok(ValueTexts {
             entries: self.entries.duplicate(alloc)?,
         })
+    }
+}
+
+impl Drop for ValueText {
+    fn drop(self) {
+        let ValueText {
+            value: _value,
+            text: _text,
+        } = self;
+    }
+}
+
+impl Drop for ValueTexts {
+    fn drop(self) {
+        let ValueTexts { entries: _entries } = self;
     }
 }

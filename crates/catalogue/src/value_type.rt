@@ -1,3 +1,4 @@
+//! How the bits of a signal are read.
 ghost use Rattle.std.specs.Prelude.{◌≡◌};
 ghost use Rattle.catalogue.specs.ValueType.{value_type_number, value_type_of};
 

@@ -1,77 +1,62 @@
 //! Which sheets are clear.
-use crate::made::{message, signal};
+use crate::made::message;
+use crate::offers::{answers_signal, says};
 use bitlayout::Mux;
-use catalogue::{Message, Sheet, SheetCode, SheetFault};
+use catalogue::{Message, Sheet};
 use std::alloc::Global;
-use std::test::Fail;
 
-/// Two signals of 8 bits at the starts.
-fn add_bytes(alloc: Global, message: &mut Message, starts: [u16; 2]) -> Result<(), Fail> {
-    let names: [&[u8]; 2] = [b"P", b"Q"];
-    for (start, name) in starts.into_iter().zip(names) {
-        message.with_signal(alloc, signal(alloc, name, start, 8, Mux::Always)?)?;
-    }
-    Ok(())
+/// Adds two signals of 8 bits.
+fn add_signals(alloc: Global, message: &mut Message, starts: (u16, u16), mux: Mux) -> Option<bool> {
+    let first = answers_signal(alloc, message, b"P", starts.0, mux, "done")?;
+    let second = answers_signal(alloc, message, b"Q", starts.1, mux, "done")?;
+    Some(first && second)
 }
 
-/// A message of 8 bytes with a signal of 8 bits at each of the starts.
-fn add_message(
+/// Whether the sheet is clear, or why not, once it has one more message of two signals.
+fn answers(
     alloc: Global,
     sheet: &mut Sheet,
     number: u32,
-    name: &[u8],
-    starts: [u16; 2],
-) -> Result<(), Fail> {
-    let mut message = message(alloc, number, name)?;
-    add_bytes(alloc, &mut message, starts)?;
-    sheet.with_message(alloc, message)?;
-    Ok(())
+    starts: (u16, u16),
+    mux: Mux,
+    wanted: &str,
+) -> Option<bool> {
+    let name = format!(in alloc; "M{number}").ok()?;
+    let mut message = message(alloc, number, name.as_bytes())?;
+    let added = add_signals(alloc, &mut message, starts, mux)?;
+    sheet.with_message(alloc, message).ok()?;
+    Some(added && says(alloc, sheet.is_clear(alloc), wanted))
 }
 
 #[test]
-fn a_clear_sheet(rt: HostRuntime) -> Result<(), Fail> {
+fn the_first_unclear_message(rt: HostRuntime) {
     let mut sheet = Sheet::new(rt.alloc());
-    assert_eq!(rt; sheet.is_clear(rt.alloc()), Ok(()));
-    add_message(rt.alloc(), &mut sheet, 1, b"A", [0, 8])?;
-    add_message(rt.alloc(), &mut sheet, 2, b"B", [56, 16])?;
-    assert_eq!(rt; sheet.is_clear(rt.alloc()), Ok(()));
-    Ok(())
-}
-
-fn unclear(code: SheetCode, number: u32) -> Result<(), SheetFault> {
-    Err(SheetFault { code, number })
-}
-
-#[test]
-fn the_first_unclear_message(rt: HostRuntime) -> Result<(), Fail> {
-    let mut sheet = Sheet::new(rt.alloc());
-    add_message(rt.alloc(), &mut sheet, 9, b"D", [57, 0])?;
-    add_message(rt.alloc(), &mut sheet, 7, b"C", [0, 7])?;
-    add_message(rt.alloc(), &mut sheet, 5, b"B", [0, 8])?;
-    assert_eq!(rt; sheet.is_clear(rt.alloc()), unclear(SheetCode::Clash, 7));
+    for (number, starts, mux, wanted) in [
+        (5, (0, 8), Mux::Always, "done"),
+        (6, (56, 16), Mux::Always, "done"),
+        (
+            9,
+            (57, 0),
+            Mux::Always,
+            "22 OutsidePayload: signals of message 9",
+        ),
+        (7, (0, 7), Mux::Always, "23 Clash: signals of message 7"),
+        (
+            1,
+            (0, 8),
+            Mux::Under(0),
+            "24 NoMultiplexor: signals of message 1",
+        ),
+    ] {
+        let answered = answers(rt.alloc(), &mut sheet, number, starts, mux, wanted);
+        assert!(rt; answered == Some(true), "{wanted}");
+    }
+    sheet.without_message(1);
     sheet.without_message(7);
-    assert_eq!(rt;
+    let after = says(
+        rt.alloc(),
         sheet.is_clear(rt.alloc()),
-        unclear(SheetCode::OutsidePayload, 9)
+        "22 OutsidePayload: signals of message 9",
     );
-    Ok(())
-}
-
-fn add_under(alloc: Global, sheet: &mut Sheet) -> Result<(), Fail> {
-    let under = signal(alloc, b"P", 0, 4, Mux::Under(0))?;
-    let mut message = message(alloc, 1, b"A")?;
-    message.with_signal(alloc, under)?;
-    sheet.with_message(alloc, message)?;
-    Ok(())
-}
-
-#[test]
-fn a_signal_without_its_multiplexor(rt: HostRuntime) -> Result<(), Fail> {
-    let mut sheet = Sheet::new(rt.alloc());
-    add_under(rt.alloc(), &mut sheet)?;
-    assert_eq!(rt;
-        sheet.is_clear(rt.alloc()),
-        unclear(SheetCode::NoMultiplexor, 1)
-    );
-    Ok(())
+    assert!(rt; after);
 }

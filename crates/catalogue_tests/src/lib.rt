@@ -8,6 +8,6 @@ mod limits;
 #[cfg(test)]
 mod made;
 #[cfg(test)]
-mod parts;
+mod offers;
 #[cfg(test)]
 mod sheets;

@@ -1,108 +1,98 @@
-//! Sheets and messages of the greatest size.
-use crate::made::{message, node, signal};
+//! Sheets, messages and lists of the greatest size.
+use crate::made::{add_value, message};
+use crate::offers::{answers_message, answers_node, answers_signal};
 use bitlayout::Mux;
-use catalogue::{MESSAGE_LIMIT, Message, ROSTER_LIMIT, Sheet, SheetCode, SheetFault};
+use catalogue::{MESSAGE_LIMIT, Message, ROSTER_LIMIT, Sheet, VALUE_TEXT_LIMIT, ValueTexts};
 use std::alloc::Global;
-use std::test::Fail;
 
-/// `M` and the number.
-fn numbered(alloc: Global, number: u32) -> Result<Message, Fail> {
-    let name = format!(in alloc; "M{number}")?;
-    message(alloc, number, name.as_bytes())
+/// Whether the sheet answers so to a message of the number.
+fn takes_message(alloc: Global, sheet: &mut Sheet, number: u32, wanted: &str) -> Option<bool> {
+    let name = format!(in alloc; "M{number}").ok()?;
+    answers_message(alloc, sheet, number, name.as_bytes(), wanted)
 }
 
-fn fill(alloc: Global, sheet: &mut Sheet) -> Result<(), Fail> {
-    for number in 0..16_384 {
-        sheet.with_message(alloc, numbered(alloc, 2_147_483_648 + number)?)?;
+/// Whether a copy is equal to the sheet until a message is taken out of it.
+fn is_copied(alloc: Global, sheet: &Sheet) -> Option<bool> {
+    let mut copy = sheet.copy(alloc).ok()?;
+    let equal = copy == *sheet;
+    let taken = copy.without_message(2_147_491_840).is_some();
+    Some(equal && taken && copy != *sheet)
+}
+
+#[test]
+fn one_message_too_many(rt: HostRuntime) {
+    let mut sheet = Sheet::new(rt.alloc());
+    for index in 0..16_384 {
+        let taken = takes_message(rt.alloc(), &mut sheet, 2_147_483_648 + index, "done");
+        assert!(rt; taken == Some(true), "{index}");
     }
-    Ok(())
-}
-
-/// The sheet of 16,384 messages with the least 29-bit identifiers.
-fn full_sheet(alloc: Global) -> Result<Sheet, Fail> {
-    let mut sheet = Sheet::new(alloc);
-    fill(alloc, &mut sheet)?;
-    Ok(sheet)
-}
-
-#[test]
-fn the_greatest_sheet_is_copied(rt: HostRuntime) -> Result<(), Fail> {
-    let sheet = full_sheet(rt.alloc())?;
-    assert_eq!(rt; sheet.messages().len(), MESSAGE_LIMIT);
-    let mut copy = sheet.copy(rt.alloc())?;
-    assert!(rt; copy == sheet);
-    assert!(rt; copy.without_message(2_147_491_840).is_some());
-    assert!(rt; copy != sheet);
-    Ok(())
-}
-
-fn too_many(number: u32) -> Result<(), SheetFault> {
-    Err(SheetFault {
-        code: SheetCode::TooMany,
-        number,
-    })
-}
-
-/// What the sheet answers to a message of the number.
-fn offered(alloc: Global, sheet: &mut Sheet, number: u32) -> Result<Result<(), SheetFault>, Fail> {
-    let offered = numbered(alloc, number)?;
-    Ok(sheet.with_message(alloc, offered))
-}
-
-#[test]
-fn one_message_too_many(rt: HostRuntime) -> Result<(), Fail> {
-    let mut sheet = full_sheet(rt.alloc())?;
-    for number in [1, 2_147_483_648] {
-        let answer = offered(rt.alloc(), &mut sheet, number)?;
-        assert_eq!(rt; answer, too_many(number));
+    assert!(rt; sheet.messages().len() == MESSAGE_LIMIT);
+    assert!(rt; is_copied(rt.alloc(), &sheet) == Some(true));
+    for (number, wanted) in [
+        (1, "26 TooMany: message 1"),
+        (2_147_483_648, "26 TooMany: message 2147483648"),
+    ] {
+        let refused = takes_message(rt.alloc(), &mut sheet, number, wanted);
+        assert!(rt; refused == Some(true), "{wanted}");
     }
-    assert_eq!(rt; sheet.messages().len(), 16_384);
-    Ok(())
+    assert!(rt; sheet.messages().len() == 16_384);
 }
 
-fn add_node(
-    alloc: Global,
-    sheet: &mut Sheet,
-    number: usize,
-) -> Result<Result<(), SheetFault>, Fail> {
-    let name = format!(in alloc; "N{number}")?;
-    let node = node(alloc, name.as_bytes())?;
-    Ok(sheet.with_node(alloc, node))
+/// Whether the sheet answers so to a node of the name `N` and the number.
+fn takes_node(alloc: Global, sheet: &mut Sheet, number: usize, wanted: &str) -> Option<bool> {
+    let name = format!(in alloc; "N{number}").ok()?;
+    answers_node(alloc, sheet, name.as_bytes(), wanted)
 }
 
 #[test]
-fn one_node_too_many(rt: HostRuntime) -> Result<(), Fail> {
+fn one_node_too_many(rt: HostRuntime) {
     let mut sheet = Sheet::new(rt.alloc());
     for number in 0..ROSTER_LIMIT {
-        let answer = add_node(rt.alloc(), &mut sheet, number)?;
-        assert_eq!(rt; answer, Ok(()));
+        assert!(rt; takes_node(rt.alloc(), &mut sheet, number, "done") == Some(true));
     }
-    let answer = add_node(rt.alloc(), &mut sheet, 0)?;
-    assert_eq!(rt; answer, too_many(0));
-    assert_eq!(rt; sheet.nodes().len(), 4_096);
-    Ok(())
+    let refused = takes_node(rt.alloc(), &mut sheet, 0, "26 TooMany: a node");
+    assert!(rt; refused == Some(true));
+    assert!(rt; sheet.nodes().len() == 4_096);
 }
 
-fn add_signal(
-    alloc: Global,
-    message: &mut Message,
-    number: usize,
-    mux: Mux,
-) -> Result<Result<(), SheetFault>, Fail> {
-    let name = format!(in alloc; "S{number}")?;
-    let signal = signal(alloc, name.as_bytes(), 0, 1, mux)?;
-    Ok(message.with_signal(alloc, signal))
+/// Whether the message takes a signal of the name `S` and the number.
+fn takes_signal(alloc: Global, message: &mut Message, number: usize) -> Option<bool> {
+    let name = format!(in alloc; "S{number}").ok()?;
+    answers_signal(alloc, message, name.as_bytes(), 0, Mux::Always, "done")
+}
+
+/// Whether the message takes 4,096 signals and refuses one more.
+fn takes_signals(alloc: Global, message: &mut Message) -> Option<bool> {
+    let mut taken = true;
+    for number in 0..ROSTER_LIMIT {
+        taken = takes_signal(alloc, message, number)? && taken;
+    }
+    let wanted = "26 TooMany: message 1";
+    let refused = answers_signal(alloc, message, b"S0", 0, Mux::Multiplexor, wanted)?;
+    Some(taken && refused && message.signals.as_slice().len() == 4_096)
+}
+
+fn a_message_takes_signals(alloc: Global) -> Option<bool> {
+    let mut message = message(alloc, 1, b"A")?;
+    takes_signals(alloc, &mut message)
 }
 
 #[test]
-fn one_signal_too_many(rt: HostRuntime) -> Result<(), Fail> {
-    let mut message = message(rt.alloc(), 1, b"A")?;
-    for number in 0..ROSTER_LIMIT {
-        let answer = add_signal(rt.alloc(), &mut message, number, Mux::Always)?;
-        assert_eq!(rt; answer, Ok(()));
+fn one_signal_too_many(rt: HostRuntime) {
+    assert!(rt; a_message_takes_signals(rt.alloc()) == Some(true));
+}
+
+/// Whether so many values make a list.
+fn lists(alloc: Global, count: usize) -> Option<bool> {
+    let mut entries = Vec::new(alloc);
+    for _ in 0..count {
+        add_value(alloc, &mut entries, b"0", b"Off")?;
     }
-    let answer = add_signal(rt.alloc(), &mut message, 0, Mux::Multiplexor)?;
-    assert_eq!(rt; answer, too_many(1));
-    assert_eq!(rt; message.signals.as_slice().len(), 4_096);
-    Ok(())
+    Some(ValueTexts::of(entries).is_some())
+}
+
+#[test]
+fn one_value_too_many(rt: HostRuntime) {
+    assert!(rt; lists(rt.alloc(), VALUE_TEXT_LIMIT) == Some(true));
+    assert!(rt; lists(rt.alloc(), 65_537) == Some(false));
 }

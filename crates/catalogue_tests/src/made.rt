@@ -1,4 +1,4 @@
-//! Parts that the tests build.
+//! Parts that the tests build. A part is `None` where memory is refused, or where it can't be built as asked.
 use bitlayout::{Layout, Mux, Order, Size};
 use can_id::Ident;
 use catalogue::{
@@ -7,34 +7,35 @@ use catalogue::{
 };
 use decimal::Decimal;
 use std::alloc::Global;
-use std::test::Fail;
 
-pub(crate) fn name(alloc: Global, bytes: &[u8]) -> Result<Name, Fail> {
-    Ok(Name::of(alloc, bytes)?.ok_or("no name")?)
+pub(crate) fn name(alloc: Global, bytes: &[u8]) -> Option<Name> {
+    Name::of(alloc, bytes).ok()?
 }
 
-pub(crate) fn text(alloc: Global, bytes: &[u8]) -> Result<Text, Fail> {
-    Ok(Text::of(alloc, bytes)?.ok_or("no text")?)
+pub(crate) fn text(alloc: Global, bytes: &[u8]) -> Option<Text> {
+    Text::of(alloc, bytes).ok()?
 }
 
-pub(crate) fn decimal(spelling: &[u8]) -> Result<Decimal, Fail> {
-    Ok(Decimal::read(false, spelling)?)
+pub(crate) fn decimal(spelling: &[u8]) -> Option<Decimal> {
+    Decimal::read(false, spelling).ok()
 }
 
-pub(crate) fn node(alloc: Global, bytes: &[u8]) -> Result<Node, Fail> {
-    Ok(Node {
-        name: name(alloc, bytes)?,
+pub(crate) fn node(alloc: Global, bytes: &[u8]) -> Option<Node> {
+    let name = name(alloc, bytes)?;
+    Some(Node {
+        name,
         comment: Text::empty(alloc),
     })
 }
 
 /// A message of 8 bytes without signals.
-pub(crate) fn message(alloc: Global, number: u32, bytes: &[u8]) -> Result<Message, Fail> {
-    let ident = Ident::from_dbc(number)?;
-    let length = PayloadLength::new(8).ok_or("no length")?;
-    Ok(Message {
+pub(crate) fn message(alloc: Global, number: u32, bytes: &[u8]) -> Option<Message> {
+    let ident = Ident::from_dbc(number).ok()?;
+    let length = PayloadLength::new(8)?;
+    let name = name(alloc, bytes)?;
+    Some(Message {
         ident,
-        name: name(alloc, bytes)?,
+        name,
         length,
         transmitter: None,
         comment: Text::empty(alloc),
@@ -42,24 +43,18 @@ pub(crate) fn message(alloc: Global, number: u32, bytes: &[u8]) -> Result<Messag
     })
 }
 
-pub(crate) fn layout(start: u16, bits: u8, order: Order) -> Result<Layout, Fail> {
-    let size = Size::new(bits).ok_or("no size")?;
-    Ok(Layout { start, size, order })
-}
-
-/// An unsigned signal of factor 1 at these bits, Intel.
-pub(crate) fn signal(
-    alloc: Global,
-    bytes: &[u8],
-    start: u16,
-    bits: u8,
-    mux: Mux,
-) -> Result<Signal, Fail> {
-    let layout = layout(start, bits, Order::Intel)?;
+/// An unsigned signal of 8 bits and factor 1, Intel.
+pub(crate) fn signal(alloc: Global, bytes: &[u8], start: u16, mux: Mux) -> Option<Signal> {
+    let size = Size::new(8)?;
     let factor = decimal(b"1")?;
-    Ok(Signal {
-        name: name(alloc, bytes)?,
-        layout,
+    let name = name(alloc, bytes)?;
+    Some(Signal {
+        name,
+        layout: Layout {
+            start,
+            size,
+            order: Order::Intel,
+        },
         signed: false,
         mux,
         factor,
@@ -75,9 +70,14 @@ pub(crate) fn signal(
     })
 }
 
-pub(crate) fn value_text(alloc: Global, value: &[u8], bytes: &[u8]) -> Result<ValueText, Fail> {
-    Ok(ValueText {
-        value: decimal(value)?,
-        text: text(alloc, bytes)?,
-    })
+/// Adds a value with its text.
+pub(crate) fn add_value(
+    alloc: Global,
+    entries: &mut Vec<ValueText>,
+    value: &[u8],
+    bytes: &[u8],
+) -> Option<()> {
+    let value = decimal(value)?;
+    let text = text(alloc, bytes)?;
+    entries.push(ValueText { value, text }).ok()
 }

@@ -2,32 +2,48 @@
 use Rattle.std.specs.Prelude.{ℕ, ◌+◌, ◌*◌, ◌-◌, nat_lt, Bool, List, [], ◌∷◌, ◌++◌, length, map, Option, Some, None, if◌then◌else◌, position, slice_get, codes, decimal, replicate}
 use Rattle.std.specs.List.{count_by, flat_map, range_with_len, enumerate_from}
 use Rattle.std.specs.Option.{option_map_or}
-use Rattle.bitlayout.specs.declared.layout.Order.{Order}
-use Rattle.bitlayout.specs.declared.layout.Order.TheVariants.{Intel, Motorola}
 use Rattle.bitlayout.specs.declared.layout.Layout.{Layout}
 use Rattle.bitlayout.specs.declared.place.Mux.{Mux}
-use Rattle.bitlayout.specs.declared.place.Mux.TheVariants.{Always, Multiplexor, Under}
+use Rattle.bitlayout.specs.declared.place.Mux.TheVariants.{Always}
 use Rattle.bitlayout.specs.declared.place.Place.{Place}
 use Rattle.bitlayout.specs.declared.clash.Clash.{Clash}
 use Rattle.bitlayout.specs.declared.clash.Clash.TheVariants.{Outside, TwoMultiplexors, NoMultiplexor, Overlap}
 use Rattle.bitlayout.specs.Bits.{is_bit}
 use Rattle.bitlayout.specs.Clash.{first_clash_of}
+use Rattle.bitlayout.specs.Mux.{indicator_of}
+use Rattle.bitlayout.specs.Order.{order_number}
 use Rattle.catalogue.specs.Fault.{clash_code, code_name, code_number}
 use Rattle.chart.specs.declared.signal.ChartSignal.{ChartSignal}
 
 -- ---- the lines of the bytes
 
--- the letter of the signal at an index: A (65) for the first to Z for the 26th, + (43) for those after it
+-- `A`, `+`, `#`, `.` and a space
+abbrev first_letter : ℕ
+first_letter = 65
+
+abbrev plus : ℕ
+plus = 43
+
+abbrev hash : ℕ
+hash = 35
+
+abbrev point : ℕ
+point = 46
+
+abbrev space : ℕ
+space = 32
+
+-- the letter of the signal at an index: `A` for the first to `Z` for the 26th, `+` for those after it
 abbrev pub letter_of : ℕ → ℕ
-letter_of i = if nat_lt i 26 then 65 + i else 43
+letter_of i = if nat_lt i 26 then first_letter + i else plus
 
 -- the signal has a bit at the position
 abbrev pub holds : ℕ → ChartSignal → Bool
 holds p signal = is_bit signal.place.layout p
 
--- the cell of a position: # (35) where two or more signals have it, else the letter of the one that has it, else a point (46)
+-- the cell of a position: `#` where two or more signals have it, else the letter of the one that has it, else `.`
 abbrev pub cell_of : List ChartSignal → ℕ → ℕ
-cell_of signals p = if nat_lt 1 (count_by (holds p) signals) then 35 else option_map_or letter_of (position (holds p) signals) 46
+cell_of signals p = if nat_lt 1 (count_by (holds p) signals) then hash else option_map_or letter_of (position (holds p) signals) point
 
 -- the bits of a byte, as they are written from left to right
 abbrev pub bits_of_byte : List ℕ
@@ -35,11 +51,11 @@ bits_of_byte = 7 ∷ 6 ∷ 5 ∷ 4 ∷ 3 ∷ 2 ∷ 1 ∷ 0 ∷ []
 
 -- the cells of a byte, each after a space
 abbrev pub cells_of : List ChartSignal → ℕ → List ℕ
-cells_of signals byte = flat_map (λ bit. 32 ∷ cell_of signals (8 * byte + bit) ∷ []) bits_of_byte
+cells_of signals byte = flat_map (λ bit. space ∷ cell_of signals (8 * byte + bit) ∷ []) bits_of_byte
 
--- a text set right in so many columns
+-- a text set right in this many columns
 abbrev pub set_right : ℕ → List ℕ → List ℕ
-set_right columns text = replicate (columns - length text) 32 ++ text
+set_right columns text = replicate (columns - length text) space ++ text
 
 -- the byte's number in 4 columns, and its cells
 abbrev pub byte_line : List ChartSignal → ℕ → List ℕ
@@ -47,24 +63,19 @@ byte_line signals byte = set_right 4 (decimal byte) ++ (cells_of signals byte ++
 
 -- ---- the lines of the signals
 
-abbrev pub order_text : Order → List ℕ
-order_text Intel = codes "1"
-order_text Motorola = codes "0"
-
 -- start|size@order
 abbrev pub layout_text : Layout → List ℕ
-layout_text layout = decimal layout.start ++ (codes "|" ++ (decimal layout.size ++ (codes "@" ++ order_text layout.order)))
+layout_text layout = decimal layout.start ++ (codes "|" ++ (decimal layout.size ++ (codes "@" ++ decimal (order_number layout.order))))
 
 -- a space and the mark, where there is one
 abbrev pub mark_text : Mux → List ℕ
 mark_text Always = []
-mark_text Multiplexor = codes " M"
-mark_text (Under value) = codes " m" ++ decimal value
+mark_text mux = codes " " ++ indicator_of mux
 
 -- letter, name, layout, mark
 abbrev pub signal_line : ℕ → ChartSignal → List ℕ
 signal_line i signal =
-    letter_of i ∷ 32 ∷ (signal.name ++ (codes " " ++ (layout_text signal.place.layout ++ (mark_text signal.place.mux ++ codes "\n"))))
+    letter_of i ∷ space ∷ (signal.name ++ (codes " " ++ (layout_text signal.place.layout ++ (mark_text signal.place.mux ++ codes "\n"))))
 
 -- ---- the last line
 

@@ -1,4 +1,4 @@
-//! The chart of a message's signals: which signal has which bit, and whether they can stand together.
+//! The chart of a message's signals: which signal has which bit, and whether they fit together.
 //!
 //! A [`ChartSignal`] is a name and a place. [`chart_text`] is the chart: for each byte of the payload a line with a
 //! cell for each bit, for each signal a line with its letter, and a last line that says `clear` or names the first
@@ -9,7 +9,6 @@
 //! `bitlayout` and the numbers and names of clashes of `catalogue`; `Word.antt` is the form of the words.
 #![tactic(auto)]
 
-mod bytes;
 mod number;
 mod signal;
 mod text;

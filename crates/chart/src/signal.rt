@@ -16,7 +16,7 @@ pub struct ChartSignal {
     pub place: Place,
 }
 
-// The signals' places, in order.
+/// The signals' places, in order.
 fn places_of(alloc: Global, signals: &[ChartSignal]) -> Result<Vec<Place>, AllocError>
     ensures { IfOk result (λ places. places.items ≡ places_of signals.now) }
 {
@@ -27,8 +27,8 @@ fn places_of(alloc: Global, signals: &[ChartSignal]) -> Result<Vec<Place>, Alloc
     Ok(places)
 }
 
-/// The first reason why the signals can't stand together in a message of `length` bytes, with their indices, or
-/// `None` where they are clear. The error is want of memory.
+/// The first reason why the signals do not fit together in a message of `length` bytes, with their indices, or
+/// `None` where they are clear. The error is out of memory.
 pub fn first_clash_of(
     alloc: Global,
     length: u16,

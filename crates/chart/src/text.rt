@@ -1,10 +1,10 @@
 //! The text of a chart.
 ghost use Rattle.std.specs.Prelude.{◌≡◌, ◌++◌, ℕ, List, ◌<◌, length, IfOk, position, string_bytes, decimal, codes};
 ghost use Rattle.std.specs.List.{count_by, flat_map, range_with_len, enumerate_from};
-ghost use Rattle.chart.specs.Text.{letter_of, holds, cell_of, cells_of, set_right, byte_line, order_text, layout_text, mark_text, signal_line, name_at, names_of, verdict_of, chart_of};
+ghost use Rattle.chart.specs.Text.{letter_of, holds, cell_of, cells_of, set_right, byte_line, layout_text, mark_text, signal_line, name_at, names_of, verdict_of, chart_of};
 
 use crate::signal::{ChartSignal, first_clash_of};
-use bitlayout::{Clash, Layout, Mux, Order, has_bit};
+use bitlayout::{Clash, Layout, Mux, has_bit};
 use catalogue::SheetCode;
 use std::alloc::{AllocError, Global};
 
@@ -14,7 +14,7 @@ const LETTERS: usize = 26;
 /// The bits of a byte, as they are written from left to right.
 const BITS: &[u32] = &[7, 6, 5, 4, 3, 2, 1, 0];
 
-// The letter of the signal at an index.
+/// The letter of the signal at an index.
 fn letter(index: usize) -> u8
     ensures { result ≡ letter_of index }
 {
@@ -25,7 +25,7 @@ fn letter(index: usize) -> u8
     }
 }
 
-// How many of the signals have a bit at the position.
+/// How many of the signals have a bit at the position.
 fn holder_count(signals: &[ChartSignal], at: u32) -> usize
     ensures { result ≡ count_by (holds at) signals.now }
 {
@@ -35,7 +35,7 @@ fn holder_count(signals: &[ChartSignal], at: u32) -> usize
         .count()
 }
 
-// The index of the first signal that has a bit at the position.
+/// The index of the first signal that has a bit at the position.
 fn first_holder(signals: &[ChartSignal], at: u32) -> Option<usize>
     ensures { result ≡ position (holds at) signals.now }
 {
@@ -44,7 +44,7 @@ fn first_holder(signals: &[ChartSignal], at: u32) -> Option<usize>
         .position(|signal| has_bit(signal.place.layout, at))
 }
 
-// What the chart shows at the position.
+/// What the chart shows at the position.
 fn cell(signals: &[ChartSignal], position: u32) -> u8
     ensures { result ≡ cell_of signals.now position }
 {
@@ -57,7 +57,7 @@ fn cell(signals: &[ChartSignal], position: u32) -> u8
     }
 }
 
-// The cells of a byte, each after a space.
+/// The cells of a byte, each after a space.
 fn cells(alloc: Global, signals: &[ChartSignal], byte: u16) -> Result<Vec<u8>, AllocError>
     ensures { IfOk result (λ text. text.items ≡ cells_of signals.now byte) }
 {
@@ -69,7 +69,7 @@ fn cells(alloc: Global, signals: &[ChartSignal], byte: u16) -> Result<Vec<u8>, A
     Ok(text)
 }
 
-// The text set right in so many columns.
+/// The text set right in this many columns.
 fn set_right(alloc: Global, columns: usize, text: &[u8]) -> Result<Vec<u8>, AllocError>
     ensures { IfOk result (λ set. set.items ≡ set_right columns text.now) }
 {
@@ -78,7 +78,7 @@ fn set_right(alloc: Global, columns: usize, text: &[u8]) -> Result<Vec<u8>, Allo
     Ok(set)
 }
 
-// The line of a byte.
+/// The line of a byte.
 fn byte_line(alloc: Global, signals: &[ChartSignal], byte: u16) -> Result<Vec<u8>, AllocError>
     ensures { IfOk result (λ text. text.items ≡ byte_line signals.now byte) }
 {
@@ -89,36 +89,26 @@ fn byte_line(alloc: Global, signals: &[ChartSignal], byte: u16) -> Result<Vec<u8
     Ok(line)
 }
 
-fn order_text(order: Order) -> &'static str
-    ensures { result.now ≡ order_text order }
-{
-    match order {
-        Order::Intel => "1",
-        Order::Motorola => "0",
-    }
-}
-
 fn layout_text(alloc: Global, layout: Layout) -> Result<String, AllocError>
     ensures { IfOk result (λ text. string_bytes text ≡ layout_text layout) }
 {
     let start = layout.start;
     let size = layout.size.bits();
-    let order = order_text(layout.order);
+    let order = layout.order.number();
     format!(in alloc; "{start}|{size}@{order}")
 }
 
-// A space and the mark, where there is one.
+/// A space and the mark, where there is one.
 fn mark_text(alloc: Global, mux: Mux) -> Result<String, AllocError>
     ensures { IfOk result (λ text. string_bytes text ≡ mark_text mux) }
 {
     match mux {
         Mux::Always => Ok(String::new(alloc)),
-        Mux::Multiplexor => String::from_str(alloc, " M"),
-        Mux::Under(value) => format!(in alloc; " m{value}"),
+        _ => format!(in alloc; " {}", mux.indicator().as_str()),
     }
 }
 
-// The line of the signal at an index.
+/// The line of the signal at an index.
 fn signal_line(alloc: Global, index: usize, signal: &ChartSignal) -> Result<Vec<u8>, AllocError>
     ensures { IfOk result (λ text. text.items ≡ signal_line index signal.now) }
 {
@@ -133,7 +123,7 @@ fn signal_line(alloc: Global, index: usize, signal: &ChartSignal) -> Result<Vec<
     Ok(line)
 }
 
-// The name of the signal at an index.
+/// The name of the signal at an index.
 fn name_at(signals: &[ChartSignal], index: usize) -> &[u8]
     ensures { result.now ≡ name_at signals.now index }
 {
@@ -143,7 +133,7 @@ fn name_at(signals: &[ChartSignal], index: usize) -> &[u8]
     }
 }
 
-// A name after a space.
+/// A name after a space.
 fn spaced(alloc: Global, name: &[u8]) -> Result<Vec<u8>, AllocError>
     ensures { IfOk result (λ text. text.items ≡ codes " " ++ name.now) }
 {
@@ -152,7 +142,7 @@ fn spaced(alloc: Global, name: &[u8]) -> Result<Vec<u8>, AllocError>
     Ok(text)
 }
 
-// The names of the signals of a clash, each after a space.
+/// The names of the signals of a clash, each after a space.
 fn clash_names(alloc: Global, signals: &[ChartSignal], clash: Clash) -> Result<Vec<u8>, AllocError>
     ensures { IfOk result (λ text. text.items ≡ names_of signals.now clash) }
 {
@@ -168,7 +158,7 @@ fn clash_names(alloc: Global, signals: &[ChartSignal], clash: Clash) -> Result<V
     }
 }
 
-// The last line: `clear`, or the first clash.
+/// The last line: `clear`, or the first clash.
 fn verdict(
     alloc: Global,
     signals: &[ChartSignal],
@@ -188,7 +178,7 @@ fn verdict(
     Ok(line)
 }
 
-// The lines of the bytes.
+/// The lines of the bytes.
 fn byte_lines(alloc: Global, length: u16, signals: &[ChartSignal]) -> Result<Vec<u8>, AllocError>
     ensures { IfOk result (λ text. text.items ≡ flat_map (byte_line signals.now) (range_with_len 0 length)) }
 {
@@ -199,7 +189,7 @@ fn byte_lines(alloc: Global, length: u16, signals: &[ChartSignal]) -> Result<Vec
     Ok(lines)
 }
 
-// The lines of the signals.
+/// The lines of the signals.
 fn signal_lines(alloc: Global, signals: &[ChartSignal]) -> Result<Vec<u8>, AllocError>
     ensures { IfOk result (λ text. text.items ≡ flat_map (λ p. signal_line p.0 p.1) (enumerate_from 0 signals.now)) }
 {
@@ -218,7 +208,7 @@ fn signal_lines(alloc: Global, signals: &[ChartSignal]) -> Result<Vec<u8>, Alloc
 /// has no cell. Then for each signal it has a line with its letter, its name, `start|size@order`, where the order is
 /// 1 for Intel and 0 for Motorola, and its mark, `M` or `mN`, where it has one. The last line is `clear`, or the
 /// number and the name of the first clash and the name of its signal, of two that share a bit the earlier one's and
-/// the later one's. The error is want of memory.
+/// the later one's. The error is out of memory.
 pub fn chart_text(
     alloc: Global,
     length: u16,

@@ -49,7 +49,7 @@ signal_line s = record {
 }
 
 abbrev pub message_line : Message → MessageLine
-message_line m = record { number = number_of m; name = m.name; length = m.length; transmitter = m.transmitter; signals = map signal_line m.signals }
+message_line m = record { ident = m.ident; name = m.name; length = m.length; transmitter = m.transmitter; signals = map signal_line m.signals }
 
 abbrev pub node_names : Sheet → List (List ℕ)
 node_names s = map (λ (n : Node). n.name) s.nodes

@@ -1,5 +1,5 @@
 -- The pieces of a decimal, by its sign.
-use Rattle.std.specs.Prelude.{Bool, List, [], ◌∷◌, ℕ, unsigned_abs, if◌then◌else◌}
+use Rattle.std.specs.Prelude.{codes, Bool, List, [], ◌∷◌, ℕ, unsigned_abs, if◌then◌else◌}
 use Rattle.decimal.specs.Number.{Number}
 use Rattle.decimal.specs.Printing.{unsigned_text}
 use Rattle.catalogue.specs.Canon.{Piece, mark, tight}
@@ -13,4 +13,4 @@ digits_piece gap n = record { gap = gap; kind = kind.Number; text = digits n }
 
 -- as `value` of the catalogue's `Canon`, where the sign is `is_negative n.mantissa`
 abbrev pub signed_pieces : Bool → List ℕ → Number → List Piece
-signed_pieces negative gap n = if negative then mark gap 45 ∷ digits_piece tight n ∷ [] else (digits_piece gap n ∷ [])
+signed_pieces negative gap n = if negative then mark gap (codes "-") ∷ digits_piece tight n ∷ [] else (digits_piece gap n ∷ [])

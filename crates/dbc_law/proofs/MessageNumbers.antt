@@ -1,16 +1,16 @@
--- The numbers of messages are those that statements may write.
-use Rattle.std.proofs.Common.{◌≡◌, ◌<◌, ◌^◌, true, refl, arith}
+-- The numbers of messages are those that statements may write, and stand for the messages' identifiers.
+use Rattle.std.proofs.Common.{◌≡◌, ◌<◌, ◌^◌, Some, refl, arith}
 use Rattle.can_id.specs.Ident.{IsIdentifier, dbc_number}
 use Rattle.can_id.specs.declared.ident.Ident.{Ident}
 use Rattle.can_id.specs.declared.ident.Ident.TheVariants.{Std, Ext}
-use Rattle.catalogue.specs.Fields.{is_dbc_number}
+use Rattle.catalogue.specs.Fields.{ident_of}
 use Rattle.catalogue.specs.Form.{IsMessage}
 use Rattle.catalogue.specs.Messages.{number_of}
 use Rattle.catalogue.specs.declared.message.Message.{Message}
 use Rattle.catalogue.proofs.Identifiers.{numbers_are_identifiers}
 
-pub number_range : (m : Message) → IsMessage m → is_dbc_number (number_of m) ≡ true
-number_range m h = (numbers_are_identifiers (number_of m)).1 (m.ident, h.ident, refl)
+pub number_ident : (m : Message) → IsMessage m → ident_of (number_of m) ≡ Some m.ident
+number_ident m h = (numbers_are_identifiers (number_of m) m.ident).1 (h.ident, refl)
 
 pub number_small : (m : Message) → IsMessage m → number_of m < 2 ^ 32
 number_small m h = of_ident m.ident h.ident

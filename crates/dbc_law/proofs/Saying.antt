@@ -2,9 +2,8 @@
 use Rattle.std.proofs.Common.{◌≡◌, ◌∙◌, ℕ, nat_eq, Bool, false, List, [], ◌∷◌, map, Option, None, unwrap_or, IsPermutation, refl, sym, ap, subst, append-nil}
 use Rattle.std.specs.List.{AllByRecursion, filter_map, flat_map, last_or}
 use Rattle.std.specs.Str.{bytes_eq}
-use Rattle.std.proofs.lemmas.List.Elements.{recursion_from_All}
 use Rattle.std.proofs.lemmas.List.Sorted.{IsPermutation-refl}
-use Rattle.catalogue.specs.Form.{IsMessage, IsSheet}
+use Rattle.catalogue.specs.Form.{IsSheet}
 use Rattle.catalogue.specs.Messages.{number_of}
 use Rattle.catalogue.specs.Saying.{
   SignalKey,
@@ -37,7 +36,6 @@ use Rattle.catalogue.specs.declared.sheet.Sheet.{Sheet}
 use Rattle.catalogue.specs.declared.signal.Signal.{Signal}
 use Rattle.catalogue.specs.declared.value_type.ValueType.TheVariants.{Integer}
 use Rattle.catalogue.proofs.EachSaid.{kept, said}
-use Rattle.catalogue.proofs.IdentNumbers.{ident_of_number-dbc_number}
 use Rattle.catalogue.proofs.SheetSaid.{message_signals, messages_said, nodes_said, part_entries, signal_key, signals_said}
 use Rattle.dbc_law.proofs.Contents.{comments, contents, contents_of, message_line, node_names, signal_line}
 use Rattle.dbc_law.proofs.SayingContents.{each_in-contents}
@@ -91,18 +89,18 @@ module _ (statements : List Statement) where
     value_type = t.0 i;
   } ∷ whole_signals m xs c.1 p.1 v.1 t.1 i
 
-  whole_messages : (ms : List Message) → AllByRecursion IsMessage ms → MessagesSaid ms → EachSignalSaid [] signal_comment_in (λ x. x.comment) ms
+  whole_messages : (ms : List Message) → MessagesSaid ms → EachSignalSaid [] signal_comment_in (λ x. x.comment) ms
       → EachSignalSaid 0 spn_in (λ x. x.spn) ms → EachSignalSaid [] value_texts_in (λ x. x.values) ms
       → EachSignalSaid Integer value_type_in (λ x. x.value_type) ms → map (whole_message statements) (map message_line ms) ≡ ms
-  whole_messages [] are own c p v t = refl
-  whole_messages (m ∷ ms) are own c p v t = λ i. record {
-    ident = ident_of_number-dbc_number m.ident are.0.ident i;
+  whole_messages [] own c p v t = refl
+  whole_messages (m ∷ ms) own c p v t = λ i. record {
+    ident = m.ident;
     name = m.name;
     length = m.length;
     transmitter = m.transmitter;
     comment = own.0 i;
     signals = whole_signals m m.signals c.0 p.0 v.0 t.0 i;
-  } ∷ whole_messages ms are.1 own.1 c.1 p.1 v.1 t.1 i
+  } ∷ whole_messages ms own.1 c.1 p.1 v.1 t.1 i
 
 module _ (s : Sheet) (is : IsSheet s) (statements : List Statement) (say : contents_of statements ≡ contents s) where
   -- what the contents say the statements say
@@ -132,7 +130,7 @@ module _ (s : Sheet) (is : IsSheet s) (statements : List Statement) (say : conte
   own_messages : map (whole_message statements) (messages_of statements) ≡ s.messages
   own_messages =
       ap (map (whole_message statements)) (said_by message_in _ (kinds.message_in-contents s))
-      ∙ whole_messages statements s.messages (recursion_from_All IsMessage s.messages is.messages) messages_own
+      ∙ whole_messages statements s.messages messages_own
       (signals_own some_of [] empty_list signal_comment_in (λ (x : Signal). x.comment) (kinds.signal_comment_in-contents s))
       (signals_own some_number 0 empty_number spn_in (λ (x : Signal). x.spn) (kinds.spn_in-contents s))
       (signals_own some_of [] empty_list value_texts_in (λ (x : Signal). x.values) (kinds.value_texts_in-contents s))

@@ -37,7 +37,7 @@ each_writes ls cs each s h =
 -- ---- suspect parameter numbers
 
 abbrev spn_behind : Message → Signal → List canon.Piece
-spn_behind m s = canon.quoted canon.space (codes "SPN") ∷ canon.signal_pieces m s ++ canon.number canon.space s.spn ∷ canon.mark canon.tight 59 ∷ []
+spn_behind m s = canon.quoted canon.space (codes "SPN") ∷ canon.signal_pieces m s ++ canon.number canon.space s.spn ∷ canon.mark canon.tight (codes ";") ∷ []
 
 spn_reads : (m : Message) (s : Signal) → IsMessage m → IsSignal s → (ts rest : List Token) → line ts (spn_behind m s) rest → grammar.next rest ≡ true
     → grammar.line keyword.AttributeValue ts (SpnIs (Some (number_of m)) s.name s.spn) rest
@@ -58,10 +58,10 @@ spn_writes m s h k = writes_unless (s.spn == 0) _ _ (writes_line keyword.Attribu
 abbrev definition_behind : List canon.Piece
 definition_behind =
     canon.word canon.space (codes "SG_") ∷ canon.quoted canon.space (codes "SPN") ∷ canon.word canon.space (codes "INT") ∷ canon.number canon.space 0
-    ∷ canon.number canon.space spn_limit ∷ canon.mark canon.tight 59 ∷ []
+    ∷ canon.number canon.space spn_limit ∷ canon.mark canon.tight (codes ";") ∷ []
 
 abbrev default_behind : List canon.Piece
-default_behind = canon.quoted canon.space (codes "SPN") ∷ canon.number canon.space 0 ∷ canon.mark canon.tight 59 ∷ []
+default_behind = canon.quoted canon.space (codes "SPN") ∷ canon.number canon.space 0 ∷ canon.mark canon.tight (codes ";") ∷ []
 
 definition_reads : (ts rest : List Token) → line ts definition_behind rest → grammar.next rest ≡ true → grammar.line keyword.AttributeDefinition ts PassedOver rest
 unfolding grammar.line grammar.passed_line grammar.skipped
@@ -116,7 +116,7 @@ texts_read : (m : Message) (s : Signal) (vs : List ValueText) → IsMessage m �
     → grammar.next rest ≡ true → grammar.line keyword.ValueTexts ts (ValueTextsAre (Some (number_of m)) s.name vs) rest
 unfolding grammar.line grammar.value_texts_line
 texts_read m s vs h k ts rest (a, number, (b, name, behind)) next =
-    parted (flat_map canon.entry vs) (canon.mark canon.space 59 ∷ []) b rest behind (λ c entries (d, mark, same).
+    parted (flat_map canon.entry vs) (canon.mark canon.space (codes ";") ∷ []) b rest behind (λ c entries (d, mark, same).
     inl (past number (says_cited m h)
     (past name (λ _ _. refl)
     (chain vs c (entries_read vs b c k entries)
@@ -138,7 +138,7 @@ says_type Float start end = rw (whole_decimal 1 (omega arith)) refl
 says_type Double start end = rw (whole_decimal 2 (omega arith)) refl
 
 abbrev type_behind : Message → Signal → List canon.Piece
-type_behind m s = canon.place_pieces m s ++ canon.mark canon.space 58 ∷ canon.number canon.space (value_type_number s.value_type) ∷ canon.mark canon.tight 59 ∷ []
+type_behind m s = canon.place_pieces m s ++ canon.mark canon.space (codes ":") ∷ canon.number canon.space (value_type_number s.value_type) ∷ canon.mark canon.tight (codes ";") ∷ []
 
 type_reads : (m : Message) (s : Signal) → IsMessage m → (ts rest : List Token) → line ts (type_behind m s) rest → grammar.next rest ≡ true
     → grammar.line keyword.SignalValueType ts (ValueTypeIs (Some (number_of m)) s.name s.value_type) rest

@@ -18,7 +18,7 @@ use Rattle.dbc_law.proofs.StatementRules.{finish, past}
 use Rattle.dbc_law.proofs.StatementWords.{says_cited, says_text}
 
 abbrev text_and_end : List ℕ → List canon.Piece
-text_and_end text = canon.quoted canon.space text ∷ canon.mark canon.tight 59 ∷ []
+text_and_end text = canon.quoted canon.space text ∷ canon.mark canon.tight (codes ";") ∷ []
 
 -- where the line of a comment that isn't empty says so
 comment_writes : (of_what : List canon.Piece) (says : List ℕ → Content) (text : List ℕ)

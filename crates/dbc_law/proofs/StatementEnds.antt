@@ -8,6 +8,7 @@ use Rattle.catalogue.specs.Canon.{space, word}
 use Rattle.catalogue.specs.Fields.{is_key, key_of}
 use Rattle.catalogue.specs.Grammar.{next}
 use Rattle.catalogue.specs.Keyword.{is_keyword}
+use Rattle.catalogue.specs.Limits.{name_limit}
 use Rattle.catalogue.specs.Name.{is_c_identifier, is_name, no_node}
 use Rattle.catalogue.specs.Token.{Token}
 use Rattle.catalogue.specs.declared.keyword.Keyword.TheVariants.{Signal}
@@ -20,7 +21,7 @@ use Rattle.dbc_law.proofs.StatementNodes.{EndsList}
 keyword_is_no_name : (w : List ℕ) → is_keyword w ≡ true → is_name w ≡ false
 unfolding is_name
 keyword_is_no_name w h =
-    let known = is_c_identifier w && nat_le (length w) 128 in
+    let known = is_c_identifier w && nat_le (length w) name_limit in
     and_left (known && not (is_keyword w)) (not (bytes_eq w no_node)) (and_right known (not (is_keyword w)) (not_from_true (is_keyword w) h))
 
 keyword_is_some_node : (w : List ℕ) → is_keyword w ≡ true → bytes_eq w no_node ≡ false

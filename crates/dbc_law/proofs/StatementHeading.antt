@@ -1,5 +1,6 @@
 -- The lines before the messages are statements: version, `NS_`, `BS_`, nodes and value tables.
 use Rattle.std.proofs.Common.{◌≡◌, ◌∙◌, ℕ, true, List, [], ◌∷◌, map, None, refl, sym, ap}
+use Rattle.std.specs.Prelude.{codes}
 use Rattle.std.specs.List.{All, flat_map}
 use Rattle.std.proofs.lemmas.List.Elements.{All-head, All-tail, All-weaker}
 use Rattle.catalogue.specs.Canon as canon
@@ -47,7 +48,7 @@ symbols_and_timing_write = record {
 -- ---- the nodes
 
 abbrev nodes_behind : Sheet → List canon.Piece
-nodes_behind s = canon.mark canon.tight 58 ∷ map (λ (n : Node). canon.word canon.space n.name) s.nodes
+nodes_behind s = canon.mark canon.tight (codes ":") ∷ map (λ (n : Node). canon.word canon.space n.name) s.nodes
 
 nodes_read : (s : Sheet) → All IsNode s.nodes → (ts rest : List Token) → line ts (nodes_behind s) rest → grammar.next rest ≡ true
     → grammar.line keyword.Nodes ts (NodesAre (node_names s)) rest
@@ -68,7 +69,7 @@ table_reads : (t : ValueTable) → IsTable t → (ts rest : List Token) → line
     → grammar.line keyword.ValueTable ts (table t) rest
 unfolding grammar.line grammar.table_line
 table_reads t h ts rest (middle, name, behind) next =
-    parted (flat_map canon.entry t.entries) (canon.mark canon.space 59 ∷ []) middle rest behind (λ end entries (last, mark, same).
+    parted (flat_map canon.entry t.entries) (canon.mark canon.space (codes ";") ∷ []) middle rest behind (λ end entries (last, mark, same).
     past name (says_made canon.space t.name h.named)
     (chain t.entries end (entries_read t.entries middle end h.entries entries)
     (past mark (λ _ _. refl) (finish same))))

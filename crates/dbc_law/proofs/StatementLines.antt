@@ -28,7 +28,7 @@ means = λ ts c rest. Means ts c rest
 pub record Writes (ls : List Line) (cs : List Content) : Type 0 where
   pub written : (ts rest : List Token) → lines ts ls rest → grammar.next rest ≡ true → many means ts cs rest × (grammar.next ts ≡ true)
 
--- ---- lines behind others
+-- ---- lines after others
 
 pub writes_none : Writes [] []
 writes_none = record { written = λ ts rest same next. (same, ap grammar.next (sym same) ∙ next) }

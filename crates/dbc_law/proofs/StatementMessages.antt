@@ -3,7 +3,7 @@ use Rattle.std.proofs.Common.{◌≡◌, ◌∙◌, ℕ, true, List, [], ◌∷�
 use Rattle.std.specs.List.{All, flat_map}
 use Rattle.std.proofs.lemmas.List.Elements.{All-head, All-tail}
 use Rattle.catalogue.specs.Canon as canon
-use Rattle.catalogue.specs.Fields.{goes_on, is_dbc_number, message_number, node_of, signal}
+use Rattle.catalogue.specs.Fields.{goes_on, message_ident, node_of, signal}
 use Rattle.catalogue.specs.Form.{IsMessage, IsSignal}
 use Rattle.catalogue.specs.Grammar as grammar
 use Rattle.catalogue.specs.Limits.{length_limit}
@@ -15,19 +15,19 @@ use Rattle.catalogue.specs.declared.keyword.Keyword.TheVariants as keyword
 use Rattle.catalogue.specs.declared.message.Message.{Message}
 use Rattle.catalogue.specs.declared.signal.Signal.{Signal}
 use Rattle.dbc_law.proofs.Contents.{message, signal_line}
-use Rattle.dbc_law.proofs.MessageNumbers.{number_range, number_small}
+use Rattle.dbc_law.proofs.MessageNumbers.{number_ident, number_small}
 use Rattle.dbc_law.proofs.Standing.{line, lines, token_of}
 use Rattle.dbc_law.proofs.StatementEnds.{next_ends, signal_ends}
 use Rattle.dbc_law.proofs.StatementLines.{Means, Writes, ◌also◌, begins_next, statement_stands, writes_none}
 use Rattle.dbc_law.proofs.StatementNodes.{EndsList}
 use Rattle.dbc_law.proofs.StatementRules.{chain, finish, past}
 use Rattle.dbc_law.proofs.StatementSignals.{signal_reads}
-use Rattle.dbc_law.proofs.StatementWords.{says_at_most, says_made, says_node, says_where}
+use Rattle.dbc_law.proofs.StatementWords.{says_at_most, says_made, says_node, whole_decimal}
 
 -- ---- what the words of the message's own line say
 
-says_message_number : (m : Message) → IsMessage m → (start end : ℕ) → message_number (token_of (canon.number canon.space (number_of m)) start end) ≡ Some (number_of m)
-says_message_number m h = says_where is_dbc_number canon.space (number_of m) (number_small m h) (number_range m h)
+says_message_ident : (m : Message) → IsMessage m → (start end : ℕ) → message_ident (token_of (canon.number canon.space (number_of m)) start end) ≡ Some m.ident
+says_message_ident m h start end = rw (whole_decimal (number_of m) (number_small m h), number_ident m h) refl
 
 says_transmitter : (t : Option (List ℕ)) → IfSome t IsName → (start end : ℕ) → node_of (token_of (canon.word canon.space (unwrap_or t no_node)) start end) ≡ Some t
 says_transmitter None h start end = refl
@@ -53,7 +53,7 @@ message_stands : (m : Message) → IsMessage m → (ts middle rest : List Token)
 unfolding grammar.line grammar.message_line
 message_stands m h ts middle rest (a, word, (b, number, (c, name, (d, colon, (e, length, (f, transmitter, same)))))) signals =
     statement_stands keyword.Message (message m) ts a rest word
-    (inl (past number (says_message_number m h)
+    (inl (past number (says_message_ident m h)
     (past name (says_made canon.space m.name h.named)
     (past colon (λ _ _. refl)
     (past length (says_at_most length_limit canon.space m.length (omega arith) h.length)

@@ -1,5 +1,6 @@
 -- Lists of nodes where their pieces stand.
 use Rattle.std.proofs.Common.{◌≡◌, ◌∙◌, ℕ, false, not, List, [], ◌∷◌, map, Option, Some, None, is_some, filter_map, refl, sym, ap, inl, inr}
+use Rattle.std.specs.Prelude.{codes}
 use Rattle.std.specs.List.{All, flat_map}
 use Rattle.std.proofs.lemmas.Bool.{or_parts}
 use Rattle.std.proofs.lemmas.List.{map-id}
@@ -55,7 +56,7 @@ module _ {A : Type 0} (name_of : A → List ℕ) where
 -- ---- the receivers of a signal, with a comma before each further one
 
 abbrev comma_pieces : List (List ℕ) → List canon.Piece
-comma_pieces names = flat_map (λ (n : List ℕ). canon.mark canon.tight 44 ∷ canon.word canon.tight n ∷ []) names
+comma_pieces names = flat_map (λ (n : List ℕ). canon.mark canon.tight (codes ",") ∷ canon.word canon.tight n ∷ []) names
 
 comma_further : (names : List (List ℕ)) (ts rest : List Token) → All IsName names → line ts (comma_pieces names) rest → many further ts (map Some names) rest
 unfolding further

@@ -5,6 +5,7 @@ use Rattle.std.specs.Fmt.{decimal}
 use Rattle.std.proofs.lemmas.Bool.Decides.{nat_tests}
 use Rattle.bitlayout.specs.declared.layout.Order.{Order}
 use Rattle.bitlayout.specs.declared.layout.Order.TheVariants.{Intel, Motorola}
+use Rattle.bitlayout.specs.Order.{order_number}
 use Rattle.bitlayout.specs.declared.place.Mux.{Mux}
 use Rattle.bitlayout.specs.declared.place.Mux.TheVariants.{Always, Multiplexor, Under}
 use Rattle.catalogue.specs.Canon as canon
@@ -28,11 +29,11 @@ says_size n least most =
     let within : (nat_le 1 n && nat_le n size_limit) ≡ true = grind (arith, nat_tests) in
     says_where (λ m. nat_le 1 m && nat_le m size_limit) canon.tight n (omega (arith, most)) within
 
-says_order : (o : Order) (start end : ℕ) → order_of (token_of (canon.number canon.tight (canon.order_number o)) start end) ≡ Some o
+says_order : (o : Order) (start end : ℕ) → order_of (token_of (canon.number canon.tight (order_number o)) start end) ≡ Some o
 says_order Intel start end = rw (whole_decimal 1 (omega arith)) refl
 says_order Motorola start end = rw (whole_decimal 0 (omega arith)) refl
 
-says_sign : (signed : Bool) (start end : ℕ) → sign_of (token_of (canon.mark canon.tight (if signed then 45 else 43)) start end) ≡ Some signed
+says_sign : (signed : Bool) (start end : ℕ) → sign_of (token_of (canon.mark canon.tight (if signed then codes "-" else codes "+")) start end) ≡ Some signed
 says_sign true start end = refl
 says_sign false start end = refl
 
@@ -73,13 +74,13 @@ abbrev named_pieces : Signal → List canon.Piece
 named_pieces s = canon.word canon.space (codes "SG_") ∷ canon.word canon.space s.name ∷ canon.mux_pieces s.mux
 
 abbrev placed_pieces : Signal → List canon.Piece
-placed_pieces s = named_pieces s ++ canon.mark canon.space 58 ∷ canon.layout_pieces s
+placed_pieces s = named_pieces s ++ canon.mark canon.space (codes ":") ∷ canon.layout_pieces s
 
 abbrev scaled_pieces : Signal → List canon.Piece
-scaled_pieces s = placed_pieces s ++ canon.pair 40 44 41 s.factor s.offset
+scaled_pieces s = placed_pieces s ++ canon.pair (codes "(") (codes ",") (codes ")") s.factor s.offset
 
 abbrev ranged_pieces : Signal → List canon.Piece
-ranged_pieces s = scaled_pieces s ++ canon.pair 91 124 93 s.minimum s.maximum
+ranged_pieces s = scaled_pieces s ++ canon.pair (codes "[") (codes "|") (codes "]") s.minimum s.maximum
 
 same_line : (s : Signal) → signal_line s ≡ record (signal_line s) { mux = unwrap_or (indicator s.mux) Always }
 same_line s = λ i. record (signal_line s) { mux = sym (indicator_kept s.mux) i }
@@ -88,9 +89,9 @@ pub signal_reads : (s : Signal) (ts rest : List Token) → IsSignal s → line t
 unfolding signal
 signal_reads s ts rest h stands end =
     parted (ranged_pieces s) (canon.quoted canon.space s.unit ∷ canon.receiver_pieces s.receivers) ts rest stands (λ e ranged (f, unit, receivers).
-    parted (scaled_pieces s) (canon.pair 91 124 93 s.minimum s.maximum) ts e ranged (λ d scaled range.
-    parted (placed_pieces s) (canon.pair 40 44 41 s.factor s.offset) ts d scaled (λ c placed scale.
-    parted (named_pieces s) (canon.mark canon.space 58 ∷ canon.layout_pieces s) ts c placed (λ b (a, word, (n, name, mux)) (p, colon, place).
+    parted (scaled_pieces s) (canon.pair (codes "[") (codes "|") (codes "]") s.minimum s.maximum) ts e ranged (λ d scaled range.
+    parted (placed_pieces s) (canon.pair (codes "(") (codes ",") (codes ")") s.factor s.offset) ts d scaled (λ c placed scale.
+    parted (named_pieces s) (canon.mark canon.space (codes ":") ∷ canon.layout_pieces s) ts c placed (λ b (a, word, (n, name, mux)) (p, colon, place).
     past word (λ _ _. refl)
     (past name (says_made canon.space s.name h.named)
     (chain (indicator s.mux) b (mux_reads s.mux n b h.mux mux)

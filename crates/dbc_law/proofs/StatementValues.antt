@@ -27,11 +27,11 @@ value_reads gap n ts rest h stands = signed_reads (is_negative n.mantissa) gap n
 
 -- two values between marks
 pub pair_reads : (left between right : ℕ) (a b : Number) (ts rest : List Token) → IsDecimal a → IsDecimal b
-    → line ts (canon.pair left between right a b) rest → pair (left ∷ []) (between ∷ []) (right ∷ []) ts (a, b) rest
+    → line ts (canon.pair (left ∷ []) (between ∷ []) (right ∷ []) a b) rest → pair (left ∷ []) (between ∷ []) (right ∷ []) ts (a, b) rest
 unfolding pair
 pair_reads left between right a b ts rest ha hb (first, opening, more) =
-    let behind_a = canon.mark canon.tight between ∷ canon.value canon.tight b in
-    parted (canon.value canon.tight a ++ behind_a) (canon.mark canon.tight right ∷ []) first rest more (λ last both (end, closing, same).
+    let behind_a = canon.mark canon.tight (between ∷ []) ∷ canon.value canon.tight b in
+    parted (canon.value canon.tight a ++ behind_a) (canon.mark canon.tight (right ∷ []) ∷ []) first rest more (λ last both (end, closing, same).
     parted (canon.value canon.tight a) behind_a first last both (λ second value_a (third, separator, value_b).
     past opening (says_mark canon.space left)
     (chain a second (value_reads canon.tight a first second ha value_a)

@@ -18,6 +18,7 @@ use Rattle.catalogue.specs.Fields.{cited_number, is_mark, made_name, node_of, nu
 use Rattle.catalogue.specs.Form.{IsMessage}
 use Rattle.catalogue.specs.Keyword.{is_keyword}
 use Rattle.catalogue.specs.Messages.{number_of}
+use Rattle.catalogue.specs.Limits.{name_limit}
 use Rattle.catalogue.specs.Name.{IsName, is_c_identifier, is_name, no_node}
 use Rattle.catalogue.specs.Rules.{only}
 use Rattle.catalogue.specs.WholeNumber.{is_numeral, whole_of}
@@ -32,7 +33,7 @@ use Rattle.dbc_law.proofs.Standing.{token_of}
 pub says_text : (gap text : List ℕ) (start end : ℕ) → text_of (token_of (quoted gap text) start end) ≡ Some text
 says_text gap text start end = ap Some (inside_kept text)
 
-pub says_mark : (gap : List ℕ) (m : ℕ) (start end : ℕ) → only (is_mark (m ∷ []) (token_of (mark gap m) start end)) (tt {0}) ≡ Some (tt {0})
+pub says_mark : (gap : List ℕ) (m : ℕ) (start end : ℕ) → only (is_mark (m ∷ []) (token_of (mark gap (m ∷ [])) start end)) (tt {0}) ≡ Some (tt {0})
 says_mark gap m start end = ap (λ b. only b tt) (bytes_itself (m ∷ []))
 
 -- ---- names
@@ -43,7 +44,7 @@ says_made gap name h start end = rw h refl
 is_some_node : (name : List ℕ) → IsName name → bytes_eq name no_node ≡ false
 unfolding is_name
 is_some_node name h =
-    let known = is_c_identifier name && nat_le (length name) 128 && not (is_keyword name) in
+    let known = is_c_identifier name && nat_le (length name) name_limit && not (is_keyword name) in
     not-true (bytes_eq name no_node) (and_parts known (not (bytes_eq name no_node)) h).1
 
 pub says_node : (gap name : List ℕ) → IsName name → (start end : ℕ) → node_of (token_of (word gap name) start end) ≡ Some (Some name)

@@ -84,7 +84,7 @@ type_small Double = omega arith
 type_legible : (m : Message) (s : Signal) → IsMessage m → IsSignal s → AreLegibleLines (type_lines m s)
 type_legible m s h k =
     let type = number_follows (value_type_number s.value_type) _ (type_small s.value_type) end_follows in
-    let colon = spaced_mark_follows 58 (number space (value_type_number s.value_type) ∷ mark tight 59 ∷ []) refl type.legible in
+    let colon = spaced_mark_follows 58 (number space (value_type_number s.value_type) ∷ mark tight (codes ";") ∷ []) refl type.legible in
     line_unless (value_type_number s.value_type == 0) _ (keyword_line keyword.SignalValueType _ (follow_append (place_follows m s h k) colon))
 
 pub value_types_legible : (s : Sheet) → IsSheet s → AreLegibleLines (each_signal type_lines s)

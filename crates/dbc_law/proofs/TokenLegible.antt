@@ -15,7 +15,7 @@ use Rattle.dbc_law.proofs.TokenLengths.{Breaks}
 abbrev pub pieces_text : List Piece → List ℕ
 pieces_text ps = flat_map (λ (p : Piece). p.gap ++ p.text) ps
 
--- a piece, and those behind it in its line
+-- a piece, and those after it in its line
 pub record IsLegible (p : Piece) (behind : List Piece) : Type 0 where
   pub gap : IsGap p.gap
   pub spelled : Spells p.kind p.text
@@ -25,7 +25,7 @@ abbrev pub AreLegible : List Piece → Type 0
 AreLegible [] = Unit {0}
 AreLegible (p ∷ ps) = IsLegible p ps × AreLegible ps
 
--- legible pieces that may stand behind any piece: they begin with a byte that continues no word
+-- legible pieces that may occur after any piece: they begin with a byte that continues no word
 pub record CanFollow (ps : List Piece) : Type 0 where
   pub legible : AreLegible ps
   pub breaks : Breaks (line_text ps)
@@ -33,7 +33,7 @@ pub record CanFollow (ps : List Piece) : Type 0 where
 pub no_pieces : CanFollow []
 no_pieces = record { legible = tt; breaks = refl }
 
--- ---- pieces behind others
+-- ---- pieces after others
 
 -- at the first of the bytes, or where there are none at the first of what follows
 breaks_before : (bytes more : List ℕ) → Breaks (bytes ++ 10 ∷ []) → Breaks more → Breaks (bytes ++ more)

@@ -3,6 +3,7 @@ use Rattle.std.proofs.Common.{◌≡◌, ◌<◌, ◌^◌, ℕ, Bool, true, fals
 use Rattle.std.specs.List.{All}
 use Rattle.std.specs.Prelude.{codes}
 use Rattle.std.proofs.lemmas.List.Elements.{All-head, All-tail}
+use Rattle.bitlayout.specs.Order.{order_number}
 use Rattle.bitlayout.specs.declared.layout.Order.{Order}
 use Rattle.bitlayout.specs.declared.layout.Order.TheVariants.{Intel, Motorola}
 use Rattle.bitlayout.specs.declared.place.Mux.{Mux}
@@ -14,7 +15,6 @@ use Rattle.catalogue.specs.Canon.{
   message_line,
   message_lines,
   mux_pieces,
-  order_number,
   pair,
   place_pieces,
   receiver_pieces,
@@ -73,32 +73,32 @@ order_small : (order : Order) → order_number order < 2 ^ 32
 order_small Intel = omega arith
 order_small Motorola = omega arith
 
-sign_is_mark : (signed : Bool) → is_mark (if signed then 45 else 43) ≡ true
-sign_is_mark true = refl
-sign_is_mark false = refl
+sign_follows : (signed : Bool) → CanFollow (mark tight (if signed then codes "-" else codes "+") ∷ [])
+sign_follows true = mark_follows 45 [] refl tt
+sign_follows false = mark_follows 43 [] refl tt
 
 layout_follows : (s : Signal) → IsSignal s → CanFollow (layout_pieces s)
 layout_follows s h =
     let start_small : s.layout.start < 2 ^ 32 = omega (arith, h.layout.start) in
     let size_small : s.layout.size < 2 ^ 32 = omega (arith, h.layout.most) in
-    let sign = mark_follows (if s.signed then 45 else 43) [] (sign_is_mark s.signed) tt in
+    let sign = sign_follows s.signed in
     let order = mark_follows 64 _ refl (number_legible tight (order_number s.layout.order) _ refl (order_small s.layout.order) sign) in
     number_follows s.layout.start _ start_small (mark_follows 124 _ refl (number_legible tight s.layout.size _ refl size_small order))
 
 pair_follows : (left between right : ℕ) (a b : Number) → is_mark left ≡ true → is_mark between ≡ true → is_mark right ≡ true → IsDecimal a → IsDecimal b
-    → CanFollow (pair left between right a b)
+    → CanFollow (pair (left ∷ []) (between ∷ []) (right ∷ []) a b)
 pair_follows left between right a b l m r ha hb =
     let first = spaced_mark_follows left _ l (value_legible tight a refl ha) in
     let second = mark_follows between _ m (value_legible tight b refl hb) in
     follow_append (follow_append first second) (mark_follows right [] r tt)
 
-further_follows : (name : List ℕ) → IsName name → CanFollow (mark tight 44 ∷ word tight name ∷ [])
+further_follows : (name : List ℕ) → IsName name → CanFollow (mark tight (codes ",") ∷ word tight name ∷ [])
 further_follows name h = mark_follows 44 _ refl (word_legible tight name [] refl (identifier name h) no_pieces)
 
 receivers_follow : (names : List (List ℕ)) → All IsName names → CanFollow (receiver_pieces names)
 receivers_follow [] h = word_follows no_node [] refl no_pieces
 receivers_follow (n ∷ names) h =
-    name_follows n _ (All-head IsName n names h) (each_follows IsName (λ r. mark tight 44 ∷ word tight r ∷ []) further_follows names (All-tail IsName n names h))
+    name_follows n _ (All-head IsName n names h) (each_follows IsName (λ r. mark tight (codes ",") ∷ word tight r ∷ []) further_follows names (All-tail IsName n names h))
 
 signal_legible : (s : Signal) → IsSignal s → AreLegible (signal_line s)
 signal_legible s h =

@@ -1,5 +1,6 @@
--- Each kind of piece is legible where the pieces behind it are and can follow it.
+-- Each kind of piece is legible where the pieces after it are and can follow it.
 use Rattle.std.proofs.Common.{◌≡◌, ◌<◌, ◌^◌, ℕ, Bool, true, false, List, [], ◌∷◌, refl, sym, arith}
+use Rattle.std.specs.Prelude.{codes}
 use Rattle.std.specs.Char.{is_ascii_digit}
 use Rattle.std.specs.Fmt.{decimal}
 use Rattle.std.specs.Int.{is_negative}
@@ -42,7 +43,7 @@ keyword_identifier : (k : Keyword) → is_c_identifier (keyword_text k) ≡ true
 keyword_identifier Version = refl
 keyword_identifier k = refl
 
--- a keyword at the head of its line, and one behind other pieces
+-- a keyword at the head of its line, and one after other pieces
 pub keyword_line : (k : Keyword) (ps : List Piece) → CanFollow ps → AreLegible (word tight (keyword_text k) ∷ ps)
 keyword_line k ps more = word_legible tight (keyword_text k) ps refl (keyword_identifier k) more
 
@@ -106,12 +107,12 @@ text_follows text ps h more = record { legible = (record { gap = refl; spelled =
 mark_breaks : (m : ℕ) → is_mark m ≡ true → continues_word m ≡ false
 mark_breaks m h = grind (arith, nat_tests)
 
-pub mark_follows : (m : ℕ) (ps : List Piece) → is_mark m ≡ true → AreLegible ps → CanFollow (mark tight m ∷ ps)
+pub mark_follows : (m : ℕ) (ps : List Piece) → is_mark m ≡ true → AreLegible ps → CanFollow (mark tight (m ∷ []) ∷ ps)
 mark_follows m ps h more = record { legible = (record { gap = refl; spelled = (m, h, refl); ends = tt }, more); breaks = mark_breaks m h }
 
-pub spaced_mark_follows : (m : ℕ) (ps : List Piece) → is_mark m ≡ true → AreLegible ps → CanFollow (mark space m ∷ ps)
+pub spaced_mark_follows : (m : ℕ) (ps : List Piece) → is_mark m ≡ true → AreLegible ps → CanFollow (mark space (m ∷ []) ∷ ps)
 spaced_mark_follows m ps h more = record { legible = (record { gap = refl; spelled = (m, h, refl); ends = tt }, more); breaks = refl }
 
 -- the `;` that ends many lines
-pub end_follows : CanFollow (mark tight 59 ∷ [])
+pub end_follows : CanFollow (mark tight (codes ";") ∷ [])
 end_follows = mark_follows 59 [] refl tt

@@ -9,7 +9,7 @@
 //! Its proof goes as a reader goes, in three parts, which `proofs/Law.antt` joins:
 //!
 //! - The text has tokens that stand for the pieces of its lines: `Tokens`. A spelling is the longest where no word goes on
-//!   behind it (`TokenLengths`, `TokenEnds`); pieces and lines are legible where that holds of each (`TokenLegible`,
+//!   after it (`TokenLengths`, `TokenEnds`); pieces and lines are legible where that holds of each (`TokenLegible`,
 //!   `TokenPieces`, `TokenLines`), as those of the sections are (`TokenHeading`, `TokenMessages`, `TokenComments`,
 //!   `TokenAttached`); and legible lines have their tokens (`TokensOfLines`).
 //! - Where such tokens stand, they are statements that say what the lines hold: `Statements`. First come single tokens and

@@ -1,23 +1,23 @@
--- What stands inside the quotes of a text, as a loop over its bytes reads it.
+-- The bytes between the quotes of a text, as a loop over them reads them.
 use Rattle.std.proofs.Common.{◌≡◌, ℕ, suc, ◌+◌, ◌≤◌, ◌<◌, Bool, true, false, eqb, List, ◌∷◌, length, get_or, drop, Option, Some, None, refl, sym, ap, ◌∙◌, arith, add-zero}
 use Rattle.std.specs.Option.{option_map}
 use Rattle.std.proofs.lemmas.List.{drop_more, drop_all}
 use Rattle.catalogue.specs.Lexing.{inside_len}
 
--- so many bytes more
+-- n bytes more
 abbrev pub moved : ℕ → Option ℕ → Option ℕ
 moved n o = option_map (λ k. n + k) o
 
--- one byte more, counted before or behind
+-- one byte more, counted first or last
 one_further : (n : ℕ) (o : Option ℕ) → moved (n + 1) o ≡ moved n (option_map suc o)
 one_further n None = refl
 one_further n (Some k) = let e : n + 1 + k ≡ n + suc k = omega arith in ap (λ m. Some m) e
 
 module _ (bytes : List ℕ) (n : ℕ) (total : Option ℕ) (there : n < length bytes) where
   -- past a byte that a backslash takes
-  pub past_taken : moved n (inside_len true (drop n bytes)) ≡ total → moved (n + 1) (inside_len false (drop (n + 1) bytes)) ≡ total
+  pub past_escaped : moved n (inside_len true (drop n bytes)) ≡ total → moved (n + 1) (inside_len false (drop (n + 1) bytes)) ≡ total
   unfolding inside_len
-  past_taken h = one_further n (inside_len false (drop (n + 1) bytes)) ∙ ap (λ v. moved n (inside_len true v)) (sym (drop_more bytes n 0 there)) ∙ h
+  past_escaped h = one_further n (inside_len false (drop (n + 1) bytes)) ∙ ap (λ v. moved n (inside_len true v)) (sym (drop_more bytes n 0 there)) ∙ h
 
   -- past any other byte but a quote
   pub past_plain : eqb (get_or bytes n 0) 34 ≡ false → moved n (inside_len false (drop n bytes)) ≡ total
@@ -35,7 +35,7 @@ module _ (bytes : List ℕ) (n : ℕ) (total : Option ℕ) (there : n < length b
       let here : moved n (inside_len false (get_or bytes n 0 ∷ drop (n + 1) bytes)) ≡ Some n = rw quote (ap (λ m. Some m) (add-zero n)) in
       sym here ∙ ap (λ v. moved n (inside_len false v)) (sym (drop_more bytes n 0 there)) ∙ h
 
--- behind the last byte
-pub at_end : (bytes : List ℕ) (n : ℕ) (taken : Bool) (total : Option ℕ) → length bytes ≤ n → moved n (inside_len taken (drop n bytes)) ≡ total → None ≡ total
+-- after the last byte
+pub at_end : (bytes : List ℕ) (n : ℕ) (escaped : Bool) (total : Option ℕ) → length bytes ≤ n → moved n (inside_len escaped (drop n bytes)) ≡ total → None ≡ total
 unfolding inside_len
-at_end bytes n taken total le h = ap (λ v. moved n (inside_len taken v)) (sym (drop_all n bytes le)) ∙ h
+at_end bytes n escaped total le h = ap (λ v. moved n (inside_len escaped v)) (sym (drop_all n bytes le)) ∙ h

@@ -11,18 +11,18 @@ use Rattle.catalogue.proofs.TokenSteps.{lexed_step}
 abbrev pub part : ℕ → List ℕ → List ℕ
 part n bytes = take (length bytes - n) (drop n bytes)
 
--- what is read behind a token
-abbrev pub behind : ℕ → List ℕ → Token → Lexed
-behind place bytes t = lexed t.end (part (t.end - place) bytes)
+-- what is read after a token
+abbrev pub after : ℕ → List ℕ → Token → Lexed
+after offset bytes t = lexed t.end (part (t.end - offset) bytes)
 
-module _ (place : ℕ) (bytes : List ℕ) (gap : ℕ) (is : gap ≡ prefix_len is_gap bytes) (r : Result (Option Token) LexFault) (h : token_at (place + gap) (part gap bytes) ≡ r) where
-  -- the first token is the one behind the gap
-  first_here : first_token place bytes ≡ r
+module _ (offset : ℕ) (bytes : List ℕ) (gap : ℕ) (is : gap ≡ prefix_len is_gap bytes) (r : Result (Option Token) LexFault) (h : token_at (offset + gap) (part gap bytes) ≡ r) where
+  -- the first token is the one after the gap
+  first_here : first_token offset bytes ≡ r
   unfolding first_token
-  first_here = ap (λ g. token_at (place + g) (drop g bytes)) (sym is) ∙ ap (token_at (place + gap)) (sym (take_rest bytes gap)) ∙ h
+  first_here = ap (λ g. token_at (offset + g) (drop g bytes)) (sym is) ∙ ap (token_at (offset + gap)) (sym (take_rest bytes gap)) ∙ h
 
-  -- what is read is that token, and then what is read behind it
-  pub read_here : lexed place bytes ≡ with_first r (behind place bytes)
+  -- what is read is that token, and then what is read after it
+  pub read_here : lexed offset bytes ≡ with_first r (after offset bytes)
   read_here =
-      lexed_step place bytes ∙ ap (λ v. with_first v (λ t. lexed t.end (drop (t.end - place) bytes))) first_here
-      ∙ ap (λ (f : ℕ → List ℕ). with_first r (λ t. lexed t.end (f (t.end - place)))) (λ i n. sym (take_rest bytes n) i)
+      lexed_step offset bytes ∙ ap (λ v. with_first v (λ t. lexed t.end (drop (t.end - offset) bytes))) first_here
+      ∙ ap (λ (f : ℕ → List ℕ). with_first r (λ t. lexed t.end (f (t.end - offset)))) (λ i n. sym (take_rest bytes n) i)

@@ -1,7 +1,9 @@
 -- The faults of reading a DBC text, with their numbers and names.
 use Rattle.std.specs.Prelude.{◌≡◌, ℕ, List, codes}
+use Rattle.catalogue.specs.Lexing as lexing
 use Rattle.dbc_lex.specs.declared.fault.ReadCode.{ReadCode}
 use Rattle.dbc_lex.specs.declared.fault.ReadCode.TheVariants.{DoubleNumber, DoubleName, TwoMultiplexors, TooMany, UnclosedText, StrayByte, Unexpected, UnknownStatement, ExtendedMultiplexing, Number, Identifier, Name, Length, Size, Memory}
+use Rattle.dbc_lex.specs.declared.fault.ReadFault.{ReadFault}
 
 abbrev pub code_number : ReadCode → ℕ
 code_number DoubleNumber = 20
@@ -37,6 +39,11 @@ code_name Length = codes "Length"
 code_name Size = codes "Size"
 code_name Memory = codes "Memory"
 
--- what a fault says, unless it is want of memory
+-- what a fault says, unless memory ran out
 abbrev pub UnlessMemory : ReadCode → Type 0 → Type 0
 UnlessMemory code P = ¬ (code ≡ Memory) → P
+
+-- the fault that the lexer answers: its code, and its offset
+abbrev pub fault_of : lexing.LexFault → ReadFault
+fault_of (lexing.UnclosedText offset) = record { code = UnclosedText; at = offset }
+fault_of (lexing.StrayByte offset) = record { code = StrayByte; at = offset }

@@ -4,10 +4,11 @@ use Rattle.catalogue.specs.Lexing.{LexFault}
 use Rattle.catalogue.specs.Token.{Token}
 use Rattle.dbc_lex.specs.declared.fault.ReadFault.{ReadFault}
 use Rattle.dbc_lex.specs.declared.token.Token.{Token as TextToken}
-use Rattle.dbc_lex.specs.Seen.{seen, fault_of}
+use Rattle.dbc_lex.specs.Fault.{fault_of}
+use Rattle.dbc_lex.specs.Token.{token_of}
 
 -- The answer, and the first token of the definitions: that token, None at the end, or the fault where none begins.
 abbrev pub GivesFirst : Result (Option TextToken) ReadFault → Result (Option Token) LexFault → Type 0
-GivesFirst (Ok (Some t)) first = first ≡ Ok (Some (seen t))
+GivesFirst (Ok (Some t)) first = first ≡ Ok (Some (token_of t))
 GivesFirst (Ok None) first = first ≡ Ok None
 GivesFirst (Err fault) first = (cause : LexFault) × (first ≡ Err cause) × (fault ≡ fault_of cause)

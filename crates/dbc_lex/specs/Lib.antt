@@ -1,4 +1,4 @@
 pub mod Fault
-pub mod Seen
+pub mod Token
 pub mod First
 pub mod Next

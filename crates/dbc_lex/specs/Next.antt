@@ -4,13 +4,14 @@ use Rattle.catalogue.specs.Lexing.{Lexed, LexFault}
 use Rattle.catalogue.specs.TokenLaw.{all_read, stopped}
 use Rattle.dbc_lex.specs.declared.fault.ReadFault.{ReadFault}
 use Rattle.dbc_lex.specs.declared.token.Token.{Token as TextToken}
-use Rattle.dbc_lex.specs.Seen.{seen, fault_of}
+use Rattle.dbc_lex.specs.Fault.{fault_of}
+use Rattle.dbc_lex.specs.Token.{token_of}
 
--- What was left before the call, its answer, and what is left behind it. A token is the first of those that were left,
+-- What was left before the call, its answer, and what is left after it. A token is the first of those that were left,
 -- and the others are left with the same fault. None comes where no token and no fault was left, and a fault where that
 -- fault was left and no token; both leave what there was, so that the next call answers the same.
 abbrev pub GivesNext : Lexed → Result (Option TextToken) ReadFault → Lexed → Type 0
-GivesNext old (Ok (Some t)) new = (old.tokens ≡ seen t ∷ new.tokens) × (old.fault ≡ new.fault)
+GivesNext old (Ok (Some t)) new = (old.tokens ≡ token_of t ∷ new.tokens) × (old.fault ≡ new.fault)
 GivesNext old (Ok None) new = (old ≡ all_read []) × (new ≡ old)
 GivesNext old (Err fault) new =
     (cause : LexFault) × (old ≡ stopped [] cause) × (fault ≡ fault_of cause) × (new ≡ old)

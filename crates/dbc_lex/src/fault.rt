@@ -21,11 +21,11 @@ pub enum ReadCode {
     TwoMultiplexors,
     /// 26: more of something than a catalogue may have.
     TooMany,
-    /// 30: no quote ends the text whose opening quote stands there.
+    /// 30: no quote ends the text that this quote opens.
     UnclosedText,
-    /// 31: no token begins with the byte that stands there, outside a text.
+    /// 31: no token begins with this byte, outside a text.
     StrayByte,
-    /// 32: another token than can stand there, or the end of the file too early.
+    /// 32: a token that can't come here, or the end of the file too early.
     Unexpected,
     /// 33: a name that is no keyword, where a statement begins.
     UnknownStatement,
@@ -42,14 +42,14 @@ pub enum ReadCode {
     Length,
     /// 39: a signal's start that is no whole number of 0 to 65,535, or its size that is none of 1 to 64 bits.
     Size,
-    /// 71: memory was refused.
+    /// 71: out of memory.
     Memory,
 }
 
 impl ReadCode {
     ghost use Rattle.dbc_lex.specs.Fault.{code_number, code_name};
 
-    /// The code's number, which stands for it in reports.
+    /// The code's number, which reports give.
     pub fn number(self) -> u8
         ensures { result ≡ code_number self }
     {
@@ -72,7 +72,7 @@ impl ReadCode {
         }
     }
 
-    /// The code's name, which stands beside its number.
+    /// The code's name, which reports give after its number.
     pub fn name(self) -> &'static str
         ensures { result.now ≡ code_name self }
     {
@@ -108,18 +108,18 @@ impl fmt::Display for ReadCode {
 
 impl Error for ReadCode {}
 
-/// A fault of reading a DBC text, and where it is.
+/// A fault of reading a DBC text, and its offset.
 #[derive(Clone, Copy, Debug, PartialEq, Eq, Hash)]
 pub struct ReadFault {
     /// What is wrong.
     pub code: ReadCode,
-    /// The place of the byte or of the token that it is about, from 0: the text's length where it ends too early, and
-    /// 0 where memory was refused.
+    /// The offset of the byte or of the token that it is about: the text's length where it ends too early, and 0 where
+    /// memory ran out.
     pub at: usize,
 }
 
 impl ReadFault {
-    /// Memory was refused.
+    /// Out of memory.
     pub const MEMORY: ReadFault = ReadFault {
         code: ReadCode::Memory,
         at: 0,

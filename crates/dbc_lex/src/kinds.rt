@@ -1,4 +1,4 @@
-//! With which bytes the tokens of each kind begin.
+//! Which bytes begin a token of each kind.
 ghost use Rattle.std.specs.Prelude.{◌≡◌, None, slice_get, unwrap_or};
 ghost use Rattle.catalogue.specs.Lexing.{kind_of};
 
@@ -27,8 +27,8 @@ const KINDS: [Option<TokenKind>; 128] = [
     MARK, NONE, NONE, NONE,
 ];
 
-/// What the table has for the byte, `None` behind its end.
-fn listed(kinds: &[Option<TokenKind>], byte: u8) -> Option<TokenKind>
+/// The table's entry for the byte, `None` past its end.
+fn entry(kinds: &[Option<TokenKind>], byte: u8) -> Option<TokenKind>
     ensures { result ≡ unwrap_or (slice_get kinds.now byte) None }
 {
     kinds.get(usize::from(byte)).copied().unwrap_or(None)
@@ -38,5 +38,5 @@ fn listed(kinds: &[Option<TokenKind>], byte: u8) -> Option<TokenKind>
 pub(crate) fn kind_of(byte: u8) -> Option<TokenKind>
     ensures { result ≡ kind_of byte }
 {
-    listed(&KINDS, byte)
+    entry(&KINDS, byte)
 }

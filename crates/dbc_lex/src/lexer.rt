@@ -9,7 +9,7 @@ use crate::spelling::{gap_len, word_len};
 use crate::token::Token;
 use std::marker::Model;
 
-/// The token at the place where a gap ends and the rest begins; `None` at the end of the text.
+/// The token at the start of the rest, where a gap ends; `None` at the end of the text.
 #[inline(always)]
 #[tactic(auto, unfolding(catalogue::specs::Lexing::token_at))]
 fn token_at<'a>(start: usize, rest: &'a [u8]) -> Result<Option<Token<'a>>, ReadFault>
@@ -41,7 +41,7 @@ fn token_at<'a>(start: usize, rest: &'a [u8]) -> Result<Option<Token<'a>>, ReadF
     }
 }
 
-/// A reader of the tokens of a text. Contracts see it as what is left: the tokens, and the fault behind them.
+/// A reader of the tokens of a text. Contracts see it as what is left: the tokens, and the fault after them.
 #[derive(Debug, Drop)]
 pub struct Lexer<'a> {
     at: usize,
@@ -73,18 +73,18 @@ impl<'a> Lexer<'a> {
         }
     }
 
-    /// The lexer of the text at a place of it, or at its end where the place is behind that.
-    pub fn at(source: &'a [u8], place: usize) -> Lexer<'a>
-        ensures { result ≡ lexed (min place (length source.now)) (drop place source.now) }
+    /// The lexer of the text from an offset on, or at its end where the offset is past that.
+    pub fn at(source: &'a [u8], offset: usize) -> Lexer<'a>
+        ensures { result ≡ lexed (min offset (length source.now)) (drop offset source.now) }
     {
-        let at = place.min(source.len());
+        let at = offset.min(source.len());
         Lexer {
             at,
             rest: &source[at..],
         }
     }
 
-    /// Another lexer at the same place, for looking ahead.
+    /// Another lexer at the same offset, for looking ahead.
     pub fn fork(&self) -> Lexer<'a>
         ensures { result ≡ self.now }
     {
@@ -94,14 +94,14 @@ impl<'a> Lexer<'a> {
         }
     }
 
-    /// Takes the next token, or answers `None` where gaps alone are left.
+    /// Takes the next token, or answers `None` where only gaps are left.
     ///
     /// Where no token begins it answers a fault: code 30 (`UnclosedText`) at the opening quote of a text that no quote
     /// ends, or else code 31 (`StrayByte`) at the byte. `None` and a fault take nothing, so the next call answers the
     /// same again.
     ///
     /// Names, unsigned numbers, character strings and punctuation are those of Vector's DBC File Format Documentation;
-    /// that gaps alone stand between tokens, and that each is as long as it can be, is this project's profile. That the
+    /// that only gaps come between tokens, and that each is as long as it can be, is this project's profile. That the
     /// tokens are slices of the text, in order, is a law of `catalogue` (`tokens_are_exact`).
     #[inline(always)]
     pub fn next_token(&mut self) -> Result<Option<Token<'a>>, ReadFault>

@@ -1,21 +1,19 @@
 //! The tokens of a DBC text, one after the other.
 //!
 //! A [`Lexer`] reads a text from its first byte on, in one pass, copies nothing and takes no memory. Each call of
-//! [`Lexer::next_token`] gives the next [`Token`], a slice of the text with its place; or `None` at the end; or a
-//! [`ReadFault`] where no token begins, and then it answers so again at each further call.
+//! [`Lexer::next_token`] gives the next [`Token`], a slice of the text with its offset; or `None` at the end; or a
+//! [`ReadFault`] where no token begins, and then each further call gives the same fault.
 //!
-//! Which tokens a text has is said in `catalogue`: contracts see a lexer as what is left to read, the tokens and the
-//! fault behind them (`Lexing`), and `catalogue::tokens_are_exact` says that these are the tokens which the text has,
-//! each as long as it can be with gaps alone between them, that they are slices of it in order, and that a fault comes
-//! exactly where no token begins. [`ReadCode`] has all faults of reading a DBC text, those of the layers above too.
+//! Which tokens a text has is defined in `catalogue`: contracts see a lexer as what is left to read, the tokens and the
+//! fault after them (`Lexing`), and `catalogue::tokens_are_exact` says that these are the tokens of the text, each as
+//! long as it can be with only gaps between them, that they are slices of it in order, and that a fault comes exactly
+//! where no token begins. [`ReadCode`] has all faults of reading a DBC text, those of the layers above too.
 #![tactic(auto)]
 
 mod fault;
 mod kinds;
 mod lexer;
 mod spelling;
-#[cfg(test)]
-mod tests;
 mod token;
 
 pub use fault::{ReadCode, ReadFault};

@@ -1,14 +1,12 @@
 //! How many bytes a gap or a token takes, where it begins.
 ghost use Rattle.std.specs.Prelude.{◌≡◌, ◌≤◌, ◌<◌, length, false, IfSome};
-ghost use Rattle.std.specs.Char.{is_ascii_digit};
 ghost use Rattle.std.specs.List.{prefix_len};
-ghost use Rattle.decimal.specs.Cutting.{fraction_len};
 ghost use Rattle.catalogue.specs.Name.{continues_identifier};
 ghost use Rattle.catalogue.specs.Spelling.{is_gap};
 ghost use Rattle.catalogue.specs.Lexing.{power_len, exponent_len, number_len, inside_len, word_len};
 
-use crate::kinds::kind_of;
-use catalogue::TokenKind;
+use catalogue::{TokenKind, continues_identifier};
+use decimal::{digits_len, fraction_len};
 
 fn is_gap(byte: u8) -> bool
     ensures { result ≡ is_gap byte }
@@ -16,18 +14,12 @@ fn is_gap(byte: u8) -> bool
     matches!(byte, 9..=13 | 32)
 }
 
-/// How many gap bytes stand in front.
+/// How many gap bytes come first.
 pub(crate) fn gap_len(bytes: &[u8]) -> usize
     ensures is { result ≡ prefix_len is_gap bytes.now }
     ensures within { result ≤ length bytes.now }
 {
     bytes.iter().take_while(|byte| is_gap(**byte)).count()
-}
-
-fn continues_identifier(byte: u8) -> bool
-    ensures { result ≡ continues_identifier byte }
-{
-    matches!(kind_of(byte), Some(TokenKind::Name | TokenKind::Number))
 }
 
 fn name_len(bytes: &[u8]) -> usize
@@ -40,28 +32,7 @@ fn name_len(bytes: &[u8]) -> usize
         .count()
 }
 
-fn digits_len(bytes: &[u8]) -> usize
-    ensures is { result ≡ prefix_len is_ascii_digit bytes.now }
-    ensures within { result ≤ length bytes.now }
-{
-    bytes
-        .iter()
-        .take_while(|byte| byte.is_ascii_digit())
-        .count()
-}
-
-/// The length of a point and the digits behind it, 0 where no point stands in front.
-fn fraction_len(bytes: &[u8]) -> usize
-    ensures is { result ≡ fraction_len bytes.now }
-    ensures within { result ≤ length bytes.now }
-{
-    match bytes {
-        [b'.', rest @ ..] => 1 + digits_len(rest),
-        _ => 0,
-    }
-}
-
-/// The length of the digits behind an exponent's letter with their sign, 0 where there are none.
+/// The length of the digits after an exponent's letter with their sign, 0 where there are none.
 #[tactic(auto, unfolding(catalogue::specs::Lexing::power_len))]
 fn power_len(bytes: &[u8]) -> usize
     ensures is { result ≡ power_len bytes.now }
@@ -102,21 +73,21 @@ fn number_len(bytes: &[u8]) -> usize
     whole + (fraction + exponent_len(&rest[fraction..]))
 }
 
-/// How many bytes stand before the quote that ends a text, where the bytes begin behind its opening quote; `None` where
-/// no quote ends it. A backslash takes the next byte with it.
+/// How many bytes come before the quote that ends a text, where the bytes begin after its opening quote; `None` where
+/// no quote ends it. A backslash escapes the next byte.
 #[inline(never)]
 fn inside_len(bytes: &[u8]) -> Option<usize>
     ensures is { result ≡ inside_len false bytes.now }
     ensures within { IfSome result (λ n. n < length bytes.now) }
 {
-    let mut taken = false;
+    let mut escaped = false;
     for (n, byte) in bytes.iter().enumerate() {
-        if taken {
-            taken = false;
+        if escaped {
+            escaped = false;
         } else if *byte == b'"' {
             return Some(n);
         } else {
-            taken = *byte == b'\\';
+            escaped = *byte == b'\\';
         }
     }
     None

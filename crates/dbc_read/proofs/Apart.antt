@@ -1,12 +1,11 @@
 -- Nodes, messages and signals that are built have names and numbers of their own only where their lines have.
 use Rattle.std.proofs.Common.{◌≡◌, ◌==◌, ℕ, Bool, true, false, nat_eq, List, [], ◌∷◌, map, refl, sym, ap, ◌∙◌}
-use Rattle.std.proofs.lemmas.Bool.Decides.{Decides-eqb}
 use Rattle.std.specs.List.{AllByRecursion, IsDistinct}
 use Rattle.std.specs.Str.{bytes_eq}
 use Rattle.can_id.specs.Ident.{dbc_number}
 use Rattle.catalogue.specs.Messages.{number_of}
 use Rattle.catalogue.specs.Named.{AreNamedApart}
-use Rattle.catalogue.specs.Saying.{ident_of_number, keys_of, same_signal}
+use Rattle.catalogue.specs.Saying.{keys_of, same_signal}
 use Rattle.catalogue.specs.Sheet.{node_name}
 use Rattle.catalogue.specs.Signals.{signal_name}
 use Rattle.catalogue.specs.Statement.{MessageLine, SignalLine}
@@ -15,8 +14,8 @@ use Rattle.catalogue.specs.declared.node.Node.{Node}
 use Rattle.catalogue.specs.declared.signal.Signal.{Signal}
 use Rattle.catalogue.proofs.SignalKeys.{keys_distinct}
 use Rattle.std.specs.List.{flat_map}
-use Rattle.dbc_read.specs.Built.{behind, messages_from, nodes_from, rest_of, signals_from}
-use Rattle.dbc_read.specs.declared.feeds.Feeds.{Feeds}
+use Rattle.dbc_read.specs.Built.{feeds_after, messages_from, nodes_from, rest_of, signals_from}
+use Rattle.dbc_read.specs.declared.feed.Feeds.{Feeds}
 use Rattle.std.specs.Prelude.{drop}
 
 other_nodes : (x : List ℕ) (names comments : List (List ℕ)) → AllByRecursion (λ (n : Node). bytes_eq x n.name ≡ false) (nodes_from names comments) → AllByRecursion (λ y. bytes_eq x y ≡ false) names
@@ -41,32 +40,25 @@ lines_apart (line ∷ lines) f h = (other_signals line.name lines (rest_of f) h.
 each_apart : (lines : List MessageLine) (comments : List (List ℕ)) (f : Feeds) → AllByRecursion (λ (m : Message). AreNamedApart signal_name m.signals) (messages_from lines comments f)
     → AllByRecursion (λ (l : MessageLine). AreNamedApart (λ (s : SignalLine). s.name) l.signals) lines
 each_apart [] comments f h = tt
-each_apart (line ∷ lines) comments f h = (lines_apart line.signals f h.0, each_apart lines (drop 1 comments) (behind line.signals f) h.1)
+each_apart (line ∷ lines) comments f h = (lines_apart line.signals f h.0, each_apart lines (drop 1 comments) (feeds_after line.signals f) h.1)
 
--- numbers of which the messages' numbers differ differ themselves
-differ : (a b : ℕ) → dbc_number (ident_of_number a) == dbc_number (ident_of_number b) ≡ false → a == b ≡ false
-differ a b h = by (a == b) refl
-  where
-    by : (t : Bool) → a == b ≡ t → t ≡ false
-    by false e = refl
-    by true e =
-        let same : a ≡ b = (Decides-eqb a b).0 e in
-        sym ((Decides-eqb (dbc_number (ident_of_number a)) (dbc_number (ident_of_number b))).1 (ap (λ n. dbc_number (ident_of_number n)) same)) ∙ h
+abbrev pub line_number : MessageLine → ℕ
+line_number l = dbc_number l.ident
 
 other_numbers : (n : ℕ) (lines : List MessageLine) (comments : List (List ℕ)) (f : Feeds)
-    → AllByRecursion (λ (m : Message). dbc_number (ident_of_number n) == number_of m ≡ false) (messages_from lines comments f)
-    → AllByRecursion (λ (l : MessageLine). n == l.number ≡ false) lines
+    → AllByRecursion (λ (m : Message). n == number_of m ≡ false) (messages_from lines comments f)
+    → AllByRecursion (λ (l : MessageLine). n == line_number l ≡ false) lines
 other_numbers n [] comments f h = tt
-other_numbers n (line ∷ lines) comments f h = (differ n line.number h.0, other_numbers n lines (drop 1 comments) (behind line.signals f) h.1)
+other_numbers n (line ∷ lines) comments f h = (h.0, other_numbers n lines (drop 1 comments) (feeds_after line.signals f) h.1)
 
 numbered_apart : (lines : List MessageLine) (comments : List (List ℕ)) (f : Feeds) → IsDistinct (λ a b. number_of a == number_of b) (messages_from lines comments f)
-    → IsDistinct (λ (a b : MessageLine). a.number == b.number) lines
+    → IsDistinct (λ (a b : MessageLine). line_number a == line_number b) lines
 unfolding IsDistinct
 numbered_apart [] comments f h = tt
 numbered_apart (line ∷ lines) comments f h =
-    (other_numbers line.number lines (drop 1 comments) (behind line.signals f) h.0, numbered_apart lines (drop 1 comments) (behind line.signals f) h.1)
+    (other_numbers (line_number line) lines (drop 1 comments) (feeds_after line.signals f) h.0, numbered_apart lines (drop 1 comments) (feeds_after line.signals f) h.1)
 
-apart_mapped : {A B : Type 0} (e : B → B → Bool) (f : A → B) (xs : List A) → IsDistinct (λ a b. e (f a) (f b)) xs → IsDistinct e (map f xs)
+pub apart_mapped : {A B : Type 0} (e : B → B → Bool) (f : A → B) (xs : List A) → IsDistinct (λ a b. e (f a) (f b)) xs → IsDistinct e (map f xs)
 unfolding IsDistinct
 apart_mapped e f [] h = tt
 apart_mapped {A} e f (x ∷ xs) h = (each xs h.0, apart_mapped e f xs h.1)
@@ -76,10 +68,10 @@ apart_mapped {A} e f (x ∷ xs) h = (each xs h.0, apart_mapped e f xs h.1)
     each (y ∷ ys) a = (a.0, each ys a.1)
 
 module _ (lines : List MessageLine) (comments : List (List ℕ)) (f : Feeds) (numbers : IsDistinct (λ a b. number_of a == number_of b) (messages_from lines comments f)) where
-  pub numbers_apart : IsDistinct nat_eq (map (λ (l : MessageLine). l.number) lines)
-  numbers_apart = apart_mapped nat_eq (λ (l : MessageLine). l.number) lines (numbered_apart lines comments f numbers)
+  pub numbers_apart : IsDistinct nat_eq (map line_number lines)
+  numbers_apart = apart_mapped nat_eq line_number lines (numbered_apart lines comments f numbers)
 
   pub keys_apart : AllByRecursion (λ (m : Message). AreNamedApart signal_name m.signals) (messages_from lines comments f) → IsDistinct same_signal (flat_map keys_of lines)
   keys_apart names =
-      keys_distinct (λ (s : SignalLine). s.name) (λ (l : MessageLine). l.number) (λ (l : MessageLine). l.signals) lines (numbered_apart lines comments f numbers)
+      keys_distinct (λ (s : SignalLine). s.name) line_number (λ (l : MessageLine). l.signals) lines (numbered_apart lines comments f numbers)
       (each_apart lines comments f names)

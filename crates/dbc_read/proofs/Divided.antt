@@ -1,5 +1,5 @@
 -- What a text that is divided into statements reads as.
-use Rattle.std.proofs.Common.{◌≡◌, ℕ, List, refl, subst}
+use Rattle.std.proofs.Common.{◌≡◌, ◌∙◌, ℕ, List, map, ap, refl, subst}
 use Rattle.catalogue.specs.Division.{Divides}
 use Rattle.catalogue.specs.Reads.{ReadsAs, ReadsAsOneAtMost, ReadsOnlyAs}
 use Rattle.catalogue.specs.Saying.{Says, passed_by}
@@ -11,15 +11,21 @@ use Rattle.catalogue.proofs.Divisions.{one_division}
 use Rattle.catalogue.proofs.OneReading.{reads_only}
 use Rattle.catalogue.proofs.TokensOnce.{tokens_once}
 use Rattle.dbc_statements.specs.Division.{HasNoDivision, IsDivided}
+use Rattle.dbc_read.specs.Built.{CanStand, IsBuilt}
+use Rattle.dbc_read.specs.Gathered.{AreGathered}
+use Rattle.dbc_read.specs.Passed.{start_and_keyword}
 use Rattle.dbc_read.specs.Reading.{ReadsAsNothing}
 use Rattle.dbc_read.specs.Sheets.{SaysNothing}
+use Rattle.dbc_read.specs.declared.gathered.Gathered.{Gathered}
+use Rattle.dbc_read.specs.declared.reading.Reading.{Reading}
+use Rattle.dbc_read.proofs.Unsaid.{says_built, stands_again, unsaid_built}
 
 module _ (bytes : List ℕ) where
   pub undivided : HasNoDivision bytes → ReadsAsNothing bytes
   undivided none s (passed, r) = none r.statements (record { tokens = r.tokens; has_tokens = r.has_tokens; divides = r.divides })
 
   module _ (ss : List Statement) (d : IsDivided bytes ss) where
-    pub reads_as : (s : Sheet) (passed : List (ℕ × Keyword)) → Says ss s → passed ≡ passed_by ss → ReadsAs bytes s passed
+    reads_as : (s : Sheet) (passed : List (ℕ × Keyword)) → Says ss s → passed ≡ passed_by ss → ReadsAs bytes s passed
     reads_as s passed says is = record {
       tokens = d.tokens;
       statements = ss;
@@ -29,11 +35,32 @@ module _ (bytes : List ℕ) where
       passes = is;
     }
 
-    pub reads_one : ReadsAsOneAtMost → (s : Sheet) → Says ss s → ReadsOnlyAs bytes s
+    reads_one : ReadsAsOneAtMost → (s : Sheet) → Says ss s → ReadsOnlyAs bytes s
     reads_one one s says = reads_only one bytes s (passed_by ss, reads_as s (passed_by ss) says refl)
 
-    pub unsaid : SaysNothing ss → ReadsAsNothing bytes
+    -- the text has no other statements
+    same_statements : (us : List Statement) → IsDivided bytes us → us ≡ ss
+    same_statements us e =
+        let tokens = tokens_once 0 bytes e.tokens d.tokens e.has_tokens d.has_tokens in
+        one_division d.tokens us ss (subst (λ (ts : List Token). Divides ts us) tokens e.divides) d.divides
+
+    unsaid : SaysNothing ss → ReadsAsNothing bytes
     unsaid none s (passed, r) =
-        let tokens = tokens_once 0 bytes r.tokens d.tokens r.has_tokens d.has_tokens in
-        let same = one_division d.tokens r.statements ss (subst (λ (ts : List Token). Divides ts r.statements) tokens r.divides) d.divides in
+        let same = same_statements r.statements (record { tokens = r.tokens; has_tokens = r.has_tokens; divides = r.divides }) in
         none s (subst (λ (us : List Statement). Says us s) same r.says)
+
+    module _ (g : Gathered) (a : AreGathered ss g) where
+      -- where what is gathered can't be in one sheet, the text reads as none
+      pub reads_none : ¬ CanStand g → ReadsAsNothing bytes
+      reads_none never = unsaid (unsaid_built ss g a never)
+
+      -- and what is gathered of it once more can't be either
+      pub stands_never : ¬ CanStand g → (us : List Statement) → IsDivided bytes us → (h : Gathered) → AreGathered us h → ¬ CanStand h
+      stands_never never us e h b = λ can. never (stands_again ss g h a (subst (λ l. AreGathered l h) (same_statements us e) b) can)
+
+      -- the sheet that is built of what is gathered
+      pub reads_built : (r : Reading) → IsBuilt g r.sheet → r.passed ≡ g.passed → ReadsAs bytes r.sheet (map start_and_keyword r.passed)
+      reads_built r built same = reads_as r.sheet _ (says_built ss g a r.sheet built) (ap (map start_and_keyword) same ∙ a.passed)
+
+      pub reads_only_built : ReadsAsOneAtMost → (r : Reading) → IsBuilt g r.sheet → ReadsOnlyAs bytes r.sheet
+      reads_only_built one r built = reads_one one r.sheet (says_built ss g a r.sheet built)

@@ -1,4 +1,4 @@
--- What a search by halves finds in an index.
+-- What a binary search finds in a look-up.
 use Rattle.std.proofs.Common.{◌≡◌, ◌<◌, ◌∙◌, ◌||◌, ◌++◌, ℕ, zero, suc, Bool, true, false, List, [], ◌∷◌, length, get_or, map, Option, Some, None, refl, sym, ap, subst, inl, inr, append_assoc, arith}
 use Rattle.std.specs.Prelude.{slice_get}
 use Rattle.std.specs.Cmp.{IsTotalOrder}
@@ -10,8 +10,8 @@ use Rattle.std.specs.declared.cmp.Ordering.TheVariants.{Less, Equal, Greater}
 use Rattle.std.proofs.lemmas.Bool.{cases_lt}
 use Rattle.std.proofs.lemmas.List.Elements.{All-from_recursion, recursion_from_All}
 use Rattle.std.proofs.lemmas.List.Sorted.{All-permutation, IsPermutation-sym, searchable_from_sorted}
-use Rattle.dbc_read.specs.Found.{IsIndexOf, IsPlaceOf, numbered}
-use Rattle.dbc_read.specs.declared.index.Index.{Index}
+use Rattle.dbc_read.specs.Lookup.{IsLookupOf, IsIndexIn, numbered}
+use Rattle.dbc_read.specs.declared.lookup.Lookup.{Lookup}
 
 module _ {K : Type 0} where
   last_of : (front : List K) (k : K) (rest : List K) → slice_get (front ++ k ∷ rest) (length front) ≡ Some k
@@ -22,16 +22,16 @@ module _ {K : Type 0} where
   one_longer [] k = refl
   one_longer (f ∷ front) k = ap suc (one_longer front k)
 
-  abbrev StandAt : List K → K × ℕ → Type 0
-  StandAt keys e = slice_get keys e.1 ≡ Some e.0
+  abbrev IsAt : List K → K × ℕ → Type 0
+  IsAt keys e = slice_get keys e.1 ≡ Some e.0
 
-  -- each numbered key stands at its number
-  stand_behind : (front ks : List K) → AllByRecursion (StandAt (front ++ ks)) (numbered (length front) ks)
-  stand_behind front [] = tt
-  stand_behind front (k ∷ ks) = (
+  -- each numbered key is at its number
+  are_at : (front ks : List K) → AllByRecursion (IsAt (front ++ ks)) (numbered (length front) ks)
+  are_at front [] = tt
+  are_at front (k ∷ ks) = (
     last_of front k ks,
-    subst (λ (all : List K). AllByRecursion (StandAt all) (numbered (suc (length front)) ks)) (append_assoc front (k ∷ []) ks)
-        (subst (λ n. AllByRecursion (StandAt ((front ++ k ∷ []) ++ ks)) (numbered n ks)) (one_longer front k) (stand_behind (front ++ k ∷ []) ks)),
+    subst (λ (all : List K). AllByRecursion (IsAt all) (numbered (suc (length front)) ks)) (append_assoc front (k ∷ []) ks)
+        (subst (λ n. AllByRecursion (IsAt ((front ++ k ∷ []) ++ ks)) (numbered n ks)) (one_longer front k) (are_at (front ++ k ∷ []) ks)),
   )
 
   module _ (test : K → Bool) where
@@ -51,25 +51,25 @@ module _ {K : Type 0} where
     none_seen n [] h = refl
     none_seen n (k ∷ keys) h = ap (λ b. b || list_any test keys) h.0 ∙ none_seen (suc n) keys h.1
 
-  module _ (cmp : K → K → Ordering) (order : IsTotalOrder cmp) (eq : K → K → Bool) (tied : (x y : K) → eq x y ≡ eq_by_cmp cmp x y) (index : Index K) (keys : List K)
-      (is : IsIndexOf cmp index keys) where
+  module _ (cmp : K → K → Ordering) (order : IsTotalOrder cmp) (eq : K → K → Bool) (tied : (x y : K) → eq x y ≡ eq_by_cmp cmp x y) (lookup : Lookup K) (keys : List K)
+      (is : IsLookupOf cmp lookup keys) where
     -- where an entry was found
-    pub found : (key : K) (at : ℕ) (e : K × ℕ) → at < length index.sorted.items → e ≡ get_or index.sorted.items at e
-        → HoldsAt (λ (y : K × ℕ). cmp y.0 key ≡ Equal) index.sorted.items at → slice_get (map (λ k. eq k key) keys) e.1 ≡ Some true
+    pub found : (key : K) (at : ℕ) (e : K × ℕ) → at < length lookup.sorted.items → e ≡ get_or lookup.sorted.items at e
+        → HoldsAt (λ (y : K × ℕ). cmp y.0 key ≡ Equal) lookup.sorted.items at → slice_get (map (λ k. eq k key) keys) e.1 ≡ Some true
     found key at e within here equal =
-        let stands = All-permutation (StandAt keys) _ _ is.entries (All-from_recursion (StandAt keys) _ (stand_behind [] keys)) at e within in
+        let stands = All-permutation (IsAt keys) _ _ is.entries (All-from_recursion (IsAt keys) _ (are_at [] keys)) at e within in
         let same : cmp e.0 key ≡ Equal = subst (λ (y : K × ℕ). cmp y.0 key ≡ Equal) (sym here) (equal e) in
-        seen_at (λ k. eq k key) keys e.1 e.0 (subst (λ (y : K × ℕ). StandAt keys y) (sym here) stands) (tied e.0 key ∙ ap is_eq same)
+        seen_at (λ k. eq k key) keys e.1 e.0 (subst (λ (y : K × ℕ). IsAt keys y) (sym here) stands) (tied e.0 key ∙ ap is_eq same)
 
     -- where a gap was found
     pub absent : (key : K) (at : ℕ)
-        → (IsNonDecreasingBy (λ (y : K × ℕ). ordering_index (cmp y.0 key)) index.sorted.items
-        → IsPartitionPoint (λ (y : K × ℕ). cmp y.0 key ≡ Less) (λ (y : K × ℕ). cmp y.0 key ≡ Greater) index.sorted.items at)
+        → (IsNonDecreasingBy (λ (y : K × ℕ). ordering_index (cmp y.0 key)) lookup.sorted.items
+        → IsPartitionPoint (λ (y : K × ℕ). cmp y.0 key ≡ Less) (λ (y : K × ℕ). cmp y.0 key ≡ Greater) lookup.sorted.items at)
         → list_any (λ k. eq k key) keys ≡ false
     absent key at parted =
-        let parts = parted (searchable_from_sorted order (λ (e : K × ℕ). e.0) index.sorted.items key is.sorted) in
-        let apart : All (λ (e : K × ℕ). eq e.0 key ≡ false) index.sorted.items = λ j d lt.
-        let e = get_or index.sorted.items j d in
+        let parts = parted (searchable_from_sorted order (λ (e : K × ℕ). e.0) lookup.sorted.items key is.sorted) in
+        let apart : All (λ (e : K × ℕ). eq e.0 key ≡ false) lookup.sorted.items = λ j d lt.
+        let e = get_or lookup.sorted.items j d in
         elim (cases_lt j at) [
           | inl below ↦ tied e.0 key ∙ ap is_eq (parts.0 j d (omega arith) below)
           | inr above ↦ tied e.0 key ∙ ap is_eq (parts.1 j d above lt)
@@ -86,7 +86,7 @@ module _ {K J : Type 0} (see : K → J) (p : K → Bool) (q : J → Bool) (same 
   each_seen [] = refl
   each_seen (k ∷ keys) = λ i. same k i ∷ each_seen keys i
 
-  -- a key and what it stands for have one place
-  pub place_seen : (keys : List K) (place : Option ℕ) → IsPlaceOf p keys place → IsPlaceOf q (map see keys) place
-  place_seen keys None h = any_seen keys ∙ h
-  place_seen keys (Some i) h = ap (λ l. slice_get l i) (sym (each_seen keys)) ∙ h
+  -- a key and what it stands for have one index
+  pub index_seen : (keys : List K) (index : Option ℕ) → IsIndexIn p keys index → IsIndexIn q (map see keys) index
+  index_seen keys None h = any_seen keys ∙ h
+  index_seen keys (Some i) h = ap (λ l. slice_get l i) (sym (each_seen keys)) ∙ h

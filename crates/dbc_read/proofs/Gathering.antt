@@ -1,5 +1,5 @@
--- A loop that takes in one statement after the other: what is gathered so far and what is left to say is all that the
--- statements say.
+-- A loop that gathers what one statement after the other says: what is gathered so far and what is left to say is all that
+-- the statements say.
 use Rattle.std.proofs.Common.{◌≡◌, ◌==◌, ◌&&◌, ◌||◌, ◌++◌, ◌∙◌, ℕ, zero, suc, Bool, true, false, not, cond, List, [], ◌∷◌, length, map, filter, replicate, Option, Some, None, is_some, if◌then◌else◌, nat_eq, refl, sym, ap, append_assoc, append-nil, subst, true≢false}
 use Rattle.std.specs.Prelude.{drop, slice_get, unwrap_or}
 use Rattle.std.specs.Cmp.{IsEquivalence, nat_eq_equiv}
@@ -15,13 +15,14 @@ use Rattle.catalogue.specs.declared.value_texts.ValueText.{ValueText}
 use Rattle.catalogue.specs.declared.value_type.ValueType.{ValueType}
 use Rattle.catalogue.specs.declared.value_type.ValueType.TheVariants.{Integer}
 use Rattle.dbc_read.specs.Built.{first_or}
-use Rattle.dbc_read.specs.Found.{IsPlaceOf}
-use Rattle.dbc_read.specs.Gathered.{AreGathered, IsNothing, mention, noted, set_at, table_of, taken}
-use Rattle.dbc_read.specs.Passed.{mentioned}
-use Rattle.dbc_read.specs.Places.{AreCitedPlaces, IsCitedPlace, IsMessagePlace, IsSignalPlace}
+use Rattle.dbc_read.specs.Lookup.{IsIndexIn}
+use Rattle.dbc_read.specs.Gathered.{AreGathered, IsNothing, gathered_after, passed_after, passed_of, set_at}
+use Rattle.dbc_read.specs.Passed.{start_and_keyword}
+use Rattle.dbc_read.specs.Lookups.{AreCitedIndices, IsCitedIndex, IsMessageIndex, IsSignalIndex}
 use Rattle.dbc_read.specs.declared.gathered.Gathered.{Gathered}
 use Rattle.dbc_read.specs.declared.passed.Passed.{Passed}
-use Rattle.dbc_statements.specs.Said.{content_of, entries_of, message_of, names_of, statement_of}
+use Rattle.dbc_statements.specs.Parts.{table_of}
+use Rattle.dbc_statements.specs.Statement.{content_of, message_of, names_of, statement_of}
 use Rattle.dbc_statements.specs.declared.statement.Content.{Content}
 use Rattle.dbc_statements.specs.declared.statement.Content.TheVariants as content
 use Rattle.dbc_statements.specs.declared.statement.NodeName.{NodeName}
@@ -43,7 +44,7 @@ or_true false = refl
 
 -- Values of keys, each the last one of the pairs so far, and the pairs that are left.
 module _ {K V : Type 0} (same : K → K → Bool) (d : V) where
-  -- the values, once the pairs that are left are taken in
+  -- the values, once the pairs that are left are added
   abbrev pub finished : List (K × V) → List K → List V → List V
   finished ps [] vs = vs
   finished ps (k ∷ ks) [] = []
@@ -86,9 +87,9 @@ module _ {K V : Type 0} (same : K → K → Bool) (d : V) where
     apart_from k (x ∷ ks) zero h e = laws.symm k k₀ ∙ sym (laws.congr x k₀ k (some_true _ e)) ∙ laws.symm x k ∙ h.0
     apart_from k (x ∷ ks) (suc i) h e = apart_from k ks i h.1 e
 
-    -- the next pair is taken in by its value's going to the place of its key
-    pub settled : (ks : List K) (vs : List V) (place : Option ℕ) → IsDistinct same ks → IsPlaceOf (λ k. same k k₀) ks place
-        → finished ((k₀, v₀) ∷ ps) ks vs ≡ finished ps ks (set_at place v₀ vs)
+    -- the next pair is added by its value's going to the index of its key
+    pub settled : (ks : List K) (vs : List V) (index : Option ℕ) → IsDistinct same ks → IsIndexIn (λ k. same k k₀) ks index
+        → finished ((k₀, v₀) ∷ ps) ks vs ≡ finished ps ks (set_at index v₀ vs)
     unfolding IsDistinct
     settled ks vs None distinct h = others ks vs h
     settled [] vs (Some i) distinct h = none_true h
@@ -100,10 +101,10 @@ module _ {K V : Type 0} (same : K → K → Bool) (d : V) where
     settled (k ∷ ks) (v ∷ vs) (Some (suc n)) distinct h =
         λ i. one_value k v false (apart_from k ks n distinct.0 h) i ∷ settled ks vs (Some n) distinct.1 h i
 
--- a key has a place exactly where the list has it
-pub has_place : {K : Type 0} (test : K → Bool) (keys : List K) (place : Option ℕ) → IsPlaceOf test keys place → list_any test keys ≡ is_some place
-has_place test keys None h = h
-has_place test keys (Some i) h = by keys i h
+-- a key has an index exactly where the list has it
+pub has_index : {K : Type 0} (test : K → Bool) (keys : List K) (index : Option ℕ) → IsIndexIn test keys index → list_any test keys ≡ is_some index
+has_index test keys None h = h
+has_index test keys (Some i) h = by keys i h
   where
     by : (ks : List _) (j : ℕ) → slice_get (map test ks) j ≡ Some true → list_any test ks ≡ true
     by [] j e = none_true e
@@ -124,32 +125,32 @@ signals_equiv = record {
   congr = λ x y z h. let parts = and_parts (x.0 == y.0) (bytes_eq x.1 y.1) h in λ i. nat_eq_equiv.congr x.0 y.0 z.0 parts.0 i && bytes_equiv.congr x.1 y.1 z.1 parts.1 i;
 }
 
-signal_settled : {V : Type 0} (d : V) (all : List says.Statement) (number : Cited) (name : List ℕ) (v : V) (ps : List (SignalKey × V)) (vs : List V) (place : Option ℕ)
-    → IsSignalPlace all number name place → IsDistinct same_signal (signal_keys_of all)
-    → finished same_signal d (cons_option (of_signal number name v) ps) (signal_keys_of all) vs ≡ finished same_signal d ps (signal_keys_of all) (set_at place v vs)
-signal_settled d all None name v ps vs place is distinct = ap (λ o. finished same_signal d ps (signal_keys_of all) (set_at o v vs)) (sym is)
-signal_settled d all (Some n) name v ps vs place is distinct = settled same_signal d signals_equiv (n, name) v ps (signal_keys_of all) vs place distinct is
+signal_settled : {V : Type 0} (d : V) (all : List says.Statement) (number : Cited) (name : List ℕ) (v : V) (ps : List (SignalKey × V)) (vs : List V) (index : Option ℕ)
+    → IsSignalIndex all number name index → IsDistinct same_signal (signal_keys_of all)
+    → finished same_signal d (cons_option (of_signal number name v) ps) (signal_keys_of all) vs ≡ finished same_signal d ps (signal_keys_of all) (set_at index v vs)
+signal_settled d all None name v ps vs index is distinct = ap (λ o. finished same_signal d ps (signal_keys_of all) (set_at o v vs)) (sym is)
+signal_settled d all (Some n) name v ps vs index is distinct = settled same_signal d signals_equiv (n, name) v ps (signal_keys_of all) vs index distinct is
 
-message_settled : (all : List says.Statement) (cited : Cited) (v : List ℕ) (rest : List says.Statement) (vs : List (List ℕ)) (place : Option ℕ)
-    → IsMessagePlace all cited place → IsDistinct nat_eq (numbers_of all)
+message_settled : (all : List says.Statement) (cited : Cited) (v : List ℕ) (rest : List says.Statement) (vs : List (List ℕ)) (index : Option ℕ)
+    → IsMessageIndex all cited index → IsDistinct nat_eq (numbers_of all)
     → finished nat_eq [] (cons_option (message_comment_in (says.MessageCommentIs cited v)) (each_in message_comment_in rest)) (numbers_of all) vs
-    ≡ finished nat_eq [] (each_in message_comment_in rest) (numbers_of all) (set_at place v vs)
-message_settled all None v rest vs place is distinct = ap (λ o. finished nat_eq [] (each_in message_comment_in rest) (numbers_of all) (set_at o v vs)) (sym is)
-message_settled all (Some n) v rest vs place is distinct = settled nat_eq [] nat_eq_equiv n v (each_in message_comment_in rest) (numbers_of all) vs place distinct is
+    ≡ finished nat_eq [] (each_in message_comment_in rest) (numbers_of all) (set_at index v vs)
+message_settled all None v rest vs index is distinct = ap (λ o. finished nat_eq [] (each_in message_comment_in rest) (numbers_of all) (set_at o v vs)) (sym is)
+message_settled all (Some n) v rest vs index is distinct = settled nat_eq [] nat_eq_equiv n v (each_in message_comment_in rest) (numbers_of all) vs index distinct is
 
-has_message_place : (all : List says.Statement) (cited : Cited) (place : Option ℕ) → IsMessagePlace all cited place → has_message all cited ≡ is_some place
-has_message_place all None place is = ap is_some (sym is)
-has_message_place all (Some n) place is = has_place (λ m. m == n) (numbers_of all) place is
+has_message_index : (all : List says.Statement) (cited : Cited) (index : Option ℕ) → IsMessageIndex all cited index → has_message all cited ≡ is_some index
+has_message_index all None index is = ap is_some (sym is)
+has_message_index all (Some n) index is = has_index (λ m. m == n) (numbers_of all) index is
 
-has_signal_place : (all : List says.Statement) (cited : Cited) (name : List ℕ) (place : Option ℕ) → IsSignalPlace all cited name place → has_signal all cited name ≡ is_some place
-has_signal_place all None name place is = ap is_some (sym is)
-has_signal_place all (Some n) name place is = has_place (λ key. same_signal key (n, name)) (signal_keys_of all) place is
+has_signal_index : (all : List says.Statement) (cited : Cited) (name : List ℕ) (index : Option ℕ) → IsSignalIndex all cited name index → has_signal all cited name ≡ is_some index
+has_signal_index all None name index is = ap is_some (sym is)
+has_signal_index all (Some n) name index is = has_index (λ key. same_signal key (n, name)) (signal_keys_of all) index is
 
-abbrev seen : says.Statement → ℕ × Keyword
-seen s = (s.start, s.keyword)
+abbrev passed_pair : says.Statement → ℕ × Keyword
+passed_pair s = (s.start, s.keyword)
 
 abbrev passed_in : List says.Statement → List says.Statement → List (ℕ × Keyword)
-passed_in all rest = map seen (filter (λ (s : says.Statement). is_passed all s.content) rest)
+passed_in all rest = map passed_pair (filter (λ (s : says.Statement). is_passed all s.content) rest)
 
 -- What is gathered, and what is left to say, are all that the statements say.
 pub record Gathers (all : List says.Statement) (g : Gathered) (rest : List says.Statement) : Type 0 where
@@ -170,10 +171,10 @@ pub record Gathers (all : List says.Statement) (g : Gathered) (rest : List says.
       ≡ map (λ key. last_said same_signal key Integer value_type_in all) (signal_keys_of all)
   pub signal_spns : IsDistinct same_signal (signal_keys_of all) → finished same_signal 0 (each_in spn_in rest) (signal_keys_of all) g.signal_spns
       ≡ map (λ key. last_said same_signal key 0 spn_in all) (signal_keys_of all)
-  pub passed : map mentioned g.passed ++ passed_in all rest ≡ passed_by all
+  pub passed : map start_and_keyword g.passed ++ passed_in all rest ≡ passed_by all
 
--- One statement more, of the content c, whose citation has this place.
-module _ (all : List says.Statement) (start : ℕ) (keyword : Keyword) (place : Option ℕ) (g : Gathered) (rest : List says.Statement) where
+-- One statement more, of the content c, which cites what has this index.
+module _ (all : List says.Statement) (start : ℕ) (keyword : Keyword) (index : Option ℕ) (g : Gathered) (rest : List says.Statement) where
   abbrev p : Passed
   p = record { at = start; keyword = keyword }
 
@@ -181,20 +182,20 @@ module _ (all : List says.Statement) (start : ℕ) (keyword : Keyword) (place : 
   these c = record { start = start; keyword = keyword; content = content_of c } ∷ rest
 
   abbrev new : Content → Gathered
-  new c = taken place p c g
+  new c = gathered_after index p c g
 
-  version_step : (c : Content) (all_said : Option (List ℕ)) → last_or g.version (each_in version_in (these c)) ≡ all_said → last_or (new c).version (each_in version_in rest) ≡ all_said
-  version_step (content.Version text) all_said h = h
-  version_step c all_said h = h
+  version_step : (c : Content) (whole : Option (List ℕ)) → last_or g.version (each_in version_in (these c)) ≡ whole → last_or (new c).version (each_in version_in rest) ≡ whole
+  version_step (content.Version text) whole h = h
+  version_step c whole h = h
 
-  comment_step : (c : Content) (all_said : Option (List ℕ)) → last_or g.comment (each_in comment_in (these c)) ≡ all_said → last_or (new c).comment (each_in comment_in rest) ≡ all_said
-  comment_step (content.Comment text) all_said h = h
-  comment_step c all_said h = h
+  comment_step : (c : Content) (whole : Option (List ℕ)) → last_or g.comment (each_in comment_in (these c)) ≡ whole → last_or (new c).comment (each_in comment_in rest) ≡ whole
+  comment_step (content.Comment text) whole h = h
+  comment_step c whole h = h
 
-  nodes_step : (c : Content) (all_said : List (List ℕ)) → names_of g.nodes ++ node_names_of (these c) ≡ all_said → names_of (new c).nodes ++ node_names_of rest ≡ all_said
-  nodes_step (content.Nodes nodes) all_said h =
+  nodes_step : (c : Content) (whole : List (List ℕ)) → names_of g.nodes ++ node_names_of (these c) ≡ whole → names_of (new c).nodes ++ node_names_of rest ≡ whole
+  nodes_step (content.Nodes nodes) whole h =
       ap (λ l. l ++ node_names_of rest) (map-append (λ (n : NodeName). n.name) g.nodes nodes.items) ∙ append_assoc (names_of g.nodes) (names_of nodes.items) (node_names_of rest) ∙ h
-  nodes_step c all_said h = h
+  nodes_step c whole h = h
 
   tables_step : (c : Content) → map table_of g.tables ++ each_in table_in (these c) ≡ each_in table_in all → map table_of (new c).tables ++ each_in table_in rest ≡ each_in table_in all
   tables_step (content.Table line) h =
@@ -206,75 +207,75 @@ module _ (all : List says.Statement) (start : ℕ) (keyword : Keyword) (place : 
       ap (λ l. l ++ messages_of rest) (map-append message_of g.messages (line ∷ [])) ∙ append_assoc (map message_of g.messages) (message_of line ∷ []) (messages_of rest) ∙ h
   messages_step c h = h
 
-  node_comments_step : (c : Content) (all_said : List (List ℕ)) → IsCitedPlace all (content_of c) place → IsDistinct bytes_eq (node_names_of all)
-      → finished bytes_eq [] (each_in node_comment_in (these c)) (node_names_of all) g.node_comments ≡ all_said
-      → finished bytes_eq [] (each_in node_comment_in rest) (node_names_of all) (new c).node_comments ≡ all_said
-  node_comments_step (content.NodeComment name text) all_said is distinct h =
-      sym (settled bytes_eq [] bytes_equiv name text (each_in node_comment_in rest) (node_names_of all) g.node_comments place distinct is) ∙ h
-  node_comments_step c all_said is distinct h = h
+  node_comments_step : (c : Content) (whole : List (List ℕ)) → IsCitedIndex all (content_of c) index → IsDistinct bytes_eq (node_names_of all)
+      → finished bytes_eq [] (each_in node_comment_in (these c)) (node_names_of all) g.node_comments ≡ whole
+      → finished bytes_eq [] (each_in node_comment_in rest) (node_names_of all) (new c).node_comments ≡ whole
+  node_comments_step (content.NodeComment name text) whole is distinct h =
+      sym (settled bytes_eq [] bytes_equiv name text (each_in node_comment_in rest) (node_names_of all) g.node_comments index distinct is) ∙ h
+  node_comments_step c whole is distinct h = h
 
-  message_comments_step : (c : Content) (all_said : List (List ℕ)) → IsCitedPlace all (content_of c) place → IsDistinct nat_eq (numbers_of all)
-      → finished nat_eq [] (each_in message_comment_in (these c)) (numbers_of all) g.message_comments ≡ all_said
-      → finished nat_eq [] (each_in message_comment_in rest) (numbers_of all) (new c).message_comments ≡ all_said
-  message_comments_step (content.MessageComment cited text) all_said is distinct h = sym (message_settled all cited text rest g.message_comments place is distinct) ∙ h
-  message_comments_step c all_said is distinct h = h
+  message_comments_step : (c : Content) (whole : List (List ℕ)) → IsCitedIndex all (content_of c) index → IsDistinct nat_eq (numbers_of all)
+      → finished nat_eq [] (each_in message_comment_in (these c)) (numbers_of all) g.message_comments ≡ whole
+      → finished nat_eq [] (each_in message_comment_in rest) (numbers_of all) (new c).message_comments ≡ whole
+  message_comments_step (content.MessageComment cited text) whole is distinct h = sym (message_settled all cited text rest g.message_comments index is distinct) ∙ h
+  message_comments_step c whole is distinct h = h
 
-  signal_comments_step : (c : Content) (all_said : List (List ℕ)) → IsCitedPlace all (content_of c) place → IsDistinct same_signal (signal_keys_of all)
-      → finished same_signal [] (each_in signal_comment_in (these c)) (signal_keys_of all) g.signal_comments ≡ all_said
-      → finished same_signal [] (each_in signal_comment_in rest) (signal_keys_of all) (new c).signal_comments ≡ all_said
-  signal_comments_step (content.SignalComment cited text) all_said is distinct h =
-      sym (signal_settled [] all cited.number cited.name text (each_in signal_comment_in rest) g.signal_comments place is distinct) ∙ h
-  signal_comments_step c all_said is distinct h = h
+  signal_comments_step : (c : Content) (whole : List (List ℕ)) → IsCitedIndex all (content_of c) index → IsDistinct same_signal (signal_keys_of all)
+      → finished same_signal [] (each_in signal_comment_in (these c)) (signal_keys_of all) g.signal_comments ≡ whole
+      → finished same_signal [] (each_in signal_comment_in rest) (signal_keys_of all) (new c).signal_comments ≡ whole
+  signal_comments_step (content.SignalComment cited text) whole is distinct h =
+      sym (signal_settled [] all cited.number cited.name text (each_in signal_comment_in rest) g.signal_comments index is distinct) ∙ h
+  signal_comments_step c whole is distinct h = h
 
-  signal_values_step : (c : Content) (all_said : List (List ValueText)) → IsCitedPlace all (content_of c) place → IsDistinct same_signal (signal_keys_of all)
-      → finished same_signal [] (each_in value_texts_in (these c)) (signal_keys_of all) g.signal_values ≡ all_said
-      → finished same_signal [] (each_in value_texts_in rest) (signal_keys_of all) (new c).signal_values ≡ all_said
-  signal_values_step (content.ValueTexts cited entries) all_said is distinct h =
-      sym (signal_settled [] all cited.number cited.name (entries_of entries) (each_in value_texts_in rest) g.signal_values place is distinct) ∙ h
-  signal_values_step c all_said is distinct h = h
+  signal_values_step : (c : Content) (whole : List (List ValueText)) → IsCitedIndex all (content_of c) index → IsDistinct same_signal (signal_keys_of all)
+      → finished same_signal [] (each_in value_texts_in (these c)) (signal_keys_of all) g.signal_values ≡ whole
+      → finished same_signal [] (each_in value_texts_in rest) (signal_keys_of all) (new c).signal_values ≡ whole
+  signal_values_step (content.ValueTexts cited entries) whole is distinct h =
+      sym (signal_settled [] all cited.number cited.name entries (each_in value_texts_in rest) g.signal_values index is distinct) ∙ h
+  signal_values_step c whole is distinct h = h
 
-  signal_types_step : (c : Content) (all_said : List ValueType) → IsCitedPlace all (content_of c) place → IsDistinct same_signal (signal_keys_of all)
-      → finished same_signal Integer (each_in value_type_in (these c)) (signal_keys_of all) g.signal_types ≡ all_said
-      → finished same_signal Integer (each_in value_type_in rest) (signal_keys_of all) (new c).signal_types ≡ all_said
-  signal_types_step (content.ValueType cited value_type) all_said is distinct h =
-      sym (signal_settled Integer all cited.number cited.name value_type (each_in value_type_in rest) g.signal_types place is distinct) ∙ h
-  signal_types_step c all_said is distinct h = h
+  signal_types_step : (c : Content) (whole : List ValueType) → IsCitedIndex all (content_of c) index → IsDistinct same_signal (signal_keys_of all)
+      → finished same_signal Integer (each_in value_type_in (these c)) (signal_keys_of all) g.signal_types ≡ whole
+      → finished same_signal Integer (each_in value_type_in rest) (signal_keys_of all) (new c).signal_types ≡ whole
+  signal_types_step (content.ValueType cited value_type) whole is distinct h =
+      sym (signal_settled Integer all cited.number cited.name value_type (each_in value_type_in rest) g.signal_types index is distinct) ∙ h
+  signal_types_step c whole is distinct h = h
 
-  signal_spns_step : (c : Content) (all_said : List ℕ) → IsCitedPlace all (content_of c) place → IsDistinct same_signal (signal_keys_of all)
-      → finished same_signal 0 (each_in spn_in (these c)) (signal_keys_of all) g.signal_spns ≡ all_said
-      → finished same_signal 0 (each_in spn_in rest) (signal_keys_of all) (new c).signal_spns ≡ all_said
-  signal_spns_step (content.Spn cited spn) all_said is distinct h =
-      sym (signal_settled 0 all cited.number cited.name spn (each_in spn_in rest) g.signal_spns place is distinct) ∙ h
-  signal_spns_step c all_said is distinct h = h
+  signal_spns_step : (c : Content) (whole : List ℕ) → IsCitedIndex all (content_of c) index → IsDistinct same_signal (signal_keys_of all)
+      → finished same_signal 0 (each_in spn_in (these c)) (signal_keys_of all) g.signal_spns ≡ whole
+      → finished same_signal 0 (each_in spn_in rest) (signal_keys_of all) (new c).signal_spns ≡ whole
+  signal_spns_step (content.Spn cited spn) whole is distinct h =
+      sym (signal_settled 0 all cited.number cited.name spn (each_in spn_in rest) g.signal_spns index is distinct) ∙ h
+  signal_spns_step c whole is distinct h = h
 
-  one_more : (kept : List says.Statement) (all_passed : List (ℕ × Keyword)) → map mentioned g.passed ++ (start, keyword) ∷ map seen kept ≡ all_passed
-      → map mentioned (g.passed ++ p ∷ []) ++ map seen kept ≡ all_passed
+  one_more : (kept : List says.Statement) (all_passed : List (ℕ × Keyword)) → map start_and_keyword g.passed ++ (start, keyword) ∷ map passed_pair kept ≡ all_passed
+      → map start_and_keyword (g.passed ++ p ∷ []) ++ map passed_pair kept ≡ all_passed
   one_more kept all_passed h =
-      ap (λ l. l ++ map seen kept) (map-append mentioned g.passed (p ∷ [])) ∙ append_assoc (map mentioned g.passed) ((start, keyword) ∷ []) (map seen kept) ∙ h
+      ap (λ l. l ++ map passed_pair kept) (map-append start_and_keyword g.passed (p ∷ [])) ∙ append_assoc (map start_and_keyword g.passed) ((start, keyword) ∷ []) (map passed_pair kept) ∙ h
 
-  noted_step : (x : says.Statement) (kept : List says.Statement) (all_passed : List (ℕ × Keyword)) (test : Bool) (o : Option ℕ) → seen x ≡ (start, keyword) → test ≡ is_some o
-      → map mentioned g.passed ++ map seen (cond (not test) (x ∷ kept) kept) ≡ all_passed → map mentioned (noted o p g.passed) ++ map seen kept ≡ all_passed
-  noted_step x kept all_passed true (Some i) here e h = h
-  noted_step x kept all_passed false None here e h = one_more kept all_passed (ap (λ t. map mentioned g.passed ++ t ∷ map seen kept) (sym here) ∙ h)
-  noted_step x kept all_passed true None here e h = absurd (true≢false e)
-  noted_step x kept all_passed false (Some i) here e h = absurd (true≢false (sym e))
+  skipped_step : (x : says.Statement) (kept : List says.Statement) (all_passed : List (ℕ × Keyword)) (test : Bool) (o : Option ℕ) → passed_pair x ≡ (start, keyword) → test ≡ is_some o
+      → map start_and_keyword g.passed ++ map passed_pair (cond (not test) (x ∷ kept) kept) ≡ all_passed → map start_and_keyword (passed_after o p g.passed) ++ map passed_pair kept ≡ all_passed
+  skipped_step x kept all_passed true (Some i) here e h = h
+  skipped_step x kept all_passed false None here e h = one_more kept all_passed (ap (λ t. map start_and_keyword g.passed ++ t ∷ map passed_pair kept) (sym here) ∙ h)
+  skipped_step x kept all_passed true None here e h = absurd (true≢false e)
+  skipped_step x kept all_passed false (Some i) here e h = absurd (true≢false (sym e))
 
   abbrev kept : List says.Statement
   kept = filter (λ (s : says.Statement). is_passed all s.content) rest
 
-  passed_step : (c : Content) (all_passed : List (ℕ × Keyword)) → IsCitedPlace all (content_of c) place
-      → map mentioned g.passed ++ passed_in all (these c) ≡ all_passed → map mentioned (new c).passed ++ passed_in all rest ≡ all_passed
-  passed_step (content.NodeComment name text) all_passed is h = noted_step _ kept all_passed _ place refl (has_place (λ n. bytes_eq n name) (node_names_of all) place is) h
-  passed_step (content.MessageComment cited text) all_passed is h = noted_step _ kept all_passed _ place refl (has_message_place all cited place is) h
-  passed_step (content.SignalComment cited text) all_passed is h = noted_step _ kept all_passed _ place refl (has_signal_place all cited.number cited.name place is) h
-  passed_step (content.ValueTexts cited entries) all_passed is h = noted_step _ kept all_passed _ place refl (has_signal_place all cited.number cited.name place is) h
-  passed_step (content.ValueType cited value_type) all_passed is h = noted_step _ kept all_passed _ place refl (has_signal_place all cited.number cited.name place is) h
-  passed_step (content.Spn cited spn) all_passed is h = noted_step _ kept all_passed _ place refl (has_signal_place all cited.number cited.name place is) h
+  passed_step : (c : Content) (all_passed : List (ℕ × Keyword)) → IsCitedIndex all (content_of c) index
+      → map start_and_keyword g.passed ++ passed_in all (these c) ≡ all_passed → map start_and_keyword (new c).passed ++ passed_in all rest ≡ all_passed
+  passed_step (content.NodeComment name text) all_passed is h = skipped_step _ kept all_passed _ index refl (has_index (λ n. bytes_eq n name) (node_names_of all) index is) h
+  passed_step (content.MessageComment cited text) all_passed is h = skipped_step _ kept all_passed _ index refl (has_message_index all cited index is) h
+  passed_step (content.SignalComment cited text) all_passed is h = skipped_step _ kept all_passed _ index refl (has_signal_index all cited.number cited.name index is) h
+  passed_step (content.ValueTexts cited entries) all_passed is h = skipped_step _ kept all_passed _ index refl (has_signal_index all cited.number cited.name index is) h
+  passed_step (content.ValueType cited value_type) all_passed is h = skipped_step _ kept all_passed _ index refl (has_signal_index all cited.number cited.name index is) h
+  passed_step (content.Spn cited spn) all_passed is h = skipped_step _ kept all_passed _ index refl (has_signal_index all cited.number cited.name index is) h
   passed_step content.PassedOver all_passed is h = one_more kept all_passed h
   passed_step c all_passed is h = h
 
-  content_taken : (c : Content) → IsCitedPlace all (content_of c) place → Gathers all g (these c) → Gathers all (new c) rest
-  content_taken c is h = record {
+  content_gathered : (c : Content) → IsCitedIndex all (content_of c) index → Gathers all g (these c) → Gathers all (new c) rest
+  content_gathered c is h = record {
     version = version_step c _ h.version;
     comment = comment_step c _ h.comment;
     nodes = nodes_step c _ h.nodes;
@@ -289,16 +290,16 @@ module _ (all : List says.Statement) (start : ℕ) (keyword : Keyword) (place : 
     passed = passed_step c _ is h.passed;
   }
 
--- a statement that is taken in
-pub one_taken : (all : List says.Statement) (s : Statement) (rest : List says.Statement) (place : Option ℕ) (old now : Gathered) → IsCitedPlace all (content_of s.content) place
-    → now ≡ taken place (mention s) s.content old → Gathers all old (statement_of s ∷ rest) → Gathers all now rest
-one_taken all s rest place old now is_place is h = subst (λ g. Gathers all g rest) (sym is) (content_taken all s.start s.keyword place old rest s.content is_place h)
+-- what a statement says is gathered
+pub one_gathered : (all : List says.Statement) (s : Statement) (rest : List says.Statement) (index : Option ℕ) (old now : Gathered) → IsCitedIndex all (content_of s.content) index
+    → now ≡ gathered_after index (passed_of s) s.content old → Gathers all old (statement_of s ∷ rest) → Gathers all now rest
+one_gathered all s rest index old now is_index is h = subst (λ g. Gathers all g rest) (sym is) (content_gathered all s.start s.keyword index old rest s.content is_index h)
 
--- the first of the places is the next statement's, and the others are those of the others
-pub next_place : (all : List says.Statement) (s : says.Statement) (rest : List says.Statement) (places : List (Option ℕ)) → AreCitedPlaces all (s ∷ rest) places
-    → IsCitedPlace all s.content (first_or None places) × AreCitedPlaces all rest (drop 1 places)
-next_place all s rest [] h = absurd h
-next_place all s rest (place ∷ places) h = (h.0, h.1)
+-- the first of the indices is the next statement's, and the others are those of the others
+pub next_index : (all : List says.Statement) (s : says.Statement) (rest : List says.Statement) (indices : List (Option ℕ)) → AreCitedIndices all (s ∷ rest) indices
+    → IsCitedIndex all s.content (first_or None indices) × AreCitedIndices all rest (drop 1 indices)
+next_index all s rest [] h = absurd h
+next_index all s rest (index ∷ indices) h = (h.0, h.1)
 
 -- before all statements
 pub nothing_gathered : (all : List says.Statement) (g : Gathered) → IsNothing all g → Gathers all g all
@@ -318,10 +319,10 @@ nothing_gathered all g is = record {
       ∙ all_left same_signal Integer (each_in value_type_in all) (signal_keys_of all);
   signal_spns = λ distinct. ap (finished same_signal 0 (each_in spn_in all) (signal_keys_of all)) is.signal_spns
       ∙ all_left same_signal 0 (each_in spn_in all) (signal_keys_of all);
-  passed = ap (λ l. map mentioned l ++ passed_by all) is.passed;
+  passed = ap (λ l. map start_and_keyword l ++ passed_by all) is.passed;
 }
 
--- behind all statements
+-- after all statements
 pub all_gathered : (all : List says.Statement) (g : Gathered) → Gathers all g [] → AreGathered all g
 all_gathered all g h = record {
   version = h.version;
@@ -335,5 +336,5 @@ all_gathered all g h = record {
   signal_values = λ distinct. sym (none_left same_signal [] (signal_keys_of all) g.signal_values) ∙ h.signal_values distinct;
   signal_types = λ distinct. sym (none_left same_signal Integer (signal_keys_of all) g.signal_types) ∙ h.signal_types distinct;
   signal_spns = λ distinct. sym (none_left same_signal 0 (signal_keys_of all) g.signal_spns) ∙ h.signal_spns distinct;
-  passed = sym (append-nil (map mentioned g.passed)) ∙ h.passed;
+  passed = sym (append-nil (map start_and_keyword g.passed)) ∙ h.passed;
 }

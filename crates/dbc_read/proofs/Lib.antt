@@ -8,5 +8,11 @@ pub mod SheetsFit
 pub mod Putting
 pub mod Wholes
 pub mod Apart
+pub mod Refusable
+pub mod Multiplexors
+pub mod Excess
+pub mod Faultless
+pub mod FaultsAt
 pub mod Unsaid
 pub mod Divided
+pub mod TokenFaults

@@ -16,11 +16,11 @@ or_parts false b h = (refl, h)
 equal_numbers : (m n : Message) → by_number m n ≡ Equal → number_of n == number_of m ≡ true
 equal_numbers m n e = (Decides-eqb (number_of n) (number_of m)).1 (sym (ranked (number_of m) (number_of n) Equal (sym e)))
 
-place_new : (r : Ordering) (m n : Message) (ms new : List Message) → by_number m n ≡ r → number_of n == number_of m ≡ false
+put_before : (r : Ordering) (m n : Message) (ms new : List Message) → by_number m n ≡ r → number_of n == number_of m ≡ false
     → IsPermutation (m ∷ ms) new → IsPermutation (m ∷ n ∷ ms) (placed r m n ms new)
-place_new Less m n ms new e h p = IsPermutation-refl (m ∷ n ∷ ms)
-place_new Equal m n ms new e h p = absurd (true≢false (sym (equal_numbers m n e) ∙ h))
-place_new Greater m n ms new e h p =
+put_before Less m n ms new e h p = IsPermutation-refl (m ∷ n ∷ ms)
+put_before Equal m n ms new e h p = absurd (true≢false (sym (equal_numbers m n e) ∙ h))
+put_before Greater m n ms new e h p =
     IsPermutation-trans (m ∷ n ∷ ms) (n ∷ m ∷ ms) (n ∷ new)
     (IsPermutation-sym (n ∷ m ∷ ms) (m ∷ n ∷ ms) (IsPermutation-middle (n ∷ []) m ms)) (IsPermutation-cons n (m ∷ ms) new p)
 
@@ -28,7 +28,7 @@ put_new : (m : Message) (ms : List Message) → has_number ms (number_of m) ≡ 
 put_new m [] h = IsPermutation-refl (m ∷ [])
 put_new m (n ∷ ms) h =
     let parts = or_parts (number_of n == number_of m) (has_number ms (number_of m)) h in
-    place_new (by_number m n) m n ms (put by_number m ms) refl parts.0 (put_new m ms parts.1)
+    put_before (by_number m n) m n ms (put by_number m ms) refl parts.0 (put_new m ms parts.1)
 
 -- one message more is put in, of those that are left
 pub one_put : (whole : List Message) (done : List Message) (m : Message) (left : List Message) → has_number done (number_of m) ≡ false

@@ -1,4 +1,4 @@
--- Nodes, value tables and messages that can't stand in one sheet.
+-- Nodes, value tables and messages that can't be in one sheet.
 use Rattle.std.proofs.Common.{◌≡◌, ◌≤◌, ◌==◌, ℕ, List, [], ◌∷◌, ◌++◌, length-append, arith, Bool, false, sym, subst, IsPermutation}
 use Rattle.std.specs.List.{AllByRecursion, IsDistinct}
 use Rattle.std.specs.Str.{bytes_eq}
@@ -28,7 +28,7 @@ rostered name before x after h = (
   (none_before (λ a b. bytes_eq (name a) (name b)) before x after h.apart, tt),
 )
 
--- one that is refused behind others
+-- one that is refused after others
 pub node_refused : {A : Type 0} (name : A → List ℕ) (before : List A) (x : A) (after whole : List A) (code : SheetCode) → before ++ x ∷ after ≡ whole
     → IsRefusal (first_refusal (roster_tests name before (name x))) code → Unless (refusal_of code) (AreRostered name whole → ⊥)
 node_refused name before x after whole code e is =

@@ -1,4 +1,4 @@
--- Signals that can't stand in one message.
+-- Signals that can't be in one message.
 use Rattle.std.proofs.Common.{◌≡◌, ◌∙◌, ◌&&◌, ◌||◌, Bool, true, false, List, [], ◌∷◌, ◌++◌, refl, sym, subst}
 use Rattle.std.specs.List.{AllByRecursion, list_any}
 use Rattle.std.specs.Str.{bytes_eq}
@@ -40,7 +40,7 @@ none_holds before s after h = (
   ),
 )
 
--- a signal that is refused behind others
+-- a signal that is refused after others
 pub signal_refused : (before : List Signal) (s : Signal) (after whole : List Signal) (code : SheetCode) → before ++ s ∷ after ≡ whole
     → IsRefusal (first_refusal (signal_tests before s)) code → Unless (refusal_of code) (AreFit whole → ⊥)
 signal_refused before s after whole code e is =

@@ -2,15 +2,14 @@
 -- one sheet they say none.
 use Rattle.std.proofs.Common.{◌≡◌, ◌==◌, ◌∙◌, ℕ, List, [], ◌∷◌, map, nat_eq, ap, sym, subst, IsPermutation}
 use Rattle.std.specs.Prelude.{unwrap_or}
-use Rattle.std.specs.List.{AllByRecursion, IsDistinct}
+use Rattle.std.specs.List.{AllByRecursion, IsDistinct, flat_map}
 use Rattle.std.specs.Str.{bytes_eq}
-use Rattle.std.proofs.lemmas.List.Elements.{recursion_from_All}
 use Rattle.std.proofs.lemmas.List.Sorted.{IsPermutation-sym}
 use Rattle.std.proofs.lemmas.Map.Keys.{IsDistinct-IsPermutation}
-use Rattle.catalogue.specs.Form.{IsMessage, IsSheet}
+use Rattle.catalogue.specs.Form.{IsSheet}
 use Rattle.catalogue.specs.Messages.{number_of}
 use Rattle.catalogue.specs.Named.{AreNamedApart}
-use Rattle.catalogue.specs.Saying.{Says, messages_of, node_names_of, numbers_of, same_signal, signal_keys_of, whole_message, whole_node}
+use Rattle.catalogue.specs.Saying.{Says, keys_of, messages_of, node_names_of, numbers_of, same_signal, signal_keys_of, whole_message, whole_node}
 use Rattle.catalogue.specs.Sheet.{node_name}
 use Rattle.catalogue.specs.Signals.{signal_name}
 use Rattle.catalogue.specs.Statement.{Statement}
@@ -18,16 +17,14 @@ use Rattle.catalogue.specs.WellFormed.{AreRostered, IsWellFormedMessage}
 use Rattle.catalogue.specs.declared.message.Message.{Message}
 use Rattle.catalogue.specs.declared.sheet.Sheet.{Sheet}
 use Rattle.catalogue.proofs.Rising.{all_permutation, distinct_rising}
-use Rattle.dbc_read.specs.Built.{CanStand, IsBuilt, feeds_in, messages_from, messages_in, nodes_from, nodes_in}
-use Rattle.dbc_read.specs.Fit.{IsFit, TablesFit}
+use Rattle.dbc_read.specs.Built.{CanStand, IsBuilt, feeds_in, messages_from, messages_in, nodes_from, nodes_in, tables_in}
+use Rattle.dbc_read.specs.Fit.{CanMeet, IsFit, TablesFit}
 use Rattle.dbc_read.specs.Gathered.{AreGathered}
-use Rattle.dbc_read.specs.Refusal.{Unless}
 use Rattle.dbc_read.specs.Sheets.{SaysNothing}
-use Rattle.dbc_read.specs.declared.feeds.Feeds.{Feeds}
+use Rattle.dbc_read.specs.declared.feed.Feeds.{Feeds}
 use Rattle.dbc_read.specs.declared.gathered.Gathered.{Gathered}
-use Rattle.dbc_read.specs.declared.refusal.Refusal.{Refusal}
-use Rattle.dbc_read.specs.declared.refusal.Refusal.TheVariants.{Memory, NoSheet}
-use Rattle.dbc_read.proofs.Apart.{keys_apart, names_apart, numbers_apart}
+use Rattle.dbc_statements.specs.Statement.{message_of, names_of}
+use Rattle.dbc_read.proofs.Apart.{keys_apart, line_number, names_apart, numbers_apart}
 use Rattle.dbc_read.proofs.SheetsFit.{meet_anyhow, number_flip}
 use Rattle.dbc_read.proofs.Wholes.{feeds_said, message_comment, messages_whole, node_comment, nodes_whole}
 
@@ -35,9 +32,9 @@ each_named_apart : (ms : List Message) → AllByRecursion IsWellFormedMessage ms
 each_named_apart [] h = tt
 each_named_apart (m ∷ ms) h = (h.0.signals.apart, each_named_apart ms h.1)
 
-fit_each : (ms : List Message) → AllByRecursion IsMessage ms → AllByRecursion IsWellFormedMessage ms → AllByRecursion IsFit ms
-fit_each [] a b = tt
-fit_each (m ∷ ms) a b = (record { ident = a.0.ident; signals = record { together = b.0.signals; values = b.0.values } }, fit_each ms a.1 b.1)
+fit_each : (ms : List Message) → AllByRecursion IsWellFormedMessage ms → AllByRecursion IsFit ms
+fit_each [] h = tt
+fit_each (m ∷ ms) h = (record { together = h.0.signals; values = h.0.values }, fit_each ms h.1)
 
 -- The messages of a sheet, in another order: numbers differ, and names of signals in each message.
 module _ (s : Sheet) (is : IsSheet s) (ms : List Message) (p : IsPermutation ms s.messages) where
@@ -95,6 +92,20 @@ module _ (ss : List Statement) (g : Gathered) (are : AreGathered ss g) where
         messages = subst (λ ms. IsPermutation ms s.messages) (messages_are single) built.messages;
       }
 
+  fit_names : (ms : List Message) → AllByRecursion IsFit ms → AllByRecursion (λ (m : Message). AreNamedApart signal_name m.signals) ms
+  fit_names [] h = tt
+  fit_names (m ∷ ms) h = (h.0.together.apart, fit_names ms h.1)
+
+  single_standing : CanStand g → AreSingle
+  single_standing h =
+      let lines = map message_of g.messages in
+      let numbers = h.together.numbers in
+      record {
+        names = subst (IsDistinct bytes_eq) are.nodes (names_apart (names_of g.nodes) g.node_comments h.nodes.apart);
+        numbers = subst (λ ls. IsDistinct nat_eq (map line_number ls)) are.messages (numbers_apart lines g.message_comments (feeds_in g) numbers);
+        keys = subst (λ ls. IsDistinct same_signal (flat_map keys_of ls)) are.messages (keys_apart lines g.message_comments (feeds_in g) numbers (fit_names (messages_in g) h.messages));
+      }
+
   stands : (s : Sheet) → Says ss s → CanStand g
   stands s says =
       let single = single_said s says in
@@ -104,10 +115,24 @@ module _ (ss : List Statement) (g : Gathered) (are : AreGathered ss g) where
         nodes = subst (AreRostered node_name) (says.nodes ∙ sym (nodes_are single)) says.is_sheet.well_formed.nodes;
         tables = subst TablesFit (says.tables ∙ sym are.tables) (record { together = says.is_sheet.well_formed.tables; entries = says.is_sheet.well_formed.entries });
         messages = all_permutation IsFit s.messages _ (IsPermutation-sym _ _ p)
-            (fit_each s.messages (recursion_from_All IsMessage s.messages says.is_sheet.messages) says.is_sheet.well_formed.messages);
+            (fit_each s.messages says.is_sheet.well_formed.messages);
         together = meet_anyhow s.messages _ (IsPermutation-sym _ _ p) (record { numbers = distinct_rising number_of s.messages t.rise; names = t.apart; few = t.few });
       }
 
-  pub unsaid_built : (refusal : Refusal) → Unless refusal (CanStand g → ⊥) → Unless refusal (SaysNothing ss)
-  unsaid_built Memory h = tt
-  unsaid_built NoSheet h = λ s says. h (stands s says)
+  pub unsaid_built : ¬ CanStand g → SaysNothing ss
+  unsaid_built never = λ s says. never (stands s says)
+
+-- What is gathered of the same statements once more can be in one sheet too.
+pub stands_again : (ss : List Statement) (g h : Gathered) → AreGathered ss g → AreGathered ss h → CanStand h → CanStand g
+stands_again ss g h a b can =
+    let single = single_standing ss h b can in
+    let same : AreSingle ss g a = record { names = single.names; numbers = single.numbers; keys = single.keys } in
+    let nodes : nodes_in h ≡ nodes_in g = nodes_are ss h b single ∙ sym (nodes_are ss g a same) in
+    let tables : tables_in h ≡ tables_in g = b.tables ∙ sym a.tables in
+    let messages : messages_in h ≡ messages_in g = messages_are ss h b single ∙ sym (messages_are ss g a same) in
+    record {
+      nodes = subst (AreRostered node_name) nodes can.nodes;
+      tables = subst TablesFit tables can.tables;
+      messages = subst (AllByRecursion IsFit) messages can.messages;
+      together = subst CanMeet messages can.together;
+    }

@@ -1,8 +1,7 @@
--- The parts of a sheet, made of what is gathered: each node, message and signal takes what stands at its place.
+-- The parts of a sheet, made of what is gathered: each node, message and signal takes what is attached at its index.
 use Rattle.std.specs.Prelude.{◌≡◌, ◌++◌, ℕ, List, [], ◌∷◌, drop, map, unwrap_or, IsPermutation}
 use Rattle.std.specs.List.{AllByRecursion}
 use Rattle.catalogue.specs.Form.{IsSheet}
-use Rattle.catalogue.specs.Saying.{ident_of_number}
 use Rattle.catalogue.specs.Sheet.{node_name}
 use Rattle.catalogue.specs.Statement as says
 use Rattle.catalogue.specs.WellFormed.{AreRostered}
@@ -13,10 +12,10 @@ use Rattle.catalogue.specs.declared.signal.Signal.{Signal}
 use Rattle.catalogue.specs.declared.value_table.ValueTable.{ValueTable}
 use Rattle.catalogue.specs.declared.value_type.ValueType.TheVariants.{Integer}
 use Rattle.dbc_read.specs.Fit.{CanMeet, IsFit, TablesFit}
-use Rattle.dbc_read.specs.Gathered.{table_of}
-use Rattle.dbc_read.specs.declared.feeds.Feeds.{Feeds}
+use Rattle.dbc_read.specs.declared.feed.Feeds.{Feeds}
 use Rattle.dbc_read.specs.declared.gathered.Gathered.{Gathered}
-use Rattle.dbc_statements.specs.Said.{message_of, names_of}
+use Rattle.dbc_statements.specs.Parts.{message_with, signal_with, table_of}
+use Rattle.dbc_statements.specs.Statement.{message_of, names_of}
 
 abbrev pub first_or : {A : Type 0} → A → List A → A
 first_or d [] = d
@@ -30,46 +29,24 @@ nodes_from (name ∷ names) comments = record { name = name; comment = first_or 
 abbrev pub rest_of : Feeds → Feeds
 rest_of f = record { comments = drop 1 f.comments; values = drop 1 f.values; types = drop 1 f.types; spns = drop 1 f.spns }
 
-abbrev pub signal_with : says.SignalLine → Feeds → Signal
-signal_with line f = record {
-  name = line.name;
-  layout = line.layout;
-  signed = line.signed;
-  mux = line.mux;
-  factor = line.factor;
-  offset = line.offset;
-  minimum = line.minimum;
-  maximum = line.maximum;
-  unit = line.unit;
-  receivers = line.receivers;
-  comment = first_or [] f.comments;
-  spn = first_or 0 f.spns;
-  values = first_or [] f.values;
-  value_type = first_or Integer f.types;
-}
+abbrev pub next_signal : says.SignalLine → Feeds → Signal
+next_signal line f = signal_with line (first_or [] f.comments) (first_or 0 f.spns) (first_or [] f.values) (first_or Integer f.types)
 
 abbrev pub signals_from : List says.SignalLine → Feeds → List Signal
 signals_from [] f = []
-signals_from (line ∷ lines) f = signal_with line f ∷ signals_from lines (rest_of f)
+signals_from (line ∷ lines) f = next_signal line f ∷ signals_from lines (rest_of f)
 
 -- what is left once these signals took theirs
-abbrev pub behind : List says.SignalLine → Feeds → Feeds
-behind [] f = f
-behind (line ∷ lines) f = behind lines (rest_of f)
+abbrev pub feeds_after : List says.SignalLine → Feeds → Feeds
+feeds_after [] f = f
+feeds_after (line ∷ lines) f = feeds_after lines (rest_of f)
 
-abbrev pub message_with : says.MessageLine → List ℕ → Feeds → Message
-message_with line comment f = record {
-  ident = ident_of_number line.number;
-  name = line.name;
-  length = line.length;
-  transmitter = line.transmitter;
-  comment = comment;
-  signals = signals_from line.signals f;
-}
+abbrev pub next_message : says.MessageLine → List ℕ → Feeds → Message
+next_message line comment f = message_with line comment (signals_from line.signals f)
 
 abbrev pub messages_from : List says.MessageLine → List (List ℕ) → Feeds → List Message
 messages_from [] comments f = []
-messages_from (line ∷ lines) comments f = message_with line (first_or [] comments) f ∷ messages_from lines (drop 1 comments) (behind line.signals f)
+messages_from (line ∷ lines) comments f = next_message line (first_or [] comments) f ∷ messages_from lines (drop 1 comments) (feeds_after line.signals f)
 
 -- each of these messages is fit, and they can meet those that are there
 pub record AreAddable (before messages : List Message) : Type 0 where
@@ -99,7 +76,7 @@ pub record IsBuilt (g : Gathered) (s : Sheet) : Type 0 where
   pub tables : s.tables ≡ tables_in g
   pub messages : IsPermutation (messages_in g) s.messages
 
--- all that is gathered can stand in one sheet
+-- all that is gathered can be in one sheet
 pub record CanStand (g : Gathered) : Type 0 where
   pub nodes : AreRostered node_name (nodes_in g)
   pub tables : TablesFit (tables_in g)

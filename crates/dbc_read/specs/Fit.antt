@@ -1,7 +1,6 @@
--- What can stand in one sheet.
+-- What can be in one sheet.
 use Rattle.std.specs.Prelude.{◌≤◌, ◌==◌, List, length}
 use Rattle.std.specs.List.{AllByRecursion, IsDistinct}
-use Rattle.can_id.specs.Ident.{IsIdentifier}
 use Rattle.catalogue.specs.Limits.{message_limit}
 use Rattle.catalogue.specs.Messages.{message_name, number_of}
 use Rattle.catalogue.specs.Named.{AreNamedApart}
@@ -12,21 +11,20 @@ use Rattle.catalogue.specs.declared.message.Message.{Message}
 use Rattle.catalogue.specs.declared.signal.Signal.{Signal}
 use Rattle.catalogue.specs.declared.value_table.ValueTable.{ValueTable}
 
--- signals that can stand in one message
+-- signals that can be in one message
 pub record AreFit (signals : List Signal) : Type 0 where
   pub together : AreSignals signals
   pub values : AllByRecursion (λ (s : Signal). AreFewTexts s.values) signals
 
-pub record IsFit (m : Message) : Type 0 where
-  pub ident : IsIdentifier m.ident
-  pub signals : AreFit m.signals
+abbrev pub IsFit : Message → Type 0
+IsFit m = AreFit m.signals
 
--- value tables that can stand in one sheet
+-- value tables that can be in one sheet
 pub record TablesFit (tables : List ValueTable) : Type 0 where
   pub together : AreRostered table_name tables
   pub entries : AllByRecursion (λ (t : ValueTable). AreFewTexts t.entries) tables
 
--- messages that can stand in one sheet, whichever order they stand in
+-- messages that can be in one sheet, whichever their order
 pub record CanMeet (messages : List Message) : Type 0 where
   pub numbers : IsDistinct (λ a b. number_of a == number_of b) messages
   pub names : AreNamedApart message_name messages

@@ -1,9 +1,16 @@
--- The keys of what statements make.
-use Rattle.std.specs.Prelude.{◌≡◌, List, map}
-use Rattle.catalogue.specs.Saying.{node_names_of, numbers_of, signal_keys_of}
+-- The keys of nodes, messages and signals, which hold references, and what they stand for.
+use Rattle.std.specs.Prelude.{◌≡◌, ℕ, List, map}
+use Rattle.std.specs.Borrow.{Bor}
+use Rattle.catalogue.specs.Saying.{SignalKey, node_names_of, numbers_of, signal_keys_of}
 use Rattle.catalogue.specs.Statement.{Statement}
-use Rattle.dbc_read.specs.Seen.{key_of, text_of}
-use Rattle.dbc_read.specs.declared.parts.Keys.{Keys}
+use Rattle.dbc_read.specs.declared.keys.Keys.{Keys}
+
+abbrev pub text_of : Bor (List ℕ) → List ℕ
+text_of b = b.now
+
+-- a message's number with the name of a signal
+abbrev pub key_of : ℕ × Bor (List ℕ) → SignalKey
+key_of k = (k.0, k.1.now)
 
 pub record AreKeys (k : Keys) (statements : List Statement) : Type 0 where
   pub nodes : map text_of k.nodes.items ≡ node_names_of statements

@@ -1,11 +1,11 @@
 pub mod Refusal
-pub mod Seen
 pub mod Keys
-pub mod Found
-pub mod Places
+pub mod Lookup
+pub mod Lookups
 pub mod Passed
 pub mod Gathered
 pub mod Fit
 pub mod Built
+pub mod Faults
 pub mod Sheets
 pub mod Reading

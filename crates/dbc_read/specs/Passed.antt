@@ -1,7 +1,7 @@
--- What a report of a statement that is passed over stands for.
+-- What a skipped statement is reported by.
 use Rattle.std.specs.Prelude.{ℕ}
 use Rattle.catalogue.specs.declared.keyword.Keyword.{Keyword}
 use Rattle.dbc_read.specs.declared.passed.Passed.{Passed}
 
-abbrev pub mentioned : Passed → ℕ × Keyword
-mentioned p = (p.at, p.keyword)
+abbrev pub start_and_keyword : Passed → ℕ × Keyword
+start_and_keyword p = (p.at, p.keyword)

@@ -1,8 +1,9 @@
-//! Values that are handed out one at a time.
+//! Values that are handed out one at a time, and those that statements attach to signals.
 ghost use Rattle.std.specs.Prelude.{◌≡◌, drop};
 ghost use Rattle.dbc_read.specs.Built.{first_or};
 
-use catalogue::Items;
+use catalogue::{Items, Spn, Text, ValueType};
+use dbc_statements::Entries;
 use std::marker::Model;
 use std::vec::IntoIter;
 
@@ -42,5 +43,28 @@ impl<T: Drop> Feed<T> {
             Some(value) => value,
             None => other,
         }
+    }
+}
+
+/// What statements attach to signals, for the signals that are left.
+pub(crate) struct Feeds {
+    /// Their comments.
+    pub comments: Feed<Text>,
+    /// Texts for their values.
+    pub values: Feed<Entries>,
+    /// Their types.
+    pub types: Feed<ValueType>,
+    /// Their suspect parameter numbers.
+    pub spns: Feed<Spn>,
+}
+
+impl Drop for Feeds {
+    fn drop(self) {
+        let Feeds {
+            comments: _comments,
+            values: _values,
+            types: _types,
+            spns: _spns,
+        } = self;
     }
 }

@@ -1,225 +1,209 @@
-//! Which fault a text has first, where its statements say no sheet.
+//! The first fault of statements that say no sheet.
 //!
-//! No contract says which it is. That the statements say no sheet is proved where a part of the sheet is refused. By then
-//! the statements are gone, so the text is divided once more: a fault may take twice the time of a sheet.
-use crate::places::{Places, place_of, places_of};
-use catalogue::{Copying, MESSAGE_LIMIT, Name, ROSTER_LIMIT, VALUE_TEXT_LIMIT};
-use dbc_lex::{ReadCode, ReadFault};
-use dbc_statements::{
-    Content, Entries, MessageLine, NodeName, SignalLine, Statement, TableLine, statements_of,
+//! Each kind of item is gone through by itself, in the file's order. Of the faults that are found so, the one with the
+//! lowest offset is the first of the file.
+ghost use Rattle.std.specs.Prelude.{◌≡◌, ◌⊎◌, ◌≤◌, IfNone, IfOk, IfSome, None, is_some, length, nat_lt};
+ghost use Rattle.std.specs.List.{AllByRecursion};
+ghost use Rattle.catalogue.specs.Limits.{value_text_limit};
+ghost use Rattle.catalogue.specs.WellFormed.{AreFewTexts};
+ghost use Rattle.dbc_lex.specs.declared.fault.ReadCode.TheVariants.{TooMany};
+ghost use Rattle.dbc_read.specs.Built.{CanStand};
+ghost use Rattle.dbc_read.specs.Faults.{
+  AreMessageLines,
+  AreNamedWithin,
+  AreNumbered,
+  AreSignalLines,
+  HaveOneMultiplexor,
+  HaveSignalLines,
+  IsEntriesFault,
+  IsFault,
+  IsFaultAt,
+  IsFaultOfMessages,
+  IsFaultOfSignals,
+  IsMultiplexorFault,
+  IsNameRefused,
+  IsNumberFault,
+  IsSignalsFault,
+  entries_of,
 };
+
+use crate::gathered::Gathered;
+use crate::items::NamedItem;
+use catalogue::{Copying, MESSAGE_LIMIT, ROSTER_LIMIT};
+use dbc_lex::{ReadCode, ReadFault};
+use dbc_statements::{Entries, MessageLine, SignalLine, TableLine};
 use std::alloc::{AllocError, Global};
 use std::collections::BTreeSet;
 
-/// Adds an item to those before it; where it can't stand beside them, the code of the fault.
-fn add<T: Ord + Drop>(
-    items: &mut BTreeSet<T>,
-    item: T,
+/// The one of two faults with the lower offset.
+fn earlier(a: Option<ReadFault>, b: Option<ReadFault>) -> Option<ReadFault>
+    ensures one { (result ≡ a) ⊎ (result ≡ b) }
+    ensures none { IfNone result ((a ≡ None) × (b ≡ None)) }
+    ensures first { IfSome result (λ fault. IfSome a (λ x. fault.at ≤ x.at)) }
+    ensures second { IfSome result (λ fault. IfSome b (λ x. fault.at ≤ x.at)) }
+{
+    match (a, b) {
+        (Some(a), Some(b)) => Some(if b.at < a.at { b } else { a }),
+        (Some(a), None) => Some(a),
+        (None, b) => b,
+    }
+}
+
+/// The fault at the first item that is above the limit, or has the name of an earlier one.
+fn name_fault<T: NamedItem>(
+    alloc: Global,
+    items: &[T],
     limit: usize,
-    double: ReadCode,
-) -> Result<Option<ReadCode>, AllocError> {
-    if items.len() >= limit {
-        return Ok(Some(ReadCode::TooMany));
-    }
-    let is_new = items.insert(item)?;
-    if is_new { Ok(None) } else { Ok(Some(double)) }
-}
-
-fn fault_of_nodes(
-    alloc: Global,
-    nodes: &[NodeName],
-    names: &mut BTreeSet<Name>,
-) -> Result<Option<ReadFault>, AllocError> {
-    for node in nodes {
-        let name = node.name.duplicate(alloc)?;
-        if let Some(code) = add(names, name, ROSTER_LIMIT, ReadCode::DoubleName)? {
-            return Ok(Some(ReadFault { code, at: node.at }));
-        }
-    }
-    Ok(None)
-}
-
-/// The fault of too many entries, at the first above the limit.
-fn fault_of_entries(entries: &Entries) -> Option<ReadFault> {
-    if entries.entries.len() <= VALUE_TEXT_LIMIT {
-        return None;
-    }
-    Some(ReadFault {
-        code: ReadCode::TooMany,
-        at: entries.above,
-    })
-}
-
-fn fault_of_table(
-    alloc: Global,
-    line: &TableLine,
-    names: &mut BTreeSet<Name>,
-) -> Result<Option<ReadFault>, AllocError> {
-    let name = line.name.duplicate(alloc)?;
-    match add(names, name, ROSTER_LIMIT, ReadCode::DoubleName)? {
-        Some(code) => Ok(Some(ReadFault { code, at: line.at })),
-        None => Ok(fault_of_entries(&line.entries)),
-    }
-}
-
-fn fault_of_signals(
-    alloc: Global,
-    signals: &[SignalLine],
-) -> Result<Option<ReadFault>, AllocError> {
-    let mut names = BTreeSet::new(alloc);
-    let mut switched = false;
-    for signal in signals {
-        let name = signal.name.duplicate(alloc)?;
-        if let Some(code) = add(&mut names, name, ROSTER_LIMIT, ReadCode::DoubleName)? {
+) -> Result<Option<ReadFault>, AllocError>
+    ensures none { IfOk result (λ found. IfNone found (AreNamedWithin T.name_of limit items.now)) }
+    ensures fault { IfOk result (λ found. IfSome found (IsFaultAt T.offset_of (IsNameRefused T.name_of limit) items.now)) }
+{
+    let mut before = BTreeSet::new(alloc);
+    for item in items {
+        let at = item.name_at();
+        if before.len() >= limit {
             return Ok(Some(ReadFault {
-                code,
-                at: signal.at,
+                code: ReadCode::TooMany,
+                at,
             }));
         }
-        if signal.mux.is_multiplexor() {
-            if switched {
-                return Ok(Some(ReadFault {
-                    code: ReadCode::TwoMultiplexors,
-                    at: signal.mux_at,
-                }));
-            }
-            switched = true;
+        let name = item.name().duplicate(alloc)?;
+        if !before.insert(name)? {
+            return Ok(Some(ReadFault {
+                code: ReadCode::DoubleName,
+                at,
+            }));
         }
     }
     Ok(None)
 }
 
-/// What the statements before one have.
-#[derive(Drop)]
-struct Before {
-    nodes: BTreeSet<Name>,
-    tables: BTreeSet<Name>,
-    numbers: BTreeSet<u32>,
-    messages: BTreeSet<Name>,
-}
-
-fn fault_of_message(
-    alloc: Global,
-    line: &MessageLine,
-    before: &mut Before,
-) -> Result<Option<ReadFault>, AllocError> {
-    let number = line.number;
-    if let Some(code) = add(
-        &mut before.numbers,
-        number,
-        MESSAGE_LIMIT,
-        ReadCode::DoubleNumber,
-    )? {
-        return Ok(Some(ReadFault { code, at: line.at }));
-    }
-    let name = line.name.duplicate(alloc)?;
-    if let Some(code) = add(
-        &mut before.messages,
-        name,
-        MESSAGE_LIMIT,
-        ReadCode::DoubleName,
-    )? {
-        return Ok(Some(ReadFault {
-            code,
-            at: line.name_at,
-        }));
-    }
-    fault_of_signals(alloc, &line.signals)
-}
-
-/// The places of what the statements cite. Each is sought by itself, so that equal keys, of which a text with a fault may
-/// have some, always have one place.
-fn sought_places(
-    alloc: Global,
-    places: &Places,
-    statements: &[Statement],
-) -> Result<Vec<Option<usize>>, AllocError> {
-    let mut found = Vec::with_capacity(alloc, statements.len())?;
-    for statement in statements {
-        let mut nowhere = usize::MAX;
-        found.push(place_of(places, &statement.content, &mut nowhere))?;
-    }
-    Ok(found)
-}
-
-/// For each signal the number, from 1, of the last statement that has texts for its values, or 0.
-fn last_texts(
-    alloc: Global,
-    count: usize,
-    statements: &[Statement],
-    cited: &[Option<usize>],
-) -> Result<Vec<usize>, AllocError> {
-    let mut last = Vec::from_elem(alloc, 0usize, count)?;
-    let mut number = 0usize;
-    for (statement, place) in statements.iter().zip(cited) {
-        number = number.saturating_add(1);
-        if let (Content::ValueTexts(_, _), Some(place)) = (&statement.content, *place) {
-            if place < last.len() {
-                last[place] = number;
-            }
+/// The fault at the first message that is above the limit, or has the number of an earlier one.
+fn number_fault(alloc: Global, messages: &[MessageLine]) -> Result<Option<ReadFault>, AllocError>
+    ensures none { IfOk result (λ found. IfNone found (AreNumbered messages.now)) }
+    ensures fault { IfOk result (λ found. IfSome found (IsNumberFault messages.now)) }
+{
+    let mut before = BTreeSet::new(alloc);
+    for message in messages {
+        if before.len() >= MESSAGE_LIMIT {
+            return Ok(Some(ReadFault {
+                code: ReadCode::TooMany,
+                at: message.at,
+            }));
+        }
+        if !before.insert(message.ident.to_dbc())? {
+            return Ok(Some(ReadFault {
+                code: ReadCode::DoubleNumber,
+                at: message.at,
+            }));
         }
     }
-    Ok(last)
+    Ok(None)
 }
 
-/// The fault of a list of value texts, where it counts: the file has its signal, and no later statement replaces it.
-fn fault_of_values(
-    last: &[usize],
-    place: Option<usize>,
-    number: usize,
-    entries: &Entries,
-) -> Option<ReadFault> {
-    let latest = last.get(place?)?;
-    if *latest == number {
-        fault_of_entries(entries)
-    } else {
-        None
+/// The fault at the second multiplexor of a message.
+fn multiplexor_fault(signals: &[SignalLine]) -> Option<ReadFault>
+    ensures none { IfNone result (HaveOneMultiplexor signals.now) }
+    ensures fault { IfSome result (IsMultiplexorFault signals.now) }
+{
+    let mut is_switched = false;
+    for signal in signals {
+        if signal.mux.is_multiplexor() {
+            if is_switched {
+                return Some(ReadFault {
+                    code: ReadCode::TwoMultiplexors,
+                    at: signal.mux_at,
+                });
+            }
+            is_switched = true;
+        }
     }
+    None
 }
 
-fn nothing_before(alloc: Global) -> Before {
-    Before {
-        nodes: BTreeSet::new(alloc),
-        tables: BTreeSet::new(alloc),
-        numbers: BTreeSet::new(alloc),
-        messages: BTreeSet::new(alloc),
-    }
+/// The first fault of the signals of a message.
+fn signal_fault(alloc: Global, signals: &[SignalLine]) -> Result<Option<ReadFault>, AllocError>
+    ensures none { IfOk result (λ found. IfNone found (AreSignalLines signals.now)) }
+    ensures fault { IfOk result (λ found. IfSome found (IsFaultOfSignals signals.now)) }
+{
+    let name = name_fault(alloc, signals, ROSTER_LIMIT)?;
+    Ok(earlier(name, multiplexor_fault(signals)))
 }
 
-/// The fault that stands first in the text of the statements.
-fn first_fault(alloc: Global, statements: &[Statement]) -> Result<ReadFault, AllocError> {
-    let places = places_of(alloc, statements)?;
-    let cited = sought_places(alloc, &places, statements)?;
-    let last = last_texts(alloc, places.signals.len(), statements, &cited)?;
-    let mut before = nothing_before(alloc);
-    let mut number = 0usize;
-    for (statement, place) in statements.iter().zip(&cited) {
-        number = number.saturating_add(1);
-        let fault = match &statement.content {
-            Content::Nodes(nodes) => fault_of_nodes(alloc, nodes, &mut before.nodes)?,
-            Content::Table(line) => fault_of_table(alloc, line, &mut before.tables)?,
-            Content::Message(line) => fault_of_message(alloc, line, &mut before)?,
-            Content::ValueTexts(_, entries) => fault_of_values(&last, *place, number, entries),
-            _ => None,
-        };
-        if let Some(fault) = fault {
+/// The first fault of signals, of the first message that has one.
+fn signals_fault(alloc: Global, messages: &[MessageLine]) -> Result<Option<ReadFault>, AllocError>
+    ensures none { IfOk result (λ found. IfNone found (HaveSignalLines messages.now)) }
+    ensures fault { IfOk result (λ found. IfSome found (IsSignalsFault messages.now)) }
+{
+    for message in messages {
+        let fault = signal_fault(alloc, &message.signals)?;
+        if fault.is_some() {
             return Ok(fault);
         }
     }
-    // Only a number that is no identifier's is left, and no statement makes a message of that.
-    Ok(ReadFault {
-        code: ReadCode::Identifier,
-        at: 0,
+    Ok(None)
+}
+
+/// The fault at the first entry above the limit, where there are more.
+fn entries_fault(entries: &Entries) -> Option<ReadFault>
+    ensures variant { is_some result ≡ nat_lt value_text_limit (length entries.now) }
+    ensures code { IfSome result (λ fault. fault.code ≡ TooMany) }
+{
+    let at = entries.above()?;
+    Some(ReadFault {
+        code: ReadCode::TooMany,
+        at,
     })
 }
 
-/// The fault that stands first in a text whose statements say no sheet.
-pub(crate) fn fault_of(alloc: Global, source: &[u8]) -> ReadFault {
-    match statements_of(alloc, source) {
-        Ok(statements) => match first_fault(alloc, &statements) {
-            Ok(fault) => fault,
-            Err(error) => ReadFault::from(error),
-        },
-        Err(fault) => fault,
+/// The first fault of the entries of value tables.
+fn tables_fault(tables: &[TableLine]) -> Option<ReadFault>
+    ensures none { IfNone result (AllByRecursion AreFewTexts (entries_of tables.now)) }
+    ensures fault { IfSome result (IsEntriesFault (entries_of tables.now)) }
+{
+    let mut first = None;
+    for table in tables {
+        first = earlier(first, entries_fault(&table.entries));
+    }
+    first
+}
+
+/// The first fault of the texts for the values of signals.
+fn values_fault(values: &[Entries]) -> Option<ReadFault>
+    ensures none { IfNone result (AllByRecursion AreFewTexts values.now) }
+    ensures fault { IfSome result (IsEntriesFault values.now) }
+{
+    let mut first = None;
+    for entries in values {
+        first = earlier(first, entries_fault(entries));
+    }
+    first
+}
+
+/// The first fault of messages and their signals.
+fn messages_fault(alloc: Global, messages: &[MessageLine]) -> Result<Option<ReadFault>, AllocError>
+    ensures none { IfOk result (λ found. IfNone found (AreMessageLines messages.now)) }
+    ensures fault { IfOk result (λ found. IfSome found (IsFaultOfMessages messages.now)) }
+{
+    let number = number_fault(alloc, messages)?;
+    let name = name_fault(alloc, messages, MESSAGE_LIMIT)?;
+    let signal = signals_fault(alloc, messages)?;
+    Ok(earlier(number, earlier(name, signal)))
+}
+
+/// The first fault of what is gathered, where that can't be in one sheet.
+pub(crate) fn first_fault(alloc: Global, gathered: &Gathered) -> Result<ReadFault, AllocError>
+    requires { ¬ CanStand gathered.now }
+    ensures { IfOk result (IsFault gathered.now) }
+{
+    let node = name_fault(alloc, gathered.nodes.as_slice(), ROSTER_LIMIT)?;
+    let table = name_fault(alloc, gathered.tables.as_slice(), ROSTER_LIMIT)?;
+    let message = messages_fault(alloc, gathered.messages.as_slice())?;
+    let named = earlier(node, earlier(table, message));
+    let entry = tables_fault(gathered.tables.as_slice());
+    let value = values_fault(gathered.signal_values.as_slice());
+    match earlier(named, earlier(entry, value)) {
+        Some(fault) => Ok(fault),
+        None => unreachable!(),
     }
 }

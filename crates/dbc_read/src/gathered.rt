@@ -1,20 +1,24 @@
-//! What the statements say, by kinds.
-ghost use Rattle.std.specs.Prelude.{◌≡◌, ◌++◌, IfOk, OnOk, List, [], replicate};
+//! What the statements say, each kind by itself.
+ghost use Rattle.std.specs.Prelude.{◌≡◌, ◌++◌, IfErr, IfOk, OnOk, List, [], replicate};
 ghost use Rattle.catalogue.specs.Statement as says;
-ghost use Rattle.dbc_read.specs.Gathered.{AreGathered, IsBeginning, IsNothing, mention, noted, set_at, taken};
-ghost use Rattle.dbc_read.specs.Places.{ArePlaces};
-ghost use Rattle.dbc_statements.specs.Said.{said};
+ghost use Rattle.dbc_read.specs.Built.{CanStand, IsBuilt};
+ghost use Rattle.dbc_read.specs.Gathered.{AreGathered, IsBeginning, IsNothing, gathered_after, passed_after, passed_of, set_at};
+ghost use Rattle.dbc_read.specs.Lookups.{AreLookups};
+ghost use Rattle.dbc_read.specs.Refusal.{Unless};
+ghost use Rattle.dbc_statements.specs.Statement.{statements_of};
 
-use crate::feed::Feed;
+use crate::feed::{Feed, Feeds};
+use crate::lookups::{Lookups, cited_indices, lookups_of};
 use crate::passed::Passed;
-use crate::places::{Places, cited_places, places_of};
-use catalogue::{Items, Spn, Text, ValueText, ValueType};
-use dbc_statements::{Content, MessageLine, NodeName, Statement, TableLine};
+use crate::reading::Reading;
+use crate::refusal::Refusal;
+use crate::sheets::{add_lines, add_nodes, add_tables, bare_sheet};
+use catalogue::{Items, Spn, Text, ValueType, sheets_are_well_formed};
+use dbc_statements::{Content, Entries, MessageLine, NodeName, Statement, TableLine};
 use std::alloc::{AllocError, Global};
 
-/// What statements say, each kind by itself and in their order. What they attach to nodes, messages and signals stands
-/// at the places of these, and is empty where nothing is attached.
-#[derive(Drop)]
+/// What statements say, each kind by itself and in their order. What they attach to nodes, messages and signals is at the
+/// indices of these, and is empty where nothing is attached.
 pub(crate) struct Gathered {
     /// The last version.
     pub version: Option<Text>,
@@ -33,52 +37,55 @@ pub(crate) struct Gathered {
     /// Comments on signals.
     pub signal_comments: Items<Text>,
     /// Texts for the values of signals, any number of them.
-    pub signal_values: Items<Items<ValueText>>,
+    pub signal_values: Items<Entries>,
     /// Types of signals.
     pub signal_types: Items<ValueType>,
     /// Suspect parameter numbers of signals.
     pub signal_spns: Items<Spn>,
-    /// The statements that are passed over.
+    /// The statements that are skipped.
     pub passed: Items<Passed>,
 }
 
+/// `count` texts without bytes.
 fn no_texts(alloc: Global, count: usize) -> Result<Items<Text>, AllocError>
     ensures { IfOk result (λ texts. texts ≡ replicate count []) }
 {
     let mut texts = Vec::with_capacity(alloc, count)?;
-    for _place in 0..count {
+    for _index in 0..count {
         texts.push(Text::empty(alloc))?;
     }
     Ok(Items::from_vec(texts))
 }
 
-fn no_lists(alloc: Global, count: usize) -> Result<Items<Items<ValueText>>, AllocError>
+/// `count` lists without entries.
+fn no_entries(alloc: Global, count: usize) -> Result<Items<Entries>, AllocError>
     ensures { IfOk result (λ lists. lists ≡ replicate count []) }
 {
     let mut lists = Vec::with_capacity(alloc, count)?;
-    for _place in 0..count {
-        lists.push(Items::new(alloc))?;
+    for _index in 0..count {
+        lists.push(Entries::empty(alloc))?;
     }
     Ok(Items::from_vec(lists))
 }
 
-fn all_alike<T: Copy + Drop>(alloc: Global, count: usize, value: T) -> Result<Items<T>, AllocError>
+/// `count` times the value.
+fn copies<T: Copy + Drop>(alloc: Global, count: usize, value: T) -> Result<Items<T>, AllocError>
     ensures { IfOk result (λ items. items ≡ replicate count value) }
 {
     let mut items = Vec::with_capacity(alloc, count)?;
-    for _place in 0..count {
+    for _index in 0..count {
         items.push(value)?;
     }
     Ok(Items::from_vec(items))
 }
 
-/// What no statement says.
-fn nothing(alloc: Global, places: &Places) -> Result<Gathered, AllocError>
-    ensures { IfOk result (λ gathered. (statements : List says.Statement) → ArePlaces places.now statements → IsNothing statements gathered) }
+/// What is gathered before any statement.
+fn nothing(alloc: Global, lookups: &Lookups) -> Result<Gathered, AllocError>
+    ensures { IfOk result (λ gathered. (statements : List says.Statement) → AreLookups lookups.now statements → IsNothing statements gathered) }
 {
-    let nodes = places.nodes.len();
-    let messages = places.messages.len();
-    let signals = places.signals.len();
+    let nodes = lookups.nodes.len();
+    let messages = lookups.messages.len();
+    let signals = lookups.signals.len();
     Ok(Gathered {
         version: None,
         comment: None,
@@ -88,49 +95,50 @@ fn nothing(alloc: Global, places: &Places) -> Result<Gathered, AllocError>
         node_comments: no_texts(alloc, nodes)?,
         message_comments: no_texts(alloc, messages)?,
         signal_comments: no_texts(alloc, signals)?,
-        signal_values: no_lists(alloc, signals)?,
-        signal_types: all_alike(alloc, signals, ValueType::Integer)?,
-        signal_spns: all_alike(alloc, signals, Spn::NONE)?,
+        signal_values: no_entries(alloc, signals)?,
+        signal_types: copies(alloc, signals, ValueType::Integer)?,
+        signal_spns: copies(alloc, signals, Spn::NONE)?,
         passed: Items::new(alloc),
     })
 }
 
-/// Puts the value at the place, where there is one.
-fn put<T: Drop>(items: &mut Items<T>, place: Option<usize>, value: T)
-    ensures { items.new ≡ set_at place value items.old }
+/// Puts the value at the index, where there is one.
+fn put<T: Drop>(items: &mut Items<T>, index: Option<usize>, value: T)
+    ensures { items.new ≡ set_at index value items.old }
 {
-    if let Some(at) = place {
+    if let Some(at) = index {
         if at < items.as_slice().len() {
             items.replace(at, value);
         }
     }
 }
 
-/// A statement that cites something, and the place of that.
+/// A statement that may cite something, and the index of that, where the file has it.
 #[derive(Clone, Copy)]
 struct Citing {
     statement: Passed,
-    place: Option<usize>,
+    index: Option<usize>,
 }
 
-/// Puts the value at the place of what is cited. Where there is none, the statement is passed over.
+/// Puts the value at the index of what is cited. Where there is none, the statement is skipped.
 fn attach<T: Drop>(
     from: Citing,
     value: T,
     items: &mut Items<T>,
     passed: &mut Items<Passed>,
 ) -> Result<(), AllocError>
-    ensures items { items.new ≡ set_at from.place value items.old }
-    ensures passed { OnOk result (passed.new ≡ noted from.place from.statement passed.old) }
+    ensures items { items.new ≡ set_at from.index value items.old }
+    ensures passed { OnOk result (passed.new ≡ passed_after from.index from.statement passed.old) }
 {
-    put(items, from.place, value);
-    match from.place {
+    put(items, from.index, value);
+    match from.index {
         Some(_) => Ok(()),
         None => passed.push(from.statement),
     }
 }
 
-fn add_nodes(nodes: Vec<NodeName>, found: &mut Items<NodeName>) -> Result<(), AllocError>
+/// Adds the nodes of a list.
+fn gather_nodes(nodes: Vec<NodeName>, found: &mut Items<NodeName>) -> Result<(), AllocError>
     ensures { OnOk result (found.new ≡ found.old ++ nodes.items) }
 {
     for node in nodes {
@@ -139,9 +147,9 @@ fn add_nodes(nodes: Vec<NodeName>, found: &mut Items<NodeName>) -> Result<(), Al
     Ok(())
 }
 
-/// Takes in what a statement says, with all before it.
-fn take(from: Citing, content: Content, all: &mut Gathered) -> Result<(), AllocError>
-    ensures { OnOk result (all.new ≡ taken from.place from.statement content all.old) }
+/// Adds what a statement says to what is gathered.
+fn gather(from: Citing, content: Content, all: &mut Gathered) -> Result<(), AllocError>
+    ensures { OnOk result (all.new ≡ gathered_after from.index from.statement content all.old) }
 {
     match content {
         Content::Version(text) => {
@@ -152,7 +160,7 @@ fn take(from: Citing, content: Content, all: &mut Gathered) -> Result<(), AllocE
             all.comment = Some(text);
             Ok(())
         }
-        Content::Nodes(nodes) => add_nodes(nodes, &mut all.nodes),
+        Content::Nodes(nodes) => gather_nodes(nodes, &mut all.nodes),
         Content::Table(line) => all.tables.push(line),
         Content::Message(line) => all.messages.push(line),
         Content::NodeComment(_, text) => {
@@ -165,8 +173,7 @@ fn take(from: Citing, content: Content, all: &mut Gathered) -> Result<(), AllocE
             attach(from, text, &mut all.signal_comments, &mut all.passed)
         }
         Content::ValueTexts(_, entries) => {
-            let texts = Items::from_vec(entries.entries);
-            attach(from, texts, &mut all.signal_values, &mut all.passed)
+            attach(from, entries, &mut all.signal_values, &mut all.passed)
         }
         Content::ValueType(_, value_type) => {
             attach(from, value_type, &mut all.signal_types, &mut all.passed)
@@ -177,45 +184,96 @@ fn take(from: Citing, content: Content, all: &mut Gathered) -> Result<(), AllocE
     }
 }
 
-/// Takes in a statement, of which the citation has this place.
-fn take_statement(
-    place: Option<usize>,
+/// Adds what a statement says to what is gathered, where what it cites has this index.
+fn gather_statement(
+    index: Option<usize>,
     statement: Statement,
     gathered: &mut Gathered,
 ) -> Result<(), AllocError>
-    ensures { OnOk result (gathered.new ≡ taken place (mention statement) statement.content gathered.old) }
+    ensures { OnOk result (gathered.new ≡ gathered_after index (passed_of statement) statement.content gathered.old) }
 {
-    let Statement {
-        start,
-        keyword,
-        content,
-    } = statement;
-    let statement = Passed { at: start, keyword };
-    take(Citing { statement, place }, content, gathered)
+    let (at, keyword, content) = statement.into_parts();
+    let statement = Passed { at, keyword };
+    gather(Citing { statement, index }, content, gathered)
 }
 
-/// Nothing yet, and the places of what the statements cite.
+/// What is gathered before any statement, and the indices of what the statements cite.
 fn beginning(
     alloc: Global,
     statements: &[Statement],
 ) -> Result<(Gathered, Vec<Option<usize>>), AllocError>
-    ensures { IfOk result (λ begun. IsBeginning (said statements.now) begun.0 begun.1.items) }
+    ensures { IfOk result (λ begun. IsBeginning (statements_of statements.now) begun.0 begun.1.items) }
 {
-    let places = places_of(alloc, statements)?;
-    let cited = cited_places(alloc, &places, statements)?;
-    let gathered = nothing(alloc, &places)?;
+    let lookups = lookups_of(alloc, statements)?;
+    let cited = cited_indices(alloc, &lookups, statements)?;
+    let gathered = nothing(alloc, &lookups)?;
     Ok((gathered, cited))
 }
 
 /// All that the statements say.
 pub(crate) fn gathered_of(alloc: Global, statements: Vec<Statement>) -> Result<Gathered, AllocError>
-    ensures { IfOk result (λ gathered. AreGathered (said statements.items) gathered) }
+    ensures { IfOk result (λ gathered. AreGathered (statements_of statements.items) gathered) }
 {
     let (mut gathered, cited) = beginning(alloc, &statements)?;
-    let mut places = Feed::of(Items::from_vec(cited));
+    let mut indices = Feed::of(Items::from_vec(cited));
     for statement in statements {
-        let place = places.next_or(None);
-        take_statement(place, statement, &mut gathered)?;
+        let index = indices.next_or(None);
+        gather_statement(index, statement, &mut gathered)?;
     }
     Ok(gathered)
+}
+
+impl Gathered {
+    /// The sheet of all that is gathered, and what is skipped; or a refusal, and then that can't be in one sheet.
+    pub(crate) fn into_reading(self, alloc: Global) -> Result<Reading, Refusal>
+        ensures built { IfOk result (λ reading. IsBuilt self reading.sheet) }
+        ensures passed { IfOk result (λ reading. reading.passed ≡ self.passed) }
+        ensures refused { IfErr result (λ refusal. Unless refusal (¬ CanStand self)) }
+    {
+        let Gathered {
+            version,
+            comment,
+            nodes,
+            tables,
+            messages,
+            node_comments,
+            message_comments,
+            signal_comments,
+            signal_values,
+            signal_types,
+            signal_spns,
+            passed,
+        } = self;
+        let feeds = Feeds {
+            comments: Feed::of(signal_comments),
+            values: Feed::of(signal_values),
+            types: Feed::of(signal_types),
+            spns: Feed::of(signal_spns),
+        };
+        let mut sheet = bare_sheet(alloc, version, comment);
+        add_nodes(alloc, nodes, node_comments, &mut sheet)?;
+        add_tables(alloc, tables, &mut sheet)?;
+        add_lines(alloc, messages, message_comments, feeds, &mut sheet)?;
+        sheets_are_well_formed(&sheet);
+        Ok(Reading { sheet, passed })
+    }
+}
+
+impl Drop for Gathered {
+    fn drop(self) {
+        let Gathered {
+            version: _version,
+            comment: _comment,
+            nodes: _nodes,
+            tables: _tables,
+            messages: _messages,
+            node_comments: _node_comments,
+            message_comments: _message_comments,
+            signal_comments: _signal_comments,
+            signal_values: _signal_values,
+            signal_types: _signal_types,
+            signal_spns: _signal_spns,
+            passed: _passed,
+        } = self;
+    }
 }

@@ -1,10 +1,10 @@
-//! The statements that are passed over.
+//! Skipped statements.
 use catalogue::Keyword;
 
-/// A statement that is passed over.
+/// A statement that is skipped: one that this project reads nothing of, or that cites what isn't in the file.
 #[derive(Clone, Copy, Debug, PartialEq, Eq)]
 pub struct Passed {
-    /// The place of its first keyword.
+    /// The offset of its first keyword.
     pub at: usize,
     /// That keyword.
     pub keyword: Keyword,

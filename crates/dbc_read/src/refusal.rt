@@ -5,9 +5,9 @@ use std::alloc::AllocError;
 /// Why a part of a sheet isn't built.
 #[derive(Clone, Copy, Debug, PartialEq, Eq)]
 pub(crate) enum Refusal {
-    /// Memory was refused.
+    /// Out of memory.
     Memory,
-    /// It has not its form, or can't stand beside the others: no sheet has it.
+    /// It hasn't its form, or can't be in one sheet with the others.
     NoSheet,
 }
 

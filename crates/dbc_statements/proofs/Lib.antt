@@ -2,5 +2,5 @@ pub mod Spelled
 pub mod Rounds
 pub mod NameLists
 pub mod Skip
-pub mod Places
+pub mod Offsets
 pub mod Whole

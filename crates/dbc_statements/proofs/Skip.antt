@@ -6,7 +6,7 @@ use Rattle.catalogue.specs.Rules.{starts}
 use Rattle.catalogue.specs.Token.{Token}
 use Rattle.catalogue.proofs.Exactness.{tokens_repeat}
 use Rattle.catalogue.proofs.Repeating.{Takes, repeats_take, goes_round, is_over}
-use Rattle.dbc_statements.specs.Skipping.{IsSkipping, Skips, is_behind}
+use Rattle.dbc_statements.specs.Skipping.{IsSkipping, Skips, begins_no_next}
 use Rattle.dbc_statements.proofs.Rounds.{at_start}
 
 tokens_take : (test : Token → Bool) → Takes (starts test) (one_at test)
@@ -35,7 +35,7 @@ all_skipped test tokens rest h over = record {
 }
 
 -- where nothing is left to pass over, the next statement begins, or the end has come
-pub next_there : (tokens : List Token) → starts is_behind tokens ≡ false → next tokens ≡ true
+pub next_there : (tokens : List Token) → starts begins_no_next tokens ≡ false → next tokens ≡ true
 next_there [] over = refl
 next_there (t ∷ ts) over = by_test (begins_next t) over
   where

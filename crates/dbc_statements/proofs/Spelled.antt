@@ -6,28 +6,28 @@ use Rattle.catalogue.proofs.TokenExact.{IsRead, first_of, read_is_there}
 use Rattle.dbc_lex.specs.Next.{GivesNext}
 use Rattle.dbc_lex.specs.declared.fault.ReadFault.{ReadFault}
 use Rattle.dbc_lex.specs.declared.token.Token.{Token as TextToken}
-use Rattle.dbc_statements.specs.Left.{AreLeft, AreSpelled}
+use Rattle.dbc_statements.specs.Tokens.{AreTokens, AreSpelled}
 
-are_spelled : (place : ℕ) (bytes : List ℕ) (tokens : List Token) (o : Option LexFault) → IsRead place bytes tokens o → AreSpelled tokens
-are_spelled place bytes [] o h = tt
-are_spelled place bytes (t ∷ ts) o h =
-    let (rest, first, more) = first_of place bytes t ts o h in
+are_spelled : (offset : ℕ) (bytes : List ℕ) (tokens : List Token) (o : Option LexFault) → IsRead offset bytes tokens o → AreSpelled tokens
+are_spelled offset bytes [] o h = tt
+are_spelled offset bytes (t ∷ ts) o h =
+    let (rest, first, more) = first_of offset bytes t ts o h in
     (first.spelled, are_spelled t.end rest ts o more)
 
 pub read_are_spelled : (bytes : List ℕ) → AreSpelled (lexed 0 bytes).tokens
 read_are_spelled bytes = are_spelled 0 bytes (lexed 0 bytes).tokens (lexed 0 bytes).fault (read_is_there 0 bytes)
 
-none_are_left : (lexer : Lexed) → lexer.tokens ≡ [] → AreLeft None lexer
-none_are_left lexer none = record { in_sight = none; spelled = subst AreSpelled (sym none) tt }
+no_tokens_are : (lexer : Lexed) → lexer.tokens ≡ [] → AreTokens None lexer
+no_tokens_are lexer none = record { in_sight = none; spelled = subst AreSpelled (sym none) tt }
 
 -- the tokens of a text, once the first one is in sight
-pub at_first : (next : Option TextToken) (bytes : List ℕ) (old lexer : Lexed) → old ≡ lexed 0 bytes → GivesNext old (Ok next) lexer → AreLeft next lexer
-at_first None bytes old lexer e g = none_are_left lexer (ap (λ (l : Lexed). l.tokens) (g.1 ∙ g.0))
+pub at_first : (next : Option TextToken) (bytes : List ℕ) (old lexer : Lexed) → old ≡ lexed 0 bytes → GivesNext old (Ok next) lexer → AreTokens next lexer
+at_first None bytes old lexer e g = no_tokens_are lexer (ap (λ (l : Lexed). l.tokens) (g.1 ∙ g.0))
 at_first (Some t) bytes old lexer e g = record {
   in_sight = tt;
   spelled = subst AreSpelled (ap (λ (l : Lexed). l.tokens) (sym e) ∙ g.0) (read_are_spelled bytes);
 }
 
 -- and where none is
-pub at_fault : (fault : ReadFault) (old lexer : Lexed) → GivesNext old (Err fault) lexer → AreLeft None lexer
-at_fault fault old lexer (cause, is, same, stays) = none_are_left lexer (ap (λ (l : Lexed). l.tokens) (stays ∙ is))
+pub at_fault : (fault : ReadFault) (old lexer : Lexed) → GivesNext old (Err fault) lexer → AreTokens None lexer
+at_fault fault old lexer (cause, is, same, stays) = no_tokens_are lexer (ap (λ (l : Lexed). l.tokens) (stays ∙ is))

@@ -10,7 +10,7 @@ use Rattle.catalogue.proofs.Repeating.{statements_take, breaks_off, is_over}
 use Rattle.catalogue.proofs.TokenExact.{exact}
 use Rattle.dbc_statements.specs.Division.{HasNoDivision, IsDivided}
 use Rattle.dbc_lex.specs.declared.fault.ReadFault.{ReadFault}
-use Rattle.dbc_statements.specs.Left.{EndsWith}
+use Rattle.dbc_statements.specs.Tokens.{EndsWith}
 
 module _ (begin ts : List Token) (ss : List Statement) (h : with_front ss (many_at is_more statement_at ts) ≡ many_at is_more statement_at begin) where
   none_left : (rest : List Token) → is_more rest ≡ false → many_at is_more statement_at begin ≡ Some (ss, rest) → statements_at begin ≡ Some ss

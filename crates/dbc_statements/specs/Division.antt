@@ -5,7 +5,7 @@ use Rattle.catalogue.specs.Lexing.{LexFault, lexed}
 use Rattle.catalogue.specs.Statement.{Statement}
 use Rattle.catalogue.specs.Token.{Token}
 use Rattle.catalogue.specs.Tokens.{HasTokens}
-use Rattle.dbc_lex.specs.Seen.{fault_of}
+use Rattle.dbc_lex.specs.Fault.{fault_of}
 use Rattle.dbc_lex.specs.declared.fault.ReadFault.{ReadFault}
 
 -- the text has tokens, and these are the statements, one after the other
@@ -18,6 +18,6 @@ pub record IsDivided (bytes : List ℕ) (statements : List Statement) : Type 0 w
 abbrev pub HasNoDivision : List ℕ → Type 0
 HasNoDivision bytes = (statements : List Statement) → ¬ (IsDivided bytes statements)
 
--- where no token begins at some place of the text, the answer is the first fault of this kind
+-- where no token begins at some offset of the text, the answer is the first fault of this kind
 abbrev pub TokensComeFirst : {X : Type 0} → List ℕ → Result X ReadFault → Type 0
 TokensComeFirst bytes answer = (cause : LexFault) → (lexed 0 bytes).fault ≡ Some cause → answer ≡ Err (fault_of cause)

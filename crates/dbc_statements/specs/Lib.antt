@@ -1,5 +1,6 @@
-pub mod Said
-pub mod Left
+pub mod Statement
+pub mod Parts
+pub mod Tokens
 pub mod Names
 pub mod Reading
 pub mod Skipping

@@ -8,9 +8,9 @@ abbrev pub name_of : Option NodeName → Option (List ℕ)
 name_of o = option_map (λ (n : NodeName). n.name) o
 
 -- those that stand for nodes
-abbrev pub kept : List (Option (List ℕ)) → List (List ℕ)
-kept names = filter_map (λ name. name) names
+abbrev pub names_in : List (Option (List ℕ)) → List (List ℕ)
+names_in names = filter_map (λ name. name) names
 
--- what a loop has kept so far, and what it still reads
-abbrev pub with_kept : List (List ℕ) → Parsed (List (Option (List ℕ))) → Parsed (List (List ℕ))
-with_kept front o = option_and_then (λ b. Some (front ++ kept b.0, b.1)) o
+-- the names that a loop has so far, and those that it still reads
+abbrev pub with_names : List (List ℕ) → Parsed (List (Option (List ℕ))) → Parsed (List (List ℕ))
+with_names front o = option_and_then (λ b. Some (front ++ names_in b.0, b.1)) o

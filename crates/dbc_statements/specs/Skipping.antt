@@ -1,11 +1,11 @@
--- Tokens that are passed over one by one.
+-- Tokens that are skipped one by one.
 use Rattle.std.specs.Prelude.{◌≡◌, Bool, not, List, Some}
 use Rattle.catalogue.specs.Grammar.{begins_next}
 use Rattle.catalogue.specs.Parsing.{many_at, one_at, with_front}
 use Rattle.catalogue.specs.Rules.{starts}
 use Rattle.catalogue.specs.Token.{Token}
 
--- those at the front that pass the test are left behind
+-- those at the front that pass the test are skipped
 pub record Skips (test : Token → Bool) (tokens rest : List Token) : Type 0 where
   pub times : List (Unit {0})
   pub all : many_at (starts test) (one_at test) tokens ≡ Some (times, rest)
@@ -16,5 +16,5 @@ pub record IsSkipping (test : Token → Bool) (tokens rest : List Token) : Type 
   pub more : with_front times (many_at (starts test) (one_at test) rest) ≡ many_at (starts test) (one_at test) tokens
 
 -- a token with which no other statement begins
-abbrev pub is_behind : Token → Bool
-is_behind t = not (begins_next t)
+abbrev pub begins_no_next : Token → Bool
+begins_no_next t = not (begins_next t)

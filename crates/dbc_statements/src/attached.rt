@@ -4,13 +4,13 @@ ghost use Rattle.catalogue.specs.Fields as fields;
 ghost use Rattle.catalogue.specs.Parsing.{either_at, or_else, passed_value_texts_at, skipped_at, spn_at, value_texts_at, value_type_at};
 ghost use Rattle.catalogue.specs.Rules.{begins};
 ghost use Rattle.dbc_statements.specs.Reading.{Reads};
-ghost use Rattle.dbc_statements.specs.Said.{content_of};
+ghost use Rattle.dbc_statements.specs.Statement.{content_of};
 
-use crate::entries::entries;
+use crate::entries::entry_list;
 use crate::fields::{
     attribute, begins_number, cited_name, cited_number, key, mark, optional_mark, spn, value_type,
 };
-use crate::passing::{passed_value_texts, skipped};
+use crate::passing::{passed_value_texts, skip_to_end};
 use crate::statement::{CitedSignal, Content};
 use crate::tokens::Tokens;
 use catalogue::Keyword;
@@ -23,12 +23,12 @@ fn of_signal(alloc: Global, tokens: &mut Tokens) -> Result<Content, ReadFault>
 {
     let number = cited_number(tokens)?;
     let name = cited_name(alloc, tokens)?;
-    let entries = entries(alloc, tokens)?;
+    let entries = entry_list(alloc, tokens)?;
     mark(tokens, b';')?;
     Ok(Content::ValueTexts(CitedSignal { number, name }, entries))
 }
 
-/// Behind `VAL_`.
+/// The rest of a statement after `VAL_`.
 pub(crate) fn value_texts(alloc: Global, tokens: &mut Tokens) -> Result<Content, ReadFault>
     ensures { Reads content_of result (either_at (begins fields.cited_number) value_texts_at passed_value_texts_at tokens.old) tokens.new }
 {
@@ -39,7 +39,7 @@ pub(crate) fn value_texts(alloc: Global, tokens: &mut Tokens) -> Result<Content,
     }
 }
 
-/// Behind `SIG_VALTYPE_`.
+/// The rest of a statement after `SIG_VALTYPE_`.
 #[tactic(auto, unfolding(catalogue::specs::Parsing::value_type_at))]
 pub(crate) fn value_types(alloc: Global, tokens: &mut Tokens) -> Result<Content, ReadFault>
     ensures { Reads content_of result (value_type_at tokens.old) tokens.new }
@@ -65,7 +65,7 @@ fn spn_of_signal(alloc: Global, tokens: &mut Tokens) -> Result<Content, ReadFaul
     Ok(Content::Spn(CitedSignal { number, name }, spn))
 }
 
-/// Behind `BA_`: a suspect parameter number, or else anything up to `;`.
+/// The rest of a statement after `BA_`: a suspect parameter number, or else anything up to `;`.
 pub(crate) fn attribute_value(alloc: Global, tokens: &mut Tokens) -> Result<Content, ReadFault>
     ensures { Reads content_of result (or_else (spn_at tokens.old) (skipped_at tokens.old)) tokens.new }
 {
@@ -81,6 +81,6 @@ pub(crate) fn attribute_value(alloc: Global, tokens: &mut Tokens) -> Result<Cont
                 ..
             },
         ) => Err(ReadFault::MEMORY),
-        Err(_) => skipped(tokens),
+        Err(_) => skip_to_end(tokens),
     }
 }

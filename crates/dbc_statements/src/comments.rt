@@ -3,7 +3,7 @@ ghost use Rattle.std.specs.Prelude.{◌≡◌};
 ghost use Rattle.catalogue.specs.Fields as fields;
 ghost use Rattle.catalogue.specs.Parsing.{comment_at, file_comment_at, message_comment_at, node_comment_at, signal_comment_at};
 ghost use Rattle.dbc_statements.specs.Reading.{Reads};
-ghost use Rattle.dbc_statements.specs.Said.{content_of};
+ghost use Rattle.dbc_statements.specs.Statement.{content_of};
 
 use crate::fields::{cited_name, cited_number, key, mark, text};
 use crate::passing::passed_comment;
@@ -57,7 +57,7 @@ fn of_signal(alloc: Global, tokens: &mut Tokens) -> Result<Content, ReadFault>
     Ok(Content::SignalComment(CitedSignal { number, name }, text))
 }
 
-/// Behind `CM_`.
+/// The rest of a statement after `CM_`.
 #[tactic(auto, unfolding(catalogue::specs::Parsing::comment_at))]
 pub(crate) fn comment(alloc: Global, tokens: &mut Tokens) -> Result<Content, ReadFault>
     ensures { Reads content_of result (comment_at tokens.old) tokens.new }

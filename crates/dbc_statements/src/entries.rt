@@ -1,20 +1,97 @@
 //! Lists of values with their texts.
-ghost use Rattle.std.specs.Prelude.{◌≡◌};
+ghost use Rattle.std.specs.Prelude.{◌≡◌, ◌≤◌, [], ◌∷◌, ◌++◌, IfOk, OnErr, OnOk, SomeIff, is_some, length, nat_lt};
 ghost use Rattle.catalogue.specs.Grammar as grammar;
+ghost use Rattle.catalogue.specs.Limits.{value_text_limit};
 ghost use Rattle.catalogue.specs.Parsing.{entry_at, entries_at};
 ghost use Rattle.catalogue.specs.Rules.{starts};
 ghost use Rattle.dbc_statements.specs.Reading.{Reads, itself};
-ghost use Rattle.dbc_statements.specs.Said.{entries_of};
 
 use crate::fields::{decimal, text};
-use crate::statement::Entries;
 use crate::tokens::Tokens;
 use crate::words::is_mark;
-use catalogue::{VALUE_TEXT_LIMIT, ValueText};
+use catalogue::{VALUE_TEXT_LIMIT, ValueText, ValueTexts};
 use dbc_lex::ReadFault;
-use std::alloc::Global;
+use std::alloc::{AllocError, Global};
+use std::marker::Model;
 
-/// Whether a token other than `;` stands there.
+/// Values and their texts, in order, any number of them. Contracts see the list.
+#[derive(Debug, Drop)]
+pub struct Entries {
+    entries: Vec<ValueText>,
+    above: Option<usize>,
+}
+
+impl Model for Entries {
+    ghost use Rattle.std.specs.Prelude.{◌≡◌, List, is_some, length, nat_lt};
+    ghost use Rattle.catalogue.specs.Limits.{value_text_limit};
+    ghost use Rattle.catalogue.specs.declared.value_texts.ValueText.{ValueText};
+
+    ghost Value = { List ValueText };
+
+    ghost view = { λ e. e.entries.items };
+
+    ghost invariant = { λ e. is_some e.above ≡ nat_lt value_text_limit (length e.entries.items) };
+}
+
+/// The room for entries that is reserved at once: most lists have two.
+const USUAL_ENTRIES: usize = 2;
+
+impl Entries {
+    /// No entries. Takes no memory.
+    pub fn empty(alloc: Global) -> Entries
+        ensures { result ≡ [] }
+    {
+        Entries {
+            entries: Vec::new(alloc),
+            above: None,
+        }
+    }
+
+    /// No entries yet, with room for some.
+    fn with_room(alloc: Global) -> Result<Entries, AllocError>
+        ensures { IfOk result (λ entries. entries ≡ []) }
+    {
+        Ok(Entries {
+            entries: Vec::with_capacity(alloc, USUAL_ENTRIES)?,
+            above: None,
+        })
+    }
+
+    /// Adds the entry at this offset as the last one.
+    fn push(&mut self, offset: usize, entry: ValueText) -> Result<(), AllocError>
+        ensures ok { OnOk result (self.new ≡ self.old ++ entry ∷ []) }
+        ensures err { OnErr result (self.new ≡ self.old) }
+    {
+        self.entries.push(entry)?;
+        if self.entries.len() == VALUE_TEXT_LIMIT + 1 {
+            self.above = Some(offset);
+        }
+        Ok(())
+    }
+
+    /// The entries, in order.
+    pub fn as_slice(&self) -> &[ValueText]
+        ensures { result.now ≡ self.now }
+    {
+        &self.entries
+    }
+
+    /// The offset of the first entry above the limit of 65,536, where there are more.
+    pub fn above(&self) -> Option<usize>
+        ensures { is_some result ≡ nat_lt value_text_limit (length self.now) }
+    {
+        self.above
+    }
+
+    /// The texts of a signal or a value table, or `None` where they are more than 65,536. Takes no memory.
+    pub fn into_texts(self) -> Option<ValueTexts>
+        ensures { SomeIff result (length self ≤ value_text_limit) self }
+    {
+        ValueTexts::of(self.entries)
+    }
+}
+
+/// Whether a token other than `;` comes next.
 pub(crate) fn is_open(tokens: &Tokens) -> bool
     ensures { result ≡ starts grammar.is_open tokens.now }
 {
@@ -34,21 +111,15 @@ fn entry(alloc: Global, tokens: &mut Tokens) -> Result<ValueText, ReadFault>
     Ok(ValueText { value, text })
 }
 
-/// The room for entries that is reserved at once: most lists have two.
-const USUAL_ENTRIES: usize = 2;
-
 /// Values and their texts, up to `;`.
-pub(crate) fn entries(alloc: Global, tokens: &mut Tokens) -> Result<Entries, ReadFault>
-    ensures { Reads entries_of result (entries_at tokens.old) tokens.new }
+pub(crate) fn entry_list(alloc: Global, tokens: &mut Tokens) -> Result<Entries, ReadFault>
+    ensures { Reads itself result (entries_at tokens.old) tokens.new }
 {
-    let mut entries = Vec::with_capacity(alloc, USUAL_ENTRIES)?;
-    let mut above = 0;
+    let mut entries = Entries::with_room(alloc)?;
     'entries: while is_open(tokens) {
-        if entries.len() == VALUE_TEXT_LIMIT {
-            above = tokens.place();
-        }
+        let offset = tokens.offset();
         let next = entry(alloc, tokens)?;
-        entries.push(next)?;
+        entries.push(offset, next)?;
     }
-    Ok(Entries { entries, above })
+    Ok(entries)
 }

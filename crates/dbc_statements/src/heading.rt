@@ -1,4 +1,4 @@
-//! What stands at the head of a file: its version, new symbols, bit timing, nodes and value tables.
+//! The heading of a file: its version, new symbols, bit timing, nodes and value tables.
 ghost use Rattle.std.specs.Prelude.{◌≡◌, codes};
 ghost use Rattle.catalogue.specs.Fields as fields;
 ghost use Rattle.catalogue.specs.Grammar as grammar;
@@ -7,11 +7,12 @@ ghost use Rattle.catalogue.specs.Rules.{starts};
 ghost use Rattle.catalogue.specs.declared.token.TokenKind.TheVariants.{Number};
 ghost use Rattle.dbc_statements.specs.Reading.{Reads, itself};
 ghost use Rattle.dbc_statements.specs.Skipping.{Skips};
-ghost use Rattle.dbc_statements.specs.Said.{content_of};
+ghost use Rattle.dbc_statements.specs.Statement.{content_of, line_content};
 
-use crate::entries::entries;
+use crate::entries::entry_list;
 use crate::fields::{any_number, made_name, mark, text};
-use crate::names::nodes;
+use crate::line::Line;
+use crate::names::{NodeList, nodes};
 use crate::statement::{Content, TableLine};
 use crate::tokens::Tokens;
 use crate::words::{is_key, is_mark, is_number, is_word};
@@ -19,7 +20,7 @@ use catalogue::Keyword;
 use dbc_lex::ReadFault;
 use std::alloc::Global;
 
-/// Behind `VERSION`.
+/// The rest of a statement after `VERSION`.
 #[tactic(auto, unfolding(catalogue::specs::Parsing::version_at))]
 pub(crate) fn version(alloc: Global, tokens: &mut Tokens) -> Result<Content, ReadFault>
     ensures { Reads content_of result (version_at tokens.old) tokens.new }
@@ -28,7 +29,7 @@ pub(crate) fn version(alloc: Global, tokens: &mut Tokens) -> Result<Content, Rea
     Ok(Content::Version(version))
 }
 
-/// Whether a name stands there, other than `BS_` and `BU_`.
+/// Whether a name comes next, other than `BS_` and `BU_`.
 fn is_symbol(tokens: &Tokens) -> bool
     ensures { result ≡ starts grammar.is_symbol tokens.now }
 {
@@ -41,7 +42,7 @@ fn is_symbol(tokens: &Tokens) -> bool
     }
 }
 
-/// Whether a list of new symbols ends there: at `BS_`, `BU_`, or the end.
+/// Whether a list of new symbols ends here: at `BS_`, `BU_`, or the end.
 fn ends_symbols(tokens: &Tokens) -> bool
     ensures { result ≡ grammar.ends_symbols tokens.now }
 {
@@ -51,6 +52,7 @@ fn ends_symbols(tokens: &Tokens) -> bool
     }
 }
 
+/// Skips all new symbols that come next.
 fn skip_symbols(tokens: &mut Tokens)
     ensures { Skips grammar.is_symbol tokens.old tokens.new }
 {
@@ -59,7 +61,7 @@ fn skip_symbols(tokens: &mut Tokens)
     }
 }
 
-/// Behind `NS_`.
+/// The rest of a statement after `NS_`.
 #[tactic(auto, unfolding(catalogue::specs::Parsing::symbols_at))]
 pub(crate) fn new_symbols(tokens: &mut Tokens) -> Result<Content, ReadFault>
     ensures { Reads content_of result (symbols_at tokens.old) tokens.new }
@@ -73,7 +75,7 @@ pub(crate) fn new_symbols(tokens: &mut Tokens) -> Result<Content, ReadFault>
     }
 }
 
-/// A colon, a number, a comma and a number, where a colon stands there.
+/// A colon, a number, a comma and a number.
 #[tactic(auto, unfolding(catalogue::specs::Parsing::registers_at))]
 fn registers(tokens: &mut Tokens) -> Result<(), ReadFault>
     ensures { Reads itself result (registers_at tokens.old) tokens.new }
@@ -85,6 +87,7 @@ fn registers(tokens: &mut Tokens) -> Result<(), ReadFault>
     Ok(())
 }
 
+/// Whether a colon comes next.
 fn is_colon(tokens: &Tokens) -> bool
     ensures { result ≡ starts (fields.is_mark (codes ":")) tokens.now }
 {
@@ -94,6 +97,7 @@ fn is_colon(tokens: &Tokens) -> bool
     }
 }
 
+/// A number, and the numbers of registers where a colon comes next.
 #[tactic(auto, unfolding(catalogue::specs::Parsing::timing_at))]
 fn timing(tokens: &mut Tokens) -> Result<(), ReadFault>
     ensures { Reads itself result (timing_at tokens.old) tokens.new }
@@ -105,6 +109,7 @@ fn timing(tokens: &mut Tokens) -> Result<(), ReadFault>
     Ok(())
 }
 
+/// Whether a number comes next.
 fn is_timing(tokens: &Tokens) -> bool
     ensures { result ≡ starts (fields.is_a Number) tokens.now }
 {
@@ -114,7 +119,7 @@ fn is_timing(tokens: &Tokens) -> bool
     }
 }
 
-/// Behind `BS_`.
+/// The rest of a statement after `BS_`.
 #[tactic(auto, unfolding(catalogue::specs::Parsing::timing_line_at))]
 pub(crate) fn bit_timing(tokens: &mut Tokens) -> Result<Content, ReadFault>
     ensures { Reads content_of result (timing_line_at tokens.old) tokens.new }
@@ -126,24 +131,27 @@ pub(crate) fn bit_timing(tokens: &mut Tokens) -> Result<Content, ReadFault>
     Ok(Content::Dropped)
 }
 
-/// Behind `BU_`.
+/// The rest of a statement after `BU_`.
 #[tactic(auto, unfolding(catalogue::specs::Parsing::nodes_line_at))]
-pub(crate) fn node_names(alloc: Global, tokens: &mut Tokens) -> Result<Content, ReadFault>
-    ensures { Reads content_of result (nodes_line_at tokens.old) tokens.new }
+pub(crate) fn node_names(alloc: Global, tokens: &mut Tokens) -> Result<Line, ReadFault>
+    ensures { Reads line_content result (nodes_line_at tokens.old) tokens.new }
 {
     mark(tokens, b':')?;
-    let nodes = nodes(alloc, tokens)?;
-    Ok(Content::Nodes(nodes))
+    let NodeList { names, ended } = nodes(alloc, tokens)?;
+    Ok(Line {
+        content: Content::Nodes(names),
+        ended,
+    })
 }
 
-/// Behind `VAL_TABLE_`.
+/// The rest of a statement after `VAL_TABLE_`.
 #[tactic(auto, unfolding(catalogue::specs::Parsing::table_at))]
 pub(crate) fn value_table(alloc: Global, tokens: &mut Tokens) -> Result<Content, ReadFault>
     ensures { Reads content_of result (table_at tokens.old) tokens.new }
 {
-    let at = tokens.place();
+    let at = tokens.offset();
     let name = made_name(alloc, tokens)?;
-    let entries = entries(alloc, tokens)?;
+    let entries = entry_list(alloc, tokens)?;
     mark(tokens, b';')?;
     Ok(Content::Table(TableLine { at, name, entries }))
 }

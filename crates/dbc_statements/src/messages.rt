@@ -4,9 +4,10 @@ ghost use Rattle.catalogue.specs.Fields as fields;
 ghost use Rattle.catalogue.specs.Parsing.{either_at, independent_at, message_at};
 ghost use Rattle.catalogue.specs.Rules.{begins};
 ghost use Rattle.dbc_statements.specs.Reading.{Reads};
-ghost use Rattle.dbc_statements.specs.Said.{content_of};
+ghost use Rattle.dbc_statements.specs.Statement.{line_content};
 
-use crate::fields::{begins_message, length, made_name, mark, message_number};
+use crate::fields::{begins_message, length, made_name, mark, message_ident};
+use crate::line::{Line, line_of};
 use crate::names::transmitter;
 use crate::passing::independent;
 use crate::signals::signals;
@@ -16,38 +17,36 @@ use dbc_lex::ReadFault;
 use std::alloc::Global;
 
 #[tactic(auto, unfolding(catalogue::specs::Parsing::message_at))]
-fn message(alloc: Global, tokens: &mut Tokens) -> Result<Content, ReadFault>
-    ensures { Reads content_of result (message_at tokens.old) tokens.new }
+fn message(alloc: Global, tokens: &mut Tokens) -> Result<Line, ReadFault>
+    ensures { Reads line_content result (message_at tokens.old) tokens.new }
 {
-    let at = tokens.place();
-    let number = message_number(tokens)?;
-    let name_at = tokens.place();
+    let at = tokens.offset();
+    let ident = message_ident(tokens)?;
+    let name_at = tokens.offset();
     let name = made_name(alloc, tokens)?;
     mark(tokens, b':')?;
     let length = length(tokens)?;
     let transmitter = transmitter(alloc, tokens)?;
-    let signals = signals(alloc, tokens)?;
-    Ok(Content::Message(MessageLine {
+    let (signals, ended) = signals(alloc, tokens)?;
+    let content = Content::Message(MessageLine {
         at,
         name_at,
-        number,
+        ident,
         name,
         length,
         transmitter,
         signals,
-    }))
+    });
+    Ok(Line { content, ended })
 }
 
-/// Behind `BO_`.
-pub(crate) fn message_or_independent(
-    alloc: Global,
-    tokens: &mut Tokens,
-) -> Result<Content, ReadFault>
-    ensures { Reads content_of result (either_at (begins fields.message_number) message_at independent_at tokens.old) tokens.new }
+/// The rest of a statement after `BO_`.
+pub(crate) fn message_or_independent(alloc: Global, tokens: &mut Tokens) -> Result<Line, ReadFault>
+    ensures { Reads line_content result (either_at (begins fields.message_ident) message_at independent_at tokens.old) tokens.new }
 {
     if begins_message(tokens) {
         message(alloc, tokens)
     } else {
-        independent(tokens)
+        line_of(independent(tokens))
     }
 }

@@ -1,22 +1,42 @@
 //! Lists of nodes.
-ghost use Rattle.std.specs.Prelude.{◌≡◌, [], ◌∷◌, ◌++◌, Some, false, IfErr, OnOk};
+ghost use Rattle.std.specs.Prelude.{◌≡◌, [], ◌∷◌, ◌++◌, Some, false, IfErr, None, OnOk};
 ghost use Rattle.catalogue.specs.Fields as fields;
 ghost use Rattle.catalogue.specs.Parsing.{token_at, many_at, further_at, some_names_at, nodes_at};
 ghost use Rattle.catalogue.specs.Rules.{begins};
 ghost use Rattle.dbc_lex.specs.Fault.{UnlessMemory};
-ghost use Rattle.dbc_statements.specs.Names.{kept, name_of, with_kept};
+ghost use Rattle.dbc_statements.specs.Names.{name_of, names_in, with_names};
 ghost use Rattle.dbc_statements.specs.Reading.{Reads, itself};
-ghost use Rattle.dbc_statements.specs.Said.{names_of};
+ghost use Rattle.dbc_statements.specs.Statement.{names_of};
 
 use crate::fields::optional_mark;
 use crate::statement::NodeName;
-use crate::tokens::{Behind, Tokens};
+use crate::tokens::Tokens;
 use crate::words::{is_mark, is_no_node, is_node, is_word};
 use catalogue::{Items, Name};
 use dbc_lex::{ReadCode, ReadFault};
 use std::alloc::{AllocError, Global};
 
-/// Whether a name of a list stands there.
+/// How what was read ends, as far as a fault at the next token wants to know.
+#[derive(Clone, Copy)]
+pub(crate) enum Ended {
+    /// With the last name of a list.
+    Names,
+    /// With a list that has no names.
+    NoNames,
+    /// With anything else.
+    Other,
+}
+
+/// A list of nodes, without those that stand for none.
+#[derive(Drop)]
+pub(crate) struct NodeList {
+    /// Their names.
+    pub names: Vec<NodeName>,
+    /// How it ends.
+    pub ended: Ended,
+}
+
+/// Whether a name of a list comes next.
 fn begins_node(tokens: &Tokens) -> bool
     ensures { result ≡ begins fields.node_of tokens.now }
 {
@@ -26,7 +46,7 @@ fn begins_node(tokens: &Tokens) -> bool
     }
 }
 
-/// Whether a further name of a list stands there, with a comma before it or without.
+/// Whether a further name of a list comes next, with a comma before it or without.
 fn goes_on(tokens: &Tokens) -> bool
     ensures { result ≡ fields.goes_on tokens.now }
 {
@@ -44,7 +64,7 @@ fn goes_on(tokens: &Tokens) -> bool
 fn node(alloc: Global, tokens: &mut Tokens) -> Result<Option<NodeName>, ReadFault>
     ensures { Reads name_of result (token_at fields.node_of tokens.old) tokens.new }
 {
-    let at = tokens.place();
+    let at = tokens.offset();
     match tokens.first() {
         Some(token) if is_no_node(&token) => {
             tokens.skip();
@@ -64,6 +84,7 @@ fn node(alloc: Global, tokens: &mut Tokens) -> Result<Option<NodeName>, ReadFaul
     }
 }
 
+/// A further name of a list, with the comma before it where there is one.
 #[tactic(auto, unfolding(catalogue::specs::Parsing::further_at))]
 fn further(alloc: Global, tokens: &mut Tokens) -> Result<Option<NodeName>, ReadFault>
     ensures { Reads name_of result (further_at tokens.old) tokens.new }
@@ -72,9 +93,9 @@ fn further(alloc: Global, tokens: &mut Tokens) -> Result<Option<NodeName>, ReadF
     node(alloc, tokens)
 }
 
-/// Keeps the node, where there is one.
-fn keep(nodes: &mut Vec<NodeName>, node: Option<NodeName>) -> Result<(), AllocError>
-    ensures { OnOk result (names_of nodes.new.items ≡ names_of nodes.old.items ++ kept (name_of node ∷ [])) }
+/// Adds the node to the list, where there is one.
+fn add(nodes: &mut Vec<NodeName>, node: Option<NodeName>) -> Result<(), AllocError>
+    ensures { OnOk result (names_of nodes.new.items ≡ names_of nodes.old.items ++ names_in (name_of node ∷ [])) }
 {
     match node {
         Some(node) => {
@@ -85,57 +106,66 @@ fn keep(nodes: &mut Vec<NodeName>, node: Option<NodeName>) -> Result<(), AllocEr
     }
 }
 
-/// Reads all further nodes of a list.
-fn further_nodes(
+/// Adds all further nodes of a list.
+fn add_further(
     alloc: Global,
     tokens: &mut Tokens,
     nodes: &mut Vec<NodeName>,
 ) -> Result<(), ReadFault>
-    ensures ok { OnOk result (with_kept (names_of nodes.old.items) (many_at fields.goes_on further_at tokens.old) ≡ Some (names_of nodes.new.items, tokens.new)) }
+    ensures ok { OnOk result (with_names (names_of nodes.old.items) (many_at fields.goes_on further_at tokens.old) ≡ Some (names_of nodes.new.items, tokens.new)) }
     ensures end { OnOk result (fields.goes_on tokens.new ≡ false) }
     ensures err { IfErr result (λ fault. UnlessMemory fault.code (many_at fields.goes_on further_at tokens.old ≡ None)) }
 {
     'nodes: while goes_on(tokens) {
         let next = further(alloc, tokens)?;
-        keep(nodes, next)?;
+        add(nodes, next)?;
     }
     Ok(())
 }
 
+/// A list of one name at least.
 #[tactic(auto, unfolding(catalogue::specs::Parsing::some_names_at))]
 fn some_nodes(alloc: Global, tokens: &mut Tokens) -> Result<Vec<NodeName>, ReadFault>
     ensures { Reads (λ nodes. names_of nodes.items) result (some_names_at tokens.old) tokens.new }
 {
     let mut nodes = Vec::new(alloc);
     let first = node(alloc, tokens)?;
-    keep(&mut nodes, first)?;
-    further_nodes(alloc, tokens, &mut nodes)?;
-    tokens.set_behind(Behind::Names);
+    add(&mut nodes, first)?;
+    add_further(alloc, tokens, &mut nodes)?;
     Ok(nodes)
 }
 
-/// A list of nodes, those that stand for none left out.
+/// A list of nodes, without those that stand for none.
 #[tactic(auto, unfolding(catalogue::specs::Parsing::nodes_at, catalogue::specs::Parsing::no_names_at))]
-pub(crate) fn nodes(alloc: Global, tokens: &mut Tokens) -> Result<Vec<NodeName>, ReadFault>
-    ensures { Reads (λ nodes. names_of nodes.items) result (nodes_at tokens.old) tokens.new }
+pub(crate) fn nodes(alloc: Global, tokens: &mut Tokens) -> Result<NodeList, ReadFault>
+    ensures { Reads (λ list. names_of list.names.items) result (nodes_at tokens.old) tokens.new }
 {
     if begins_node(tokens) {
-        return some_nodes(alloc, tokens);
+        let names = some_nodes(alloc, tokens)?;
+        return Ok(NodeList {
+            names,
+            ended: Ended::Names,
+        });
     }
-    tokens.set_behind(Behind::NoNames);
-    Ok(Vec::new(alloc))
+    Ok(NodeList {
+        names: Vec::new(alloc),
+        ended: Ended::NoNames,
+    })
 }
 
-/// A list of nodes without their places.
-pub(crate) fn receivers(alloc: Global, tokens: &mut Tokens) -> Result<Items<Name>, ReadFault>
-    ensures { Reads itself result (nodes_at tokens.old) tokens.new }
+/// The names of a list of nodes, and how it ends.
+pub(crate) fn receivers(
+    alloc: Global,
+    tokens: &mut Tokens,
+) -> Result<(Items<Name>, Ended), ReadFault>
+    ensures { Reads (λ list. list.0) result (nodes_at tokens.old) tokens.new }
 {
-    let nodes = nodes(alloc, tokens)?;
-    let mut names = Vec::with_capacity(alloc, nodes.len())?;
-    for node in nodes {
+    let list = nodes(alloc, tokens)?;
+    let mut names = Vec::with_capacity(alloc, list.names.len())?;
+    for node in list.names {
         names.push(node.name)?;
     }
-    Ok(Items::from_vec(names))
+    Ok((Items::from_vec(names), list.ended))
 }
 
 /// The node that sends a message, or none for the name that stands for no node.

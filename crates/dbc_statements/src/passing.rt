@@ -1,12 +1,12 @@
-//! Statements that are passed over.
+//! Statements that are skipped, of which only the first keyword is reported.
 ghost use Rattle.std.specs.Prelude.{◌≡◌, true};
 ghost use Rattle.catalogue.specs.Grammar as grammar;
 ghost use Rattle.catalogue.specs.Parsing.{independent_at, passed_comment_at, passed_value_texts_at, skipped_at};
 ghost use Rattle.catalogue.specs.Rules.{starts};
-ghost use Rattle.dbc_lex.specs.Seen.{seen};
+ghost use Rattle.dbc_lex.specs.Token.{token_of};
 ghost use Rattle.dbc_statements.specs.Reading.{Reads};
-ghost use Rattle.dbc_statements.specs.Said.{content_of};
-ghost use Rattle.dbc_statements.specs.Skipping.{Skips, is_behind};
+ghost use Rattle.dbc_statements.specs.Statement.{content_of};
+ghost use Rattle.dbc_statements.specs.Skipping.{Skips, begins_no_next};
 
 use crate::entries::is_open;
 use crate::fields::{any_name, independent_number, key, mark};
@@ -16,6 +16,7 @@ use crate::words::{is_key, key_of};
 use catalogue::Keyword;
 use dbc_lex::{ReadFault, Token};
 
+/// Skips all tokens before the next `;`.
 fn skip_open(tokens: &mut Tokens)
     ensures { Skips grammar.is_open tokens.old tokens.new }
 {
@@ -24,9 +25,9 @@ fn skip_open(tokens: &mut Tokens)
     }
 }
 
-/// All up to `;`, and that.
+/// All up to `;`, and that mark.
 #[tactic(auto, unfolding(catalogue::specs::Parsing::skipped_at))]
-pub(crate) fn skipped(tokens: &mut Tokens) -> Result<Content, ReadFault>
+pub(crate) fn skip_to_end(tokens: &mut Tokens) -> Result<Content, ReadFault>
     ensures { Reads content_of result (skipped_at tokens.old) tokens.new }
 {
     skip_open(tokens);
@@ -34,33 +35,34 @@ pub(crate) fn skipped(tokens: &mut Tokens) -> Result<Content, ReadFault>
     Ok(Content::PassedOver)
 }
 
-/// Behind `CM_`, where an environment variable is meant.
+/// The rest of a statement after `CM_`, where an environment variable is meant.
 #[tactic(auto, unfolding(catalogue::specs::Parsing::passed_comment_at))]
 pub(crate) fn passed_comment(tokens: &mut Tokens) -> Result<Content, ReadFault>
     ensures { Reads content_of result (passed_comment_at tokens.old) tokens.new }
 {
     key(tokens, Keyword::EnvironmentVariable)?;
-    skipped(tokens)
+    skip_to_end(tokens)
 }
 
-/// Behind `VAL_`, where an environment variable is meant.
+/// The rest of a statement after `VAL_`, where an environment variable is meant.
 #[tactic(auto, unfolding(catalogue::specs::Parsing::passed_value_texts_at))]
 pub(crate) fn passed_value_texts(tokens: &mut Tokens) -> Result<Content, ReadFault>
     ensures { Reads content_of result (passed_value_texts_at tokens.old) tokens.new }
 {
     any_name(tokens)?;
-    skipped(tokens)
+    skip_to_end(tokens)
 }
 
+/// Whether a statement other than this one begins with the token, at a keyword other than `SG_`.
 fn begins_next(token: &Token) -> bool
-    ensures { result ≡ grammar.begins_next (seen token.now) }
+    ensures { result ≡ grammar.begins_next (token_of token.now) }
 {
     key_of(token).is_some() && !is_key(token, Keyword::Signal)
 }
 
-/// Whether a token stands there with which no other statement begins.
+/// Whether a token comes next with which no other statement begins.
 fn goes_on(tokens: &Tokens) -> bool
-    ensures { result ≡ starts is_behind tokens.now }
+    ensures { result ≡ starts begins_no_next tokens.now }
 {
     match tokens.first() {
         Some(token) => !begins_next(&token),
@@ -68,21 +70,22 @@ fn goes_on(tokens: &Tokens) -> bool
     }
 }
 
-fn skip_behind(tokens: &mut Tokens)
-    ensures skips { Skips is_behind tokens.old tokens.new }
+/// Skips all up to the next statement, or to the end.
+fn skip_to_next(tokens: &mut Tokens)
+    ensures skips { Skips begins_no_next tokens.old tokens.new }
     ensures next { grammar.next tokens.new ≡ true }
 {
-    'behind: while goes_on(tokens) {
+    'others: while goes_on(tokens) {
         tokens.skip();
     }
 }
 
-/// Behind `BO_`, where the number is that of the message which holds the signals of no message.
+/// The rest of a statement after `BO_`, where the number is that of the message which holds the signals of no message.
 #[tactic(auto, unfolding(catalogue::specs::Parsing::independent_at))]
 pub(crate) fn independent(tokens: &mut Tokens) -> Result<Content, ReadFault>
     ensures { Reads content_of result (independent_at tokens.old) tokens.new }
 {
     independent_number(tokens)?;
-    skip_behind(tokens);
+    skip_to_next(tokens);
     Ok(Content::PassedOver)
 }

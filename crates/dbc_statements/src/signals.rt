@@ -5,19 +5,19 @@ ghost use Rattle.catalogue.specs.Parsing.{token_at, optional_at, mark_at, signal
 ghost use Rattle.catalogue.specs.Rules.{begins, starts};
 ghost use Rattle.catalogue.specs.declared.keyword.Keyword.TheVariants.{Signal};
 ghost use Rattle.dbc_statements.specs.Reading.{Reads, itself};
-ghost use Rattle.dbc_statements.specs.Said.{signal_of, signals_of};
+ghost use Rattle.dbc_statements.specs.Statement.{signal_of, signals_of};
 
 use crate::fields::{key, layout, made_name, mark, pair, text};
-use crate::names::receivers;
+use crate::names::{Ended, receivers};
 use crate::statement::SignalLine;
 use crate::tokens::Tokens;
 use crate::words::{is_key, is_numeral, is_word, mux_of};
 use bitlayout::Mux;
 use catalogue::Keyword;
-use dbc_lex::{ReadCode, ReadFault, Token};
+use dbc_lex::{ReadCode, ReadFault};
 use std::alloc::Global;
 
-/// A multiplexer indicator, where one stands there.
+/// A multiplexer indicator, where one comes next.
 #[tactic(auto, unfolding(catalogue::specs::Parsing::optional_at))]
 fn mux(tokens: &mut Tokens) -> Option<Mux>
     ensures { optional_at (begins fields.mux_of) (token_at fields.mux_of) tokens.old ≡ Some (result, tokens.new) }
@@ -27,7 +27,7 @@ fn mux(tokens: &mut Tokens) -> Option<Mux>
     Some(mux)
 }
 
-/// What is wrong with a word where a multiplexer indicator may stand: code 34 for one in several steps, `m`, digits and
+/// What is wrong with a word where a multiplexer indicator may come: code 34 for one in several steps, `m`, digits and
 /// `M`; 35 for a number above 4294967295; and else 32.
 fn mux_code(word: &[u8]) -> ReadCode {
     match word {
@@ -37,13 +37,13 @@ fn mux_code(word: &[u8]) -> ReadCode {
     }
 }
 
-/// The colon behind the name and the multiplexer indicator, where there was one (`marked`). Where there was none, a word
-/// in its place has the fault of an indicator.
-fn colon(tokens: &mut Tokens, marked: bool) -> Result<(), ReadFault>
+/// The colon after the name and the multiplexer indicator, where there was one (`is_marked`). Where there was none, a
+/// word in its place has the fault of an indicator.
+fn colon(tokens: &mut Tokens, is_marked: bool) -> Result<(), ReadFault>
     ensures { Reads itself result (mark_at (codes ":") tokens.old) tokens.new }
 {
     match tokens.first() {
-        Some(token) if !marked && is_word(&token) => Err(ReadFault {
+        Some(token) if !is_marked && is_word(&token) => Err(ReadFault {
             code: mux_code(token.text),
             at: token.start,
         }),
@@ -51,23 +51,23 @@ fn colon(tokens: &mut Tokens, marked: bool) -> Result<(), ReadFault>
     }
 }
 
-/// `SG_` and what stands behind it.
+/// A signal from `SG_` on, and how its list of receivers ends.
 #[tactic(auto, unfolding(catalogue::specs::Parsing::signal_at))]
-fn signal(alloc: Global, tokens: &mut Tokens) -> Result<SignalLine, ReadFault>
-    ensures { Reads signal_of result (signal_at tokens.old) tokens.new }
+fn signal(alloc: Global, tokens: &mut Tokens) -> Result<(SignalLine, Ended), ReadFault>
+    ensures { Reads (λ line. signal_of line.0) result (signal_at tokens.old) tokens.new }
 {
     key(tokens, Keyword::Signal)?;
-    let at = tokens.place();
+    let at = tokens.offset();
     let name = made_name(alloc, tokens)?;
-    let mux_at = tokens.place();
+    let mux_at = tokens.offset();
     let mux = mux(tokens);
     colon(tokens, mux.is_some())?;
     let (layout, signed) = layout(tokens)?;
     let (factor, offset) = pair(tokens, b'(', b',', b')')?;
     let (minimum, maximum) = pair(tokens, b'[', b'|', b']')?;
     let unit = text(alloc, tokens)?;
-    let receivers = receivers(alloc, tokens)?;
-    Ok(SignalLine {
+    let (receivers, ended) = receivers(alloc, tokens)?;
+    let line = SignalLine {
         at,
         mux_at,
         name,
@@ -80,10 +80,11 @@ fn signal(alloc: Global, tokens: &mut Tokens) -> Result<SignalLine, ReadFault>
         maximum,
         unit,
         receivers,
-    })
+    };
+    Ok((line, ended))
 }
 
-/// Whether a signal stands there.
+/// Whether a signal comes next.
 fn is_signal(tokens: &Tokens) -> bool
     ensures { result ≡ starts (fields.is_key Signal) tokens.now }
 {
@@ -93,14 +94,19 @@ fn is_signal(tokens: &Tokens) -> bool
     }
 }
 
-/// Signals, up to something else.
-pub(crate) fn signals(alloc: Global, tokens: &mut Tokens) -> Result<Vec<SignalLine>, ReadFault>
-    ensures { Reads (λ signals. signals_of signals.items) result (signals_at tokens.old) tokens.new }
+/// Signals, up to something else, and how the last one ends.
+pub(crate) fn signals(
+    alloc: Global,
+    tokens: &mut Tokens,
+) -> Result<(Vec<SignalLine>, Ended), ReadFault>
+    ensures { Reads (λ lines. signals_of lines.0.items) result (signals_at tokens.old) tokens.new }
 {
     let mut signals = Vec::new(alloc);
+    let mut ended = Ended::Other;
     'signals: while is_signal(tokens) {
-        let next = signal(alloc, tokens)?;
+        let (next, end) = signal(alloc, tokens)?;
+        ended = end;
         signals.push(next)?;
     }
-    Ok(signals)
+    Ok((signals, ended))
 }

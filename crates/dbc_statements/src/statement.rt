@@ -1,30 +1,32 @@
-//! What the statements of a DBC text say, as they stand in it.
-use bitlayout::{Layout, Mux};
-use catalogue::{Items, Keyword, Name, PayloadLength, Spn, Text, ValueText, ValueType};
-use decimal::Decimal;
+//! What the statements of a DBC text say, with the offsets of what a fault may be about.
+ghost use Rattle.std.specs.Prelude.{◌≡◌, ◌≤◌, [], length, SomeIff};
+ghost use Rattle.catalogue.specs.Limits.{value_text_limit};
+ghost use Rattle.dbc_statements.specs.Parts.{message_with, signal_with, table_of};
+ghost use Rattle.dbc_statements.specs.Statement.{message_of, signal_of};
 
-/// A node of a list, and where its name stands.
+use crate::entries::Entries;
+use bitlayout::{Layout, Mux};
+use can_id::Ident;
+use catalogue::{
+    Items, Keyword, Message, Name, PayloadLength, Signal, Signals, Spn, Text, ValueTable,
+    ValueTexts, ValueType,
+};
+use decimal::Decimal;
+use std::alloc::Global;
+
+/// A node of a list, and where its name is.
 #[derive(Debug, Drop)]
 pub struct NodeName {
-    /// The place of its first byte.
+    /// The offset of its name.
     pub at: usize,
     /// The name.
     pub name: Name,
 }
 
-/// Values and their texts, in order.
-#[derive(Debug, Drop)]
-pub struct Entries {
-    /// The values with their texts, any number of them.
-    pub entries: Vec<ValueText>,
-    /// The place of the first entry above the limit of 65,536, where there is one, and else 0.
-    pub above: usize,
-}
-
 /// A value table as its statement has it.
-#[derive(Debug, Drop)]
+#[derive(Debug)]
 pub struct TableLine {
-    /// The place of its name.
+    /// The offset of its name.
     pub at: usize,
     /// Its name.
     pub name: Name,
@@ -32,12 +34,27 @@ pub struct TableLine {
     pub entries: Entries,
 }
 
+impl TableLine {
+    /// The value table, or `None` where it has more than 65,536 entries. Takes no memory.
+    pub fn into_table(self) -> Option<ValueTable>
+        ensures { SomeIff result (length self.entries ≤ value_text_limit) (table_of self) }
+    {
+        let TableLine {
+            at: _at,
+            name,
+            entries,
+        } = self;
+        let entries = entries.into_texts()?;
+        Some(ValueTable { name, entries })
+    }
+}
+
 /// A signal as the statement of its message has it.
-#[derive(Debug, Drop)]
+#[derive(Debug)]
 pub struct SignalLine {
-    /// The place of its name.
+    /// The offset of its name.
     pub at: usize,
-    /// The place of its multiplexer indicator, or of what stands there in its place.
+    /// The offset of its multiplexer indicator, or of what comes in its place.
     pub mux_at: usize,
     /// Its name.
     pub name: Name,
@@ -57,19 +74,63 @@ pub struct SignalLine {
     pub maximum: Decimal,
     /// Its unit.
     pub unit: Text,
-    /// The nodes that receive it, those that stand for none left out.
+    /// The nodes that receive it, without those that stand for none.
     pub receivers: Items<Name>,
 }
 
+impl SignalLine {
+    /// The signal, with what other statements say of it. Takes no memory.
+    pub fn into_signal(
+        self,
+        comment: Text,
+        spn: Spn,
+        values: ValueTexts,
+        value_type: ValueType,
+    ) -> Signal
+        ensures { result ≡ signal_with (signal_of self) comment spn values value_type }
+    {
+        let SignalLine {
+            at: _at,
+            mux_at: _mux_at,
+            name,
+            layout,
+            signed,
+            mux,
+            factor,
+            offset,
+            minimum,
+            maximum,
+            unit,
+            receivers,
+        } = self;
+        Signal {
+            name,
+            layout,
+            signed,
+            mux,
+            factor,
+            offset,
+            minimum,
+            maximum,
+            unit,
+            receivers,
+            comment,
+            spn,
+            values,
+            value_type,
+        }
+    }
+}
+
 /// A message as its statement has it.
-#[derive(Debug, Drop)]
+#[derive(Debug)]
 pub struct MessageLine {
-    /// The place of its number.
+    /// The offset of its number.
     pub at: usize,
-    /// The place of its name.
+    /// The offset of its name.
     pub name_at: usize,
-    /// Its DBC number, which is that of an identifier.
-    pub number: u32,
+    /// Its identifier.
+    pub ident: Ident,
     /// Its name.
     pub name: Name,
     /// Its length in bytes, 0 to 64.
@@ -78,6 +139,33 @@ pub struct MessageLine {
     pub transmitter: Option<Name>,
     /// Its signals, in order, any number of them.
     pub signals: Vec<SignalLine>,
+}
+
+impl MessageLine {
+    /// The message with a comment and no signals, and its signals' lines. Takes no memory.
+    pub fn into_message(self, alloc: Global, comment: Text) -> (Message, Vec<SignalLine>)
+        ensures message { result.0 ≡ message_with (message_of self) comment [] }
+        ensures signals { result.1.items ≡ self.signals.items }
+    {
+        let MessageLine {
+            at: _at,
+            name_at: _name_at,
+            ident,
+            name,
+            length,
+            transmitter,
+            signals,
+        } = self;
+        let message = Message {
+            ident,
+            name,
+            length,
+            transmitter,
+            comment,
+            signals: Signals::new(alloc),
+        };
+        (message, signals)
+    }
 }
 
 /// The signal that a statement cites.
@@ -94,7 +182,7 @@ pub struct CitedSignal {
 pub enum Content {
     /// `VERSION`: the version.
     Version(Text),
-    /// `BU_`: the nodes, those that stand for none left out.
+    /// `BU_`: the nodes, without those that stand for none.
     Nodes(Vec<NodeName>),
     /// `VAL_TABLE_`.
     Table(TableLine),
@@ -116,17 +204,84 @@ pub enum Content {
     Spn(CitedSignal, Spn),
     /// `NS_` and `BS_`, of which nothing is kept and nothing reported.
     Dropped,
-    /// Passed over and reported.
+    /// Skipped and reported.
     PassedOver,
 }
 
 /// One statement.
-#[derive(Debug, Drop)]
+#[derive(Debug)]
 pub struct Statement {
-    /// The place of its first keyword.
+    /// The offset of its first keyword.
     pub start: usize,
     /// That keyword.
     pub keyword: Keyword,
     /// What it says.
     pub content: Content,
+}
+
+impl Statement {
+    /// The offset of its first keyword, that keyword, and what it says.
+    pub fn into_parts(self) -> (usize, Keyword, Content)
+        ensures { result ≡ (self.start, self.keyword, self.content) }
+    {
+        let Statement {
+            start,
+            keyword,
+            content,
+        } = self;
+        (start, keyword, content)
+    }
+}
+
+impl Drop for TableLine {
+    fn drop(self) {
+        let TableLine {
+            at: _at,
+            name: _name,
+            entries: _entries,
+        } = self;
+    }
+}
+
+impl Drop for SignalLine {
+    fn drop(self) {
+        let SignalLine {
+            at: _at,
+            mux_at: _mux_at,
+            name: _name,
+            layout: _layout,
+            signed: _signed,
+            mux: _mux,
+            factor: _factor,
+            offset: _offset,
+            minimum: _minimum,
+            maximum: _maximum,
+            unit: _unit,
+            receivers: _receivers,
+        } = self;
+    }
+}
+
+impl Drop for MessageLine {
+    fn drop(self) {
+        let MessageLine {
+            at: _at,
+            name_at: _name_at,
+            ident: _ident,
+            name: _name,
+            length: _length,
+            transmitter: _transmitter,
+            signals: _signals,
+        } = self;
+    }
+}
+
+impl Drop for Statement {
+    fn drop(self) {
+        let Statement {
+            start: _start,
+            keyword: _keyword,
+            content: _content,
+        } = self;
+    }
 }

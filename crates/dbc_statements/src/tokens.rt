@@ -1,22 +1,13 @@
-//! The tokens of a text up to its end, or up to the first place where none begins, one after the other and with the next
+//! The tokens of a text up to its end, or up to the first offset where none begins, one after the other and with the next
 //! one in sight.
-ghost use Rattle.std.specs.Prelude.{◌≡◌, IfOk, IfErr, None, drop};
+ghost use Rattle.std.specs.Prelude.{◌≡◌, [], ◌∷◌, IfErr, IfOk, None, OnErr, OnOk, Some, drop};
 ghost use Rattle.catalogue.specs.Lexing.{lexed};
-ghost use Rattle.dbc_statements.specs.Left.{IsFirst, IsSpelled, IsSecond, IsReached, EndsWith};
+ghost use Rattle.catalogue.specs.Spelling.{Spells};
+ghost use Rattle.dbc_lex.specs.Token.{token_of};
+ghost use Rattle.dbc_statements.specs.Tokens.{EndsWith, IsFirst, IsReached, IsSecond, IsSpelled};
 
 use dbc_lex::{Lexer, ReadCode, ReadFault, Token};
 use std::marker::Model;
-
-/// What was read last, as far as a fault wants to know.
-#[derive(Clone, Copy)]
-pub(crate) enum Behind {
-    /// The last name of a list.
-    Names,
-    /// A list without names.
-    NoNames,
-    /// Anything else.
-    Other,
-}
 
 /// The tokens that are left. Contracts see their list.
 #[derive(Drop)]
@@ -24,45 +15,34 @@ pub(crate) struct Tokens<'a> {
     next: Option<Token<'a>>,
     lexer: Lexer<'a>,
     end: usize,
-    behind: Behind,
 }
 
 impl<'a> Model for Tokens<'a> {
-    ghost use Rattle.std.specs.Prelude.{◌≡◌, List, None};
+    ghost use Rattle.std.specs.Prelude.{List};
     ghost use Rattle.catalogue.specs.Token.{Token};
-    ghost use Rattle.dbc_statements.specs.Left.{left, AreLeft};
+    ghost use Rattle.dbc_statements.specs.Tokens.{AreTokens, tokens_from};
 
     ghost Value = { List Token };
 
-    ghost view = { λ t. left t.next t.lexer };
+    ghost view = { λ t. tokens_from t.next t.lexer };
 
-    ghost invariant = { λ t. AreLeft t.next t.lexer };
+    ghost invariant = { λ t. AreTokens t.next t.lexer };
 }
 
-/// The fault of the text where it has one, at the first place where no token begins. The place that is given is one that
-/// its tokens reach, so what stands before it is not read again.
-pub(crate) fn fault_behind(source: &[u8], place: usize) -> Result<(), ReadFault>
-    requires { IsReached (lexed 0 source.now).tokens place }
+/// The fault of the text where it has one, at the first offset where no token begins. The given offset is one that its
+/// tokens reach, so what comes before it is not read again.
+pub(crate) fn fault_after(source: &[u8], offset: usize) -> Result<(), ReadFault>
+    requires { IsReached (lexed 0 source.now).tokens offset }
     ensures ok { IfOk result (λ u. (lexed 0 source.now).fault ≡ None) }
     ensures err { IfErr result (λ fault. EndsWith (lexed 0 source.now) fault) }
 {
-    let mut lexer = Lexer::at(source, place);
+    let mut lexer = Lexer::at(source, offset);
     'tokens: loop {
         match lexer.next_token() {
             Ok(Some(_)) => {}
             Ok(None) => return Ok(()),
             Err(fault) => return Err(fault),
         }
-    }
-}
-
-/// Where the first of the tokens ends, 0 where there is none.
-pub(crate) fn end_of_first(tokens: &Tokens) -> usize
-    ensures { IsReached tokens.now result }
-{
-    match tokens.first() {
-        Some(token) => token.end,
-        None => 0,
     }
 }
 
@@ -80,7 +60,6 @@ impl<'a> Tokens<'a> {
             next,
             lexer,
             end: source.len(),
-            behind: Behind::Other,
         }
     }
 
@@ -92,7 +71,19 @@ impl<'a> Tokens<'a> {
         self.next
     }
 
-    /// The one behind the first.
+    /// The first of them, or the fault of an end too early.
+    pub(crate) fn front(&self) -> Result<Token<'a>, ReadFault>
+        ensures first { IfOk result (λ t. self.now ≡ token_of t ∷ drop 1 self.now) }
+        ensures spelled { IfOk result (λ t. Spells t.kind t.text.now) }
+        ensures none { OnErr result (self.now ≡ []) }
+    {
+        match self.first() {
+            Some(token) => Ok(token),
+            None => Err(self.unexpected()),
+        }
+    }
+
+    /// The one after the first.
     pub(crate) fn second(&self) -> Option<Token<'a>>
         ensures { IsSecond self.now result }
     {
@@ -102,49 +93,51 @@ impl<'a> Tokens<'a> {
         }
     }
 
-    /// Leaves the first of them behind.
+    /// Takes the first of them away.
     #[inline(never)]
     pub(crate) fn skip(&mut self)
         ensures { self.new ≡ drop 1 self.old }
     {
-        self.behind = Behind::Other;
         self.next = match self.lexer.next_token() {
             Ok(next) => next,
             Err(_) => None,
         };
     }
 
-    /// Where the first of them stands, or the end of the text.
-    pub(crate) fn place(&self) -> usize {
+    /// The value of the first of them, which is then taken away; or this fault where it has none.
+    pub(crate) fn accept<T>(&mut self, value: Option<T>, fault: ReadFault) -> Result<T, ReadFault>
+        ensures ok { IfOk result (λ v. value ≡ Some v) }
+        ensures rest { OnOk result (self.new ≡ drop 1 self.old) }
+        ensures none { IfErr result (λ e. (value ≡ None) × (e ≡ fault)) }
+    {
+        match value {
+            Some(value) => {
+                self.skip();
+                Ok(value)
+            }
+            None => Err(fault),
+        }
+    }
+
+    /// The offset of the first of them, or of the end of the text.
+    pub(crate) fn offset(&self) -> usize {
         match self.first() {
             Some(token) => token.start,
             None => self.end,
         }
     }
 
-    /// The fault of a token that can't stand there, or of an end too early.
+    /// The fault of a token that can't come here, or of an end too early.
     pub(crate) fn unexpected(&self) -> ReadFault {
         ReadFault {
             code: ReadCode::Unexpected,
-            at: self.place(),
+            at: self.offset(),
         }
-    }
-
-    /// What was read last.
-    pub(crate) fn behind(&self) -> Behind {
-        self.behind
     }
 
     /// Where the text ends.
     pub(crate) fn end(&self) -> usize {
         self.end
-    }
-
-    /// Says what was read last, until more is read.
-    pub(crate) fn set_behind(&mut self, behind: Behind)
-        ensures { self.new ≡ self.old }
-    {
-        self.behind = behind;
     }
 
     /// The same tokens once more.
@@ -155,7 +148,6 @@ impl<'a> Tokens<'a> {
             next: self.next,
             lexer: self.lexer.fork(),
             end: self.end,
-            behind: self.behind,
         }
     }
 }

@@ -1,58 +1,61 @@
 //! What single tokens say.
-ghost use Rattle.std.specs.Prelude.{◌≡◌, [], ◌∷◌, ◌&&◌, is_some, nat_lt};
+ghost use Rattle.std.specs.Prelude.{◌≡◌, [], ◌∷◌, ◌&&◌, IfOk, is_some, nat_lt};
+ghost use Rattle.std.specs.Char.{digit_value};
 ghost use Rattle.std.specs.List.{list_all};
 ghost use Rattle.std.specs.Str.{bytes_eq};
-ghost use Rattle.std.specs.Char.{digit_value};
 ghost use Rattle.catalogue.specs.Fields as fields;
+ghost use Rattle.catalogue.specs.Grammar as grammar;
 ghost use Rattle.catalogue.specs.Inside.{inside_of};
 ghost use Rattle.catalogue.specs.Name.{no_node};
+ghost use Rattle.catalogue.specs.Spelling.{Spells};
 ghost use Rattle.catalogue.specs.WholeNumber.{is_numeral};
-ghost use Rattle.dbc_lex.specs.Seen.{seen};
 ghost use Rattle.catalogue.specs.declared.token.TokenKind.TheVariants.{Name, Number, Text, Mark};
+ghost use Rattle.dbc_lex.specs.Token.{token_of};
 
-use bitlayout::{Mux, Order};
-use catalogue::{Keyword, NO_NODE, TokenKind, is_name, whole_number};
+use bitlayout::{Mux, Order, Size};
+use can_id::Ident;
+use catalogue::{Keyword, NO_NODE, Spn, TokenKind, is_name, mux_of_indicator, whole_number};
 use dbc_lex::Token;
 use decimal::Decimal;
 
 /// Whether the token is a text.
 pub(crate) fn is_text(token: &Token) -> bool
-    ensures { result ≡ fields.is_a Text (seen token.now) }
+    ensures { result ≡ fields.is_a Text (token_of token.now) }
 {
     matches!(token.kind, TokenKind::Text)
 }
 
 /// Whether the token is a name of any kind, a keyword too.
 pub(crate) fn is_word(token: &Token) -> bool
-    ensures { result ≡ fields.is_a Name (seen token.now) }
+    ensures { result ≡ fields.is_a Name (token_of token.now) }
 {
     matches!(token.kind, TokenKind::Name)
 }
 
 /// Whether the token is a number of any spelling.
 pub(crate) fn is_number(token: &Token) -> bool
-    ensures { result ≡ fields.is_a Number (seen token.now) }
+    ensures { result ≡ fields.is_a Number (token_of token.now) }
 {
     matches!(token.kind, TokenKind::Number)
 }
 
 /// Whether the token is this mark.
 pub(crate) fn is_mark(token: &Token, mark: u8) -> bool
-    ensures { result ≡ fields.is_mark (mark ∷ []) (seen token.now) }
+    ensures { result ≡ fields.is_mark (mark ∷ []) (token_of token.now) }
 {
     matches!(token.kind, TokenKind::Mark) && token.text == [mark].as_slice()
 }
 
 /// Whether the token is this keyword.
 pub(crate) fn is_key(token: &Token, keyword: Keyword) -> bool
-    ensures { result ≡ fields.is_key keyword (seen token.now) }
+    ensures { result ≡ fields.is_key keyword (token_of token.now) }
 {
     is_word(token) && token.text == keyword.text().as_bytes()
 }
 
 /// The keyword that the token is.
 pub(crate) fn key_of(token: &Token) -> Option<Keyword>
-    ensures { result ≡ fields.key_of (seen token.now) }
+    ensures { result ≡ fields.key_of (token_of token.now) }
 {
     if is_word(token) {
         Keyword::of(token.text)
@@ -61,7 +64,7 @@ pub(crate) fn key_of(token: &Token) -> Option<Keyword>
     }
 }
 
-/// What stands between the quotes of a text.
+/// The bytes between the quotes of a text.
 pub(crate) fn inside<'a>(text: &'a [u8]) -> &'a [u8]
     ensures { result.now ≡ inside_of text.now }
 {
@@ -73,21 +76,21 @@ pub(crate) fn inside<'a>(text: &'a [u8]) -> &'a [u8]
 
 /// Whether the token is the name that stands for no node.
 pub(crate) fn is_no_node(token: &Token) -> bool
-    ensures { result ≡ (fields.is_a Name (seen token.now) && bytes_eq (seen token.now).text no_node) }
+    ensures { result ≡ (fields.is_a Name (token_of token.now) && bytes_eq (token_of token.now).text no_node) }
 {
     is_word(token) && token.text == NO_NODE
 }
 
 /// Whether the token is a name of a list: of a node, or the one that stands for none.
 pub(crate) fn is_node(token: &Token) -> bool
-    ensures { result ≡ is_some (fields.node_of (seen token.now)) }
+    ensures { result ≡ is_some (fields.node_of (token_of token.now)) }
 {
     is_word(token) && (token.text == NO_NODE || is_name(token.text))
 }
 
 /// A whole number up to 4294967295.
 pub(crate) fn whole(token: &Token) -> Option<u32>
-    ensures { result ≡ fields.whole (seen token.now) }
+    ensures { result ≡ fields.whole (token_of token.now) }
 {
     if is_number(token) {
         whole_number(token.text)
@@ -96,9 +99,73 @@ pub(crate) fn whole(token: &Token) -> Option<u32>
     }
 }
 
+/// A whole number that only cites a message: none where it is above 4294967295.
+pub(crate) fn cited_number_of(token: &Token) -> Option<Option<u32>>
+    ensures { result ≡ fields.cited_number (token_of token.now) }
+{
+    if is_number(token) && is_numeral(token.text) {
+        Some(whole_number(token.text))
+    } else {
+        None
+    }
+}
+
+/// The identifier that DBC files write as the number.
+fn ident_of(number: u32) -> Option<Ident>
+    ensures { result ≡ fields.ident_of number }
+{
+    Ident::from_dbc(number).ok()
+}
+
+/// The identifier of a message.
+pub(crate) fn message_ident_of(token: &Token) -> Option<Ident>
+    ensures { result ≡ fields.message_ident (token_of token.now) }
+{
+    ident_of(whole(token)?)
+}
+
+/// The number of the message that holds the signals of no message.
+const INDEPENDENT: u32 = 3_221_225_472;
+
+/// The number of the message that holds the signals of no message.
+pub(crate) fn independent_number_of(token: &Token) -> Option<u32>
+    ensures { result ≡ fields.independent_number (token_of token.now) }
+{
+    let number = whole(token)?;
+    if number == INDEPENDENT {
+        Some(number)
+    } else {
+        None
+    }
+}
+
+/// The start bit of a signal.
+pub(crate) fn start_of(token: &Token) -> Option<u16>
+    ensures { result ≡ fields.start_of (token_of token.now) }
+{
+    let start = whole(token)?;
+    if start <= 65_535 {
+        Some(start as u16)
+    } else {
+        None
+    }
+}
+
+/// The size of a signal.
+pub(crate) fn size_of(token: &Token) -> Option<Size>
+    ensures { result ≡ fields.size_of (token_of token.now) }
+{
+    let size = whole(token)?;
+    if size <= 64 {
+        Size::new(size as u8)
+    } else {
+        None
+    }
+}
+
 /// Whether a sign is a minus.
 pub(crate) fn sign_of(token: &Token) -> Option<bool>
-    ensures { result ≡ fields.sign_of (seen token.now) }
+    ensures { result ≡ fields.sign_of (token_of token.now) }
 {
     if is_mark(token, b'+') {
         Some(false)
@@ -111,18 +178,14 @@ pub(crate) fn sign_of(token: &Token) -> Option<bool>
 
 /// The byte order of a number.
 pub(crate) fn order_of(token: &Token) -> Option<Order>
-    ensures { result ≡ fields.order_of (seen token.now) }
+    ensures { result ≡ fields.order_of (token_of token.now) }
 {
-    match whole(token)? {
-        0 => Some(Order::Motorola),
-        1 => Some(Order::Intel),
-        _ => None,
-    }
+    Order::from_number(whole(token)?)
 }
 
 /// The decimal of a number, negated or not.
 pub(crate) fn number_of(negative: bool, token: &Token) -> Option<Decimal>
-    ensures { result ≡ fields.number_of negative (seen token.now) }
+    ensures { result ≡ fields.number_of negative (token_of token.now) }
 {
     if is_number(token) {
         Decimal::read(negative, token.text).ok()
@@ -133,16 +196,27 @@ pub(crate) fn number_of(negative: bool, token: &Token) -> Option<Decimal>
 
 /// A multiplexer indicator: `M`, or `m` and digits.
 pub(crate) fn mux_of(token: &Token) -> Option<Mux>
-    ensures { result ≡ fields.mux_of (seen token.now) }
+    ensures { result ≡ fields.mux_of (token_of token.now) }
 {
-    if !is_word(token) {
-        return None;
+    if is_word(token) {
+        mux_of_indicator(token.text)
+    } else {
+        None
     }
-    match token.text {
-        b"M" => Some(Mux::Multiplexor),
-        [b'm', digits @ ..] => whole_number(digits).map(|number| Mux::Under(number)),
-        _ => None,
-    }
+}
+
+/// Whether the token is the name of the attribute with suspect parameter numbers.
+pub(crate) fn is_spn_name(token: &Token) -> bool
+    ensures { result ≡ grammar.is_spn_name (token_of token.now) }
+{
+    is_text(token) && inside(token.text) == b"SPN".as_slice()
+}
+
+/// A suspect parameter number.
+pub(crate) fn spn_of(token: &Token) -> Option<Spn>
+    ensures { result ≡ grammar.spn_of (token_of token.now) }
+{
+    Spn::new(whole(token)?)
 }
 
 fn are_digits(bytes: &[u8]) -> bool

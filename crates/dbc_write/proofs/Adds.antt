@@ -8,7 +8,7 @@ use Rattle.catalogue.specs.declared.token.TokenKind.TheVariants as kind
 use Rattle.decimal.specs.Number.{Number}
 use Rattle.decimal.specs.Printing.{text_of, unsigned_text}
 use Rattle.std.specs.Int.{is_negative}
-use Rattle.std.specs.Prelude.{unsigned_abs}
+use Rattle.std.specs.Prelude.{codes, unsigned_abs}
 use Rattle.dbc_write.specs.Adding.{Adds, piece_text}
 
 pub none : {X : Type 0} (f : X → List ℕ) (a : List ℕ) → Adds f a a []
@@ -36,9 +36,9 @@ pub one_more : {X Y : Type 0} {f : X → List ℕ} {a b c : List ℕ} (g : Y →
 one_more {X} {Y} {f} {a} {b} {c} g ys i y h is before here =
     rw (take_more ys i y h, map-append g (take i ys) (get_or ys i y ∷ []), sym is) (also before here)
 
--- digits behind a minus, where there is one
+-- digits after a minus, where there is one
 signed : (gap digits : List ℕ) (negative : Bool)
-    → flat_map piece_text (if negative then mark gap 45 ∷ record { gap = tight; kind = kind.Number; text = digits } ∷ []
+    → flat_map piece_text (if negative then mark gap (codes "-") ∷ record { gap = tight; kind = kind.Number; text = digits } ∷ []
     else record { gap = gap; kind = kind.Number; text = digits } ∷ [])
     ≡ gap ++ ((if negative then 45 ∷ [] else []) ++ digits)
 signed gap digits true = append_assoc gap (45 ∷ []) (digits ++ []) ∙ ap (λ v. gap ++ 45 ∷ v) (append-nil digits)

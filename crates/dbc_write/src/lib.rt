@@ -6,8 +6,8 @@
 //! `specs/Adding.antt`), and so the functions join as the lists of the definition do: tokens to lines (`tokens`),
 //! lines to sections (`heading`, `entries`, `messages`, `comments`, `sections`), and these to the text.
 //!
-//! It fails only for want of memory. No sheet is refused, and none needs to be clear: what a sheet says is written, and
-//! by the grammar law (`dbc_law`) the text reads as this sheet and as no other.
+//! It fails only where memory runs out. No sheet is refused, and none needs to be clear: all that a sheet holds is
+//! written, and by the grammar law (`dbc_law`) the text reads as this sheet and as no other.
 #![tactic(auto)]
 
 mod comments;

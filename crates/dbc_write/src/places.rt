@@ -20,7 +20,7 @@ pub(crate) fn place(
     Ok(())
 }
 
-/// The same behind the word that says that it is a signal.
+/// The same after the word that says that it is a signal.
 pub(crate) fn of_signal(
     text: &mut Vec<u8>,
     message: &Message,

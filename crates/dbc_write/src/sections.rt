@@ -1,15 +1,15 @@
-//! What stands behind the comments: suspect parameter numbers, texts of values, and value types, each for signal after
+//! What comes after the comments: suspect parameter numbers, texts of values, and value types, each for signal after
 //! signal.
-ghost use Rattle.std.specs.Prelude.{◌≡◌, OnOk};
+ghost use Rattle.std.specs.Prelude.{◌≡◌, ◌∷◌, [], OnOk};
 ghost use Rattle.std.specs.List.{flat_map};
-ghost use Rattle.catalogue.specs.Canon.{defined, each_signal, line_text, spn_definitions, spn_lines, type_lines, value_lines};
+ghost use Rattle.catalogue.specs.Canon.{defined, each_signal, line_text, spn_default, spn_definition, spn_lines, type_lines, value_lines};
 ghost use Rattle.dbc_write.specs.Adding.{Adds};
 ghost use Rattle.dbc_write.specs.Sections.{has_spn, message_has_spn, section_lines};
 
 use crate::entries::entries;
 use crate::places;
-use crate::tokens::{quoted, spaced_mark, spaced_number, tight_mark, tight_word};
-use catalogue::{Message, Sheet, Signal};
+use crate::tokens::{quoted, spaced_mark, spaced_number, spaced_word, tight_mark, tight_word};
+use catalogue::{Message, SPN_LIMIT, Sheet, Signal};
 use std::alloc::AllocError;
 
 /// What a line of a section says of its signal.
@@ -122,21 +122,40 @@ fn has_spn(sheet: &Sheet) -> bool
         .any(|message| message_has_spn(message))
 }
 
-fn definitions(text: &mut Vec<u8>) -> Result<(), AllocError>
-    ensures { OnOk result (Adds line_text text.old.items text.new.items spn_definitions) }
+fn definition(text: &mut Vec<u8>) -> Result<(), AllocError>
+    ensures { OnOk result (Adds line_text text.old.items text.new.items (spn_definition ∷ [])) }
 {
-    text.extend_from_slice(b"BA_DEF_ SG_ \"SPN\" INT 0 524287;\nBA_DEF_DEF_ \"SPN\" 0;\n")?;
+    tight_word(text, b"BA_DEF_")?;
+    spaced_word(text, b"SG_")?;
+    quoted(text, b"SPN")?;
+    spaced_word(text, b"INT")?;
+    spaced_number(text, 0)?;
+    spaced_number(text, SPN_LIMIT)?;
+    tight_mark(text, b';')?;
+    text.push(b'\n')?;
     Ok(())
 }
 
-/// The suspect parameter numbers, behind their definition where there is any.
+fn default_value(text: &mut Vec<u8>) -> Result<(), AllocError>
+    ensures { OnOk result (Adds line_text text.old.items text.new.items (spn_default ∷ [])) }
+{
+    tight_word(text, b"BA_DEF_DEF_")?;
+    quoted(text, b"SPN")?;
+    spaced_number(text, 0)?;
+    tight_mark(text, b';')?;
+    text.push(b'\n')?;
+    Ok(())
+}
+
+/// The suspect parameter numbers, after their definition where there is any.
 pub(crate) fn spns(text: &mut Vec<u8>, sheet: &Sheet) -> Result<(), AllocError>
     ensures { OnOk result (Adds line_text text.old.items text.new.items (defined (each_signal spn_lines sheet.now))) }
 {
     if !has_spn(sheet) {
         return Ok(());
     }
-    definitions(text)?;
+    definition(text)?;
+    default_value(text)?;
     lines(text, Section::Spns, sheet)?;
     Ok(())
 }

@@ -1,38 +1,23 @@
 //! The line of a signal.
 ghost use Rattle.std.specs.Prelude.{◌≡◌, ◌∷◌, [], OnOk};
-ghost use Rattle.catalogue.specs.Canon.{layout_pieces, line_text, mux_pieces, order_number, pair, receiver_pieces, signal_line};
+ghost use Rattle.catalogue.specs.Canon.{layout_pieces, line_text, mux_pieces, pair, receiver_pieces, signal_line};
 ghost use Rattle.dbc_write.specs.Adding.{Adds, piece_text};
 
 use crate::tokens::{
     quoted, spaced_mark, spaced_number, spaced_word, tight_mark, tight_number, tight_value,
     tight_word,
 };
-use bitlayout::{Mux, Order};
+use bitlayout::Mux;
 use catalogue::{NO_NODE, Name, Signal};
 use decimal::Decimal;
-use itoa::Buffer;
 use std::alloc::AllocError;
 
 fn mux_mark(text: &mut Vec<u8>, mux: Mux) -> Result<(), AllocError>
     ensures { OnOk result (Adds piece_text text.old.items text.new.items (mux_pieces mux)) }
 {
     match mux {
-        Mux::Always => {}
-        Mux::Multiplexor => spaced_word(text, b"M")?,
-        Mux::Under(value) => {
-            text.extend_from_slice(b" m")?;
-            text.extend_from_slice(Buffer::new().format(value).as_bytes())?;
-        }
-    }
-    Ok(())
-}
-
-fn order_number(order: Order) -> u32
-    ensures { result ≡ order_number order }
-{
-    match order {
-        Order::Intel => 1,
-        Order::Motorola => 0,
+        Mux::Always => Ok(()),
+        _ => spaced_word(text, mux.indicator().as_bytes()),
     }
 }
 
@@ -43,12 +28,12 @@ fn layout(text: &mut Vec<u8>, signal: &Signal) -> Result<(), AllocError>
     tight_mark(text, b'|')?;
     tight_number(text, u32::from(signal.layout.size.bits()))?;
     tight_mark(text, b'@')?;
-    tight_number(text, order_number(signal.layout.order))?;
+    tight_number(text, u32::from(signal.layout.order.number()))?;
     tight_mark(text, if signal.signed { b'-' } else { b'+' })?;
     Ok(())
 }
 
-// Two decimals between brackets.
+/// Two decimals between brackets.
 fn pair(
     text: &mut Vec<u8>,
     left: u8,
@@ -57,7 +42,7 @@ fn pair(
     first: &Decimal,
     second: &Decimal,
 ) -> Result<(), AllocError>
-    ensures { OnOk result (Adds piece_text text.old.items text.new.items (pair left between right first.now second.now)) }
+    ensures { OnOk result (Adds piece_text text.old.items text.new.items (pair (left ∷ []) (between ∷ []) (right ∷ []) first.now second.now)) }
 {
     spaced_mark(text, left)?;
     tight_value(text, first)?;
@@ -81,7 +66,7 @@ fn receivers(text: &mut Vec<u8>, names: &[Name]) -> Result<(), AllocError>
     Ok(())
 }
 
-/// The line of a signal, behind that of its message.
+/// The line of a signal, after that of its message.
 pub(crate) fn signal_line(text: &mut Vec<u8>, signal: &Signal) -> Result<(), AllocError>
     ensures { OnOk result (Adds line_text text.old.items text.new.items (signal_line signal.now ∷ [])) }
 {

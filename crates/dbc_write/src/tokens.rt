@@ -1,4 +1,4 @@
-//! Tokens, each behind its gap.
+//! Tokens, each after its gap.
 ghost use Rattle.std.specs.Prelude.{◌≡◌, ◌∷◌, [], ◌++◌, OnOk};
 ghost use Rattle.catalogue.specs.Canon.{mark, number, quoted, space, tight, value, word};
 ghost use Rattle.dbc_write.specs.Adding.{Adds, piece_text};
@@ -7,7 +7,7 @@ use decimal::Decimal;
 use itoa::Buffer;
 use std::alloc::AllocError;
 
-/// A word at the beginning of a line, or right behind a mark.
+/// A word at the beginning of a line, or directly after a mark.
 pub(crate) fn tight_word(text: &mut Vec<u8>, bytes: &[u8]) -> Result<(), AllocError>
     ensures { OnOk result (Adds piece_text text.old.items text.new.items (word tight bytes.now ∷ [])) }
 {
@@ -15,7 +15,7 @@ pub(crate) fn tight_word(text: &mut Vec<u8>, bytes: &[u8]) -> Result<(), AllocEr
     Ok(())
 }
 
-/// A word behind a space.
+/// A word after a space.
 pub(crate) fn spaced_word(text: &mut Vec<u8>, bytes: &[u8]) -> Result<(), AllocError>
     ensures { OnOk result (Adds piece_text text.old.items text.new.items (word space bytes.now ∷ [])) }
 {
@@ -24,7 +24,7 @@ pub(crate) fn spaced_word(text: &mut Vec<u8>, bytes: &[u8]) -> Result<(), AllocE
     Ok(())
 }
 
-/// A whole number right behind a mark.
+/// A whole number directly after a mark.
 pub(crate) fn tight_number(text: &mut Vec<u8>, value: u32) -> Result<(), AllocError>
     ensures { OnOk result (Adds piece_text text.old.items text.new.items (number tight value ∷ [])) }
 {
@@ -32,7 +32,7 @@ pub(crate) fn tight_number(text: &mut Vec<u8>, value: u32) -> Result<(), AllocEr
     Ok(())
 }
 
-/// A whole number behind a space.
+/// A whole number after a space.
 pub(crate) fn spaced_number(text: &mut Vec<u8>, value: u32) -> Result<(), AllocError>
     ensures { OnOk result (Adds piece_text text.old.items text.new.items (number space value ∷ [])) }
 {
@@ -41,23 +41,23 @@ pub(crate) fn spaced_number(text: &mut Vec<u8>, value: u32) -> Result<(), AllocE
     Ok(())
 }
 
-/// A mark right behind what stands before it.
+/// A mark directly after what comes before it.
 pub(crate) fn tight_mark(text: &mut Vec<u8>, byte: u8) -> Result<(), AllocError>
-    ensures { OnOk result (Adds piece_text text.old.items text.new.items (mark tight byte ∷ [])) }
+    ensures { OnOk result (Adds piece_text text.old.items text.new.items (mark tight (byte ∷ []) ∷ [])) }
 {
     text.push(byte)?;
     Ok(())
 }
 
-/// A mark behind a space.
+/// A mark after a space.
 pub(crate) fn spaced_mark(text: &mut Vec<u8>, byte: u8) -> Result<(), AllocError>
-    ensures { OnOk result (Adds piece_text text.old.items text.new.items (mark space byte ∷ [])) }
+    ensures { OnOk result (Adds piece_text text.old.items text.new.items (mark space (byte ∷ []) ∷ [])) }
 {
     text.extend_from_slice(&[b' ', byte])?;
     Ok(())
 }
 
-/// A text between quotes, behind a space.
+/// A text between quotes, after a space.
 pub(crate) fn quoted(text: &mut Vec<u8>, bytes: &[u8]) -> Result<(), AllocError>
     ensures { OnOk result (Adds piece_text text.old.items text.new.items (quoted space bytes.now ∷ [])) }
 {
@@ -67,7 +67,7 @@ pub(crate) fn quoted(text: &mut Vec<u8>, bytes: &[u8]) -> Result<(), AllocError>
     Ok(())
 }
 
-/// A decimal right behind a mark.
+/// A decimal directly after a mark.
 pub(crate) fn tight_value(text: &mut Vec<u8>, decimal: &Decimal) -> Result<(), AllocError>
     ensures { OnOk result (Adds piece_text text.old.items text.new.items (value tight decimal.now)) }
 {
@@ -75,7 +75,7 @@ pub(crate) fn tight_value(text: &mut Vec<u8>, decimal: &Decimal) -> Result<(), A
     Ok(())
 }
 
-/// A decimal behind a space.
+/// A decimal after a space.
 pub(crate) fn spaced_value(text: &mut Vec<u8>, decimal: &Decimal) -> Result<(), AllocError>
     ensures { OnOk result (Adds piece_text text.old.items text.new.items (value space decimal.now)) }
 {

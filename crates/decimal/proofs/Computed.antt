@@ -1,5 +1,5 @@
 -- The computed answer of reading is the one that the bytes have.
-use Rattle.std.proofs.Common.{◌≡◌, ◌≢◌, ℕ, zero, suc, ◌+◌, ◌-◌, ◌*◌, ◌/◌, ◌%◌, ◌^◌, Bool, true, false, not, eqb, leb, ◌&&◌, List, length, refl, sym, ap, subst, ◌∙◌, arith, ℤ, pos, negsuc, int_le, Result, Err, mul-div_cancel, zero-mul, ◌≤ℤ◌}
+use Rattle.std.proofs.Common.{◌≡◌, ◌≢◌, ◌↔◌, ℕ, zero, suc, ◌+◌, ◌-◌, ◌*◌, ◌/◌, ◌%◌, ◌^◌, Bool, true, false, not, eqb, leb, ◌&&◌, List, length, refl, sym, ap, subst, ◌∙◌, arith, ℤ, pos, negsuc, int_le, Result, Err, mul-div_cancel, zero-mul, ◌≤ℤ◌}
 use Rattle.std.proofs.Math.Nat.{zero-div}
 use Rattle.std.specs.List.{suffix_len}
 use Rattle.std.specs.Str.Parse.{digits_value}
@@ -81,3 +81,9 @@ reads_reading negative bytes =
 
 pub read_is_reading : (negative : Bool) (bytes : List ℕ) (r : Result Number DecimalFault) → Reads negative bytes r → r ≡ reading negative bytes
 read_is_reading negative bytes r h = reads_once negative bytes r (reading negative bytes) h (reads_reading negative bytes)
+
+pub readings_are_computed : (negative : Bool) (bytes : List ℕ) (r : Result Number DecimalFault) → Reads negative bytes r ↔ (reading negative bytes ≡ r)
+readings_are_computed negative bytes r = (
+  λ h. sym (read_is_reading negative bytes r h),
+  λ e. subst (λ (q : Result Number DecimalFault). Reads negative bytes q) e (reads_reading negative bytes),
+)

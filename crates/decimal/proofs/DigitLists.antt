@@ -30,7 +30,7 @@ capped_more xs i v r greatest digits lt before now =
 digit_value_between : (c : ℕ) → 48 ≤ c → c ≤ 57 → digit_value c ≡ c - 48
 digit_value_between c low high = grind (arith, nat_tests)
 
--- one more digit of those from a place on
+-- one more digit of those from an index on
 pub digits_from_more : (xs : List ℕ) (start i v c : ℕ) → start ≤ i → i < length xs → 48 ≤ c → c ≤ 57 → c ≡ get_or xs i 0 → v ≡ digits_value 10 (take (i - start) (drop start xs)) → v * 10 + (c - 48) ≡ digits_value 10 (take (i + 1 - start) (drop start xs))
 digits_from_more xs start i v c from lt low high is before =
     let k = i - start in

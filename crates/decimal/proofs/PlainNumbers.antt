@@ -16,7 +16,7 @@ ten_out n left z e last =
     let whole : left ≡ left / 10 * 10 = omega arith in
     e ∙ ap (λ m. m * 10 ^ z) whole ∙ sym (ten_more (left / 10) z)
 
--- the digits before the point, and then those behind it
+-- the digits before the point, and then those after it
 pub joined : (whole fraction behind : List ℕ) (a n : ℕ) → behind ≡ fraction → a ≡ digits_value_after 10 0 whole → n ≡ digits_value_after 10 a behind → digits_value 10 (whole ++ fraction) ≡ n
 joined whole fraction behind a n same first all =
     digits_after_append 0 whole fraction ∙ ap (λ k. digits_value_after 10 k fraction) (sym first) ∙ ap (λ ds. digits_value_after 10 a ds) (sym same) ∙ sym all

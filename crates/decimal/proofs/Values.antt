@@ -61,7 +61,7 @@ pub record MeetAt (m n : Number) (i j : ℕ) : Type 0 where
 gap_is : (e k : ℤ) → k ≤ℤ e → pos (unsigned_abs (e -ℤ k)) ≡ e -ℤ k
 gap_is e k h = omega (arith, ints, clamps)
 
--- how far the exponent stands above the lesser of the two
+-- how far the exponent is above the lesser of the two
 abbrev gap : Number → Number → ℕ
 gap m n = unsigned_abs (m.exponent -ℤ int_min m.exponent n.exponent)
 

@@ -1,5 +1,5 @@
 -- What reading bytes as a decimal gives.
-use Rattle.std.specs.Prelude.{ℕ, ◌/◌, ◌^◌, ◌<◌, ◌≤◌, ◌%◌, ◌≢◌, ◌==◌, nat_le, int_le, not, ◌&&◌, Bool, List, length, drop, ℤ, pos, negsuc, ◌+ℤ◌, ◌-ℤ◌, unsigned_abs, Result, Ok, Err, if◌then◌else◌}
+use Rattle.std.specs.Prelude.{◌≡◌, ◌↔◌, ℕ, ◌/◌, ◌^◌, ◌<◌, ◌≤◌, ◌%◌, ◌≢◌, ◌==◌, nat_le, int_le, not, ◌&&◌, Bool, List, length, drop, ℤ, pos, negsuc, ◌+ℤ◌, ◌-ℤ◌, unsigned_abs, Result, Ok, Err, if◌then◌else◌}
 use Rattle.std.specs.List.{suffix_len}
 use Rattle.std.specs.Str.Parse.{digits_value}
 use Rattle.decimal.specs.Number.{Number, IsInRange, IsDecimal}
@@ -46,3 +46,8 @@ unfoldable pub reading : Bool → List ℕ → Result Number DecimalFault
 reading negative bytes =
     let s = cut bytes in
     if is_numeral s.whole && is_exponent s.exponent then reading_parts negative s else Err NotNumber
+
+-- The answer by the equation of values is the computed one, and no other.
+abbrev pub ReadingsAreComputed : Type 0
+ReadingsAreComputed =
+    (negative : Bool) (bytes : List ℕ) (answer : Result Number DecimalFault) → Reads negative bytes answer ↔ (reading negative bytes ≡ answer)

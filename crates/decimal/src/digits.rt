@@ -58,7 +58,7 @@ impl<'a> Digits<'a> {
         }
     }
 
-    /// How many zeros stand in front.
+    /// How many zeros there are in front.
     pub fn leading_zeros(&self) -> usize
         ensures { result ≡ prefix_len is_zero self.now }
     {

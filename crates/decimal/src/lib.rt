@@ -6,18 +6,20 @@
 //! decimals are equal exactly where their values are.
 //!
 //! `specs/` says what a number token is and which number it writes (`Spelling`), when two numbers are one value
-//! (`Number`), what reading answers (`Reading`) and what the text is (`Printing`).
+//! (`Number`), what reading answers (`Reading`) and what the text is (`Printing`). [`readings_are_computed`] says
+//! that the answer computed there is the one that the equation of values describes.
 #![tactic(auto)]
 
 mod digits;
 mod fault;
+mod law;
 mod number;
 mod plain;
 mod printing;
 mod reading;
 mod spelling;
-#[cfg(test)]
-mod tests;
 
 pub use fault::DecimalFault;
+pub use law::readings_are_computed;
 pub use number::Decimal;
+pub use spelling::{digits_len, fraction_len};

@@ -8,7 +8,7 @@ ghost use Rattle.decimal.specs.Reading.{Reads};
 use crate::Decimal;
 use crate::spelling::{Parts, after_point};
 
-/// The number that the digits write behind those of another number. `None` where it is too great, or where a byte is no
+/// The number that the digits write after those of another number. `None` where it is too great, or where a byte is no
 /// digit.
 fn followed_by(number: u64, digits: &[u8]) -> Option<u64>
     ensures { IfSome result (λ n. n ≡ digits_value_after 10 number digits.now) }

@@ -10,10 +10,10 @@ use itoa::Buffer;
 use std::alloc::AllocError;
 use std::fmt;
 
-// A sign, 36 digits and 20 zeros are the longest text.
+/// A sign, 36 digits and 20 zeros are the longest text.
 type Text = ArrayString<64>;
 
-// The exponents of plain digits.
+/// The exponents of plain digits.
 const LEAST_PLAIN: i16 = -20;
 
 const MOST_PLAIN: i16 = 20;
@@ -36,7 +36,7 @@ fn push_zeros(text: &mut Text, count: usize)
     }
 }
 
-// The number's digits, after as many zeros as the width leaves.
+/// The number's digits, after as many zeros as the width leaves.
 fn push_filled(text: &mut Text, number: u128, width: usize)
     requires room { array_string_len text.old + width ≤ 64 }
     requires narrow { length (decimal number) ≤ width }
@@ -48,7 +48,7 @@ fn push_filled(text: &mut Text, number: u128, width: usize)
     text.push_str(digits);
 }
 
-// The number's digits with a point before the last of them.
+/// The number's digits with a point before the last of them.
 #[tactic(auto, using(crate::proofs::Texts::pointing))]
 fn push_pointed(text: &mut Text, number: u128, places: u32)
     requires number { number < 10 ^ 36 }
@@ -100,7 +100,7 @@ fn text_of(decimal: &Decimal) -> Text
 impl Decimal {
     ghost use Rattle.decimal.specs.Printing.{ReadsBack};
 
-    /// Appends the decimal's text, or fails for want of memory and leaves `out` as it was.
+    /// Appends the decimal's text, or runs out of memory and leaves `out` as it was.
     ///
     /// For the exponents -20 to 20 the text is plain digits, with a point only where the exponent is negative and
     /// at least one digit before it. Any other exponent is written after the mantissa and `E`. A negative

@@ -9,7 +9,7 @@ use crate::plain::plain_decimal;
 use crate::spelling::{Parts, after_point, exponent_of, parts_of};
 use crate::{Decimal, DecimalFault};
 
-// The most digits that a mantissa may have.
+/// The most digits that a mantissa may have.
 const MOST_DIGITS: usize = 36;
 
 fn signed(negative: bool, magnitude: u128) -> i128
@@ -20,7 +20,7 @@ fn signed(negative: bool, magnitude: u128) -> i128
     if negative { -magnitude } else { magnitude }
 }
 
-// The decimal that a number token in these parts writes, negated or not, of any number of digits.
+/// The decimal that a number token in these parts writes, negated or not, of any number of digits.
 fn long_decimal(negative: bool, parts: Parts) -> Result<Decimal, DecimalFault>
     requires token { IsNumberToken (bytes_of (spelling parts)) (spelling parts) }
     requires within { length parts.whole.now + length parts.fraction.now < 2 ^ 64 }
@@ -44,7 +44,7 @@ fn long_decimal(negative: bool, parts: Parts) -> Result<Decimal, DecimalFault>
     }
 }
 
-// The decimal that a number token in these parts writes, negated or not.
+/// The decimal that a number token in these parts writes, negated or not.
 fn decimal_of(negative: bool, parts: Parts) -> Result<Decimal, DecimalFault>
     requires token { IsNumberToken (bytes_of (spelling parts)) (spelling parts) }
     requires within { length parts.whole.now + length parts.fraction.now < 2 ^ 64 }

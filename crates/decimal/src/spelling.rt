@@ -16,14 +16,18 @@ pub(crate) struct Parts<'a> {
     pub exponent: &'a [u8],
 }
 
-fn digits_len(bytes: &[u8]) -> usize
+/// How many decimal digits there are in front.
+#[inline]
+pub fn digits_len(bytes: &[u8]) -> usize
     ensures is { result ≡ prefix_len is_ascii_digit bytes.now }
     ensures within { result ≤ length bytes.now }
 {
     bytes.iter().take_while(|b| b.is_ascii_digit()).count()
 }
 
-fn fraction_len(bytes: &[u8]) -> usize
+/// How many bytes a point in front and the digits after it take, 0 where no point is in front.
+#[inline]
+pub fn fraction_len(bytes: &[u8]) -> usize
     ensures is { result ≡ fraction_len bytes.now }
     ensures within { result ≤ length bytes.now }
 {
@@ -103,10 +107,10 @@ pub(crate) fn parts_of(bytes: &[u8]) -> Option<Parts<'_>>
     }
 }
 
-// A power beyond this one is out of range after any digits that fit in memory.
+/// A power beyond this one is out of range after any digits that fit in memory.
 const GREATEST_POWER: u128 = 100_000_000_000_000_000_000;
 
-// The number that the digits write, or the greatest power where it is greater.
+/// The number that the digits write, or the greatest power where it is greater.
 fn capped_value(digits: &[u8]) -> u128
     requires { IsTrue (are_digits digits.now) }
     ensures { result ≡ min (digits_value 10 digits.now) greatest_power }
@@ -118,7 +122,7 @@ fn capped_value(digits: &[u8]) -> u128
     value
 }
 
-// The whole number after the letter E, 0 where there is none, or the greatest power with its sign.
+/// The whole number after the letter E, 0 where there is none, or the greatest power with its sign.
 fn power(exponent: &[u8]) -> i128
     requires { IsTrue (is_exponent exponent.now) }
     ensures { result ≡ capped (power_of (drop 1 exponent.now)) }
@@ -130,10 +134,10 @@ fn power(exponent: &[u8]) -> i128
     }
 }
 
-// An exponent is at most this either way.
+/// An exponent is at most this either way.
 const GREATEST_EXPONENT: i128 = 400;
 
-/// The exponent of a number whose point moves behind its last digit other than 0: the power, less the digits
+/// The exponent of a number whose point moves to after its last digit other than 0: the power, less the digits
 /// after the point, plus the zeros at the end. `None` where it is out of a decimal's range.
 pub(crate) fn exponent_of(exponent: &[u8], fraction_digits: usize, zeros: usize) -> Option<i16>
     requires { IsTrue (is_exponent exponent.now) }

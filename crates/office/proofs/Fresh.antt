@@ -3,12 +3,15 @@ use Rattle.std.proofs.Common.{◌≡◌, ◌≢◌, ℕ, true, false, List, Opti
 use Rattle.std.proofs.lemmas.Bool.{false≢true, not-false, not-true, or_parts, and_parts, leb-true}
 use Rattle.std.proofs.lemmas.List.Elements.{All-weaker}
 use Rattle.std.proofs.lemmas.Option.{same_Some, cond_some, option_and_then_some}
-use Rattle.can_id.specs.Ident.{IsIdentifier}
+use Rattle.std.specs.Prelude.{nat_le}
+use Rattle.can_id.specs.Form.{greatest_number}
+use Rattle.can_id.specs.Ident.{IsIdentifier, ident_in, ident_number, ident_of}
 use Rattle.can_id.specs.declared.ident.Ident.{Ident}
-use Rattle.office_types.specs.Command.{number_form, block_form}
+use Rattle.office_types.specs.Block.{block_form}
+use Rattle.office_types.specs.Free.{number_form}
 use Rattle.office_types.specs.Free.{has_form, IsLeastFree}
-use Rattle.office_types.specs.declared.command.IdentForm.{IdentForm}
-use Rattle.office_types.specs.declared.command.IdentForm.TheVariants.{Std, Ext}
+use Rattle.can_id.specs.declared.form.IdentForm.{IdentForm}
+use Rattle.can_id.specs.declared.form.IdentForm.TheVariants.{Standard, Extended}
 use Rattle.office_types.specs.declared.command.TakeIdent.{TakeIdent}
 use Rattle.office_types.specs.declared.refusal.Refusal.TheVariants as no
 use Rattle.office_types.specs.declared.reply.Reply.{Reply}
@@ -18,7 +21,7 @@ use Rattle.office_types.specs.declared.state.SpnBook.{SpnBook}
 use Rattle.office_types.proofs.Least.{least_free_is}
 use Rattle.office.specs.Laws.{IsChosen, GivesFresh, IdentifiersAreFresh}
 use Rattle.office.specs.Net.{has_number, is_live, is_held, taken_numbers, blocks_of, lies_in}
-use Rattle.office.specs.Outcome.{Changing, want_tests, take_ident_tests, number_given, ident_given, ident_in, ident_of, ident_number, taken, new_message, with_message}
+use Rattle.office.specs.Outcome.{Changing, want_tests, take_ident_tests, number_given, ident_given, taken, new_message, with_message}
 use Rattle.office.proofs.Absent.{All-from_none}
 use Rattle.office.proofs.TakenNumbers.{is_taken-numbers}
 use Rattle.office.proofs.Passing.{NoneHolds, NoneHolds-from_changing, refusing_changing, same_Changing}
@@ -47,16 +50,16 @@ free_given team net c None h n e =
     record { chosen = least; formed = other.0; granted = inside.0; live = free.0; held = free.1 }
 
 identifier_of : (form : IdentForm) (n : ℕ) → has_form (number_form form) n ≡ true → IsIdentifier (ident_of form n)
-identifier_of Std n h = leb-true n 2047 h
-identifier_of Ext n h = leb-true n 536870911 h
+identifier_of Standard n h = leb-true n _ h
+identifier_of Extended n h = leb-true n _ h
 
 number_of : (form : IdentForm) (n : ℕ) → ident_number (ident_of form n) ≡ n
-number_of Std n = refl
-number_of Ext n = refl
+number_of Standard n = refl
+number_of Extended n = refl
 
 has_its_number : (form : IdentForm) (n : ℕ) → has_number form n (ident_of form n) ≡ true
-has_its_number Std n = eq-eqb n n refl
-has_its_number Ext n = eq-eqb n n refl
+has_its_number Standard n = eq-eqb n n refl
+has_its_number Extended n = eq-eqb n n refl
 
 other_ident : (form : IdentForm) (n : ℕ) (i : Ident) → has_number form n i ≡ false → i ≢ ident_of form n
 other_ident form n i h e = false≢true (sym h ∙ ap (has_number form n) e ∙ has_its_number form n)
@@ -82,7 +85,7 @@ fresh_of team net c n free = record {
 pub GivesFresh-ident_given : (team : List ℕ) (net : Net) (c : TakeIdent) (i : Ident) → NoneHolds (want_tests team net c) → ident_given team net c ≡ Some i
     → GivesFresh team net c (Number (ident_number i)) (with_message net (new_message team c i))
 GivesFresh-ident_given team net c i h e = option_and_then_some (ident_in c.form) (number_given team net c) i e (λ n given formed.
-    let same = (cond_some (has_form (number_form c.form) n) (ident_of c.form n) i formed).1 in
+    let same = (cond_some (nat_le n (greatest_number c.form)) (ident_of c.form n) i formed).1 in
     subst (λ v. GivesFresh team net c (Number (ident_number v)) (with_message net (new_message team c v))) same
     (fresh_of team net c n (free_given team net c c.want h n given)))
 

@@ -17,7 +17,8 @@ use Rattle.office_types.specs.declared.reply.Reply.TheVariants.{Done, Number}
 use Rattle.office_types.specs.declared.state.GrantedBlock.{GrantedBlock}
 use Rattle.office_types.specs.declared.state.Net.{Net}
 use Rattle.office_types.specs.declared.state.SpnBook.{SpnBook}
-use Rattle.office.specs.Outcome.{Outcome, Refusing, Changing, refused_or, unless, open_net_tests, open_net, empty_net, grant_tests, grant, with_block, take_ident_tests, take_ident, taken, ident_given, ident_number, new_message, with_message, on_some_net, office_tests, outcome}
+use Rattle.can_id.specs.Ident.{ident_number}
+use Rattle.office.specs.Outcome.{Outcome, Refusing, Changing, refused_or, unless, open_net_tests, open_net, empty_net, grant_tests, grant, with_block, take_ident_tests, take_ident, taken, ident_given, new_message, with_message, on_some_net, office_tests, outcome}
 use Rattle.office.proofs.Fresh.{GivesFresh-ident_given}
 use Rattle.office.proofs.Passing.{NoneHolds, NoneHolds-from_none}
 use Rattle.office.proofs.KeptNets.{IsNet-empty, IsNet-with_block, IsNet-fresh}
@@ -50,7 +51,7 @@ keeps_taken team net book c None e free n b plain h = tt
 keeps_taken team net book c (Some i) e free n b plain h =
     let fresh = GivesFresh-ident_given team net c i free.1.1.1.1.1 e in (
       IsNet-fresh team net (with_message net (new_message team c i)) c (Number (ident_number i)) fresh n plain h
-          (leb-false 16384 (length net.live) free.1.1.1.0) free.1.1.0,
+          (leb-false _ (length net.live) free.1.1.1.0) free.1.1.0,
       b,
     )
 

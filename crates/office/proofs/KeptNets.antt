@@ -8,6 +8,7 @@ use Rattle.std.proofs.lemmas.Cmp.{nat_cmp_total, on_total, then_total}
 use Rattle.std.proofs.lemmas.List.Elements.{All-nil, All-weaker, All-contains}
 use Rattle.std.proofs.lemmas.Slice.Eq.{bytes_eq-Decides}
 use Rattle.can_id.specs.Ident.{dbc_number}
+use Rattle.catalogue.specs.Limits.{message_limit}
 use Rattle.catalogue.proofs.Put.{length-put, All-put, AllPairs-put, IsStrictlySortedBy-put}
 use Rattle.office_types.proofs.Blocks.{have_common-comm}
 use Rattle.office_types.specs.Block.{IsRange, have_common, form_rank}
@@ -75,7 +76,7 @@ IsNet-with_block net g h range team free = record {
 }
 
 -- a network with one live message more
-IsNet-with_message : (net : Net) (m : LiveMessage) → IsNet net → IsMessage m.message → IsPlainName m.owner → length net.live < 16384
+IsNet-with_message : (net : Net) (m : LiveMessage) → IsNet net → IsMessage m.message → IsPlainName m.owner → length net.live < message_limit
     → All (λ o. m.message.name ≢ o.message.name) net.live → (Contains net.held m.message.ident → ⊥) → IsNet (with_message net m)
 IsNet-with_message net m h message owner few named held = record {
   named = h.named;
@@ -105,7 +106,7 @@ names_apart net name h =
 
 -- the message that a `take_ident` adds
 pub IsNet-fresh : (team : List ℕ) (net after : Net) (c : TakeIdent) (reply : Reply) → GivesFresh team net c reply after → IsNet net → IsPlainName team
-    → IsAction (act.TakeIdent c) → length net.live < 16384 → has_message net c.name ≡ false → IsNet after
+    → IsAction (act.TakeIdent c) → length net.live < message_limit → has_message net c.name ≡ false → IsNet after
 IsNet-fresh team net after c reply fresh n plain h few unnamed =
     subst IsNet (sym fresh.added)
     (IsNet-with_message net (new_message team c fresh.ident) n (record { ident = fresh.identifier; named = h.0; short = h.1; sent = h.2 }) plain few

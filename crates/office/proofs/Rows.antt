@@ -4,7 +4,7 @@ use Rattle.office_types.specs.declared.block.BlockForm.TheVariants as block
 use Rattle.office_types.specs.declared.command.Action.{Action}
 use Rattle.office_types.specs.declared.command.Action.TheVariants as act
 use Rattle.office_types.specs.declared.command.Command.{Command}
-use Rattle.office_types.specs.declared.command.IdentForm.TheVariants.{Std}
+use Rattle.can_id.specs.declared.form.IdentForm.TheVariants.{Standard}
 use Rattle.office_types.specs.declared.command.NetKind.TheVariants.{Can}
 use Rattle.office_types.specs.declared.refusal.Refusal.TheVariants.{NoNet, NetThere, NotOffice, NoNode, BlockTaken, NoBlock, BlockFull, OutsideBlock, NameTaken, IdentTaken}
 use Rattle.office_types.specs.declared.reply.Reply.{Reply}
@@ -32,7 +32,7 @@ abbrev grants : List ℕ → List ℕ → ℕ → ℕ → Asked
 grants net team first last = asks (codes "office") net (act.Grant (record { team = team; block = record { form = block.Std; first = first; last = last } }))
 
 abbrev takes : List ℕ → List ℕ → Option (List ℕ) → Option ℕ → Asked
-takes team name node want = asks team (codes "truck") (act.TakeIdent (record { form = Std; name = name; length = 8; node = node; want = want }))
+takes team name node want = asks team (codes "truck") (act.TakeIdent (record { form = Standard; name = name; length = 8; node = node; want = want }))
 
 abbrev setup : List Asked → List Asked
 setup qs = open_truck (codes "office") (codes "truck") ∷ grants (codes "truck") (codes "engine") 256 258 ∷ qs

@@ -5,8 +5,8 @@ use Rattle.std.proofs.lemmas.List.Folds.{list_any-append}
 use Rattle.can_id.specs.declared.ident.Ident.{Ident}
 use Rattle.can_id.specs.declared.ident.Ident.TheVariants as id
 use Rattle.office_types.specs.Free.{is_taken}
-use Rattle.office_types.specs.declared.command.IdentForm.{IdentForm}
-use Rattle.office_types.specs.declared.command.IdentForm.TheVariants.{Std, Ext}
+use Rattle.can_id.specs.declared.form.IdentForm.{IdentForm}
+use Rattle.can_id.specs.declared.form.IdentForm.TheVariants.{Standard, Extended}
 use Rattle.office_types.specs.declared.state.LiveMessage.{LiveMessage}
 use Rattle.office_types.specs.declared.state.Net.{Net}
 use Rattle.office.specs.Net.{number_in, has_number, is_live, is_held, taken_idents, taken_numbers}
@@ -16,10 +16,10 @@ list_any-map p f [] = refl
 list_any-map p f (x ∷ xs) = ap (λ b. p (f x) || b) (list_any-map p f xs)
 
 taken_more : (form : IdentForm) (n : ℕ) (i : Ident) (ns : List ℕ) → is_taken n (cons_option (number_in form i) ns) ≡ (has_number form n i || is_taken n ns)
-taken_more Std n (id.Std m) ns = refl
-taken_more Std n (id.Ext m) ns = refl
-taken_more Ext n (id.Std m) ns = refl
-taken_more Ext n (id.Ext m) ns = refl
+taken_more Standard n (id.Std m) ns = refl
+taken_more Standard n (id.Ext m) ns = refl
+taken_more Extended n (id.Std m) ns = refl
+taken_more Extended n (id.Ext m) ns = refl
 
 taken_from : (form : IdentForm) (n : ℕ) (is : List Ident) → is_taken n (filter_map (number_in form) is) ≡ list_any (has_number form n) is
 taken_from form n [] = refl

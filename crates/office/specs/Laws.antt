@@ -1,9 +1,11 @@
 -- Laws of the office's steps.
 use Rattle.std.specs.Prelude.{◌≡◌, ◌≢◌, ℕ, true, List, [], ◌∷◌, Option, Some, None, All}
-use Rattle.can_id.specs.Ident.{IsIdentifier}
+use Rattle.can_id.specs.Ident.{IsIdentifier, ident_number, ident_of}
 use Rattle.can_id.specs.declared.ident.Ident.{Ident}
 use Rattle.office_types.specs.PlainName.{IsPlainName}
-use Rattle.office_types.specs.Command.{IsCommand, block_form, number_form}
+use Rattle.office_types.specs.Block.{block_form}
+use Rattle.office_types.specs.Command.{IsCommand}
+use Rattle.office_types.specs.Free.{number_form}
 use Rattle.office_types.specs.Free.{IsLeastFree}
 use Rattle.office_types.specs.declared.block.Block.{Block}
 use Rattle.office_types.specs.declared.free.Form.{Form}
@@ -16,7 +18,7 @@ use Rattle.office_types.specs.declared.state.Net.{Net}
 use Rattle.office_types.specs.declared.state.Office.{Office}
 use Rattle.office_types.specs.declared.state.SpnBook.{SpnBook}
 use Rattle.office.specs.Net.{lies_in, blocks_of, taken_numbers}
-use Rattle.office.specs.Outcome.{Changing, take_ident, ident_number, ident_of, with_message, new_message}
+use Rattle.office.specs.Outcome.{Changing, take_ident, with_message, new_message}
 use Rattle.office.specs.Step.{opening, Step, Run}
 
 -- teams and commands as their types make them

@@ -4,8 +4,8 @@ use Rattle.std.specs.List.{list_any, filter_map}
 use Rattle.std.specs.Str.{bytes_eq}
 use Rattle.can_id.specs.declared.ident.Ident.{Ident}
 use Rattle.can_id.specs.declared.ident.Ident.TheVariants as id
-use Rattle.office_types.specs.declared.command.IdentForm.{IdentForm}
-use Rattle.office_types.specs.declared.command.IdentForm.TheVariants.{Std, Ext}
+use Rattle.can_id.specs.declared.form.IdentForm.{IdentForm}
+use Rattle.can_id.specs.declared.form.IdentForm.TheVariants.{Standard, Extended}
 use Rattle.office_types.specs.declared.block.BlockForm.{BlockForm}
 use Rattle.office_types.specs.declared.block.Block.{Block}
 use Rattle.office_types.specs.declared.state.Net.{Net}
@@ -30,13 +30,13 @@ has_message net name = list_any (λ m. bytes_eq m.message.name name) net.live
 
 -- the number of an identifier of the form
 abbrev pub number_in : IdentForm → Ident → Option ℕ
-number_in Std (id.Std n) = Some n
-number_in Ext (id.Ext n) = Some n
+number_in Standard (id.Std n) = Some n
+number_in Extended (id.Ext n) = Some n
 number_in form i = None
 
 abbrev pub has_number : IdentForm → ℕ → Ident → Bool
-has_number Std n (id.Std m) = m == n
-has_number Ext n (id.Ext m) = m == n
+has_number Standard n (id.Std m) = m == n
+has_number Extended n (id.Ext m) = m == n
 has_number form n i = false
 
 -- a live message has the identifier

@@ -2,21 +2,21 @@
 -- reply where none does.
 use Rattle.std.specs.Prelude.{ℕ, Bool, true, false, not, ◌&&◌, nat_le, List, [], ◌∷◌, ◌++◌, length, Option, Some, None, is_some, is_none, if◌then◌else◌}
 use Rattle.std.specs.Option.{option_and_then}
+use Rattle.can_id.specs.Ident.{ident_in, ident_number}
 use Rattle.can_id.specs.declared.ident.Ident.{Ident}
-use Rattle.can_id.specs.declared.ident.Ident.TheVariants as id
 use Rattle.catalogue.specs.Keyed.{put}
+use Rattle.catalogue.specs.Limits.{message_limit}
 use Rattle.catalogue.specs.Refusing.{Test, first_refusal}
 use Rattle.office_types.specs.PlainName.{is_office}
 use Rattle.office_types.specs.State.{by_number, by_first}
-use Rattle.office_types.specs.Command.{number_form, block_form}
+use Rattle.office_types.specs.Block.{block_form}
+use Rattle.office_types.specs.Free.{number_form}
 use Rattle.office_types.specs.Free.{has_form, least_free}
 use Rattle.office_types.specs.declared.command.Command.{Command}
 use Rattle.office_types.specs.declared.command.Action.{Action}
 use Rattle.office_types.specs.declared.command.Action.TheVariants as act
 use Rattle.office_types.specs.declared.command.OpenNet.{OpenNet}
 use Rattle.office_types.specs.declared.command.Grant.{Grant}
-use Rattle.office_types.specs.declared.command.IdentForm.{IdentForm}
-use Rattle.office_types.specs.declared.command.IdentForm.TheVariants.{Std, Ext}
 use Rattle.office_types.specs.declared.command.TakeIdent.{TakeIdent}
 use Rattle.office_types.specs.declared.refusal.Refusal.{Refusal}
 use Rattle.office_types.specs.declared.refusal.Refusal.TheVariants as no
@@ -79,15 +79,7 @@ name_tests net name node =
     record { holds = in_review net.phase; refusal = no.InReview }
     ∷ record { holds = not (knows_node net node); refusal = no.NoNode }
     ∷ record { holds = has_message net name; refusal = no.NameTaken }
-    ∷ record { holds = nat_le 16384 (length net.live); refusal = no.TooMany } ∷ []
-
--- the identifier of a number that has the form
-abbrev pub ident_of : IdentForm → ℕ → Ident
-ident_of Std n = id.Std n
-ident_of Ext n = id.Ext n
-
-abbrev pub ident_in : IdentForm → ℕ → Option Ident
-ident_in form n = if has_form (number_form form) n then Some (ident_of form n) else None
+    ∷ record { holds = nat_le message_limit (length net.live); refusal = no.TooMany } ∷ []
 
 -- the identifier that the command gives out, if there is one
 abbrev pub number_given : List ℕ → Net → TakeIdent → Option ℕ
@@ -113,11 +105,6 @@ take_ident_tests team net c =
     name_tests net c.name c.node
     ++ record { holds = none_of (blocks_of net team (block_form c.form)); refusal = no.NoBlock } ∷ want_tests team net c
 
--- the reply tells the identifier without bit 31
-abbrev pub ident_number : Ident → ℕ
-ident_number (id.Std n) = n
-ident_number (id.Ext n) = n
-
 abbrev pub new_message : List ℕ → TakeIdent → Ident → LiveMessage
 new_message team c i = record {
   message = record { ident = i; name = c.name; length = c.length; transmitter = c.node };
@@ -127,7 +114,7 @@ new_message team c i = record {
 abbrev pub with_message : Net → LiveMessage → Net
 with_message net m = record net { live = put by_number m net.live }
 
--- where no test holds there is an identifier to give; without one the block is full
+-- where no test holds there is an identifier to give; without one the block is full. The reply has no bit 31
 abbrev pub taken : List ℕ → Net → SpnBook → TakeIdent → Option Ident → Outcome
 taken team net book c (Some i) = Changing (Number (ident_number i)) (with_message net (new_message team c i)) book
 taken team net book c None = Refusing no.BlockFull

@@ -4,7 +4,7 @@
 //! after it. [`PlainOffice`] is an office in memory: [`PlainOffice::step`] carries a command out whole or
 //! refuses it and changes nothing, and [`PlainOffice::run`] takes a list of them.
 //!
-//! What a step is stands in `specs/`: `Outcome.antt` has each command's refusals, a list in the order in which
+//! The definition of a step is in `specs/`: `Outcome.antt` has each command's refusals, a list in the order in which
 //! they are tested, and its change; `Step.antt` has steps and runs of them; `Change.antt` what changes do;
 //! `Net.antt` what the tests ask of a network; `Laws.antt` what holds of every step, which the functions of
 //! `laws.rt` prove.

@@ -46,8 +46,8 @@ pub(crate) fn ident_has_number(ident: Ident, form: IdentForm, number: u32) -> bo
     ensures { result ≡ has_number form number ident }
 {
     match (form, ident) {
-        (IdentForm::Std, Ident::Std(id)) => u32::from(id.number()) == number,
-        (IdentForm::Ext, Ident::Ext(id)) => id.number() == number,
+        (IdentForm::Standard, Ident::Std(id)) => u32::from(id.number()) == number,
+        (IdentForm::Extended, Ident::Ext(id)) => id.number() == number,
         _ => false,
     }
 }

@@ -5,10 +5,10 @@ ghost use Rattle.std.specs.List.{filter_map};
 ghost use Rattle.std.specs.List.Sorted.{IsStrictlyIncreasing};
 ghost use Rattle.office_types.specs.Free.{is_taken};
 ghost use Rattle.office.specs.Net.{number_in, taken_idents, taken_numbers, blocks_of};
-ghost use Rattle.office.specs.Outcome.{ident_in, number_given, ident_given};
+ghost use Rattle.office.specs.Outcome.{number_given, ident_given};
 
-use can_id::{ExtendedId, Ident, StandardId};
-use office_types::{Block, BlockForm, IdentForm, Net, TakeIdent, Team, least_free};
+use can_id::{Ident, IdentForm};
+use office_types::{Block, BlockForm, Form, Net, TakeIdent, Team, least_free};
 use std::alloc::{AllocError, Global};
 
 /// The identifier's number, where it has the form.
@@ -16,29 +16,9 @@ fn number_in(form: IdentForm, ident: Ident) -> Option<u32>
     ensures { result ≡ number_in form ident }
 {
     match (form, ident) {
-        (IdentForm::Std, Ident::Std(id)) => Some(u32::from(id.number())),
-        (IdentForm::Ext, Ident::Ext(id)) => Some(id.number()),
+        (IdentForm::Standard, Ident::Std(id)) => Some(u32::from(id.number())),
+        (IdentForm::Extended, Ident::Ext(id)) => Some(id.number()),
         _ => None,
-    }
-}
-
-/// The identifier of the number, where it has the form.
-pub(crate) fn ident_in(form: IdentForm, number: u32) -> Option<Ident>
-    ensures { result ≡ ident_in form number }
-{
-    match form {
-        IdentForm::Std => {
-            if number <= 2047 {
-                let id = StandardId::new(number as u16)?;
-                Some(Ident::Std(id))
-            } else {
-                None
-            }
-        }
-        IdentForm::Ext => {
-            let id = ExtendedId::new(number)?;
-            Some(Ident::Ext(id))
-        }
     }
 }
 
@@ -62,7 +42,7 @@ fn taken_numbers(alloc: Global, net: &Net, form: IdentForm) -> Result<Vec<u32>, 
         .collect(alloc)
 }
 
-/// The same numbers, rising.
+/// The same numbers, ascending.
 fn rising_numbers(alloc: Global, net: &Net, form: IdentForm) -> Result<Vec<u32>, AllocError>
     ensures rising { IfOk result (λ v. IsStrictlyIncreasing v.items) }
     ensures same { IfOk result (λ v. (n : ℕ) → is_taken n v.items ≡ is_taken n (taken_numbers net.now form)) }
@@ -103,8 +83,8 @@ fn number_given(
         Some(number) => Ok(Some(number)),
         None => {
             let taken = rising_numbers(alloc, net, command.form)?;
-            let blocks = blocks_of(alloc, net, team, command.form.block_form())?;
-            Ok(least_free(&taken, &blocks, command.form.number_form()))
+            let blocks = blocks_of(alloc, net, team, BlockForm::of_identifiers(command.form))?;
+            Ok(least_free(&taken, &blocks, Form::of_identifiers(command.form)))
         }
     }
 }
@@ -119,7 +99,7 @@ pub(crate) fn ident_given(
     ensures { IfOk result (λ given. given ≡ ident_given team.now net.now command.now) }
 {
     match number_given(alloc, net, team, command)? {
-        Some(number) => Ok(ident_in(command.form, number)),
+        Some(number) => Ok(Ident::new(command.form, number)),
         None => Ok(None),
     }
 }

@@ -3,9 +3,10 @@ ghost use Rattle.std.specs.Prelude.{◌≡◌, ◌∷◌, [], ℕ, List, IfOk, S
 ghost use Rattle.catalogue.specs.Refusing.{first_refusal};
 ghost use Rattle.office_types.specs.declared.change.Change.TheVariants.{SetMessage};
 ghost use Rattle.office_types.specs.declared.reply.Reply.TheVariants.{Number};
-ghost use Rattle.office_types.specs.Command.{block_form};
+ghost use Rattle.office_types.specs.Block.{block_form};
 ghost use Rattle.office.specs.Net.{blocks_of};
-ghost use Rattle.office.specs.Outcome.{name_tests, want_tests, take_ident_tests, take_ident, ident_given, ident_number, new_message};
+ghost use Rattle.office.specs.Outcome.{name_tests, want_tests, take_ident_tests, take_ident, ident_given, new_message};
+ghost use Rattle.can_id.specs.Ident.{ident_number};
 ghost use Rattle.office.specs.Change.{Decides};
 
 use crate::decision::{one_change, refused};
@@ -15,14 +16,12 @@ use crate::net::{
 };
 use crate::numbers::{blocks_of, ident_given};
 use can_id::Ident;
-use catalogue::{Copying, Name};
+use catalogue::{Copying, MESSAGE_LIMIT, Name};
 use office_types::{
-    Block, Change, Decision, LiveMessage, Message, Net, Refusal, Reply, SpnBook, TakeIdent, Team,
+    Block, BlockForm, Change, Decision, Form, LiveMessage, Message, Net, Refusal, Reply, SpnBook,
+    TakeIdent, Team,
 };
 use std::alloc::{AllocError, Global};
-
-/// The greatest number of messages of a network.
-const MESSAGE_LIMIT: usize = 16384;
 
 fn name_refusal(net: &Net, name: &Name, node: &Option<Name>) -> Option<Refusal>
     ensures { result ≡ first_refusal (name_tests net.now name.now node.now) }
@@ -60,7 +59,7 @@ fn want_refusal(
             }
         }
         Some(number) => {
-            if !(command.form.number_form().has(number) && number_lies_in(number, blocks)) {
+            if !(Form::of_identifiers(command.form).has(number) && number_lies_in(number, blocks)) {
                 Some(Refusal::OutsideBlock)
             } else if number_is_live(net, command.form, number) {
                 Some(Refusal::IdentTaken)
@@ -115,27 +114,17 @@ fn new_message(
     })
 }
 
-/// The identifier without bit 31 of its DBC number.
-fn ident_number(ident: &Ident) -> u32
-    ensures { result ≡ ident_number ident.now }
-{
-    match ident {
-        Ident::Std(id) => u32::from(id.number()),
-        Ident::Ext(id) => id.number(),
-    }
-}
-
 fn message_taken(
     alloc: Global,
     team: &Team,
     command: &TakeIdent,
-    ident: Ident,
+    ident: &Ident,
 ) -> Result<Decision, AllocError>
-    ensures changes { IfOk result (λ d. d.changes ≡ SetMessage (new_message team.now command.now ident) ∷ []) }
-    ensures reply { IfOk result (λ d. d.reply ≡ Number (ident_number ident)) }
+    ensures changes { IfOk result (λ d. d.changes ≡ SetMessage (new_message team.now command.now ident.now) ∷ []) }
+    ensures reply { IfOk result (λ d. d.reply ≡ Number (ident_number ident.now)) }
 {
-    let number = ident_number(&ident);
-    let message = new_message(alloc, team, command, ident)?;
+    let number = ident.number();
+    let message = new_message(alloc, team, command, *ident)?;
     one_change(alloc, Change::SetMessage(message), Reply::Number(number))
 }
 
@@ -149,12 +138,12 @@ pub(crate) fn decide_take_ident(
     ensures { IfOk result (λ d. (name : List ℕ) → Decides name (record { net = Some net.now; book = book.now }) (take_ident team.now net.now book.now command.now) d) }
 {
     let given = ident_given(alloc, net, team, command)?;
-    let blocks = blocks_of(alloc, net, team, command.form.block_form())?;
+    let blocks = blocks_of(alloc, net, team, BlockForm::of_identifiers(command.form))?;
     if let Some(refusal) = take_ident_refusal(team, net, command, &blocks, given) {
         return Ok(refused(alloc, refusal));
     }
     match &given {
         None => Ok(refused(alloc, Refusal::BlockFull)),
-        Some(ident) => message_taken(alloc, team, command, *ident),
+        Some(ident) => message_taken(alloc, team, command, ident),
     }
 }

@@ -100,7 +100,7 @@ pairs_front : (xs ys : List (List ℕ)) → AllPairs (λ a b. a ≢ b) (xs ++ ys
 pairs_front xs ys h i j d before short same =
     h i j d before (omega (arith, short, length-append xs ys)) (get_or-append xs ys d i (omega (arith, before, short)) ∙ (same ∙ sym (get_or-append xs ys d j short)))
 
--- the names of the first fields are known and stand once where those of all do
+-- the names of the first fields are known and occur once where those of all do
 once_front : (known : List (List ℕ)) (fields : List Field) (n : ℕ) → AreKnownOnce known (names_of (named_values fields)) → AreKnownOnce known (names_of (named_values (take n fields)))
 once_front known fields n h =
     let parts : names_of (named_values fields) ≡ names_of (named_values (take n fields)) ++ names_of (named_values (drop n fields)) =
@@ -119,7 +119,7 @@ unknown_stops known fields i f short same unknown h =
     let front = rw (names_more fields i f short same) at (once_front known fields (i + 1) h) in
     unknown (All-contains (Contains known) (names ++ (f.name.now ∷ [])) f.name.now front.all_known (Contains-push names f.name.now))
 
--- a name that stood before and comes again stands twice
+-- a name that occurs again occurs twice
 seen_twice : (names : List (List ℕ)) (name : List ℕ) → Contains names name → ¬ (AllPairs (λ a b. a ≢ b) (names ++ (name ∷ [])))
 seen_twice names name (k, short, same) h =
     h k (length names) name short (omega (arith, length-append names (name ∷ []))) (get_or-append names (name ∷ []) name k short ∙ (same ∙ sym (get_or-append_seam names name [] name)))

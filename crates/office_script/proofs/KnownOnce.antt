@@ -1,4 +1,4 @@
--- The test that names are known and stand once says so.
+-- The test that names are known and occur once says so.
 use Rattle.std.proofs.Common.{◌≡◌, ◌≢◌, ◌↔◌, ◌<◌, ◌∷◌, [], ◌&&◌, ℕ, zero, suc, Bool, true, false, not, List, length, get_or, refl, sym, ◌∙◌, subst, arith, IsTrue, Decides}
 use Rattle.std.specs.List.{All, AllPairs, Contains, list_any}
 use Rattle.std.specs.Str.{bytes_eq}

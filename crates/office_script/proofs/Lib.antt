@@ -7,3 +7,4 @@ mod FieldNames
 mod KnownOnce
 mod Readings
 mod Scripts
+mod Rows

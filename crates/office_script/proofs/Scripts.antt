@@ -22,7 +22,7 @@ pub record IsReadSoFar (text rest : List ℕ) (number : ℕ) (requests : List (L
   pub asked : asked_by_all done ≡ Some requests
   pub room : number + length rest ≤ length text
 
--- what a line and the lines behind it ask for
+-- what a line and the lines after it ask for
 abbrev joined : Option Requests → Option Requests → Option Requests
 joined first rest = option_and_then (λ here. option_map (λ others. here ++ others) rest) first
 

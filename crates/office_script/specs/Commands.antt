@@ -15,6 +15,7 @@ use Rattle.office_script.specs.declared.verb.Verb.{Verb}
 use Rattle.office_script.specs.declared.verb.Verb.TheVariants as verb
 use Rattle.office_script.specs.Words.{words_of}
 use Rattle.office_script.specs.Fields.{NamedValue, value_of, names_of, fields_of}
+use Rattle.catalogue.specs.Limits.{length_limit}
 use Rattle.catalogue.specs.WholeNumber.{whole_of}
 use Rattle.office_script.specs.Values.{at_most, plain_name_of, name_of, kind_of, ident_form_of, block_form_of}
 
@@ -35,13 +36,13 @@ verb_of word =
     else if bytes_eq word (codes "take_ident") then Some verb.TakeIdent
     else None
 
--- the fields that may stand behind it
+-- the fields that may occur after it
 abbrev pub field_names : Verb → List (List ℕ)
 field_names verb.OpenNet = codes "net" ∷ codes "kind" ∷ codes "reviews" ∷ []
 field_names verb.Grant = codes "net" ∷ codes "team" ∷ codes "form" ∷ codes "first" ∷ codes "last" ∷ []
 field_names verb.TakeIdent = codes "net" ∷ codes "form" ∷ codes "name" ∷ codes "length" ∷ codes "node" ∷ codes "want" ∷ []
 
--- each name is among the known ones, and stands once
+-- each name is among the known ones, and occurs once
 abbrev pub known_once : List (List ℕ) → List (List ℕ) → Bool
 known_once known [] = true
 known_once known (name ∷ names) =
@@ -71,7 +72,7 @@ abbrev pub take_ident_of : List NamedValue → Option TakeIdent
 take_ident_of fields = do
   form ← value_of fields (codes "form") >>= ident_form_of
   name ← value_of fields (codes "name") >>= name_of
-  length ← value_of fields (codes "length") >>= whole_of >>= at_most 64
+  length ← value_of fields (codes "length") >>= whole_of >>= at_most length_limit
   node ← if_there name_of (value_of fields (codes "node"))
   want ← if_there whole_of (value_of fields (codes "want"))
   Some (record { form = form; name = name; length = length; node = node; want = want })

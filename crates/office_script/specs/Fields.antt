@@ -28,7 +28,7 @@ pub record IsFieldWord (word : List ℕ) (field : NamedValue) : Type 0 where
 abbrev pub AreFieldWords : List (List ℕ) → List NamedValue → Type 0
 AreFieldWords words fields = AllZip IsFieldWord words fields
 
--- the field that a word is, where it is one: what stands before its first `=`, and what the rest stands for
+-- the field that a word is, where it is one: what comes before its first `=`, and what the rest stands for
 abbrev pub field_of : List ℕ → Option NamedValue
 field_of word =
     if list_any (λ b. b == 61) word
@@ -48,7 +48,7 @@ names_of fields = map (λ f. f.name) fields
 abbrev pub value_of : List NamedValue → List ℕ → Option (List ℕ)
 value_of fields name = option_map (λ f. f.value) (find (λ f. bytes_eq f.name name) fields)
 
--- each name is among the known ones, and none stands twice
+-- each name is among the known ones, and none occurs twice
 pub record AreKnownOnce (known names : List (List ℕ)) : Type 0 where
   pub all_known : All (Contains known) names
   pub once : AllPairs (λ a b. a ≢ b) names

@@ -13,7 +13,7 @@ lines_of_parts [] = []
 lines_of_parts (part ∷ []) = last_line part
 lines_of_parts (part ∷ next ∷ parts) = part ∷ lines_of_parts (next ∷ parts)
 
--- what stands between the line feeds of a text, and nothing after one that ends it
+-- what is between the line feeds of a text, and nothing after one that ends it
 abbrev pub lines_of : List ℕ → List (List ℕ)
 lines_of text = lines_of_parts (slice_split (λ b. b == 10) text)
 

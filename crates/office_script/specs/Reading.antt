@@ -4,7 +4,7 @@ use Rattle.std.specs.Borrow.{Bor}
 use Rattle.office_script.specs.declared.unread.Unread.{Unread}
 use Rattle.office_script.specs.declared.unread.Unread.TheVariants.{Wrong, Memory}
 
--- a value is the one that is found, and wrong words have none; for want of memory nothing is said
+-- a value is the one that is found, and wrong words have none; of a failure by memory nothing is said
 abbrev pub Reads : {A : Type 0} → Option A → Result A Unread → Type 0
 Reads found (Ok value) = found ≡ Some value
 Reads found (Err Wrong) = found ≡ None

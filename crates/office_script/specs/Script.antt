@@ -28,7 +28,7 @@ pub record IsFirstWrong (lines : List (List ℕ)) (number : ℕ) : Type 0 where
   pub sound : asked_by_all before ≢ None
   pub wrong : asked_by line ≡ None
 
--- the fault is the first wrong line, or want of memory, of which nothing is said
+-- the fault is the first wrong line, or out of memory, of which nothing is said
 abbrev pub IsScriptFault : List ℕ → ScriptFault → Type 0
 IsScriptFault text (script.BadLine number) = IsFirstWrong (lines_of text) number
 IsScriptFault text script.Memory = ⊤

@@ -5,8 +5,8 @@ use Rattle.catalogue.specs.Name.{is_name}
 use Rattle.office_types.specs.PlainName.{is_plain_name}
 use Rattle.office_types.specs.declared.command.NetKind.{NetKind}
 use Rattle.office_types.specs.declared.command.NetKind.TheVariants.{Can, J1939}
-use Rattle.office_types.specs.declared.command.IdentForm.{IdentForm}
-use Rattle.office_types.specs.declared.command.IdentForm.TheVariants as ident
+use Rattle.can_id.specs.declared.form.IdentForm.{IdentForm}
+use Rattle.can_id.specs.declared.form.IdentForm.TheVariants as ident
 use Rattle.office_types.specs.declared.block.BlockForm.{BlockForm}
 use Rattle.office_types.specs.declared.block.BlockForm.TheVariants as block
 
@@ -29,8 +29,8 @@ kind_of bytes =
 
 abbrev pub ident_form_of : List ℕ → Option IdentForm
 ident_form_of bytes =
-    if bytes_eq bytes (codes "std") then Some ident.Std
-    else if bytes_eq bytes (codes "ext") then Some ident.Ext
+    if bytes_eq bytes (codes "std") then Some ident.Standard
+    else if bytes_eq bytes (codes "ext") then Some ident.Extended
     else None
 
 abbrev pub block_form_of : List ℕ → Option BlockForm

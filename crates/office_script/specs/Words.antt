@@ -3,7 +3,7 @@ use Rattle.std.specs.Prelude.{◌≡◌, ◌≢◌, ◌==◌, ◌<◌, ℕ, List
 use Rattle.std.specs.List.{slice_split, join_with_byte}
 use Rattle.std.specs.Borrow.{Bor}
 
--- what stands between the spaces of a line
+-- what is between the spaces of a line
 abbrev pub words_of : List ℕ → List (List ℕ)
 words_of line = slice_split (λ b. b == 32) line
 

@@ -18,14 +18,14 @@ use catalogue::Name;
 use office_types::{Action, BlockForm, Command, FormBlock, Grant, OpenNet, TakeIdent};
 use std::alloc::Global;
 
-/// The value of a field that has to stand.
+/// The value of a field that is required.
 fn value_at<'f>(fields: &'f Fields<'_>, name: &[u8]) -> Result<&'f [u8], Unread>
     ensures { ReadsBytes (value_of fields.now name.now) result }
 {
     fields.value_of(name).ok_or(Unread::Wrong)
 }
 
-/// The name that a field gives, where it stands.
+/// The name that a field gives, where it is given.
 fn name_if_there(alloc: Global, fields: &Fields<'_>, name: &[u8]) -> Result<Option<Name>, Unread>
     ensures { Reads (if_there name_of (value_of fields.now name.now)) result }
 {
@@ -35,7 +35,7 @@ fn name_if_there(alloc: Global, fields: &Fields<'_>, name: &[u8]) -> Result<Opti
     }
 }
 
-/// The whole number that a field gives, where it stands.
+/// The whole number that a field gives, where it is given.
 fn whole_if_there(fields: &Fields<'_>, name: &[u8]) -> Result<Option<u32>, Unread>
     ensures { Reads (if_there whole_of (value_of fields.now name.now)) result }
 {
@@ -98,7 +98,7 @@ fn action_of(alloc: Global, verb: Verb, fields: &Fields<'_>) -> Result<Action, U
 }
 
 /// The command of a verb and its fields: just the verb's fields, each at most once and of its kind, and none
-/// missing that has to stand.
+/// missing that is required.
 pub(crate) fn command_of(alloc: Global, verb: Verb, fields: &Fields<'_>) -> Result<Command, Unread>
     ensures { Reads (command_of verb fields.now) result }
 {

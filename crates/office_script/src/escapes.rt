@@ -28,7 +28,7 @@ fn escaped_byte(after: &[u8]) -> Option<(u8, &[u8])>
 
 /// The bytes that a written value stands for: each byte stands for itself, but a `%` only together with the two
 /// hexadecimal digits after it, in either case, for the byte that they write. `None` where two such digits don't
-/// follow a `%`. The error is want of memory.
+/// follow a `%`. The only error is out of memory.
 pub fn unescape(alloc: Global, written: &[u8]) -> Result<Option<Vec<u8>>, AllocError>
     ensures value { IfOk result (λ found. option_map (λ bytes. bytes.items) found ≡ unescaped written.now) }
 

@@ -58,7 +58,7 @@ fn read_field(alloc: Global, word: &[u8]) -> Result<Option<Field<'_>>, AllocErro
 /// Reads the words of `rest`, the rest of a line after some word (`FirstWord::rest`), as fields.
 ///
 /// A field is a name without `=`, then `=`, then its written value (`unescape` says what that stands for). `None`
-/// where some word is no field, as an empty word. No words at all are no fields. The error is want of memory.
+/// where some word is no field, as an empty word. No words at all are no fields. The only error is out of memory.
 pub fn read_fields(alloc: Global, rest: Option<&[u8]>) -> Result<Option<Fields<'_>>, AllocError>
     ensures value { IfOk result (λ found. found ≡ fields_of (words_after rest.entry)) }
 
@@ -100,7 +100,7 @@ impl<'a> Fields<'a> {
         value_among(self.list.as_slice(), name)
     }
 
-    /// Whether each field's name is among `known` and no name stands twice.
+    /// Whether each field's name is among `known` and no name occurs twice.
     pub fn are_known_once(&self, known: &[&[u8]]) -> bool
         ensures { IsTrue result ↔ AreKnownOnce (map (λ k. k.now) known.now) (names_of self.now) }
     {

@@ -1,6 +1,6 @@
 //! Scripts: what the lines of a text ask the office for.
 //!
-//! A script is bytes. Its lines stand between line feeds (`lines`); one of no bytes, or that begins with `#`, asks
+//! A script is bytes. Its lines are what is between line feeds (`lines`); one of no bytes, or that begins with `#`, asks
 //! for nothing, and any other is words with exactly one space between them (`words`): `-`, the team, the command
 //! and its fields `name=value`, in whose values `%` and two hexadecimal digits stand for a byte (`escapes`,
 //! `fields`, `lookup`). [`requests_of`] gives each line's team and command, or the first wrong line.

@@ -15,7 +15,7 @@ pub struct FirstLine<'a> {
 
 /// Splits the first line off a text, and gives `None` where no line is left.
 ///
-/// The lines of a text are what stands between its line feeds. A line feed at the very end ends the last line and
+/// The lines of a text are what is between its line feeds. A line feed at the very end ends the last line and
 /// begins no further one, and the last line may lack it.
 pub fn first_line(text: &[u8]) -> Option<FirstLine<'_>>
     ensures next { MatchOption result (lines_of text.now ≡ [])

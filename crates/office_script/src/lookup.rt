@@ -32,7 +32,7 @@ fn is_known(known: &[&[u8]], name: &[u8]) -> bool
     known.iter().any(|other| *other == name)
 }
 
-/// Whether each field's name is among the known ones and none stands twice.
+/// Whether each field's name is among the known ones and none occurs twice.
 pub(crate) fn known_once(fields: &[Field<'_>], known: &[&[u8]]) -> bool
     ensures { IsTrue result ↔ AreKnownOnce (map (λ k. k.now) known.now) (names_of (named_values fields.now)) }
 {

@@ -34,8 +34,8 @@ fn add_asked(alloc: Global, line: &[u8], requests: &mut Vec<(Team, Command)>) ->
 ///
 /// A line of no bytes and one that begins with `#` ask for nothing. Any other is `- team command field=value ..`
 /// with one space between words: `-` is the only key, the fields are those of the command, each at most once, of
-/// its kind and in its range, and those that aren't optional stand. The fault is the first line that is none of
-/// these, or want of memory.
+/// its kind and in its range, and those that aren't optional are given. The fault is the first line that is none of
+/// these, or out of memory.
 pub fn requests_of(alloc: Global, text: &[u8]) -> Result<Vec<(Team, Command)>, ScriptFault>
     ensures asked { IfOk result (λ requests. asked_by_all (lines_of text.now) ≡ Some requests.items) }
     ensures fault { IfErr result (IsScriptFault text.now) }

@@ -6,7 +6,7 @@ use std::alloc::{AllocError, AllocFailed};
 /// Why words of a script could not be read.
 #[derive(Clone, Copy, Debug, PartialEq, Eq)]
 pub enum Unread {
-    /// They say nothing that may stand there.
+    /// They say nothing that may occur there.
     Wrong,
     /// Memory ran out.
     Memory,

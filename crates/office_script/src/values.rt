@@ -64,9 +64,9 @@ pub(crate) fn ident_form_of(bytes: &[u8]) -> Result<IdentForm, Unread>
     ensures { Reads (ident_form_of bytes.now) result }
 {
     if bytes == b"std".as_slice() {
-        Ok(IdentForm::Std)
+        Ok(IdentForm::Standard)
     } else if bytes == b"ext".as_slice() {
-        Ok(IdentForm::Ext)
+        Ok(IdentForm::Extended)
     } else {
         Err(Unread::Wrong)
     }

@@ -14,7 +14,7 @@ pub enum Verb {
     OpenNet,
     /// `grant`: net, team, form, first, last.
     Grant,
-    /// `take_ident`: net, form, name, length, and where they stand node and want.
+    /// `take_ident`: net, form, name, length, and where given node and want.
     TakeIdent,
 }
 
@@ -33,7 +33,7 @@ pub(crate) fn verb_of(word: &[u8]) -> Result<Verb, Unread>
     }
 }
 
-/// Whether each field may stand behind the verb, and none stands twice.
+/// Whether each field may occur after the verb, and none occurs twice.
 pub(crate) fn fields_are_known(verb: Verb, fields: &Fields<'_>) -> bool
     ensures { result ≡ known_once (field_names verb) (names_of fields.now) }
 {

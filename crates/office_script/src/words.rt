@@ -15,7 +15,7 @@ pub struct FirstWord<'a> {
 
 /// Splits the first word off a line.
 ///
-/// The words of a line are what stands between its spaces: two spaces in a row have an empty word between them, a
+/// The words of a line are what is between its spaces: two spaces in a row have an empty word between them, a
 /// space at an end has one outside it, and a line of no bytes is one empty word.
 pub fn first_word(line: &[u8]) -> FirstWord<'_>
     ensures next { words_of line.now ≡ result.word.now ∷ words_after result.rest }

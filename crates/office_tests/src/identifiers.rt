@@ -1,11 +1,19 @@
 //! Identifiers and their DBC numbers.
-use can_id::{ExtendedId, IdFault, Ident, StandardId};
+use can_id::{ExtendedId, Ident, StandardId};
 
 /// Whether the identifier has 29 bits, and its number.
 fn shown(ident: &Ident) -> (bool, u32) {
     match ident {
         Ident::Std(id) => (false, u32::from(id.number())),
         Ident::Ext(id) => (true, id.number()),
+    }
+}
+
+/// Whether the DBC number is that of this identifier, and of none where there is none.
+fn is_ident(number: u32, wanted: Option<(bool, u32)>) -> bool {
+    match Ident::from_dbc(number) {
+        Ok(ident) => wanted == Some(shown(&ident)) && ident.to_dbc() == number,
+        Err(fault) => wanted.is_none() && fault.number() == 1,
     }
 }
 
@@ -22,25 +30,13 @@ fn identifiers_of_dbc_numbers(rt: HostRuntime) {
         (2684354560, None),
         (4294967295, None),
     ];
-    for (number, want) in rows {
-        let found = Ident::from_dbc(number).ok();
-        assert_eq!(rt; found.as_ref().map(shown), want, "at {number}");
+    for (number, wanted) in rows {
+        assert!(rt; is_ident(number, wanted), "{number}");
     }
-}
-
-#[test]
-fn dbc_numbers_of_identifiers(rt: HostRuntime) {
-    for number in [0, 2047, 2147483648, 2364540158, 2684354559] {
-        let back = Ident::from_dbc(number).map(|ident| ident.to_dbc());
-        assert_eq!(rt; back, Ok(number));
-    }
-    assert_eq!(rt; IdFault::NotIdentifier.number(), 1);
 }
 
 #[test]
 fn numbers_in_range(rt: HostRuntime) {
-    assert!(rt; StandardId::new(2047).is_some());
-    assert!(rt; StandardId::new(2048).is_none());
-    assert!(rt; ExtendedId::new(536870911).is_some());
-    assert!(rt; ExtendedId::new(536870912).is_none());
+    assert!(rt; StandardId::new(2047).is_some() && StandardId::new(2048).is_none());
+    assert!(rt; ExtendedId::new(536870911).is_some() && ExtendedId::new(536870912).is_none());
 }

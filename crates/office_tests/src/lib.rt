@@ -1,5 +1,5 @@
-//! Tests of identifiers, of the catalogue's base, of the office's types, of the office and of the script's parts, through their
-//! public calls.
+//! Tests of identifiers, of the catalogue's base and of the least free number, through their public calls. Examples of
+//! scripts, names, replies and steps are in the `proofs/Rows.antt` of their crates, and runs of the program in `tests/`.
 #![tactic(auto)]
 
 #[cfg(test)]
@@ -8,9 +8,3 @@ mod catalogue_base;
 mod identifiers;
 #[cfg(test)]
 mod numbers;
-#[cfg(test)]
-mod script_words;
-#[cfg(test)]
-mod steps;
-#[cfg(test)]
-mod words;

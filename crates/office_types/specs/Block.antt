@@ -1,12 +1,20 @@
 -- Blocks of numbers of one form.
 use Rattle.std.specs.Prelude.{ℕ, ◌≤◌, Bool, true, false, ◌&&◌, nat_le}
+use Rattle.can_id.specs.Form.{greatest_number}
+use Rattle.can_id.specs.declared.form.IdentForm.{IdentForm}
+use Rattle.can_id.specs.declared.form.IdentForm.TheVariants.{Standard, Extended}
 use Rattle.office_types.specs.declared.block.BlockForm.{BlockForm}
 use Rattle.office_types.specs.declared.block.BlockForm.TheVariants.{Std, Ext}
 use Rattle.office_types.specs.declared.block.Block.{Block}
 
 abbrev pub greatest_of : BlockForm → ℕ
-greatest_of Std = 2047
-greatest_of Ext = 536870911
+greatest_of Std = greatest_number Standard
+greatest_of Ext = greatest_number Extended
+
+-- the form of the blocks that identifiers lie in
+abbrev pub block_form : IdentForm → BlockForm
+block_form Standard = Std
+block_form Extended = Ext
 
 -- the order in which a network's blocks are kept
 abbrev pub form_rank : BlockForm → ℕ

@@ -1,6 +1,9 @@
 -- The least number of some blocks that has a form and isn't taken.
 use Rattle.std.specs.Prelude.{ℕ, ◌+◌, ◌-◌, ◌<◌, ◌≤◌, Bool, not, ◌&&◌, ◌==◌, nat_le, List, [], ◌∷◌, length, min, Option, Some, None, slice_index}
 use Rattle.std.specs.List.{list_any}
+use Rattle.can_id.specs.Form as identifiers
+use Rattle.can_id.specs.declared.form.IdentForm.{IdentForm}
+use Rattle.can_id.specs.declared.form.IdentForm.TheVariants.{Standard, Extended}
 use Rattle.office_types.specs.Least.{IsLeastOf, least_from}
 use Rattle.office_types.specs.Block.{in_block}
 use Rattle.office_types.specs.declared.free.Form.{Form}
@@ -8,8 +11,13 @@ use Rattle.office_types.specs.declared.free.Form.TheVariants.{Std, Ext}
 use Rattle.office_types.specs.declared.block.Block.{Block}
 
 abbrev pub greatest_number : Form → ℕ
-greatest_number Std = 2047
-greatest_number Ext = 536870911
+greatest_number Std = identifiers.greatest_number Standard
+greatest_number Ext = identifiers.greatest_number Extended
+
+-- the form of the numbers of identifiers
+abbrev pub number_form : IdentForm → Form
+number_form Standard = Std
+number_form Extended = Ext
 
 abbrev pub has_form : Form → ℕ → Bool
 has_form form n = nat_le n (greatest_number form)
@@ -37,7 +45,7 @@ least_free taken [] form = None
 least_free taken (b ∷ bs) form =
     lesser_of (least_from (λ n. has_form form n && not (is_taken n taken)) (b.last + 1 - b.first) b.first) (least_free taken bs form)
 
--- the first numbers of the list, so many, are below n, and no later one is
+-- the first numbers of the list, this many, are below n, and no later one is
 pub record SplitsAt (numbers : List ℕ) (below n : ℕ) : Type 0 where
   pub within : below ≤ length numbers
   pub lower : (k : ℕ) → k < below → slice_index numbers k < n

@@ -1,4 +1,4 @@
--- What every office keeps: the ranges of its parts, the orders in which they stand, and that nothing is given
+-- What every office keeps: the ranges of its parts, their orders, and that nothing is given
 -- out twice.
 use Rattle.std.specs.Prelude.{◌≡◌, ◌≢◌, ◌≤◌, false, length, All, AllPairs, Contains, IfSome, ◌⊎◌, ◌<◌}
 use Rattle.std.specs.Ordering.{on, nat_cmp, then_cmp}
@@ -7,6 +7,7 @@ use Rattle.std.specs.declared.cmp.Ordering.{Ordering}
 use Rattle.can_id.specs.Ident.{dbc_number, IsIdentifier}
 use Rattle.can_id.specs.declared.ident.Ident.{Ident}
 use Rattle.catalogue.specs.Keyed.{text_cmp}
+use Rattle.catalogue.specs.Limits.{length_limit, message_limit, roster_limit, spn_limit}
 use Rattle.catalogue.specs.Name.{IsName}
 use Rattle.office_types.specs.PlainName.{IsPlainName}
 use Rattle.office_types.specs.Block.{IsRange, have_common, form_rank}
@@ -40,7 +41,7 @@ IsPhase (Review submitter) = IsPlainName submitter
 pub record IsMessage (m : Message) : Type 0 where
   pub ident : IsIdentifier m.ident
   pub named : IsName m.name
-  pub short : m.length ≤ 64
+  pub short : m.length ≤ length_limit
   pub sent : IfSome m.transmitter IsName
 
 pub record IsNet (net : Net) : Type 0 where
@@ -50,12 +51,12 @@ pub record IsNet (net : Net) : Type 0 where
   -- no two nodes have one name
   pub nodes : All (λ n. IsName n.name) net.nodes
   pub nodes_apart : AllPairs (λ a b. a.name ≢ b.name) net.nodes
-  pub nodes_few : length net.nodes ≤ 4096
+  pub nodes_few : length net.nodes ≤ roster_limit
   -- no two live messages have one identifier or one name
   pub live : All (λ m. IsMessage m.message × IsPlainName m.owner) net.live
   pub live_rising : IsStrictlySortedBy by_number net.live
   pub live_apart : AllPairs (λ a b. a.message.name ≢ b.message.name) net.live
-  pub live_few : length net.live ≤ 16384
+  pub live_few : length net.live ≤ message_limit
   -- no number is in two blocks of one form
   pub blocks : All (λ g. IsRange g.block × IsPlainName g.team) net.blocks
   pub blocks_rising : IsStrictlySortedBy by_first net.blocks
@@ -70,11 +71,11 @@ by_net = then_cmp (on (λ b. b.net) text_cmp) (on (λ b. b.first) nat_cmp)
 
 pub record IsBook (book : SpnBook) : Type 0 where
   -- no number is in two blocks, of whatever networks
-  pub blocks : All (λ b. IsPlainName b.net × IsPlainName b.team × (1 ≤ b.first) × (b.first ≤ b.last) × (b.last ≤ 524287)) book.blocks
+  pub blocks : All (λ b. IsPlainName b.net × IsPlainName b.team × (1 ≤ b.first) × (b.first ≤ b.last) × (b.last ≤ spn_limit)) book.blocks
   pub blocks_rising : IsStrictlySortedBy by_net book.blocks
   pub blocks_apart : AllPairs (λ a b. (b.last < a.first) ⊎ (a.last < b.first)) book.blocks
   -- no number is used twice
-  pub used : All (λ n. (1 ≤ n) × (n ≤ 524287)) book.used
+  pub used : All (λ n. (1 ≤ n) × (n ≤ spn_limit)) book.used
   pub used_rising : IsStrictlyIncreasing book.used
 
 pub record IsOffice (o : Office) : Type 0 where

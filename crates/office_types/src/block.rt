@@ -1,8 +1,10 @@
+//! Blocks of numbers, and the form that the numbers of a granted block have.
 ghost use Rattle.std.specs.Prelude.{◌≡◌, ◌≤◌, SomeIff};
 
+use can_id::IdentForm;
 use std::marker::Model;
 
-/// The numbers from `first` to `last`, both with it; none where `last` is below `first`.
+/// The numbers from `first` to `last`, inclusive; none where `last` is below `first`.
 #[derive(Clone, Copy, Debug, PartialEq, Eq, Hash)]
 pub struct Block {
     /// The least number.
@@ -21,19 +23,29 @@ pub enum BlockForm {
 }
 
 impl BlockForm {
-    ghost use Rattle.office_types.specs.Block.{greatest_of, form_rank};
+    ghost use Rattle.office_types.specs.Block.{block_form, greatest_of, form_rank};
+
+    /// The form of the blocks that identifiers of this form lie in.
+    pub fn of_identifiers(form: IdentForm) -> BlockForm
+        ensures { result ≡ block_form form }
+    {
+        match form {
+            IdentForm::Standard => BlockForm::Std,
+            IdentForm::Extended => BlockForm::Ext,
+        }
+    }
 
     /// The greatest number of the form.
     pub fn greatest(self) -> u32
         ensures { result ≡ greatest_of self }
     {
         match self {
-            BlockForm::Std => 2047,
-            BlockForm::Ext => 536_870_911,
+            BlockForm::Std => IdentForm::Standard.greatest(),
+            BlockForm::Ext => IdentForm::Extended.greatest(),
         }
     }
 
-    /// The form's place among the forms, from 0: a network's blocks are kept in this order.
+    /// The form's rank among the forms, from 0: a network's blocks are kept in this order.
     pub fn rank(self) -> u8
         ensures { result ≡ form_rank self }
     {
@@ -68,7 +80,7 @@ impl FormBlock {
     ghost use Rattle.office_types.specs.Block.{Range, IsRange};
     ghost use Rattle.office_types.specs.declared.block.Block.{Block};
 
-    /// The block of the numbers from `first` to `last`, both with it, or `None` where `last` is below `first`
+    /// The block of the numbers from `first` to `last`, inclusive, or `None` where `last` is below `first`
     /// or above the form's greatest number.
     pub fn new(form: BlockForm, first: u32, last: u32) -> Option<FormBlock>
         ensures { SomeIff result (IsRange (record { form = form; first = first; last = last })) (record { form = form; first = first; last = last }) }

@@ -1,3 +1,4 @@
+//! What a command changes, and the decision on it.
 use crate::command::NetKind;
 use crate::quantity::ReviewCount;
 use crate::reply::Reply;

@@ -1,10 +1,9 @@
-ghost use Rattle.std.specs.Prelude.{◌≡◌};
-
-use crate::block::{BlockForm, FormBlock};
-use crate::free::Form;
+//! Commands on a network, with fields that keep their ranges.
+use crate::block::FormBlock;
 use crate::net_name::NetName;
 use crate::quantity::ReviewCount;
 use crate::team::Team;
+use can_id::IdentForm;
 use catalogue::{Name, PayloadLength};
 
 /// A command on one network.
@@ -54,19 +53,10 @@ pub struct Grant {
     pub block: FormBlock,
 }
 
-/// The two lengths of identifiers.
-#[derive(Clone, Copy, Debug, PartialEq, Eq, Hash)]
-pub enum IdentForm {
-    /// 11 bits.
-    Std,
-    /// 29 bits.
-    Ext,
-}
-
 /// A message that is to have an identifier of the team's blocks.
 #[derive(Debug, PartialEq, Eq, Drop)]
 pub struct TakeIdent {
-    /// The length of the identifier.
+    /// How many bits the identifier has.
     pub form: IdentForm,
     /// The message's name.
     pub name: Name,
@@ -76,28 +66,4 @@ pub struct TakeIdent {
     pub node: Option<Name>,
     /// The identifier that is wanted, of any size; without one the least free is taken.
     pub want: Option<u32>,
-}
-
-impl IdentForm {
-    ghost use Rattle.office_types.specs.Command.{number_form, block_form};
-
-    /// The form of the identifiers as numbers.
-    pub fn number_form(self) -> Form
-        ensures { result ≡ number_form self }
-    {
-        match self {
-            IdentForm::Std => Form::Std,
-            IdentForm::Ext => Form::Ext,
-        }
-    }
-
-    /// The form of the blocks that they lie in.
-    pub fn block_form(self) -> BlockForm
-        ensures { result ≡ block_form self }
-    {
-        match self {
-            IdentForm::Std => BlockForm::Std,
-            IdentForm::Ext => BlockForm::Ext,
-        }
-    }
 }

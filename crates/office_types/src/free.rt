@@ -1,8 +1,10 @@
+//! The allocator: the least free number of some blocks.
 ghost use Rattle.std.specs.Prelude.{◌≡◌, ℕ, ◌<◌, ◌≤◌, ◌↔◌, ◌∷◌, [], ◌&&◌, ◌==◌, nat_lt, IsTrue, length, slice_index};
 ghost use Rattle.std.specs.List.Sorted.{IsStrictlyIncreasing};
 ghost use Rattle.office_types.specs.Free.{has_form, greatest_number, is_taken, lesser_of, IsLeastFree, SplitsAt, least_free};
 
 use crate::block::Block;
+use can_id::IdentForm;
 
 /// What the numbers that are asked for are.
 #[derive(Clone, Copy, Debug, PartialEq, Eq, Hash)]
@@ -14,15 +16,25 @@ pub enum Form {
 }
 
 impl Form {
-    ghost use Rattle.office_types.specs.Free.{has_form, greatest_number};
+    ghost use Rattle.office_types.specs.Free.{has_form, greatest_number, number_form};
+
+    /// The form of the numbers of identifiers of this form.
+    pub fn of_identifiers(form: IdentForm) -> Form
+        ensures { result ≡ number_form form }
+    {
+        match form {
+            IdentForm::Standard => Form::Std,
+            IdentForm::Extended => Form::Ext,
+        }
+    }
 
     /// The greatest number of the form.
     pub fn greatest(self) -> u32
         ensures { result ≡ greatest_number self }
     {
         match self {
-            Form::Std => 2047,
-            Form::Ext => 536_870_911,
+            Form::Std => IdentForm::Standard.greatest(),
+            Form::Ext => IdentForm::Extended.greatest(),
         }
     }
 
@@ -46,7 +58,7 @@ pub fn rises(numbers: &[u32]) -> bool
     true
 }
 
-/// How many of the rising numbers are below `number`.
+/// How many of the ascending numbers are below `number`.
 fn count_below(taken: &[u32], number: u32) -> usize
     requires { IsStrictlyIncreasing taken.now }
     ensures { SplitsAt taken.now result number }
@@ -57,7 +69,7 @@ fn count_below(taken: &[u32], number: u32) -> usize
     }
 }
 
-/// Whether the number stands behind the lesser ones.
+/// Whether the number is the one after the lesser ones.
 fn stands_at(taken: &[u32], below: usize, number: u32) -> bool
     requires rising { IsStrictlyIncreasing taken.now }
     requires split { SplitsAt taken.now below number }

@@ -25,8 +25,9 @@ mod state;
 mod team;
 
 pub use block::{Block, BlockForm, FormBlock};
+pub use can_id::IdentForm;
 pub use change::{Change, Decision, Head};
-pub use command::{Action, Command, Grant, IdentForm, NetKind, OpenNet, TakeIdent};
+pub use command::{Action, Command, Grant, NetKind, OpenNet, TakeIdent};
 pub use free::{Form, least_free, rises};
 pub use net_name::NetName;
 pub use plain_name::PlainName;

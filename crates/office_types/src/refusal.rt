@@ -1,3 +1,4 @@
+//! Refusals, with their numbers and names.
 ghost use Rattle.std.specs.Prelude.{◌≡◌};
 
 /// Why the office refused a command.

@@ -1,3 +1,4 @@
+//! What the office replies to a command.
 use crate::refusal::Refusal;
 use std::fmt;
 

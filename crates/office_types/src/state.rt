@@ -1,3 +1,4 @@
+//! The office's state: networks with their messages, blocks and held identifiers, and the SPN book.
 use crate::block::FormBlock;
 use crate::command::NetKind;
 use crate::net_name::NetName;
@@ -9,16 +10,16 @@ use std::alloc::{AllocError, Global};
 use std::cmp::Ordering;
 
 /// The whole office.
-#[derive(Debug, Drop)]
+#[derive(Debug)]
 pub struct Office {
-    /// The networks, by rising name.
+    /// The networks, in ascending order of name.
     pub nets: Items<Net>,
     /// The SPNs of the whole office.
     pub book: SpnBook,
 }
 
 /// One vehicle network.
-#[derive(Debug, Drop)]
+#[derive(Debug)]
 pub struct Net {
     /// The network's name, by which commands speak of it.
     pub name: NetName,
@@ -30,16 +31,16 @@ pub struct Net {
     pub phase: Phase,
     /// The nodes, in the order in which they were added.
     pub nodes: Items<Node>,
-    /// The live messages, by rising DBC number.
+    /// The live messages, in ascending order of DBC number.
     pub live: Items<LiveMessage>,
     /// The granted blocks, by form and then by their first number.
     pub blocks: Items<GrantedBlock>,
-    /// The identifiers that are held for good, by rising DBC number.
+    /// The identifiers that are held for good, in ascending order of DBC number.
     pub held: Items<Ident>,
 }
 
 /// Whether a network is being changed or reviewed.
-#[derive(Debug, Drop)]
+#[derive(Debug)]
 pub enum Phase {
     /// Teams may change the network.
     Draft,
@@ -51,14 +52,14 @@ pub enum Phase {
 }
 
 /// A node of a network.
-#[derive(Debug, Drop)]
+#[derive(Debug)]
 pub struct Node {
     /// The node's name.
     pub name: Name,
 }
 
 /// A message without signals.
-#[derive(Debug, Drop)]
+#[derive(Debug)]
 pub struct Message {
     /// The identifier under which it is sent.
     pub ident: Ident,
@@ -71,7 +72,7 @@ pub struct Message {
 }
 
 /// A live message, and the team that took it.
-#[derive(Debug, Drop)]
+#[derive(Debug)]
 pub struct LiveMessage {
     /// The message.
     pub message: Message,
@@ -80,7 +81,7 @@ pub struct LiveMessage {
 }
 
 /// A block of numbers, and the team that it was granted to.
-#[derive(Debug, Drop)]
+#[derive(Debug)]
 pub struct GrantedBlock {
     /// The numbers.
     pub block: FormBlock,
@@ -89,16 +90,16 @@ pub struct GrantedBlock {
 }
 
 /// The J1939 suspect parameter numbers of the whole office.
-#[derive(Debug, Drop)]
+#[derive(Debug)]
 pub struct SpnBook {
     /// The granted blocks, by network and then by their first number.
     pub blocks: Items<SpnBlock>,
-    /// Each number that was ever used, rising.
+    /// Each number that was ever used, ascending.
     pub used: Items<u32>,
 }
 
-/// A block of suspect parameter numbers from `first` to `last`, both with it, of a team on a network.
-#[derive(Debug, Drop)]
+/// A block of suspect parameter numbers from `first` to `last`, inclusive, of a team on a network.
+#[derive(Debug)]
 pub struct SpnBlock {
     /// The network.
     pub net: NetName,
@@ -233,5 +234,95 @@ impl Keyed for GrantedBlock {
         let rank = self.block.form().rank();
         let other_rank = other.block.form().rank();
         rank.cmp(&other_rank).then(self.block.numbers().first.cmp(&other.block.numbers().first))
+    }
+}
+
+impl Drop for Office {
+    fn drop(self) {
+        let Office {
+            nets: _nets,
+            book: _book,
+        } = self;
+    }
+}
+
+impl Drop for Net {
+    fn drop(self) {
+        let Net {
+            name: _name,
+            kind: _kind,
+            reviews: _reviews,
+            phase: _phase,
+            nodes: _nodes,
+            live: _live,
+            blocks: _blocks,
+            held: _held,
+        } = self;
+    }
+}
+
+impl Drop for Node {
+    fn drop(self) {
+        let Node { name: _name } = self;
+    }
+}
+
+impl Drop for Message {
+    fn drop(self) {
+        let Message {
+            ident: _ident,
+            name: _name,
+            length: _length,
+            transmitter: _transmitter,
+        } = self;
+    }
+}
+
+impl Drop for LiveMessage {
+    fn drop(self) {
+        let LiveMessage {
+            message: _message,
+            owner: _owner,
+        } = self;
+    }
+}
+
+impl Drop for GrantedBlock {
+    fn drop(self) {
+        let GrantedBlock {
+            block: _block,
+            team: _team,
+        } = self;
+    }
+}
+
+impl Drop for SpnBook {
+    fn drop(self) {
+        let SpnBook {
+            blocks: _blocks,
+            used: _used,
+        } = self;
+    }
+}
+
+impl Drop for SpnBlock {
+    fn drop(self) {
+        let SpnBlock {
+            net: _net,
+            team: _team,
+            first: _first,
+            last: _last,
+        } = self;
+    }
+}
+
+impl Drop for Phase {
+    fn drop(self) {
+        match self {
+            Phase::Draft => {}
+            Phase::Review {
+                submitter: _submitter,
+            } => {}
+        }
     }
 }

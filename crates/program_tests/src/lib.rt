@@ -1,4 +1,5 @@
-//! Tests of the program's library, from the words of the command line to the bytes on the two streams.
+//! Tests of the program's library through `perform`, and of its parts that no run of the program shows. The runs of the
+//! built program are in `tests/`.
 #![tactic(auto)]
 
 #[cfg(test)]
@@ -6,8 +7,8 @@ mod charts;
 #[cfg(test)]
 mod dbc_files;
 #[cfg(test)]
-mod parts;
+mod failures;
+#[cfg(test)]
+mod row;
 #[cfg(test)]
 mod scripts;
-#[cfg(test)]
-mod wrong_lines;

@@ -32,7 +32,7 @@ impl<R: Files> FileSource for HostFiles<'_, R> {
     }
 }
 
-// Want of memory is told apart from every other reason.
+/// Out of memory is told apart from every other reason.
 fn fault_of(error: &io::Error) -> FileFault
     ensures { (result ≡ FileFault.Memory) ↔ (error_kind error.now ≡ ErrorKind.OutOfMemory) }
 {

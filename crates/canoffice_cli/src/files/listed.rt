@@ -34,7 +34,7 @@ impl FileSource for ListedFiles<'_> {
     }
 }
 
-// The first file of the path.
+/// The first file of the path.
 fn first_at<'a>(files: &'a [NamedFile<'a>], path: &str) -> Option<&'a NamedFile<'a>>
     ensures { option_map (λ file. file.now) result ≡ find (λ file. bytes_eq file.path.now path.now) files.now }
 {

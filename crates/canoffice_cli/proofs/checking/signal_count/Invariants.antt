@@ -3,7 +3,7 @@ use Rattle.catalogue.specs.declared.message.Message.{Message}
 use Rattle.canoffice_cli.specs.Checked.{signal_count}
 use Rattle.canoffice_cli.proofs.checking.signal_count.Given as goal
 
--- those behind are still to be counted, and each message has 4,096 at most
+-- the later ones are still to be counted, and each message has 4,096 at most
 pub record Counted (count index : ℕ) (messages : List Message) : Type 0 where
   pub whole : count + signal_count (drop index messages) ≡ signal_count messages
   pub bound : count ≤ 4096 * index

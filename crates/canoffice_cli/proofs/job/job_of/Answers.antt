@@ -1,7 +1,19 @@
 use Rattle.std.proofs.Common.{map}
 use Rattle.clap.specs.Words.{app_of, kind_of}
 use Rattle.canoffice_cli.proofs.CommandLine.{line_fault_by}
+use Rattle.canoffice_cli.proofs.EnteredLine.{job_of_read, line_is_read}
 use Rattle.canoffice_cli.proofs.job.job_of.Goals as goal
+
+pub job_in-requires : goal.job_in-requires
+job_in-requires c =
+    let found = c.in-Ok-try_get_matches_from in
+    (line_is_read (app_of c.in-Ok.command) (map (λ s. s.now) c.args.words.now) found.matches c.in-Ok.ensures.app found.ensures.kinds found.ensures.matches).entered
+
+pub returns-in-Ok-job_in-clause-job : goal.returns-in-Ok-job_in-clause-job
+returns-in-Ok-job_in-clause-job c =
+    let found = c.in-Ok-try_get_matches_from in
+    let words = map (λ s. s.now) c.args.words.now in
+    job_of_read words found.matches c.in-Ok-job_in.job (line_is_read (app_of c.in-Ok.command) words found.matches c.in-Ok.ensures.app found.ensures.kinds found.ensures.matches) c.in-Ok-job_in.ensures.job
 
 pub returns-clause-fault : goal.returns-clause-fault
 returns-clause-fault c =

@@ -1,7 +1,7 @@
 use Rattle.std.proofs.Common.{rules}
 use Rattle.std.proofs.lemmas.List.Sorted.{answers_always}
 use Rattle.catalogue.specs.Messages.{number_of}
-use Rattle.catalogue.proofs.Places.{searched}
+use Rattle.catalogue.proofs.AscendingLists.{searched}
 use Rattle.catalogue.proofs.messages.search.Goals as goal
 
 pub returns : goal.returns

@@ -1,11 +1,11 @@
 use Rattle.std.specs.Vec.Iter.{into_iter_items}
-use Rattle.dbc_read.specs.Places.{AreCitedPlaces}
+use Rattle.dbc_read.specs.Lookups.{AreCitedIndices}
 use Rattle.dbc_read.proofs.Gathering.{Gathers}
-use Rattle.dbc_statements.specs.Said.{said}
+use Rattle.dbc_statements.specs.Statement.{statements_of}
 use Rattle.dbc_read.proofs.gathered.gathered_of.Given as goal
 
 abbrev pub invariant-loop-statement : goal.invariant-loop-statement
 invariant-loop-statement l = record {
-  gathers : Gathers (said l.fn.statements.items) l.gathered (said (into_iter_items l.statement-iterator));
-  places : AreCitedPlaces (said l.fn.statements.items) (said (into_iter_items l.statement-iterator)) l.places;
+  gathers : Gathers (statements_of l.fn.statements.items) l.gathered (statements_of (into_iter_items l.statement-iterator));
+  indices : AreCitedIndices (statements_of l.fn.statements.items) (statements_of (into_iter_items l.statement-iterator)) l.indices;
 }

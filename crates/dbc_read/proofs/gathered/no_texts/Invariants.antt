@@ -1,5 +1,5 @@
 use Rattle.std.proofs.Common.{◌≡◌, [], replicate}
 use Rattle.dbc_read.proofs.gathered.no_texts.Given as goal
 
-abbrev pub invariant-loop-place : goal.invariant-loop-place
-invariant-loop-place l = l.texts.items ≡ replicate l._place []
+abbrev pub invariant-loop-index : goal.invariant-loop-index
+invariant-loop-index l = l.texts.items ≡ replicate l._index []

@@ -2,7 +2,7 @@ use Rattle.std.proofs.Common.{◌≡◌, ◌∙◌, length, replicate, [], ap, r
 use Rattle.std.proofs.lemmas.List.{length-map}
 use Rattle.catalogue.specs.Saying.{node_names_of, numbers_of, signal_keys_of}
 use Rattle.catalogue.specs.declared.value_type.ValueType.TheVariants.{Integer}
-use Rattle.dbc_read.specs.Seen.{key_of, text_of}
+use Rattle.dbc_read.specs.Keys.{key_of, text_of}
 use Rattle.dbc_read.proofs.gathered.nothing.Goals as goal
 
 pub returns : goal.returns
@@ -19,8 +19,8 @@ returns c = λ statements are.
       node_comments = c.in_ok-no_texts.ensures ∙ ap (λ n. replicate n []) nodes;
       message_comments = c.in_ok-no_texts-2.ensures ∙ ap (λ n. replicate n []) messages;
       signal_comments = c.in_ok-no_texts-3.ensures ∙ ap (λ n. replicate n []) signals;
-      signal_values = c.in_ok-no_lists.ensures ∙ ap (λ n. replicate n []) signals;
-      signal_types = c.in_ok-all_alike.ensures ∙ ap (λ n. replicate n Integer) signals;
-      signal_spns = c.in_ok-all_alike-2.ensures ∙ ap (λ n. replicate n 0) signals;
+      signal_values = c.in_ok-no_entries.ensures ∙ ap (λ n. replicate n []) signals;
+      signal_types = c.in_ok-copies.ensures ∙ ap (λ n. replicate n Integer) signals;
+      signal_spns = c.in_ok-copies-2.ensures ∙ ap (λ n. replicate n 0) signals;
       passed = c.new-4.ensures;
     }

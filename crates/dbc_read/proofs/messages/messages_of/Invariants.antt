@@ -1,7 +1,7 @@
 use Rattle.std.proofs.Common.{◌≡◌, ◌++◌, map}
 use Rattle.std.specs.Vec.Iter.{into_iter_items}
 use Rattle.dbc_read.specs.Built.{messages_from}
-use Rattle.dbc_statements.specs.Said.{message_of}
+use Rattle.dbc_statements.specs.Statement.{message_of}
 use Rattle.dbc_read.proofs.messages.messages_of.Given as goal
 
 abbrev pub invariant-loop-line : goal.invariant-loop-line

@@ -4,7 +4,7 @@ use Rattle.catalogue.specs.Sheet.{node_name}
 use Rattle.catalogue.specs.declared.node.Node.{Node}
 use Rattle.dbc_read.specs.Built.{nodes_from}
 use Rattle.dbc_read.proofs.SheetsFit.{node_refused}
-use Rattle.dbc_statements.specs.Said.{names_of}
+use Rattle.dbc_statements.specs.Statement.{names_of}
 use Rattle.dbc_read.proofs.sheets.add_nodes.Goals as goal
 
 pub returns-in_err-with_node-clause-refused : goal.returns-in_err-with_node-clause-refused

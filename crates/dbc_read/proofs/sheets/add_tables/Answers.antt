@@ -1,7 +1,7 @@
 use Rattle.std.proofs.Common.{◌++◌, ◌∷◌, ◌∙◌, map, ap}
 use Rattle.std.specs.Vec.Iter.{into_iter_items}
 use Rattle.std.proofs.lemmas.Result.{err_from_is_err_and}
-use Rattle.dbc_read.specs.Gathered.{table_of}
+use Rattle.dbc_statements.specs.Parts.{table_of}
 use Rattle.dbc_read.proofs.SheetsFit.{entries_refused, table_refused}
 use Rattle.dbc_read.proofs.sheets.add_tables.Goals as goal
 
@@ -17,5 +17,5 @@ returns-in_err-with_table-clause-refused c =
     let p = err_from_is_err_and r.result r.ensures.1 in
     let before = c.loop-line.sheet.tables in
     let after = map table_of (into_iter_items c.next.new.self) in
-    let e = ap (λ t. before ++ t ∷ after) c.in_ok-table.ensures.said ∙ rw c.in-Some.ensures.steps.0 at c.loop-line.invariant.rest in
+    let e = ap (λ t. before ++ t ∷ after) c.in_ok-table.ensures.ok ∙ rw c.in-Some.ensures.steps.0 at c.loop-line.invariant.rest in
     rw (p.1, p.2) (table_refused before c.in_ok-table.table after _ _ e c.in_err-with_table.ensures.refused)

@@ -1,5 +1,5 @@
 use Rattle.std.proofs.Common.{◌≡◌, ◌++◌}
-use Rattle.dbc_statements.specs.Said.{names_of}
+use Rattle.dbc_statements.specs.Statement.{names_of}
 use Rattle.dbc_statements.proofs.names.receivers.Given as goal
 
 abbrev pub invariant-loop-node : goal.invariant-loop-node

@@ -3,27 +3,27 @@ use Rattle.std.proofs.lemmas.Result.{err_from_is_err_and}
 use Rattle.catalogue.specs.Lexing.{lexed}
 use Rattle.catalogue.specs.Token.{Token}
 use Rattle.catalogue.specs.TokenLaw.{all_read}
-use Rattle.dbc_statements.specs.Left.{IsReached}
-use Rattle.dbc_statements.specs.Said.{said}
+use Rattle.dbc_statements.specs.Tokens.{IsReached}
+use Rattle.dbc_statements.specs.Statement.{statements_of}
 use Rattle.dbc_statements.proofs.Whole.{is_divided, no_division, no_tokens, whole}
 use Rattle.dbc_statements.proofs.reading.statements_of.Goals as goal
 
-pub fault_behind-requires : goal.fault_behind-requires
-fault_behind-requires c =
+pub fault_after-requires : goal.fault_after-requires
+fault_after-requires c =
     subst (λ (ts : List Token). IsReached ts c.all-read.new.reached) c.of-tokens.ensures c.all-read.ensures.reached
 
-pub returns-in_err-fault_behind-clause-err : goal.returns-in_err-fault_behind-clause-err
-returns-in_err-fault_behind-clause-err c =
+pub returns-in_err-fault_after-clause-err : goal.returns-in_err-fault_after-clause-err
+returns-in_err-fault_after-clause-err c =
     let p = err_from_is_err_and c.from_residual.result c.from_residual.ensures.1 in
-    rw (p.1, p.2) (λ memory. no_tokens c.args.source.now _ c.in_err-fault_behind.ensures.err)
+    rw (p.1, p.2) (λ memory. no_tokens c.args.source.now _ c.in_err-fault_after.ensures.err)
 
 pub returns-in_err-statements-clause-err : goal.returns-in_err-statements-clause-err
 returns-in_err-statements-clause-err c =
     let p = err_from_is_err_and c.from_residual-in_err-statements.result c.from_residual-in_err-statements.ensures.1 in
-    let read : lexed 0 c.args.source.now ≡ all_read c.of-tokens.result = whole c.args.source.now c.of-tokens.result c.of-tokens.ensures c.in_ok-fault_behind.ensures.ok in
+    let read : lexed 0 c.args.source.now ≡ all_read c.of-tokens.result = whole c.args.source.now c.of-tokens.result c.of-tokens.ensures c.in_ok-fault_after.ensures.ok in
     rw (p.1, p.2) (λ memory. no_division c.args.source.now c.of-tokens.result read (c.in_err-statements.ensures.err memory))
 
 pub returns-clause-ok : goal.returns-clause-ok
 returns-clause-ok c =
-    let read : lexed 0 c.args.source.now ≡ all_read c.of-tokens.result = whole c.args.source.now c.of-tokens.result c.of-tokens.ensures c.in_ok-fault_behind.ensures.ok in
-    is_divided c.args.source.now c.of-tokens.result read (said c.in_ok-statements.statements.items) c.in_ok-statements.ensures.ok
+    let read : lexed 0 c.args.source.now ≡ all_read c.of-tokens.result = whole c.args.source.now c.of-tokens.result c.of-tokens.ensures c.in_ok-fault_after.ensures.ok in
+    is_divided c.args.source.now c.of-tokens.result read (statements_of c.in_ok-statements.statements.items) c.in_ok-statements.ensures.ok

@@ -3,7 +3,7 @@ use Rattle.catalogue.specs.Fields.{is_key}
 use Rattle.catalogue.specs.Parsing.{with_front, many_at, signal_at, signals_at}
 use Rattle.catalogue.specs.Rules.{starts}
 use Rattle.catalogue.specs.declared.keyword.Keyword.TheVariants.{Signal}
-use Rattle.dbc_statements.specs.Said.{signals_of}
+use Rattle.dbc_statements.specs.Statement.{signals_of}
 use Rattle.dbc_statements.proofs.signals.signals.Given as goal
 
 abbrev pub invariant-signals : goal.invariant-signals

@@ -9,4 +9,4 @@ returns-then-not-has_spn c = rw (none_defined c.args.sheet.now (sym c.has_spn.en
 
 pub returns : goal.returns
 returns c =
-    rw (defined_first c.args.sheet.now (sym c.has_spn.ensures ∙ c.if-not-has_spn.false)) (also c.in_ok-definitions.ensures c.in_ok-lines.ensures)
+    rw (defined_first c.args.sheet.now (sym c.has_spn.ensures ∙ c.if-not-has_spn.false)) (also (also c.in_ok-definition.ensures c.in_ok-default_value.ensures) c.in_ok-lines.ensures)

@@ -1,4 +1,5 @@
 use Rattle.std.proofs.Common.{ℕ, List, ◌∷◌, [], take}
+use Rattle.std.specs.Prelude.{codes}
 use Rattle.std.specs.List.{flat_map}
 use Rattle.catalogue.specs.Canon.{mark, tight, word}
 use Rattle.dbc_write.specs.Adding.{Adds, piece_text}
@@ -6,4 +7,4 @@ use Rattle.dbc_write.proofs.signals.receivers.Given as goal
 
 abbrev pub invariant-loop-other : goal.invariant-loop-other
 invariant-loop-other l =
-    Adds piece_text l.initial.text.items l.text.items (flat_map (λ (n : List ℕ). mark tight 44 ∷ word tight n ∷ []) (take l.other-index l.others))
+    Adds piece_text l.initial.text.items l.text.items (flat_map (λ (n : List ℕ). mark tight (codes ",") ∷ word tight n ∷ []) (take l.other-index l.others))

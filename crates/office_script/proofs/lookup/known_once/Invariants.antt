@@ -3,6 +3,6 @@ use Rattle.office_script.specs.Fields.{names_of, AreKnownOnce}
 use Rattle.office_script.specs.FieldViews.{named_values}
 use Rattle.office_script.proofs.lookup.known_once.Given as goal
 
--- the names so far are known, and none stands twice among them
+-- the names so far are known, and none occurs twice among them
 abbrev pub invariant-loop-place : goal.invariant-loop-place
 invariant-loop-place l = AreKnownOnce (map (λ k. k.now) l.known) (names_of (named_values (take l.place l.fields)))

@@ -5,7 +5,7 @@ use Rattle.catalogue.specs.Messages.{message_at, message_tests, number_of}
 use Rattle.catalogue.specs.Named.{holds_name}
 use Rattle.catalogue.specs.Refusing.{first_refusal}
 use Rattle.catalogue.proofs.MessageRules.{gap_in, remove_inserted, same_messages, with_message}
-use Rattle.catalogue.proofs.Places.{find_put, put_gap}
+use Rattle.catalogue.proofs.AscendingLists.{find_put, put_gap}
 use Rattle.catalogue.proofs.messages.Messages.add.Goals as goal
 
 pub invariant_of-self-in-Ok : goal.invariant_of-self-in-Ok

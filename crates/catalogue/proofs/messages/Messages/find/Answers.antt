@@ -1,7 +1,7 @@
 use Rattle.std.proofs.Common.{◌∙◌, ap, sym, subst, Some}
 use Rattle.catalogue.specs.Messages.{message_at, number_of}
-use Rattle.catalogue.specs.Place.{IsGap}
-use Rattle.catalogue.proofs.Places.{find_at, find_gap}
+use Rattle.catalogue.specs.Ascending.{IsGap}
+use Rattle.catalogue.proofs.AscendingLists.{find_at, find_gap}
 use Rattle.catalogue.proofs.messages.Messages.find.Goals as goal
 
 pub returns-in-Ok : goal.returns-in-Ok

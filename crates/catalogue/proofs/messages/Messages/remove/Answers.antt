@@ -2,7 +2,7 @@ use Rattle.std.proofs.Common.{◌∙◌, ap, sym, refl, Some}
 use Rattle.std.proofs.lemmas.Option.{get_or_from_slice_get}
 use Rattle.catalogue.specs.Messages.{message_at, number_of, without_number}
 use Rattle.catalogue.proofs.MessageRules.{at_in, gap_in, without_message}
-use Rattle.catalogue.proofs.Places.{find_at, find_gap, find_without, remove_at, without_gap}
+use Rattle.catalogue.proofs.AscendingLists.{find_at, find_gap, find_without, remove_at, without_gap}
 use Rattle.catalogue.proofs.messages.Messages.remove.Goals as goal
 
 pub invariant_of-self : goal.invariant_of-self

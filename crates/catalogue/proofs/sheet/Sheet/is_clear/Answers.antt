@@ -1,6 +1,7 @@
-use Rattle.std.proofs.Common.{◌≡◌, refl, subst, arith, All, IfSome, Some, slice_get, take}
+use Rattle.std.proofs.Common.{◌≡◌, ap, refl, subst, arith, All, IfSome, Some, slice_get, take}
 use Rattle.std.proofs.lemmas.Option.{slice_get_read}
 use Rattle.bitlayout.specs.Clash.{IsFirstClash}
+use Rattle.catalogue.specs.declared.fault.About.TheVariants.{Signals}
 use Rattle.catalogue.specs.Messages.{IsClearMessage}
 use Rattle.catalogue.specs.Signals.{places_of}
 use Rattle.catalogue.proofs.Clearness.{says, one_more, all_taken, none_is_none, some_is_some}
@@ -18,7 +19,7 @@ returns-in-Some-clause-fault c =
       clash = c.in-Some.clash;
       first = subst (λ clash. IfSome clash (IsFirstClash (places_of c.message-item.result.signals) c.message-item.result.length)) c.in-Some.is c.in_ok-clash.ensures.first;
       code = c.from.ensures;
-      number = c.number.ensures;
+      about = ap (λ number. Signals number c.in-Some.clash) c.number.ensures;
     })
 
 pub loop-message-preserved : goal.loop-message-preserved

@@ -6,6 +6,6 @@ use Rattle.catalogue.proofs.signals.Signals.add.Goals as goal
 
 pub invariant_of-self-2 : goal.invariant_of-self-2
 invariant_of-self-2 c =
-    known_with c.self.inside.roster c.push.new.self c.args.signal c.self.inside.switched c.is_multiplexor-multiplexor.result _ c.self.invariant
+    known_with c.self.inside.roster c.push.new.self c.args.signal c.self.inside.multiplexed c.is_multiplexor-multiplexor.result _ c.self.invariant
     (ap (λ signals. first_refusal (signal_tests signals c.args.signal)) c.self.view_is ∙ sym c.refusal.ensures ∙ c.in-None.is)
     c.in_ok-push.ensures.ok c.is_multiplexor-multiplexor.ensures refl

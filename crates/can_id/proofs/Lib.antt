@@ -1,0 +1,5 @@
+pub mod Counting
+pub mod Groups
+pub mod Packing
+mod Rows
+pub mod Splits

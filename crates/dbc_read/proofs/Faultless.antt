@@ -1,0 +1,139 @@
+-- Where no item is at fault, all that is gathered can be in one sheet.
+use Rattle.std.proofs.Common.{◌≡◌, ◌∙◌, ◌≤◌, ◌&&◌, ℕ, Bool, arith, false, nat_eq, List, [], ◌∷◌, length, map, drop, refl, sym, ap, subst}
+use Rattle.std.specs.List.{AllByRecursion, IsDistinct}
+use Rattle.std.specs.Str.{bytes_eq}
+use Rattle.std.proofs.lemmas.List.{length-map}
+use Rattle.bitlayout.specs.Mux.{is_multiplexor}
+use Rattle.bitlayout.specs.declared.place.Mux.{Mux}
+use Rattle.catalogue.specs.Limits.{message_limit, roster_limit}
+use Rattle.catalogue.specs.Messages.{message_name, number_of}
+use Rattle.catalogue.specs.Sheet.{node_name, table_name}
+use Rattle.catalogue.specs.Signals.{signal_name}
+use Rattle.catalogue.specs.WellFormed.{AreFewTexts}
+use Rattle.catalogue.specs.declared.message.Message.{Message}
+use Rattle.catalogue.specs.declared.signal.Signal.{Signal}
+use Rattle.catalogue.specs.declared.value_table.ValueTable.{ValueTable}
+use Rattle.catalogue.specs.declared.value_texts.ValueText.{ValueText}
+use Rattle.dbc_read.specs.Built.{CanStand, feeds_after, feeds_in, first_or, messages_from, nodes_from, rest_of, signals_from}
+use Rattle.dbc_read.specs.Faults.{AreMessageLines, AreNamedWithin, HaveSignalLines, entries_of, line_number}
+use Rattle.dbc_read.specs.Fit.{IsFit}
+use Rattle.dbc_read.specs.declared.feed.Feeds.{Feeds}
+use Rattle.dbc_read.specs.declared.gathered.Gathered.{Gathered}
+use Rattle.dbc_read.proofs.Apart.{apart_mapped}
+use Rattle.dbc_statements.specs.Parts.{table_of}
+use Rattle.dbc_statements.specs.Statement.{message_of, names_of, signals_of}
+use Rattle.dbc_statements.specs.declared.statement.MessageLine.{MessageLine}
+use Rattle.dbc_statements.specs.declared.statement.NodeName.{NodeName}
+use Rattle.dbc_statements.specs.declared.statement.SignalLine.{SignalLine}
+use Rattle.dbc_statements.specs.declared.statement.TableLine.{TableLine}
+
+-- Things that have the keys of others are as distinct as those, and as many.
+module _ {A B K : Type 0} (same : K → K → Bool) (f : A → K) (g : B → K) where
+  apart_unmapped : (ys : List B) → IsDistinct same (map g ys) → IsDistinct (λ a b. same (g a) (g b)) ys
+  unfolding IsDistinct
+  apart_unmapped [] h = tt
+  apart_unmapped (y ∷ ys) h = (each ys h.0, apart_unmapped ys h.1)
+    where
+      each : (zs : List B) → AllByRecursion (λ k. same (g y) k ≡ false) (map g zs) → AllByRecursion (λ z. same (g y) (g z) ≡ false) zs
+      each [] a = tt
+      each (z ∷ zs) a = (a.0, each zs a.1)
+
+  distinct_too : (xs : List A) (ys : List B) → map g ys ≡ map f xs → IsDistinct (λ a b. same (f a) (f b)) xs → IsDistinct (λ a b. same (g a) (g b)) ys
+  distinct_too xs ys e h = apart_unmapped ys (subst (IsDistinct same) (sym e) (apart_mapped same f xs h))
+
+  as_many : (xs : List A) (ys : List B) → map g ys ≡ map f xs → length ys ≡ length xs
+  as_many xs ys e = sym (length-map ys g) ∙ ap length e ∙ length-map xs f
+
+-- Keys of what is built.
+
+node_keys : (nodes : List NodeName) (comments : List (List ℕ)) → map node_name (nodes_from (names_of nodes) comments) ≡ map (λ (n : NodeName). n.name) nodes
+node_keys [] comments = refl
+node_keys (n ∷ nodes) comments = ap (λ l. n.name ∷ l) (node_keys nodes (drop 1 comments))
+
+table_keys : (tables : List TableLine) → map table_name (map table_of tables) ≡ map (λ (t : TableLine). t.name) tables
+table_keys [] = refl
+table_keys (t ∷ tables) = ap (λ l. t.name ∷ l) (table_keys tables)
+
+signal_keys : (lines : List SignalLine) (f : Feeds) → map signal_name (signals_from (signals_of lines) f) ≡ map (λ (s : SignalLine). s.name) lines
+signal_keys [] f = refl
+signal_keys (s ∷ lines) f = ap (λ l. s.name ∷ l) (signal_keys lines (rest_of f))
+
+signal_marks : (lines : List SignalLine) (f : Feeds) → map (λ (s : Signal). s.mux) (signals_from (signals_of lines) f) ≡ map (λ (s : SignalLine). s.mux) lines
+signal_marks [] f = refl
+signal_marks (s ∷ lines) f = ap (λ l. s.mux ∷ l) (signal_marks lines (rest_of f))
+
+message_keys : (lines : List MessageLine) (comments : List (List ℕ)) (f : Feeds) → map message_name (messages_from (map message_of lines) comments f) ≡ map (λ (m : MessageLine). m.name) lines
+message_keys [] comments f = refl
+message_keys (m ∷ lines) comments f = ap (λ l. m.name ∷ l) (message_keys lines (drop 1 comments) (feeds_after (signals_of m.signals.items) f))
+
+message_numbers : (lines : List MessageLine) (comments : List (List ℕ)) (f : Feeds) → map number_of (messages_from (map message_of lines) comments f) ≡ map line_number lines
+message_numbers [] comments f = refl
+message_numbers (m ∷ lines) comments f = ap (λ l. line_number m ∷ l) (message_numbers lines (drop 1 comments) (feeds_after (signals_of m.signals.items) f))
+
+-- Texts for values, which are few in each list.
+
+abbrev AreFew : List (List ValueText) → Type 0
+AreFew lists = AllByRecursion AreFewTexts lists
+
+few_first : (lists : List (List ValueText)) → AreFew lists → AreFewTexts (first_or [] lists)
+few_first [] h = omega arith
+few_first (l ∷ lists) h = h.0
+
+few_rest : (lists : List (List ValueText)) → AreFew lists → AreFew (drop 1 lists)
+few_rest [] h = tt
+few_rest (l ∷ lists) h = h.1
+
+few_after : (lines : List SignalLine) (f : Feeds) → AreFew f.values → AreFew (feeds_after (signals_of lines) f).values
+few_after [] f h = h
+few_after (s ∷ lines) f h = few_after lines (rest_of f) (few_rest f.values h)
+
+signals_few : (lines : List SignalLine) (f : Feeds) → AreFew f.values → AllByRecursion (λ (s : Signal). AreFewTexts s.values) (signals_from (signals_of lines) f)
+signals_few [] f h = tt
+signals_few (s ∷ lines) f h = (few_first f.values h, signals_few lines (rest_of f) (few_rest f.values h))
+
+tables_few : (tables : List TableLine) → AreFew (entries_of tables) → AllByRecursion (λ (t : ValueTable). AreFewTexts t.entries) (map table_of tables)
+tables_few [] h = tt
+tables_few (t ∷ tables) h = (h.0, tables_few tables h.1)
+
+messages_fit : (lines : List MessageLine) (comments : List (List ℕ)) (f : Feeds) → HaveSignalLines lines → AreFew f.values → AllByRecursion IsFit (messages_from (map message_of lines) comments f)
+messages_fit [] comments f h few = tt
+messages_fit (m ∷ lines) comments f h few =
+    let signals = m.signals.items in
+    let made = signals_from (signals_of signals) f in (
+      record {
+        together = record {
+          apart = distinct_too bytes_eq (λ (s : SignalLine). s.name) signal_name signals made (signal_keys signals f) h.0.names.apart;
+          one_switch = distinct_too (λ (a b : Mux). is_multiplexor a && is_multiplexor b) (λ (s : SignalLine). s.mux) (λ (s : Signal). s.mux) signals made (signal_marks signals f) h.0.one_multiplexor;
+          few = subst (λ n. n ≤ roster_limit) (sym (as_many bytes_eq (λ (s : SignalLine). s.name) signal_name signals made (signal_keys signals f))) h.0.names.few;
+        };
+        values = signals_few signals f few;
+      },
+      messages_fit lines (drop 1 comments) (feeds_after (signals_of signals) f) h.1 (few_after signals f few),
+    )
+
+pub can_stand : (g : Gathered) → AreNamedWithin (λ (n : NodeName). n.name) roster_limit g.nodes → AreNamedWithin (λ (t : TableLine). t.name) roster_limit g.tables → AreMessageLines g.messages
+    → AreFew (entries_of g.tables) → AreFew g.signal_values → CanStand g
+can_stand g nodes tables messages entries values =
+    let node_list = nodes_from (names_of g.nodes) g.node_comments in
+    let message_list = messages_from (map message_of g.messages) g.message_comments (feeds_in g) in
+    let node_equal = node_keys g.nodes g.node_comments in
+    let name_equal = message_keys g.messages g.message_comments (feeds_in g) in
+    record {
+      nodes = record {
+        apart = distinct_too bytes_eq (λ (n : NodeName). n.name) node_name g.nodes node_list node_equal nodes.apart;
+        few = subst (λ n. n ≤ roster_limit) (sym (as_many bytes_eq (λ (n : NodeName). n.name) node_name g.nodes node_list node_equal)) nodes.few;
+      };
+      tables = record {
+        together = record {
+          apart = distinct_too bytes_eq (λ (t : TableLine). t.name) table_name g.tables (map table_of g.tables) (table_keys g.tables) tables.apart;
+          few = subst (λ n. n ≤ roster_limit) (sym (length-map g.tables table_of)) tables.few;
+        };
+        entries = tables_few g.tables entries;
+      };
+      messages = messages_fit g.messages g.message_comments (feeds_in g) messages.signals values;
+      together = record {
+        numbers = distinct_too nat_eq line_number number_of g.messages message_list (message_numbers g.messages g.message_comments (feeds_in g)) messages.numbers.apart;
+        names = distinct_too bytes_eq (λ (m : MessageLine). m.name) message_name g.messages message_list name_equal messages.names.apart;
+        few = subst (λ n. n ≤ message_limit) (sym (as_many bytes_eq (λ (m : MessageLine). m.name) message_name g.messages message_list name_equal)) messages.names.few;
+      };
+    }

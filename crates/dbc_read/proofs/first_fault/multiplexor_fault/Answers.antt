@@ -1,0 +1,36 @@
+use Rattle.std.proofs.Common.{◌≡◌, ◌∙◌, ◌&&◌, Bool, List, refl, subst, sym, take}
+use Rattle.std.specs.List.{IsDistinct}
+use Rattle.std.proofs.lemmas.List.{take_all}
+use Rattle.bitlayout.specs.Mux.{is_multiplexor}
+use Rattle.dbc_read.specs.Faults.{IsMultiplexorRefused}
+use Rattle.dbc_read.proofs.FaultsAt.{fault_at}
+use Rattle.dbc_read.proofs.Giving.{item_taken}
+use Rattle.dbc_read.proofs.Multiplexors.{none_yet, once_more}
+use Rattle.dbc_statements.specs.declared.statement.SignalLine.{SignalLine}
+use Rattle.dbc_read.proofs.first_fault.multiplexor_fault.Goals as goal
+use Rattle.dbc_read.proofs.first_fault.multiplexor_fault.Goals.{then-is_multiplexor+else-is_switched, else-is_multiplexor}
+
+abbrev switches : SignalLine → Bool
+switches s = is_multiplexor s.mux
+
+pub loop-signal-init : goal.loop-signal-init
+loop-signal-init c = none_yet switches
+
+pub returns-then-is_switched-clause-fault : goal.returns-then-is_switched-clause-fault
+returns-then-is_switched-clause-fault c =
+    fault_at (λ (s : SignalLine). s.mux_at) IsMultiplexorRefused c.args.signals.now c.loop-signal.signal-index c.signal-item.result _ c.loop-signal-test.true c.signal-item.is refl
+    (c.loop-signal.invariant.apart, sym c.if-is_multiplexor.ensures, sym c.loop-signal.invariant.known ∙ c.if-is_switched.true)
+
+pub loop-signal-preserved : goal.loop-signal-preserved
+loop-signal-preserved c =
+    let before = take c.loop-signal.signal-index c.args.signals.now in
+    let item = c.signal-item.result in
+    rw (item_taken c.args.signals.now c.loop-signal.signal-index item c.loop-signal-test.true c.signal-item.is)
+    (elim c.if-is_multiplexor.branch [
+      | then-is_multiplexor+else-is_switched w ↦ (let is = sym c.is_multiplexor.ensures ∙ w.if-is_multiplexor.true in once_more switches before item c.loop-signal.is_switched _ c.loop-signal.invariant (rw (w.is_switched-is, is) refl) (rw (is, w.if-is_switched.false) refl))
+      | else-is_multiplexor w ↦ (let is = sym c.is_multiplexor.ensures ∙ w.if-is_multiplexor.false in once_more switches before item c.loop-signal.is_switched _ c.loop-signal.invariant (rw (w.is_switched-is, is) refl) (rw is refl))
+    ])
+
+pub returns-clause-none : goal.returns-clause-none
+returns-clause-none c =
+    subst (λ (l : List SignalLine). IsDistinct (λ a b. switches a && switches b) l) (take_all c.loop-signal.signal-index c.args.signals.now c.loop-signal-test.false) c.loop-signal.invariant.apart

@@ -1,9 +1,0 @@
-use Rattle.std.proofs.Common.{◌≡◌, ◌++◌, drop, map}
-use Rattle.catalogue.specs.Saying.{keys_of}
-use Rattle.catalogue.specs.Statement.{SignalLine}
-use Rattle.dbc_read.specs.Seen.{key_of}
-use Rattle.dbc_statements.specs.Said.{message_of, signals_of}
-use Rattle.dbc_read.proofs.parts.add_keys.Given as goal
-
-abbrev pub invariant-loop-signal : goal.invariant-loop-signal
-invariant-loop-signal l = map key_of l.found.items ++ map (λ (s : SignalLine). (l.line.number, s.name)) (signals_of (drop l.signal-index l.line.signals.items)) ≡ map key_of l.initial.found.items ++ keys_of (message_of l.line)

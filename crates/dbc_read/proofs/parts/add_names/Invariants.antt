@@ -1,7 +1,0 @@
-use Rattle.std.proofs.Common.{◌≡◌, ◌++◌, drop, map}
-use Rattle.dbc_read.specs.Seen.{text_of}
-use Rattle.dbc_statements.specs.Said.{names_of}
-use Rattle.dbc_read.proofs.parts.add_names.Given as goal
-
-abbrev pub invariant-loop-node : goal.invariant-loop-node
-invariant-loop-node l = map text_of l.found.items ++ names_of (drop l.node-index l.nodes) ≡ map text_of l.initial.found.items ++ names_of l.nodes

@@ -1,0 +1,7 @@
+use Rattle.std.proofs.Common.{ap, ◌∙◌}
+use Rattle.catalogue.specs.Lexing.{Lexed}
+use Rattle.dbc_statements.proofs.Offsets.{same_fault}
+use Rattle.dbc_statements.proofs.tokens.fault_after.Goals as goal
+
+pub tokens-init : goal.tokens-init
+tokens-init c = ap (λ (l : Lexed). l.fault) c.at-lexer.ensures ∙ same_fault c.args.source.now c.args.offset c.requires

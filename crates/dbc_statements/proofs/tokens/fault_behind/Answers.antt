@@ -1,7 +1,0 @@
-use Rattle.std.proofs.Common.{ap, ◌∙◌}
-use Rattle.catalogue.specs.Lexing.{Lexed}
-use Rattle.dbc_statements.proofs.Places.{same_fault}
-use Rattle.dbc_statements.proofs.tokens.fault_behind.Goals as goal
-
-pub tokens-init : goal.tokens-init
-tokens-init c = ap (λ (l : Lexed). l.fault) c.at-lexer.ensures ∙ same_fault c.args.source.now c.args.place c.requires

@@ -1,9 +1,0 @@
-use Rattle.std.proofs.Common.{◌≡◌, length}
-use Rattle.catalogue.specs.Lexing.{lexed}
-use Rattle.dbc_statements.proofs.tokens.fault_behind.Given as goal
-
-abbrev pub invariant-tokens : goal.invariant-tokens
-invariant-tokens l = l.lexer.fault ≡ (lexed 0 l.source).fault
-
-abbrev pub decreases-tokens : goal.decreases-tokens
-decreases-tokens l = length l.lexer.tokens

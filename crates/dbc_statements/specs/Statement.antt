@@ -1,0 +1,63 @@
+-- The statements of the grammar for which those of the code stand: without the offsets of names and entries.
+use Rattle.std.specs.Prelude.{ℕ, List, map}
+use Rattle.catalogue.specs.Statement as says
+use Rattle.dbc_statements.specs.declared.statement.Content.{Content}
+use Rattle.dbc_statements.specs.declared.statement.Content.TheVariants as content
+use Rattle.dbc_statements.specs.declared.line.Line.{Line}
+use Rattle.dbc_statements.specs.declared.statement.MessageLine.{MessageLine}
+use Rattle.dbc_statements.specs.declared.statement.NodeName.{NodeName}
+use Rattle.dbc_statements.specs.declared.statement.SignalLine.{SignalLine}
+use Rattle.dbc_statements.specs.declared.statement.Statement.{Statement}
+
+abbrev pub names_of : List NodeName → List (List ℕ)
+names_of nodes = map (λ (n : NodeName). n.name) nodes
+
+abbrev pub signal_of : SignalLine → says.SignalLine
+signal_of s = record {
+  name = s.name;
+  layout = s.layout;
+  signed = s.signed;
+  mux = s.mux;
+  factor = s.factor;
+  offset = s.offset;
+  minimum = s.minimum;
+  maximum = s.maximum;
+  unit = s.unit;
+  receivers = s.receivers;
+}
+
+abbrev pub signals_of : List SignalLine → List says.SignalLine
+signals_of signals = map signal_of signals
+
+abbrev pub message_of : MessageLine → says.MessageLine
+message_of m = record {
+  ident = m.ident;
+  name = m.name;
+  length = m.length;
+  transmitter = m.transmitter;
+  signals = signals_of m.signals.items;
+}
+
+abbrev pub content_of : Content → says.Content
+content_of (content.Version text) = says.VersionIs text
+content_of (content.Nodes nodes) = says.NodesAre (names_of nodes.items)
+content_of (content.Table t) = says.TableIs t.name t.entries
+content_of (content.Message m) = says.MessageIs (message_of m)
+content_of (content.Comment text) = says.CommentIs text
+content_of (content.NodeComment name text) = says.NodeCommentIs name text
+content_of (content.MessageComment number text) = says.MessageCommentIs number text
+content_of (content.SignalComment cited text) = says.SignalCommentIs cited.number cited.name text
+content_of (content.ValueTexts cited entries) = says.ValueTextsAre cited.number cited.name entries
+content_of (content.ValueType cited value_type) = says.ValueTypeIs cited.number cited.name value_type
+content_of (content.Spn cited spn) = says.SpnIs cited.number cited.name spn
+content_of content.Dropped = says.Dropped
+content_of content.PassedOver = says.PassedOver
+
+abbrev pub line_content : Line → says.Content
+line_content l = content_of l.content
+
+abbrev pub statement_of : Statement → says.Statement
+statement_of s = record { start = s.start; keyword = s.keyword; content = content_of s.content }
+
+abbrev pub statements_of : List Statement → List says.Statement
+statements_of statements = map statement_of statements

@@ -1,0 +1,28 @@
+//! What a statement says, and how it ends.
+ghost use Rattle.std.specs.Prelude.{◌≡◌, Err, IsOkAnd, MatchResult};
+
+use crate::names::Ended;
+use crate::statement::Content;
+use dbc_lex::ReadFault;
+
+/// What a statement says, and how it ends.
+#[derive(Drop)]
+pub(crate) struct Line {
+    /// What it says.
+    pub content: Content,
+    /// How it ends.
+    pub ended: Ended,
+}
+
+/// The line that says this and doesn't end with a list.
+pub(crate) fn line_of(read: Result<Content, ReadFault>) -> Result<Line, ReadFault>
+    ensures { MatchResult read (λ content. IsOkAnd result (λ line. line.content ≡ content)) (λ fault. result ≡ Err fault) }
+{
+    match read {
+        Ok(content) => Ok(Line {
+            content,
+            ended: Ended::Other,
+        }),
+        Err(fault) => Err(fault),
+    }
+}

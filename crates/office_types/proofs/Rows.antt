@@ -1,0 +1,63 @@
+-- Worked examples, computed from the definitions.
+use Rattle.std.proofs.Common.{◌≡◌, ℕ, List, [], ◌∷◌, map, Some, None, true, false, codes, refl}
+use Rattle.std.specs.Fmt.{digits}
+use Rattle.office_types.specs.Free.{least_free}
+use Rattle.office_types.specs.PlainName.{is_office, is_plain_name}
+use Rattle.office_types.specs.Reply.{reply_text}
+use Rattle.office_types.specs.declared.block.Block.{Block}
+use Rattle.office_types.specs.declared.free.Form.TheVariants.{Std, Ext}
+use Rattle.office_types.specs.declared.refusal.Refusal.TheVariants.{TooMany, NoNet, NetThere, NotOffice, NoNode, BlockTaken, NoBlock, BlockFull, OutsideBlock, NameTaken, IdentTaken, Held, InReview}
+use Rattle.office_types.specs.declared.reply.Reply.TheVariants.{Done, Number, Refused}
+
+replies : map reply_text (Done ∷ Number 256 ∷ Number 0 ∷ [])
+    ≡ codes "done" ∷ codes "number 256" ∷ codes "number 0" ∷ []
+unfolding digits
+replies = refl
+
+refusals : map (λ r. reply_text (Refused r)) (TooMany ∷ NoNet ∷ NetThere ∷ NotOffice ∷ NoNode ∷ BlockTaken ∷ NoBlock ∷ BlockFull ∷ OutsideBlock ∷ NameTaken ∷ IdentTaken ∷ Held ∷ InReview ∷ [])
+    ≡ codes "refused 26 TooMany"
+    ∷ codes "refused 40 NoNet"
+    ∷ codes "refused 41 NetThere"
+    ∷ codes "refused 42 NotOffice"
+    ∷ codes "refused 43 NoNode"
+    ∷ codes "refused 46 BlockTaken"
+    ∷ codes "refused 47 NoBlock"
+    ∷ codes "refused 48 BlockFull"
+    ∷ codes "refused 49 OutsideBlock"
+    ∷ codes "refused 50 NameTaken"
+    ∷ codes "refused 51 IdentTaken"
+    ∷ codes "refused 52 Held"
+    ∷ codes "refused 54 InReview"
+    ∷ []
+unfolding digits
+refusals = refl
+
+names : map is_plain_name (codes "engine" ∷ codes "-" ∷ codes "a-0" ∷ codes "zzzzzzzzzzzzzzzzzzzzzzzzzzzzzzzz" ∷ codes "zzzzzzzzzzzzzzzzzzzzzzzzzzzzzzzzz" ∷ [] ∷ codes "Engine" ∷ codes "a b" ∷ [])
+    ≡ true ∷ true ∷ true ∷ true ∷ false ∷ false ∷ false ∷ false ∷ []
+names = refl
+
+the_office : map is_office (codes "office" ∷ codes "engine" ∷ [])
+    ≡ true ∷ false ∷ []
+the_office = refl
+
+abbrev to : ℕ → ℕ → Block
+to first last = record { first = first; last = last }
+
+in_one_block : map (λ taken. least_free taken (to 256 258 ∷ []) Std) ([] ∷ (256 ∷ 258 ∷ []) ∷ (256 ∷ 257 ∷ 258 ∷ []) ∷ [])
+    ≡ Some 256 ∷ Some 257 ∷ None ∷ []
+in_one_block = refl
+
+in_several_blocks : map (λ taken. least_free taken (to 256 258 ∷ to 11 300 ∷ to 10 12 ∷ []) Std) ((10 ∷ []) ∷ (10 ∷ 11 ∷ 12 ∷ 13 ∷ []) ∷ [])
+    ≡ Some 11 ∷ Some 14 ∷ []
+in_several_blocks = refl
+
+in_no_block : map (λ blocks. least_free [] blocks Ext) ([] ∷ (to 5 4 ∷ []) ∷ (to 4294967290 4294967295 ∷ []) ∷ [])
+    ≡ None ∷ None ∷ None ∷ []
+in_no_block = refl
+
+by_form : least_free [] (to 2047 3000 ∷ []) Std ∷ least_free (2047 ∷ []) (to 2047 2049 ∷ []) Std ∷ least_free (2047 ∷ []) (to 2047 3000 ∷ []) Ext ∷ []
+    ≡ Some 2047 ∷ None ∷ Some 2048 ∷ []
+by_form = refl
+
+in_all_numbers : least_free (0 ∷ 1 ∷ 3 ∷ []) (to 0 536870911 ∷ []) Ext ≡ Some 2
+in_all_numbers = refl

@@ -45,7 +45,7 @@ clash_at_added bytes multiplexed places place =
     clash_at_place bytes multiplexed (places ++ place ∷ []) (length places) place there
     ∙ ap (λ earlier. clash_after bytes multiplexed earlier place) (take-append_seam places (place ∷ []))
 
--- a list with one more place is clear where neither the list nor the added place has a fault
+-- a list with one more place is clear if neither the list nor the added place has a clash
 pub clear_added : (places : List Place) (bytes : ℕ) (place : Place) (multiplexed : Bool) → multiplexed ≡ has_multiplexor (places ++ place ∷ [])
     → first_clash_among bytes multiplexed places ≡ None → clash_after bytes multiplexed places place ≡ None → IsClear (places ++ place ∷ []) bytes
 clear_added places bytes place multiplexed is list last =

@@ -1,4 +1,4 @@
--- What the first clash of a list tells of its places.
+-- What the first clash of a list implies for its places.
 use Rattle.std.proofs.Common.{◌≡◌, ℕ, ◌<◌, ◌≤◌, inl, inr, Bool, true, false, not, ◌&&◌, List, length, take, get_or, Option, Some, None, refl, ap, subst, ◌∙◌, arith}
 use Rattle.std.specs.Prelude.{Any, slice_get, position, option_map, if◌then◌else◌, nat_lt}
 use Rattle.std.specs.Bool.{Decides}
@@ -34,7 +34,7 @@ has_multiplexor_decides places = (
 pub collide_decides : (a b : Place) → Decides (collide a b) (Meet a.mux b.mux × SharesBit a.layout b.layout)
 collide_decides a b = Decides-and (meets a.mux b.mux) (shares_bit a.layout b.layout) (meets_decides a.mux b.mux) (shares_bit_decides a.layout b.layout)
 
--- where a first place is, or none
+-- the index of a first place, or none
 at_position : (test : Place → Bool) (places : List Place) → position test places ≡ None → (k : ℕ) (d : Place) → k < length places → test (get_or places k d) ≡ false
 at_position test places none k d below = elim (cases_lt (position_or_len test places) (length places)) [
   | inl found ↦
@@ -54,7 +54,7 @@ pub record Fits (places : List Place) (bytes : ℕ) (multiplexed : Bool) (i : �
   pub multiplexor : ¬ (IsUnder place.mux × (¬ (multiplexed ≡ true)))
   pub apart : (j : ℕ) (other : Place) → j < i → slice_get places j ≡ Some other → ¬ (Meet other.mux place.mux × SharesBit other.layout place.layout)
 
--- the four tests of a place in a row
+-- the four tests of a place, one after the other
 abbrev pub chosen : Bool → Bool → Bool → ℕ → Option ℕ → Option Clash
 chosen inside second lacking i partner =
     if not inside then Some (Outside i) else (if second then Some (TwoMultiplexors i) else (if lacking then Some (NoMultiplexor i) else option_map (λ j. Overlap j i) partner))

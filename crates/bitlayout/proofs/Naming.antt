@@ -33,7 +33,7 @@ by_test true false true i partner clash e = inr (inr (inl (refl, refl, refl, cc)
 by_test true false false i (Some j) clash e = inr (inr (inr (j, refl, refl, refl, refl, cc)))
 by_test true false false i None clash e = cc
 
--- the fault that the tests name is the place's, and the first of its faults
+-- the clash that the tests find is the place's, and the first of its clashes
 pub record NamesFault (places : List Place) (bytes i : ℕ) (place : Place) (clash : Clash) : Type 0 where
   pub index : faulty_index clash ≡ i
   pub there : HasFault places bytes place clash

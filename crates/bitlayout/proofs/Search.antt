@@ -35,7 +35,7 @@ split_none : {A : Type 0} (o p : Option A) → ◌≡◌ {A = Option A} (elim o 
 split_none None p e = (refl, e)
 split_none (Some a) p e = cc
 
--- what the first answer tells
+-- what the first answer implies
 pub none_before : {A : Type 0} (question : ℕ → Option A) (end : ℕ) → first_answer question end ≡ None → (k : ℕ) → k < end → question k ≡ None
 unfolding first_answer
 none_before question zero e k below = absurd (omega arith)

@@ -10,14 +10,14 @@ use Rattle.bitlayout.specs.Mux.{Meet, IsUnder, meets, is_multiplexor, is_under}
 use Rattle.bitlayout.specs.Clear.{IsMultiplexor}
 use Rattle.bitlayout.specs.First.{first_answer}
 
--- the index of the place at fault
+-- the index of the place that has the clash
 abbrev pub faulty_index : Clash → ℕ
 faulty_index (Outside i) = i
 faulty_index (TwoMultiplexors i) = i
 faulty_index (NoMultiplexor i) = i
 faulty_index (Overlap j i) = i
 
--- the place has the fault, in a list of places of a message of this many bytes
+-- the place has the clash, in a list of places of a message of this many bytes
 abbrev pub HasFault : List Place → ℕ → Place → Clash → Type 0
 HasFault places bytes place (Outside i) = ¬ (IsInside place.layout bytes)
 HasFault places bytes place (TwoMultiplexors i) = IsMultiplexor place × Any IsMultiplexor (take i places)
@@ -29,25 +29,25 @@ HasFault places bytes place (Overlap j i) =
 abbrev pub HasClash : List Place → ℕ → Clash → Type 0
 HasClash places bytes clash = (place : Place) × (slice_get places (faulty_index clash) ≡ Some place) × HasFault places bytes place clash
 
--- in which order the faults of one place are named
+-- the order in which the clashes of one place are reported
 abbrev pub kind_rank : Clash → ℕ
 kind_rank (Outside i) = 0
 kind_rank (TwoMultiplexors i) = 1
 kind_rank (NoMultiplexor i) = 2
 kind_rank (Overlap j i) = 3
 
--- the index of the other place, of an overlap
+-- the index of the other place of an overlap
 abbrev pub partner_index : Clash → ℕ
 partner_index (Overlap j i) = j
 partner_index clash = 0
 
--- a clash is named before another, or is that one: by the place at fault, then by the kind, then by the partner
+-- a clash is reported before another, or is the same: by the place that has it, then by the kind, then by the partner
 abbrev pub IsNamedFirst : Clash → Clash → Type 0
 IsNamedFirst a b =
     (faulty_index a < faulty_index b)
     ⊎ ((faulty_index a ≡ faulty_index b) × ((kind_rank a < kind_rank b) ⊎ ((kind_rank a ≡ kind_rank b) × (partner_index a ≤ partner_index b))))
 
--- the list has the clash, and none that is named before it
+-- the list has the clash, and none that is reported before it
 pub record IsFirstClash (places : List Place) (bytes : ℕ) (clash : Clash) : Type 0 where
   pub there : HasClash places bytes clash
   pub first : (other : Clash) → HasClash places bytes other → IsNamedFirst clash other
@@ -62,7 +62,7 @@ has_multiplexor places = list_any (λ place. is_multiplexor place.mux) places
 abbrev pub collide : Place → Place → Bool
 collide a b = meets a.mux b.mux && shares_bit a.layout b.layout
 
--- the first fault of a place that comes after these in a list with or without a multiplexor
+-- the first clash of a place that comes after these, in a list with or without a multiplexor
 unfoldable pub clash_after : ℕ → Bool → List Place → Place → Option Clash
 clash_after bytes multiplexed earlier place =
     if not (is_inside place.layout bytes) then Some (Outside (length earlier))
@@ -70,7 +70,7 @@ clash_after bytes multiplexed earlier place =
     else (if is_under place.mux && not multiplexed then Some (NoMultiplexor (length earlier))
     else option_map (λ j. Overlap j (length earlier)) (position (λ other. collide other place) earlier)))
 
--- the first fault of the place at an index
+-- the first clash of the place at an index
 abbrev pub clash_at : ℕ → Bool → List Place → ℕ → Option Clash
 clash_at bytes multiplexed places i = option_and_then (clash_after bytes multiplexed (take i places)) (slice_get places i)
 

@@ -2,7 +2,7 @@
 use Rattle.std.specs.Prelude.{ℕ, Option, Some, None}
 use Prim.Native.Nat.{zero, suc}
 
--- the first answer of a question that is put to the numbers below the end, from 0 up
+-- the first answer to the question for the numbers below the end, from 0 up
 unfoldable pub first_answer : {A : Type 0} → (ℕ → Option A) → ℕ → Option A
 first_answer question zero = None
 first_answer question (suc n) = elim (first_answer question n) [ Some a ↦ Some a | None ↦ question n ]

@@ -21,7 +21,7 @@ abbrev pub IsLeastStart : List Place → ℕ → ℕ → Order → Mux → ℕ �
 IsLeastStart places bytes size order mux start =
     CanStartAt places bytes size order mux start × ((other : ℕ) → CanStartAt places bytes size order mux other → start ≤ other)
 
--- from no start does the signal leave the list clear
+-- there is no start from which the signal leaves the list clear
 abbrev pub HasNoStart : List Place → ℕ → ℕ → Order → Mux → Type 0
 HasNoStart places bytes size order mux = (start : ℕ) → start ≤ GREATEST_START → ¬ (CanStartAt places bytes size order mux start)
 
@@ -32,6 +32,6 @@ abbrev pub start_if_clear : List Place → ℕ → ℕ → Order → Mux → ℕ
 start_if_clear places bytes size order mux start =
     if is_none (first_clash_of (places ++ place_from size order mux start ∷ []) bytes) then Some start else None
 
--- the least start; past the payload none is clear
+-- the least start; past the end of the payload there is none
 abbrev pub least_start_of : List Place → ℕ → ℕ → Order → Mux → Option ℕ
 least_start_of places bytes size order mux = first_answer (start_if_clear places bytes size order mux) (min (8 * bytes) (GREATEST_START + 1))

@@ -14,7 +14,7 @@ pub fn has_bit(layout: Layout, position: u32) -> bool
     ranks(layout).has(rank)
 }
 
-/// Whether each of the signal's bits lies in a payload of `length` bytes: each position is below 8 times
+/// Whether each of the signal's bits is in a payload of `length` bytes: each position is below 8 times
 /// `length`.
 pub fn inside(layout: Layout, length: u16) -> bool
     ensures inside { IsTrue result ↔ IsInside layout length }
@@ -35,8 +35,8 @@ pub fn share_bit(a: Layout, b: Layout) -> bool
     }
 }
 
-/// `share_bit` of signals in different orders. Each has one interval in each byte that it touches, and one
-/// order counts a byte's bits in the other direction.
+/// `share_bit` for signals of different byte orders. Each has one interval in each byte that it touches, and one
+/// order counts a byte's bits in the opposite direction.
 fn share_bit_across(a: Layout, b: Layout) -> bool
     requires { a.order ≢ b.order }
     ensures { IsTrue result ↔ SharesBit a b }

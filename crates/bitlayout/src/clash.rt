@@ -7,9 +7,9 @@ use crate::bits::{inside, share_bit};
 use crate::place::{Place, meet};
 
 /// Why places do not fit together in one message. The numbers are indices in the list of places.
-#[derive(Clone, Copy, Debug, PartialEq, Eq, Hash)]
+#[derive(Clone, Copy, Debug, PartialEq, Eq)]
 pub enum Clash {
-    /// A bit of this place lies past the end of the payload.
+    /// A bit of this place is past the end of the payload.
     Outside(usize),
     /// This place is a multiplexor, and an earlier one is too.
     TwoMultiplexors(usize),
@@ -45,7 +45,7 @@ fn first_partner(places: &[Place], place: Place) -> Option<usize>
     places.iter().position(|other| collides(*other, place))
 }
 
-/// The first fault of a place that comes after `earlier`, in a list with or without a multiplexor.
+/// The first clash of a place that comes after `earlier`, in a list with or without a multiplexor.
 #[tactic(auto, unfolding(crate::specs::Clash::clash_after))]
 pub(crate) fn fault_after(
     earlier: &[Place],

@@ -4,10 +4,12 @@ ghost use Rattle.bitlayout.specs.Interval.{rank, IsWithin};
 
 use crate::layout::{Layout, Order, SIZE_LIMIT};
 
-/// The numbers from `first` to before `end`.
+/// The numbers from `first` up to, but not including, `end`.
 #[derive(Clone, Copy, Debug, PartialEq, Eq)]
 pub struct Interval {
+    /// The least number.
     pub first: u32,
+    /// The number after the greatest one.
     pub end: u32,
 }
 
@@ -64,7 +66,7 @@ impl Interval {
         }
     }
 
-    /// A part of one byte with that byte's bits numbered in the other direction.
+    /// A part of one byte, with that byte's bits numbered in the opposite direction.
     pub fn turned(self, byte: u32) -> Interval
         requires byte { byte < 2 ^ 20 }
         requires end { self.end ≤ 8 * byte + 8 }

@@ -12,7 +12,7 @@ pub const SIZE_LIMIT: u8 = 64;
 /// How a signal's bits follow one another from its start (the byte order of a signal in Vector's DBC File
 /// Format Documentation). Positions are numbered 8 times the byte plus the bit in the byte, 7 being the
 /// byte's most significant bit.
-#[derive(Clone, Copy, Debug, PartialEq, Eq, Hash)]
+#[derive(Clone, Copy, Debug, PartialEq, Eq)]
 pub enum Order {
     /// Little endian, `@1` in a DBC file: the start is the least significant bit, and after position `p`
     /// comes `p + 1`.
@@ -48,7 +48,7 @@ impl Order {
 }
 
 /// How many bits a signal has, 1 to 64. Contracts see it as the number.
-#[derive(Clone, Copy, Debug, PartialEq, Eq, PartialOrd, Ord, Hash)]
+#[derive(Clone, Copy, Debug, PartialEq, Eq, PartialOrd, Ord)]
 pub struct Size {
     bits: u8,
 }
@@ -89,7 +89,7 @@ impl Size {
 }
 
 /// Where a signal lies: the first `size` positions of the walk from `start` in its order.
-#[derive(Clone, Copy, Debug, PartialEq, Eq, Hash)]
+#[derive(Clone, Copy, Debug, PartialEq, Eq)]
 pub struct Layout {
     /// The position of the first bit of the walk: of an Intel signal the least significant, of a Motorola
     /// signal the most significant.

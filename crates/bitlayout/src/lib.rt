@@ -4,13 +4,13 @@
 //! Positions of bits, the byte order of a signal and its multiplexer indicator are those of Vector's DBC File
 //! Format Documentation. A [`Layout`] is the first positions of a walk from its start; [`has_bit`], [`inside`]
 //! and [`share_bit`] answer for the set of its positions. A [`Place`] adds the [`Mux`], when the signal is
-//! present; [`meet`] tells whether two are ever present at once. [`first_clash`] tells whether the places of
-//! a message are clear: every bit in the payload, at most one multiplexor and one where it is needed, and for
-//! each value of it no two signals that share a bit. [`least_start`] finds room for one more signal.
+//! present; [`meet`] answers whether two are ever present at once. [`first_clash`] finds out whether the places of
+//! a message are clear: every bit is in the payload, there is at most one multiplexor, and one if it is needed, and
+//! for each value of it no two signals share a bit. [`least_start`] finds room for one more signal.
 //!
-//! A layout is compared as intervals and never bit by bit: it is one interval once each byte is numbered in
-//! its own direction, and at most nine, one in each byte that it touches, when it is compared with a layout
-//! of the other order. Nothing here takes memory. The definitions are in `specs/`.
+//! Layouts are compared as intervals, never bit by bit. A layout is one interval if each byte is numbered in
+//! the layout's own direction, and at most nine, one in each byte that it touches, when it is compared with a
+//! layout of the other order. Nothing here allocates memory. The definitions are in `specs/`.
 #![tactic(auto)]
 
 mod bits;

@@ -8,7 +8,7 @@ use itoa::Buffer;
 
 /// When a signal of a multiplexed message is present (the multiplexer indicator of a signal in Vector's DBC
 /// File Format Documentation).
-#[derive(Clone, Copy, Debug, PartialEq, Eq, Hash)]
+#[derive(Clone, Copy, Debug, PartialEq, Eq)]
 pub enum Mux {
     /// In every message: no indicator in a DBC file.
     Always,
@@ -54,7 +54,7 @@ impl Mux {
 }
 
 /// A signal's place in a message: where it lies, and when it is present.
-#[derive(Clone, Copy, Debug, PartialEq, Eq, Hash)]
+#[derive(Clone, Copy, Debug, PartialEq, Eq)]
 pub struct Place {
     /// Where it lies in the payload.
     pub layout: Layout,

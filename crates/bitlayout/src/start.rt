@@ -20,7 +20,7 @@ pub fn least_start(places: &[Place], length: u16, size: Size, order: Order, mux:
     least_start_where(places, length, size, order, mux, multiplexed)
 }
 
-/// `least_start`, told whether the list with the added place has a multiplexor.
+/// `least_start`, where `multiplexed` says whether the list with the added place has a multiplexor.
 fn least_start_where(
     places: &[Place],
     length: u16,

@@ -5,7 +5,7 @@ use std::error::Error;
 use std::fmt;
 
 /// Why a number is no identifier, or no identifier can be built of a message's fields.
-#[derive(Clone, Copy, Debug, PartialEq, Eq, Hash)]
+#[derive(Clone, Copy, Debug, PartialEq, Eq)]
 pub enum IdFault {
     /// The number is neither 0 to 2047 nor 2147483648 to 2684354559. Number 1.
     NotIdentifier,
@@ -20,7 +20,7 @@ pub enum IdFault {
 impl IdFault {
     ghost use Rattle.can_id.specs.IdFault.{fault_name, fault_number};
 
-    /// The number that stands for the fault in replies and reports.
+    /// The fault's number.
     pub fn number(self) -> u8
         ensures { result ≡ fault_number self }
     {
@@ -32,7 +32,7 @@ impl IdFault {
         }
     }
 
-    /// The fault's name, which is printed beside its number.
+    /// The fault's name, which is that of the variant.
     pub fn name(self) -> &'static str
         ensures { result.now ≡ fault_name self }
     {

@@ -27,7 +27,7 @@ fn run(rt: &HostRuntime) -> Status {
     }
 }
 
-/// The program's words, of which the first is its own name.
+/// The program's arguments, the first of which is its own name.
 fn words(rt: &HostRuntime) -> Result<Vec<String>, LineFault> {
     match env::args(rt) {
         Ok(words) => words.collect(rt.alloc()).map_err(|_| LineFault::Memory),

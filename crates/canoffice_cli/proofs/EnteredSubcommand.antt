@@ -1,4 +1,5 @@
--- Where clap tells no fault of a command that wants a subcommand, one of its own was entered, and it has no fault either.
+-- If clap reports no fault of a command that requires a subcommand, one of its own was entered, and it has no fault
+-- either.
 use Rattle.std.proofs.Common.{◌≡◌, ◌∙◌, true, false, sym, ap, refl, true≢false, List, [], Option, Some, None, is_some}
 use Rattle.std.specs.Prelude.{find, option_map}
 use Rattle.std.specs.Option.{option_map_or}

@@ -1,4 +1,4 @@
--- Where a use of an argument tells no fault, the rows after it have the values that the argument wants.
+-- If a use of an argument reports no fault, the rows after it have the values that the argument requires.
 use Rattle.std.proofs.Common.{◌≡◌, ◌∙◌, ◌<◌, ◌+◌, ◌&&◌, ◌||◌, ℕ, Bool, cond, true, false, not, zero, suc, refl, sym, subst, arith, List, [], ◌∷◌, ◌++◌, length, min, drop, Option, Some, None, is_some, ltb-true, lt-ltb, length-append}
 use Rattle.std.specs.Prelude.{slice_get, nat_lt, encode_utf8}
 use Rattle.std.specs.List.{list_all, list_any}

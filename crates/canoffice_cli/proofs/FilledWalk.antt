@@ -1,4 +1,4 @@
--- Where the walk over the words tells no fault, the rows after it have the values that their arguments want.
+-- If the walk over the words reports no fault, the rows after it have the values that their arguments require.
 use Rattle.std.proofs.Common.{◌≡◌, ◌&&◌, ◌||◌, ℕ, Bool, cond, true, false, not, refl, arith, inl, inr, List, [], ◌∷◌, length, Option, Some, None, is_some, codes}
 use Rattle.std.specs.Prelude.{fold}
 use Rattle.std.specs.Option.{option_map_or}

@@ -1,4 +1,4 @@
--- Where clap tells no fault, each argument that has to be there has its values, and they pass its parser.
+-- If clap reports no fault, each required argument has its values, and they pass its parser.
 use Rattle.std.proofs.Common.{◌≡◌, ◌⊎◌, ◌∙◌, ◌<◌, ◌&&◌, ◌||◌, ℕ, Bool, cond, true, false, not, refl, sym, ap, subst, arith, inl, inr, List, [], ◌∷◌, ◌++◌, length, Option, Some, None, true≢false}
 use Rattle.std.specs.Prelude.{find, pos, fold, unwrap_or, option_map, option_and_then, slice_get}
 use Rattle.std.specs.List.{list_all, list_any}
@@ -25,7 +25,7 @@ use Rattle.canoffice_cli.proofs.NoFault.{or_true, both_true, left_true, none_fir
 use Rattle.canoffice_cli.proofs.FilledRows.{wants_values, is_taken, Fills, IsReadBy, RowsFill, same_id, settled_fills}
 use Rattle.canoffice_cli.proofs.FilledWalk.{IsNoHelp, StopKeeps, walk_keeps, defaults_fill}
 
--- ---- one level of a parse that tells no fault
+-- ---- one level of a parse that reports no fault
 
 check_parts : (help sub argument : Bool) → check_kinds help sub argument ≡ [] → (sub ≡ false) × (argument ≡ false)
 check_parts true sub argument e = cc
@@ -66,8 +66,8 @@ rows_fill s names words has below e =
 
 -- ---- the values of one argument
 
--- the argument of this id has a value, which `get_str` gives; each of its values passes the parser of an argument of the id, and is
--- read as such a parser says
+-- the argument of this id has a value, which `get_str` gives; each of its values passes the parser of an argument of
+-- the id, and is read as such a parser says
 pub record IsFilled (c : List Rule) (id : Text) (rows : List Row) : Type 0 where
   pub value : Text
   pub more : List Text
@@ -139,7 +139,7 @@ required_is_given id (a ∷ rest) rows some none = go (bytes_eq a.id id && a.req
         right_false true y e = absurd (true≢false e)
         right_false false y e = e
 
--- an argument that has to be there has a value
+-- a required argument has a value
 pub required_is_filled : (s : Shape) (names : Names) (words : List Text) (has : Bool) (below : Kinds) (id : Text) → level_fault s names nothing_held words has below ≡ []
     → (s.subcommand_negates_reqs && has) ≡ false → needs_value s.rules id ≡ true → IsFilled s.rules id (rows_after s.rules names words)
 required_is_filled s names words has below id e negates needs =
@@ -326,7 +326,8 @@ module _ (s : Shape) (words : List Text) (id : Text) (passes : Passes s words) w
       → ((first_of id (rows_after s.rules [] words) ≡ None) × (all_of id (rows_after s.rules [] words) ≡ None)) ⊎ IsFilled s.rules id (rows_after s.rules [] words)
   leaf_optional wants = optional_is_filled s [] words false [] id passes wants
 
--- the text that a typed getter reads of an argument that is a number in a range, for `signed_reads` of clap's `CallerReads`
+-- the text that a typed getter reads of an argument that is a number in a range, for `signed_reads` of clap's
+-- `CallerReads`
 pub number_in_range : (a : Rule) (id : Text) (rows : List Row) (low high : ℕ) → a.parser ≡ Some (Signed (pos low) (pos high)) → IsFilledBy a id rows
     → (text : Text) × (one_of id rows ≡ Some (without_minus text)) × IsSignedIn (pos low) (pos high) text
 number_in_range a id rows low high parser filled = (

@@ -1,13 +1,12 @@
 pub mod CommandLine
 pub mod LineExamples
 pub mod Writes
-pub mod Replies
 pub mod Performed
 pub mod WrongWords
 pub mod Commands
-pub mod PassedLines
 pub mod OfFile
 pub mod Canonical
+pub mod PassedLines
 pub mod ReadFaults
 pub mod NoFault
 pub mod FilledRows

@@ -1,13 +1,11 @@
--- The lines of statements that are passed over.
-use Rattle.std.proofs.Common.{◌≡◌, ◌<◌, ◌+◌, ◌++◌, ◌∙◌, ℕ, List, length, map, drop, get_or, sym, ap, append_assoc}
-use Rattle.std.proofs.lemmas.List.{drop_more}
+-- The lines of skipped statements.
+use Rattle.std.proofs.Common.{◌≡◌, List, map}
+use Rattle.std.proofs.lemmas.List.Folds.{flat_map-map}
+use Rattle.std.specs.List.{flat_map}
+use Rattle.canoffice_cli.specs.Checked.{passed_line, passed_lines}
 use Rattle.dbc_read.specs.Passed.{start_and_keyword}
 use Rattle.dbc_read.specs.declared.passed.Passed.{Passed}
-use Rattle.canoffice_cli.specs.Checked.{passed_line, passed_lines}
 
-pub line_more : (passed : List Passed) (i : ℕ) (d : Passed) (text line new total : List ℕ) → i < length passed
-    → text ++ passed_lines (map start_and_keyword (drop i passed)) ≡ total → line ≡ passed_line (start_and_keyword (get_or passed i d)) → new ≡ text ++ line
-    → new ++ passed_lines (map start_and_keyword (drop (i + 1) passed)) ≡ total
-line_more passed i d text line new total there h is grown =
-    rw (grown, is) (append_assoc text (passed_line (start_and_keyword (get_or passed i d))) (passed_lines (map start_and_keyword (drop (i + 1) passed)))
-    ∙ ap (λ (v : List Passed). text ++ passed_lines (map start_and_keyword v)) (sym (drop_more passed i d there)) ∙ h)
+-- the line of each, by its offset and its keyword
+pub each_passed : (passed : List Passed) → passed_lines (map start_and_keyword passed) ≡ flat_map (λ p. passed_line (start_and_keyword p)) passed
+each_passed passed = flat_map-map passed_line start_and_keyword passed

@@ -1,5 +1,6 @@
--- What a script comes to on a new office.
+-- The outcome of a script on a new office.
 use Rattle.std.specs.Prelude.{◌≡◌, ◌⊎◌, ℕ, ◌≤◌, List, [], ◌∷◌, ◌++◌, length, take, Some, codes}
+use Rattle.std.specs.List.{flat_map}
 use Rattle.office_types.specs.Reply.{reply_text}
 use Rattle.office_types.specs.declared.command.Command.{Command}
 use Rattle.office_types.specs.declared.reply.Reply.{Reply}
@@ -10,19 +11,21 @@ use Rattle.office_script.specs.Script.{asked_by_all, IsFirstWrong}
 use Rattle.canoffice_cli.specs.Outcome.{Outcome, success, wrong_line}
 use Rattle.canoffice_cli.specs.declared.report.Status.TheVariants.{Failed}
 
+abbrev pub reply_line : Reply → List ℕ
+reply_line reply = reply_text reply ++ codes "\n"
+
 -- each reply on a line of its own
 abbrev pub reply_lines : List Reply → List ℕ
-reply_lines [] = []
-reply_lines (reply ∷ replies) = (reply_text reply ++ codes "\n") ++ reply_lines replies
+reply_lines replies = flat_map reply_line replies
 
--- all requests were run, in order, from the office with no network: their replies are printed
+-- all requests were run, in order, on the office with no network: their replies are printed
 pub record IsRun (requests : List (List ℕ × Command)) (o : Outcome) : Type 0 where
   pub replies : List Reply
   pub after : Office
   pub run : Run opening requests replies after
   pub outcome : o ≡ success (reply_lines replies)
 
--- memory ran out when this many of them had been run: their replies are printed, and then what was lost
+-- memory ran out when `count` of them had been run: their replies are printed, and then `lost 71`
 pub record IsRunUntilLost (requests : List (List ℕ × Command)) (o : Outcome) : Type 0 where
   pub count : ℕ
   pub some : count ≤ length requests
@@ -34,7 +37,7 @@ pub record IsRunUntilLost (requests : List (List ℕ × Command)) (o : Outcome) 
 abbrev pub IsRunOf : List (List ℕ × Command) → Outcome → Type 0
 IsRunOf requests o = IsRun requests o ⊎ IsRunUntilLost requests o
 
--- what the script asks for was run; or a line is wrong, the first one is named, and nothing was run
+-- what the script asks for was run; or a line is wrong, the number of the first one is printed, and nothing was run
 abbrev pub IsScriptOutcome : List ℕ → Outcome → Type 0
 IsScriptOutcome script o =
     ((requests : List (List ℕ × Command)) × (asked_by_all (lines_of script) ≡ Some requests) × IsRunOf requests o)

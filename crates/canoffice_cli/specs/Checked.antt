@@ -1,4 +1,4 @@
--- What a check of a DBC text comes to.
+-- The outcome of checking a DBC text.
 use Rattle.std.specs.Prelude.{◌≡◌, ◌≢◌, ◌≤◌, ◌⊎◌, ◌++◌, ℕ, List, [], Some, codes, decimal, length}
 use Rattle.std.specs.List.{flat_map}
 use Rattle.catalogue.specs.Fault.{code_name, code_number, message_about}
@@ -19,18 +19,18 @@ use Rattle.dbc_read.specs.Reading.{ReadsAsNothing}
 use Rattle.canoffice_cli.specs.Outcome.{Outcome, success}
 use Rattle.canoffice_cli.specs.declared.report.Status.TheVariants.{FaultFound}
 
--- this text on standard output, for a fault that was looked for
+-- this text on standard output, for a fault that was found
 abbrev pub fault_output : List ℕ → Outcome
 fault_output text = record { output = text; errors = []; status = FaultFound }
 
--- `passed AT KEYWORD`: where a statement that is passed over begins, and its first keyword
+-- `passed AT KEYWORD`: the offset where a skipped statement begins, and its first keyword
 abbrev pub passed_line : ℕ × Keyword → List ℕ
 passed_line p = codes "passed " ++ (decimal p.0 ++ (codes " " ++ (keyword_text p.1 ++ codes "\n")))
 
 abbrev pub passed_lines : List (ℕ × Keyword) → List ℕ
 passed_lines passed = flat_map passed_line passed
 
--- how many signals the messages have together
+-- how many signals the messages have altogether
 abbrev pub signal_count : List Message → ℕ
 signal_count messages = length (flat_map (λ (m : Message). m.signals) messages)
 
@@ -48,10 +48,10 @@ abbrev pub fault_line : ReadFault → List ℕ
 fault_line fault =
     codes "fault " ++ (decimal (reading.code_number fault.code) ++ (codes " " ++ (reading.code_name fault.code ++ (codes " " ++ (decimal fault.at ++ codes "\n")))))
 
--- ---- what is said
+-- ---- the outcome
 
--- A fault that `read` gives of the text, other than out of memory: the text reads as no sheet, the offset is in it or at
--- its end, and where no token begins at some offset, the fault is the first one of this kind.
+-- A fault that `read` gives for the text, other than out of memory: the text reads as no sheet, the offset is in it or
+-- at its end, and if at some offset no token begins, the fault is the first one of this kind.
 pub record IsReadFault (bytes : List ℕ) (fault : ReadFault) : Type 0 where
   pub named : fault.code ≢ Memory
   pub nothing : ReadsAsNothing bytes
@@ -65,7 +65,7 @@ IsVerdict s passed o =
     ⊎ ((fault : SheetFault) × (number : ℕ) × IsFirstFault s fault × (message_about fault.about ≡ Some number)
     × (o ≡ fault_output (passed_lines passed ++ unclear_line fault.code number)))
 
--- the text reads as a sheet, which gets its verdict; or as none, and the line is that of the fault of `read`
+-- the text reads as a sheet, and its verdict is printed; or as none, and the line of the fault of `read` is printed
 abbrev pub IsCheckOutcome : List ℕ → Outcome → Type 0
 IsCheckOutcome bytes o =
     ((s : Sheet) × (passed : List (ℕ × Keyword)) × ReadsAs bytes s passed × IsVerdict s passed o)

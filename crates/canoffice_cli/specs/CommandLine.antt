@@ -1,4 +1,4 @@
--- The command line of the program, which job its words are, and which fault they have.
+-- The command line of the program, which job its words ask for, and which fault they have.
 use Rattle.std.specs.Prelude.{◌≡◌, ◌≢◌, List, [], ◌∷◌, find, map, codes, Option, Some, None, true, Result, Ok, Err}
 use Rattle.std.specs.Str.{bytes_eq}
 use Rattle.clap.specs.Lexer.{usize_max}
@@ -11,13 +11,13 @@ use Rattle.canoffice_cli.specs.declared.job.Job.TheVariants.{Apply, Chart, Check
 use Rattle.canoffice_cli.specs.declared.job.LineFault.{LineFault}
 use Rattle.canoffice_cli.specs.declared.job.LineFault.TheVariants.{Help, Usage, Memory}
 
--- ---- what clap is told
+-- ---- the description for clap
 
--- a word that has to be there, known by its place
+-- a required positional argument
 abbrev pub required_word : Text → Rule
 required_word id = record (new_rule id) { required = true }
 
--- words of which one has to be there, and that take up all further places
+-- a required positional argument that takes all further words, at least one
 abbrev pub required_words : Text → Rule
 required_words id = record (required_word id) { range = Some (record { start_inclusive = 1; end_inclusive = usize_max }) }
 
@@ -37,7 +37,7 @@ check_app = with_rule (new_app (codes "check")) (required_word (codes "FILE"))
 abbrev pub format_app : App
 format_app = with_rule (new_app (codes "format")) (required_word (codes "FILE"))
 
--- some subcommand has to be named, and no word at all is answered by the help
+-- a subcommand is required, and without any argument the help is printed
 abbrev pub wants_subcommand : App → App
 wants_subcommand = on_top (λ s. record s { subcommand_required = true; arg_required_else_help = true })
 
@@ -53,7 +53,7 @@ canoffice_app =
 abbrev pub line_faults : List Text → Kinds
 line_faults words = fault_of canoffice_app words
 
--- ---- the job that the words are
+-- ---- the job that the words ask for
 
 -- the argument of this name has this value
 abbrev pub HasValue : List Row → Text → Text → Type 0
@@ -79,23 +79,23 @@ IsJobIn found job = (name : Text) × (rows : List Row) × (found ≡ Some (name,
 abbrev pub IsJob : List Text → Job → Type 0
 IsJob words job = (line_faults words ≡ []) × IsJobIn (subcommand_of canoffice_app words) job
 
--- ---- what clap's matches have where it finds no fault
+-- ---- what clap's matches have if it finds no fault
 
 -- the argument of this name has a value, and its values are these
 abbrev pub HasSome : List Row → Text → Type 0
 HasSome rows id = (v : Text) × (vs : List Text) × HasValue rows id v × HasValues rows id (v ∷ vs)
 
--- each argument that has to be there has a value
+-- each required argument has a value
 abbrev pub HasRequired : List Rule → List Row → Type 0
 HasRequired [] rows = Unit {0}
 HasRequired (r ∷ rs) rows = (r.required ≡ true → HasSome rows r.id) × HasRequired rs rows
 
--- some subcommand, with all the arguments that it needs
+-- some subcommand, with all its required arguments
 abbrev pub IsWhole : Option Shape → List Row → Type 0
 IsWhole None rows = ⊥
 IsWhole (Some s) rows = HasRequired s.rules rows
 
--- one of the subcommands was entered, and has all the arguments that it needs
+-- one of the subcommands was entered, with all its required arguments
 abbrev pub IsEntered : Option (Text × List Row) → Type 0
 IsEntered None = ⊥
 IsEntered (Some found) = IsWhole (find (λ s. bytes_eq found.0 s.name) canoffice_app.subs) found.1
@@ -104,21 +104,21 @@ IsEntered (Some found) = IsWhole (find (λ s. bytes_eq found.0 s.name) canoffice
 abbrev pub IsNamed : Text → Option (Text × List Row) → Type 0
 IsNamed name found = (rows : List Row) × (found ≡ Some (name, rows))
 
--- ---- the fault of words that are no job
+-- ---- the fault of words that ask for no job
 
--- a fault that clap's error of this kind stands for
+-- the fault for clap's error of this kind
 abbrev pub IsFaultOfKind : ErrorKind → LineFault → Type 0
 IsFaultOfKind kind (Help text) = kind ≡ DisplayHelp
 IsFaultOfKind kind (Usage text) = (kind ≢ DisplayHelp) × (kind ≢ OutOfMemory)
 IsFaultOfKind kind Memory = Unit {0}
 
--- help is what the words ask for; or they have a fault of another kind; or memory ran out
+-- the words ask for help; or they have a fault of another kind; or memory ran out
 abbrev pub IsLineFault : List Text → LineFault → Type 0
 IsLineFault words (Help text) = IsAmong DisplayHelp (line_faults words)
 IsLineFault words (Usage text) = (kind : ErrorKind) × (kind ≢ DisplayHelp) × IsAmong kind (line_faults words)
 IsLineFault words Memory = Unit {0}
 
--- what the words are: a job, or a fault
+-- the words ask for a job, or have a fault
 abbrev pub IsLine : List Text → Result Job LineFault → Type 0
 IsLine words (Ok job) = IsJob words job
 IsLine words (Err fault) = IsLineFault words fault

@@ -1,11 +1,11 @@
--- What two writers got of an outcome. Of a writer that does not tell its bytes nothing is said.
+-- What two writers received of an outcome. Nothing is stated of a writer whose bytes are unknown.
 use Rattle.std.specs.Prelude.{◌≡◌, ◌++◌, ◌⊎◌, ℕ, List, Option}
 use Rattle.std.specs.Io.KnownBytes.{Appends, Keeps}
 use Rattle.canoffice_cli.specs.Outcome.{Outcome}
 use Rattle.canoffice_cli.specs.declared.report.Status.{Status}
 use Rattle.canoffice_cli.specs.declared.report.Status.TheVariants.{Failed}
 
--- the bytes that a writer holds before and after, where it tells them
+-- the bytes that a writer has before and after, if they are known
 abbrev pub Writing : Type 0
 Writing = Option (List ℕ) × Option (List ℕ)
 
@@ -13,7 +13,7 @@ Writing = Option (List ℕ) × Option (List ℕ)
 abbrev pub IsWritten : Writing → List ℕ → Type 0
 IsWritten w text = Appends w.0 w.1 text
 
--- a front of the text was written, which may be none or all of it
+-- a prefix of the text was written, which may be none or all of it
 abbrev pub IsCut : Writing → List ℕ → Type 0
 IsCut w text = (front : List ℕ) × (rest : List ℕ) × (text ≡ front ++ rest) × IsWritten w front
 
@@ -25,7 +25,8 @@ IsUntouched w = Keeps w.0 w.1
 abbrev pub IsWhole : Outcome → Writing → Writing → Status → Type 0
 IsWhole o output errors status = IsWritten output o.output × IsWritten errors o.errors × (status ≡ o.status)
 
--- a write failed: the errors come after the whole output
+-- a write failed: a prefix of the output was written and nothing of the errors, or the output and a prefix of the
+-- errors
 abbrev pub IsFailed : Outcome → Writing → Writing → Status → Type 0
 IsFailed o output errors status =
     ((IsCut output o.output × IsUntouched errors) ⊎ (IsWritten output o.output × IsCut errors o.errors)) × (status ≡ Failed)

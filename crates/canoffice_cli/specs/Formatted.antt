@@ -1,4 +1,4 @@
--- What a DBC text comes to that is written anew.
+-- The outcome of formatting a DBC text.
 use Rattle.std.specs.Prelude.{◌≡◌, ◌⊎◌, ℕ, List, []}
 use Rattle.catalogue.specs.Canon.{canonical_text}
 use Rattle.catalogue.specs.Form.{IsSheet}

@@ -1,4 +1,4 @@
--- What is known of the files that paths name, and what a read of one may give.
+-- What is known of the files at paths, and what reading one may give.
 use Rattle.std.specs.Prelude.{◌≡◌, ℕ, List, Option, Some, None, find}
 use Rattle.std.specs.Str.{bytes_eq}
 use Rattle.canoffice_cli.specs.declared.files.FileFault.{FileFault}
@@ -11,19 +11,19 @@ pub data Holding : Type 0 where
   absent : Holding
   holding : List ℕ → Holding
 
--- a read may give these bytes: known bytes exactly, and none where no file can be read
+-- reading may give these bytes: exactly the known ones, and none if no file can be read
 abbrev pub Gives : Holding → List ℕ → Type 0
 Gives unknown bytes = Unit {0}
 Gives absent bytes = ⊥
 Gives (holding known) bytes = bytes ≡ known
 
--- a read may fail so: where the bytes are known, only where memory runs out
+-- reading may fail with this fault: if the bytes are known, only if memory runs out
 abbrev pub FailsWith : Holding → FileFault → Type 0
 FailsWith unknown fault = Unit {0}
 FailsWith absent fault = Unit {0}
 FailsWith (holding known) fault = fault ≡ Memory
 
--- the file's bytes, where there is a file
+-- the file's bytes, if there is a file
 abbrev pub holding_of : Option NamedFile → Holding
 holding_of None = absent
 holding_of (Some file) = holding file.bytes.now

@@ -1,4 +1,4 @@
--- What a run of the program comes to: the bytes on its two streams, and its exit status.
+-- The outcome of a run of the program: the bytes on its two streams, and its exit status.
 use Rattle.std.specs.Prelude.{◌++◌, ℕ, List, [], codes, decimal, Result, Ok, Err}
 use Rattle.std.specs.declared.alloc.AllocError.{AllocError}
 use Rattle.canoffice_cli.specs.declared.report.Report.{Report}
@@ -14,14 +14,14 @@ pub record Outcome : Type 0 where
 abbrev pub outcome_of : Report → Outcome
 outcome_of report = record { output = report.output.items; errors = report.errors.items; status = report.status }
 
--- the number of a status, by which the program ends
+-- the number of a status, with which the program ends
 abbrev pub code_of : Status → ℕ
 code_of Success = 0
 code_of FaultFound = 1
 code_of WrongInput = 2
 code_of Failed = 3
 
--- this text on standard output, and nothing else to say
+-- this text on standard output, and nothing on standard error
 abbrev pub success : List ℕ → Outcome
 success text = record { output = text; errors = []; status = Success }
 
@@ -41,7 +41,7 @@ unreadable path = failure (codes "cannot read " ++ (path ++ codes "\n"))
 abbrev pub wrong_line : ℕ → Outcome
 wrong_line number = wrong_input (codes "bad line " ++ (decimal number ++ codes "\n"))
 
--- this word of the command line is not of its form
+-- this word of the command line is malformed
 abbrev pub wrong_word : List ℕ → Outcome
 wrong_word word = wrong_input (codes "bad word " ++ (word ++ codes "\n"))
 

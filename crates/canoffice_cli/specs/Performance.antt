@@ -1,4 +1,4 @@
--- What the program comes to, of its words and of what is known of the files.
+-- The outcome of the program, from its words and from what is known of the files.
 use Rattle.std.specs.Prelude.{◌≡◌, ◌⊎◌, ℕ, List, map, Result, Ok, Err, string_bytes}
 use Rattle.canoffice_cli.specs.CommandLine.{IsLine}
 use Rattle.canoffice_cli.specs.Holding.{Holding, unknown, absent, holding}
@@ -20,41 +20,41 @@ use Rattle.canoffice_cli.specs.declared.job.LineFault.TheVariants.{Help, Usage, 
 abbrev pub Files : Type 0
 Files = List ℕ → Holding
 
--- what a job comes to whose file is at the path: that of its bytes, or that it cannot be read
+-- the outcome of a job whose file is at the path: that of its bytes, or that it can't be read
 abbrev pub IsOfFile : (List ℕ → Outcome → Type 0) → List ℕ → Holding → Outcome → Type 0
 IsOfFile IsOf path unknown o = (o ≡ unreadable path) ⊎ ((bytes : List ℕ) × IsOf bytes o)
 IsOfFile IsOf path absent o = o ≡ unreadable path
 IsOfFile IsOf path (holding bytes) o = IsOf bytes o
 
--- what the bytes of a file come to, by what is done with them
+-- the outcome of the bytes of a file, by what is done with them
 abbrev pub ComesTo : FileTask → List ℕ → Outcome → Type 0
 ComesTo task.Apply bytes o = IsScriptOutcome bytes o
 ComesTo task.Check bytes o = IsCheckOutcome bytes o
 ComesTo task.Format bytes o = IsFormatOutcome bytes o
 
--- what the job comes to
+-- the outcome of the job
 abbrev pub IsDone : Files → Job → Outcome → Type 0
 IsDone files (Apply script) o = IsOfFile (ComesTo task.Apply) script.now (files script.now) o
 IsDone files (Chart length signals) o = IsChartOutcome length.now (map (λ s. s.now) signals.items) o
 IsDone files (Check file) o = IsOfFile (ComesTo task.Check) file.now (files file.now) o
 IsDone files (Format file) o = IsOfFile (ComesTo task.Format) file.now (files file.now) o
 
--- what words that are no job come to: the text of their fault
+-- the outcome of words that ask for no job: the text of their fault
 abbrev pub IsFaultAnswer : LineFault → Outcome → Type 0
 IsFaultAnswer (Help text) o = o ≡ success (string_bytes text)
 IsFaultAnswer (Usage text) o = o ≡ wrong_input (string_bytes text)
 IsFaultAnswer Memory o = o ≡ memory_lost
 
--- what a command line comes to
+-- the outcome of a command line
 abbrev pub IsAnswer : Files → Result Job LineFault → Outcome → Type 0
 IsAnswer files (Ok job) o = IsDone files job o
 IsAnswer files (Err fault) o = IsFaultAnswer fault o
 
--- what the program's words come to, where memory does not run out
+-- the outcome of the program's words, unless memory runs out before there is one
 abbrev pub IsAnswered : List (List ℕ) → Files → Outcome → Type 0
 IsAnswered words files o = (line : Result Job LineFault) × IsLine words line × IsAnswer files line o
 
--- a run of the program: what its words come to is delivered, or that memory ran out
+-- a run of the program: the outcome of its words is delivered, or that memory ran out
 abbrev pub IsPerformed : List (List ℕ) → Files → Writing → Writing → Status → Type 0
 IsPerformed words files output errors status =
     (o : Outcome) × ((o ≡ memory_lost) ⊎ IsAnswered words files o) × IsDelivered o output errors status

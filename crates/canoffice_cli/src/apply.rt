@@ -1,24 +1,23 @@
 //! Applying a script to a new office.
-ghost use Rattle.std.specs.Prelude.{◌≡◌, ℕ, List, IfOk};
+ghost use Rattle.std.specs.Prelude.{IfOk};
 ghost use Rattle.canoffice_cli.specs.Outcome.{outcome_of};
-ghost use Rattle.canoffice_cli.specs.Applied.{reply_lines, IsRunOf, IsScriptOutcome};
+ghost use Rattle.canoffice_cli.specs.Applied.{IsRunOf, IsScriptOutcome};
 
+use crate::lines::{Line, lines_of};
 use crate::report::{LOST_MEMORY, Report, Status, bad_line};
 use office::PlainOffice;
 use office_script::{ScriptFault, requests_of};
 use office_types::{Command, Reply, Team};
 use std::alloc::{AllocError, Global};
 
-/// Each reply on a line of its own.
-fn reply_lines(alloc: Global, replies: &[Reply]) -> Result<Vec<u8>, AllocError>
-    ensures { IfOk result (λ text. text.items ≡ reply_lines replies.now) }
-{
-    let mut text = Vec::new(alloc);
-    for reply in replies {
-        let line = format!(in alloc; "{reply}\n")?;
-        text.extend_from_slice(line.as_bytes())?;
+impl Line for Reply {
+    ghost use Rattle.canoffice_cli.specs.Applied.{reply_line};
+
+    ghost line = { reply_line };
+
+    fn line(&self, alloc: Global) -> Result<String, AllocError> {
+        format!(in alloc; "{self}\n")
     }
-    Ok(text)
 }
 
 /// Runs the requests in order on an office with no network, and reports their replies.
@@ -29,11 +28,11 @@ fn run_report(alloc: Global, requests: &[(Team, Command)]) -> Result<Report, All
     let mut replies = Vec::new(alloc);
     match office.run(alloc, requests, &mut replies) {
         Ok(()) => {
-            let output = reply_lines(alloc, &replies)?;
+            let output = lines_of(alloc, &replies)?;
             Ok(Report::of_output(alloc, output, Status::Success))
         }
         Err(_) => Ok(Report {
-            output: reply_lines(alloc, &replies)?,
+            output: lines_of(alloc, &replies)?,
             errors: LOST_MEMORY.to_vec(alloc)?,
             status: Status::Failed,
         }),
@@ -42,8 +41,9 @@ fn run_report(alloc: Global, requests: &[(Team, Command)]) -> Result<Report, All
 
 /// Applies the script of these bytes to an office with no network.
 ///
-/// The whole script is read first: where a line is wrong the first one is named, and nothing is done. Else each
-/// line's reply is printed, and the status is `Success` whatever was refused.
+/// The whole script is read first: if a line is wrong, the number of the first one is reported, and nothing is done.
+/// Else the reply to each command is printed, and the status is `Success` whatever was refused. If memory runs out
+/// while the commands are run, the replies so far are printed, then [`LOST_MEMORY`], and the status is `Failed`.
 pub fn apply_script(alloc: Global, script: &[u8]) -> Result<Report, AllocError>
     ensures { IfOk result (λ report. IsScriptOutcome script.now (outcome_of report)) }
 {

@@ -1,4 +1,4 @@
-//! Charts of signals that are written out as words.
+//! Charts of signals that are given as arguments.
 ghost use Rattle.std.specs.Prelude.{◌≡◌, IfErr, IfOk, map};
 ghost use Rattle.canoffice_cli.specs.Outcome.{outcome_of};
 ghost use Rattle.canoffice_cli.specs.Charted.{chart_outcome, AreSignals, IsChartOutcome};
@@ -8,10 +8,10 @@ use crate::report::{Report, Status, bad_word};
 use chart::{ChartSignal, chart_text, first_clash_of, length_of, signal_of};
 use std::alloc::{AllocError, AllocFailed, Global};
 
-/// Why words are no signals.
+/// Why the words describe no signals.
 #[derive(Debug, Drop)]
 pub(crate) enum WordFault<'a> {
-    /// This word writes no signal, and those before it do.
+    /// This word is malformed, and those before it aren't.
     Wrong(&'a str),
     /// Memory ran out.
     Memory,
@@ -39,7 +39,7 @@ impl<T: Drop> From<AllocFailed<T>> for WordFault<'_> {
     }
 }
 
-/// The signals that the words write, or the first word that writes none.
+/// The signals that the words describe, or the first malformed word.
 fn signals_of<'a>(alloc: Global, words: &[&'a str]) -> Result<Vec<ChartSignal>, WordFault<'a>>
     ensures signals { IfOk result (λ signals. AreSignals (map (λ s. s.now) words.now) signals.items) }
     ensures fault { IfErr result (IsWordFault (map (λ s. s.now) words.now)) }
@@ -68,11 +68,11 @@ fn signals_report(alloc: Global, length: u16, signals: &[ChartSignal]) -> Result
     Ok(Report::of_output(alloc, output, status))
 }
 
-/// The chart of the signals that the words write, in a message of the length that `length` writes: `Success` where
-/// they are clear, `FaultFound` where they clash.
+/// The chart of the signals that the words describe, in a message of the length that `length` gives: `Success` if
+/// they are clear, `FaultFound` if they clash.
 ///
-/// Where a word is not of its form, the first one is named and nothing is charted: the length first, then the
-/// signals in order. `length_of` and `signal_of` of the crate `chart` say what the forms are.
+/// If a word is malformed, the first one is reported and nothing is charted: the length comes first, then the
+/// signals in order. `length_of` and `signal_of` of the crate `chart` have their forms.
 pub fn chart_report(alloc: Global, length: &str, words: &[&str]) -> Result<Report, AllocError>
     ensures { IfOk result (λ report. IsChartOutcome length.now (map (λ s. s.now) words.now) (outcome_of report)) }
 {

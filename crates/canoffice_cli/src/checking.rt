@@ -1,27 +1,35 @@
-//! Checks of DBC texts.
+//! Checking DBC texts.
 ghost use Rattle.std.specs.Prelude.{◌≡◌, IfOk, map, string_bytes};
 ghost use Rattle.canoffice_cli.specs.Outcome.{outcome_of};
 ghost use Rattle.canoffice_cli.specs.Checked.{clear_line, fault_line, fault_output, passed_lines, signal_count, unclear_line, IsCheckOutcome, IsVerdict};
 ghost use Rattle.dbc_read.specs.Passed.{start_and_keyword};
 
+use crate::lines::{Line, lines_of};
 use crate::report::{Report, Status};
 use catalogue::{Message, Sheet, SheetCode, SheetFault};
 use dbc_read::{Passed, ReadCode, ReadFault, Reading, read};
 use std::alloc::{AllocError, Global};
 
-/// The statements that are passed over, a line each.
+impl Line for Passed {
+    ghost use Rattle.canoffice_cli.specs.Checked.{passed_line};
+    ghost use Rattle.dbc_read.specs.Passed.{start_and_keyword};
+
+    ghost line = { λ passed. passed_line (start_and_keyword passed) };
+
+    fn line(&self, alloc: Global) -> Result<String, AllocError> {
+        format!(in alloc; "passed {} {}\n", self.at, self.keyword.text())
+    }
+}
+
+/// The skipped statements, a line each.
+#[tactic(auto, using(crate::proofs::PassedLines::each_passed))]
 fn passed_lines(alloc: Global, passed: &[Passed]) -> Result<Vec<u8>, AllocError>
     ensures { IfOk result (λ text. text.items ≡ passed_lines (map start_and_keyword passed.now)) }
 {
-    let mut text = Vec::new(alloc);
-    for statement in passed {
-        let line = format!(in alloc; "passed {} {}\n", statement.at, statement.keyword.text())?;
-        text.extend_from_slice(line.as_bytes())?;
-    }
-    Ok(text)
+    lines_of(alloc, passed)
 }
 
-/// How many signals the sheet's messages have together.
+/// How many signals the sheet's messages have altogether.
 fn signal_count(sheet: &Sheet) -> usize
     ensures { result ≡ signal_count sheet.now.messages }
 {
@@ -46,7 +54,7 @@ fn unclear_line(alloc: Global, code: SheetCode, number: u32) -> Result<String, A
     format!(in alloc; "unclear {} {code} {number}\n", code.number())
 }
 
-/// The line that tells of a fault of reading.
+/// The line for a fault of reading.
 pub(crate) fn fault_line(alloc: Global, fault: ReadFault) -> Result<Vec<u8>, AllocError>
     ensures { IfOk result (λ line. line.items ≡ fault_line fault) }
 {
@@ -55,7 +63,7 @@ pub(crate) fn fault_line(alloc: Global, fault: ReadFault) -> Result<Vec<u8>, All
     Ok(line.into_bytes())
 }
 
-/// The verdict on the sheet: what was passed over, and whether the sheet is clear.
+/// The verdict on the sheet: what was skipped, and whether the sheet is clear.
 fn verdict(alloc: Global, reading: &Reading) -> Result<Report, AllocError>
     ensures { IfOk result (λ report. IsVerdict reading.now.sheet (map start_and_keyword reading.now.passed) (outcome_of report)) }
 {
@@ -83,9 +91,9 @@ fn verdict(alloc: Global, reading: &Reading) -> Result<Report, AllocError>
     }
 }
 
-/// The check of the DBC text: a line for each statement that is passed over, and then `ok` with the counts of messages
-/// and signals, or `unclear` with the first fault of the sheet; or `fault` alone with why and where the text reads as no
-/// sheet. The status is `Success` for `ok`, and else `FaultFound`.
+/// The check of the DBC text: a line for each skipped statement, and then `ok` with the counts of messages and signals,
+/// or `unclear` with the first fault of the sheet; or, if the text reads as no sheet, only `fault` with its code and
+/// offset. The status is `Success` for `ok`, and else `FaultFound`.
 pub fn check_report(alloc: Global, source: &[u8]) -> Result<Report, AllocError>
     ensures { IfOk result (λ report. IsCheckOutcome source.now (outcome_of report)) }
 {

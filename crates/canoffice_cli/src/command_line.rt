@@ -1,5 +1,4 @@
-//! The command line, as clap is told it. Each subcommand is a function of its own here, and each kind of
-//! argument too.
+//! The command line, described for clap. Each subcommand has a function here, and so has each kind of argument.
 ghost use Rattle.std.specs.Prelude.{◌≡◌, IfOk, false};
 ghost use Rattle.clap.specs.Words.{app_of, rule_of};
 ghost use Rattle.clap.specs.declared.builder.command.Command.TheViews.{out-Command as fields_of};
@@ -8,7 +7,7 @@ ghost use Rattle.canoffice_cli.specs.CommandLine.{apply_app, canoffice_app, char
 use clap::{Arg, Command};
 use std::alloc::{AllocError, Global};
 
-/// A word that has to be there, known by its place.
+/// A required positional argument.
 fn required<'a>(alloc: Global, id: &'a str, help: &'a str) -> Arg<'a>
     ensures rule { rule_of result ≡ required_word id.entry.now }
     ensures local { result.global ≡ false }
@@ -16,7 +15,7 @@ fn required<'a>(alloc: Global, id: &'a str, help: &'a str) -> Arg<'a>
     Arg::new(alloc, id).required(true).help(help)
 }
 
-/// Words of which one has to be there, and that take up all further places.
+/// A required positional argument that takes all further words, at least one.
 fn required_many<'a>(alloc: Global, id: &'a str, help: &'a str) -> Arg<'a>
     ensures rule { rule_of result ≡ required_words id.entry.now }
     ensures local { result.global ≡ false }
@@ -75,7 +74,7 @@ fn format_command<'a>(alloc: Global) -> Result<Command<'a>, AllocError>
     Ok(format)
 }
 
-/// The program's command line with all its subcommands, of which one has to be named.
+/// The program's command line with all its subcommands, one of which is required.
 pub fn canoffice_command<'a>(alloc: Global) -> Result<Command<'a>, AllocError>
     ensures app { IfOk result (λ c. app_of c ≡ canoffice_app) }
     ensures local { IfOk result (λ c. (fields_of c).has_globals ≡ false) }

@@ -1,4 +1,4 @@
-//! Writing what the program has to say to its two streams.
+//! Writing the program's report to its two streams.
 ghost use Rattle.std.specs.Prelude.{OnErr, OnOk};
 ghost use Rattle.canoffice_cli.specs.Outcome.{final_outcome};
 ghost use Rattle.canoffice_cli.specs.Delivery.{IsCut, IsDelivered, IsWritten};
@@ -11,10 +11,10 @@ use std::io::Write;
 #[derive(Clone, Copy)]
 struct Unwritten;
 
-/// Writes the report's output to `out` and then its errors to `errors`, and answers its status. Where memory ran out,
-/// `LOST_MEMORY` is the errors, and the status is `Failed`.
+/// Writes the report's output to `out` and then its errors to `errors`, and returns its status. If memory ran out,
+/// `LOST_MEMORY` is written to `errors`, and the status is `Failed`.
 ///
-/// Where a write or a flush fails, the status is `Failed`: a prefix of the output was written and none of the errors,
+/// If a write or a flush fails, the status is `Failed`: a prefix of the output was written and nothing of the errors,
 /// or the output and a prefix of the errors.
 pub fn deliver<O: Write, E: Write>(
     report: Result<Report, AllocError>,
@@ -35,7 +35,7 @@ pub fn deliver<O: Write, E: Write>(
     }
 }
 
-/// As `deliver`, of the parts of a report.
+/// Like `deliver`, for the parts of a report.
 fn write_both<O: Write, E: Write>(
     output: &[u8],
     text: &[u8],

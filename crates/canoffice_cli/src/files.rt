@@ -1,4 +1,4 @@
-//! The bytes of files that are named by their paths.
+//! Reading files by their paths.
 ghost use Rattle.std.specs.Prelude.{ℕ, List, IfOk, IfErr};
 ghost use Rattle.canoffice_cli.specs.Holding.{Holding, Gives, FailsWith};
 
@@ -18,15 +18,15 @@ pub enum FileFault {
     Memory,
 }
 
-/// A place with files, each named by its path.
+/// Files that can be read by their paths.
 pub trait FileSource {
     /// What is known of the file at each path.
     ghost held: { Self → List ℕ → Holding };
 
     /// All bytes of the file at the path.
     ///
-    /// Where the file's bytes are known it gives just these, and fails only where memory runs out. Where it is known
-    /// that no file can be read at the path, it fails.
+    /// If the file's bytes are known, it gives exactly these, and fails only if memory runs out. If it is known that no
+    /// file can be read at the path, it fails.
     fn read(&self, alloc: Global, path: &str) -> Result<Vec<u8>, FileFault>
         ensures bytes { IfOk result (λ v. Gives (held self.now path.now) v.items) }
         ensures fault { IfErr result (FailsWith (held self.now path.now)) };

@@ -1,4 +1,4 @@
-//! DBC texts written anew.
+//! Formatting DBC texts.
 ghost use Rattle.std.specs.Prelude.{IfOk};
 ghost use Rattle.canoffice_cli.specs.Outcome.{outcome_of};
 ghost use Rattle.canoffice_cli.specs.Formatted.{IsFormatOutcome, KeepsCanonical};
@@ -10,8 +10,9 @@ use dbc_read::{ReadCode, read};
 use dbc_write::text_of;
 use std::alloc::{AllocError, Global};
 
-/// The canonical text of the sheet that the DBC text reads as, clear or not; or, where it reads as none, why and where
-/// on standard error, with the status `FaultFound`. A text that is canonical already is printed unchanged.
+/// The canonical text of the sheet that the DBC text reads as, whether it is clear or not; or, if the text reads as no
+/// sheet, the fault's code and offset on standard error, with the status `FaultFound`. A text that is canonical already
+/// is printed unchanged.
 pub fn format_report(alloc: Global, source: &[u8]) -> Result<Report, AllocError>
     ensures outcome { IfOk result (λ report. IsFormatOutcome source.now (outcome_of report)) }
     ensures canonical { IfOk result (λ report. KeepsCanonical source.now (outcome_of report)) }

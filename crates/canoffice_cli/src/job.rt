@@ -1,4 +1,4 @@
-//! The job that the words of the command line are.
+//! The job that the words of the command line ask for.
 ghost use Rattle.std.specs.Prelude.{◌≡◌, IfOk, IfErr, map, codes};
 ghost use Rattle.clap.specs.Words.{found_of, kind_of, rows_of, subcommand_rows_of};
 ghost use Rattle.canoffice_cli.specs.CommandLine.{HasSome, IsEntered, IsJob, IsJobIn, IsJobOf, IsFaultOfKind, IsLineFault, IsNamed};
@@ -9,42 +9,47 @@ use clap::{ArgMatches, Error};
 use std::alloc::{AllocError, Global};
 
 /// What the program is to do: a subcommand with the values of its arguments.
-#[derive(Debug, Drop)]
+#[derive(Drop)]
 pub enum Job<'a> {
     /// Apply the lines of the script in the file of this name.
     Apply {
+        /// The path of the script.
         script: &'a str,
     },
-    /// Print the chart of the signals that the words write, in a message of the length that a word writes.
+    /// Print the chart of the signals that the words describe, in a message of the length that a word gives.
     Chart {
+        /// The word that gives the length.
         length: &'a str,
+        /// The words that describe the signals.
         signals: Vec<&'a str>,
     },
     /// Check the DBC text in the file of this name.
     Check {
+        /// The path of the file.
         file: &'a str,
     },
-    /// Print the DBC text in the file of this name anew.
+    /// Print the canonical text of the DBC text in the file of this name.
     Format {
+        /// The path of the file.
         file: &'a str,
     },
 }
 
-/// Why the words of the command line are no job.
+/// Why the words of the command line ask for no job.
 #[derive(Debug, Drop)]
 pub enum LineFault {
     /// They ask for help, and this is its text.
     Help(String),
-    /// They are wrong, and this text says how and what the usage is.
+    /// They are wrong; this text explains the error and the usage.
     Usage(String),
     /// Memory ran out.
     Memory,
 }
 
-/// The job that the program's words are, of which the first is the program's own name.
+/// The job that the program's words ask for. The first word is the program's own name.
 ///
-/// The answer is a job exactly where clap finds no fault in the words, unless memory runs out: it is `Help`
-/// only where they ask for help, and `Usage` only where they have another fault.
+/// The result is a job exactly if clap finds no fault in the words, unless memory runs out: it is `Help` only if they
+/// ask for help, and `Usage` only if they have another fault.
 pub fn job_of<'a>(alloc: Global, words: &'a [&'a str]) -> Result<Job<'a>, LineFault>
     ensures job { IfOk result (IsJob (map (λ s. s.now) words.entry.now)) }
     ensures fault { IfErr result (IsLineFault (map (λ s. s.now) words.entry.now)) }
@@ -61,7 +66,7 @@ pub fn job_of<'a>(alloc: Global, words: &'a [&'a str]) -> Result<Job<'a>, LineFa
     }
 }
 
-/// The fault of words that are no UTF-8 text, and so were never words: `Usage`, unless memory runs out.
+/// The fault of arguments that aren't UTF-8, so that they can't be read as words: `Usage`, unless memory runs out.
 pub fn words_not_text(alloc: Global) -> LineFault
     ensures { IsFaultOfKind ErrorKind.ValueValidation result }
 {
@@ -75,7 +80,7 @@ pub fn words_not_text(alloc: Global) -> LineFault
     }
 }
 
-/// The fault that clap's error is, with clap's text.
+/// The fault for clap's error, with clap's text.
 fn line_fault(alloc: Global, error: &Error) -> LineFault
     ensures { IsFaultOfKind (kind_of error.now) result }
 {
@@ -89,8 +94,8 @@ fn line_fault(alloc: Global, error: &Error) -> LineFault
     }
 }
 
-/// The job of the subcommand that was entered, which is one of the program's, with all that it needs. Only the
-/// list of a chart's signals takes memory, so no other subcommand is told as a lack of it.
+/// The job of the subcommand that was entered, which is one of the program's, with all its required arguments. Only
+/// the list of a chart's signals takes memory, so no other subcommand can end as out of memory here.
 #[tactic(auto, using(crate::proofs::CommandLine::found_pair))]
 fn job_in<'a>(alloc: Global, matches: &ArgMatches<'a>) -> Result<Job<'a>, AllocError>
     requires { IsEntered (subcommand_rows_of matches.now) }

@@ -1,13 +1,13 @@
 //! The library of the program `canoffice`: from the words of its command line to its exit status.
 //!
-//! - `command_line` tells clap the subcommands and their arguments; `job` reads the words by it, as a `Job` or a
-//!   `LineFault`.
-//! - `files` is where a job reads files: those of the machine, or of a list in memory.
-//! - `report` is what a run has to say: bytes for standard output and standard error, and a `Status`.
+//! - `command_line` describes the subcommands and their arguments for clap; with it `job` turns the words into a `Job`
+//!   or a `LineFault`.
+//! - `files` reads files: those of the machine, or those of a list in memory.
+//! - `report` is the result of a run: bytes for standard output and standard error, and a `Status`.
 //! - `delivery` writes a report to the two streams.
 //! - `program` joins them: `perform` is a whole run.
 //!
-//! The definitions in `specs/` say the same of bytes: `IsPerformed` is a whole run.
+//! The definitions in `specs/` describe the same in terms of bytes: `IsPerformed` is a whole run.
 #![tactic(auto)]
 
 mod apply;
@@ -18,6 +18,7 @@ mod delivery;
 mod files;
 mod formatting;
 mod job;
+mod lines;
 mod program;
 mod report;
 

@@ -16,7 +16,7 @@ use std::alloc::{AllocError, Global};
 use std::io::Write;
 
 /// What is done with the bytes of a file.
-#[derive(Clone, Copy, Debug)]
+#[derive(Clone, Copy)]
 pub(crate) enum FileTask {
     /// They are a script, which is applied.
     Apply,
@@ -26,9 +26,10 @@ pub(crate) enum FileTask {
     Format,
 }
 
-/// Does what the program's words ask for, writes the result to `out` and `errors`, and answers how the program ends.
+/// Does what the program's words ask for, writes the result to `out` and `errors`, and returns how the program ends.
 ///
-/// The first word is the program's own name. Where memory runs out, `LOST_MEMORY` is written in place of all else.
+/// The first word is the program's own name. If memory runs out, `LOST_MEMORY` is written instead of anything else;
+/// only if it runs out while the commands of a script are run, the replies so far are written before it.
 pub fn perform<'a, F: FileSource, O: Write, E: Write>(
     alloc: Global,
     words: &'a [&'a str],
@@ -41,7 +42,7 @@ pub fn perform<'a, F: FileSource, O: Write, E: Write>(
     deliver(answer(alloc, words, files), out, errors)
 }
 
-/// The report on the words: of their job, or of their fault.
+/// The report on the words: that of their job, or of their fault.
 fn answer<'a, F: FileSource>(
     alloc: Global,
     words: &'a [&'a str],
@@ -55,7 +56,7 @@ fn answer<'a, F: FileSource>(
     }
 }
 
-/// The report on words that are no job: their text of help or of usage.
+/// The report on words that ask for no job: the text of help or of usage.
 pub fn fault_report(alloc: Global, fault: LineFault) -> Result<Report, AllocError>
     ensures { IfOk result (λ report. IsFaultAnswer fault (outcome_of report)) }
 {
@@ -66,7 +67,7 @@ pub fn fault_report(alloc: Global, fault: LineFault) -> Result<Report, AllocErro
     }
 }
 
-/// The report that the file can't be read, where it wasn't memory that ran out.
+/// The report that the file can't be read, unless memory ran out.
 fn unreadable_report(alloc: Global, file: &str, fault: FileFault) -> Result<Report, AllocError>
     ensures { IfOk result (λ report. (fault ≡ Unreadable) × (outcome_of report ≡ unreadable file.now)) }
 {
@@ -76,7 +77,7 @@ fn unreadable_report(alloc: Global, file: &str, fault: FileFault) -> Result<Repo
     }
 }
 
-/// The report on the file at the path: what its bytes come to, or that it can't be read.
+/// The report on the file at the path: that on its bytes, or that it can't be read.
 fn file_report<F: FileSource>(
     alloc: Global,
     task: FileTask,
@@ -102,7 +103,7 @@ fn task_report(alloc: Global, task: FileTask, bytes: &[u8]) -> Result<Report, Al
     }
 }
 
-/// The report on the job that is done.
+/// Does the job, and reports on it.
 pub fn report_of<F: FileSource>(
     alloc: Global,
     job: &Job<'_>,

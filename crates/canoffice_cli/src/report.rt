@@ -1,4 +1,4 @@
-//! What the program has to say: bytes for its two streams, and its exit status.
+//! The result of a run: bytes for the program's two streams, and its exit status.
 ghost use Rattle.std.specs.Prelude.{◌≡◌, [], IfOk, codes, string_bytes};
 ghost use Rattle.canoffice_cli.specs.Outcome.{code_of, outcome_of, success, wrong_input, unreadable, wrong_line, wrong_word};
 
@@ -9,11 +9,11 @@ use std::alloc::{AllocError, Global};
 pub enum Status {
     /// All went well: 0.
     Success,
-    /// What was looked at has a fault: 1.
+    /// A fault was found in what was checked, formatted or charted: 1.
     FaultFound,
     /// The command line or a script is wrong: 2.
     WrongInput,
-    /// The store, a device or memory failed: 3.
+    /// A file can't be read, a write failed, or memory ran out: 3.
     Failed,
 }
 
@@ -31,8 +31,8 @@ impl Status {
     }
 }
 
-/// All that a run has to say.
-#[derive(Debug, Drop)]
+/// The result of a run.
+#[derive(Drop)]
 pub struct Report {
     /// The bytes for standard output.
     pub output: Vec<u8>,
@@ -66,7 +66,7 @@ impl Report {
     }
 }
 
-/// What standard error gets when memory runs out. It takes no memory itself.
+/// What is written to standard error when memory runs out. It takes no memory itself.
 pub const LOST_MEMORY: &[u8] = b"lost 71\n";
 
 /// The report that the file at the path can't be read.
@@ -85,7 +85,7 @@ pub fn bad_line(alloc: Global, number: usize) -> Result<Report, AllocError>
     Ok(Report::of_errors(alloc, text.into_bytes(), Status::WrongInput))
 }
 
-/// The report that this word of the command line is not of its form.
+/// The report that this word of the command line is malformed.
 pub fn bad_word(alloc: Global, word: &str) -> Result<Report, AllocError>
     ensures { IfOk result (λ report. outcome_of report ≡ wrong_word word.now) }
 {
@@ -100,7 +100,7 @@ pub fn help(alloc: Global, text: String) -> Report
     Report::of_output(alloc, text.into_bytes(), Status::Success)
 }
 
-/// The report that the command line is wrong, with this text of how and of what the usage is.
+/// The report that the command line is wrong, with this text about the error and the usage.
 pub fn usage(alloc: Global, text: String) -> Report
     ensures { outcome_of result ≡ wrong_input (string_bytes text) }
 {

@@ -1,16 +1,18 @@
 -- Lists in ascending order of a number: where a binary search ends, and what an edit there leaves.
-use Rattle.std.proofs.Common.{◌≡◌, ◌≢◌, ◌==◌, ◌<◌, ◌≤◌, ◌∙◌, ◌||◌, Bool, true, false, cond, not, ℕ, zero, suc, List, [], ◌∷◌, length, get_or, Option, Some, None, Result, Ok, Err, IfOk, IfErr, refl, sym, ap, inl, inr, arith}
+use Rattle.std.proofs.Common.{◌≡◌, ◌≢◌, ◌==◌, ◌<◌, ◌≤◌, ◌∙◌, ◌&&◌, ◌||◌, Bool, true, false, cond, not, ℕ, zero, suc, List, [], ◌∷◌, length, get_or, Option, Some, None, Result, Ok, Err, IfOk, IfErr, refl, sym, ap, inl, inr, arith}
 use Rattle.std.specs.List.{insert, remove, filter, find, list_any}
 use Rattle.std.specs.List.Sorted.{IsSearchInRange, IsBinarySearchResult, IsNonDecreasingBy, IsStrictlySortedBy}
-use Rattle.std.specs.Ordering.{nat_cmp, on, ordering_index}
-use Rattle.std.specs.declared.cmp.Ordering.TheVariants.{Less, Greater}
+use Rattle.std.specs.Ordering.{is_lt, nat_cmp, on, ordering_index}
+use Rattle.std.specs.declared.cmp.Ordering.TheVariants.{Less, Equal, Greater}
 use Rattle.std.proofs.lemmas.Bool.{cases_lt, false≢true}
 use Rattle.std.proofs.lemmas.Bool.Decides.{nat_tests, Decides-eqb}
 use Rattle.std.specs.Cmp.{nat_cmp_is}
 use Rattle.std.proofs.lemmas.Cmp.{ranked}
 use Rattle.std.proofs.lemmas.Map.Keys.{Less-from_sorted}
-use Rattle.catalogue.specs.Keyed.{put, placed}
+use Rattle.catalogue.specs.Keyed.{are_above, put}
 use Rattle.catalogue.specs.Ascending.{IsAt, IsGap}
+use Rattle.catalogue.proofs.Put.{put_cases}
+use Rattle.catalogue.proofs.Putting.{put_first}
 
 differs : (a b : ℕ) → a ≢ b → a == b ≡ false
 differs a b h = grind (arith, nat_tests)
@@ -21,6 +23,12 @@ same a b h = grind (arith, nat_tests)
 or_true : (b : Bool) → (b || true) ≡ true
 or_true true = refl
 or_true false = refl
+
+less≢greater : Less ≡ Greater → ⊥
+less≢greater e = cc
+
+equal≢greater : Equal ≡ Greater → ⊥
+equal≢greater e = cc
 
 module _ {A : Type 0} (key : A → ℕ) where
   rises : (xs : List A) → IsStrictlySortedBy (on key nat_cmp) xs → (i j : ℕ) (d : A) → i < j → j < length xs → key (get_or xs i d) < key (get_or xs j d)
@@ -81,14 +89,22 @@ module _ {A : Type 0} (key : A → ℕ) where
   flips : (a b : ℕ) → a < b → nat_cmp b a ≡ Greater
   flips a b lt = sym (nat_cmp_is b a Greater lt)
 
+  above_gap : (x : A) (xs : List A) → ((j : ℕ) (d : A) → j < length xs → key x < key (get_or xs j d)) → are_above (on key nat_cmp) x xs ≡ true
+  above_gap x [] above = refl
+  above_gap x (y ∷ ys) above =
+      ap (λ r. is_lt r && are_above (on key nat_cmp) x ys) (sym (nat_cmp_is (key x) (key y) Less (above 0 y (omega arith))))
+      ∙ above_gap x ys (λ j d lt. above (suc j) d (omega arith))
+
   -- to put a thing that is in a gap is to insert it there
   pub put_gap : (x : A) (xs : List A) (i : ℕ) → IsGap key xs (key x) i → put (on key nat_cmp) x xs ≡ insert xs i x
-  put_gap x [] zero gap = refl
+  put_gap x xs zero gap = put_first (on key nat_cmp) x xs (above_gap x xs (λ j d lt. gap.above j d (omega arith) lt))
   put_gap x [] (suc i) gap = absurd (let w : suc i ≤ 0 = gap.within in omega (arith, w))
-  put_gap x (y ∷ ys) zero gap = ap (λ r. placed r x y ys (put (on key nat_cmp) x ys)) (sym (nat_cmp_is (key x) (key y) Less (gap.above 0 y (omega arith) (omega arith))))
   put_gap x (y ∷ ys) (suc i) gap =
-      ap (λ r. placed r x y ys (put (on key nat_cmp) x ys)) (flips (key y) (key x) (gap.below 0 y (omega arith)))
-      ∙ ap (λ zs. y ∷ zs) (put_gap x ys i (gap_tail y ys (key x) i gap))
+      let greater : nat_cmp (key x) (key y) ≡ Greater = flips (key y) (key x) (gap.below 0 y (omega arith)) in
+      let rest : put (on key nat_cmp) x ys ≡ insert ys i x = put_gap x ys i (gap_tail y ys (key x) i gap) in
+      put_cases (on key nat_cmp) x (λ zs. zs ≡ y ∷ insert ys i x) y ys
+      (λ above e. absurd (less≢greater (sym e ∙ greater))) (λ above e. absurd (equal≢greater (sym e ∙ greater)))
+      (λ above e. ap (λ zs. y ∷ zs) (sym (put_first (on key nat_cmp) x ys above) ∙ rest)) (λ late. ap (λ zs. y ∷ zs) rest)
 
   all_kept : (xs : List A) (k : ℕ) → ((j : ℕ) (d : A) → j < length xs → key (get_or xs j d) ≢ k) → filter (λ x. not (key x == k)) xs ≡ xs
   all_kept [] k absent = refl

@@ -181,3 +181,41 @@ row_labelled : canonical_text labelled_sheet ≡ lines (
     ∷ codes "SIG_VALTYPE_ 7 D : 2;" ∷ [])
 unfolding unsigned_text digits
 row_labelled = refl
+
+abbrev double : Signal
+double = record {
+  name = codes "S";
+  layout = record { start = 65535; size = 64; order = Intel };
+  signed = false;
+  mux = Always;
+  factor = record { mantissa = pos 1; exponent = negsuc 20 };
+  offset = whole 0;
+  minimum = record { mantissa = negsuc 0; exponent = pos 21 };
+  maximum = whole 0;
+  unit = [];
+  receivers = [];
+  comment = [];
+  spn = 0;
+  values = [];
+  value_type = Double;
+}
+
+-- quotes that are escaped, and a comment of two lines
+abbrev commented_sheet : Sheet
+commented_sheet = record {
+  version = [];
+  comment = codes "of the " ++ 92 ∷ 34 ∷ codes "file" ++ 92 ∷ 34 ∷ [];
+  nodes = record { name = codes "N"; comment = codes "two" ++ 10 ∷ codes "lines" } ∷ [];
+  tables = [];
+  messages = record { ident = Std 0; name = codes "M"; length = 64; transmitter = None; comment = []; signals = double ∷ [] } ∷ [];
+}
+
+row_commented : canonical_text commented_sheet ≡ lines (
+    codes "VERSION \"\"" ∷ codes "NS_ :" ∷ codes "BS_:" ∷ codes "BU_: N"
+    ∷ codes "BO_ 0 M: 64 Vector__XXX"
+    ∷ codes " SG_ S : 65535|64@1+ (1E-21,0) [-1E21|0] \"\" Vector__XXX"
+    ∷ (codes "CM_ \"of the " ++ 92 ∷ 34 ∷ codes "file" ++ 92 ∷ 34 ∷ codes "\";")
+    ∷ (codes "CM_ BU_ N \"two" ++ 10 ∷ codes "lines\";")
+    ∷ codes "SIG_VALTYPE_ 0 S : 2;" ∷ [])
+unfolding unsigned_text digits
+row_commented = refl

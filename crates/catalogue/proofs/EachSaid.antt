@@ -1,4 +1,4 @@
--- What is said of each key where each is spoken of once, and what is empty is left out.
+-- What is said of each key if there is one entry for each, and empty ones are left out.
 use Rattle.std.proofs.Common.{◌≡◌, ◌∙◌, Bool, true, false, cond, List, [], ◌∷◌, map, filter, Option, None, Some, unwrap_or, if◌then◌else◌, refl, sym, ap}
 use Rattle.std.specs.List.{IsDistinct, AllByRecursion}
 use Rattle.catalogue.specs.Saying.{last_at}
@@ -47,7 +47,7 @@ module _ {K V : Type 0} (same : K → K → Bool) (itself : (k : K) → same k k
       by false = all.0
       by true = ap (λ t. unwrap_or (last_at same x.0 (if t then Some e.1 else None) (kept keep rest)) d) other.0 ∙ all.0
 
-  -- of the key of each entry its value is said
+  -- the value of each entry is said of its key
   pub each_said : (entries : List (K × V)) → IsDistinct same (keys entries) → AllByRecursion (λ e. said same d e.0 (kept keep entries) ≡ e.1) entries
   unfolding IsDistinct
   each_said [] apart = tt

@@ -220,7 +220,7 @@ exact_spn ts =
     exact_next _ (exact_one (is_mark (codes ";")) e) (λ end f.
     exact_done _ _ f refl))))))
 
--- Statements that are passed over.
+-- Statements that are skipped.
 
 pub exact_skipped : (ts : List Token) → Exact Any ts (skipped ts) (skipped_at ts)
 unfolding skipped skipped_at

@@ -5,14 +5,17 @@ pub mod Texts
 mod KeywordEndings
 mod NameSets
 mod Rosters
+mod SameMessages
 mod AscendingLists
 mod Naming
+mod NamedThings
 pub mod Refusals
 mod Switches
 mod Clearness
 mod MessageRules
 mod SheetRows
 mod CanonRows
+mod ChangeRows
 pub mod WholeNumbers
 pub mod Separators
 pub mod Rising

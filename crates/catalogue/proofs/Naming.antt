@@ -35,6 +35,29 @@ bytes_flip a b false true e f = sym e ∙ (bytes_eq-Decides a b).1 (sym ((bytes_
 pub bytes_eq-flip : (a b : List ℕ) → bytes_eq a b ≡ bytes_eq b a
 bytes_eq-flip a b = bytes_flip a b (bytes_eq a b) (bytes_eq b a) refl refl
 
+each-filter : {A : Type 0} (P : A → Type 0) (p : A → Bool) (xs : List A) → AllByRecursion P xs → AllByRecursion P (filter p xs)
+each-filter P p [] h = tt
+each-filter P p (x ∷ xs) h = by_test (p x) (h.0) (each-filter P p xs h.1)
+  where
+    by_test : (b : Bool) → P x → AllByRecursion P (filter p xs) → AllByRecursion P (cond b (x ∷ filter p xs) (filter p xs))
+    by_test true px rest = (px, rest)
+    by_test false px rest = rest
+
+-- some of the things are apart where all are
+pub distinct-filter : {A : Type 0} (e : A → A → Bool) (p : A → Bool) (xs : List A) → IsDistinct e xs → IsDistinct e (filter p xs)
+unfolding IsDistinct
+distinct-filter e p [] h = tt
+distinct-filter e p (x ∷ xs) h = by_test (p x) (distinct-filter e p xs h.1)
+  where
+    by_test : (b : Bool) → IsDistinct e (filter p xs) → IsDistinct e (cond b (x ∷ filter p xs) (filter p xs))
+    by_test true rest = (each-filter (λ y. e x y ≡ false) p xs h.0, rest)
+    by_test false rest = rest
+
+pub each_at : {A : Type 0} (P : A → Type 0) (xs : List A) (i : ℕ) (d : A) → i < length xs → AllByRecursion P xs → P (get_or xs i d)
+each_at P [] i d lt h = absurd (let w : i < 0 = lt in omega (arith, w))
+each_at P (x ∷ xs) zero d lt h = h.0
+each_at P (x ∷ xs) (suc i) d lt h = each_at P xs i d (omega (arith, lt)) h.1
+
 module _ {A : Type 0} (name : A → List ℕ) where
   same_name : A → A → Bool
   same_name a b = bytes_eq (name a) (name b)
@@ -54,25 +77,12 @@ module _ {A : Type 0} (name : A → List ℕ) where
       let parts = or_parts (bytes_eq (name y) (name x)) (has_name name ys (name x)) new in
       (each-insert (λ z. bytes_eq (name y) (name z) ≡ false) ys i x h.0 parts.0, apart-insert ys i x h.1 parts.1)
 
-  each-filter : (P : A → Type 0) (p : A → Bool) (xs : List A) → AllByRecursion P xs → AllByRecursion P (filter p xs)
-  each-filter P p [] h = tt
-  each-filter P p (x ∷ xs) h = by_test (p x) (h.0) (each-filter P p xs h.1)
-    where
-      by_test : (b : Bool) → P x → AllByRecursion P (filter p xs) → AllByRecursion P (cond b (x ∷ filter p xs) (filter p xs))
-      by_test true px rest = (px, rest)
-      by_test false px rest = rest
-
   -- some of the things have their names apart where all have
   pub apart-filter : (p : A → Bool) (xs : List A) → AreNamedApart name xs → AreNamedApart name (filter p xs)
-  unfolding IsDistinct
-  apart-filter p [] h = tt
-  apart-filter p (x ∷ xs) h = by_test (p x) (apart-filter p xs h.1)
-    where
-      by_test : (b : Bool) → AreNamedApart name (filter p xs) → AreNamedApart name (cond b (x ∷ filter p xs) (filter p xs))
-      by_test true rest = (each-filter (λ y. bytes_eq (name x) (name y) ≡ false) p xs h.0, rest)
-      by_test false rest = rest
+  apart-filter p xs h = distinct-filter (λ a b. bytes_eq (name a) (name b)) p xs h
 
-  no_other : (x : A) (xs : List A) (n : List ℕ) → name x ≡ n → AllByRecursion (λ y. bytes_eq (name x) (name y) ≡ false) xs → has_name name xs n ≡ false
+  -- no other has its name
+  pub no_other : (x : A) (xs : List A) (n : List ℕ) → name x ≡ n → AllByRecursion (λ y. bytes_eq (name x) (name y) ≡ false) xs → has_name name xs n ≡ false
   no_other x [] n e h = refl
   no_other x (y ∷ ys) n e h =
       ap (λ b. b || has_name name ys n) (ap (λ m. bytes_eq (name y) m) (sym e) ∙ bytes_eq-flip (name y) (name x) ∙ h.0) ∙ no_other x ys n e h.1
@@ -81,11 +91,6 @@ module _ {A : Type 0} (name : A → List ℕ) where
       → has_name name xs n ≡ (not t && (t || has_name name xs n))
   head_removed x xs n true e h = no_other x xs n ((bytes_eq-Decides (name x) n).0 e) h
   head_removed x xs n false e h = refl
-
-  each_at : (P : A → Type 0) (xs : List A) (i : ℕ) (d : A) → i < length xs → AllByRecursion P xs → P (get_or xs i d)
-  each_at P [] i d lt h = absurd (let w : i < 0 = lt in omega (arith, w))
-  each_at P (x ∷ xs) zero d lt h = h.0
-  each_at P (x ∷ xs) (suc i) d lt h = each_at P xs i d (omega (arith, lt)) h.1
 
   tail_removed : (x y : A) (n : List ℕ) (t rest : Bool) → bytes_eq (name y) n ≡ t → bytes_eq (name x) (name y) ≡ false
       → (bytes_eq (name x) n || (not t && rest)) ≡ (not t && (bytes_eq (name x) n || rest))

@@ -1,38 +1,53 @@
--- To put an item into a list in the order of a key.
-use Rattle.std.proofs.Common.{◌≡◌, ℕ, ◌+◌, ◌<◌, List, [], ◌∷◌, ◌++◌, length, take, drop, get_or, set, sym, ap, ◌∙◌, append_assoc, add-one}
-use Rattle.std.proofs.Math.Seq.{set_split}
-use Rattle.std.proofs.lemmas.List.{take_more, drop_more}
+-- To put an item into a list in the order of a key, from the end on.
+use Rattle.std.proofs.Common.{◌≡◌, ◌&&◌, ℕ, ◌+◌, ◌<◌, true, false, cond, zero, suc, List, [], ◌∷◌, length, drop, get_or, set, refl, sym, ap, ◌∙◌, arith}
+use Rattle.std.specs.List.{insert}
+use Rattle.std.specs.Ordering.{is_lt}
+use Rattle.std.proofs.lemmas.Bool.{false≢true}
+use Rattle.std.proofs.lemmas.List.{drop_more}
+use Rattle.std.proofs.lemmas.List.Folds.{list_all_at}
 use Rattle.std.specs.declared.cmp.Ordering.{Ordering}
 use Rattle.std.specs.declared.cmp.Ordering.TheVariants.{Less, Equal, Greater}
-use Rattle.catalogue.specs.Keyed.{put, placed}
+use Rattle.catalogue.specs.Keyed.{are_above, put, placed}
 
 module _ {A : Type 0} (order : A → A → Ordering) (x : A) where
-  put_past : (y : A) (ys : List A) (r : Ordering) → order x y ≡ r → put order x (y ∷ ys) ≡ placed r x y ys (put order x ys)
-  put_past y ys r e = ap (λ v. placed v x y ys (put order x ys)) e
+  put_here : (y : A) (ys : List A) (r : Ordering) → are_above order x ys ≡ true → order x y ≡ r → put order x (y ∷ ys) ≡ placed r x y ys
+  put_here y ys r above e = ap (λ b. cond b (placed (order x y) x y ys) (y ∷ put order x ys)) above ∙ ap (λ v. placed v x y ys) e
 
-  -- one item more is passed
-  pub put_more : (xs : List A) (i : ℕ) (y : A) → i < length xs → y ≡ get_or xs i y → order x y ≡ Greater
-      → put order x xs ≡ take i xs ++ put order x (drop i xs) → put order x xs ≡ take (i + 1) xs ++ put order x (drop (i + 1) xs)
-  put_more xs i y h e g so =
-      let rest : drop i xs ≡ y ∷ drop (i + 1) xs = drop_more xs i y h ∙ ap (λ v. v ∷ drop (i + 1) xs) (sym e) in
-      let front : take (i + 1) xs ≡ take i xs ++ y ∷ [] = take_more xs i y h ∙ ap (λ v. take i xs ++ v ∷ []) (sym e) in
-      so ∙ ap (λ v. take i xs ++ put order x v) rest ∙ ap (λ v. take i xs ++ v) (put_past y (drop (i + 1) xs) Greater g)
-      ∙ sym (append_assoc (take i xs) (y ∷ []) (put order x (drop (i + 1) xs))) ∙ ap (λ v. v ++ put order x (drop (i + 1) xs)) (sym front)
+  put_later : (y : A) (ys : List A) → are_above order x ys ≡ false → put order x (y ∷ ys) ≡ y ∷ put order x ys
+  put_later y ys late = ap (λ b. cond b (placed (order x y) x y ys) (y ∷ put order x ys)) late
 
-  -- it goes before y
-  pub put_before : (xs : List A) (i : ℕ) (y : A) → i < length xs → y ≡ get_or xs i y → order x y ≡ Less
-      → put order x xs ≡ take i xs ++ put order x (drop i xs) → put order x xs ≡ take i xs ++ x ∷ drop i xs
-  put_before xs i y h e g so =
-      let rest : drop i xs ≡ y ∷ drop (i + 1) xs = drop_more xs i y h ∙ ap (λ v. v ∷ drop (i + 1) xs) (sym e) in
-      so ∙ ap (λ v. take i xs ++ put order x v) rest ∙ ap (λ v. take i xs ++ v) (put_past y (drop (i + 1) xs) Less g)
-      ∙ ap (λ v. take i xs ++ x ∷ v) (sym rest)
+  -- it goes first where every item is above it
+  pub put_first : (xs : List A) → are_above order x xs ≡ true → put order x xs ≡ x ∷ xs
+  put_first [] above = refl
+  put_first (y ∷ ys) above = by_order (order x y) refl above
+    where
+      by_order : (r : Ordering) → order x y ≡ r → (is_lt r && are_above order x ys) ≡ true → put order x (y ∷ ys) ≡ x ∷ y ∷ ys
+      by_order Less e h = put_here y ys Less h e
+      by_order Equal e h = absurd (false≢true h)
+      by_order Greater e h = absurd (false≢true h)
 
-  -- it goes in place of y
+  -- one item more is above it
+  pub one_above : (xs : List A) (i : ℕ) (y : A) → i < length xs → y ≡ get_or xs i y → order x y ≡ Less
+      → are_above order x (drop (i + 1) xs) ≡ true → are_above order x (drop i xs) ≡ true
+  one_above xs i y h e less above =
+      ap (are_above order x) (drop_more xs i y h) ∙ ap (λ z. is_lt (order x z) && are_above order x (drop (i + 1) xs)) (sym e)
+      ∙ ap (λ r. is_lt r && are_above order x (drop (i + 1) xs)) less ∙ above
+
+  some_below : (xs : List A) (i : ℕ) (y : A) (r : Ordering) → i < length xs → y ≡ get_or xs i y → order x y ≡ r → is_lt r ≡ false → are_above order x xs ≡ false
+  some_below xs i y r h e o n = list_all_at (λ z. is_lt (order x z)) xs i y h (ap (λ z. is_lt (order x z)) (sym e) ∙ ap is_lt o ∙ n)
+
+  -- it replaces y
   pub put_at : (xs : List A) (i : ℕ) (y : A) → i < length xs → y ≡ get_or xs i y → order x y ≡ Equal
-      → put order x xs ≡ take i xs ++ put order x (drop i xs) → put order x xs ≡ take i xs ++ x ∷ drop (i + 1) xs
-  put_at xs i y h e g so =
-      let rest : drop i xs ≡ y ∷ drop (i + 1) xs = drop_more xs i y h ∙ ap (λ v. v ∷ drop (i + 1) xs) (sym e) in
-      so ∙ ap (λ v. take i xs ++ put order x v) rest ∙ ap (λ v. take i xs ++ v) (put_past y (drop (i + 1) xs) Equal g)
+      → are_above order x (drop (suc i) xs) ≡ true → put order x xs ≡ set xs i x
+  put_at [] i y h e o above = absurd (let w : i < 0 = h in omega (arith, w))
+  put_at (z ∷ zs) zero y h e o above = put_here z zs Equal above (ap (order x) (sym e) ∙ o)
+  put_at (z ∷ zs) (suc i) y h e o above =
+      put_later z zs (some_below zs i y Equal (omega (arith, h)) e o refl) ∙ ap (λ v. z ∷ v) (put_at zs i y (omega (arith, h)) e o above)
 
-pub set_parts : {A : Type 0} (xs : List A) (i : ℕ) (x : A) → i < length xs → take i xs ++ x ∷ drop (i + 1) xs ≡ set xs i x
-set_parts xs i x h = rw add-one (sym (set_split xs i x h))
+  -- it goes after y
+  pub put_after : (xs : List A) (i : ℕ) (y : A) → i < length xs → y ≡ get_or xs i y → order x y ≡ Greater
+      → are_above order x (drop (suc i) xs) ≡ true → put order x xs ≡ insert xs (suc i) x
+  put_after [] i y h e o above = absurd (let w : i < 0 = h in omega (arith, w))
+  put_after (z ∷ zs) zero y h e o above = put_here z zs Greater above (ap (order x) (sym e) ∙ o)
+  put_after (z ∷ zs) (suc i) y h e o above =
+      put_later z zs (some_below zs i y Greater (omega (arith, h)) e o refl) ∙ ap (λ v. z ∷ v) (put_after zs i y (omega (arith, h)) e o above)

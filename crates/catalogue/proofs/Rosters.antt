@@ -1,14 +1,18 @@
 -- What a roster keeps.
-use Rattle.std.proofs.Common.{◌≡◌, ◌≤◌, ◌∙◌, ◌||◌, Bool, false, ℕ, List, [], ◌∷◌, ◌++◌, length, sym, ap, arith, nat_le}
-use Rattle.std.specs.List.{AllByRecursion, IsDistinct, list_any}
+use Rattle.std.proofs.Common.{◌≡◌, ◌<◌, ◌≤◌, ◌∙◌, ◌&&◌, ◌||◌, Bool, true, false, not, ℕ, List, [], ◌∷◌, ◌++◌, length, map, get_or, refl, sym, ap, subst, arith, nat_le}
+use Rattle.std.specs.List.{AllByRecursion, IsDistinct, list_any, remove}
 use Rattle.std.specs.Str.{bytes_eq}
 use Rattle.std.proofs.Math.Bool.{or_comm}
 use Rattle.std.proofs.lemmas.Bool.{or_parts}
 use Rattle.std.proofs.lemmas.List.{length-append}
+use Rattle.std.proofs.lemmas.List.Edits.{length-remove}
+use Rattle.std.proofs.lemmas.Slice.Eq.{bytes_eq-Decides}
 use Rattle.std.proofs.lemmas.Bool.Decides.{nat_tests}
 use Rattle.std.proofs.lemmas.List.Folds.{list_any-append}
 use Rattle.catalogue.specs.Limits.{roster_limit}
-use Rattle.catalogue.specs.Named.{IsRoster, has_name, holds_name}
+use Rattle.catalogue.specs.Named.{AreNamedApart, IsRoster, has_name, holds_name}
+use Rattle.catalogue.proofs.NamedThings.{removed_at}
+use Rattle.catalogue.proofs.Naming.{apart-filter, names-remove}
 use Rattle.catalogue.specs.declared.name_set.NameSet.{NameSet}
 
 each_and_last : {A : Type 0} (P : A → Type 0) (xs : List A) (x : A) → AllByRecursion P xs → P x → AllByRecursion P (xs ++ x ∷ [])
@@ -51,3 +55,56 @@ grown_roster name things more thing names with is room new same index =
 pub copied_roster : {A : Type 0} (name : A → List ℕ) (things copies : List A) (names copied : NameSet) → IsRoster name things names
     → copies ≡ things → ((n : List ℕ) → holds_name copied n ≡ holds_name names n) → IsRoster name copies copied
 copied_roster name things copies names copied is same e = rw same (record { apart = is.apart; few = is.few; index = λ n. e n ∙ is.index n })
+
+each_mapped : {A B : Type 0} (P : B → Type 0) (h : A → B) (xs : List A) → AllByRecursion (λ a. P (h a)) xs → AllByRecursion P (map h xs)
+each_mapped P h [] all = tt
+each_mapped P h (x ∷ xs) all = (all.0, each_mapped P h xs all.1)
+
+each_of_mapped : {A B : Type 0} (P : B → Type 0) (h : A → B) (xs : List A) → AllByRecursion P (map h xs) → AllByRecursion (λ a. P (h a)) xs
+each_of_mapped P h [] all = tt
+each_of_mapped P h (x ∷ xs) all = (all.0, each_of_mapped P h xs all.1)
+
+module _ {A B : Type 0} (e : B → B → Bool) (h : A → B) where
+  distinct_mapped : (xs : List A) → IsDistinct (λ a b. e (h a) (h b)) xs → IsDistinct e (map h xs)
+  unfolding IsDistinct
+  distinct_mapped [] apart = tt
+  distinct_mapped (x ∷ xs) apart = (each_mapped (λ b. e (h x) b ≡ false) h xs apart.0, distinct_mapped xs apart.1)
+
+  distinct_of_mapped : (xs : List A) → IsDistinct e (map h xs) → IsDistinct (λ a b. e (h a) (h b)) xs
+  unfolding IsDistinct
+  distinct_of_mapped [] apart = tt
+  distinct_of_mapped (x ∷ xs) apart = (each_of_mapped (λ b. e (h x) b ≡ false) h xs apart.0, distinct_of_mapped xs apart.1)
+
+  -- things are apart by what h shows of them
+  pub apart_by : (xs ys : List A) → map h ys ≡ map h xs → IsDistinct (λ a b. e (h a) (h b)) xs → IsDistinct (λ a b. e (h a) (h b)) ys
+  apart_by xs ys same apart = distinct_of_mapped ys (subst (IsDistinct e) (sym same) (distinct_mapped xs apart))
+
+any_mapped : {A B : Type 0} (p : B → Bool) (h : A → B) (xs : List A) → list_any (λ a. p (h a)) xs ≡ list_any p (map h xs)
+any_mapped p h [] = refl
+any_mapped p h (x ∷ xs) = ap (λ b. p (h x) || b) (any_mapped p h xs)
+
+-- and pass a test by it
+pub any_by : {A B : Type 0} (p : B → Bool) (h : A → B) (xs ys : List A) → map h ys ≡ map h xs → list_any (λ a. p (h a)) ys ≡ list_any (λ a. p (h a)) xs
+any_by p h xs ys same = any_mapped p h ys ∙ ap (list_any p) same ∙ sym (any_mapped p h xs)
+
+-- things of the same names
+pub renamed_roster : {A : Type 0} (name : A → List ℕ) (things others : List A) (names : NameSet) → IsRoster name things names
+    → length others ≡ length things → map name others ≡ map name things → IsRoster name others names
+renamed_roster name things others names is long same = record {
+  apart = apart_by bytes_eq name things others same is.apart;
+  few = omega (arith, is.few, long);
+  index = λ n. is.index n ∙ sym (any_by (λ m. bytes_eq m n) name things others same);
+}
+
+-- one is taken out
+pub shrunk_roster : {A : Type 0} (name : A → List ℕ) (things rest : List A) (n : List ℕ) (i : ℕ) (d : A) (names left : NameSet) → IsRoster name things names
+    → i < length things → bytes_eq (name (get_or things i d)) n ≡ true → rest ≡ remove things i
+    → ((k : List ℕ) → holds_name left k ≡ (not (bytes_eq n k) && holds_name names k)) → IsRoster name rest left
+shrunk_roster name things rest n i d names left is lt e same index =
+    rw same (record {
+      apart = subst (AreNamedApart name) (sym (removed_at name n things i d is.apart lt e)) (apart-filter name (λ a. not (bytes_eq (name a) n)) things is.apart);
+      few = let l = length-remove things i lt in omega (arith, l, is.few);
+      index = λ k. index k ∙ ap (λ b. not (bytes_eq n k) && b) (is.index k)
+          ∙ ap (λ m. not (bytes_eq m k) && has_name name things k) (sym ((bytes_eq-Decides (name (get_or things i d)) n).0 e))
+          ∙ sym (names-remove name things i d k lt is.apart);
+    })

@@ -123,7 +123,7 @@ last_of_one_counts = refl
 no_comment_is_empty : last_in [] comment_in versions ≡ []
 no_comment_is_empty = refl
 
--- What comes before its message is said of it too: an SPN, a value type and value texts.
+-- What comes before its message is attached to it too: an SPN, a value type and value texts.
 abbrev attached_before : List Statement
 attached_before =
     at 0 AttributeValue (SpnIs (Some 500) (codes "Torque") 513)
@@ -146,7 +146,7 @@ message_comment_before = refl
 none_before_is_passed : passed_by attached_before ≡ []
 none_before_is_passed = refl
 
--- What cites a message, signal or node that isn't in the file is passed over, and so is what has that form alone.
+-- What cites a message, signal or node that isn't in the file is skipped, and so is what is skipped by its form.
 abbrev absent : List Statement
 absent =
     at 0 NewSymbols Dropped ∷ at 10 Nodes (NodesAre (codes "Dash" ∷ [])) ∷ at 20 Message wheel

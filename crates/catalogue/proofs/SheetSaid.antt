@@ -1,5 +1,5 @@
--- Entries that speak once of each node, of each message or of each signal of a well-formed sheet, in order, and leave
--- out what is empty, say of each its own value.
+-- Entries, one for each node, each message or each signal of a well-formed sheet, in order and without empty ones, say
+-- of each its own value.
 use Rattle.std.proofs.Common.{◌≡◌, ◌&&◌, ◌++◌, ◌∙◌, ℕ, Bool, true, false, nat_eq, List, [], ◌∷◌, map, refl, sym, ap, subst, arith}
 use Rattle.std.specs.List.{AllByRecursion, IsDistinct, flat_map}
 use Rattle.std.specs.Str.{bytes_eq}
@@ -55,7 +55,7 @@ module _ {A K V : Type 0} (key : A → K) (value : A → V) where
   each_entry P [] all = tt
   each_entry P (x ∷ xs) all = (all.0, each_entry P xs all.1)
 
-  -- what tells things apart by their keys tells the keys apart
+  -- what distinguishes things by their keys distinguishes the keys
   distinct_keys : (same : K → K → Bool) (xs : List A) → IsDistinct (λ x y. same (key x) (key y)) xs → IsDistinct same (map key xs)
   unfolding IsDistinct
   distinct_keys same [] apart = tt

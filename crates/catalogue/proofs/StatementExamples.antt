@@ -312,7 +312,7 @@ unfolding statements_at statement_at line_at message_at signals_at signal_at lay
     no_names_at further_at reading cut is_name independent_at
 no_signals = isnt refl
 
--- `BO_ 3221225472` is passed over, whatever follows it, up to the next keyword other than `SG_`.
+-- `BO_ 3221225472` is skipped, whatever follows it, up to the next keyword other than `SG_`.
 
 independents : AreAll (
     is (codes "BO_ 3221225472") (one Message PassedOver) ∷
@@ -355,7 +355,7 @@ unfolding statements_at statement_at line_at comment_at file_comment_at node_com
     passed_comment_at skipped_at
 no_comments = isnt refl
 
--- `VAL_`: the value texts of a signal are read, those of an environment variable passed over.
+-- `VAL_`: the value texts of a signal are read, those of an environment variable are skipped.
 
 value_texts : AreAll (
     is (codes "VAL_ 7 S ;") (one ValueTexts (ValueTextsAre (Some 7) (codes "S") [])) ∷
@@ -393,7 +393,7 @@ no_value_types : IsntAny (
 unfolding statements_at statement_at line_at value_type_at
 no_value_types = isnt refl
 
--- `BA_`: what isn't of the form that is read is passed over.
+-- `BA_`: what isn't of the form that is read is skipped.
 
 attributes : AreAll (
     is (codes "BA_ \"SPN\" SG_ 7 S 524287 ;") (one AttributeValue (SpnIs (Some 7) (codes "S") 524287)) ∷
@@ -412,8 +412,8 @@ no_attributes : IsntAny (
 unfolding statements_at statement_at line_at spn_at skipped_at
 no_attributes = isnt refl
 
--- Other keywords: passed over to the next `;`, with keywords and texts of any kind on the way, but `SG_MUL_VAL_`, with
--- which no statement begins.
+-- Other keywords: skipped up to the next `;`, with keywords and texts of any kind on the way; but no statement begins
+-- with `SG_MUL_VAL_`.
 
 passed : AreAll (
     is (codes "BA_DEF_ SG_ \"SPN;\" INT 0 524287 ;") (one AttributeDefinition PassedOver) ∷

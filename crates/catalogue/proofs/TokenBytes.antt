@@ -1,4 +1,4 @@
--- The byte with which a token begins tells its kind, and is no gap.
+-- The byte with which a token begins determines its kind, and is no gap.
 use Rattle.std.proofs.Common.{◌≡◌, ℕ, Bool, true, false, List, [], ◌∷◌, ◌++◌, Some, None, refl, sym, ap, ◌∙◌, arith}
 use Rattle.std.specs.Char.{is_ascii_digit}
 use Rattle.std.proofs.lemmas.Bool.{and_parts}
@@ -50,7 +50,7 @@ kind_is_no_gap b kind h = by_cases (is_gap b) refl
     by_cases false e = e
     by_cases true e = let none : Some kind ≡ None = sym h ∙ kind_of_gap b e in absurd cc
 
--- the bytes begin with one that tells the kind
+-- the bytes begin with one that determines the kind
 pub record Begins (kind : TokenKind) (bytes : List ℕ) : Type 0 where
   pub first : ℕ
   pub behind : List ℕ

@@ -4,7 +4,7 @@ use Rattle.std.specs.List.{prefix_len, list_all}
 use Rattle.std.proofs.lemmas.Bool.{and_parts}
 use Rattle.decimal.proofs.Tokens.{Stops}
 
--- bytes that pass, in front of any others
+-- bytes that pass the test, before any others
 pub prefix_le : (p : ℕ → Bool) (ds more : List ℕ) → list_all p ds ≡ true → length ds ≤ prefix_len p (ds ++ more)
 prefix_le p [] more h = omega arith
 prefix_le p (d ∷ ds) more h =

@@ -29,7 +29,7 @@ pub record IsWord (kind : TokenKind) (bytes : List ℕ) (n : ℕ) : Type 0 where
   pub spelled : Spells kind (take n bytes)
   pub longest : (word rest : List ℕ) → Spells kind word → bytes ≡ word ++ rest → length word ≤ n
 
--- what it means to find this many bytes; only a text that does not end is not found where its first byte tells it
+-- what it means to find this many bytes; only a text that isn't closed isn't found though its first byte begins one
 abbrev pub IsFound : TokenKind → ℕ → List ℕ → Option ℕ → Type 0
 IsFound kind b bytes None = (is_quote b ≡ true) × IsNone kind (b ∷ bytes)
 IsFound kind b bytes (Some n) = IsWord kind (b ∷ bytes) n
@@ -95,7 +95,7 @@ mark_found b bytes h = record {
   longest = λ word rest s e. omega (arith, ap length s.2);
 }
 
--- ---- the kind that the first byte tells
+-- ---- the kind that the first byte determines
 
 by_first : (b : ℕ) (bytes : List ℕ) (kind : TokenKind) (letter digit quote mark : Bool)
     → starts_identifier b ≡ letter → is_ascii_digit b ≡ digit → is_quote b ≡ quote → is_mark b ≡ mark

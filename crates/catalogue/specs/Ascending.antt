@@ -8,7 +8,7 @@ module _ {A : Type 0} (key : A → ℕ) where
     pub here : (d : A) → key (slice_index_or xs i d) ≡ k
     pub others : (j : ℕ) (d : A) → j < length xs → j ≢ i → key (slice_index_or xs j d) ≢ k
 
-  -- the number k would go at index i: smaller ones before it, and greater ones from it on
+  -- the number k would be inserted at index i: smaller ones are before it, and greater ones from it on
   pub record IsGap (xs : List A) (k i : ℕ) : Type 0 where
     pub within : i ≤ length xs
     pub below : (j : ℕ) (d : A) → j < i → key (slice_index_or xs j d) < k

@@ -47,7 +47,7 @@ mark gap m = record { gap = gap; kind = kind.Mark; text = m }
 abbrev pub quoted : List ℕ → List ℕ → Piece
 quoted gap t = record { gap = gap; kind = kind.Text; text = codes "\"" ++ t ++ codes "\"" }
 
--- a decimal: a minus where it is negative, and its digits
+-- a decimal: a minus if it is negative, and its digits
 abbrev pub value : List ℕ → Number → List Piece
 value gap n =
     let digits = unsigned_text (unsigned_abs n.mantissa) n.exponent in
@@ -98,7 +98,7 @@ receiver_pieces (r ∷ rs) = word space r ∷ flat_map (λ n. mark tight (codes 
 abbrev pub pair : List ℕ → List ℕ → List ℕ → Number → Number → List Piece
 pair left between right a b = mark space left ∷ value tight a ++ mark tight between ∷ value tight b ++ mark tight right ∷ []
 
--- ` SG_ name mux : start|size@order+ (factor,offset) [minimum|maximum] "unit" receivers`
+-- ` SG_ name indicator : start|size@order+ (factor,offset) [minimum|maximum] "unit" receivers`
 abbrev pub layout_pieces : Signal → List Piece
 layout_pieces s = number space s.layout.start ∷ mark tight (codes "|") ∷ number tight s.layout.size ∷ mark tight (codes "@") ∷ number tight (order_number s.layout.order)
     ∷ mark tight (if s.signed then codes "-" else codes "+") ∷ []
@@ -110,7 +110,7 @@ signal_line s = word space (codes "SG_") ∷ word space s.name ∷ mux_pieces s.
 abbrev pub message_lines : Message → List Line
 message_lines m = message_line m ∷ map signal_line m.signals
 
--- CM_, of what, and the comment; nothing where it is empty
+-- CM_, what it is about, and the comment; nothing if it is empty
 abbrev pub comment_lines : List Piece → List ℕ → List Line
 comment_lines of_what [] = []
 comment_lines of_what (b ∷ bs) = (word tight (codes "CM_") ∷ of_what ++ quoted space (b ∷ bs) ∷ mark tight (codes ";") ∷ []) ∷ []
@@ -118,7 +118,7 @@ comment_lines of_what (b ∷ bs) = (word tight (codes "CM_") ∷ of_what ++ quot
 abbrev pub node_comment : Node → List Line
 node_comment n = comment_lines (word space (codes "BU_") ∷ word space n.name ∷ []) n.comment
 
--- SG_, the message's number and the signal's name; or the last two alone
+-- SG_, the message's number and the signal's name; or only the last two
 abbrev pub place_pieces : Message → Signal → List Piece
 place_pieces m s = number space (number_of m) ∷ word space s.name ∷ []
 
@@ -147,7 +147,7 @@ spn_definition = word tight (codes "BA_DEF_") ∷ word space (codes "SG_") ∷ q
 abbrev pub spn_default : Line
 spn_default = word tight (codes "BA_DEF_DEF_") ∷ quoted space (codes "SPN") ∷ number space 0 ∷ mark tight (codes ";") ∷ []
 
--- both, before the first of the numbers
+-- both, which come before the first of the numbers
 abbrev pub spn_definitions : List Line
 spn_definitions = spn_definition ∷ spn_default ∷ []
 

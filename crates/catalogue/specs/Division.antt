@@ -1,4 +1,4 @@
--- A file is a run of statements in any order: its division into them, and the laws by which there is one at most.
+-- A file is a sequence of statements in any order: its division into them, and the laws by which there is one at most.
 use Rattle.std.specs.Prelude.{◌≡◌, true, ◌↔◌, List, [], ◌∷◌, ◌++◌, map, Some}
 use Rattle.catalogue.specs.Grammar.{next, statement}
 use Rattle.catalogue.specs.Parsing.{statements_at}
@@ -6,13 +6,12 @@ use Rattle.catalogue.specs.Rules.{many}
 use Rattle.catalogue.specs.Statement.{Statement}
 use Rattle.catalogue.specs.Token.{Token}
 
--- the run of tokens is the statement, where rest follows it
+-- the run of tokens is the statement if rest follows it
 abbrev pub IsStatement : List Token → Statement → List Token → Type 0
 IsStatement run s rest = statement (run ++ rest) s rest
 
--- Of the runs that begin with one token and are followed by the end or by a keyword other than `SG_`, at most one is a
--- statement, and it is
--- a single one.
+-- Fix a first token. Of all runs that start there and are followed by the end or by a keyword other than `SG_`, at most
+-- one is a statement, and it can be read in only one way.
 abbrev pub OneStatement : Type 0
 OneStatement = (run other rest more : List Token) (s t : Statement)
     → run ++ rest ≡ other ++ more → next rest ≡ true → next more ≡ true

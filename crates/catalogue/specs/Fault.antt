@@ -51,7 +51,7 @@ about_text about.Table = codes "a value table"
 about_text (about.Message number) = codes "message " ++ decimal number
 about_text (about.Signals number clash) = codes "signals of message " ++ decimal number
 
--- A call that is refused by its tests answers the first that holds; out of memory may be the answer instead of any other.
+-- A call that is refused returns the first of its tests that holds, or out of memory instead.
 abbrev pub IsRefusal : Option SheetCode → SheetCode → Type 0
 IsRefusal refusal DoubleNumber = refusal ≡ Some DoubleNumber
 IsRefusal refusal DoubleName = refusal ≡ Some DoubleName
@@ -62,7 +62,7 @@ IsRefusal refusal TwoMultiplexors = refusal ≡ Some TwoMultiplexors
 IsRefusal refusal TooMany = refusal ≡ Some TooMany
 IsRefusal refusal Memory = ⊤
 
--- what a fault says, unless it is out of memory
+-- what holds of a fault with this code, unless it is out of memory
 abbrev pub IsMemoryOr : SheetCode → Type 0 → Type 0
 IsMemoryOr Memory P = ⊤
 IsMemoryOr DoubleNumber P = P

@@ -1,6 +1,6 @@
--- The fields of the statements of a DBC file: what single tokens say, and the rules of what several say together.
--- They are those of Vector's DBC File Format Documentation; the ranges of numbers and the length of names, and that a
--- comma may be between any two names of a list or be left out, are this project's profile.
+-- The fields of the statements of a DBC file: what single tokens mean, and rules for what several mean together. They
+-- are those of Vector's DBC File Format Documentation; this project's profile sets the ranges of numbers and the length
+-- of names, and lets the comma between two names of a list be written or left out.
 use Rattle.std.specs.Prelude.{◌≡◌, ◌↔◌, ℕ, ◌+◌, ◌-◌, Bool, true, false, ◌&&◌, ◌||◌, ◌==◌, not, nat_le, List, [], ◌∷◌, filter_map, Option, Some, None}
 use Rattle.std.specs.Prelude.{is_some, option_map, option_and_then, unwrap_or, if◌then◌else◌, codes}
 use Rattle.std.specs.Result.{result_ok}
@@ -58,17 +58,17 @@ is_key k t = is_a Name t && bytes_eq t.text (keyword_text k)
 abbrev pub key_of : Token → Option Keyword
 key_of t = if is_a Name t then keyword_of t.text else None
 
--- What one token says.
+-- What one token means.
 
 -- a text
 abbrev pub text_of : Token → Option (List ℕ)
 text_of t = only (is_a Text t) (inside_of t.text)
 
--- A name that is only cited is any name token, a keyword too: there may be nothing of that name.
+-- A name that is only cited is any name token, also a keyword: the file may have nothing of that name.
 abbrev pub cited_name : Token → Option (List ℕ)
 cited_name t = only (is_a Name t) t.text
 
--- the name of something that the statement makes
+-- the name of something that the statement defines
 abbrev pub made_name : Token → Option (List ℕ)
 made_name t = only (is_a Name t && is_name t.text) t.text
 
@@ -76,7 +76,7 @@ made_name t = only (is_a Name t && is_name t.text) t.text
 abbrev pub node_of : Token → Option (Option (List ℕ))
 node_of t = if is_a Name t && bytes_eq t.text no_node then Some None else option_map Some (made_name t)
 
--- a whole number up to 4294967295: digits alone, and leading zeros don't count
+-- a whole number up to 4294967295: digits only, and leading zeros don't count
 abbrev pub whole : Token → Option ℕ
 whole t = if is_a NumberKind t then whole_of t.text else None
 
@@ -84,7 +84,7 @@ whole t = if is_a NumberKind t then whole_of t.text else None
 abbrev pub whole_where : (ℕ → Bool) → Token → Option ℕ
 whole_where test t = option_and_then (λ n. only (test n) n) (whole t)
 
--- a whole number of any size that only cites a message: none above 4294967295, and no message has a number like that
+-- a whole number of any size that only cites a message: None above 4294967295, since no message has such a number
 abbrev pub cited_number : Token → Option Cited
 cited_number t = only (is_a NumberKind t && is_numeral t.text) (whole_of t.text)
 
@@ -94,7 +94,7 @@ ident_of n =
     if nat_le n GREATEST_STANDARD then Some (Std n)
     else only (nat_le EXTENDED_FLAG n && nat_le n (EXTENDED_FLAG + GREATEST_EXTENDED)) (Ext (n - EXTENDED_FLAG))
 
--- it is the one identifier whose DBC number this is, and where there is none no identifier has the number
+-- it is the one identifier with this DBC number, and if it is None, no identifier has the number
 abbrev pub NumbersAreIdentifiers : Type 0
 NumbersAreIdentifiers = (n : ℕ) (ident : Ident) → (ident_of n ≡ Some ident) ↔ (IsIdentifier ident × (dbc_number ident ≡ n))
 
@@ -133,7 +133,7 @@ sign_of t = if is_mark (codes "+") t then Some false else only (is_mark (codes "
 abbrev pub mux_of : Token → Option Mux
 mux_of t = if is_a Name t then mux_of_indicator t.text else None
 
--- a number token, negated or not, that has a decimal's value: the decimal, so that `1.0` and `1` say the same
+-- a number token, negated or not, that has a decimal's value: the decimal, so that `1.0` and `1` mean the same
 abbrev pub number_of : Bool → Token → Option Number
 number_of negative t = if is_a NumberKind t then result_ok (reading negative t.text) else None
 
@@ -192,7 +192,7 @@ no_names = do
   end ← followed (λ ts. not (begins node_of ts))
   done []
 
--- names with at most one comma between two, and no more of them after the last
+-- names with at most one comma between two, and no further name after the last
 unfoldable pub some_names : Rule (List (List ℕ))
 some_names = do
   node ← token node_of
@@ -200,7 +200,7 @@ some_names = do
   end ← followed (λ ts. not (goes_on ts))
   done (filter_map (λ name. name) (node ∷ others))
 
--- A list of nodes, without those that mean none. It ends before the next keyword, or where anything else follows.
+-- A list of nodes, without the names that mean no node. It ends before the next keyword, or before anything else.
 unfoldable pub nodes : Rule (List (List ℕ))
 nodes = either some_names no_names
 
@@ -215,7 +215,7 @@ layout = do
   minus ← token sign_of
   done (record { start = start; size = size; order = order }, minus)
 
--- `SG_ name [mark] : layout ( factor , offset ) [ minimum | maximum ] unit receivers`
+-- `SG_ name [indicator] : layout ( factor , offset ) [ minimum | maximum ] unit receivers`
 unfoldable pub signal : Rule SignalLine
 signal = do
   word ← key Signal

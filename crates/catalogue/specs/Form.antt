@@ -71,7 +71,7 @@ pub record IsSheet (s : Sheet) : Type 0 where
   pub tables : All IsTable s.tables
   pub messages : All IsMessage s.messages
 
--- What the type of each part keeps: its form, and its part of what is well formed.
+-- What the type of each part guarantees: its form, and its share of what makes a sheet well formed.
 
 pub record KeepsTexts (entries : List ValueText) : Type 0 where
   pub few : AreFewTexts entries

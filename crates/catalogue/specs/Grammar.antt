@@ -1,6 +1,6 @@
 -- The statements of a DBC file. A statement is a keyword and what follows it; each line below is what follows
--- one keyword. The lines are those of Vector's DBC File Format Documentation. This project's profile of them is
--- said at each: what it lets through beyond them, the ranges of numbers, and which statements it passes over.
+-- one keyword. The lines are those of Vector's DBC File Format Documentation. A comment at each marks this project's
+-- profile: what it accepts beyond them, the ranges of numbers, and which statements it skips.
 use Rattle.std.specs.Prelude.{ℕ, Bool, true, ◌&&◌, ◌||◌, not, nat_le, List, [], ◌∷◌, Option, is_some, option_map, codes}
 use Rattle.std.specs.Str.{bytes_eq}
 use Rattle.catalogue.specs.Fields.{is_a, is_mark, is_key, key_of, text_of, cited_name, made_name, node_of, whole_where, cited_number}
@@ -19,7 +19,7 @@ use Rattle.catalogue.specs.declared.token.TokenKind.TheVariants.{Name, Number, T
 
 -- What may follow a statement.
 
--- a keyword other than `SG_`: any of them, also those that are passed over, and `SG_MUL_VAL_`, which begins no statement
+-- a keyword other than `SG_`: any of them, also one whose statement is skipped, and `SG_MUL_VAL_`, which begins none
 abbrev pub begins_next : Token → Bool
 begins_next t = is_some (key_of t) && not (is_key Signal t)
 
@@ -79,7 +79,7 @@ timing_line = do
   numbers ← optional timing
   done Dropped
 
--- `BU_ : nodes`: in the profile a comma may be between two
+-- `BU_ : nodes`: in the profile there may be a comma between two
 unfoldable pub nodes_line : Rule Content
 nodes_line = do
   colon ← mark (codes ":")
@@ -166,7 +166,7 @@ is_spn_name t = is_a Text t && bytes_eq (inside_of t.text) (codes "SPN")
 abbrev pub spn_of : Token → Option ℕ
 spn_of t = whole_where (λ n. nat_le n spn_limit) t
 
--- `BA_ "SPN" SG_ number name spn ;`: of the values of attributes the profile reads this one (SAE J1939)
+-- `BA_ "SPN" SG_ number name spn ;`: the only attribute value that the profile reads (SAE J1939)
 unfoldable pub spn_line : Rule Content
 spn_line = do
   attribute ← one is_spn_name
@@ -177,16 +177,16 @@ spn_line = do
   end ← mark (codes ";")
   done (SpnIs number name spn)
 
--- Statements that are passed over: this project's profile.
+-- Statements that are skipped: this project's profile.
 
--- the tokens up to the next `;`, and that
+-- the tokens up to the next `;`, and the `;`
 unfoldable pub skipped : Rule Content
 skipped = do
   others ← many (one is_open)
   end ← mark (codes ";")
   done PassedOver
 
--- what follows a keyword that is passed over
+-- what follows a keyword whose statement is skipped
 unfoldable pub passed_line : Rule Content
 passed_line = skipped
 
@@ -204,7 +204,7 @@ passed_value_texts = do
   passed ← skipped
   done passed
 
--- any `BA_` but the one that is read
+-- any `BA_` except the one that is read
 unfoldable pub passed_attribute : Rule Content
 passed_attribute = unless spn_line skipped
 
@@ -216,12 +216,12 @@ independent_line = do
   end ← followed next
   done PassedOver
 
--- All of them.
+-- All statements.
 
 unfoldable pub comment_line : Rule Content
 comment_line = either file_comment (either node_comment (either message_comment (either signal_comment passed_comment)))
 
--- after the other keywords, of which none is kept
+-- what follows the other keywords, whose statements aren't kept
 abbrev pub other_line : KeywordGroup → Rule Content
 other_line Passed = passed_line
 other_line Refused = nothing

@@ -1,4 +1,4 @@
--- What a text token says: its bytes without the quotes round them.
+-- What is inside a text token: its bytes without the quotes around them.
 use Rattle.std.specs.Prelude.{ℕ, ◌-◌, List, length, take, drop}
 
 -- all but the first and the last byte

@@ -1,21 +1,27 @@
 -- Lists in the order of a key, like the rows of a table.
-use Rattle.std.specs.Prelude.{◌≡◌, ℕ, ◌<◌, ◌≤◌, List, [], ◌∷◌, length, slice_set, insert}
-use Rattle.std.specs.Ordering.{nat_cmp}
+use Rattle.std.specs.Prelude.{◌≡◌, ℕ, ◌<◌, ◌≤◌, Bool, List, [], ◌∷◌, length, slice_set, insert, if◌then◌else◌}
+use Rattle.std.specs.List.{list_all}
+use Rattle.std.specs.Ordering.{is_lt, nat_cmp}
 use Rattle.std.specs.Cmp.Lexicographic.{slice_cmp}
 use Rattle.std.specs.declared.cmp.Ordering.{Ordering}
 use Rattle.std.specs.declared.cmp.Ordering.TheVariants.{Less, Equal, Greater}
 use Rattle.catalogue.specs.declared.keyed.Slot.{Slot}
 use Rattle.catalogue.specs.declared.keyed.Slot.TheVariants.{At, Before}
 
-abbrev pub placed : {A : Type 0} → Ordering → A → A → List A → List A → List A
-placed Less x y ys zs = x ∷ y ∷ ys
-placed Equal x y ys zs = x ∷ ys
-placed Greater x y ys zs = y ∷ zs
+-- whether each of the items is above x
+abbrev pub are_above : {A : Type 0} → (A → A → Ordering) → A → List A → Bool
+are_above order x ys = list_all (λ y. is_lt (order x y)) ys
 
--- the list with x where its key belongs, in place of an item that has its key
+-- x at y, where the items after y are above x
+abbrev pub placed : {A : Type 0} → Ordering → A → A → List A → List A
+placed Less x y ys = x ∷ y ∷ ys
+placed Equal x y ys = x ∷ ys
+placed Greater x y ys = y ∷ x ∷ ys
+
+-- the list with x after the last item that is not above it, or in place of that one where it has the key of x
 abbrev pub put : {A : Type 0} → (A → A → Ordering) → A → List A → List A
 put order x [] = x ∷ []
-put order x (y ∷ ys) = placed (order x y) x y ys (put order x ys)
+put order x (y ∷ ys) = if are_above order x ys then placed (order x y) x y ys else y ∷ put order x ys
 
 -- to write x there, or to insert it there, is to put it
 abbrev pub IsSlotOf : {A : Type 0} → (A → A → Ordering) → A → List A → Slot → Type 0

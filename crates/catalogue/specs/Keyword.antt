@@ -1,5 +1,5 @@
 -- The words that DBC text reserves (Vector's DBC File Format Documentation, the keywords of its statements),
--- and what becomes of a statement that begins with one: a choice of this project.
+-- and what is done with a statement that begins with one, which is a choice of this project.
 use Rattle.std.specs.Prelude.{ℕ, ◌-◌, ◌==◌, Bool, ◌||◌, List, [], ◌∷◌, length, slice_get, Option, unwrap_or, find, is_some, codes}
 use Rattle.std.specs.Str.{bytes_eq}
 use Rattle.catalogue.specs.declared.keyword.Keyword.{Keyword}
@@ -79,7 +79,7 @@ keyword_text NodeEnvironmentRelation = codes "BU_EV_REL_"
 keyword_text NodeMessageRelation = codes "BU_BO_REL_"
 keyword_text ExtendedMultiplexing = codes "SG_MUL_VAL_"
 
--- all of them
+-- all keywords
 abbrev pub keywords : List Keyword
 keywords =
     Version ∷ NewSymbols ∷ BitTiming ∷ Nodes ∷ ValueTable ∷ Message ∷ Signal ∷ Comment ∷ ValueTexts ∷
@@ -106,14 +106,13 @@ is_ending b = (b == 95) || (b == 78) || (b == 82)
 abbrev pub ends_keyword : List ℕ → Bool
 ends_keyword word = is_ending (unwrap_or (slice_get word (length word - 1)) 0)
 
--- what becomes of a statement that begins with a keyword
+-- what is done with a statement that begins with a keyword
 pub data KeywordGroup : Type 0 where
-  -- It is read. Most of what it says is kept; `NS_` and `BS_` say nothing that is, and a few forms are skipped and
-  -- reported.
+  -- It is read. Its contents are kept, except those of `NS_` and `BS_`; a few forms are skipped and reported.
   Kept : KeywordGroup
   -- It is skipped and reported.
   Passed : KeywordGroup
-  -- A file that has it is refused, since without it other signals would be present at once.
+  -- A file that has it is refused, since skipping it would change which signals are present together.
   Refused : KeywordGroup
 
 -- statements that are read, those that are skipped, and the one that is refused

@@ -1,5 +1,5 @@
--- The tokens of a DBC text, computed from its first byte on: the first byte of a token tells its kind, and the token goes
--- on as far as its kind lets it. `TokenLaw.antt` says what that has to do with the tokens that a text has.
+-- The tokens of a DBC text, computed from its first byte on: the first byte of a token determines its kind, and the
+-- token is as long as its kind allows. `TokenLaw.antt` relates this to the tokens that a text has.
 use Rattle.std.specs.Prelude.{◌==◌, ℕ, zero, suc, ◌+◌, ◌-◌, Bool, true, false, List, [], ◌∷◌, length, take, drop, Option, Some, None, Result, Ok, Err, if◌then◌else◌}
 use Rattle.std.specs.Char.{is_ascii_digit}
 use Rattle.std.specs.List.{prefix_len}
@@ -15,27 +15,27 @@ use Rattle.catalogue.specs.Token.{Token}
 
 -- why reading ends before the end of the bytes, and the offset
 pub data LexFault : Type 0 where
-  -- no quote ends the text whose opening quote is there
+  -- no quote closes the text whose opening quote is there
   UnclosedText : ℕ → LexFault
   -- no token begins with the byte there
   StrayByte : ℕ → LexFault
 
--- what is read: the tokens, and why there are no more, None where the bytes end
+-- what is read: the tokens, and why there are no more; None if the bytes end
 pub record Lexed : Type 0 where
   pub tokens : List Token
   pub fault : Option LexFault
 
--- the length with one byte in front, 0 where nothing follows that byte
+-- the length with one more byte before it, or 0 if nothing follows that byte
 abbrev pub with_front : ℕ → ℕ
 with_front zero = 0
 with_front (suc n) = suc (suc n)
 
--- how many bytes the digits after `E` or `e` take with their sign, 0 where there are no digits
+-- how many bytes the digits after `E` or `e` take with their sign, 0 if there are no digits
 unfoldable pub power_len : List ℕ → ℕ
 power_len [] = 0
 power_len (b ∷ bytes) = if is_sign b then with_front (prefix_len is_ascii_digit bytes) else prefix_len is_ascii_digit (b ∷ bytes)
 
--- how many bytes an exponent takes, 0 where there is none
+-- how many bytes an exponent takes, 0 if there is none
 unfoldable pub exponent_len : List ℕ → ℕ
 exponent_len [] = 0
 exponent_len (b ∷ bytes) = if is_letter_e b then with_front (power_len bytes) else 0
@@ -44,12 +44,12 @@ exponent_len (b ∷ bytes) = if is_letter_e b then with_front (power_len bytes) 
 unfoldable pub tail_len : List ℕ → ℕ
 tail_len bytes = fraction_len bytes + exponent_len (drop (fraction_len bytes) bytes)
 
--- how many bytes a number takes, where the first is a digit
+-- how many bytes a number takes, if the first is a digit
 unfoldable pub number_len : List ℕ → ℕ
 number_len bytes = prefix_len is_ascii_digit bytes + tail_len (drop (prefix_len is_ascii_digit bytes) bytes)
 
--- How many bytes come before the quote that ends a text, None where none does; `escaped` says that a backslash comes
--- before the first.
+-- How many bytes come before the quote that closes a text, None if none does; `escaped` means that a backslash comes
+-- before the first byte.
 unfoldable pub inside_len : Bool → List ℕ → Option ℕ
 inside_len escaped [] = None
 inside_len true (b ∷ bytes) = option_map suc (inside_len false bytes)
@@ -64,7 +64,7 @@ kind_of b =
     else (if is_mark b then Some Mark
     else None)))
 
--- how many bytes the longest token of the kind takes, where the first byte is one of that kind
+-- how many bytes the longest token of the kind takes, if the first byte begins one of that kind
 unfoldable pub word_len : TokenKind → List ℕ → Option ℕ
 word_len Name bytes = Some (prefix_len continues_identifier bytes)
 word_len Number bytes = Some (number_len bytes)
@@ -83,7 +83,7 @@ abbrev pub of_kind : ℕ → List ℕ → Option TokenKind → Result (Option To
 of_kind offset bytes None = Err (StrayByte offset)
 of_kind offset bytes (Some kind) = token_or_fault offset bytes kind (word_len kind bytes)
 
--- the token that begins where a gap ends; None at the end of the bytes
+-- the token that begins after a gap; None at the end of the bytes
 unfoldable pub token_at : ℕ → List ℕ → Result (Option Token) LexFault
 token_at offset [] = Ok None
 token_at offset (b ∷ bytes) = of_kind offset (b ∷ bytes) (kind_of b)

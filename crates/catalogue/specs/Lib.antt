@@ -1,5 +1,6 @@
 pub mod Ascending
 pub mod Canon
+pub mod Changing
 pub mod Division
 pub mod Fault
 pub mod Fields
@@ -17,7 +18,9 @@ pub mod Named
 pub mod Parsing
 pub mod Reads
 pub mod Refusing
+pub mod Retain
 pub mod Rules
+pub mod Same
 pub mod Saying
 pub mod Sheet
 pub mod Signal

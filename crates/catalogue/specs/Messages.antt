@@ -34,7 +34,7 @@ message_at messages n = find (λ m. number_of m == n) messages
 abbrev pub has_number : List Message → ℕ → Bool
 has_number messages n = list_any (λ m. number_of m == n) messages
 
--- all but the one of this number
+-- all except the one of this number
 abbrev pub without_number : List Message → ℕ → List Message
 without_number messages n = filter (λ m. not (number_of m == n)) messages
 
@@ -42,7 +42,7 @@ without_number messages n = filter (λ m. not (number_of m == n)) messages
 abbrev pub IsClearMessage : Message → Type 0
 IsClearMessage m = IsClear (places_of m.signals) m.length
 
--- The messages of one sheet: each number once, in ascending order, each name once, and they are few.
+-- The messages of one sheet: each number once, in ascending order, each name once, and at most as many as the limit.
 pub record AreMessages (messages : List Message) : Type 0 where
   pub rise : IsStrictlySortedBy by_number messages
   pub apart : AreNamedApart message_name messages
@@ -54,7 +54,7 @@ message_tests messages m = record { holds = nat_le message_limit (length message
     ∷ record { holds = has_number messages (number_of m); refusal = DoubleNumber }
     ∷ record { holds = has_name message_name messages m.name; refusal = DoubleName } ∷ []
 
--- what the code keeps beside the messages: the set of their names
+-- what the code keeps in addition to the messages: the set of their names
 pub record AreIndexed (messages : List Message) (names : NameSet) : Type 0 where
   pub together : AreMessages messages
   pub index : (n : List ℕ) → holds_name names n ≡ has_name message_name messages n

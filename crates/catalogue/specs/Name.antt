@@ -1,5 +1,5 @@
 -- Names of messages, signals, nodes and value tables: C identifiers (Vector's DBC File Format Documentation),
--- here of at most `name_limit` bytes, that are no keyword and not the name that means no node.
+-- here of at most `name_limit` bytes, that are neither a keyword nor the name that means no node.
 use Rattle.std.specs.Prelude.{ℕ, ◌==◌, nat_le, Bool, false, not, ◌&&◌, ◌||◌, List, [], ◌∷◌, length, codes, IsTrue}
 use Rattle.std.specs.List.{list_all}
 use Rattle.std.specs.Str.{bytes_eq}
@@ -18,7 +18,7 @@ abbrev pub is_c_identifier : List ℕ → Bool
 is_c_identifier [] = false
 is_c_identifier (b ∷ bs) = starts_identifier b && list_all continues_identifier bs
 
--- the name that DBC files write where there is no node
+-- the name that DBC files write if there is no node
 abbrev pub no_node : List ℕ
 no_node = codes "Vector__XXX"
 

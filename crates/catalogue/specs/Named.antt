@@ -1,5 +1,5 @@
--- Things with names, as the nodes of a sheet or the signals of a message.
-use Rattle.std.specs.Prelude.{◌≡◌, ◌≤◌, ℕ, Bool, nat_le, List, [], ◌∷◌, length}
+-- Things with names, such as the nodes of a sheet or the signals of a message.
+use Rattle.std.specs.Prelude.{◌≡◌, ◌≤◌, ℕ, Bool, not, nat_le, List, [], ◌∷◌, length, find, filter, map, Option, if◌then◌else◌}
 use Rattle.std.specs.List.{IsDistinct, list_any}
 use Rattle.std.specs.Str.{bytes_eq}
 use Rattle.std.specs.BTreeSet.{contains}
@@ -14,9 +14,21 @@ use Rattle.catalogue.specs.declared.name_set.NameSet.{NameSet}
 abbrev pub has_name : {A : Type 0} → (A → List ℕ) → List A → List ℕ → Bool
 has_name name things n = list_any (λ a. bytes_eq (name a) n) things
 
--- no two of them have one name
+-- no two of them have the same name
 abbrev pub AreNamedApart : {A : Type 0} → (A → List ℕ) → List A → Type 0
 AreNamedApart name things = IsDistinct (λ a b. bytes_eq (name a) (name b)) things
+
+-- the thing of a name
+abbrev pub thing_named : {A : Type 0} → (A → List ℕ) → List A → List ℕ → Option A
+thing_named name things n = find (λ a. bytes_eq (name a) n) things
+
+-- all but the one of this name
+abbrev pub without_named : {A : Type 0} → (A → List ℕ) → List A → List ℕ → List A
+without_named name things n = filter (λ a. not (bytes_eq (name a) n)) things
+
+-- the things, the one of this name changed
+abbrev pub at_named : {A : Type 0} → (A → List ℕ) → (A → A) → List ℕ → List A → List A
+at_named name change n things = map (λ a. if bytes_eq (name a) n then change a else a) things
 
 -- why one more, of this name, is refused
 abbrev pub roster_tests : {A : Type 0} → (A → List ℕ) → List A → List ℕ → List (Test SheetCode)
@@ -27,7 +39,8 @@ roster_tests name things n = record { holds = nat_le roster_limit (length things
 abbrev pub holds_name : NameSet → List ℕ → Bool
 holds_name set n = contains text_cmp set.names n
 
--- what a roster keeps: no two of its things have one name, they are few, and the set has their names
+-- what a roster keeps: no two of its things have the same name, they are at most as many as the limit, and the set has
+-- their names
 pub record IsRoster {A : Type 0} (name : A → List ℕ) (things : List A) (names : NameSet) : Type 0 where
   pub apart : AreNamedApart name things
   pub few : length things ≤ roster_limit

@@ -1,5 +1,5 @@
--- Statements computed: each rule of the fields and the statements as a function from tokens to what they begin with
--- and the tokens after it. For whoever reads by functions: that they find the division of a file, where it has one, is
+-- Statements computed: each rule of the fields and the statements as a function from tokens to what they begin with and
+-- the tokens after it. Code is proved against these functions. That they find the division of a file, if it has one, is
 -- a law.
 use Rattle.std.specs.Prelude.{ℕ, zero, suc, Bool, true, false, not, List, [], ◌∷◌, ◌++◌, length, filter_map, Option, Some, None, option_and_then}
 use Rattle.std.specs.Prelude.{unwrap_or, if◌then◌else◌, codes}
@@ -45,7 +45,7 @@ mark_at spelling ts = one_at (is_mark spelling) ts
 abbrev pub followed_at : (List Token → Bool) → List Token → Parsed (Unit {0})
 followed_at test ts = only (test ts) (tt, ts)
 
--- at most once, where the test says that one follows
+-- at most once: if the test says that one follows
 abbrev pub optional_at : {A : Type 0} → (List Token → Bool) → (List Token → Parsed A) → List Token → Parsed (Option A)
 optional_at test parse ts = if test ts then option_and_then (λ a. Some (Some a.0, a.1)) (parse ts) else Some (None, ts)
 
@@ -63,11 +63,11 @@ many_at test parse ts = many_by test parse (length ts) ts
 abbrev pub with_front : {A : Type 0} → List A → Parsed (List A) → Parsed (List A)
 with_front front o = option_and_then (λ b. Some (front ++ b.0, b.1)) o
 
--- the first of two where the test holds, and else the second
+-- the first of two if the test holds, and else the second
 abbrev pub either_at : {A : Type 0} → (List Token → Bool) → (List Token → Parsed A) → (List Token → Parsed A) → List Token → Parsed A
 either_at test parse other ts = if test ts then parse ts else other ts
 
--- the first, or the second where the first reads nothing
+-- the first, or the second if the first reads nothing
 abbrev pub or_else : {A : Type 0} → Parsed A → Parsed A → Parsed A
 or_else None other = other
 or_else (Some x) other = Some x
@@ -283,7 +283,7 @@ spn_at ts = do
   end ← mark_at (codes ";") spn.1
   Some (SpnIs number.0 name.0 spn.0, end.1)
 
--- Statements that are passed over.
+-- Statements that are skipped.
 
 unfoldable pub skipped_at : List Token → Parsed Content
 skipped_at ts = do
@@ -353,7 +353,7 @@ abbrev pub is_more : List Token → Bool
 is_more [] = false
 is_more (t ∷ ts) = true
 
--- the statements, where no token is left
+-- the statements, if no token is left
 abbrev pub all_of : List Statement × List Token → Option (List Statement)
 all_of (ss, []) = Some ss
 all_of (ss, t ∷ ts) = None

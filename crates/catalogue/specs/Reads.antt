@@ -8,7 +8,7 @@ use Rattle.catalogue.specs.Tokens.{HasTokens}
 use Rattle.catalogue.specs.declared.keyword.Keyword.{Keyword}
 use Rattle.catalogue.specs.declared.sheet.Sheet.{Sheet}
 
--- The bytes have tokens, these divide into statements, and the statements say the sheet and pass over those that begin
+-- The bytes have tokens, these divide into statements, the statements say the sheet, and those that are skipped begin
 -- at these offsets with these keywords.
 pub record ReadsAs (bytes : List ℕ) (s : Sheet) (passed : List (ℕ × Keyword)) : Type 0 where
   pub tokens : List Token
@@ -18,7 +18,7 @@ pub record ReadsAs (bytes : List ℕ) (s : Sheet) (passed : List (ℕ × Keyword
   pub says : Says statements s
   pub passes : passed ≡ passed_by statements
 
--- the bytes read as the sheet, whatever they pass over
+-- the bytes read as the sheet, whatever is skipped
 abbrev pub Reads : List ℕ → Sheet → Type 0
 Reads bytes s = (passed : List (ℕ × Keyword)) × ReadsAs bytes s passed
 
@@ -27,6 +27,6 @@ pub record ReadsOnlyAs (bytes : List ℕ) (s : Sheet) : Type 0 where
   pub reads : Reads bytes s
   pub only : (t : Sheet) → Reads bytes t → t ≡ s
 
--- a text reads as one sheet at most, and passes over one list of statements
+-- a text reads as one sheet at most, with one list of skipped statements
 abbrev pub ReadsAsOneAtMost : Type 0
 ReadsAsOneAtMost = (bytes : List ℕ) (s t : Sheet) (p q : List (ℕ × Keyword)) → ReadsAs bytes s p → ReadsAs bytes t q → (s ≡ t) × (p ≡ q)

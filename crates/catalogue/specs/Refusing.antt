@@ -1,4 +1,4 @@
--- Refusals: a list of tests in order, of which the first that holds refuses.
+-- Refusals: a list of tests in order. The first that holds is the refusal.
 use Rattle.std.specs.Prelude.{Bool, true, false, List, [], ◌∷◌, Option, Some, None}
 
 -- a reason to refuse, and whether it holds

@@ -1,4 +1,5 @@
--- Rules: what a list of tokens begins with, and what follows it. A rule says what is there and not how it is found, so it may have more than one reading; that statements have one is a law.
+-- Rules: what a list of tokens begins with, and what follows it. A rule describes what is there and not how it is
+-- found, so it may have more than one reading; that statements have only one is a law.
 use Rattle.std.specs.Prelude.{◌≡◌, ◌⊎◌, Bool, true, false, List, [], ◌∷◌, Option, Some, None, is_some, if◌then◌else◌}
 use Rattle.catalogue.specs.Token.{Token}
 
@@ -6,7 +7,7 @@ use Rattle.catalogue.specs.Token.{Token}
 abbrev pub Rule : Type 0 → Type 1
 Rule A = List Token → A → List Token → Type 0
 
--- one token that says x
+-- one token that means x
 pub record Read {A : Type 0} (says : Token → Option A) (ts : List Token) (x : A) (rest : List Token) : Type 0 where
   pub first : Token
   pub front : ts ≡ first ∷ rest
@@ -15,7 +16,7 @@ pub record Read {A : Type 0} (says : Token → Option A) (ts : List Token) (x : 
 abbrev pub token : {A : Type 0} → (Token → Option A) → Rule A
 token says = λ ts x rest. Read says ts x rest
 
--- x, where the test holds
+-- x, if the test holds
 abbrev pub only : {A : Type 0} → Bool → A → Option A
 only test x = if test then Some x else None
 
@@ -23,7 +24,7 @@ only test x = if test then Some x else None
 abbrev pub one : (Token → Bool) → Rule (Unit {0})
 one test = token (λ t. only (test t) tt)
 
--- first one rule, then another that may depend on what the first one said
+-- first one rule, then another that may depend on the value of the first
 pub record Then {A B : Type 0} (rule : Rule A) (others : A → Rule B) (ts : List Token) (y : B) (rest : List Token) : Type 0 where
   pub value : A
   pub middle : List Token
@@ -34,7 +35,7 @@ infixl 10 ◌>>=◌
 abbrev pub ◌>>=◌ : {A B : Type 0} → Rule A → (A → Rule B) → Rule B
 rule >>= others = λ ts y rest. Then rule others ts y rest
 
--- nothing more, and x is what all of it says
+-- nothing more, and x is the value of the whole
 pub record Done {A : Type 0} (x : A) (ts : List Token) (y : A) (rest : List Token) : Type 0 where
   pub value : y ≡ x
   pub all : rest ≡ ts
@@ -64,7 +65,7 @@ many rule ts (x ∷ xs) rest = (middle : List Token) × rule ts x middle × many
 abbrev pub either : {A : Type 0} → Rule A → Rule A → Rule A
 either rule other = λ ts x rest. rule ts x rest ⊎ other ts x rest
 
--- the second rule, where the first one reads nothing
+-- the second rule, if the first one reads nothing
 pub record Unless {A B : Type 0} (rule : Rule A) (other : Rule B) (ts : List Token) (x : B) (rest : List Token) : Type 0 where
   pub unread : (y : A) (more : List Token) → ¬ (rule ts y more)
   pub reads : other ts x rest
@@ -83,6 +84,6 @@ abbrev pub starts : (Token → Bool) → List Token → Bool
 starts test [] = false
 starts test (t ∷ ts) = test t
 
--- whether the first token says something
+-- whether the first token means something
 abbrev pub begins : {A : Type 0} → (Token → Option A) → List Token → Bool
 begins says ts = starts (λ t. is_some (says t)) ts

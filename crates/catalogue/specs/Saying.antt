@@ -1,7 +1,7 @@
--- What the statements of a DBC file say together (Vector's DBC File Format Documentation, in this project's profile):
--- a sheet, and which of them are passed over. They are in any order, so a comment may come before its message. Of
--- several that speak of one thing the last one counts, and where none does the value is the empty one: no bytes, no
--- texts, the number 0, or the type of whole numbers.
+-- What the statements of a DBC file say together (Vector's DBC File Format Documentation, in this project's profile): a
+-- sheet, and which of them are skipped. They may come in any order, so a comment may come before its message. Of
+-- several about one thing the last one counts, and if there is none, the value is the empty one: no bytes, no texts,
+-- the number 0, or the type of whole numbers.
 use Rattle.std.specs.Prelude.{
   ◌≡◌,
   ℕ,
@@ -63,18 +63,18 @@ abbrev pub last_at : {K V : Type 0} → (K → K → Bool) → K → Option V �
 last_at same k o [] = o
 last_at same k o (p ∷ ps) = last_at same k (if same p.0 k then Some p.1 else o) ps
 
--- A signal of a file is known by the number of its message and its own name.
+-- A signal of a file is identified by the number of its message and its own name.
 abbrev pub SignalKey : Type 0
 SignalKey = ℕ × List ℕ
 
 abbrev pub same_signal : SignalKey → SignalKey → Bool
 same_signal a b = a.0 == b.0 && bytes_eq a.1 b.1
 
--- v, said of the signal that is cited; nothing where no message is cited
+-- v for the signal that is cited; nothing if no message is cited
 abbrev pub of_signal : {V : Type 0} → Cited → List ℕ → V → Option (SignalKey × V)
 of_signal cited name v = option_map (λ number. ((number, name), v)) cited
 
--- What one statement says, by kinds: of the file, or with the name, number or key of what it speaks of.
+-- What one statement says, by kind: about the file, or with the name, number or key of what it is about.
 
 abbrev pub version_in : Content → Option (List ℕ)
 version_in (VersionIs text) = Some text
@@ -130,7 +130,7 @@ each_in kind statements = filter_map (λ (s : Statement). kind s.content) statem
 abbrev pub last_in : {V : Type 0} → V → (Content → Option V) → List Statement → V
 last_in v kind statements = unwrap_or (last_or None (each_in kind statements)) v
 
--- what the last one of a kind that speaks of k says of it, or else v
+-- what the last one of a kind that is about k says of it, or else v
 abbrev pub last_said : {K V : Type 0} → (K → K → Bool) → K → V → (Content → Option (K × V)) → List Statement → V
 last_said same k v kind statements = unwrap_or (last_at same k None (each_in kind statements)) v
 
@@ -199,7 +199,7 @@ abbrev pub has_signal : List Statement → Cited → List ℕ → Bool
 has_signal statements None name = false
 has_signal statements (Some number) name = list_any (λ key. same_signal key (number, name)) (signal_keys_of statements)
 
--- A statement is passed over by its form, or where what it cites isn't in the file.
+-- A statement is skipped by its form, or if what it cites isn't in the file.
 abbrev pub is_passed : List Statement → Content → Bool
 is_passed statements PassedOver = true
 is_passed statements (NodeCommentIs name text) = not (has_node statements name)
@@ -210,12 +210,12 @@ is_passed statements (ValueTypeIs cited name value_type) = not (has_signal state
 is_passed statements (SpnIs cited name spn) = not (has_signal statements cited name)
 is_passed statements content = false
 
--- where each statement that is passed over begins, and its first keyword, in their order
+-- where each skipped statement begins, and its first keyword, in their order
 abbrev pub passed_by : List Statement → List (ℕ × Keyword)
 passed_by statements = map (λ (s : Statement). (s.start, s.keyword)) (filter (λ (s : Statement). is_passed statements s.content) statements)
 
--- The statements say the sheet: it is one, well formed and each part in its form, its version and comment are the last ones, its nodes and tables are
--- theirs in their order, and its messages are theirs, each once, in whichever order.
+-- The statements say the sheet: it is well formed, with each part in its form; its version and comment are the last
+-- ones; its nodes and tables are theirs, in their order; and its messages are theirs, each once, in any order.
 pub record Says (statements : List Statement) (s : Sheet) : Type 0 where
   pub is_sheet : IsSheet s
   pub version : s.version ≡ last_in [] version_in statements

@@ -1,4 +1,4 @@
--- A sheet: what a DBC file says of a network (Vector's DBC File Format Documentation, in this project's profile).
+-- A sheet: what a DBC file describes of a network (Vector's DBC File Format Documentation, in this project's profile).
 use Rattle.std.specs.Prelude.{◌≡◌, ℕ, List, [], take, All, Some, slice_get}
 use Rattle.bitlayout.specs.Clash.{IsFirstClash}
 use Rattle.bitlayout.specs.declared.clash.Clash.{Clash}
@@ -18,7 +18,7 @@ node_name node = node.name
 abbrev pub table_name : ValueTable → List ℕ
 table_name table = table.name
 
--- the sheet that says nothing
+-- the empty sheet
 abbrev pub empty_sheet : Sheet
 empty_sheet = record { version = []; comment = []; nodes = []; tables = []; messages = [] }
 

@@ -1,4 +1,4 @@
--- Where a signal lies, and when it is present.
+-- Where a signal is in the payload, and when it is present.
 use Rattle.bitlayout.specs.declared.place.Place.{Place}
 use Rattle.catalogue.specs.declared.signal.Signal.{Signal}
 

@@ -1,10 +1,10 @@
 -- The signals of a message (Vector's DBC File Format Documentation, signals and their multiplexer indicators).
-use Rattle.std.specs.Prelude.{◌≡◌, ◌≤◌, ◌&&◌, ℕ, Bool, nat_le, List, [], ◌∷◌, length, map}
+use Rattle.std.specs.Prelude.{◌≡◌, ◌≤◌, ◌&&◌, ℕ, Bool, nat_le, List, [], ◌∷◌, length, map, Option}
 use Rattle.std.specs.List.{IsDistinct, list_any}
 use Rattle.bitlayout.specs.Mux.{is_multiplexor}
 use Rattle.bitlayout.specs.declared.place.Place.{Place}
 use Rattle.catalogue.specs.Limits.{roster_limit}
-use Rattle.catalogue.specs.Named.{AreNamedApart, has_name}
+use Rattle.catalogue.specs.Named.{AreNamedApart, at_named, has_name, thing_named, without_named}
 use Rattle.catalogue.specs.Refusing.{Test}
 use Rattle.catalogue.specs.Signal.{place_of}
 use Rattle.catalogue.specs.declared.fault.SheetCode.{SheetCode}
@@ -13,6 +13,18 @@ use Rattle.catalogue.specs.declared.signal.Signal.{Signal}
 
 abbrev pub signal_name : Signal → List ℕ
 signal_name s = s.name
+
+-- the signal of a name
+abbrev pub signal_named : List Signal → List ℕ → Option Signal
+signal_named = thing_named signal_name
+
+-- all but the one of this name
+abbrev pub without_signal : List Signal → List ℕ → List Signal
+without_signal = without_named signal_name
+
+-- the signals, the one of this name changed
+abbrev pub at_signal : (Signal → Signal) → List ℕ → List Signal → List Signal
+at_signal = at_named signal_name
 
 -- whether a signal is the multiplexor
 abbrev pub is_switch : Signal → Bool
@@ -26,7 +38,8 @@ are_switched signals = list_any is_switch signals
 abbrev pub HaveOneSwitch : List Signal → Type 0
 HaveOneSwitch signals = IsDistinct (λ a b. is_switch a && is_switch b) signals
 
--- The signals of one message: no two have one name, no two are the multiplexor, and they are few.
+-- The signals of one message: no two have the same name, no two are the multiplexor, and they are at most as many as
+-- the limit.
 pub record AreSignals (signals : List Signal) : Type 0 where
   pub apart : AreNamedApart signal_name signals
   pub one_switch : HaveOneSwitch signals
@@ -42,7 +55,7 @@ signal_tests signals s = record { holds = nat_le roster_limit (length signals); 
 abbrev pub places_of : List Signal → List Place
 places_of signals = map place_of signals
 
--- what the code keeps beside the signals: whether one of them is the multiplexor
+-- what the code keeps in addition to the signals: whether one of them is the multiplexor
 pub record IsSwitchKnown (signals : List Signal) (switched : Bool) : Type 0 where
   pub one_switch : HaveOneSwitch signals
   pub known : switched ≡ are_switched signals

@@ -1,5 +1,5 @@
 -- How the tokens of DBC text are spelled. Names, unsigned numbers, character strings and punctuation are those of
--- Vector's DBC File Format Documentation. This project's profile settles what that leaves open: which bytes are gaps,
+-- Vector's DBC File Format Documentation. This project's profile decides what that leaves open: which bytes are gaps,
 -- that a name may have any length, how a number may be written, and that in a text any byte may occur and a backslash
 -- escapes the next byte.
 use Rattle.std.specs.Prelude.{◌≡◌, ℕ, ◌==◌, nat_le, Bool, ◌&&◌, ◌||◌, List, [], ◌∷◌, ◌++◌, IsTrue, codes}
@@ -14,7 +14,7 @@ use Rattle.catalogue.specs.declared.token.TokenKind.TheVariants.{Name, Number, T
 abbrev pub is_gap : ℕ → Bool
 is_gap b = (nat_le 9 b && nat_le b 13) || (b == 32)
 
--- with a quote a text begins and ends
+-- a text begins and ends with a quote
 abbrev pub is_quote : ℕ → Bool
 is_quote b = b == quote_mark
 

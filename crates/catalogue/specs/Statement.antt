@@ -8,7 +8,7 @@ use Rattle.catalogue.specs.declared.keyword.Keyword.{Keyword}
 use Rattle.catalogue.specs.declared.value_texts.ValueText.{ValueText}
 use Rattle.catalogue.specs.declared.value_type.ValueType.{ValueType}
 
--- a signal as the statement of its message has it: without a comment, a suspect parameter number and the like
+-- a signal as the statement of its message describes it: without comment, suspect parameter number and the like
 pub record SignalLine : Type 0 where
   pub name : List ℕ
   pub layout : Layout
@@ -28,8 +28,8 @@ pub record MessageLine : Type 0 where
   pub transmitter : Option (List ℕ)
   pub signals : List SignalLine
 
--- A statement that speaks of a message of the file cites its number. None is a number above 4294967295, which no
--- message has.
+-- A statement about a message of the file cites its DBC number. None is a number above 4294967295, which no message
+-- has.
 abbrev pub Cited : Type 0
 Cited = Option ℕ
 
@@ -45,12 +45,12 @@ pub data Content : Type 0 where
   ValueTextsAre : Cited → List ℕ → List ValueText → Content
   ValueTypeIs : Cited → List ℕ → ValueType → Content
   SpnIs : Cited → List ℕ → ℕ → Content
-  -- `NS_` and `BS_`, of which nothing is kept and nothing reported
+  -- `NS_` and `BS_`: nothing of them is kept, and they aren't reported
   Dropped : Content
-  -- passed over and reported
+  -- skipped and reported
   PassedOver : Content
 
--- the offset of its first keyword, that keyword, and what it says
+-- the offset of its first keyword, that keyword, and its content
 pub record Statement : Type 0 where
   pub start : ℕ
   pub keyword : Keyword

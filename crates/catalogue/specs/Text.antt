@@ -1,5 +1,5 @@
 -- What is between the quotes of one text (Vector's DBC File Format Documentation, character strings), in this
--- project's profile: any bytes, of which a backslash escapes the next one, and no other is a quote.
+-- project's profile: any bytes, where a backslash escapes the next byte and only an escaped byte may be a quote.
 use Rattle.std.specs.Prelude.{◌≡◌, ◌≢◌, ◌==◌, ℕ, Bool, true, false, not, List, [], ◌∷◌, if◌then◌else◌}
 use Rattle.std.specs.List.{AllByRecursion, flat_map}
 
@@ -23,7 +23,7 @@ pub record IsText (bytes : List ℕ) : Type 0 where
   pub each : AllByRecursion IsPiece pieces
   pub whole : flat_map (λ piece. piece) pieces ≡ bytes
 
--- The same computed; `escaped` says that a backslash comes before.
+-- The same computed; `escaped` means that a backslash comes before.
 abbrev pub is_text_after : Bool → List ℕ → Bool
 is_text_after escaped [] = not escaped
 is_text_after true (b ∷ bytes) = is_text_after false bytes

@@ -2,7 +2,7 @@
 use Rattle.std.specs.Prelude.{ℕ, List}
 use Rattle.catalogue.specs.declared.token.TokenKind.{TokenKind}
 
--- its kind, the offsets of its first byte and of the end, and its bytes: of a text with both quotes
+-- its kind, the offset of its first byte and that after its last, and its bytes; those of a text include both quotes
 pub record Token : Type 0 where
   pub kind : TokenKind
   pub start : ℕ

@@ -1,4 +1,4 @@
--- What the tokens of a DBC text have to do with what is read from its first byte on.
+-- How the tokens of a DBC text relate to what is read from its first byte on.
 use Rattle.std.specs.Prelude.{◌≡◌, ⊤, ℕ, ◌+◌, ◌-◌, ◌≤◌, ◌↔◌, false, List, [], ◌∷◌, ◌++◌, length, take, drop, Some, None, if◌then◌else◌}
 use Rattle.catalogue.specs.declared.token.TokenKind.{TokenKind}
 use Rattle.catalogue.specs.Lexing.{LexFault, StrayByte, UnclosedText, Lexed, lexed}
@@ -15,7 +15,7 @@ all_read tokens = record { tokens = tokens; fault = None }
 abbrev pub stopped : List Token → LexFault → Lexed
 stopped tokens fault = record { tokens = tokens; fault = Some fault }
 
--- A text has the tokens exactly where they are what is read of it, without a fault.
+-- A text has the tokens exactly if they are what is read of it without a fault.
 abbrev pub TokensAreRead : Type 0
 TokensAreRead = (bytes : List ℕ) (tokens : List Token) → HasTokens 0 bytes tokens ↔ (lexed 0 bytes ≡ all_read tokens)
 
@@ -24,7 +24,7 @@ abbrev pub TokensAreOne : Type 0
 TokensAreOne = (bytes : List ℕ) (ts us : List Token) → HasTokens 0 bytes ts → HasTokens 0 bytes us → ts ≡ us
 
 -- The bytes, which are at the offset, are a gap and then a byte that is no gap and with which no token begins, of any
--- kind. It is the opening quote of a text that no quote ends, or else a stray byte.
+-- kind. It is the opening quote of a text that no quote closes, or else a stray byte.
 pub record NoToken (offset : ℕ) (bytes : List ℕ) (fault : LexFault) : Type 0 where
   pub gap : List ℕ
   pub first : ℕ
@@ -40,7 +40,7 @@ abbrev pub StopsWith : ℕ → List ℕ → List Token → LexFault → Type 0
 StopsWith offset bytes [] fault = NoToken offset bytes fault
 StopsWith offset bytes (token ∷ tokens) fault = (rest : List ℕ) × IsFirst offset bytes token rest × StopsWith token.end rest tokens fault
 
--- Reading ends with a fault exactly where after the tokens that were read none begins.
+-- Reading ends with a fault exactly if no token begins after those that were read.
 abbrev pub FaultsAreExact : Type 0
 FaultsAreExact = (bytes : List ℕ) (tokens : List Token) (fault : LexFault) → StopsWith 0 bytes tokens fault ↔ (lexed 0 bytes ≡ stopped tokens fault)
 

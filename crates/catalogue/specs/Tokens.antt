@@ -7,7 +7,7 @@ use Rattle.catalogue.specs.declared.token.TokenKind.{TokenKind}
 use Rattle.catalogue.specs.Spelling.{is_gap, Spells}
 use Rattle.catalogue.specs.Token.{Token}
 
--- a gap: gap bytes alone, perhaps none
+-- a gap: only gap bytes, or none
 abbrev pub IsGap : List ℕ → Type 0
 IsGap bytes = IsTrue (list_all is_gap bytes)
 
@@ -26,8 +26,8 @@ pub record IsFirst (offset : ℕ) (bytes : List ℕ) (token : Token) (rest : Lis
   pub spelled : Spells token.kind token.text
   pub longest : IsLongest (length token.text) (token.text ++ rest)
 
--- The bytes, which are at the offset, have these tokens and no others: in order, with only gaps between them, before the
--- first and after the last.
+-- The bytes, which are at the offset, have these tokens and no others: in order, with only gaps between them, before
+-- the first and after the last.
 abbrev pub HasTokens : ℕ → List ℕ → List Token → Type 0
 HasTokens offset bytes [] = IsGap bytes
 HasTokens offset bytes (token ∷ tokens) = (rest : List ℕ) × IsFirst offset bytes token rest × HasTokens token.end rest tokens

@@ -1,6 +1,6 @@
 -- Well-formed sheets (Vector's DBC File Format Documentation, in the limits of this project's profile): names and
--- numbers that are unique, lists that are not too long. The forms of names and texts and the ranges of numbers are said
--- in `Form`; that signals lie clear of one another is no part of it.
+-- numbers that are unique, lists that are not too long. The forms of names and texts and the ranges of numbers are in
+-- `Form`; a well-formed sheet need not be clear.
 use Rattle.std.specs.Prelude.{ℕ, ◌≤◌, List, length}
 use Rattle.std.specs.List.{AllByRecursion}
 use Rattle.catalogue.specs.Limits.{roster_limit, value_text_limit}
@@ -14,7 +14,7 @@ use Rattle.catalogue.specs.declared.signal.Signal.{Signal}
 use Rattle.catalogue.specs.declared.value_table.ValueTable.{ValueTable}
 use Rattle.catalogue.specs.declared.value_texts.ValueText.{ValueText}
 
--- Nodes or value tables of one sheet: no two have one name, and they are few.
+-- Nodes or value tables of one sheet: no two have the same name, and they are at most as many as the limit.
 pub record AreRostered {A : Type 0} (name : A → List ℕ) (things : List A) : Type 0 where
   pub apart : AreNamedApart name things
   pub few : length things ≤ roster_limit
@@ -23,14 +23,14 @@ pub record AreRostered {A : Type 0} (name : A → List ℕ) (things : List A) : 
 abbrev pub AreFewTexts : List ValueText → Type 0
 AreFewTexts texts = length texts ≤ value_text_limit
 
--- What each message keeps: names that differ and one multiplexor at most among its signals, and value texts of each
--- that are not too many.
+-- What each message keeps: different names and one multiplexor at most among its signals, and not too many value texts
+-- for each.
 pub record IsWellFormedMessage (m : Message) : Type 0 where
   pub signals : AreSignals m.signals
   pub values : AllByRecursion (λ (s : Signal). AreFewTexts s.values) m.signals
 
 -- What a sheet keeps: its messages are in ascending order of their numbers, and no two messages, nodes or value tables
--- have one name.
+-- have the same name.
 pub record IsWellFormed (s : Sheet) : Type 0 where
   pub nodes : AreRostered node_name s.nodes
   pub tables : AreRostered table_name s.tables

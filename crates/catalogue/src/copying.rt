@@ -5,9 +5,9 @@ use crate::items::Items;
 use can_id::Ident;
 use std::alloc::{AllocError, Global};
 
-/// A value that can be copied where there is memory: the copy is equal to it, as contracts see both.
+/// A value that can be copied if there is memory. The copy equals it, as contracts see both.
 pub trait Copying {
-    /// A copy of the value, or the fault of an allocation that was refused.
+    /// A copy of the value. The error is out of memory.
     fn duplicate(&self, alloc: Global) -> Result<Self, AllocError>
         ensures { IfOk result (λ copy. copy ≡ self.now) };
 }

@@ -1,4 +1,4 @@
-//! Why a sheet or a message refuses something, or is not clear, and what that is about.
+//! Why a sheet or a message refuses something or isn't clear, and what the fault is about.
 ghost use Rattle.std.specs.Prelude.{◌≡◌, Some};
 
 use bitlayout::Clash;
@@ -6,22 +6,22 @@ use std::alloc::AllocError;
 use std::error::Error;
 use std::fmt;
 
-/// Why a sheet or a message refuses something, or is not clear.
-#[derive(Clone, Copy, Debug, PartialEq, Eq, Hash)]
+/// Why a sheet or a message refuses something or isn't clear.
+#[derive(Clone, Copy, Debug, PartialEq, Eq)]
 pub enum SheetCode {
-    /// 20: the sheet has a message of that number.
+    /// 20: the sheet has a message with that DBC number already.
     DoubleNumber,
-    /// 21: a node, a value table or a message of the sheet, or a signal of the message, has that name.
+    /// 21: a node, a value table or a message of the sheet, or a signal of the message, has that name already.
     DoubleName,
-    /// 22: a bit of a signal lies past the end of the payload.
+    /// 22: a bit of a signal is past the end of the payload.
     OutsidePayload,
     /// 23: two signals that are ever present at once share a bit.
     Clash,
     /// 24: a signal depends on a value of the multiplexor, and no signal is the multiplexor.
     NoMultiplexor,
-    /// 25: the message has a multiplexor.
+    /// 25: the message has a multiplexor already.
     TwoMultiplexors,
-    /// 26: a limit of the catalogue is reached.
+    /// 26: a limit of a sheet or of a message is reached.
     TooMany,
     /// 71: out of memory.
     Memory,
@@ -46,7 +46,7 @@ impl SheetCode {
         }
     }
 
-    /// The code's name, which reports show beside its number.
+    /// The code's name, which reports print after its number.
     pub fn name(self) -> &'static str
         ensures { result.now ≡ code_name self }
     {
@@ -90,7 +90,7 @@ impl From<AllocError> for SheetCode {
 }
 
 /// What a fault of a sheet is about.
-#[derive(Clone, Copy, Debug, PartialEq, Eq, Hash)]
+#[derive(Clone, Copy, Debug, PartialEq, Eq)]
 pub enum About {
     /// The sheet as a whole.
     Sheet,
@@ -110,7 +110,7 @@ pub enum About {
 }
 
 /// A fault of a sheet, and what it is about.
-#[derive(Clone, Copy, Debug, PartialEq, Eq, Hash)]
+#[derive(Clone, Copy, Debug, PartialEq, Eq)]
 pub struct SheetFault {
     /// What is wrong.
     pub code: SheetCode,
@@ -121,7 +121,7 @@ pub struct SheetFault {
 impl SheetFault {
     ghost use Rattle.catalogue.specs.Fault.{message_about};
 
-    /// The DBC number of the message that the fault is about, or `None` where it is about something else.
+    /// The DBC number of the message that the fault is about, or `None` if it is about something else.
     pub fn number(&self) -> Option<u32>
         ensures { result ≡ message_about self.now.about }
     {
@@ -133,7 +133,7 @@ impl SheetFault {
     }
 }
 
-/// Out of memory while the sheet is asked about itself.
+/// Out of memory while the sheet is checked.
 impl From<AllocError> for SheetFault {
     ghost use Rattle.catalogue.specs.declared.fault.SheetCode.TheVariants.{Memory};
     ghost use Rattle.catalogue.specs.declared.fault.About.TheVariants.{Sheet};

@@ -1,7 +1,7 @@
-//! What holds of each sheet because its parts can't be built otherwise.
+//! What holds of every sheet, because its parts can't be built otherwise.
 //!
-//! A part keeps its form by its type. Contracts learn the form of a part where the part is asked for it, so the form of
-//! a whole sheet is learnt by a walk over its parts. Nothing is read there and nothing answered.
+//! A part keeps its form by its type. The prover learns the form of a part from a call on the part, so it learns that
+//! of a whole sheet from a walk over its parts. The walk computes nothing and returns nothing.
 ghost use Rattle.std.specs.Prelude.{◌≡◌, All, IfSome};
 ghost use Rattle.catalogue.specs.Form.{IsLayout, IsMux, IsNode, IsSheet, IsValueText, KeepsMessage, KeepsSignal, KeepsTable, KeepsTexts};
 ghost use Rattle.catalogue.specs.Name.{IsName};
@@ -17,7 +17,7 @@ use crate::value_table::ValueTable;
 use crate::value_texts::{ValueText, ValueTexts};
 use bitlayout::{Layout, Mux};
 
-/// A value whose type keeps a form.
+/// A value whose type guarantees a form.
 trait Formed {
     /// The form.
     ghost form: { Self → Type 0 };
@@ -142,8 +142,8 @@ impl Formed for ValueTable {
     }
 }
 
-/// Every sheet is well formed: each part has its form, names and numbers are unique, messages are in ascending order of their numbers, and the
-/// limits are kept.
+/// Every sheet is well formed: each part has its form, names and numbers are unique, messages are in ascending order of
+/// their numbers, and the limits are kept.
 pub fn sheets_are_well_formed(sheet: &Sheet)
     ensures { IsSheet sheet.now }
 {

@@ -5,8 +5,8 @@ ghost use Rattle.catalogue.specs.Indicator.{mux_of_indicator};
 use crate::numbers::whole_number;
 use bitlayout::Mux;
 
-/// What the multiplexer indicator says: `M`, or `m` and digits of which leading zeros don't count. It is `None` for
-/// other bytes, and for a number above 4294967295. [`Mux::indicator`] is the way back.
+/// What the multiplexer indicator means: `M`, or `m` and digits, where leading zeros don't count. It is `None` for
+/// other bytes, and for a number above 4294967295. [`Mux::indicator`] is the inverse.
 pub fn mux_of_indicator(indicator: &[u8]) -> Option<Mux>
     ensures { result ≡ mux_of_indicator indicator.now }
 {

@@ -1,12 +1,15 @@
 //! A vector that contracts see as a list.
-ghost use Rattle.std.specs.Prelude.{◌≡◌, ◌++◌, ◌∷◌, [], ◌<◌, ◌≤◌, ℕ, List, length, IfOk, OnOk, OnErr, insert, remove, slice_get, slice_set};
+ghost use Rattle.std.specs.Prelude.{◌≡◌, ◌++◌, ◌∷◌, [], ◌<◌, ◌≤◌, ℕ, Bool, List, length, IfOk, OnOk, OnErr, filter, insert, remove, slice_get, slice_set};
+ghost use Rattle.std.specs.Fn.{CalledAt};
+ghost use Rattle.std.specs.List.Retain.{IsFiltered};
+ghost use Rattle.catalogue.specs.Retain.{AnswersAs};
 
 use std::alloc::{AllocError, Global};
 use std::marker::Model;
+use std::mem::replace;
 
 /// A vector that contracts see as the list of its items, so that two of them are compared by what they hold
 /// and not by the memory that they reserve.
-#[derive(Debug)]
 pub struct Items<T> {
     items: Vec<T>,
 }
@@ -85,6 +88,27 @@ impl<T: Drop> Items<T> {
         ensures { self.new ≡ slice_set self.old at item }
     {
         self.items[at] = item;
+    }
+
+    /// Keeps the items at which the test answers true, in order, and drops the others. It is called at each item in turn.
+    /// Takes no memory.
+    pub fn retain<F: FnMut(&T) -> bool>(&mut self, test: F)
+        requires { F.IsAlwaysCallable test }
+        ensures called { IsFiltered (CalledAt F.FnMut) test self.old self.new }
+        ensures kept { (passes : T → Bool) → AnswersAs F.FnMut test passes → self.new ≡ filter passes self.old }
+    {
+        self.items.retain(test);
+    }
+
+    /// Takes all items out. Takes no memory.
+    pub fn take(&mut self) -> Items<T>
+        ensures items { result ≡ self.old }
+        ensures rest { self.new ≡ [] }
+    {
+        let alloc = *self.items.allocator();
+        Items {
+            items: replace(&mut self.items, Vec::new(alloc)),
+        }
     }
 }
 

@@ -22,6 +22,20 @@ pub trait Keyed {
     ghost ordered: { IsTotalOrder order };
 }
 
+impl Keyed for u32 {
+    ghost use Rattle.std.specs.Ordering.{nat_cmp};
+    ghost use Rattle.std.proofs.Common.{rules};
+    ghost use Rattle.std.specs.Cmp.Rules.{comparing};
+
+    ghost order = { nat_cmp };
+
+    ghost ordered = { Prim.search (comparing, rules) };
+
+    fn compare(&self, other: &u32) -> Ordering {
+        self.cmp(other)
+    }
+}
+
 impl Keyed for Ident {
     ghost use Rattle.std.specs.Ordering.{on, nat_cmp};
     ghost use Rattle.can_id.specs.Ident.{dbc_number};
@@ -46,22 +60,25 @@ pub enum Slot {
     Before(usize),
 }
 
-/// Where the item goes: at the first one that has its key, or before the first one above it.
+/// Where the item goes: after the last one that isn't above it, or in place of that one where it has its key. It is
+/// looked for from the end, so that rising keys are found at once.
 pub fn slot_of<T: Keyed>(items: &[T], item: &T) -> Slot
     ensures { IsSlotOf T.order item.now items.now result }
 {
-    for (index, other) in items.iter().enumerate() {
-        match item.compare(other) {
-            Ordering::Less => return Slot::Before(index),
+    let mut end = items.len();
+    while end > 0 {
+        let index = end - 1;
+        match item.compare(&items[index]) {
+            Ordering::Less => end = index,
             Ordering::Equal => return Slot::At(index),
-            Ordering::Greater => {}
+            Ordering::Greater => return Slot::Before(end),
         }
     }
-    Slot::Before(items.len())
+    Slot::Before(0)
 }
 
-/// Puts the item where its key belongs, and replaces an item that has its key. When memory runs out, nothing
-/// changes.
+/// Puts the item where its key belongs, and replaces an item that has its key. One above all others is appended without
+/// a walk over them. When memory runs out, nothing changes.
 pub fn put_item<T: Keyed + Drop>(items: &mut Items<T>, item: T) -> Result<(), AllocError>
     ensures ok { OnOk result (items.new ≡ put T.order item items.old) }
     ensures err { OnErr result (items.new ≡ items.old) }

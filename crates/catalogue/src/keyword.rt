@@ -8,7 +8,7 @@ ghost use Rattle.catalogue.specs.Keyword.{keyword_of, ends_keyword};
 pub enum Keyword {
     /// `VERSION`. The file's version text.
     Version,
-    /// `NS_`. The list of words that the file's author knew.
+    /// `NS_`. A list of the keywords that the file's author knew.
     NewSymbols,
     /// `BS_`. Bit timing of the network.
     BitTiming,
@@ -74,11 +74,11 @@ pub enum Keyword {
     NodeEnvironmentRelation,
     /// `BU_BO_REL_`. A relation of a node and a message.
     NodeMessageRelation,
-    /// `SG_MUL_VAL_`. Multiplexing in several steps.
+    /// `SG_MUL_VAL_`. Extended multiplexing.
     ExtendedMultiplexing,
 }
 
-/// All of them.
+/// All keywords.
 const KEYWORDS: [Keyword; 35] = [
     Keyword::Version,
     Keyword::NewSymbols,
@@ -117,7 +117,7 @@ const KEYWORDS: [Keyword; 35] = [
     Keyword::ExtendedMultiplexing,
 ];
 
-/// Whether the last byte is one with which a keyword ends. Few names end so.
+/// Whether the last byte is one with which some keyword ends. Few names end with one.
 fn ends_keyword(word: &[u8]) -> bool
     ensures { result ≡ ends_keyword word.now }
 {
@@ -145,7 +145,7 @@ fn frequent(word: &[u8]) -> Option<Keyword>
 impl Keyword {
     ghost use Rattle.catalogue.specs.Keyword.{keyword_of, keyword_text};
 
-    /// The keyword that the bytes spell, or `None` where they are no keyword.
+    /// The keyword that the bytes spell, or `None` if they are no keyword.
     pub fn of(word: &[u8]) -> Option<Keyword>
         ensures { result ≡ keyword_of word.now }
     {

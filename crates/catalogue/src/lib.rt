@@ -1,20 +1,22 @@
 //! The catalogue: what a DBC file is made of, and what its text means.
 //!
-//! A [`Sheet`] is what a DBC file says of a network: a version, a comment, [`Node`]s, [`ValueTable`]s, and
-//! [`Message`]s by DBC number with their [`Signal`]s. What a sheet may not hold can't be built, since each part keeps
-//! its form by its own type ([`sheets_are_well_formed`]); a call that would break a rule answers a [`SheetFault`] and
-//! changes nothing. [`Sheet::is_clear`] asks whether the signals of each message fit together in its payload.
+//! A [`Sheet`] is what a DBC file describes of a network: a version, a comment, [`Node`]s, [`ValueTable`]s, and
+//! [`Message`]s by DBC number with their [`Signal`]s. An invalid sheet can't be built, since each part keeps its form
+//! by its own type ([`sheets_are_well_formed`]); a call that would break a rule returns a [`SheetFault`] and changes
+//! nothing. [`Sheet::is_clear`] checks whether the signals of each message fit together in its payload.
 //!
-//! The grammar of DBC text is in definitions alone: tokens, statements, and what they say of a sheet. Its laws are the
-//! contracts of functions that do nothing, of which [`texts_read_as_one_sheet`] is the last.
+//! The grammar of DBC text is in definitions only: tokens, statements, and the sheet that these say. Its laws are the
+//! contracts of functions that do nothing; [`texts_read_as_one_sheet`] is the last of them. Another,
+//! [`same_messages_are_equal`], says that `==` of messages is equality.
 //!
-//! Below them are the words that DBC text reserves ([`Keyword`]), names ([`Name`]), texts ([`Text`]), whole numbers
-//! ([`whole_number`]), multiplexer indicators ([`mux_of_indicator`]), and four things on which every layer above is
-//! built: [`Items`], a vector that contracts see as a list; [`Copying`], copies of values that hold memory; [`Keyed`]
-//! with [`put_item`], lists in the order of a key; and [`split_once`]. The limits of a sheet are constants, such as
-//! [`MESSAGE_LIMIT`].
+//! Sheets and grammar use the words that DBC text reserves ([`Keyword`]), names ([`Name`]), texts ([`Text`]), whole
+//! numbers ([`whole_number`]), and multiplexer indicators ([`mux_of_indicator`]). Every layer above uses [`Checked`],
+//! bytes that follow a [`Rule`]; [`Items`], a vector that contracts see as a list; [`Copying`], copies of values that own
+//! memory; [`Keyed`] with [`put_item`], lists in the order of a key; and [`split_once`]. The limits of a sheet are
+//! constants, such as [`MESSAGE_LIMIT`].
 #![tactic(auto)]
 
+mod checked;
 mod copying;
 mod fault;
 mod form;
@@ -32,6 +34,7 @@ mod numbers;
 mod payload;
 mod reading_law;
 mod roster;
+mod same_law;
 mod saying_law;
 mod sheet;
 mod signal;
@@ -46,6 +49,7 @@ mod value_table;
 mod value_texts;
 mod value_type;
 
+pub use checked::{Checked, Rule};
 pub use copying::Copying;
 pub use fault::{About, SheetCode, SheetFault};
 pub use form::sheets_are_well_formed;
@@ -63,6 +67,7 @@ pub use numbers::whole_number;
 pub use payload::PayloadLength;
 pub use reading_law::texts_read_as_one_sheet;
 pub use roster::{Named, Roster};
+pub use same_law::same_messages_are_equal;
 pub use saying_law::statements_say_one_sheet;
 pub use sheet::Sheet;
 pub use signal::Signal;

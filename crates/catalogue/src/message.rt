@@ -19,7 +19,7 @@ use can_id::Ident;
 use std::alloc::{AllocError, Global};
 
 /// A message of a network.
-#[derive(Debug, PartialEq, Eq)]
+#[derive(PartialEq, Eq)]
 pub struct Message {
     /// The identifier with which it is sent.
     pub ident: Ident,

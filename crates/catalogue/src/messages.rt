@@ -23,7 +23,6 @@ use std::marker::Model;
 
 /// At most [`MESSAGE_LIMIT`] messages in ascending order of their DBC numbers, no two of one number or one name.
 /// Contracts see it as the list of them. A number is found by binary search, a name in a set of the names.
-#[derive(Debug)]
 pub(crate) struct Messages {
     messages: Items<Message>,
     names: NameSet,
@@ -137,6 +136,16 @@ impl Messages {
             }
             Err(_) => None,
         }
+    }
+
+    /// Takes all messages out.
+    pub(crate) fn take(&mut self) -> Items<Message>
+        ensures messages { result ≡ self.old }
+        ensures together { AreMessages result }
+        ensures rest { self.new ≡ [] }
+    {
+        self.names.clear();
+        self.messages.take()
     }
 }
 

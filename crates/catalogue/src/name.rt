@@ -1,14 +1,11 @@
 //! Names of messages, signals, nodes and value tables.
-ghost use Rattle.std.specs.Prelude.{◌≡◌, IfOk, SomeIff};
+ghost use Rattle.std.specs.Prelude.{◌≡◌};
 ghost use Rattle.std.specs.List.{list_all};
-ghost use Rattle.catalogue.specs.Name.{starts_identifier, continues_identifier, is_c_identifier, is_name, IsName};
+ghost use Rattle.catalogue.specs.Name.{starts_identifier, continues_identifier, is_c_identifier, is_name};
 
-use crate::copying::Copying;
+use crate::checked::{Checked, Rule};
 use crate::keyword::Keyword;
 use crate::limits::NAME_LIMIT;
-use std::alloc::{AllocError, Global};
-use std::cmp::Ordering;
-use std::marker::Model;
 
 /// What a DBC file writes instead of a node's name where there is no node.
 pub const NO_NODE: &[u8] = b"Vector__XXX";
@@ -57,122 +54,21 @@ pub fn is_name(bytes: &[u8]) -> bool
         && bytes != NO_NODE
 }
 
-/// The name of a message, a signal, a node or a value table. Contracts see it as its bytes.
-#[derive(Debug)]
-pub struct Name {
-    bytes: Vec<u8>,
-}
+/// The rule of names.
+pub struct NameRule;
 
-impl Model for Name {
-    ghost use Rattle.std.specs.Prelude.{ℕ, List};
-    ghost use Rattle.catalogue.specs.Name.{IsName};
+impl Rule for NameRule {
+    ghost use Rattle.catalogue.specs.Name.{is_name, IsName};
 
-    ghost Value = { List ℕ };
+    ghost Keeps = { IsName };
 
-    ghost view = { λ n. n.bytes.items };
+    ghost accepts = { is_name };
 
-    ghost invariant = { λ n. IsName n.bytes.items };
-}
-
-impl Name {
-    /// The name that the bytes are, or `None` where they are none: a name is a C identifier of at most
-    /// [`NAME_LIMIT`] bytes that is no DBC keyword and not `Vector__XXX`.
-    pub fn of(alloc: Global, bytes: &[u8]) -> Result<Option<Name>, AllocError>
-        ensures { IfOk result (λ found. SomeIff found (IsName bytes.now) bytes.now) }
-    {
-        if !is_name(bytes) {
-            return Ok(None);
-        }
-        Ok(Some(Name {
-            bytes: Vec::from_slice(alloc, bytes)?,
-        }))
-    }
-
-    /// The name's bytes, 1 to [`NAME_LIMIT`].
-    pub fn as_bytes(&self) -> &[u8]
-        ensures bytes { result.now ≡ self.now }
-        ensures name { IsName self.now }
-    {
-        &self.bytes
+    fn accepts(bytes: &[u8]) -> bool {
+        is_name(bytes)
     }
 }
 
-impl PartialEq for Name {
-    ghost use Rattle.std.specs.Str.{bytes_eq};
-    ghost use Rattle.std.proofs.Common.{rules};
-    ghost use Rattle.std.specs.Cmp.Rules.{comparing};
-
-    ghost eq = { bytes_eq };
-
-    ghost laws = { Prim.search (comparing, rules) };
-
-    fn eq(&self, other: &Name) -> bool {
-        self.bytes.as_slice() == other.bytes.as_slice()
-    }
-}
-
-impl Eq for Name {
-    ghost use Rattle.std.proofs.Common.{rules};
-    ghost use Rattle.std.specs.Cmp.Rules.{comparing};
-
-    ghost laws = { Prim.search (comparing, rules) };
-}
-
-impl PartialOrd for Name {
-    ghost use Rattle.std.specs.Prelude.{Some};
-    ghost use Rattle.std.specs.Cmp.Lexicographic.{texts_po};
-    ghost use Rattle.catalogue.specs.Keyed.{text_cmp};
-
-    ghost partial_cmp = { λ x y. Some (text_cmp x y) };
-
-    ghost laws = { texts_po };
-
-    fn partial_cmp(&self, other: &Name) -> Option<Ordering> {
-        Some(self.cmp(other))
-    }
-}
-
-/// In the order of the bytes.
-impl Ord for Name {
-    ghost use Rattle.std.specs.Prelude.{refl};
-    ghost use Rattle.std.specs.Cmp.Lexicographic.{nat_list_cmp_total, texts_ties};
-    ghost use Rattle.catalogue.specs.Keyed.{text_cmp};
-
-    ghost cmp = { text_cmp };
-
-    ghost total = { nat_list_cmp_total };
-
-    ghost matches_partial_cmp = { λ x y. refl };
-
-    ghost matches_eq = { texts_ties };
-
-    fn cmp(&self, other: &Name) -> Ordering {
-        self.bytes.as_slice().cmp(other.bytes.as_slice())
-    }
-}
-
-impl Clone for Name {
-    ghost use Rattle.std.specs.Prelude.{◌≡◌};
-
-    ghost is_clone = { λ name copy. copy ≡ name };
-
-    fn clone(&self) -> Result<Name, AllocError> {
-        Ok(Name {
-            bytes: self.bytes.clone()?,
-        })
-    }
-}
-
-impl Copying for Name {
-    fn duplicate(&self, alloc: Global) -> Result<Self, AllocError> {
-        Ok(Name {
-            bytes: Vec::from_slice(alloc, self.as_bytes())?,
-        })
-    }
-}
-
-impl Drop for Name {
-    fn drop(self) {
-        let Name { bytes: _bytes } = self;
-    }
-}
+/// The name of a message, a signal, a node or a value table: a C identifier of 1 to [`NAME_LIMIT`] bytes that is no
+/// DBC keyword and not `Vector__XXX`. Contracts see it as its bytes.
+pub type Name = Checked<NameRule>;

@@ -1,4 +1,4 @@
-//! Names by their order, beside a list that has them in an order of its own.
+//! The set of the names of a list, for looking them up.
 ghost use Rattle.std.specs.Prelude.{◌≡◌, ◌&&◌, ◌||◌, ℕ, List, false, not, OnOk, OnErr, IfOk};
 ghost use Rattle.std.specs.Str.{bytes_eq};
 ghost use Rattle.catalogue.specs.Named.{holds_name};
@@ -8,7 +8,6 @@ use std::alloc::{AllocError, Global};
 use std::collections::BTreeSet;
 
 /// A set of names.
-#[derive(Debug)]
 pub(crate) struct NameSet {
     names: BTreeSet<Name>,
 }
@@ -39,11 +38,18 @@ impl NameSet {
         Ok(())
     }
 
-    /// Takes the name out.
+    /// Removes the name.
     pub(crate) fn remove(&mut self, name: &Name)
         ensures { (n : List ℕ) → holds_name self.new n ≡ (not (bytes_eq name.now n) && holds_name self.old n) }
     {
         self.names.remove(name);
+    }
+
+    /// Takes all names out.
+    pub(crate) fn clear(&mut self)
+        ensures { (n : List ℕ) → holds_name self.new n ≡ false }
+    {
+        self.names.clear();
     }
 
     /// A set of the same names.

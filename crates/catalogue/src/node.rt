@@ -6,7 +6,7 @@ use crate::text::Text;
 use std::alloc::{AllocError, Global};
 
 /// A node of a network.
-#[derive(Debug, PartialEq, Eq)]
+#[derive(PartialEq, Eq)]
 pub struct Node {
     /// The node's name.
     pub name: Name,

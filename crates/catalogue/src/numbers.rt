@@ -1,4 +1,4 @@
-//! Whole numbers, as digits write them.
+//! Whole numbers, written with decimal digits.
 ghost use Rattle.std.specs.Prelude.{◌≡◌, ◌^◌, ◌<◌, SomeIff};
 ghost use Rattle.std.specs.Str.Parse.{IsNumeral, digits_value};
 ghost use Rattle.catalogue.specs.WholeNumber.{whole_of};
@@ -17,8 +17,8 @@ fn digits_number(bytes: &[u8]) -> Option<u32>
     Some(number)
 }
 
-/// The number that decimal digits write: `None` where the bytes are anything but one or more digits alone, or where
-/// the number is above 4294967295. Leading zeros don't count, however many there are.
+/// The number that decimal digits write: `None` if the bytes aren't one or more digits and nothing else, or if the
+/// number is above 4294967295. Leading zeros don't count, however many there are.
 pub fn whole_number(bytes: &[u8]) -> Option<u32>
     ensures meaning { SomeIff result (IsNumeral 10 bytes.now × (digits_value 10 bytes.now < 2 ^ 32)) (digits_value 10 bytes.now) }
     ensures computed { result ≡ whole_of bytes.now }

@@ -1,8 +1,10 @@
 //! Lists of things with unique names, such as the nodes of a sheet or the signals of a message.
-ghost use Rattle.std.specs.Prelude.{◌≡◌, ◌≤◌, ◌++◌, ◌∷◌, [], ℕ, List, None, length, nat_le, false, IfErr, IfOk, OnOk, OnErr};
+ghost use Rattle.std.specs.Prelude.{◌≡◌, ◌≤◌, ◌++◌, ◌∷◌, [], ℕ, List, None, length, nat_le, false, position, IfErr, IfOk, OnOk, OnErr};
+ghost use Rattle.std.specs.Str.{bytes_eq};
+ghost use Rattle.catalogue.specs.Changing.{ChangesAs, KeepsName};
 ghost use Rattle.catalogue.specs.Fault.{IsRefusal};
 ghost use Rattle.catalogue.specs.Limits.{roster_limit};
-ghost use Rattle.catalogue.specs.Named.{AreNamedApart, has_name, roster_tests};
+ghost use Rattle.catalogue.specs.Named.{AreNamedApart, at_named, has_name, roster_tests, thing_named, without_named};
 ghost use Rattle.catalogue.specs.Refusing.{first_refusal};
 
 use crate::copying::{Copying, duplicates};
@@ -25,7 +27,6 @@ pub trait Named {
 
 /// At most [`ROSTER_LIMIT`] things in the order in which they were added, no two of one name. Contracts see it as the
 /// list of them. A set of the names tells whether a name is there without a walk over the list.
-#[derive(Debug)]
 pub struct Roster<T: Named> {
     things: Vec<T>,
     names: NameSet,
@@ -69,6 +70,13 @@ impl<T: Named> Roster<T> {
         self.names.has(name)
     }
 
+    /// The index of the thing of the name.
+    fn index_of(&self, name: &Name) -> Option<usize>
+        ensures { result ≡ position (λ thing. bytes_eq (T.name_of thing) name.now) self.now }
+    {
+        self.things.iter().position(|thing| thing.name() == name)
+    }
+
     /// Whether there is no room for one more.
     pub fn is_full(&self) -> bool
         ensures { result ≡ nat_le roster_limit (length self.now) }
@@ -87,6 +95,40 @@ impl<T: Named> Roster<T> {
             Some(SheetCode::DoubleName)
         } else {
             None
+        }
+    }
+}
+
+impl<T: Named> Roster<T> {
+    /// Changes the thing of the name, all but its name, and answers whether there is one. Takes no memory.
+    pub(crate) fn change<C: FnOnce(&mut T)>(&mut self, name: &Name, change: C) -> bool
+        requires callable { C.IsAlwaysCallable change }
+        requires named { KeepsName C.FnOnce change T.name_of }
+        ensures there { result ≡ has_name T.name_of self.old name.now }
+        ensures changed { (after : T → T) → ChangesAs C.FnOnce change after → self.new ≡ at_named T.name_of after name.now self.old }
+    {
+        match self.index_of(name) {
+            Some(at) => {
+                change(&mut self.things[at]);
+                true
+            }
+            None => false,
+        }
+    }
+
+    /// Takes out the thing of the name, or answers `None` and changes nothing where there is none. Takes no memory.
+    pub(crate) fn remove(&mut self, name: &Name) -> Option<T>
+        ensures found { result ≡ thing_named T.name_of self.old name.now }
+        ensures rest { self.new ≡ without_named T.name_of self.old name.now }
+        ensures apart { AreNamedApart T.name_of self.old }
+    {
+        match self.index_of(name) {
+            Some(at) => {
+                let thing = self.things.remove(at);
+                self.names.remove(name);
+                Some(thing)
+            }
+            None => None,
         }
     }
 }

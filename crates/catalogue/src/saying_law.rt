@@ -1,4 +1,4 @@
-//! A law of what the statements of a DBC file say, which holds of their definition: no code is part of it.
+//! A law about what the statements of a DBC file say. It is about the definitions; it involves no code.
 ghost use Rattle.catalogue.specs.Saying.{SaysOneAtMost};
 
 /// The statements of a DBC file say one sheet at most: two sheets that they say are equal. Code whose contract needs

@@ -11,6 +11,7 @@ ghost use Rattle.catalogue.specs.Sheet.{IsClearSheet, IsFirstFault, empty_sheet,
 
 use crate::copying::Copying;
 use crate::fault::{About, SheetCode, SheetFault};
+use crate::items::Items;
 use crate::message::Message;
 use crate::messages::Messages;
 use crate::node::Node;
@@ -25,7 +26,7 @@ use std::alloc::{AllocError, Global};
 /// name. There are at most [`MESSAGE_LIMIT`](crate::MESSAGE_LIMIT) messages, and at most
 /// [`ROSTER_LIMIT`](crate::ROSTER_LIMIT) nodes and as many value tables. Contracts see the version and the comment as
 /// their bytes, and the nodes, the tables and the messages as lists.
-#[derive(Debug, PartialEq, Eq)]
+#[derive(PartialEq, Eq)]
 pub struct Sheet {
     version: Text,
     comment: Text,
@@ -167,6 +168,16 @@ impl Sheet {
         ensures map { (n : ℕ) → message_at self.new.messages n ≡ (if n == number then None else message_at self.old.messages n) }
     {
         self.messages.remove(number)
+    }
+
+    /// Takes all messages out, in ascending order of their DBC numbers, and leaves the sheet without one. Takes no
+    /// memory.
+    pub fn take_messages(&mut self) -> Items<Message>
+        ensures messages { result ≡ self.old.messages }
+        ensures together { AreMessages result }
+        ensures rest { self.new ≡ record self.old { messages = [] } }
+    {
+        self.messages.take()
     }
 
     /// Whether the signals of each message fit together in its payload. If not, the fault is that of the message with

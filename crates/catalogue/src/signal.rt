@@ -15,11 +15,11 @@ use decimal::Decimal;
 use std::alloc::{AllocError, Global};
 
 /// A signal of a message.
-#[derive(Debug, PartialEq, Eq)]
+#[derive(PartialEq, Eq)]
 pub struct Signal {
     /// The signal's name.
     pub name: Name,
-    /// Where it lies in the payload: its start is 0 to 65535, its size 1 to 64 bits.
+    /// Where it is in the payload: its start is 0 to 65535, its size 1 to 64 bits.
     pub layout: Layout,
     /// Whether its raw value is signed.
     pub signed: bool,
@@ -27,7 +27,7 @@ pub struct Signal {
     pub mux: Mux,
     /// What a raw value is multiplied by.
     pub factor: Decimal,
-    /// What is added to it then.
+    /// What is added to the product.
     pub offset: Decimal,
     /// The least physical value.
     pub minimum: Decimal,
@@ -41,14 +41,14 @@ pub struct Signal {
     pub comment: Text,
     /// The signal's suspect parameter number.
     pub spn: Spn,
-    /// Texts for raw values.
+    /// Texts for values.
     pub values: ValueTexts,
     /// How the bits are to be read.
     pub value_type: ValueType,
 }
 
 impl Signal {
-    /// Where the signal lies, and when it is present.
+    /// Where the signal is in the payload, and when it is present.
     pub fn place(&self) -> Place
         ensures { result ≡ place_of self.now }
     {

@@ -2,19 +2,22 @@
 ghost use Rattle.std.specs.Prelude.{◌≡◌, ◌++◌, ◌∷◌, [], None, IfErr, IfOk, OnOk, OnErr};
 ghost use Rattle.catalogue.specs.Fault.{IsRefusal};
 ghost use Rattle.catalogue.specs.Refusing.{first_refusal};
-ghost use Rattle.catalogue.specs.Signals.{AreSignals, are_switched, places_of, signal_tests};
+ghost use Rattle.catalogue.specs.Named.{has_name};
+ghost use Rattle.catalogue.specs.Signals.{AreSignals, are_switched, at_signal, places_of, signal_name, signal_named, signal_tests, without_signal};
 
 use crate::copying::Copying;
 use crate::fault::SheetCode;
+use crate::name::Name;
 use crate::roster::Roster;
 use crate::signal::Signal;
+use crate::spn::Spn;
+use crate::value_texts::ValueTexts;
 use bitlayout::Place;
 use std::alloc::{AllocError, Global};
 use std::marker::Model;
 
 /// The signals of one message in the order in which they were added: at most [`ROSTER_LIMIT`](crate::ROSTER_LIMIT), no
 /// two of one name, and at most one the multiplexor. Contracts see it as the list of them.
-#[derive(Debug)]
 pub struct Signals {
     roster: Roster<Signal>,
     multiplexed: bool,
@@ -89,6 +92,34 @@ impl Signals {
         self.roster.push(alloc, signal)?;
         self.multiplexed |= multiplexor;
         Ok(())
+    }
+
+    /// Sets the suspect parameter number of the signal of the name, and answers whether there is one. Takes no memory.
+    pub fn set_spn(&mut self, name: &Name, spn: Spn) -> bool
+        ensures there { result ≡ has_name signal_name self.old name.now }
+        ensures signals { self.new ≡ at_signal (λ signal. record signal { spn = spn }) name.now self.old }
+    {
+        self.roster.change(name, |signal| signal.spn = spn)
+    }
+
+    /// Sets the texts for the values of the signal of the name, and answers whether there is one. Takes no memory.
+    pub fn set_values(&mut self, name: &Name, values: ValueTexts) -> bool
+        ensures there { result ≡ has_name signal_name self.old name.now }
+        ensures signals { self.new ≡ at_signal (λ signal. record signal { values = values }) name.now self.old }
+    {
+        self.roster.change(name, |signal| signal.values = values)
+    }
+
+    /// Takes out the signal of the name, or answers `None` and changes nothing where there is none. Takes no memory.
+    pub fn remove(&mut self, name: &Name) -> Option<Signal>
+        ensures found { result ≡ signal_named self.old name.now }
+        ensures rest { self.new ≡ without_signal self.old name.now }
+    {
+        let signal = self.roster.remove(name)?;
+        if signal.mux.is_multiplexor() {
+            self.multiplexed = false;
+        }
+        Some(signal)
     }
 
     /// The places of the signals, in order. The error is out of memory.

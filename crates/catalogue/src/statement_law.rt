@@ -1,31 +1,31 @@
-//! Laws of the statements of a DBC file. The functions do nothing: what they say is their contracts.
+//! Laws about the statements of a DBC file. The functions do nothing: their contracts are the laws.
 ghost use Rattle.catalogue.specs.Division.{DivisionsAreParts, OneDivision, OneParting, OneStatement, ReadingIsExact, StatementsAreRuns};
 ghost use Rattle.catalogue.specs.Fields.{NumbersAreDecimals, NumbersAreIdentifiers};
 
 use decimal::readings_are_computed;
 
-/// Of the runs of tokens that begin with one token and are followed by the end or by a keyword other than `SG_`, at most
-/// one is a statement, and it can be read in only one way. What a statement leaves is what follows such a run, which is
-/// not empty.
+/// Fix a first token. Of all runs of tokens that start there and are followed by the end of the file or by a keyword
+/// other than `SG_`, at most one is a statement, and it can be read in only one way. What a statement leaves is what
+/// follows such a run, which is not empty.
 pub fn statements_are_single()
     ensures one { OneStatement }
     ensures runs { StatementsAreRuns }
 {}
 
-/// Tokens have at most one division into statements: the statements are determined, and the runs that are statements
-/// too.
+/// Tokens can be divided into statements in at most one way: the statements are determined, and so are their runs of
+/// tokens.
 pub fn divisions_are_single()
     ensures one { OneDivision }
     ensures parts { DivisionsAreParts }
     ensures runs { OneParting }
 {}
 
-/// The computed reading finds the division where there is one, and nothing where there is none.
+/// The computed reading finds the division if there is one, and nothing if there is none.
 pub fn reading_is_exact()
     ensures { ReadingIsExact }
 {}
 
-/// The numbers that a message can have are those that a DBC file writes for identifiers.
+/// The numbers that a message can have are the DBC numbers of identifiers.
 pub fn message_numbers_are_identifiers()
     ensures { NumbersAreIdentifiers }
 {}

@@ -1,8 +1,8 @@
 //! Kinds of token.
 /// The kinds of token of a DBC file.
-#[derive(Clone, Copy, Debug, PartialEq, Eq, Hash)]
+#[derive(Clone, Copy, Debug, PartialEq, Eq)]
 pub enum TokenKind {
-    /// A C identifier of any length, a keyword too.
+    /// A C identifier of any length, also a keyword.
     Name,
     /// A number without a sign.
     Number,

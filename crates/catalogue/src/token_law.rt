@@ -1,7 +1,7 @@
-//! A law of the tokens of a DBC text, which holds of their definition: no code is part of it.
+//! A law about the tokens of a DBC text. It is about the definitions; it involves no code.
 ghost use Rattle.catalogue.specs.TokenLaw.{TokensAreRead, TokensAreOne, TokensAreSlices, FaultsAreExact, InsidesAreKept};
 
-/// What holds of the tokens of every DBC text, as `specs/TokenLaw.antt` says it; it does nothing.
+/// What holds of the tokens of every DBC text (`specs/TokenLaw.antt`). The function does nothing.
 ///
 /// A text has exactly the tokens that are read of it without a fault, and at most one list of them. Reading ends with a
 /// fault exactly where no token begins after those that were read. All tokens that are read are slices of the text, in

@@ -6,7 +6,7 @@ use crate::value_texts::ValueTexts;
 use std::alloc::{AllocError, Global};
 
 /// A named table of texts for values. No signal refers to it: signals have lists of their own.
-#[derive(Debug, PartialEq, Eq)]
+#[derive(PartialEq, Eq)]
 pub struct ValueTable {
     /// The table's name.
     pub name: Name,

@@ -11,7 +11,7 @@ use std::alloc::{AllocError, Global};
 use std::marker::Model;
 
 /// A value, and the text that describes it.
-#[derive(Debug, PartialEq, Eq)]
+#[derive(PartialEq, Eq)]
 pub struct ValueText {
     /// The value.
     pub value: Decimal,
@@ -30,7 +30,7 @@ impl Copying for ValueText {
 
 /// At most [`VALUE_TEXT_LIMIT`] values with their texts, in the order in which they are written; a value may occur
 /// twice. Contracts see it as the list of them.
-#[derive(Debug, PartialEq, Eq)]
+#[derive(PartialEq, Eq)]
 pub struct ValueTexts {
     entries: Items<ValueText>,
 }
@@ -59,7 +59,7 @@ impl ValueTexts {
         }
     }
 
-    /// The list of these entries, or `None` where there are more than [`VALUE_TEXT_LIMIT`]. Takes no memory.
+    /// The list of these entries, or `None` if there are more than [`VALUE_TEXT_LIMIT`]. Takes no memory.
     pub fn of(entries: Vec<ValueText>) -> Option<ValueTexts>
         ensures { SomeIff result (length entries.items ≤ value_text_limit) entries.items }
     {

@@ -2,11 +2,11 @@
 ghost use Rattle.std.specs.Prelude.{◌≡◌};
 ghost use Rattle.catalogue.specs.ValueType.{value_type_number, value_type_of};
 
-/// How the bits of a signal are to be read (the signal value types of Vector's DBC File Format Documentation). Here it
-/// is a label that is kept and written again, and changes nothing else.
-#[derive(Clone, Copy, Debug, PartialEq, Eq, Hash)]
+/// How the bits of a signal are to be read (the signal value types of Vector's DBC File Format Documentation). It is
+/// kept and written again, and has no other effect.
+#[derive(Clone, Copy, Debug, PartialEq, Eq)]
 pub enum ValueType {
-    /// A whole number: 0, and what a file means that says nothing.
+    /// A whole number: 0, and the default for a signal without `SIG_VALTYPE_`.
     Integer,
     /// A 32-bit float of IEEE 754: 1.
     Float,
@@ -15,7 +15,7 @@ pub enum ValueType {
 }
 
 impl ValueType {
-    /// The type that a DBC file writes as this number, `None` above 2.
+    /// The type that a DBC file writes as this number, or `None` above 2.
     pub fn of(number: u32) -> Option<ValueType>
         ensures { result ≡ value_type_of number }
     {

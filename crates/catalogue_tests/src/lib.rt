@@ -1,13 +1,10 @@
-//! Tests of sheets and their parts.
+//! Tests of sheets and their parts. What sheets and messages refuse is in `catalogue/proofs/SheetRows.antt`, and how much of
+//! each there may be, as runs of the program, in `tests/`.
 #![tactic(auto)]
 
 #[cfg(test)]
-mod clear;
+mod changes;
 #[cfg(test)]
-mod limits;
+mod copies;
 #[cfg(test)]
 mod made;
-#[cfg(test)]
-mod offers;
-#[cfg(test)]
-mod sheets;

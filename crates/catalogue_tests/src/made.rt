@@ -2,7 +2,7 @@
 use bitlayout::{Layout, Mux, Order, Size};
 use can_id::Ident;
 use catalogue::{
-    Items, Message, Name, Node, PayloadLength, Signal, Signals, Spn, Text, ValueText, ValueTexts,
+    Items, Message, Name, PayloadLength, Signal, Signals, Spn, Text, ValueText, ValueTexts,
     ValueType,
 };
 use decimal::Decimal;
@@ -18,14 +18,6 @@ pub(crate) fn text(alloc: Global, bytes: &[u8]) -> Option<Text> {
 
 pub(crate) fn decimal(spelling: &[u8]) -> Option<Decimal> {
     Decimal::read(false, spelling).ok()
-}
-
-pub(crate) fn node(alloc: Global, bytes: &[u8]) -> Option<Node> {
-    let name = name(alloc, bytes)?;
-    Some(Node {
-        name,
-        comment: Text::empty(alloc),
-    })
 }
 
 /// A message of 8 bytes without signals.

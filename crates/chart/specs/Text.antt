@@ -45,7 +45,7 @@ holds p signal = is_bit signal.place.layout p
 abbrev pub cell_of : List ChartSignal → ℕ → ℕ
 cell_of signals p = if nat_lt 1 (count_by (holds p) signals) then hash else option_map_or letter_of (position (holds p) signals) point
 
--- the bits of a byte, as they are written from left to right
+-- the bits of a byte, from left to right
 abbrev pub bits_of_byte : List ℕ
 bits_of_byte = 7 ∷ 6 ∷ 5 ∷ 4 ∷ 3 ∷ 2 ∷ 1 ∷ 0 ∷ []
 
@@ -53,7 +53,7 @@ bits_of_byte = 7 ∷ 6 ∷ 5 ∷ 4 ∷ 3 ∷ 2 ∷ 1 ∷ 0 ∷ []
 abbrev pub cells_of : List ChartSignal → ℕ → List ℕ
 cells_of signals byte = flat_map (λ bit. space ∷ cell_of signals (8 * byte + bit) ∷ []) bits_of_byte
 
--- a text set right in this many columns
+-- a text, right-aligned in this many columns
 abbrev pub set_right : ℕ → List ℕ → List ℕ
 set_right columns text = replicate (columns - length text) space ++ text
 
@@ -67,12 +67,12 @@ byte_line signals byte = set_right 4 (decimal byte) ++ (cells_of signals byte ++
 abbrev pub layout_text : Layout → List ℕ
 layout_text layout = decimal layout.start ++ (codes "|" ++ (decimal layout.size ++ (codes "@" ++ decimal (order_number layout.order))))
 
--- a space and the mark, where there is one
+-- a space and the indicator, if there is one
 abbrev pub mark_text : Mux → List ℕ
 mark_text Always = []
 mark_text mux = codes " " ++ indicator_of mux
 
--- letter, name, layout, mark
+-- letter, name, layout, indicator
 abbrev pub signal_line : ℕ → ChartSignal → List ℕ
 signal_line i signal =
     letter_of i ∷ space ∷ (signal.name ++ (codes " " ++ (layout_text signal.place.layout ++ (mark_text signal.place.mux ++ codes "\n"))))

@@ -1,4 +1,4 @@
--- The words by which a chart is asked for: a length, and signals `name=start|size@order` and then nothing, `,M` or `,mN`.
+-- The arguments of `chart`: a length, and signals `name=start|size@order` and then nothing, `,M` or `,mN`.
 use Rattle.std.specs.Prelude.{ℕ, nat_le, ◌&&◌, List, Option, Some, None, if◌then◌else◌}
 use Rattle.std.specs.Option.{option_and_then, option_map}
 use Rattle.catalogue.specs.Indicator.{mux_of_indicator}
@@ -30,7 +30,7 @@ at_sign = 64
 abbrev equals : ℕ
 equals = 61
 
--- a number from a least to a most
+-- a number from a least to a greatest one, inclusive
 abbrev pub between : ℕ → ℕ → ℕ → Option ℕ
 between least most n = if nat_le least n && nat_le n most then Some n else None
 
@@ -42,14 +42,14 @@ length_of bytes = whole_of bytes >>= between 0 length_limit
 abbrev pub order_of : List ℕ → Option Order
 order_of bytes = whole_of bytes >>= order_numbered
 
--- the order and the mark, which comes after a comma or is absent
+-- the order and the indicator, which comes after a comma or is absent
 abbrev pub order_and_mark_of : List ℕ → Option (Order × Mux)
 order_and_mark_of bytes = elim (split_once comma bytes) [
   | None ↦ option_map (λ order. (order, Always)) (order_of bytes)
   | Some parts ↦ order_of parts.0 >>= λ order. option_map (λ mux. (order, mux)) (mux_of_indicator parts.1)
 ]
 
--- start|size@order and the mark
+-- start|size@order and the indicator
 abbrev pub place_of : List ℕ → Option Place
 place_of bytes = do
   at ← split_once bar bytes

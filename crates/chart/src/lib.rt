@@ -1,12 +1,12 @@
 //! The chart of a message's signals: which signal has which bit, and whether they fit together.
 //!
 //! A [`ChartSignal`] is a name and a place. [`chart_text`] is the chart: for each byte of the payload a line with a
-//! cell for each bit, for each signal a line with its letter, and a last line that says `clear` or names the first
+//! cell for each bit, for each signal a line with its letter, and a last line that is `clear` or gives the first
 //! clash ([`first_clash_of`]) by the number and name of its [`SheetCode`](catalogue::SheetCode). [`signal_of`] and
-//! [`length_of`] read the words by which a chart is asked for.
+//! [`length_of`] read the arguments of the subcommand `chart`.
 //!
-//! The definitions are in `specs/`: `Text.antt` is the text, line by line, over the positions of bits of the crate
-//! `bitlayout` and the numbers and names of clashes of `catalogue`; `Word.antt` is the form of the words.
+//! The definitions are in `specs/`: `Text.antt` is the text, line by line, in terms of the positions of bits of
+//! `bitlayout` and the numbers and names of clashes of `catalogue`; `Word.antt` is the form of the arguments.
 #![tactic(auto)]
 
 mod number;

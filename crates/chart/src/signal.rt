@@ -8,11 +8,11 @@ use catalogue::Name;
 use std::alloc::{AllocError, Global};
 
 /// A signal as a chart shows it.
-#[derive(Debug, Drop)]
+#[derive(Drop)]
 pub struct ChartSignal {
-    /// Its name. Several signals of a chart may have one name.
+    /// Its name. Several signals of a chart may have the same name.
     pub name: Name,
-    /// Where it lies in the payload, and when it is present.
+    /// Where it is in the payload, and when it is present.
     pub place: Place,
 }
 

@@ -8,7 +8,7 @@ use bitlayout::{Clash, Layout, Mux, has_bit};
 use catalogue::SheetCode;
 use std::alloc::{AllocError, Global};
 
-/// The letters of the signals before the first that has only a `+`.
+/// How many signals get a letter; those after them get a `+`.
 const LETTERS: usize = 26;
 
 /// The bits of a byte, as they are written from left to right.
@@ -69,7 +69,7 @@ fn cells(alloc: Global, signals: &[ChartSignal], byte: u16) -> Result<Vec<u8>, A
     Ok(text)
 }
 
-/// The text set right in this many columns.
+/// The text, right-aligned in this many columns.
 fn set_right(alloc: Global, columns: usize, text: &[u8]) -> Result<Vec<u8>, AllocError>
     ensures { IfOk result (λ set. set.items ≡ set_right columns text.now) }
 {
@@ -98,7 +98,7 @@ fn layout_text(alloc: Global, layout: Layout) -> Result<String, AllocError>
     format!(in alloc; "{start}|{size}@{order}")
 }
 
-/// A space and the mark, where there is one.
+/// A space and the multiplexer indicator, if there is one.
 fn mark_text(alloc: Global, mux: Mux) -> Result<String, AllocError>
     ensures { IfOk result (λ text. string_bytes text ≡ mark_text mux) }
 {
@@ -202,13 +202,13 @@ fn signal_lines(alloc: Global, signals: &[ChartSignal]) -> Result<Vec<u8>, Alloc
 
 /// The chart of the signals of a message of `length` bytes, as lines that end with LF.
 ///
-/// For each byte it has a line with the byte's number, right in 4 columns, and for its bits 7 to 0 a space and a
-/// cell: `.` where no signal has the bit, `#` where two or more have it, else the letter of the signal that has it.
+/// For each byte it has a line with the byte's number, right-aligned in 4 columns, and for its bits 7 to 0 a space and
+/// a cell: `.` if no signal has the bit, `#` if two or more have it, else the letter of the signal that has it.
 /// The letters are `A` for the first signal to `Z` for the 26th, and `+` for each further one. A bit past the payload
 /// has no cell. Then for each signal it has a line with its letter, its name, `start|size@order`, where the order is
-/// 1 for Intel and 0 for Motorola, and its mark, `M` or `mN`, where it has one. The last line is `clear`, or the
-/// number and the name of the first clash and the name of its signal, of two that share a bit the earlier one's and
-/// the later one's. The error is out of memory.
+/// 1 for Intel and 0 for Motorola, and its indicator, `M` or `mN`, if it has one. The last line is `clear`, or the
+/// number and the name of the first clash and the name of its signal; for two that share a bit, the name of the
+/// earlier one and then that of the later one. The error is out of memory.
 pub fn chart_text(
     alloc: Global,
     length: u16,

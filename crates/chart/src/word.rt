@@ -1,4 +1,4 @@
-//! The words by which a chart is asked for.
+//! The arguments of the subcommand `chart`, word by word.
 ghost use Rattle.std.specs.Prelude.{◌≡◌, IfOk, IfSome, ◌≤◌};
 ghost use Rattle.catalogue.specs.Limits.{length_limit};
 ghost use Rattle.chart.specs.Word.{length_of, order_of, order_and_mark_of, place_of, signal_of};
@@ -9,8 +9,8 @@ use bitlayout::{GREATEST_START, Layout, Mux, Order, Place, SIZE_LIMIT, Size};
 use catalogue::{LENGTH_LIMIT, Name, mux_of_indicator, split_once, whole_number};
 use std::alloc::{AllocError, Global};
 
-/// The length of a message that the word writes, 0 to [`LENGTH_LIMIT`] bytes: digits alone, of which leading zeros don't
-/// count. It is `None` where the word is no such number.
+/// The length of a message that the word gives, 0 to [`LENGTH_LIMIT`] bytes: digits only, where leading zeros don't
+/// count. It is `None` if the word is no such number.
 pub fn length_of(word: &[u8]) -> Option<u16>
     ensures value { result ≡ length_of word.now }
     ensures most { IfSome result (λ length. length ≤ length_limit) }
@@ -48,10 +48,10 @@ fn place_of(bytes: &[u8]) -> Option<Place>
     Some(Place { layout, mux })
 }
 
-/// The signal that the word writes, `None` where it writes none.
+/// The signal that the word describes, or `None` if the word is malformed.
 ///
-/// The word is `name=start|size@order` and then nothing, `,M` or `,mN`: a name as [`Name`] has it, then whole numbers
-/// of digits alone, of which leading zeros don't count. The start is 0 to [`GREATEST_START`], the size 1 to
+/// The word is `name=start|size@order` and then nothing, `,M` or `,mN`: a [`Name`], then whole numbers written with
+/// digits only, where leading zeros don't count. The start is 0 to [`GREATEST_START`], the size 1 to
 /// [`SIZE_LIMIT`], the order 0 for Motorola or 1 for Intel, and N 0 to 4294967295. The error is out of memory.
 pub fn signal_of(alloc: Global, word: &[u8]) -> Result<Option<ChartSignal>, AllocError>
     ensures { IfOk result (λ found. found ≡ signal_of word.now) }

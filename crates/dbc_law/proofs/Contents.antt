@@ -1,5 +1,5 @@
--- What the statements of a canonical text say, one after the other: as `Canon` of the catalogue lists its lines, where the
--- lines of a message and of its signals are one statement.
+-- What the statements of a canonical text say, one after the other: as `Canon` of the catalogue lists its lines, where
+-- the lines of a message and of its signals are one statement.
 use Rattle.std.proofs.Common.{◌==◌, ℕ, List, [], ◌∷◌, ◌++◌, map, Some, if◌then◌else◌}
 use Rattle.std.specs.List.{flat_map}
 use Rattle.catalogue.specs.Messages.{number_of}
@@ -74,14 +74,14 @@ signal_comments m s = comments (SignalCommentIs (Some (number_of m)) s.name) s.c
 abbrev pub message_comments : Message → List Content
 message_comments m = comments (MessageCommentIs (Some (number_of m))) m.comment ++ flat_map (signal_comments m) m.signals
 
--- what is said of each signal of each message
+-- the contents for each signal of each message
 abbrev pub each_signal : (Message → Signal → List Content) → Sheet → List Content
 each_signal says s = flat_map (λ (m : Message). flat_map (says m) m.signals) s.messages
 
 abbrev pub spns : Message → Signal → List Content
 spns m s = if s.spn == 0 then [] else (SpnIs (Some (number_of m)) s.name s.spn ∷ [])
 
--- the definitions of the attribute before the first of them, which are passed over
+-- the definitions of the attribute before the first of them, which are skipped
 abbrev pub defined : List Content → List Content
 defined [] = []
 defined (c ∷ cs) = PassedOver ∷ PassedOver ∷ c ∷ cs

@@ -1,4 +1,4 @@
--- The numbers of messages are those that statements may write, and stand for the messages' identifiers.
+-- The numbers of messages are those that statements may have, and are those of the messages' identifiers.
 use Rattle.std.proofs.Common.{◌≡◌, ◌<◌, ◌^◌, Some, refl, arith}
 use Rattle.can_id.specs.Ident.{IsIdentifier, dbc_number}
 use Rattle.can_id.specs.declared.ident.Ident.{Ident}

@@ -42,7 +42,7 @@ use Rattle.dbc_law.proofs.SayingContents.{each_in-contents}
 use Rattle.dbc_law.proofs.SayingEntries.{empty_list, empty_number, empty_type, some_number, some_of, some_type}
 use Rattle.dbc_law.proofs.SayingKinds as kinds
 
--- a comment that is left out where it is empty is said
+-- a comment that is left out if it is empty is said
 last_comment : (t : List ℕ) → t ≡ unwrap_or (last_or None (filter_map comment_in (comments CommentIs t))) []
 last_comment [] = refl
 last_comment (b ∷ bs) = refl

@@ -1,4 +1,4 @@
--- What sections say that speak once of each thing, where it is not empty: the entries that are kept.
+-- What sections say that have one statement for each thing that is not empty: the entries that are kept.
 use Rattle.std.proofs.Common.{◌≡◌, ◌==◌, ◌++◌, ℕ, Bool, true, false, not, cond, List, [], ◌∷◌, Option, Some, if◌then◌else◌, true≢false, refl, sym, arith}
 use Rattle.std.specs.List.{flat_map}
 use Rattle.std.proofs.lemmas.Bool.Decides.{nat_tests}

@@ -1,4 +1,4 @@
--- What the contents of a sheet say, by kinds: each stands in one section alone, and the others say nothing of it.
+-- What the contents of a sheet say, by kind: each kind occurs in one section only, and the others say nothing of it.
 use Rattle.std.proofs.Common.{◌≡◌, ◌∙◌, ◌++◌, List, [], ◌∷◌, map, Option, refl, ap, append-nil}
 use Rattle.std.specs.List.{filter_map, flat_map}
 use Rattle.catalogue.specs.Messages.{number_of}

@@ -1,4 +1,4 @@
--- What the sections of a sheet's contents say that speak of a kind.
+-- What the sections of a sheet's contents say that are about one kind.
 use Rattle.std.proofs.Common.{◌==◌, Bool, List, [], ◌∷◌, map, Option, Some, refl, append-nil}
 use Rattle.std.specs.List.{flat_map}
 use Rattle.catalogue.specs.Messages.{number_of}
@@ -30,7 +30,7 @@ messages_tell (m ∷ ms) = speaks refl (messages_tell ms)
 
 -- ---- the entries of nodes, messages and signals
 
--- a section that speaks of each signal says the entries that are kept
+-- a section about each signal says the entries that are kept
 signals_tell : {V : Type 0} {kind : Content → Option (SignalKey × V)} (keep : V → Bool) (value : Signal → V) (says : Message → Signal → List Content) (s : Sheet)
     → ((m : Message) (x : Signal) → Tell kind (says m x) (entry (keep (value x)) (signal_key m x) (value x)))
     → Tell kind (each_signal says s) (kept keep (part_entries message_signals signal_key value s.messages))

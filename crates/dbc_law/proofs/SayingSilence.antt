@@ -64,7 +64,7 @@ module _ {X : Type 0} {kind : Content → Option X} where
   none_texts number name none [] = no_contents
   none_texts number name none (v ∷ vs) = silent (none (v ∷ vs)) no_contents
 
-  -- the definitions before the first of the contents are passed over
+  -- the definitions before the first of the contents are skipped
   pub passing_definitions : (cs : List Content) {us : List X} → kind PassedOver ≡ None → Tell kind cs us → Tell kind (defined cs) us
   passing_definitions [] none tell = tell
   passing_definitions (c ∷ cs) none tell = silent none (silent none tell)

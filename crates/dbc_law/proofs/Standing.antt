@@ -1,10 +1,10 @@
--- Tokens that stand for the pieces of canonical lines.
+-- Which tokens belong to the pieces of canonical lines.
 use Rattle.std.proofs.Common.{◌≡◌, ℕ, List, [], ◌∷◌, ◌++◌, refl}
 use Rattle.catalogue.specs.Canon.{Line, Piece}
 use Rattle.catalogue.specs.Rules.{Rule, many}
 use Rattle.catalogue.specs.Token.{Token}
 
--- the token of a piece whose text stands between these places
+-- the token of a piece whose text is between these offsets
 abbrev pub token_of : Piece → ℕ → ℕ → Token
 token_of p start end = record { kind = p.kind; start = start; end = end; text = p.text }
 
@@ -26,7 +26,7 @@ abbrev pub lines : Rule (List Line)
 lines = λ ts ls rest. many line ts ls rest
 
 module _ {A : Type 0} (rule : Rule A) where
-  -- what stands one after the other
+  -- one piece after the other
   pub many_append : (ts : List Token) (xs ys : List A) (middle rest : List Token) → many rule ts xs middle → many rule middle ys rest
       → many rule ts (xs ++ ys) rest
   many_append ts [] ys middle rest e more = rw e at more

@@ -53,7 +53,7 @@ spn_reads m s h k ts rest (a, attribute, (b, word, (c, number, (d, name, (e, spn
 spn_writes : (m : Message) (s : Signal) → IsMessage m → IsSignal s → Writes (canon.spn_lines m s) (said.spns m s)
 spn_writes m s h k = writes_unless (s.spn == 0) _ _ (writes_line keyword.AttributeValue (spn_behind m s) _ refl (spn_reads m s h k))
 
--- ---- the definitions of their attribute, which are passed over
+-- ---- the definitions of their attribute, which are skipped
 
 abbrev definition_behind : List canon.Piece
 definition_behind =
@@ -80,7 +80,7 @@ definitions_write =
     writes_line keyword.AttributeDefinition definition_behind PassedOver refl definition_reads
     also writes_line keyword.AttributeDefault default_behind PassedOver refl default_reads
 
--- they stand before the first of the lines, if there is one; so there have to be as many lines as statements
+-- they come before the first of the lines, if there is one; so there must be as many lines as statements
 defined_write : (ls : List canon.Line) (cs : List Content) → length ls ≡ length cs → Writes ls cs → Writes (canon.defined ls) (said.defined cs)
 defined_write [] [] e h = writes_none
 defined_write [] (c ∷ cs) e h = absurd (omega (arith, e))

@@ -1,4 +1,4 @@
--- Lines, and what the statements say that stand where their tokens stand.
+-- Lines, and the contents of the statements that their tokens form.
 use Rattle.std.proofs.Common.{◌≡◌, ◌++◌, ◌∙◌, Bool, true, false, List, [], ◌∷◌, if◌then◌else◌, refl, sym, ap}
 use Rattle.std.specs.List.{All, flat_map}
 use Rattle.std.specs.Option.{option_map}
@@ -14,7 +14,7 @@ use Rattle.catalogue.proofs.ExactStatements.{keyword_back}
 use Rattle.dbc_law.proofs.Standing.{Front, line, lines, many_append, many_parts, token_of}
 use Rattle.dbc_law.proofs.StatementRules.{chain, finish}
 
--- a statement stands there that says so
+-- the tokens begin with a statement of this content
 pub record Means (ts : List Token) (c : Content) (rest : List Token) : Type 0 where
   pub is : Statement
   pub there : grammar.statement ts is rest
@@ -23,8 +23,8 @@ pub record Means (ts : List Token) (c : Content) (rest : List Token) : Type 0 wh
 abbrev pub means : Rule Content
 means = λ ts c rest. Means ts c rest
 
--- Where these lines stand before the end or a keyword other than `SG_`, statements stand that say so, and the lines begin
--- with such a keyword.
+-- If the tokens of these lines come before the end or a keyword other than `SG_`, they form statements of these
+-- contents, and begin with such a keyword.
 pub record Writes (ls : List Line) (cs : List Content) : Type 0 where
   pub written : (ts rest : List Token) → lines ts ls rest → grammar.next rest ≡ true → many means ts cs rest × (grammar.next ts ≡ true)
 
@@ -58,7 +58,7 @@ writes_unless false l c h = h
 abbrev pub keyword_piece : Keyword → Piece
 keyword_piece k = word tight (keyword_text k)
 
--- where its keyword and its line stand
+-- if the tokens of its keyword and of its line come there
 pub statement_stands : (k : Keyword) (c : Content) (ts middle rest : List Token) → Front ts (keyword_piece k) middle → grammar.line k middle c rest → Means ts c rest
 unfolding grammar.statement
 statement_stands k c ts middle rest f behind = record {
@@ -69,7 +69,7 @@ statement_stands k c ts middle rest f behind = record {
   content = refl;
 }
 
--- the keyword is not `SG_`; where its token stands makes no difference
+-- the keyword is not `SG_`; the offset of its token makes no difference
 abbrev pub BeginsNext : Keyword → Type 0
 BeginsNext k = grammar.begins_next (token_of (keyword_piece k) 0 0) ≡ true
 

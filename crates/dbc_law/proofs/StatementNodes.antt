@@ -1,4 +1,4 @@
--- Lists of nodes where their pieces stand.
+-- Lists of nodes, read from the tokens of their pieces.
 use Rattle.std.proofs.Common.{◌≡◌, ◌∙◌, ℕ, false, not, List, [], ◌∷◌, map, Option, Some, None, is_some, filter_map, refl, sym, ap, inl, inr}
 use Rattle.std.specs.Prelude.{codes}
 use Rattle.std.specs.List.{All, flat_map}
@@ -14,7 +14,7 @@ use Rattle.dbc_law.proofs.Standing.{line}
 use Rattle.dbc_law.proofs.StatementRules.{chain, finish, past, read, seen}
 use Rattle.dbc_law.proofs.StatementWords.{says_node}
 
--- no name of a list stands there
+-- the tokens don't begin with a name of a list
 abbrev pub EndsList : List Token → Type 0
 EndsList rest = goes_on rest ≡ false
 

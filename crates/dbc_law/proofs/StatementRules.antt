@@ -1,11 +1,11 @@
--- Rules, applied to tokens that stand for pieces.
+-- Rules, applied to the tokens of pieces.
 use Rattle.std.proofs.Common.{◌≡◌, ◌++◌, ℕ, Bool, true, List, Option, Some, refl}
 use Rattle.catalogue.specs.Canon.{Piece}
 use Rattle.catalogue.specs.Rules.{Rule, ◌>>=◌, done, followed, token}
 use Rattle.catalogue.specs.Token.{Token}
 use Rattle.dbc_law.proofs.Standing.{Front, line, many_parts, piece, token_of}
 
--- the token of the piece says x; `λ _ _. refl` shows it where the piece alone tells
+-- the token of the piece means x; `λ _ _. refl` shows it if that follows from the piece alone
 pub read : {A : Type 0} {says : Token → Option A} {x : A} {p : Piece} {ts rest : List Token} → Front ts p rest
     → ((start end : ℕ) → says (token_of p start end) ≡ Some x) → token says ts x rest
 read {p} f e = record { first = token_of p f.start f.end; front = f.front; value = e f.start f.end }
@@ -28,8 +28,8 @@ seen {ts} e more = chain tt ts (record { passes = e; all = refl }) more
 pub finish : {A : Type 0} {x : A} {ts rest : List Token} → rest ≡ ts → done x ts x rest
 finish e = record { value = refl; all = e }
 
--- Where pieces stand before others there is a place between them. What follows from it is said as a function of that
--- place, which keeps the terms small.
+-- If pieces come before others, there is an offset between them. What follows from it is stated as a function of that
+-- offset, which keeps the terms small.
 pub parted : {C : Type 0} (front back : List Piece) (ts rest : List Token) → line ts (front ++ back) rest
     → ((middle : List Token) → line ts front middle → line middle back rest → C) → C
 parted front back ts rest stands says =

@@ -1,4 +1,4 @@
--- Signals where their pieces stand.
+-- Signals, read from the tokens of their pieces.
 use Rattle.std.proofs.Common.{◌≡◌, ◌^◌, ◌<◌, ◌≤◌, ◌&&◌, ◌++◌, ℕ, Bool, true, false, nat_le, List, ◌∷◌, Option, Some, None, unwrap_or, if◌then◌else◌, refl, sym, arith}
 use Rattle.std.specs.Prelude.{codes}
 use Rattle.std.specs.Fmt.{decimal}

@@ -1,4 +1,4 @@
--- Decimals, and values with their texts, where their pieces stand.
+-- Decimals, and values with their texts, read from the tokens of their pieces.
 use Rattle.std.proofs.Common.{◌≡◌, ◌++◌, ℕ, Bool, true, false, List, [], ◌∷◌, Some, None, refl}
 use Rattle.std.specs.Int.{is_negative}
 use Rattle.std.specs.List.{All, flat_map}

@@ -1,4 +1,4 @@
--- Where tokens stand for the lines of a sheet's canonical text, they divide into statements that say its contents.
+-- The tokens of the lines of a sheet's canonical text divide into statements with its contents.
 use Rattle.std.proofs.Common.{◌≡◌, List, [], ◌∷◌, refl}
 use Rattle.catalogue.specs.Canon as canon
 use Rattle.catalogue.specs.Division.{Divides}

@@ -1,4 +1,4 @@
--- A spelling is the longest where it stands, if what follows does not continue it.
+-- A spelling is the longest at its offset, if what follows does not continue it.
 use Rattle.std.proofs.Common.{◌≡◌, ℕ, ◌+◌, false, List, [], ◌∷◌, ◌++◌, length, drop, Some, sym, ap, subst, ◌∙◌, append_assoc, arith}
 use Rattle.std.specs.Option.{option_map}
 use Rattle.std.proofs.lemmas.List.{length-append}

@@ -69,7 +69,7 @@ exponent_exact (b ∷ bytes) rest h breaks =
     let p = power_exact bytes rest e.1 breaks in
     rw (e.0, p.0) (omega (arith, with_front-is (length bytes) p.1))
 
--- no digit stands after those of a fraction, nor after the whole ones
+-- no digit comes after those of a fraction, nor after those before the point
 exponent_stops : (exponent rest : List ℕ) → is_exponent exponent ≡ true → Breaks rest → Stops is_ascii_digit (exponent ++ rest)
 exponent_stops [] rest h breaks = no_digits rest breaks
 exponent_stops (b ∷ bytes) rest h breaks = e_digit b (and_parts (is_letter_e b) _ h).0

@@ -1,4 +1,4 @@
--- Legible lines, one after the other, have the tokens that stand for their pieces.
+-- Legible lines, one after the other, have the tokens that belong to their pieces.
 use Rattle.std.proofs.Common.{◌≡◌, ◌+◌, ℕ, List, [], ◌∷◌, ◌++◌, length, refl, sym, ap, subst, ◌∙◌, append_assoc, arith}
 use Rattle.std.specs.List.{AllByRecursion, flat_map, list_all}
 use Rattle.std.proofs.lemmas.Bool.{and_from}
@@ -12,7 +12,7 @@ use Rattle.dbc_law.proofs.Standing.{line, lines, token_of}
 use Rattle.dbc_law.proofs.TokenEnds.{word_longest}
 use Rattle.dbc_law.proofs.TokenLegible.{AreLegible, ends_before, pieces_text}
 
--- ---- a gap in front of bytes
+-- ---- a gap before bytes
 
 gap_append : (gap more : List ℕ) → IsGap gap → IsGap more → IsGap (gap ++ more)
 gap_append gap more h k = list_all-append is_gap gap more ∙ and_from (list_all is_gap gap) (list_all is_gap more) h k
@@ -35,7 +35,7 @@ behind_gap place gap bytes (t ∷ ts) h (rest, first, others) = (
 
 -- ---- the tokens of a line, and of lines
 
--- where pieces end that stand at the place
+-- the offset at which pieces end that begin at the given one
 abbrev end_of : ℕ → List Piece → ℕ
 end_of place [] = place
 end_of place (p ∷ ps) = end_of (place + length p.gap + length p.text) ps

@@ -4,7 +4,7 @@ use Rattle.catalogue.specs.Form.{IsSheet}
 use Rattle.catalogue.specs.Reads.{ReadsOnlyAs}
 use Rattle.catalogue.specs.declared.sheet.Sheet.{Sheet}
 
--- Of each sheet that is one, well formed and each part in its form: its canonical text reads as that sheet, and every
--- sheet that it reads as is that one.
+-- The canonical text of every well-formed sheet, with each part in its form, reads as that sheet, and every sheet that
+-- it reads as is that one.
 abbrev pub GrammarLaw : Type 0
 GrammarLaw = (s : Sheet) → IsSheet s → ReadsOnlyAs (canonical_text s) s

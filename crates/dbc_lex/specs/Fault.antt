@@ -39,11 +39,11 @@ code_name Length = codes "Length"
 code_name Size = codes "Size"
 code_name Memory = codes "Memory"
 
--- what a fault says, unless memory ran out
+-- what holds of a fault with this code, unless it is out of memory
 abbrev pub UnlessMemory : ReadCode → Type 0 → Type 0
 UnlessMemory code P = ¬ (code ≡ Memory) → P
 
--- the fault that the lexer answers: its code, and its offset
+-- the fault that the lexer returns: its code, and its offset
 abbrev pub fault_of : lexing.LexFault → ReadFault
 fault_of (lexing.UnclosedText offset) = record { code = UnclosedText; at = offset }
 fault_of (lexing.StrayByte offset) = record { code = StrayByte; at = offset }

@@ -1,4 +1,4 @@
--- The first token, as the lexer answers it.
+-- The first token, as the lexer returns it.
 use Rattle.std.specs.Prelude.{◌≡◌, Option, Some, None, Result, Ok, Err}
 use Rattle.catalogue.specs.Lexing.{LexFault}
 use Rattle.catalogue.specs.Token.{Token}
@@ -7,7 +7,7 @@ use Rattle.dbc_lex.specs.declared.token.Token.{Token as TextToken}
 use Rattle.dbc_lex.specs.Fault.{fault_of}
 use Rattle.dbc_lex.specs.Token.{token_of}
 
--- The answer, and the first token of the definitions: that token, None at the end, or the fault where none begins.
+-- The result and the first token of the definitions: that token, None at the end, or the fault where none begins.
 abbrev pub GivesFirst : Result (Option TextToken) ReadFault → Result (Option Token) LexFault → Type 0
 GivesFirst (Ok (Some t)) first = first ≡ Ok (Some (token_of t))
 GivesFirst (Ok None) first = first ≡ Ok None

@@ -1,7 +1,7 @@
--- The lexer's tokens, and those of the definitions of `catalogue`.
+-- The lexer's tokens as tokens of the definitions of `catalogue`.
 use Rattle.dbc_lex.specs.declared.token.Token.{Token as TextToken}
 use Rattle.catalogue.specs.Token.{Token}
 
--- a token of the lexer, with its bytes in place of the slice
+-- a token of the lexer, with its bytes instead of the slice
 abbrev pub token_of : TextToken → Token
 token_of t = record { kind = t.kind; start = t.start; end = t.end; text = t.text.now }

@@ -5,42 +5,42 @@ use std::alloc::{AllocError, AllocFailed};
 use std::error::Error;
 use std::fmt;
 
-/// Why a DBC text is not read.
+/// Why a DBC text can't be read.
 ///
 /// Texts, names, numbers and statements are those of Vector's DBC File Format Documentation. This project's profile
-/// settles the limits (of names, payloads, starts and of the file as a whole), refuses extended multiplexing, and gives
-/// the faults their numbers.
-#[derive(Clone, Copy, Debug, PartialEq, Eq, Hash)]
+/// sets the limits (of names, payloads, starts and of the file as a whole), refuses extended multiplexing, and numbers
+/// the faults.
+#[derive(Clone, Copy, Debug, PartialEq, Eq)]
 pub enum ReadCode {
     /// 20: a message has the number of an earlier one.
     DoubleNumber,
     /// 21: a node, a value table or a message has the name of an earlier one, or a signal that of an earlier signal of
     /// its message.
     DoubleName,
-    /// 25: a second multiplexor (mark `M`) in a message.
+    /// 25: a second multiplexor (indicator `M`) in a message.
     TwoMultiplexors,
-    /// 26: more of something than a catalogue may have.
+    /// 26: more of something than a sheet may have.
     TooMany,
-    /// 30: no quote ends the text that this quote opens.
+    /// 30: no quote closes the text that this quote opens.
     UnclosedText,
     /// 31: no token begins with this byte, outside a text.
     StrayByte,
-    /// 32: a token that can't come here, or the end of the file too early.
+    /// 32: a token that isn't allowed here, or the end of the file too early.
     Unexpected,
     /// 33: a name that is no keyword, where a statement begins.
     UnknownStatement,
-    /// 34: extended multiplexing: `SG_MUL_VAL_` where a statement begins, or a mark `m`, digits, `M`.
+    /// 34: extended multiplexing: `SG_MUL_VAL_` where a statement begins, or an indicator `m`, digits, `M`.
     ExtendedMultiplexing,
-    /// 35: a value whose number is no `Decimal`, a value type (`SIG_VALTYPE_`) other than 0, 1 and 2, or a multiplexer
-    /// value above 4,294,967,295.
+    /// 35: a value whose number is no `Decimal`, a value type (`SIG_VALTYPE_`) other than 0, 1 and 2, or an indicator
+    /// with a value of the multiplexor above 4,294,967,295.
     Number,
     /// 36: a message's number (`BO_`) that is not that of an identifier.
     Identifier,
-    /// 37: a keyword, `Vector__XXX` or a name of more than 128 bytes, where a name is made.
+    /// 37: a keyword, `Vector__XXX` or a name of more than 128 bytes where something is named.
     Name,
     /// 38: a payload length that is no whole number of 0 to 64 bytes.
     Length,
-    /// 39: a signal's start that is no whole number of 0 to 65,535, or its size that is none of 1 to 64 bits.
+    /// 39: a signal's start that is no whole number of 0 to 65,535, or a size that is no whole number of 1 to 64 bits.
     Size,
     /// 71: out of memory.
     Memory,
@@ -49,7 +49,7 @@ pub enum ReadCode {
 impl ReadCode {
     ghost use Rattle.dbc_lex.specs.Fault.{code_number, code_name};
 
-    /// The code's number, which reports give.
+    /// The code's number, which reports print.
     pub fn number(self) -> u8
         ensures { result ≡ code_number self }
     {
@@ -72,7 +72,7 @@ impl ReadCode {
         }
     }
 
-    /// The code's name, which reports give after its number.
+    /// The code's name, which reports print after the number.
     pub fn name(self) -> &'static str
         ensures { result.now ≡ code_name self }
     {
@@ -109,11 +109,11 @@ impl fmt::Display for ReadCode {
 impl Error for ReadCode {}
 
 /// A fault of reading a DBC text, and its offset.
-#[derive(Clone, Copy, Debug, PartialEq, Eq, Hash)]
+#[derive(Clone, Copy, Debug, PartialEq, Eq)]
 pub struct ReadFault {
     /// What is wrong.
     pub code: ReadCode,
-    /// The offset of the byte or of the token that it is about: the text's length where it ends too early, and 0 where
+    /// The offset of the byte or of the token that it is about: the text's length if the text ends too early, and 0 if
     /// memory ran out.
     pub at: usize,
 }

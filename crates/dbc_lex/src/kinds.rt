@@ -14,7 +14,7 @@ const TEXT: Option<TokenKind> = Some(TokenKind::Text);
 
 const MARK: Option<TokenKind> = Some(TokenKind::Mark);
 
-/// The kind of the tokens that begin with each byte of ASCII, in the order of the bytes.
+/// For each byte of ASCII the kind of the tokens that begin with it.
 const KINDS: [Option<TokenKind>; 128] = [
     NONE, NONE, NONE, NONE, NONE, NONE, NONE, NONE, NONE, NONE, NONE, NONE, NONE, NONE, NONE, NONE,
     NONE, NONE, NONE, NONE, NONE, NONE, NONE, NONE, NONE, NONE, NONE, NONE, NONE, NONE, NONE, NONE,
@@ -27,14 +27,14 @@ const KINDS: [Option<TokenKind>; 128] = [
     MARK, NONE, NONE, NONE,
 ];
 
-/// The table's entry for the byte, `None` past its end.
+/// The table's entry for the byte, or `None` past its end.
 fn entry(kinds: &[Option<TokenKind>], byte: u8) -> Option<TokenKind>
     ensures { result ≡ unwrap_or (slice_get kinds.now byte) None }
 {
     kinds.get(usize::from(byte)).copied().unwrap_or(None)
 }
 
-/// The kind of the tokens that begin with the byte, `None` where none does.
+/// The kind of the tokens that begin with the byte, or `None` if none does.
 pub(crate) fn kind_of(byte: u8) -> Option<TokenKind>
     ensures { result ≡ kind_of byte }
 {

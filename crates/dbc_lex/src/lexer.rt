@@ -9,7 +9,7 @@ use crate::spelling::{gap_len, word_len};
 use crate::token::Token;
 use std::marker::Model;
 
-/// The token at the start of the rest, where a gap ends; `None` at the end of the text.
+/// The token at the start of the rest, after a gap; `None` at the end of the text.
 #[inline(always)]
 #[tactic(auto, unfolding(catalogue::specs::Lexing::token_at))]
 fn token_at<'a>(start: usize, rest: &'a [u8]) -> Result<Option<Token<'a>>, ReadFault>
@@ -42,7 +42,7 @@ fn token_at<'a>(start: usize, rest: &'a [u8]) -> Result<Option<Token<'a>>, ReadF
 }
 
 /// A reader of the tokens of a text. Contracts see it as what is left: the tokens, and the fault after them.
-#[derive(Debug, Drop)]
+#[derive(Drop)]
 pub struct Lexer<'a> {
     at: usize,
     rest: &'a [u8],
@@ -94,10 +94,10 @@ impl<'a> Lexer<'a> {
         }
     }
 
-    /// Takes the next token, or answers `None` where only gaps are left.
+    /// Takes the next token, or returns `None` if only gaps are left.
     ///
-    /// Where no token begins it answers a fault: code 30 (`UnclosedText`) at the opening quote of a text that no quote
-    /// ends, or else code 31 (`StrayByte`) at the byte. `None` and a fault take nothing, so the next call answers the
+    /// Where no token begins it returns a fault: code 30 (`UnclosedText`) at the opening quote of a text that no quote
+    /// closes, or else code 31 (`StrayByte`) at the byte. `None` and a fault take nothing, so the next call returns the
     /// same again.
     ///
     /// Names, unsigned numbers, character strings and punctuation are those of Vector's DBC File Format Documentation;

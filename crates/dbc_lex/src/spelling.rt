@@ -1,4 +1,4 @@
-//! How many bytes a gap or a token takes, where it begins.
+//! How many bytes a gap or a token takes.
 ghost use Rattle.std.specs.Prelude.{◌≡◌, ◌≤◌, ◌<◌, length, false, IfSome};
 ghost use Rattle.std.specs.List.{prefix_len};
 ghost use Rattle.catalogue.specs.Name.{continues_identifier};
@@ -14,7 +14,7 @@ fn is_gap(byte: u8) -> bool
     matches!(byte, 9..=13 | 32)
 }
 
-/// How many gap bytes come first.
+/// How many gap bytes the bytes begin with.
 pub(crate) fn gap_len(bytes: &[u8]) -> usize
     ensures is { result ≡ prefix_len is_gap bytes.now }
     ensures within { result ≤ length bytes.now }
@@ -32,7 +32,7 @@ fn name_len(bytes: &[u8]) -> usize
         .count()
 }
 
-/// The length of the digits after an exponent's letter with their sign, 0 where there are none.
+/// The length of the digits after an exponent's letter, with their sign; 0 if there are no digits.
 #[tactic(auto, unfolding(catalogue::specs::Lexing::power_len))]
 fn power_len(bytes: &[u8]) -> usize
     ensures is { result ≡ power_len bytes.now }
@@ -47,7 +47,7 @@ fn power_len(bytes: &[u8]) -> usize
     }
 }
 
-/// The length of an exponent with its letter, 0 where there is none.
+/// The length of an exponent with its letter; 0 if there is none.
 #[tactic(auto, unfolding(catalogue::specs::Lexing::exponent_len))]
 fn exponent_len(bytes: &[u8]) -> usize
     ensures is { result ≡ exponent_len bytes.now }
@@ -73,8 +73,8 @@ fn number_len(bytes: &[u8]) -> usize
     whole + (fraction + exponent_len(&rest[fraction..]))
 }
 
-/// How many bytes come before the quote that ends a text, where the bytes begin after its opening quote; `None` where
-/// no quote ends it. A backslash escapes the next byte.
+/// How many bytes come before the quote that closes a text, if the bytes begin after its opening quote; `None` if
+/// no quote closes it. A backslash escapes the next byte.
 #[inline(never)]
 fn inside_len(bytes: &[u8]) -> Option<usize>
     ensures is { result ≡ inside_len false bytes.now }
@@ -93,7 +93,7 @@ fn inside_len(bytes: &[u8]) -> Option<usize>
     None
 }
 
-/// How many bytes the token of the kind takes that begins with the first byte; `None` for a text that no quote ends.
+/// How many bytes the token of this kind takes that begins with the first byte; `None` for a text that no quote closes.
 #[inline(always)]
 #[tactic(auto, unfolding(catalogue::specs::Lexing::word_len))]
 pub(crate) fn word_len(kind: TokenKind, bytes: &[u8]) -> Option<usize>

@@ -10,7 +10,7 @@ use Rattle.dbc_lex.specs.declared.fault.ReadCode.TheVariants.{TooMany}
 use Rattle.dbc_lex.specs.declared.fault.ReadFault.{ReadFault}
 use Rattle.dbc_read.specs.Faults.{IsEntriesFault}
 
--- the fault of one of the lists, or none where none is too long
+-- the fault of one of the lists, or none if none is too long
 pub record IsFirstExcess (lists : List (List ValueText)) (first : Option ReadFault) : Type 0 where
   pub none : IfNone first (AllByRecursion AreFewTexts lists)
   pub fault : IfSome first (IsEntriesFault lists)

@@ -86,7 +86,7 @@ module _ {K J : Type 0} (see : K → J) (p : K → Bool) (q : J → Bool) (same 
   each_seen [] = refl
   each_seen (k ∷ keys) = λ i. same k i ∷ each_seen keys i
 
-  -- a key and what it stands for have one index
+  -- a key and the key that it means have the same index
   pub index_seen : (keys : List K) (index : Option ℕ) → IsIndexIn p keys index → IsIndexIn q (map see keys) index
   index_seen keys None h = any_seen keys ∙ h
   index_seen keys (Some i) h = ap (λ l. slice_get l i) (sym (each_seen keys)) ∙ h

@@ -1,5 +1,5 @@
--- What is gathered of statements: the sheet that is built of it is the one that they say, and where it can't stand in
--- one sheet they say none.
+-- What is gathered of statements: the sheet that is built of it is the one that they say, and if it can't be in one
+-- sheet, they say none.
 use Rattle.std.proofs.Common.{◌≡◌, ◌==◌, ◌∙◌, ℕ, List, [], ◌∷◌, map, nat_eq, ap, sym, subst, IsPermutation}
 use Rattle.std.specs.Prelude.{unwrap_or}
 use Rattle.std.specs.List.{AllByRecursion, IsDistinct, flat_map}

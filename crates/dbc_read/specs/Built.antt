@@ -1,4 +1,4 @@
--- The parts of a sheet, made of what is gathered: each node, message and signal takes what is attached at its index.
+-- The parts of a sheet, built of what is gathered: each node, message and signal takes what is attached at its index.
 use Rattle.std.specs.Prelude.{◌≡◌, ◌++◌, ℕ, List, [], ◌∷◌, drop, map, unwrap_or, IsPermutation}
 use Rattle.std.specs.List.{AllByRecursion}
 use Rattle.catalogue.specs.Form.{IsSheet}
@@ -25,7 +25,7 @@ abbrev pub nodes_from : List (List ℕ) → List (List ℕ) → List Node
 nodes_from [] comments = []
 nodes_from (name ∷ names) comments = record { name = name; comment = first_or [] comments } ∷ nodes_from names (drop 1 comments)
 
--- what is left once one signal took its own
+-- what is left after one signal took its own
 abbrev pub rest_of : Feeds → Feeds
 rest_of f = record { comments = drop 1 f.comments; values = drop 1 f.values; types = drop 1 f.types; spns = drop 1 f.spns }
 
@@ -36,7 +36,7 @@ abbrev pub signals_from : List says.SignalLine → Feeds → List Signal
 signals_from [] f = []
 signals_from (line ∷ lines) f = next_signal line f ∷ signals_from lines (rest_of f)
 
--- what is left once these signals took theirs
+-- what is left after these signals took theirs
 abbrev pub feeds_after : List says.SignalLine → Feeds → Feeds
 feeds_after [] f = f
 feeds_after (line ∷ lines) f = feeds_after lines (rest_of f)
@@ -48,7 +48,7 @@ abbrev pub messages_from : List says.MessageLine → List (List ℕ) → Feeds �
 messages_from [] comments f = []
 messages_from (line ∷ lines) comments f = next_message line (first_or [] comments) f ∷ messages_from lines (drop 1 comments) (feeds_after line.signals f)
 
--- each of these messages is fit, and they can meet those that are there
+-- each of these messages is fit for a sheet, and they can be added to those that are there
 pub record AreAddable (before messages : List Message) : Type 0 where
   pub fit : AllByRecursion IsFit messages
   pub together : CanMeet (before ++ messages)

@@ -17,7 +17,7 @@ use Rattle.dbc_statements.specs.declared.statement.NodeName.{NodeName}
 use Rattle.dbc_statements.specs.declared.statement.SignalLine.{SignalLine}
 use Rattle.dbc_statements.specs.declared.statement.TableLine.{TableLine}
 
--- What holds where no item is at fault.
+-- What holds if no item has a fault.
 
 pub record AreNamedWithin {A : Type 0} (name : A → List ℕ) (limit : ℕ) (items : List A) : Type 0 where
   pub apart : AreNamedApart name items
@@ -50,7 +50,7 @@ pub record AreMessageLines (messages : List MessageLine) : Type 0 where
   pub names : AreNamedWithin (λ (m : MessageLine). m.name) message_limit messages
   pub signals : HaveSignalLines messages
 
--- Why an item is the first of its kind that can't be after those before it: the code of the fault.
+-- Why an item is the first of its kind that can't come after those before it: the code of the fault.
 
 abbrev pub IsNameRefused : {A : Type 0} → (A → List ℕ) → ℕ → List A → A → ReadCode → Type 0
 IsNameRefused name limit before item TooMany = AreNamedApart name before × (length before ≡ limit)

@@ -1,4 +1,4 @@
--- What statements say, each kind by itself: what one more statement adds, and what is gathered of all of them.
+-- The contents of statements by kind: what one more statement adds, and what is gathered of all of them.
 use Rattle.std.specs.Prelude.{◌≡◌, ℕ, nat_eq, List, [], ◌∷◌, ◌++◌, map, Option, Some, None, length, replicate, slice_set}
 use Rattle.std.specs.List.{IsDistinct, last_or}
 use Rattle.std.specs.Str.{bytes_eq}
@@ -15,7 +15,7 @@ use Rattle.dbc_statements.specs.declared.statement.Content.{Content}
 use Rattle.dbc_statements.specs.declared.statement.Content.TheVariants as content
 use Rattle.dbc_statements.specs.declared.statement.Statement.{Statement}
 
--- the list with the value at the index, where there is one
+-- the list with the value at the index, if there is one
 abbrev pub set_at : {V : Type 0} → Option ℕ → V → List V → List V
 set_at None v vs = vs
 set_at (Some i) v vs = slice_set vs i v
@@ -25,7 +25,7 @@ abbrev pub passed_after : Option ℕ → Passed → List Passed → List Passed
 passed_after None p passed = passed ++ p ∷ []
 passed_after (Some i) p passed = passed
 
--- what is gathered after a statement of this content, which cites what has this index
+-- what is gathered after a statement of this content; the index is that of what it cites
 abbrev pub gathered_after : Option ℕ → Passed → Content → Gathered → Gathered
 gathered_after index p (content.Version text) g = record g { version = Some text }
 gathered_after index p (content.Comment text) g = record g { comment = Some text }
@@ -64,7 +64,7 @@ pub record IsBeginning (statements : List says.Statement) (g : Gathered) (found 
   pub nothing : IsNothing statements g
   pub indices : AreCitedIndices statements statements found
 
--- All that the statements say. What is attached to a thing is at its index, where no two things have one key.
+-- The contents of all the statements. What is attached to a thing is at its index, if no two things have the same key.
 pub record AreGathered (statements : List says.Statement) (g : Gathered) : Type 0 where
   pub version : g.version ≡ last_or None (each_in version_in statements)
   pub comment : g.comment ≡ last_or None (each_in comment_in statements)

@@ -1,4 +1,4 @@
--- The keys of nodes, messages and signals, which hold references, and what they stand for.
+-- The keys of nodes, messages and signals, which hold references, and the keys of the definitions that they mean.
 use Rattle.std.specs.Prelude.{◌≡◌, ℕ, List, map}
 use Rattle.std.specs.Borrow.{Bor}
 use Rattle.catalogue.specs.Saying.{SignalKey, node_names_of, numbers_of, signal_keys_of}

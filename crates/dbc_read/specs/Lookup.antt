@@ -1,4 +1,4 @@
--- Where a key is in a list, and what a look-up of a list has.
+-- The index of a key in a list, and what the lookup of a list has.
 use Rattle.std.specs.Prelude.{◌≡◌, ℕ, suc, Bool, true, false, List, [], ◌∷◌, map, Option, Some, None, slice_get, IsPermutation}
 use Rattle.std.specs.List.{list_any}
 use Rattle.std.specs.List.Sorted.{IsSortedBy}
@@ -6,7 +6,7 @@ use Rattle.std.specs.Ordering.{is_lt}
 use Rattle.std.specs.declared.cmp.Ordering.{Ordering}
 use Rattle.dbc_read.specs.declared.lookup.Lookup.{Lookup}
 
--- an index whose key passes the test, or none where no key does
+-- an index whose key passes the test, or none if no key does
 abbrev pub IsIndexIn : {K : Type 0} → (K → Bool) → List K → Option ℕ → Type 0
 IsIndexIn test keys None = list_any test keys ≡ false
 IsIndexIn test keys (Some i) = slice_get (map test keys) i ≡ Some true

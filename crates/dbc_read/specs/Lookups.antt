@@ -20,7 +20,7 @@ pub record AreLookups (l : Lookups) (statements : List Statement) : Type 0 where
   pub signals : IsLookupOf (λ (a b : ℕ × Bor (List ℕ)). ordering_then (nat_cmp a.0 b.0) (text_cmp a.1.now b.1.now)) l.signals signal_keys
   pub keys : map key_of signal_keys ≡ signal_keys_of statements
 
--- the index of a node, of a message and of a signal, or none where the file has no such thing
+-- the index of a node, of a message and of a signal, or none if the file has no such thing
 
 abbrev pub IsNodeIndex : List Statement → List ℕ → Option ℕ → Type 0
 IsNodeIndex statements name index = IsIndexIn (λ n. bytes_eq n name) (node_names_of statements) index

@@ -1,4 +1,4 @@
--- What a skipped statement is reported by.
+-- How a skipped statement is reported.
 use Rattle.std.specs.Prelude.{ℕ}
 use Rattle.catalogue.specs.declared.keyword.Keyword.{Keyword}
 use Rattle.dbc_read.specs.declared.passed.Passed.{Passed}

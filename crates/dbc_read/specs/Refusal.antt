@@ -5,7 +5,7 @@ use Rattle.catalogue.specs.declared.fault.SheetCode.TheVariants as sheets
 use Rattle.dbc_read.specs.declared.refusal.Refusal.{Refusal}
 use Rattle.dbc_read.specs.declared.refusal.Refusal.TheVariants.{Memory, NoSheet}
 
--- what a refusal says, unless memory ran out
+-- what holds of a refusal, unless it is out of memory
 abbrev pub Unless : Refusal → Type 0 → Type 0
 Unless Memory P = ⊤
 Unless NoSheet P = P

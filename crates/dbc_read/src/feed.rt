@@ -1,4 +1,4 @@
-//! Values that are handed out one at a time, and those that statements attach to signals.
+//! Values that are handed out one by one, such as those that statements attach to signals.
 ghost use Rattle.std.specs.Prelude.{◌≡◌, drop};
 ghost use Rattle.dbc_read.specs.Built.{first_or};
 
@@ -7,7 +7,7 @@ use dbc_statements::Entries;
 use std::marker::Model;
 use std::vec::IntoIter;
 
-/// Values that are handed out one at a time, from the first on. Contracts see those that are left.
+/// Values that are handed out one by one, from the first on. Contracts see those that are left.
 #[derive(Drop)]
 pub(crate) struct Feed<T> {
     left: IntoIter<T>,
@@ -23,7 +23,7 @@ impl<T> Model for Feed<T> {
 }
 
 impl<T> Feed<T> {
-    /// All of these values.
+    /// A feed of these values.
     pub(crate) fn of(items: Items<T>) -> Feed<T>
         ensures { result ≡ items }
     {
@@ -34,7 +34,7 @@ impl<T> Feed<T> {
 }
 
 impl<T: Drop> Feed<T> {
-    /// The next value, or this one where none is left.
+    /// The next value, or `other` if none is left.
     pub(crate) fn next_or(&mut self, other: T) -> T
         ensures value { result ≡ first_or other self.old }
         ensures rest { self.new ≡ drop 1 self.old }
@@ -46,7 +46,7 @@ impl<T: Drop> Feed<T> {
     }
 }
 
-/// What statements attach to signals, for the signals that are left.
+/// What statements attach to the signals that are left.
 pub(crate) struct Feeds {
     /// Their comments.
     pub comments: Feed<Text>,

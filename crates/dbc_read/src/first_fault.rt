@@ -1,7 +1,7 @@
-//! The first fault of statements that say no sheet.
+//! The first fault of statements that can't be in one sheet.
 //!
-//! Each kind of item is gone through by itself, in the file's order. Of the faults that are found so, the one with the
-//! lowest offset is the first of the file.
+//! Each kind of item is searched separately, in the file's order. The fault with the lowest offset of those that are
+//! found is the first of the file.
 ghost use Rattle.std.specs.Prelude.{◌≡◌, ◌⊎◌, ◌≤◌, IfNone, IfOk, IfSome, None, is_some, length, nat_lt};
 ghost use Rattle.std.specs.List.{AllByRecursion};
 ghost use Rattle.catalogue.specs.Limits.{value_text_limit};
@@ -35,7 +35,7 @@ use dbc_statements::{Entries, MessageLine, SignalLine, TableLine};
 use std::alloc::{AllocError, Global};
 use std::collections::BTreeSet;
 
-/// The one of two faults with the lower offset.
+/// The fault with the lower offset, of at most two.
 fn earlier(a: Option<ReadFault>, b: Option<ReadFault>) -> Option<ReadFault>
     ensures one { (result ≡ a) ⊎ (result ≡ b) }
     ensures none { IfNone result ((a ≡ None) × (b ≡ None)) }
@@ -144,7 +144,7 @@ fn signals_fault(alloc: Global, messages: &[MessageLine]) -> Result<Option<ReadF
     Ok(None)
 }
 
-/// The fault at the first entry above the limit, where there are more.
+/// The fault at the first entry above the limit, if there are more.
 fn entries_fault(entries: &Entries) -> Option<ReadFault>
     ensures variant { is_some result ≡ nat_lt value_text_limit (length entries.now) }
     ensures code { IfSome result (λ fault. fault.code ≡ TooMany) }
@@ -191,7 +191,7 @@ fn messages_fault(alloc: Global, messages: &[MessageLine]) -> Result<Option<Read
     Ok(earlier(number, earlier(name, signal)))
 }
 
-/// The first fault of what is gathered, where that can't be in one sheet.
+/// The first fault of what is gathered, which can't be in one sheet.
 pub(crate) fn first_fault(alloc: Global, gathered: &Gathered) -> Result<ReadFault, AllocError>
     requires { ¬ CanStand gathered.now }
     ensures { IfOk result (IsFault gathered.now) }

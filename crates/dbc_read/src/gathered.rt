@@ -1,4 +1,4 @@
-//! What the statements say, each kind by itself.
+//! The contents of the statements, gathered by kind.
 ghost use Rattle.std.specs.Prelude.{◌≡◌, ◌++◌, IfErr, IfOk, OnOk, List, [], replicate};
 ghost use Rattle.catalogue.specs.Statement as says;
 ghost use Rattle.dbc_read.specs.Built.{CanStand, IsBuilt};
@@ -17,8 +17,8 @@ use catalogue::{Items, Spn, Text, ValueType, sheets_are_well_formed};
 use dbc_statements::{Content, Entries, MessageLine, NodeName, Statement, TableLine};
 use std::alloc::{AllocError, Global};
 
-/// What statements say, each kind by itself and in their order. What they attach to nodes, messages and signals is at the
-/// indices of these, and is empty where nothing is attached.
+/// The contents of the statements by kind, in their order. What they attach to nodes, messages and signals is at the
+/// indices of these, and is empty if nothing is attached.
 pub(crate) struct Gathered {
     /// The last version.
     pub version: Option<Text>,
@@ -36,7 +36,7 @@ pub(crate) struct Gathered {
     pub message_comments: Items<Text>,
     /// Comments on signals.
     pub signal_comments: Items<Text>,
-    /// Texts for the values of signals, any number of them.
+    /// Value texts of signals, any number of them.
     pub signal_values: Items<Entries>,
     /// Types of signals.
     pub signal_types: Items<ValueType>,
@@ -46,7 +46,7 @@ pub(crate) struct Gathered {
     pub passed: Items<Passed>,
 }
 
-/// `count` texts without bytes.
+/// `count` empty texts.
 fn no_texts(alloc: Global, count: usize) -> Result<Items<Text>, AllocError>
     ensures { IfOk result (λ texts. texts ≡ replicate count []) }
 {
@@ -57,7 +57,7 @@ fn no_texts(alloc: Global, count: usize) -> Result<Items<Text>, AllocError>
     Ok(Items::from_vec(texts))
 }
 
-/// `count` lists without entries.
+/// `count` empty lists of entries.
 fn no_entries(alloc: Global, count: usize) -> Result<Items<Entries>, AllocError>
     ensures { IfOk result (λ lists. lists ≡ replicate count []) }
 {
@@ -68,7 +68,7 @@ fn no_entries(alloc: Global, count: usize) -> Result<Items<Entries>, AllocError>
     Ok(Items::from_vec(lists))
 }
 
-/// `count` times the value.
+/// `count` copies of the value.
 fn copies<T: Copy + Drop>(alloc: Global, count: usize, value: T) -> Result<Items<T>, AllocError>
     ensures { IfOk result (λ items. items ≡ replicate count value) }
 {
@@ -102,7 +102,7 @@ fn nothing(alloc: Global, lookups: &Lookups) -> Result<Gathered, AllocError>
     })
 }
 
-/// Puts the value at the index, where there is one.
+/// Puts the value at the index, if there is one.
 fn put<T: Drop>(items: &mut Items<T>, index: Option<usize>, value: T)
     ensures { items.new ≡ set_at index value items.old }
 {
@@ -113,14 +113,14 @@ fn put<T: Drop>(items: &mut Items<T>, index: Option<usize>, value: T)
     }
 }
 
-/// A statement that may cite something, and the index of that, where the file has it.
+/// A statement, and the index of what it cites, if it cites something that the file has.
 #[derive(Clone, Copy)]
 struct Citing {
     statement: Passed,
     index: Option<usize>,
 }
 
-/// Puts the value at the index of what is cited. Where there is none, the statement is skipped.
+/// Puts the value at the index of what is cited. If there is no index, the statement is skipped.
 fn attach<T: Drop>(
     from: Citing,
     value: T,
@@ -147,7 +147,7 @@ fn gather_nodes(nodes: Vec<NodeName>, found: &mut Items<NodeName>) -> Result<(),
     Ok(())
 }
 
-/// Adds what a statement says to what is gathered.
+/// Adds the content of a statement to what is gathered.
 fn gather(from: Citing, content: Content, all: &mut Gathered) -> Result<(), AllocError>
     ensures { OnOk result (all.new ≡ gathered_after from.index from.statement content all.old) }
 {
@@ -184,7 +184,7 @@ fn gather(from: Citing, content: Content, all: &mut Gathered) -> Result<(), Allo
     }
 }
 
-/// Adds what a statement says to what is gathered, where what it cites has this index.
+/// Adds a statement to what is gathered; `index` is that of what it cites.
 fn gather_statement(
     index: Option<usize>,
     statement: Statement,
@@ -210,7 +210,7 @@ fn beginning(
     Ok((gathered, cited))
 }
 
-/// All that the statements say.
+/// The contents of all the statements.
 pub(crate) fn gathered_of(alloc: Global, statements: Vec<Statement>) -> Result<Gathered, AllocError>
     ensures { IfOk result (λ gathered. AreGathered (statements_of statements.items) gathered) }
 {
@@ -224,7 +224,7 @@ pub(crate) fn gathered_of(alloc: Global, statements: Vec<Statement>) -> Result<G
 }
 
 impl Gathered {
-    /// The sheet of all that is gathered, and what is skipped; or a refusal, and then that can't be in one sheet.
+    /// The sheet of all that is gathered, and what is skipped; or a refusal if that can't be in one sheet.
     pub(crate) fn into_reading(self, alloc: Global) -> Result<Reading, Refusal>
         ensures built { IfOk result (λ reading. IsBuilt self reading.sheet) }
         ensures passed { IfOk result (λ reading. reading.passed ≡ self.passed) }

@@ -1,4 +1,4 @@
-//! Items of a file with names, of which no two of a kind may have the same.
+//! Items of a file with names. No two items of a kind may have the same name.
 ghost use Rattle.std.specs.Prelude.{◌≡◌, ℕ, List};
 
 use catalogue::Name;

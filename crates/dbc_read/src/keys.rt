@@ -1,4 +1,4 @@
-//! The keys of the nodes, messages and signals of the statements, each kind by itself and in their order.
+//! The keys of the nodes, messages and signals of the statements, by kind and in their order.
 ghost use Rattle.std.specs.Prelude.{◌≡◌, ◌++◌, IfOk, OnOk, map};
 ghost use Rattle.catalogue.specs.Saying.{keys_of};
 ghost use Rattle.dbc_read.specs.Keys.{AreKeys, key_of, text_of};

@@ -1,5 +1,5 @@
-//! Where keys are in a list. They are found by binary search: a look-up takes as long as the logarithm of their number,
-//! whichever keys a file has.
+//! The indices of keys in a list. They are found by binary search, so the time of a look-up is logarithmic in their
+//! number, whichever keys a file has.
 ghost use Rattle.std.specs.Prelude.{◌≡◌, List, IfOk, Some, length, map, slice_get, true};
 ghost use Rattle.dbc_read.specs.Lookup.{IsIndexIn, IsLookupOf};
 
@@ -11,7 +11,7 @@ pub(crate) struct Lookup<K> {
     sorted: Vec<(K, usize)>,
 }
 
-/// The look-up of a list of keys, some of which may be equal.
+/// The lookup of a list of keys. Several keys may be equal.
 pub(crate) fn lookup_of<K: Ord + Copy>(alloc: Global, keys: Vec<K>) -> Result<Lookup<K>, AllocError>
     ensures { IfOk result (λ lookup. IsLookupOf K.cmp lookup keys.items) }
 {

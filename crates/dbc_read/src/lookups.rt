@@ -9,7 +9,7 @@ use crate::lookup::{Lookup, lookup_of};
 use dbc_statements::{CitedSignal, Content, Statement};
 use std::alloc::{AllocError, Global};
 
-/// The nodes, the messages and the signals of a file. An index is that of one of them among those of all statements.
+/// The nodes, the messages and the signals of a file, by their indices among those of all statements.
 pub(crate) struct Lookups<'s> {
     /// The names of the nodes.
     pub nodes: Lookup<&'s [u8]>,
@@ -35,7 +35,7 @@ pub(crate) fn lookups_of(alloc: Global, statements: &[Statement]) -> Result<Look
     })
 }
 
-/// The index of the message that is cited, where the file has it.
+/// The index of the message that is cited, if the file has it.
 fn message_index(lookups: &Lookups, cited: Option<u32>, last: &mut usize) -> Option<usize>
     ensures { (statements : List says.Statement) → AreLookups lookups.now statements → IsMessageIndex statements cited result }
 {
@@ -45,7 +45,7 @@ fn message_index(lookups: &Lookups, cited: Option<u32>, last: &mut usize) -> Opt
     }
 }
 
-/// The index of the signal that is cited, where the file has it.
+/// The index of the signal that is cited, if the file has it.
 fn signal_index(lookups: &Lookups, cited: &CitedSignal, last: &mut usize) -> Option<usize>
     ensures { (statements : List says.Statement) → AreLookups lookups.now statements → IsSignalIndex statements cited.now.number cited.now.name result }
 {
@@ -55,7 +55,7 @@ fn signal_index(lookups: &Lookups, cited: &CitedSignal, last: &mut usize) -> Opt
     }
 }
 
-/// The index of what the statement cites, where it cites something that the file has. The index that was found last is
+/// The index of what the statement cites, if it cites something that the file has. The index that was found last is
 /// tried first.
 fn cited_index(lookups: &Lookups, content: &Content, last: &mut usize) -> Option<usize>
     ensures { (statements : List says.Statement) → AreLookups lookups.now statements → IsCitedIndex statements (content_of content.now) result }

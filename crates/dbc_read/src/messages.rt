@@ -1,4 +1,4 @@
-//! Messages, with what other statements say of them.
+//! Messages, with what other statements attach to them.
 ghost use Rattle.std.specs.Prelude.{◌≡◌, IfErr, IfOk, OnOk, map};
 ghost use Rattle.std.specs.List.{AllByRecursion};
 ghost use Rattle.dbc_read.specs.Built.{feeds_after, messages_from, next_message};
@@ -13,7 +13,7 @@ use catalogue::{Items, Message, Text};
 use dbc_statements::MessageLine;
 use std::alloc::Global;
 
-/// The message of a line, whose signals take the next of what is attached.
+/// The message of a line. Its signals take the next of what is attached to signals.
 fn message_of(
     alloc: Global,
     line: MessageLine,

@@ -1,7 +1,7 @@
 //! Skipped statements.
 use catalogue::Keyword;
 
-/// A statement that is skipped: one that this project reads nothing of, or that cites what isn't in the file.
+/// A statement that is skipped: one of which this project keeps nothing, or one that cites what isn't in the file.
 #[derive(Clone, Copy, Debug, PartialEq, Eq)]
 pub struct Passed {
     /// The offset of its first keyword.

@@ -15,8 +15,7 @@ use dbc_lex::ReadFault;
 use dbc_statements::statements_of;
 use std::alloc::Global;
 
-/// What a DBC text says.
-#[derive(Debug)]
+/// What a DBC text reads as.
 pub struct Reading {
     /// The sheet. It need not be clear.
     pub sheet: Sheet,
@@ -24,7 +23,7 @@ pub struct Reading {
     pub passed: Items<Passed>,
 }
 
-/// What the text says, or its fault.
+/// What the text reads as, or its fault.
 fn read_text(alloc: Global, source: &[u8]) -> Result<Reading, ReadFault>
     ensures reads { IfOk result (λ reading. ReadsAs source.now reading.sheet (map start_and_keyword reading.passed)) }
     ensures only { IfOk result (λ reading. ReadsOnlyAs source.now reading.sheet) }
@@ -38,7 +37,7 @@ fn read_text(alloc: Global, source: &[u8]) -> Result<Reading, ReadFault>
         Ok(reading) => Ok(reading),
         Err(Refusal::Memory) => Err(ReadFault::MEMORY),
         Err(Refusal::NoSheet) => {
-            // What was gathered is gone, so the text is read once more.
+            // What was gathered is consumed, so the text is read once more.
             let statements = statements_of(alloc, source)?;
             let gathered = gathered_of(alloc, statements)?;
             Err(first_fault(alloc, &gathered)?)
@@ -46,13 +45,13 @@ fn read_text(alloc: Global, source: &[u8]) -> Result<Reading, ReadFault>
     }
 }
 
-/// The one sheet that the text reads as, and the statements that it skips. The grammar is that of Vector's DBC File
+/// The one sheet that the text reads as, and the statements that are skipped. The grammar is that of Vector's DBC File
 /// Format Documentation, in this project's profile (docs/GRAMMAR.md).
 ///
-/// A fault comes only where the text reads as no sheet, or where memory ran out. It is the first of the first of these
-/// three kinds that the text has: code 30 or 31 at an offset where no token begins; one of 32 to 39 at a token at which
-/// no statement can go on, or at the text's length where it ends too early; and 20, 21, 25 or 26 at an item that can't be
-/// in one sheet with those before it, or is above a limit.
+/// A fault comes only if the text reads as no sheet, or memory ran out. It is the first fault of the first of these
+/// three kinds that the text has: code 30 or 31 at an offset where no token begins; one of 32 to 39 at a token that
+/// can't continue the statement, or at the text's length if it ends too early; and 20, 21, 25 or 26 at an item that
+/// can't be in one sheet with those before it, or is above a limit.
 pub fn read(alloc: Global, source: &[u8]) -> Result<Reading, ReadFault>
     ensures reads { IfOk result (λ reading. ReadsAs source.now reading.sheet (map start_and_keyword reading.passed)) }
     ensures only { IfOk result (λ reading. ReadsOnlyAs source.now reading.sheet) }
@@ -62,7 +61,7 @@ pub fn read(alloc: Global, source: &[u8]) -> Result<Reading, ReadFault>
 {
     match read_text(alloc, source) {
         Ok(reading) => Ok(reading),
-        // No fault is past the end of the text: this changes nothing, and makes it a promise.
+        // No fault is past the end of the text, so this changes nothing; it lets the contract promise that.
         Err(fault) => Err(ReadFault {
             code: fault.code,
             at: fault.at.min(source.len()),

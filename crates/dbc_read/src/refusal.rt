@@ -7,7 +7,7 @@ use std::alloc::AllocError;
 pub(crate) enum Refusal {
     /// Out of memory.
     Memory,
-    /// It hasn't its form, or can't be in one sheet with the others.
+    /// It is malformed, or can't be in one sheet with the others.
     NoSheet,
 }
 

@@ -1,4 +1,4 @@
-//! The parts of the sheet that statements say.
+//! The parts of the sheet, built of what the statements say.
 ghost use Rattle.std.specs.Prelude.{◌≡◌, ◌++◌, [], IfErr, IfOk, IsPermutation, OnOk, map, unwrap_or};
 ghost use Rattle.catalogue.specs.Sheet.{empty_sheet, node_name};
 ghost use Rattle.catalogue.specs.WellFormed.{AreFewTexts, AreRostered};
@@ -15,7 +15,7 @@ use catalogue::{Items, Message, Node, Sheet, Text, ValueTable};
 use dbc_statements::{MessageLine, NodeName, TableLine};
 use std::alloc::{AllocError, Global};
 
-/// The text, or one without bytes.
+/// The text, or an empty one.
 fn text_or_empty(alloc: Global, found: Option<Text>) -> Text
     ensures { result ≡ unwrap_or found [] }
 {
@@ -25,7 +25,7 @@ fn text_or_empty(alloc: Global, found: Option<Text>) -> Text
     }
 }
 
-/// The sheet with the version and the comment alone.
+/// The sheet that has only the version and the comment.
 pub(crate) fn bare_sheet(alloc: Global, version: Option<Text>, comment: Option<Text>) -> Sheet
     ensures { result ≡ record empty_sheet { version = unwrap_or version []; comment = unwrap_or comment [] } }
 {
@@ -78,7 +78,7 @@ pub(crate) fn add_tables(
     Ok(())
 }
 
-/// The messages by ascending number, the order in which a sheet takes them fastest.
+/// The messages in ascending order of their numbers, in which they are added to a sheet fastest.
 fn by_number(messages: Items<Message>) -> Result<Vec<Message>, AllocError>
     ensures { IfOk result (λ sorted. IsPermutation messages sorted.items) }
 {

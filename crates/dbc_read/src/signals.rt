@@ -1,4 +1,4 @@
-//! The signals of a message, with what other statements say of them.
+//! The signals of a message, with what other statements attach to them.
 ghost use Rattle.std.specs.Prelude.{◌≡◌, ◌++◌, IfErr, IfOk, OnOk};
 ghost use Rattle.catalogue.specs.WellFormed.{AreFewTexts};
 ghost use Rattle.dbc_read.specs.Built.{feeds_after, next_signal, rest_of, signals_from};
@@ -12,7 +12,7 @@ use catalogue::{Message, Signal, Spn, Text, ValueType};
 use dbc_statements::{Entries, SignalLine};
 use std::alloc::Global;
 
-/// The signal of a line, which takes the next of what is attached.
+/// The signal of a line. It takes the next of what is attached to signals.
 fn signal_of(alloc: Global, line: SignalLine, feeds: &mut Feeds) -> Result<Signal, Refusal>
     ensures ok { IfOk result (λ signal. signal ≡ next_signal (signal_of line) feeds.old) }
     ensures rest { OnOk result (feeds.new ≡ rest_of feeds.old) }

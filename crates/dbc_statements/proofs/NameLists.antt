@@ -1,4 +1,4 @@
--- Lists of names, as a loop reads them: those that stand for no node are left out at once.
+-- Lists of names, as a loop reads them: those that mean no node are left out immediately.
 use Rattle.std.proofs.Common.{◌≡◌, ℕ, true, List, [], ◌∷◌, ◌++◌, Option, Some, None, refl, sym, ap, ◌∙◌, append_assoc}
 use Rattle.std.proofs.lemmas.List.Elements.{filter_map-append}
 use Rattle.catalogue.specs.Fields.{goes_on}

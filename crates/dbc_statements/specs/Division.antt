@@ -14,10 +14,10 @@ pub record IsDivided (bytes : List ℕ) (statements : List Statement) : Type 0 w
   pub has_tokens : HasTokens 0 bytes tokens
   pub divides : Divides tokens statements
 
--- the text is no run of statements
+-- the text isn't a sequence of statements
 abbrev pub HasNoDivision : List ℕ → Type 0
 HasNoDivision bytes = (statements : List Statement) → ¬ (IsDivided bytes statements)
 
--- where no token begins at some offset of the text, the answer is the first fault of this kind
+-- if at some offset of the text no token begins, the result is the first fault of this kind
 abbrev pub TokensComeFirst : {X : Type 0} → List ℕ → Result X ReadFault → Type 0
 TokensComeFirst bytes answer = (cause : LexFault) → (lexed 0 bytes).fault ≡ Some cause → answer ≡ Err (fault_of cause)

@@ -1,16 +1,16 @@
--- Names of lists, those that stand for no node left out.
+-- Names of lists, without those that mean no node.
 use Rattle.std.specs.Prelude.{ℕ, ◌++◌, List, Option, Some, option_and_then, option_map, filter_map}
 use Rattle.catalogue.specs.Parsing.{Parsed}
 use Rattle.dbc_statements.specs.declared.statement.NodeName.{NodeName}
 
--- the name, where it stands for a node
+-- the name, if it is that of a node
 abbrev pub name_of : Option NodeName → Option (List ℕ)
 name_of o = option_map (λ (n : NodeName). n.name) o
 
--- those that stand for nodes
+-- those of nodes
 abbrev pub names_in : List (Option (List ℕ)) → List (List ℕ)
 names_in names = filter_map (λ name. name) names
 
--- the names that a loop has so far, and those that it still reads
+-- the names that a loop has collected so far, and those that it still reads
 abbrev pub with_names : List (List ℕ) → Parsed (List (Option (List ℕ))) → Parsed (List (List ℕ))
 with_names front o = option_and_then (λ b. Some (front ++ names_in b.0, b.1)) o

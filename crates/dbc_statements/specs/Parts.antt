@@ -1,4 +1,4 @@
--- The parts of a sheet, made of the statements' lines and of what other statements say.
+-- The parts of a sheet, made of the statements' lines and of what other statements attach to them.
 use Rattle.std.specs.Prelude.{ℕ, List}
 use Rattle.catalogue.specs.Statement as says
 use Rattle.catalogue.specs.declared.message.Message.{Message}

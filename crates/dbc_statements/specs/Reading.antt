@@ -1,15 +1,16 @@
--- What a function that reads from the front of the tokens answers, and what it leaves.
+-- What a function that reads from the front of the tokens returns, and what it leaves.
 use Rattle.std.specs.Prelude.{◌≡◌, List, Some, None, Result, Ok, Err}
 use Rattle.catalogue.specs.Parsing.{Parsed}
 use Rattle.catalogue.specs.Token.{Token}
 use Rattle.dbc_lex.specs.Fault.{UnlessMemory}
 use Rattle.dbc_lex.specs.declared.fault.ReadFault.{ReadFault}
 
--- The answer is what the tokens begin with, and the rest is left; or they don't begin so, unless memory was refused.
+-- The result is what the tokens begin with, and the rest is left; or they don't begin with such a thing; or memory ran
+-- out.
 abbrev pub Reads : {X Y : Type 0} → (X → Y) → Result X ReadFault → Parsed Y → List Token → Type 0
 Reads view (Ok x) parsed rest = parsed ≡ Some (view x, rest)
 Reads view (Err fault) parsed rest = UnlessMemory fault.code (parsed ≡ None)
 
--- the answer says as much itself
+-- the view of a result that is the value itself
 abbrev pub itself : {X : Type 0} → X → X
 itself x = x

@@ -1,4 +1,4 @@
--- The statements of the grammar for which those of the code stand: without the offsets of names and entries.
+-- The statements of the code as statements of the grammar: without the offsets of names and entries.
 use Rattle.std.specs.Prelude.{ℕ, List, map}
 use Rattle.catalogue.specs.Statement as says
 use Rattle.dbc_statements.specs.declared.statement.Content.{Content}

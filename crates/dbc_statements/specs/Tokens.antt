@@ -13,11 +13,11 @@ abbrev pub tokens_from : Option TextToken → Lexed → List Token
 tokens_from None lexer = lexer.tokens
 tokens_from (Some t) lexer = token_of t ∷ lexer.tokens
 
--- each is spelled as its kind is
+-- each is spelled as its kind requires
 abbrev pub AreSpelled : List Token → Type 0
 AreSpelled tokens = AllByRecursion (λ (t : Token). Spells t.kind t.text) tokens
 
--- the next one is in sight where there is one
+-- the next token has been read, if there is one
 abbrev pub IsInSight : Option TextToken → Lexed → Type 0
 IsInSight None lexer = lexer.tokens ≡ []
 IsInSight (Some t) lexer = ⊤
@@ -26,7 +26,7 @@ pub record AreTokens (next : Option TextToken) (lexer : Lexed) : Type 0 where
   pub in_sight : IsInSight next lexer
   pub spelled : AreSpelled (tokens_from next lexer)
 
--- where there is one, it is spelled as its kind is
+-- if there is one, it is spelled as its kind requires
 abbrev pub IsSpelled : Option TextToken → Type 0
 IsSpelled None = ⊤
 IsSpelled (Some t) = Spells t.kind t.text.now
@@ -44,6 +44,6 @@ IsSecond tokens second = IsFirst (drop 1 tokens) second
 abbrev pub EndsWith : Lexed → ReadFault → Type 0
 EndsWith read fault = (cause : LexFault) × (read.fault ≡ Some cause) × (fault ≡ fault_of cause)
 
--- the offset where one of the tokens ends, or that of the first byte
+-- an offset where one of the tokens ends, or that of the first byte
 abbrev pub IsReached : List Token → ℕ → Type 0
 IsReached tokens offset = (offset ≡ 0) ⊎ ((front : List Token) × (t : Token) × (rest : List Token) × (tokens ≡ front ++ t ∷ rest) × (t.end ≡ offset))

@@ -14,8 +14,8 @@ use dbc_lex::ReadFault;
 use std::alloc::{AllocError, Global};
 use std::marker::Model;
 
-/// Values and their texts, in order, any number of them. Contracts see the list.
-#[derive(Debug, Drop)]
+/// Values and their texts, in order, any number of them. Contracts see them as their list.
+#[derive(Drop)]
 pub struct Entries {
     entries: Vec<ValueText>,
     above: Option<usize>,
@@ -33,7 +33,7 @@ impl Model for Entries {
     ghost invariant = { λ e. is_some e.above ≡ nat_lt value_text_limit (length e.entries.items) };
 }
 
-/// The room for entries that is reserved at once: most lists have two.
+/// For how many entries room is reserved at first: most lists have two.
 const USUAL_ENTRIES: usize = 2;
 
 impl Entries {
@@ -76,14 +76,14 @@ impl Entries {
         &self.entries
     }
 
-    /// The offset of the first entry above the limit of 65,536, where there are more.
+    /// The offset of the first entry above the limit of 65,536, or `None` if there aren't more.
     pub fn above(&self) -> Option<usize>
         ensures { is_some result ≡ nat_lt value_text_limit (length self.now) }
     {
         self.above
     }
 
-    /// The texts of a signal or a value table, or `None` where they are more than 65,536. Takes no memory.
+    /// The texts of a signal or a value table, or `None` if there are more than 65,536. Takes no memory.
     pub fn into_texts(self) -> Option<ValueTexts>
         ensures { SomeIff result (length self ≤ value_text_limit) self }
     {

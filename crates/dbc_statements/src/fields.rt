@@ -1,5 +1,5 @@
-//! The fields of statements, read from the front of the tokens. Each function takes away what it answers; a fault leaves
-//! the token that it is about.
+//! The fields of statements, read from the front of the tokens. Each function removes the tokens of what it returns; a
+//! fault leaves the token that it is about.
 ghost use Rattle.std.specs.Prelude.{◌≡◌, [], ◌∷◌, Some};
 ghost use Rattle.catalogue.specs.Fields as fields;
 ghost use Rattle.catalogue.specs.Grammar as grammar;
@@ -29,12 +29,12 @@ fn fault(token: &Token, code: ReadCode) -> ReadFault {
     }
 }
 
-/// The fault of a token that can't come here.
+/// The fault of a token that isn't allowed here.
 fn unexpected(token: &Token) -> ReadFault {
     fault(token, ReadCode::Unexpected)
 }
 
-/// The fault of a token that a number should be in place of: this code where it is a number itself.
+/// The fault of a token where a certain number should be: this code if it is another number, and else 32.
 fn number_fault(token: &Token, code: ReadCode) -> ReadFault {
     if is_number(token) {
         fault(token, code)
@@ -51,7 +51,7 @@ pub(crate) fn mark(tokens: &mut Tokens, mark: u8) -> Result<(), ReadFault>
     tokens.accept(is_mark(&token, mark).then_some(()), unexpected(&token))
 }
 
-/// A mark of this spelling, where one comes next.
+/// A mark of this spelling, if one comes next.
 #[tactic(auto, unfolding(catalogue::specs::Parsing::optional_at))]
 pub(crate) fn optional_mark(tokens: &mut Tokens, mark: u8) -> Option<()>
     ensures { optional_at (starts (fields.is_mark (mark ∷ []))) (mark_at (mark ∷ [])) tokens.old ≡ Some (result, tokens.new) }
@@ -109,7 +109,7 @@ pub(crate) fn cited_name(alloc: Global, tokens: &mut Tokens) -> Result<Items<u8>
     Ok(Items::from_vec(Vec::from_slice(alloc, name)?))
 }
 
-/// The name of something that the statement makes. Code 37 at a name that is none of those.
+/// The name of something that the statement defines. Code 37 at a name that isn't allowed for it.
 pub(crate) fn made_name(alloc: Global, tokens: &mut Tokens) -> Result<Name, ReadFault>
     ensures { Reads itself result (token_at fields.made_name tokens.old) tokens.new }
 {
@@ -121,7 +121,7 @@ pub(crate) fn made_name(alloc: Global, tokens: &mut Tokens) -> Result<Name, Read
     tokens.accept(name, fault(&token, ReadCode::Name))
 }
 
-/// A whole number that only cites a message: none where it is above 4294967295.
+/// A whole number that only cites a message; `None` if it is above 4294967295.
 pub(crate) fn cited_number(tokens: &mut Tokens) -> Result<Option<u32>, ReadFault>
     ensures { Reads itself result (token_at fields.cited_number tokens.old) tokens.new }
 {
@@ -139,7 +139,7 @@ pub(crate) fn begins_number(tokens: &Tokens) -> bool
     }
 }
 
-/// The identifier of a message. Code 36 at a number that is none of an identifier.
+/// The identifier of a message. Code 36 at a number that isn't that of an identifier.
 pub(crate) fn message_ident(tokens: &mut Tokens) -> Result<Ident, ReadFault>
     ensures { Reads itself result (token_at fields.message_ident tokens.old) tokens.new }
 {
@@ -212,7 +212,7 @@ fn minus(tokens: &mut Tokens) -> Result<bool, ReadFault>
     tokens.accept(sign_of(&token), unexpected(&token))
 }
 
-/// Where a signal lies, and whether its values have a sign.
+/// Where a signal is in the payload, and whether its values have a sign.
 #[tactic(auto, unfolding(catalogue::specs::Parsing::layout_at))]
 pub(crate) fn layout(tokens: &mut Tokens) -> Result<(Layout, bool), ReadFault>
     ensures { Reads itself result (layout_at tokens.old) tokens.new }
@@ -226,7 +226,7 @@ pub(crate) fn layout(tokens: &mut Tokens) -> Result<(Layout, bool), ReadFault>
     Ok((Layout { start, size, order }, signed))
 }
 
-/// A sign, where one comes next: whether it is a minus.
+/// A sign, if one comes next: whether it is a minus.
 #[tactic(auto, unfolding(catalogue::specs::Parsing::optional_at))]
 fn sign(tokens: &mut Tokens) -> Option<bool>
     ensures { optional_at (begins fields.sign_of) (token_at fields.sign_of) tokens.old ≡ Some (result, tokens.new) }
@@ -236,7 +236,7 @@ fn sign(tokens: &mut Tokens) -> Option<bool>
     Some(sign)
 }
 
-/// A decimal, with a sign or without. Code 35 at a number that is none.
+/// A decimal, with a sign or without. Code 35 at a number that is out of range.
 #[tactic(auto, unfolding(catalogue::specs::Parsing::decimal_at))]
 pub(crate) fn decimal(tokens: &mut Tokens) -> Result<Decimal, ReadFault>
     ensures { Reads itself result (decimal_at tokens.old) tokens.new }

@@ -97,7 +97,7 @@ fn is_colon(tokens: &Tokens) -> bool
     }
 }
 
-/// A number, and the numbers of registers where a colon comes next.
+/// A number, and the numbers of the registers if a colon comes next.
 #[tactic(auto, unfolding(catalogue::specs::Parsing::timing_at))]
 fn timing(tokens: &mut Tokens) -> Result<(), ReadFault>
     ensures { Reads itself result (timing_at tokens.old) tokens.new }

@@ -1,16 +1,16 @@
 //! The statements of a DBC text.
 //!
-//! [`statements_of`] divides a text into its [`Statement`]s: which statements there are is defined in `catalogue`'s
-//! `specs/Grammar.antt`, as rules, and each function here reads what one of them says (`Reads` of
-//! `specs/Reading.antt`). What a statement says is [`Content`]: it owns its parts, which are those of a sheet, and has
-//! the offsets that faults are about. Contracts see the statements of the grammar (`statements_of` of
-//! `specs/Statement.antt`).
+//! [`statements_of`] divides a text into its [`Statement`]s. Which statements there are is defined in `catalogue`'s
+//! `specs/Grammar.antt`, as rules, and each function here reads what one of them describes (`Reads` of
+//! `specs/Reading.antt`). A statement has a [`Content`], which owns its parts, those of a sheet, and has the offsets
+//! that faults need. Contracts see the statements of the grammar (`statements_of` of `specs/Statement.antt`).
 //!
-//! A text is read once, token by token (`tokens`). An offset where no token begins is at fault before any other, wherever
-//! it is, so what comes after the last statement that was begun is then read for such an offset (`fault_after`). Above the
-//! tokens are the fields (`words`, `fields`, `names`, `entries`), then the rest of a statement after each keyword (`line`,
-//! `heading`, `messages`, `signals`, `comments`, `attached`, `passing`), then the statements (`reading`). What the
-//! statements say together, and whether that is a sheet, is the next layer's matter.
+//! A text is read once, token by token (`tokens`). A byte with which no token begins is reported before any other
+//! fault, wherever it is, so after the last statement that was begun the rest of the text is searched for one
+//! (`fault_after`). The fields are read from the tokens (`words`, `fields`, `names`, `entries`), the rest of a
+//! statement after each keyword from the fields (`line`, `heading`, `messages`, `signals`, `comments`, `attached`,
+//! `passing`), and a statement is a keyword with its rest (`reading`). What the statements mean together, and whether
+//! that is a sheet, is left to the next layer.
 #![tactic(auto)]
 
 mod attached;

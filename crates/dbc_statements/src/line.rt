@@ -1,20 +1,20 @@
-//! What a statement says, and how it ends.
+//! The content of a statement, and how it ends.
 ghost use Rattle.std.specs.Prelude.{◌≡◌, Err, IsOkAnd, MatchResult};
 
 use crate::names::Ended;
 use crate::statement::Content;
 use dbc_lex::ReadFault;
 
-/// What a statement says, and how it ends.
+/// The content of a statement, and how it ends.
 #[derive(Drop)]
 pub(crate) struct Line {
-    /// What it says.
+    /// Its content.
     pub content: Content,
     /// How it ends.
     pub ended: Ended,
 }
 
-/// The line that says this and doesn't end with a list.
+/// The line with this content, which doesn't end with a list.
 pub(crate) fn line_of(read: Result<Content, ReadFault>) -> Result<Line, ReadFault>
     ensures { MatchResult read (λ content. IsOkAnd result (λ line. line.content ≡ content)) (λ fault. result ≡ Err fault) }
 {

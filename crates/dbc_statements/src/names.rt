@@ -16,7 +16,7 @@ use catalogue::{Items, Name};
 use dbc_lex::{ReadCode, ReadFault};
 use std::alloc::{AllocError, Global};
 
-/// How what was read ends, as far as a fault at the next token wants to know.
+/// How what was read ends, as far as it matters for a fault at the next token.
 #[derive(Clone, Copy)]
 pub(crate) enum Ended {
     /// With the last name of a list.
@@ -27,7 +27,7 @@ pub(crate) enum Ended {
     Other,
 }
 
-/// A list of nodes, without those that stand for none.
+/// A list of nodes, without the names that mean no node.
 #[derive(Drop)]
 pub(crate) struct NodeList {
     /// Their names.
@@ -60,7 +60,7 @@ fn goes_on(tokens: &Tokens) -> bool
     }
 }
 
-/// A node, or none for the name that stands for no node.
+/// A node; `None` for the name that means no node.
 fn node(alloc: Global, tokens: &mut Tokens) -> Result<Option<NodeName>, ReadFault>
     ensures { Reads name_of result (token_at fields.node_of tokens.old) tokens.new }
 {
@@ -84,7 +84,7 @@ fn node(alloc: Global, tokens: &mut Tokens) -> Result<Option<NodeName>, ReadFaul
     }
 }
 
-/// A further name of a list, with the comma before it where there is one.
+/// A further name of a list, with the comma before it if there is one.
 #[tactic(auto, unfolding(catalogue::specs::Parsing::further_at))]
 fn further(alloc: Global, tokens: &mut Tokens) -> Result<Option<NodeName>, ReadFault>
     ensures { Reads name_of result (further_at tokens.old) tokens.new }
@@ -93,7 +93,7 @@ fn further(alloc: Global, tokens: &mut Tokens) -> Result<Option<NodeName>, ReadF
     node(alloc, tokens)
 }
 
-/// Adds the node to the list, where there is one.
+/// Adds the node to the list, if there is one.
 fn add(nodes: &mut Vec<NodeName>, node: Option<NodeName>) -> Result<(), AllocError>
     ensures { OnOk result (names_of nodes.new.items ≡ names_of nodes.old.items ++ names_in (name_of node ∷ [])) }
 {
@@ -123,7 +123,7 @@ fn add_further(
     Ok(())
 }
 
-/// A list of one name at least.
+/// A list of at least one name.
 #[tactic(auto, unfolding(catalogue::specs::Parsing::some_names_at))]
 fn some_nodes(alloc: Global, tokens: &mut Tokens) -> Result<Vec<NodeName>, ReadFault>
     ensures { Reads (λ nodes. names_of nodes.items) result (some_names_at tokens.old) tokens.new }
@@ -135,7 +135,7 @@ fn some_nodes(alloc: Global, tokens: &mut Tokens) -> Result<Vec<NodeName>, ReadF
     Ok(nodes)
 }
 
-/// A list of nodes, without those that stand for none.
+/// A list of nodes, without the names that mean no node.
 #[tactic(auto, unfolding(catalogue::specs::Parsing::nodes_at, catalogue::specs::Parsing::no_names_at))]
 pub(crate) fn nodes(alloc: Global, tokens: &mut Tokens) -> Result<NodeList, ReadFault>
     ensures { Reads (λ list. names_of list.names.items) result (nodes_at tokens.old) tokens.new }
@@ -168,7 +168,7 @@ pub(crate) fn receivers(
     Ok((Items::from_vec(names), list.ended))
 }
 
-/// The node that sends a message, or none for the name that stands for no node.
+/// The node that sends a message; `None` for the name that means no node.
 pub(crate) fn transmitter(alloc: Global, tokens: &mut Tokens) -> Result<Option<Name>, ReadFault>
     ensures { Reads itself result (token_at fields.node_of tokens.old) tokens.new }
 {

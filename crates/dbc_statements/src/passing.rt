@@ -1,4 +1,4 @@
-//! Statements that are skipped, of which only the first keyword is reported.
+//! Statements that are skipped. Only their first keyword and its offset are reported.
 ghost use Rattle.std.specs.Prelude.{◌≡◌, true};
 ghost use Rattle.catalogue.specs.Grammar as grammar;
 ghost use Rattle.catalogue.specs.Parsing.{independent_at, passed_comment_at, passed_value_texts_at, skipped_at};
@@ -25,7 +25,7 @@ fn skip_open(tokens: &mut Tokens)
     }
 }
 
-/// All up to `;`, and that mark.
+/// All tokens up to `;`, and that mark.
 #[tactic(auto, unfolding(catalogue::specs::Parsing::skipped_at))]
 pub(crate) fn skip_to_end(tokens: &mut Tokens) -> Result<Content, ReadFault>
     ensures { Reads content_of result (skipped_at tokens.old) tokens.new }
@@ -35,7 +35,7 @@ pub(crate) fn skip_to_end(tokens: &mut Tokens) -> Result<Content, ReadFault>
     Ok(Content::PassedOver)
 }
 
-/// The rest of a statement after `CM_`, where an environment variable is meant.
+/// The rest of a statement after `CM_` that is about an environment variable.
 #[tactic(auto, unfolding(catalogue::specs::Parsing::passed_comment_at))]
 pub(crate) fn passed_comment(tokens: &mut Tokens) -> Result<Content, ReadFault>
     ensures { Reads content_of result (passed_comment_at tokens.old) tokens.new }
@@ -44,7 +44,7 @@ pub(crate) fn passed_comment(tokens: &mut Tokens) -> Result<Content, ReadFault>
     skip_to_end(tokens)
 }
 
-/// The rest of a statement after `VAL_`, where an environment variable is meant.
+/// The rest of a statement after `VAL_` that is about an environment variable.
 #[tactic(auto, unfolding(catalogue::specs::Parsing::passed_value_texts_at))]
 pub(crate) fn passed_value_texts(tokens: &mut Tokens) -> Result<Content, ReadFault>
     ensures { Reads content_of result (passed_value_texts_at tokens.old) tokens.new }
@@ -53,14 +53,14 @@ pub(crate) fn passed_value_texts(tokens: &mut Tokens) -> Result<Content, ReadFau
     skip_to_end(tokens)
 }
 
-/// Whether a statement other than this one begins with the token, at a keyword other than `SG_`.
+/// Whether the token ends this statement: it is a keyword other than `SG_`.
 fn begins_next(token: &Token) -> bool
     ensures { result ≡ grammar.begins_next (token_of token.now) }
 {
     key_of(token).is_some() && !is_key(token, Keyword::Signal)
 }
 
-/// Whether a token comes next with which no other statement begins.
+/// Whether a token comes next that doesn't end this statement.
 fn goes_on(tokens: &Tokens) -> bool
     ensures { result ≡ starts begins_no_next tokens.now }
 {
@@ -80,7 +80,7 @@ fn skip_to_next(tokens: &mut Tokens)
     }
 }
 
-/// The rest of a statement after `BO_`, where the number is that of the message which holds the signals of no message.
+/// The rest of a statement after `BO_` with the number of the message that holds the signals of no message.
 #[tactic(auto, unfolding(catalogue::specs::Parsing::independent_at))]
 pub(crate) fn independent(tokens: &mut Tokens) -> Result<Content, ReadFault>
     ensures { Reads content_of result (independent_at tokens.old) tokens.new }

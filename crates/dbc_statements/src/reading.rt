@@ -22,8 +22,8 @@ use catalogue::{Keyword, NAME_LIMIT};
 use dbc_lex::{ReadCode, ReadFault, Token};
 use std::alloc::Global;
 
-/// What is wrong with a word that is no keyword, where a statement or a further name of a list may begin: code 37 where
-/// a list may go on, since it is too long for a name, and else 33.
+/// What is wrong with a word that is no keyword, where a statement or a further name of a list may begin: code 37 if a
+/// list may go on, since the word is too long for a name, and else 33.
 fn word_code(word: &Token, before: Ended) -> ReadCode {
     match before {
         Ended::Names | Ended::NoNames if word.text.len() > NAME_LIMIT => ReadCode::Name,
@@ -49,7 +49,7 @@ fn fault_after_comma(tokens: &Tokens, before: Ended) -> ReadFault {
     }
 }
 
-/// The fault of a token with which no statement begins, where the one before it ended so.
+/// The fault of a token with which no statement begins, after a statement that ended as `before` says.
 fn fault_at_start(tokens: &Tokens, token: &Token, before: Ended) -> ReadFault {
     if is_word(token) {
         return ReadFault {
@@ -110,7 +110,7 @@ fn line(
     }
 }
 
-/// A statement, and how it ends, where the one before it ended so.
+/// A statement, and how it ends, after a statement that ended as `before` says.
 #[tactic(auto, unfolding(catalogue::specs::Parsing::statement_at))]
 fn statement(
     alloc: Global,
@@ -129,7 +129,7 @@ fn statement(
     Ok((statement, ended))
 }
 
-/// Reads all statements. Whatever it answers, `reached` is then an offset up to which the tokens were read at least.
+/// Reads all statements. Whatever it returns, the tokens were read at least up to the offset `reached`.
 fn all(alloc: Global, tokens: &mut Tokens, reached: &mut usize) -> Result<Vec<Statement>, ReadFault>
     ensures ok { IfOk result (λ statements. statements_at tokens.old ≡ Some (statements_of statements.items)) }
     ensures err { IfErr result (λ fault. UnlessMemory fault.code (statements_at tokens.old ≡ None)) }
@@ -150,9 +150,9 @@ fn all(alloc: Global, tokens: &mut Tokens, reached: &mut usize) -> Result<Vec<St
 /// The statements of a DBC text, in order. The grammar is that of Vector's DBC File Format Documentation, in this
 /// project's profile (docs/GRAMMAR.md).
 ///
-/// A fault comes only where the text is no run of statements, or where memory ran out: code 30 or 31 at the first
-/// offset where no token begins, wherever it is, and else one of 32 to 39 at the first token at which no statement can go
-/// on, or at the text's length where it ends too early.
+/// A fault comes only if the text isn't a sequence of statements, or memory ran out: code 30 or 31 at the first offset
+/// where no token begins, wherever it is, and else one of 32 to 39 at the first token that can't continue the
+/// statement, or at the text's length if it ends too early.
 pub fn statements_of(alloc: Global, source: &[u8]) -> Result<Vec<Statement>, ReadFault>
     ensures ok { IfOk result (λ statements. IsDivided source.now (statements_of statements.items)) }
     ensures err { IfErr result (λ fault. UnlessMemory fault.code (HasNoDivision source.now)) }

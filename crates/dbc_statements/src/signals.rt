@@ -17,7 +17,7 @@ use catalogue::Keyword;
 use dbc_lex::{ReadCode, ReadFault};
 use std::alloc::Global;
 
-/// A multiplexer indicator, where one comes next.
+/// A multiplexer indicator, if one comes next.
 #[tactic(auto, unfolding(catalogue::specs::Parsing::optional_at))]
 fn mux(tokens: &mut Tokens) -> Option<Mux>
     ensures { optional_at (begins fields.mux_of) (token_at fields.mux_of) tokens.old ≡ Some (result, tokens.new) }
@@ -27,7 +27,7 @@ fn mux(tokens: &mut Tokens) -> Option<Mux>
     Some(mux)
 }
 
-/// What is wrong with a word where a multiplexer indicator may come: code 34 for one in several steps, `m`, digits and
+/// What is wrong with a word where a multiplexer indicator may come: code 34 for extended multiplexing, `m`, digits and
 /// `M`; 35 for a number above 4294967295; and else 32.
 fn mux_code(word: &[u8]) -> ReadCode {
     match word {
@@ -37,8 +37,8 @@ fn mux_code(word: &[u8]) -> ReadCode {
     }
 }
 
-/// The colon after the name and the multiplexer indicator, where there was one (`is_marked`). Where there was none, a
-/// word in its place has the fault of an indicator.
+/// The colon after the name, or after the multiplexer indicator if there was one (`is_marked`). If there was none, a
+/// word before the colon has the fault of a wrong indicator.
 fn colon(tokens: &mut Tokens, is_marked: bool) -> Result<(), ReadFault>
     ensures { Reads itself result (mark_at (codes ":") tokens.old) tokens.new }
 {
@@ -94,7 +94,7 @@ fn is_signal(tokens: &Tokens) -> bool
     }
 }
 
-/// Signals, up to something else, and how the last one ends.
+/// Signals, up to anything else, and how the last one ends.
 pub(crate) fn signals(
     alloc: Global,
     tokens: &mut Tokens,

@@ -1,4 +1,4 @@
-//! What the statements of a DBC text say, with the offsets of what a fault may be about.
+//! The contents of the statements of a DBC text, with the offsets of what a fault may be about.
 ghost use Rattle.std.specs.Prelude.{◌≡◌, ◌≤◌, [], length, SomeIff};
 ghost use Rattle.catalogue.specs.Limits.{value_text_limit};
 ghost use Rattle.dbc_statements.specs.Parts.{message_with, signal_with, table_of};
@@ -15,7 +15,7 @@ use decimal::Decimal;
 use std::alloc::Global;
 
 /// A node of a list, and where its name is.
-#[derive(Debug, Drop)]
+#[derive(Drop)]
 pub struct NodeName {
     /// The offset of its name.
     pub at: usize,
@@ -23,8 +23,7 @@ pub struct NodeName {
     pub name: Name,
 }
 
-/// A value table as its statement has it.
-#[derive(Debug)]
+/// A value table as its statement describes it.
 pub struct TableLine {
     /// The offset of its name.
     pub at: usize,
@@ -35,7 +34,7 @@ pub struct TableLine {
 }
 
 impl TableLine {
-    /// The value table, or `None` where it has more than 65,536 entries. Takes no memory.
+    /// The value table, or `None` if it has more than 65,536 entries. Takes no memory.
     pub fn into_table(self) -> Option<ValueTable>
         ensures { SomeIff result (length self.entries ≤ value_text_limit) (table_of self) }
     {
@@ -49,12 +48,11 @@ impl TableLine {
     }
 }
 
-/// A signal as the statement of its message has it.
-#[derive(Debug)]
+/// A signal as the statement of its message describes it.
 pub struct SignalLine {
     /// The offset of its name.
     pub at: usize,
-    /// The offset of its multiplexer indicator, or of what comes in its place.
+    /// The offset of its multiplexer indicator, or of the colon if it has none.
     pub mux_at: usize,
     /// Its name.
     pub name: Name,
@@ -66,7 +64,7 @@ pub struct SignalLine {
     pub mux: Mux,
     /// What a raw value is multiplied by.
     pub factor: Decimal,
-    /// What is then added.
+    /// What is added to the product.
     pub offset: Decimal,
     /// The least value.
     pub minimum: Decimal,
@@ -74,12 +72,12 @@ pub struct SignalLine {
     pub maximum: Decimal,
     /// Its unit.
     pub unit: Text,
-    /// The nodes that receive it, without those that stand for none.
+    /// The nodes that receive it, without the names that mean no node.
     pub receivers: Items<Name>,
 }
 
 impl SignalLine {
-    /// The signal, with what other statements say of it. Takes no memory.
+    /// The signal, with what other statements attach to it. Takes no memory.
     pub fn into_signal(
         self,
         comment: Text,
@@ -122,8 +120,7 @@ impl SignalLine {
     }
 }
 
-/// A message as its statement has it.
-#[derive(Debug)]
+/// A message as its statement describes it.
 pub struct MessageLine {
     /// The offset of its number.
     pub at: usize,
@@ -135,7 +132,7 @@ pub struct MessageLine {
     pub name: Name,
     /// Its length in bytes, 0 to 64.
     pub length: PayloadLength,
-    /// The node that sends it, where one does.
+    /// The node that sends it, if one is named.
     pub transmitter: Option<Name>,
     /// Its signals, in order, any number of them.
     pub signals: Vec<SignalLine>,
@@ -169,20 +166,20 @@ impl MessageLine {
 }
 
 /// The signal that a statement cites.
-#[derive(Debug, Drop)]
+#[derive(Drop)]
 pub struct CitedSignal {
-    /// The number of its message; none where it is above 4294967295, which no message has.
+    /// The DBC number of its message; `None` above 4294967295, since no message has such a number.
     pub number: Option<u32>,
-    /// Its name, which may be any name, a keyword too.
+    /// Its name, which may be any name, also a keyword.
     pub name: Items<u8>,
 }
 
-/// What one statement says.
-#[derive(Debug, Drop)]
+/// The content of one statement.
+#[derive(Drop)]
 pub enum Content {
     /// `VERSION`: the version.
     Version(Text),
-    /// `BU_`: the nodes, without those that stand for none.
+    /// `BU_`: the nodes, without the names that mean no node.
     Nodes(Vec<NodeName>),
     /// `VAL_TABLE_`.
     Table(TableLine),
@@ -192,7 +189,7 @@ pub enum Content {
     Comment(Text),
     /// `CM_ BU_`: the node's name, which may be any name, and its comment.
     NodeComment(Items<u8>, Text),
-    /// `CM_ BO_`: the message's number, as [`CitedSignal`] has it, and its comment.
+    /// `CM_ BO_`: the message's DBC number, as in [`CitedSignal`], and its comment.
     MessageComment(Option<u32>, Text),
     /// `CM_ SG_`: the signal and its comment.
     SignalComment(CitedSignal, Text),
@@ -202,25 +199,24 @@ pub enum Content {
     ValueType(CitedSignal, ValueType),
     /// `BA_ "SPN" SG_`: the signal and its suspect parameter number.
     Spn(CitedSignal, Spn),
-    /// `NS_` and `BS_`, of which nothing is kept and nothing reported.
+    /// `NS_` and `BS_`: nothing of them is kept, and they aren't reported.
     Dropped,
     /// Skipped and reported.
     PassedOver,
 }
 
 /// One statement.
-#[derive(Debug)]
 pub struct Statement {
     /// The offset of its first keyword.
     pub start: usize,
     /// That keyword.
     pub keyword: Keyword,
-    /// What it says.
+    /// Its content.
     pub content: Content,
 }
 
 impl Statement {
-    /// The offset of its first keyword, that keyword, and what it says.
+    /// The offset of its first keyword, that keyword, and its content.
     pub fn into_parts(self) -> (usize, Keyword, Content)
         ensures { result ≡ (self.start, self.keyword, self.content) }
     {

@@ -1,5 +1,5 @@
-//! The tokens of a text up to its end, or up to the first offset where none begins, one after the other and with the next
-//! one in sight.
+//! The tokens of a text up to its end, or up to the first offset where none begins, one by one, with a look at the next
+//! one.
 ghost use Rattle.std.specs.Prelude.{◌≡◌, [], ◌∷◌, IfErr, IfOk, None, OnErr, OnOk, Some, drop};
 ghost use Rattle.catalogue.specs.Lexing.{lexed};
 ghost use Rattle.catalogue.specs.Spelling.{Spells};
@@ -9,7 +9,7 @@ ghost use Rattle.dbc_statements.specs.Tokens.{EndsWith, IsFirst, IsReached, IsSe
 use dbc_lex::{Lexer, ReadCode, ReadFault, Token};
 use std::marker::Model;
 
-/// The tokens that are left. Contracts see their list.
+/// The tokens that are left. Contracts see them as their list.
 #[derive(Drop)]
 pub(crate) struct Tokens<'a> {
     next: Option<Token<'a>>,
@@ -29,8 +29,8 @@ impl<'a> Model for Tokens<'a> {
     ghost invariant = { λ t. AreTokens t.next t.lexer };
 }
 
-/// The fault of the text where it has one, at the first offset where no token begins. The given offset is one that its
-/// tokens reach, so what comes before it is not read again.
+/// The fault of tokens that the text has, if any: at the first offset where no token begins. A token ends at the given
+/// offset, or it is 0, so what comes before it needn't be read again.
 pub(crate) fn fault_after(source: &[u8], offset: usize) -> Result<(), ReadFault>
     requires { IsReached (lexed 0 source.now).tokens offset }
     ensures ok { IfOk result (λ u. (lexed 0 source.now).fault ≡ None) }
@@ -71,7 +71,7 @@ impl<'a> Tokens<'a> {
         self.next
     }
 
-    /// The first of them, or the fault of an end too early.
+    /// The first of them, or the fault of a text that ends too early.
     pub(crate) fn front(&self) -> Result<Token<'a>, ReadFault>
         ensures first { IfOk result (λ t. self.now ≡ token_of t ∷ drop 1 self.now) }
         ensures spelled { IfOk result (λ t. Spells t.kind t.text.now) }
@@ -93,7 +93,7 @@ impl<'a> Tokens<'a> {
         }
     }
 
-    /// Takes the first of them away.
+    /// Removes the first of them.
     #[inline(never)]
     pub(crate) fn skip(&mut self)
         ensures { self.new ≡ drop 1 self.old }
@@ -104,7 +104,7 @@ impl<'a> Tokens<'a> {
         };
     }
 
-    /// The value of the first of them, which is then taken away; or this fault where it has none.
+    /// The value of the first of them, which is then removed; or this fault if there is no value.
     pub(crate) fn accept<T>(&mut self, value: Option<T>, fault: ReadFault) -> Result<T, ReadFault>
         ensures ok { IfOk result (λ v. value ≡ Some v) }
         ensures rest { OnOk result (self.new ≡ drop 1 self.old) }
@@ -127,7 +127,7 @@ impl<'a> Tokens<'a> {
         }
     }
 
-    /// The fault of a token that can't come here, or of an end too early.
+    /// The fault of a token that isn't allowed here, or of a text that ends too early.
     pub(crate) fn unexpected(&self) -> ReadFault {
         ReadFault {
             code: ReadCode::Unexpected,

@@ -1,4 +1,4 @@
-//! What single tokens say.
+//! What single tokens mean.
 ghost use Rattle.std.specs.Prelude.{◌≡◌, [], ◌∷◌, ◌&&◌, IfOk, is_some, nat_lt};
 ghost use Rattle.std.specs.Char.{digit_value};
 ghost use Rattle.std.specs.List.{list_all};
@@ -25,7 +25,7 @@ pub(crate) fn is_text(token: &Token) -> bool
     matches!(token.kind, TokenKind::Text)
 }
 
-/// Whether the token is a name of any kind, a keyword too.
+/// Whether the token is a name of any kind, also a keyword.
 pub(crate) fn is_word(token: &Token) -> bool
     ensures { result ≡ fields.is_a Name (token_of token.now) }
 {
@@ -74,14 +74,14 @@ pub(crate) fn inside<'a>(text: &'a [u8]) -> &'a [u8]
     }
 }
 
-/// Whether the token is the name that stands for no node.
+/// Whether the token is the name that means no node.
 pub(crate) fn is_no_node(token: &Token) -> bool
     ensures { result ≡ (fields.is_a Name (token_of token.now) && bytes_eq (token_of token.now).text no_node) }
 {
     is_word(token) && token.text == NO_NODE
 }
 
-/// Whether the token is a name of a list: of a node, or the one that stands for none.
+/// Whether the token is a name of a list: that of a node, or the one that means no node.
 pub(crate) fn is_node(token: &Token) -> bool
     ensures { result ≡ is_some (fields.node_of (token_of token.now)) }
 {
@@ -99,7 +99,7 @@ pub(crate) fn whole(token: &Token) -> Option<u32>
     }
 }
 
-/// A whole number that only cites a message: none where it is above 4294967295.
+/// A whole number that only cites a message; `Some(None)` if it is above 4294967295.
 pub(crate) fn cited_number_of(token: &Token) -> Option<Option<u32>>
     ensures { result ≡ fields.cited_number (token_of token.now) }
 {
@@ -176,14 +176,14 @@ pub(crate) fn sign_of(token: &Token) -> Option<bool>
     }
 }
 
-/// The byte order of a number.
+/// The byte order that a number token names.
 pub(crate) fn order_of(token: &Token) -> Option<Order>
     ensures { result ≡ fields.order_of (token_of token.now) }
 {
     Order::from_number(whole(token)?)
 }
 
-/// The decimal of a number, negated or not.
+/// The decimal of a number token, negated or not.
 pub(crate) fn number_of(negative: bool, token: &Token) -> Option<Decimal>
     ensures { result ≡ fields.number_of negative (token_of token.now) }
 {
@@ -227,7 +227,7 @@ fn are_digits(bytes: &[u8]) -> bool
         .all(|byte| char::from(*byte).to_digit(10).is_some())
 }
 
-/// Whether the bytes are digits, one at least.
+/// Whether the bytes are one or more digits.
 pub(crate) fn is_numeral(bytes: &[u8]) -> bool
     ensures { result ≡ is_numeral bytes.now }
 {

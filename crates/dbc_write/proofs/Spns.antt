@@ -1,4 +1,4 @@
--- The definitions of the suspect parameter number stand where a signal has one.
+-- The definitions of the attribute SPN are written if some signal has a number.
 use Rattle.std.proofs.Common.{◌≡◌, ◌==◌, ◌||◌, ◌++◌, Bool, true, false, not, if◌then◌else◌, List, [], ◌∷◌, refl, ◌∙◌}
 use Rattle.std.specs.List.{flat_map, list_any}
 use Rattle.catalogue.specs.Canon.{Line, defined, each_signal, spn_definitions, spn_lines}

@@ -1,4 +1,4 @@
--- What a writer adds to the text that is there already.
+-- What a writer appends to the text before it.
 use Rattle.std.specs.Prelude.{◌≡◌, ℕ, List, ◌++◌}
 use Rattle.std.specs.List.{flat_map}
 use Rattle.catalogue.specs.Canon.{Piece}
@@ -7,6 +7,6 @@ use Rattle.catalogue.specs.Canon.{Piece}
 abbrev pub piece_text : Piece → List ℕ
 piece_text p = p.gap ++ p.text
 
--- The new text is the old one and after it the texts of these things, which are pieces of a line or whole lines.
+-- The new text is the old one, followed by the texts of these things, which are pieces of a line or whole lines.
 pub record Adds {X : Type 0} (text_of : X → List ℕ) (old new : List ℕ) (things : List X) : Type 0 where
   pub text : new ≡ old ++ flat_map text_of things

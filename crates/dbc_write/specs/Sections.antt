@@ -1,4 +1,4 @@
--- What the lines after the messages say of their signals, and whether any of it is there.
+-- What the sections after the comments give for each signal, and whether any signal has a number.
 use Rattle.std.specs.Prelude.{Bool, ◌==◌, not, List}
 use Rattle.std.specs.List.{list_any}
 use Rattle.catalogue.specs.Canon.{Line, spn_lines, type_lines, value_lines}

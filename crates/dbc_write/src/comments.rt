@@ -90,7 +90,7 @@ fn with_signals(text: &mut Vec<u8>, message: &Message) -> Result<(), AllocError>
     Ok(())
 }
 
-/// The comments of the messages, each with those of its signals after it.
+/// The comments of the messages, each followed by those of its signals.
 pub(crate) fn of_messages(text: &mut Vec<u8>, messages: &[Message]) -> Result<(), AllocError>
     ensures { OnOk result (Adds line_text text.old.items text.new.items (flat_map message_comments messages.now)) }
 {

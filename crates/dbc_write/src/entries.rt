@@ -1,4 +1,4 @@
-//! Values with the texts that stand for them, and tables of them.
+//! Values with their texts, and value tables.
 ghost use Rattle.std.specs.Prelude.{◌∷◌, [], OnOk, map};
 ghost use Rattle.catalogue.specs.Canon.{entries, entry, line_text, table_line};
 ghost use Rattle.dbc_write.specs.Adding.{Adds, piece_text};

@@ -42,7 +42,7 @@ fn with_signals(text: &mut Vec<u8>, message: &Message) -> Result<(), AllocError>
     Ok(())
 }
 
-/// The lines of the messages, each with those of its signals after it.
+/// The lines of the messages, each followed by those of its signals.
 pub(crate) fn messages(text: &mut Vec<u8>, messages: &[Message]) -> Result<(), AllocError>
     ensures { OnOk result (Adds line_text text.old.items text.new.items (flat_map message_lines messages.now)) }
 {

@@ -1,4 +1,4 @@
-//! How a line names the signal that it speaks of.
+//! How a line names the signal that it is about.
 ghost use Rattle.std.specs.Prelude.{OnOk};
 ghost use Rattle.catalogue.specs.Canon.{place_pieces, signal_pieces};
 ghost use Rattle.dbc_write.specs.Adding.{Adds, piece_text};
@@ -20,7 +20,7 @@ pub(crate) fn place(
     Ok(())
 }
 
-/// The same after the word that says that it is a signal.
+/// The same after `SG_`.
 pub(crate) fn of_signal(
     text: &mut Vec<u8>,
     message: &Message,

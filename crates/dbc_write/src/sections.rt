@@ -1,5 +1,5 @@
-//! What comes after the comments: suspect parameter numbers, texts of values, and value types, each for signal after
-//! signal.
+//! The sections after the comments: suspect parameter numbers, value texts, and value types, each with the lines of one
+//! signal after the other.
 ghost use Rattle.std.specs.Prelude.{◌≡◌, ◌∷◌, [], OnOk};
 ghost use Rattle.std.specs.List.{flat_map};
 ghost use Rattle.catalogue.specs.Canon.{defined, each_signal, line_text, spn_default, spn_definition, spn_lines, type_lines, value_lines};
@@ -12,7 +12,7 @@ use crate::tokens::{quoted, spaced_mark, spaced_number, spaced_word, tight_mark,
 use catalogue::{Message, SPN_LIMIT, Sheet, Signal};
 use std::alloc::AllocError;
 
-/// What a line of a section says of its signal.
+/// What the lines of a section give for a signal.
 #[derive(Clone, Copy)]
 pub(crate) enum Section {
     /// The suspect parameter number.
@@ -147,7 +147,7 @@ fn default_value(text: &mut Vec<u8>) -> Result<(), AllocError>
     Ok(())
 }
 
-/// The suspect parameter numbers, after their definition where there is any.
+/// The suspect parameter numbers; before them, if there are any, the definition of the attribute.
 pub(crate) fn spns(text: &mut Vec<u8>, sheet: &Sheet) -> Result<(), AllocError>
     ensures { OnOk result (Adds line_text text.old.items text.new.items (defined (each_signal spn_lines sheet.now))) }
 {

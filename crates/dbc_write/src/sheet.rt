@@ -25,9 +25,9 @@ fn lines(text: &mut Vec<u8>, sheet: &Sheet) -> Result<(), AllocError>
     Ok(())
 }
 
-/// The text of the sheet as a DBC file, in the one order and spelling that this project writes: what the sheet says and
-/// nothing else, line after line, each ended by LF. A sheet that says nothing has the four lines `VERSION ""`, `NS_ :`,
-/// `BS_:` and `BU_:`. The text reads as this sheet, and as no other. The only error is out of memory.
+/// The text of the sheet as a DBC file, in the one order and spelling that this project writes: the whole sheet and
+/// nothing else, as lines that end with LF. An empty sheet has the four lines `VERSION ""`, `NS_ :`, `BS_:` and
+/// `BU_:`. The text reads as this sheet, and as no other. The only error is out of memory.
 pub fn text_of(alloc: Global, sheet: &Sheet) -> Result<Vec<u8>, AllocError>
     ensures text { IfOk result (λ text. text.items ≡ canonical_text sheet.now) }
     ensures reads { IfOk result (λ text. ReadsOnlyAs text.items sheet.now) }

@@ -1,4 +1,4 @@
--- Numbers as a whole mantissa times a power of ten, and when two of them are one value.
+-- Numbers as a whole mantissa times a power of ten, and when two of them have the same value.
 use Rattle.std.specs.Prelude.{◌≡◌, ◌^◌, ◌<◌, ◌%◌, ℤ, pos, negsuc, ◌*ℤ◌, ◌-ℤ◌, ◌≤ℤ◌, unsigned_abs}
 use Rattle.std.specs.Int.{int_min}
 
@@ -11,7 +11,7 @@ pub record Number : Type 0 where
 abbrev pub scaled : Number → ℤ → ℤ
 scaled n k = n.mantissa *ℤ pos (10 ^ unsigned_abs (n.exponent -ℤ k))
 
--- Two numbers have one value where, scaled to the lesser of their exponents, their mantissas are equal.
+-- Two numbers have the same value if their mantissas, scaled to the lesser of their exponents, are equal.
 pub record SameValue (m n : Number) : Type 0 where
   pub equal : scaled m (int_min m.exponent n.exponent) ≡ scaled n (int_min m.exponent n.exponent)
 

@@ -5,7 +5,7 @@ use Rattle.std.specs.Fmt.{decimal, signed_decimal}
 use Rattle.decimal.specs.Number.{Number}
 use Rattle.decimal.specs.Reading.{Reads}
 
--- the digits of n, with zeros in front up to k of them
+-- the digits of n, with leading zeros up to k digits
 abbrev pub filled : ℕ → ℕ → List ℕ
 filled k n = replicate (k - length (decimal n)) 48 ++ decimal n
 

@@ -50,7 +50,7 @@ bytes_of s = s.whole ++ (s.fraction ++ s.exponent)
 
 -- The bytes are one number token, in these parts: one or more digits; then optionally `.` and zero or more
 -- digits; then optionally `E` or `e`, optionally `+` or `-`, and one or more digits. These are the unsigned
--- integers and doubles of Vector's DBC File Format Documentation; a sign in front is a token of its own.
+-- integers and doubles of Vector's DBC File Format Documentation; a leading sign is a token of its own.
 pub record IsNumberToken (bytes : List ℕ) (s : Spelling) : Type 0 where
   pub parts : bytes ≡ bytes_of s
   pub whole : IsTrue (is_numeral s.whole)

@@ -1,4 +1,4 @@
-//! The digits before and after a point, as one run of digits.
+//! The digits before and after a point, as one sequence of digits.
 ghost use Rattle.std.specs.Prelude.{◌≡◌, ◌+◌, ◌-◌, ◌<◌, ◌≤◌, ◌^◌, ◌++◌, length, take, drop, slice_index, IsTrue};
 ghost use Rattle.std.specs.List.{prefix_len, suffix_len};
 ghost use Rattle.std.specs.Str.Parse.{digits_value};
@@ -58,7 +58,7 @@ impl<'a> Digits<'a> {
         }
     }
 
-    /// How many zeros there are in front.
+    /// How many leading zeros there are.
     pub fn leading_zeros(&self) -> usize
         ensures { result ≡ prefix_len is_zero self.now }
     {
@@ -84,7 +84,7 @@ impl<'a> Digits<'a> {
         end
     }
 
-    /// The number that the digits from `start` to before `end` write.
+    /// The number that the digits from `start` up to, but not including, `end` write.
     pub fn value(&self, start: usize, end: usize) -> u128
         requires ordered { start ≤ end }
         requires within { end ≤ length self.now }

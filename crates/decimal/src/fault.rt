@@ -1,11 +1,11 @@
-//! Why bytes are not read as a decimal.
+//! Why bytes can't be read as a decimal.
 ghost use Rattle.std.specs.Prelude.{◌≡◌, Some};
 
 use std::error::Error;
 use std::fmt;
 
-/// Why bytes are not read as a decimal.
-#[derive(Clone, Copy, Debug, PartialEq, Eq, Hash)]
+/// Why bytes can't be read as a decimal.
+#[derive(Clone, Copy, Debug, PartialEq, Eq)]
 pub enum DecimalFault {
     /// The bytes are not one number token.
     NotNumber,

@@ -7,7 +7,7 @@ use std::marker::Model;
 ///
 /// The mantissa has at most 36 digits and no zero at its end, and the exponent is -400 to 400. Zero is 0 times
 /// ten to the 0. So each value has one decimal, and `==` compares values.
-#[derive(Clone, Copy, Debug, PartialEq, Eq, Hash)]
+#[derive(Clone, Copy, Debug, PartialEq, Eq)]
 pub struct Decimal {
     mantissa: i128,
     exponent: i16,
@@ -42,7 +42,7 @@ impl Decimal {
         Decimal { mantissa, exponent }
     }
 
-    /// The mantissa: below 10^36 either way, and no multiple of ten but 0.
+    /// The mantissa: its absolute value is below 10^36, and it is no multiple of ten except 0.
     pub fn mantissa(&self) -> i128
         ensures value { result ≡ self.now.mantissa }
         ensures decimal { IsDecimal self.now }
@@ -65,7 +65,7 @@ impl Decimal {
         self.mantissa == 0
     }
 
-    /// Whether two decimals have one value, which is whether they are equal: scaled to the lesser of their
+    /// Whether two decimals have the same value, which is whether they are equal: scaled to the lesser of their
     /// exponents, their mantissas are the same.
     pub fn has_value_of(&self, other: &Decimal) -> bool
         ensures value { IsTrue result ↔ SameValue self.now other.now }

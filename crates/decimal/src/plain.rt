@@ -8,8 +8,8 @@ ghost use Rattle.decimal.specs.Reading.{Reads};
 use crate::Decimal;
 use crate::spelling::{Parts, after_point};
 
-/// The number that the digits write after those of another number. `None` where it is too great, or where a byte is no
-/// digit.
+/// The number that the digits write if they are appended to those of another number. `None` if it is too great, or if
+/// a byte is no digit.
 fn followed_by(number: u64, digits: &[u8]) -> Option<u64>
     ensures { IfSome result (λ n. n ≡ digits_value_after 10 number digits.now) }
 {
@@ -21,14 +21,14 @@ fn followed_by(number: u64, digits: &[u8]) -> Option<u64>
     Some(number)
 }
 
-/// A number without the zeros at its end, and how many they were.
+/// A number without the zeros at its end, and how many there were.
 #[derive(Clone, Copy)]
 struct Stripped {
     number: u64,
     zeros: u8,
 }
 
-/// The number without the zeros at its end, where it isn't 0.
+/// The number without the zeros at its end, or `None` if it is 0.
 fn without_zeros(number: u64) -> Option<Stripped>
     ensures value { IfSome result (λ s. number ≡ s.number * 10 ^ s.zeros) }
     ensures last { IfSome result (λ s. s.number % 10 ≢ 0) }

@@ -102,9 +102,9 @@ impl Decimal {
 
     /// Appends the decimal's text, or runs out of memory and leaves `out` as it was.
     ///
-    /// For the exponents -20 to 20 the text is plain digits, with a point only where the exponent is negative and
-    /// at least one digit before it. Any other exponent is written after the mantissa and `E`. A negative
-    /// mantissa has a minus in front. Without that minus the text is a number token of the DBC format, and reads
+    /// For the exponents -20 to 20 the text is plain digits, with a point only if the exponent is negative, and then
+    /// with at least one digit before it. Any other exponent is written after the mantissa and `E`. A negative
+    /// mantissa begins with a minus. Without that minus the text is a number token of the DBC format, and reads
     /// as the same decimal again.
     pub fn print_into(&self, out: &mut Vec<u8>) -> Result<(), AllocError>
         ensures text { OnOk result (out.new.items ≡ out.old.items ++ text_of self.now) }

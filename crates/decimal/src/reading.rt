@@ -61,11 +61,11 @@ impl Decimal {
     ghost use Rattle.decimal.specs.Reading.{Reads, reading};
     ghost use Rattle.decimal.specs.declared.fault.DecimalFault.{DecimalFault as Fault};
 
-    /// The decimal that the bytes spell, negated where `negative` says so.
+    /// The decimal that the bytes spell, negated if `negative` is true.
     ///
     /// The bytes are one number token of the DBC format: one or more digits, then optionally a point and zero or
-    /// more digits, then optionally `E` or `e`, an optional sign, and one or more digits. They have no sign in
-    /// front, since in a DBC file that is a token of its own. Zero is read whatever its exponent says.
+    /// more digits, then optionally `E` or `e`, an optional sign, and one or more digits. They don't begin with a
+    /// sign, since in a DBC file that is a token of its own. Zero may have any exponent.
     ///
     /// Faults, the first that holds: `NotNumber` where the bytes are no number token; `TooManyDigits` where the
     /// value has more than 36 digits once zeros at both ends are stripped; `ExponentRange` where the power of

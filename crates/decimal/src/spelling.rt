@@ -11,12 +11,15 @@ ghost use Rattle.decimal.specs.Cutting.{fraction_len, cut, spelling, capped, gre
 /// Digits, a point with the digits after it, and what is left.
 #[derive(Clone, Copy)]
 pub(crate) struct Parts<'a> {
+    /// The digits before the point.
     pub whole: &'a [u8],
+    /// The point and the digits after it, or nothing.
     pub fraction: &'a [u8],
+    /// The letter E, a sign if there is one, and digits, or nothing.
     pub exponent: &'a [u8],
 }
 
-/// How many decimal digits there are in front.
+/// How many decimal digits the bytes begin with.
 #[inline]
 pub fn digits_len(bytes: &[u8]) -> usize
     ensures is { result ≡ prefix_len is_ascii_digit bytes.now }
@@ -25,7 +28,7 @@ pub fn digits_len(bytes: &[u8]) -> usize
     bytes.iter().take_while(|b| b.is_ascii_digit()).count()
 }
 
-/// How many bytes a point in front and the digits after it take, 0 where no point is in front.
+/// How many bytes a point and the digits after it take, or 0 if the bytes don't begin with a point.
 #[inline]
 pub fn fraction_len(bytes: &[u8]) -> usize
     ensures is { result ≡ fraction_len bytes.now }

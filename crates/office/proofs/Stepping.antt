@@ -29,7 +29,7 @@ IsAnswer Done = Unit {0}
 IsAnswer (Number n) = Unit {0}
 IsAnswer (Refused r) = ⊥
 
--- what changes something is not told as a refusal
+-- what changes something doesn't get a refusal as its reply
 abbrev pub IsTruthful : Outcome → Type 0
 IsTruthful (Refusing r) = Unit {0}
 IsTruthful (Changing r net book) = IsAnswer r

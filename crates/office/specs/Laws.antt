@@ -21,12 +21,12 @@ use Rattle.office.specs.Net.{lies_in, blocks_of, taken_numbers}
 use Rattle.office.specs.Outcome.{Changing, take_ident, with_message, new_message}
 use Rattle.office.specs.Step.{opening, Step, Run}
 
--- teams and commands as their types make them
+-- teams and commands in the ranges that their types keep
 abbrev pub AreRequests : List (List ℕ × Command) → Type 0
 AreRequests [] = Unit {0}
 AreRequests (q ∷ qs) = (IsPlainName q.0 × IsCommand q.1) × AreRequests qs
 
--- the office with no network keeps what every office keeps, and so do each step and each run
+-- the office with no network has the invariants of an office, and each step and each run preserves them
 pub record OfficesAreKept : Type 0 where
   pub opening : IsOffice opening
   pub step : (before after : Office) (team : List ℕ) (c : Command) (reply : Reply)
@@ -34,13 +34,13 @@ pub record OfficesAreKept : Type 0 where
   pub run : (before after : Office) (requests : List (List ℕ × Command)) (replies : List Reply)
       → IsOffice before → AreRequests requests → Run before requests replies after → IsOffice after
 
--- the number that is wanted, or where none is the least that may be given out
+-- the number that is wanted, or if none is, the least that may be given out
 abbrev pub IsChosen : Option ℕ → List ℕ → List Block → Form → ℕ → Type 0
 IsChosen (Some wanted) taken blocks form n = n ≡ wanted
 IsChosen None taken blocks form n = IsLeastFree taken blocks form (Some n)
 
 -- What a `take_ident` that isn't refused gives out and changes: an identifier of the team's blocks that no live
--- message has and that isn't held; and the network with a message of that identifier at its place.
+-- message has and that isn't held; and the network with a message of that identifier added.
 pub record GivesFresh (team : List ℕ) (net : Net) (c : TakeIdent) (reply : Reply) (after : Net) : Type 0 where
   pub ident : Ident
   pub identifier : IsIdentifier ident

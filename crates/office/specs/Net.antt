@@ -1,4 +1,4 @@
--- What a network has, as the tests of commands ask for it.
+-- The properties of a network that the tests of commands need.
 use Rattle.std.specs.Prelude.{ℕ, Bool, true, false, ◌&&◌, ◌==◌, List, [], ◌∷◌, ◌++◌, map, filter, Option, Some, None}
 use Rattle.std.specs.List.{list_any, filter_map}
 use Rattle.std.specs.Str.{bytes_eq}
@@ -20,7 +20,7 @@ in_review (Review submitter) = true
 abbrev pub has_node : Net → List ℕ → Bool
 has_node net name = list_any (λ n. bytes_eq n.name name) net.nodes
 
--- no node at all, or one of the network's
+-- no node is given, or one of the network's
 abbrev pub knows_node : Net → Option (List ℕ) → Bool
 knows_node net None = true
 knows_node net (Some name) = has_node net name

@@ -1,5 +1,5 @@
--- What the office does with a command: the first refusal of the command's list that holds, or its change and
--- reply where none does.
+-- What the office does with a command: the first refusal of the command's list that applies, or the command's change
+-- and reply if none does.
 use Rattle.std.specs.Prelude.{ℕ, Bool, true, false, not, ◌&&◌, nat_le, List, [], ◌∷◌, ◌++◌, length, Option, Some, None, is_some, is_none, if◌then◌else◌}
 use Rattle.std.specs.Option.{option_and_then}
 use Rattle.can_id.specs.Ident.{ident_in, ident_number}
@@ -29,7 +29,7 @@ use Rattle.office_types.specs.declared.state.SpnBook.{SpnBook}
 use Rattle.office_types.specs.declared.state.Phase.TheVariants.{Draft}
 use Rattle.office.specs.Net.{in_review, knows_node, has_message, is_live, is_held, taken_numbers, blocks_of, lies_in, none_of, is_granted}
 
--- A command is refused, or answered, and then it leaves the network and the book so.
+-- A command is refused; or it is carried out, with this reply, and leaves this network and this book.
 pub data Outcome : Type 0 where
   Refusing : Refusal → Outcome
   Changing : Reply → Net → SpnBook → Outcome
@@ -41,7 +41,7 @@ refused_or None out = out
 abbrev pub unless : List (Test Refusal) → Outcome → Outcome
 unless tests out = refused_or (first_refusal tests) out
 
--- Open a network: only `office` may, and where there is none of that name.
+-- Open a network: only `office` may do so, and only if there is none of that name.
 abbrev pub empty_net : List ℕ → OpenNet → Net
 empty_net name c = record {
   name = name;
@@ -62,7 +62,7 @@ open_net_tests team net =
 abbrev pub open_net : List ℕ → Option Net → SpnBook → List ℕ → OpenNet → Outcome
 open_net team net book name c = unless (open_net_tests team net) (Changing Done (empty_net name c) book)
 
--- Grant a block: its numbers may not be granted yet in that form on the network.
+-- Grant a block: none of its numbers may be granted already, in that form on the network.
 abbrev pub grant_tests : Net → Grant → List (Test Refusal)
 grant_tests net c = record { holds = is_granted net c.block; refusal = no.BlockTaken } ∷ []
 
@@ -114,7 +114,7 @@ new_message team c i = record {
 abbrev pub with_message : Net → LiveMessage → Net
 with_message net m = record net { live = put by_number m net.live }
 
--- where no test holds there is an identifier to give; without one the block is full. The reply has no bit 31
+-- If no test holds, there is an identifier to give out; without one the block is full. The reply has no bit 31.
 abbrev pub taken : List ℕ → Net → SpnBook → TakeIdent → Option Ident → Outcome
 taken team net book c (Some i) = Changing (Number (ident_number i)) (with_message net (new_message team c i)) book
 taken team net book c None = Refusing no.BlockFull
@@ -122,7 +122,7 @@ taken team net book c None = Refusing no.BlockFull
 abbrev pub take_ident : List ℕ → Net → SpnBook → TakeIdent → Outcome
 take_ident team net book c = unless (take_ident_tests team net c) (taken team net book c (ident_given team net c))
 
--- A command on a network that is there; opening one has its own rule below.
+-- A command on a network that exists; opening one has its own rule below.
 abbrev pub on_net : List ℕ → Net → SpnBook → Action → Outcome
 on_net team net book (act.OpenNet c) = Refusing no.NetThere
 on_net team net book (act.Grant c) = grant net book c
@@ -141,7 +141,7 @@ on_some_net team None book a = Refusing no.NoNet
 abbrev pub office_tests : List ℕ → Action → List (Test Refusal)
 office_tests team a = record { holds = is_for_office a && not (is_office team); refusal = no.NotOffice } ∷ []
 
--- What a team's command on a network, which may not be there, comes to.
+-- The outcome of a team's command on a network, which may not exist.
 abbrev pub outcome : List ℕ → Option Net → SpnBook → Command → Outcome
 outcome team net book c = elim c.action [
   | act.OpenNet o ↦ open_net team net book c.net o

@@ -24,12 +24,12 @@ office_after o (Changing r net book) = record { nets = put by_name net o.nets; b
 abbrev pub step_outcome : Office → List ℕ → Command → Outcome
 step_outcome o team c = outcome team (net_named o c.net) o.book c
 
--- The team's command is answered so, and leaves the office so.
+-- The team's command gets this reply, and leaves this office.
 pub record Step (before : Office) (team : List ℕ) (c : Command) (reply : Reply) (after : Office) : Type 0 where
   pub answered : reply ≡ reply_of (step_outcome before team c)
   pub left : after ≡ office_after before (step_outcome before team c)
 
--- The commands in order, each with its team, are answered so, and leave the office so.
+-- The commands in order, each with its team, get these replies, and leave this office.
 abbrev pub Run : Office → List (List ℕ × Command) → List Reply → Office → Type 0
 Run before [] [] after = after ≡ before
 Run before [] (r ∷ rs) after = ⊥
@@ -42,7 +42,7 @@ pub record HasRun (before : Office) (requests : List (List ℕ × Command)) (ear
   pub added : replies ≡ earlier ++ told
   pub run : Run before requests told after
 
--- So many of the commands, from the first one on, were run.
+-- The first commands of the list, n of them, were run.
 abbrev pub HasBegun : Office → List (List ℕ × Command) → List Reply → List Reply → Office → Type 0
 HasBegun before requests earlier replies after =
     (n : ℕ) × (n ≤ length requests) × HasRun before (take n requests) earlier replies after

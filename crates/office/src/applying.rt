@@ -8,10 +8,12 @@ use catalogue::{Copying, Items, put_item};
 use office_types::{Change, GrantedBlock, Head, LiveMessage, Net, NetName, Phase, SpnBook};
 use std::alloc::{AllocError, Global};
 
-/// A network, which may not be there yet, and the book, while changes are applied to them.
+/// A network, which may not exist yet, and the book, while changes are applied to them.
 #[derive(Drop)]
 pub struct Draft {
+    /// The network, if it exists.
     pub net: Option<Net>,
+    /// The book.
     pub book: SpnBook,
 }
 

@@ -8,10 +8,10 @@ use crate::decision::refused;
 use crate::granting::decide_grant;
 use crate::opening::decide_open_net;
 use crate::taking::decide_take_ident;
-use office_types::{Action, Command, Decision, Net, Refusal, SpnBook, Team};
+use office_types::{Action, Command, Decision, Net, Refusal, SpnBook, Team, is_office};
 use std::alloc::{AllocError, Global};
 
-/// Decides the team's command on its network, where it is there: the reply, and the changes that lead to the
+/// Decides the team's command on its network, which may not exist: the reply, and the changes that lead to the
 /// network after the command. A refusal has no change. Nothing is changed here.
 pub fn decide(
     alloc: Global,
@@ -25,7 +25,7 @@ pub fn decide(
     match &command.action {
         Action::OpenNet(open) => decide_open_net(alloc, team, &command.net, net, book, open),
         Action::Grant(grant) => {
-            if !team.is_office() {
+            if !is_office(team) {
                 return Ok(refused(alloc, Refusal::NotOffice));
             }
             match net {

@@ -1,7 +1,7 @@
 //! Laws of the office's steps, each the contract of a function that does nothing.
 ghost use Rattle.office.specs.Laws.{OfficesAreKept, IdentifiersAreFresh};
 
-/// What every office keeps is kept by each step, and the opening office keeps it.
+/// The office with no network has the invariants of an office, and each step and each run preserves them.
 pub fn offices_are_kept()
     ensures { OfficesAreKept }
 {}

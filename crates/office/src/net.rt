@@ -78,7 +78,7 @@ pub(crate) fn number_lies_in(number: u32, blocks: &[Block]) -> bool
         .any(|block| block.first <= number && number <= block.last)
 }
 
-/// Whether some number lies in both blocks, which have one form.
+/// Whether both blocks have the same form and a number in common.
 pub(crate) fn blocks_have_common(a: FormBlock, b: FormBlock) -> bool
     ensures { result ≡ have_common a b }
 {

@@ -11,7 +11,7 @@ use can_id::{Ident, IdentForm};
 use office_types::{Block, BlockForm, Form, Net, TakeIdent, Team, least_free};
 use std::alloc::{AllocError, Global};
 
-/// The identifier's number, where it has the form.
+/// The identifier's number, if it has the form.
 fn number_in(form: IdentForm, ident: Ident) -> Option<u32>
     ensures { result ≡ number_in form ident }
 {
@@ -31,7 +31,7 @@ fn taken_idents(alloc: Global, net: &Net) -> Result<Vec<Ident>, AllocError>
     live.chain(held).collect(alloc)
 }
 
-/// Their numbers, where they have the form.
+/// The numbers of those that have the form.
 fn taken_numbers(alloc: Global, net: &Net, form: IdentForm) -> Result<Vec<u32>, AllocError>
     ensures { IfOk result (λ v. v.items ≡ taken_numbers net.now form) }
 {
@@ -42,7 +42,7 @@ fn taken_numbers(alloc: Global, net: &Net, form: IdentForm) -> Result<Vec<u32>, 
         .collect(alloc)
 }
 
-/// The same numbers, ascending.
+/// The same numbers, in ascending order.
 fn rising_numbers(alloc: Global, net: &Net, form: IdentForm) -> Result<Vec<u32>, AllocError>
     ensures rising { IfOk result (λ v. IsStrictlyIncreasing v.items) }
     ensures same { IfOk result (λ v. (n : ℕ) → is_taken n v.items ≡ is_taken n (taken_numbers net.now form)) }

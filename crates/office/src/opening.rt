@@ -6,13 +6,15 @@ ghost use Rattle.office.specs.Outcome.{open_net_tests, open_net};
 ghost use Rattle.office.specs.Change.{Decides};
 
 use crate::decision::{one_change, refused};
-use office_types::{Change, Decision, Head, Net, NetName, OpenNet, Refusal, Reply, SpnBook, Team};
+use office_types::{
+    Change, Decision, Head, Net, NetName, OpenNet, Refusal, Reply, SpnBook, Team, is_office,
+};
 use std::alloc::{AllocError, Global};
 
 fn open_net_refusal(team: &Team, net: Option<&Net>) -> Option<Refusal>
     ensures { result ≡ first_refusal (open_net_tests team.now (option_copied net.entry)) }
 {
-    if !team.is_office() {
+    if !is_office(team) {
         Some(Refusal::NotOffice)
     } else if net.is_some() {
         Some(Refusal::NetThere)

@@ -16,7 +16,9 @@ use std::marker::Model;
 /// A network and the book as a command leaves them.
 #[derive(Drop)]
 pub struct Changed {
+    /// The network.
     pub net: Net,
+    /// The book.
     pub book: SpnBook,
 }
 
@@ -81,7 +83,7 @@ fn answer_from_copies(
 }
 
 /// An office in memory. Contracts see it as the state that it holds.
-#[derive(Debug, Drop)]
+#[derive(Drop)]
 pub struct PlainOffice {
     state: Office,
 }
@@ -110,8 +112,8 @@ impl PlainOffice {
         }
     }
 
-    /// One step of the office: the team's command is carried out, or refused and then nothing changes. Where
-    /// memory is refused, nothing changes.
+    /// One step of the office: the team's command is carried out, or it is refused and nothing changes. If memory
+    /// runs out, nothing changes.
     pub fn step(
         &mut self,
         alloc: Global,
@@ -140,8 +142,8 @@ impl PlainOffice {
         }
     }
 
-    /// Runs the commands in order, each of its team, and adds each one's reply. Where memory is refused, a
-    /// beginning of the commands was run, and their replies were added.
+    /// Runs the commands in order, each for its team, and adds their replies. If memory runs out, the first commands
+    /// of the list were run, and their replies were added.
     pub fn run(
         &mut self,
         alloc: Global,

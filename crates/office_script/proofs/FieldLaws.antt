@@ -20,18 +20,18 @@ any_found : (c : ℕ) (front bs : List ℕ) → Lacks c front → list_any (λ b
 any_found c [] bs h = grind (arith, nat_tests)
 any_found c (b ∷ front) bs h = rw (ne_eqb b c (All-head (λ b. b ≢ c) b front h)) (any_found c front bs (All-tail (λ b. b ≢ c) b front h))
 
--- the first `c` stands after the front that lacks it
+-- the first `c` comes after the prefix that has none
 place_found : (c : ℕ) (front bs : List ℕ) → Lacks c front → position_or_len (λ b. b == c) (front ++ (c ∷ bs)) ≡ length front
 place_found c [] bs h = let same : (c == c) ≡ true = grind (arith, nat_tests) in rw same refl
 place_found c (b ∷ front) bs h =
     rw (ne_eqb b c (All-head (λ b. b ≢ c) b front h)) (omega (arith, place_found c front bs (All-tail (λ b. b ≢ c) b front h)))
 
--- the front, taken off again
+-- the prefix, removed again
 front_of : (front bs : List ℕ) → take (length front) (front ++ bs) ≡ front
 front_of [] bs = refl
 front_of (b ∷ front) bs = ap (λ ts. b ∷ ts) (front_of front bs)
 
--- what follows the front and one byte
+-- what follows the prefix and one byte
 past : (front bs : List ℕ) (c : ℕ) → drop (suc (length front)) (front ++ (c ∷ bs)) ≡ bs
 past [] bs c = refl
 past (b ∷ front) bs c = past front bs c

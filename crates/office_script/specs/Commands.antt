@@ -23,12 +23,12 @@ infixl 10 ◌>>=◌
 abbrev pub ◌>>=◌ : {A B : Type 0} → Option A → (A → Option B) → Option B
 o >>= f = option_and_then f o
 
--- a field that may be absent: no value at all where it is there and of another kind
+-- an optional field: wrong if it is there and not of its kind
 abbrev pub if_there : {A : Type 0} → (List ℕ → Option A) → Option (List ℕ) → Option (Option A)
 if_there kind None = Some None
 if_there kind (Some bytes) = option_map Some (kind bytes)
 
--- the third word of a line
+-- the command that the third word of a line names
 abbrev pub verb_of : List ℕ → Option Verb
 verb_of word =
     if bytes_eq word (codes "open_net") then Some verb.OpenNet
@@ -82,7 +82,7 @@ action_of verb.OpenNet fields = option_map act.OpenNet (open_net_of fields)
 action_of verb.Grant fields = option_map act.Grant (grant_of fields)
 action_of verb.TakeIdent fields = option_map act.TakeIdent (take_ident_of fields)
 
--- what follows, where the test holds
+-- the value, if the test holds
 abbrev pub where_true : {A : Type 0} → Bool → Option A → Option A
 where_true test found = if test then found else None
 

@@ -3,14 +3,15 @@ use Rattle.std.specs.Prelude.{◌≢◌, ◌==◌, if◌then◌else◌, ◌&&◌
 use Rattle.std.specs.Option.{option_map}
 use Rattle.std.specs.Char.{digit_value}
 
--- what a written value stands for: a byte other than `%` (37) stands for itself, and `%` with two hexadecimal digits, in either case, for the byte that they write
+-- what a written value stands for: a byte other than `%` (37) stands for itself, and `%` with two hexadecimal digits,
+-- in upper or lower case, for the byte that they write
 pub data StandsFor : List ℕ → List ℕ → Type 0 where
   nothing : StandsFor [] []
   itself : {b : ℕ} {written bytes : List ℕ} → b ≢ 37 → StandsFor written bytes → StandsFor (b ∷ written) (b ∷ bytes)
   escape : {high low : ℕ} {written bytes : List ℕ} → digit_value high < 16 → digit_value low < 16 → StandsFor written bytes → StandsFor (37 ∷ high ∷ low ∷ written) ((16 * digit_value high + digit_value low) ∷ bytes)
 
 abbrev mutual
-  -- the bytes that a written value stands for, where it stands for any
+  -- the bytes that a written value stands for, if it stands for any
   pub unescaped : List ℕ → Option (List ℕ)
   unescaped [] = Some []
   unescaped (b ∷ written) = if b == 37 then unescaped_digits written else option_map (λ bytes. b ∷ bytes) (unescaped written)

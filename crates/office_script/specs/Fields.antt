@@ -7,7 +7,7 @@ use Rattle.std.specs.Coded.{Coded, code_by, coded×, coded_list, coded_ℕ}
 use Rattle.std.specs.Prelude.{refl}
 use Rattle.office_script.specs.Escapes.{StandsFor, unescaped}
 
--- what a field says: its name, and the bytes that its value stands for
+-- a field: its name, and the bytes that its written value stands for
 pub record NamedValue : Type 0 where
   pub name : List ℕ
   pub value : List ℕ
@@ -17,7 +17,7 @@ abbrev pub coded_named_value : Coded NamedValue
 coded_named_value =
     code_by (List ℕ × List ℕ) (coded× (coded_list coded_ℕ) (coded_list coded_ℕ)) (λ f. (f.name, f.value)) (λ p. record { name = p.0; value = p.1 }) (λ _. refl)
 
--- a word is `name=value`: a name with no `=` (61) in it, a `=`, and what stands for the value
+-- a word is `name=value`: a name without `=` (61), a `=`, and the written value
 pub record IsFieldWord (word : List ℕ) (field : NamedValue) : Type 0 where
   pub written : List ℕ
   pub name : All (λ b. b ≢ 61) field.name
@@ -28,14 +28,14 @@ pub record IsFieldWord (word : List ℕ) (field : NamedValue) : Type 0 where
 abbrev pub AreFieldWords : List (List ℕ) → List NamedValue → Type 0
 AreFieldWords words fields = AllZip IsFieldWord words fields
 
--- the field that a word is, where it is one: what comes before its first `=`, and what the rest stands for
+-- the field that a word is, if it is one: what comes before its first `=`, and what the rest stands for
 abbrev pub field_of : List ℕ → Option NamedValue
 field_of word =
     if list_any (λ b. b == 61) word
     then option_map (λ value. record { name = before_first (λ b. b == 61) word; value = value }) (unescaped (after_first (λ b. b == 61) word))
     else None
 
--- the fields that words are, where each is one
+-- the fields that words are, if each is one
 abbrev pub fields_of : List (List ℕ) → Option (List NamedValue)
 fields_of [] = Some []
 fields_of (word ∷ words) = option_and_then (λ field. option_map (λ fields. field ∷ fields) (fields_of words)) (field_of word)

@@ -2,12 +2,12 @@
 use Rattle.std.specs.Prelude.{◌≡◌, ◌≢◌, ◌==◌, if◌then◌else◌, ℕ, Bool, true, List, [], ◌∷◌, ◌++◌, All}
 use Rattle.std.specs.List.{slice_split}
 
--- what is left after the last line feed is a line, but for no bytes
+-- what is left after the last line feed is a line, unless it is empty
 abbrev pub last_line : List ℕ → List (List ℕ)
 last_line [] = []
 last_line (b ∷ bs) = (b ∷ bs) ∷ []
 
--- the parts that line feeds cut a text into, the last of them only where it has bytes
+-- the parts into which line feeds divide a text, the last of them only if it isn't empty
 abbrev pub lines_of_parts : List (List ℕ) → List (List ℕ)
 lines_of_parts [] = []
 lines_of_parts (part ∷ []) = last_line part
@@ -22,18 +22,18 @@ abbrev pub with_feeds : List (List ℕ) → List ℕ
 with_feeds [] = []
 with_feeds (line ∷ lines) = line ++ (10 ∷ with_feeds lines)
 
--- the text, with a line feed after a last line that lacks one
+-- the text, with a line feed added to a last line that has none
 abbrev pub completed : List ℕ → List ℕ
 completed [] = []
 completed (b ∷ []) = if b == 10 then 10 ∷ [] else b ∷ 10 ∷ []
 completed (b ∷ c ∷ text) = b ∷ completed (c ∷ text)
 
--- lines with no line feed in them, which with one after each are the text, once its last line has one too
+-- lines without line feeds, which with one after each are the completed text
 pub record AreLinesOf (text : List ℕ) (lines : List (List ℕ)) : Type 0 where
   pub apart : All (All (λ b. b ≢ 10)) lines
   pub joined : with_feeds lines ≡ completed text
 
--- a line that counts for nothing: of no bytes, or one that begins with `#` (35)
+-- a line that asks for nothing: an empty one, or one that begins with `#` (35)
 abbrev pub says_nothing : List ℕ → Bool
 says_nothing [] = true
 says_nothing (b ∷ line) = b == 35

@@ -9,11 +9,11 @@ use Rattle.office_script.specs.declared.script.ScriptFault.TheVariants as script
 use Rattle.office_script.specs.Lines.{lines_of, says_nothing}
 use Rattle.office_script.specs.Commands.{request_of}
 
--- what a line asks for: nothing, or one thing; `None` where it is wrong
+-- what a line asks for: nothing, or one thing; `None` if it is wrong
 abbrev pub asked_by : List ℕ → Option (List (List ℕ × Command))
 asked_by line = if says_nothing line then Some [] else option_map (λ r. r ∷ []) (request_of line)
 
--- what the lines ask for, in order, where none is wrong
+-- what the lines ask for, in order, if none is wrong
 abbrev pub asked_by_all : List (List ℕ) → Option (List (List ℕ × Command))
 asked_by_all [] = Some []
 asked_by_all (line ∷ lines) = option_and_then (λ here. option_map (λ rest. here ++ rest) (asked_by_all lines)) (asked_by line)
@@ -28,7 +28,7 @@ pub record IsFirstWrong (lines : List (List ℕ)) (number : ℕ) : Type 0 where
   pub sound : asked_by_all before ≢ None
   pub wrong : asked_by line ≡ None
 
--- the fault is the first wrong line, or out of memory, of which nothing is said
+-- the fault is the first wrong line; out of memory states nothing
 abbrev pub IsScriptFault : List ℕ → ScriptFault → Type 0
 IsScriptFault text (script.BadLine number) = IsFirstWrong (lines_of text) number
 IsScriptFault text script.Memory = ⊤

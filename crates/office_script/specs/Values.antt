@@ -1,4 +1,4 @@
--- What the value of a field is, by its kind; `None` where it is no value of that kind.
+-- The value of a field, by its kind; `None` if the bytes are no value of that kind.
 use Rattle.std.specs.Prelude.{ℕ, nat_le, List, Option, Some, None, if◌then◌else◌, codes}
 use Rattle.std.specs.Str.{bytes_eq}
 use Rattle.catalogue.specs.Name.{is_name}

@@ -12,7 +12,7 @@ abbrev pub words_after : Option (Bor (List ℕ)) → List (List ℕ)
 words_after None = []
 words_after (Some rest) = words_of rest.now
 
--- one word or more, none with a space in it, which joined by single spaces are the line
+-- one word or more, none of which has a space, and which joined by single spaces are the line
 pub record AreWordsOf (line : List ℕ) (words : List (List ℕ)) : Type 0 where
   pub some : 0 < length words
   pub apart : All (All (λ b. b ≢ 32)) words

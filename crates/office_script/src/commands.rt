@@ -25,7 +25,7 @@ fn value_at<'f>(fields: &'f Fields<'_>, name: &[u8]) -> Result<&'f [u8], Unread>
     fields.value_of(name).ok_or(Unread::Wrong)
 }
 
-/// The name that a field gives, where it is given.
+/// The name that an optional field gives, if it is there.
 fn name_if_there(alloc: Global, fields: &Fields<'_>, name: &[u8]) -> Result<Option<Name>, Unread>
     ensures { Reads (if_there name_of (value_of fields.now name.now)) result }
 {
@@ -35,7 +35,7 @@ fn name_if_there(alloc: Global, fields: &Fields<'_>, name: &[u8]) -> Result<Opti
     }
 }
 
-/// The whole number that a field gives, where it is given.
+/// The whole number that an optional field gives, if it is there.
 fn whole_if_there(fields: &Fields<'_>, name: &[u8]) -> Result<Option<u32>, Unread>
     ensures { Reads (if_there whole_of (value_of fields.now name.now)) result }
 {
@@ -97,8 +97,8 @@ fn action_of(alloc: Global, verb: Verb, fields: &Fields<'_>) -> Result<Action, U
     }
 }
 
-/// The command of a verb and its fields: just the verb's fields, each at most once and of its kind, and none
-/// missing that is required.
+/// The command of a verb and its fields: only the verb's fields, each at most once and of its kind, and all that are
+/// required.
 pub(crate) fn command_of(alloc: Global, verb: Verb, fields: &Fields<'_>) -> Result<Command, Unread>
     ensures { Reads (command_of verb fields.now) result }
 {

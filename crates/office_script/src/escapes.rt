@@ -26,13 +26,13 @@ fn escaped_byte(after: &[u8]) -> Option<(u8, &[u8])>
     Some((hexadecimal_byte(*high, *low)?, rest))
 }
 
-/// The bytes that a written value stands for: each byte stands for itself, but a `%` only together with the two
-/// hexadecimal digits after it, in either case, for the byte that they write. `None` where two such digits don't
-/// follow a `%`. The only error is out of memory.
+/// The bytes that a written value stands for: each byte stands for itself, except `%`, which with the two hexadecimal
+/// digits after it, in upper or lower case, stands for the byte that they write. `None` if a `%` isn't followed by two
+/// such digits. The only error is out of memory.
 pub fn unescape(alloc: Global, written: &[u8]) -> Result<Option<Vec<u8>>, AllocError>
     ensures value { IfOk result (λ found. option_map (λ bytes. bytes.items) found ≡ unescaped written.now) }
 
-    // The value stands for the bytes that are found and for no others, and for none where none are found.
+    // The value stands for the bytes that are found and for no others, and for none if none are found.
     ensures meaning { IfOk result (λ found. (meant : List ℕ)
         → (StandsFor written.now meant ↔ (option_map (λ bytes. bytes.items) found ≡ Some meant))) }
 {

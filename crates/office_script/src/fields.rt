@@ -13,7 +13,7 @@ use std::alloc::{AllocError, Global};
 use std::marker::Model;
 
 /// A field of a line.
-#[derive(Debug, Drop)]
+#[derive(Drop)]
 pub struct Field<'a> {
     /// The bytes before the first `=`, as they are written.
     pub name: &'a [u8],
@@ -22,7 +22,7 @@ pub struct Field<'a> {
 }
 
 /// The fields of a line, in order. Contracts see them as the list of their names and values.
-#[derive(Debug, Drop)]
+#[derive(Drop)]
 pub struct Fields<'a> {
     list: Vec<Field<'a>>,
 }
@@ -41,7 +41,7 @@ impl<'a> Model for Fields<'a> {
     ghost view = { λ a. named_values a.list.items };
 }
 
-/// The field that a word is; `None` where the word has no `=`, or a `%` in its value isn't followed by two
+/// The field that a word is; `None` if the word has no `=`, or a `%` in its value isn't followed by two
 /// hexadecimal digits.
 fn read_field(alloc: Global, word: &[u8]) -> Result<Option<Field<'_>>, AllocError>
     ensures { IfOk result (λ found. option_map named_value found ≡ field_of word.now) }
@@ -57,12 +57,12 @@ fn read_field(alloc: Global, word: &[u8]) -> Result<Option<Field<'_>>, AllocErro
 
 /// Reads the words of `rest`, the rest of a line after some word (`FirstWord::rest`), as fields.
 ///
-/// A field is a name without `=`, then `=`, then its written value (`unescape` says what that stands for). `None`
-/// where some word is no field, as an empty word. No words at all are no fields. The only error is out of memory.
+/// A field is a name without `=`, then `=`, then its written value, which `unescape` decodes. `None` if some word is
+/// no field, such as an empty word. Without words there are no fields. The only error is out of memory.
 pub fn read_fields(alloc: Global, rest: Option<&[u8]>) -> Result<Option<Fields<'_>>, AllocError>
     ensures value { IfOk result (λ found. found ≡ fields_of (words_after rest.entry)) }
 
-    // The words are the fields that are found and no others, and none where none are found.
+    // The words are the fields that are found and no others, and no fields at all if none are found.
     ensures meaning { IfOk result (λ found. (fields : List NamedValue)
         → (AreFieldWords (words_after rest.entry) fields ↔ (found ≡ Some fields))) }
 {
@@ -92,7 +92,7 @@ impl<'a> Fields<'a> {
         self.list.as_slice()
     }
 
-    /// The value of the field of a name: of the first, where several have it; `None` where none has.
+    /// The value of the field of this name, or of the first if several have it; `None` if none has.
     pub fn value_of(&self, name: &[u8]) -> Option<&[u8]>
         ensures value { option_copied result ≡ value_of self.now name.now }
         ensures found { IsSome result ↔ Contains (names_of self.now) name.now }

@@ -1,13 +1,13 @@
-//! Scripts: what the lines of a text ask the office for.
+//! Scripts: the requests to the office that the lines of a text make.
 //!
-//! A script is bytes. Its lines are what is between line feeds (`lines`); one of no bytes, or that begins with `#`, asks
-//! for nothing, and any other is words with exactly one space between them (`words`): `-`, the team, the command
-//! and its fields `name=value`, in whose values `%` and two hexadecimal digits stand for a byte (`escapes`,
-//! `fields`, `lookup`). [`requests_of`] gives each line's team and command, or the first wrong line.
+//! A script is a sequence of bytes. Its lines are what is between line feeds (`lines`). A line that is empty or begins
+//! with `#` asks for nothing. Any other line consists of words with exactly one space between them (`words`): `-`, the
+//! team, the command and its fields `name=value`, where in a value `%` and two hexadecimal digits stand for a byte
+//! (`escapes`, `fields`, `lookup`). [`requests_of`] gives each line's team and command, or the first wrong line.
 //!
-//! The grammar is in `specs/`: `Lines.antt`, `Words.antt`, `Escapes.antt` and `Fields.antt` say what a text is made
-//! of, `Values.antt` what a value is by its kind, `Commands.antt` which command words ask for, and `Script.antt`
-//! what a whole script asks for.
+//! The grammar is in `specs/`: `Lines.antt`, `Words.antt`, `Escapes.antt` and `Fields.antt` define the parts of a text,
+//! `Values.antt` the values of each kind, `Commands.antt` the command that the words of a line ask for, and
+//! `Script.antt` what a whole script asks for.
 #![tactic(auto)]
 
 mod commands;

@@ -6,7 +6,7 @@ ghost use Rattle.office_script.specs.FieldViews.{named_values};
 
 use crate::fields::Field;
 
-/// The value of the first field of a name.
+/// The value of the first field of this name.
 pub(crate) fn value_among<'f>(fields: &'f [Field<'_>], name: &[u8]) -> Option<&'f [u8]>
     ensures { option_copied result ≡ value_of (named_values fields.now) name.now }
 {
@@ -18,7 +18,7 @@ pub(crate) fn value_among<'f>(fields: &'f [Field<'_>], name: &[u8]) -> Option<&'
     None
 }
 
-/// Whether a field has a name.
+/// Whether a field has this name.
 fn is_named(fields: &[Field<'_>], name: &[u8]) -> bool
     ensures { IsTrue result ↔ Contains (names_of (named_values fields.now)) name.now }
 {

@@ -14,7 +14,7 @@ use office_types::{Command, Team};
 use std::alloc::Global;
 
 /// The first three words of a line, and what follows the third.
-#[derive(Clone, Copy, Debug)]
+#[derive(Clone, Copy)]
 struct LineParts<'a> {
     key: &'a [u8],
     team: &'a [u8],

@@ -9,7 +9,7 @@ use crate::unread::Unread;
 use office_types::{Command, Team};
 use std::alloc::Global;
 
-/// Why a script was not read.
+/// Why a script can't be read.
 #[derive(Clone, Copy, Debug, PartialEq, Eq)]
 pub enum ScriptFault {
     /// The line of this number, from 1, is wrong, and no line before it is.
@@ -32,10 +32,10 @@ fn add_asked(alloc: Global, line: &[u8], requests: &mut Vec<(Team, Command)>) ->
 
 /// The requests of a script's lines, in order: each line's team and command.
 ///
-/// A line of no bytes and one that begins with `#` ask for nothing. Any other is `- team command field=value ..`
-/// with one space between words: `-` is the only key, the fields are those of the command, each at most once, of
-/// its kind and in its range, and those that aren't optional are given. The fault is the first line that is none of
-/// these, or out of memory.
+/// An empty line and one that begins with `#` ask for nothing. Any other is `- team command field=value ..` with one
+/// space between words: `-` is the only key, the fields are those of the command, each at most once, of its kind and
+/// in its range, and those that aren't optional are there. The fault is the first line that is none of these, or out
+/// of memory.
 pub fn requests_of(alloc: Global, text: &[u8]) -> Result<Vec<(Team, Command)>, ScriptFault>
     ensures asked { IfOk result (λ requests. asked_by_all (lines_of text.now) ≡ Some requests.items) }
     ensures fault { IfErr result (IsScriptFault text.now) }

@@ -6,7 +6,7 @@ use std::alloc::{AllocError, AllocFailed};
 /// Why words of a script could not be read.
 #[derive(Clone, Copy, Debug, PartialEq, Eq)]
 pub enum Unread {
-    /// They say nothing that may occur there.
+    /// They are wrong.
     Wrong,
     /// Memory ran out.
     Memory,

@@ -14,7 +14,7 @@ pub enum Verb {
     OpenNet,
     /// `grant`: net, team, form, first, last.
     Grant,
-    /// `take_ident`: net, form, name, length, and where given node and want.
+    /// `take_ident`: net, form, name, length, and optionally node and want.
     TakeIdent,
 }
 

@@ -7,23 +7,23 @@ use crate::split::split_once;
 /// The first word of a line, and what follows it.
 #[derive(Clone, Copy, Debug)]
 pub struct FirstWord<'a> {
-    /// The bytes before the first space, or all of them where there is none. It may be empty.
+    /// The bytes before the first space, or all of them if there is none. It may be empty.
     pub word: &'a [u8],
-    /// What follows that space, itself one word or more; `None` after the last word.
+    /// What follows that space, which is one word or more; `None` after the last word.
     pub rest: Option<&'a [u8]>,
 }
 
 /// Splits the first word off a line.
 ///
-/// The words of a line are what is between its spaces: two spaces in a row have an empty word between them, a
-/// space at an end has one outside it, and a line of no bytes is one empty word.
+/// The words of a line are what is between its spaces: between two spaces in a row there is an empty word, so is there
+/// before a space at the beginning and after one at the end, and an empty line is one empty word.
 pub fn first_word(line: &[u8]) -> FirstWord<'_>
     ensures next { words_of line.now ≡ result.word.now ∷ words_after result.rest }
     ensures parts { MatchOption result.rest (line.now ≡ result.word.now)
         (λ rest. line.now ≡ result.word.now ++ (32 ∷ rest.now)) }
     ensures shorter { IfSome result.rest (λ rest. length rest.now < length line.now) }
 
-    // What the words of the line are: joined by single spaces they are the line, and no other lists are.
+    // The words of the line: joined by single spaces they are the line, and no other list is.
     ensures words { (words : List (List ℕ)) → (AreWordsOf line.now words ↔ (words ≡ words_of line.now)) }
 {
     match split_once(line, b' ') {

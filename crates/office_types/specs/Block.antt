@@ -11,7 +11,7 @@ abbrev pub greatest_of : BlockForm → ℕ
 greatest_of Std = greatest_number Standard
 greatest_of Ext = greatest_number Extended
 
--- the form of the blocks that identifiers lie in
+-- the form of the blocks that hold identifiers of a form
 abbrev pub block_form : IdentForm → BlockForm
 block_form Standard = Std
 block_form Extended = Ext
@@ -35,10 +35,10 @@ pub record Range : Type 0 where
 abbrev pub IsRange : Range → Type 0
 IsRange r = (r.first ≤ r.last) × (r.last ≤ greatest_of r.form)
 
--- the number lies in the block
+-- the number is in the block
 abbrev pub in_block : ℕ → Block → Bool
 in_block n b = nat_le b.first n && nat_le n b.last
 
--- some number lies in both
+-- some number is in both, and they have the same form
 abbrev pub have_common : Range → Range → Bool
 have_common a b = same_form a.form b.form && nat_le a.first b.last && nat_le b.first a.last

@@ -13,6 +13,6 @@ IsAction (OpenNet c) = c.reviews ≤ 9
 IsAction (Grant c) = IsPlainName c.team × IsRange c.block
 IsAction (TakeIdent c) = IsName c.name × (c.length ≤ length_limit) × IfSome c.node IsName × IfSome c.want (λ n. n < 2 ^ 32)
 
--- every value of the type `Command` is so
+-- what holds of every value of the type `Command`
 abbrev pub IsCommand : Command → Type 0
 IsCommand c = IsPlainName c.net × IsAction c.action

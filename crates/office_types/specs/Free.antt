@@ -25,7 +25,7 @@ has_form form n = nat_le n (greatest_number form)
 abbrev pub is_taken : ℕ → List ℕ → Bool
 is_taken n taken = list_any (λ t. t == n) taken
 
--- the number may be given out: it lies in one of the blocks, has the form and isn't taken
+-- the number may be given out: it is in one of the blocks, has the form and isn't taken
 abbrev pub is_free : List ℕ → List Block → Form → ℕ → Bool
 is_free taken blocks form n = list_any (in_block n) blocks && (has_form form n && not (is_taken n taken))
 
@@ -33,7 +33,7 @@ is_free taken blocks form n = list_any (in_block n) blocks && (has_form form n &
 abbrev pub IsLeastFree : List ℕ → List Block → Form → Option ℕ → Type 0
 IsLeastFree taken blocks form = IsLeastOf (is_free taken blocks form)
 
--- the lesser of what there is
+-- the lesser of two numbers, or the one that there is
 abbrev pub lesser_of : Option ℕ → Option ℕ → Option ℕ
 lesser_of (Some x) (Some y) = Some (min x y)
 lesser_of (Some x) None = Some x
@@ -45,7 +45,7 @@ least_free taken [] form = None
 least_free taken (b ∷ bs) form =
     lesser_of (least_from (λ n. has_form form n && not (is_taken n taken)) (b.last + 1 - b.first) b.first) (least_free taken bs form)
 
--- the first numbers of the list, this many, are below n, and no later one is
+-- the first numbers of the list, `below` of them, are below n, and no later one is
 pub record SplitsAt (numbers : List ℕ) (below n : ℕ) : Type 0 where
   pub within : below ≤ length numbers
   pub lower : (k : ℕ) → k < below → slice_index numbers k < n

@@ -1,4 +1,4 @@
--- What every office keeps: the ranges of its parts, their orders, and that nothing is given
+-- The invariants of an office: the ranges of its parts, their orders, and that nothing is given
 -- out twice.
 use Rattle.std.specs.Prelude.{◌≡◌, ◌≢◌, ◌≤◌, false, length, All, AllPairs, Contains, IfSome, ◌⊎◌, ◌<◌}
 use Rattle.std.specs.Ordering.{on, nat_cmp, then_cmp}

@@ -4,8 +4,8 @@ ghost use Rattle.std.specs.Prelude.{◌≡◌, ◌≤◌, SomeIff};
 use can_id::IdentForm;
 use std::marker::Model;
 
-/// The numbers from `first` to `last`, inclusive; none where `last` is below `first`.
-#[derive(Clone, Copy, Debug, PartialEq, Eq, Hash)]
+/// The numbers from `first` to `last`, inclusive; no numbers if `last` is below `first`.
+#[derive(Clone, Copy, Debug, PartialEq, Eq)]
 pub struct Block {
     /// The least number.
     pub first: u32,
@@ -14,7 +14,7 @@ pub struct Block {
 }
 
 /// What the numbers of a granted block are.
-#[derive(Clone, Copy, Debug, PartialEq, Eq, PartialOrd, Ord, Hash)]
+#[derive(Clone, Copy, Debug, PartialEq, Eq, PartialOrd, Ord)]
 pub enum BlockForm {
     /// 11-bit identifiers, 0 to 2047.
     Std,
@@ -25,7 +25,7 @@ pub enum BlockForm {
 impl BlockForm {
     ghost use Rattle.office_types.specs.Block.{block_form, greatest_of, form_rank};
 
-    /// The form of the blocks that identifiers of this form lie in.
+    /// The form of the blocks that hold identifiers of this form.
     pub fn of_identifiers(form: IdentForm) -> BlockForm
         ensures { result ≡ block_form form }
     {
@@ -57,7 +57,7 @@ impl BlockForm {
 }
 
 /// A block of numbers of one form, at least one and none above the form's greatest.
-#[derive(Clone, Copy, Debug, PartialEq, Eq, Hash)]
+#[derive(Clone, Copy, Debug, PartialEq, Eq)]
 pub struct FormBlock {
     form: BlockForm,
     first: u32,
@@ -80,7 +80,7 @@ impl FormBlock {
     ghost use Rattle.office_types.specs.Block.{Range, IsRange};
     ghost use Rattle.office_types.specs.declared.block.Block.{Block};
 
-    /// The block of the numbers from `first` to `last`, inclusive, or `None` where `last` is below `first`
+    /// The block of the numbers from `first` to `last`, inclusive, or `None` if `last` is below `first`
     /// or above the form's greatest number.
     pub fn new(form: BlockForm, first: u32, last: u32) -> Option<FormBlock>
         ensures { SomeIff result (IsRange (record { form = form; first = first; last = last })) (record { form = form; first = first; last = last }) }
@@ -100,7 +100,7 @@ impl FormBlock {
         self.form
     }
 
-    /// The numbers alone.
+    /// The numbers without their form.
     pub fn numbers(self) -> Block
         ensures { result ≡ record { first = self.first; last = self.last } }
     {

@@ -1,33 +1,35 @@
-//! What a command changes, and the decision on it.
+//! The changes that a command makes, and the decision on a command.
 use crate::command::NetKind;
 use crate::quantity::ReviewCount;
 use crate::reply::Reply;
 use crate::state::{GrantedBlock, LiveMessage};
 use catalogue::Items;
 
-/// One thing that a command sets at its network.
-#[derive(Debug, Drop)]
+/// One thing that a command sets in its network.
+#[derive(Drop)]
 pub enum Change {
-    /// The network's head; a network that isn't there is made, empty.
+    /// The network's head; if the network doesn't exist, it is made, empty.
     SetHead(Head),
-    /// The live message of an identifier.
+    /// The live message that has an identifier.
     SetMessage(LiveMessage),
-    /// The block of a form and a first number.
+    /// The granted block that has a form and a first number.
     SetBlock(GrantedBlock),
 }
 
 /// A network's kind, and how many approvals its releases need.
 #[derive(Clone, Copy, Debug, PartialEq, Eq)]
 pub struct Head {
+    /// The network's kind.
     pub kind: NetKind,
+    /// How many approvals each release needs.
     pub reviews: ReviewCount,
 }
 
-/// What a command changes, in order, and what it is answered.
-#[derive(Debug, Drop)]
+/// The changes that a command makes, in order, and the reply to it.
+#[derive(Drop)]
 pub struct Decision {
-    /// What is set, in order; nothing where the command is refused.
+    /// What is set, in order; nothing if the command is refused.
     pub changes: Items<Change>,
-    /// The answer.
+    /// The reply.
     pub reply: Reply,
 }

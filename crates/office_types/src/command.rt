@@ -7,7 +7,7 @@ use can_id::IdentForm;
 use catalogue::{Name, PayloadLength};
 
 /// A command on one network.
-#[derive(Debug, PartialEq, Eq, Drop)]
+#[derive(PartialEq, Eq, Drop)]
 pub struct Command {
     /// The network that the command is about.
     pub net: NetName,
@@ -16,7 +16,7 @@ pub struct Command {
 }
 
 /// What is asked of the network.
-#[derive(Debug, PartialEq, Eq, Drop)]
+#[derive(PartialEq, Eq, Drop)]
 pub enum Action {
     /// Open the network, empty.
     OpenNet(OpenNet),
@@ -26,12 +26,12 @@ pub enum Action {
     TakeIdent(TakeIdent),
 }
 
-/// Whether J1939 parameter groups are allotted on a network.
-#[derive(Clone, Copy, Debug, PartialEq, Eq, Hash)]
+/// Whether J1939 parameter groups are given out on a network.
+#[derive(Clone, Copy, Debug, PartialEq, Eq)]
 pub enum NetKind {
     /// A plain CAN network.
     Can,
-    /// A network on which J1939 parameter groups are allotted too.
+    /// A network on which J1939 parameter groups are given out too.
     J1939,
 }
 
@@ -45,7 +45,7 @@ pub struct OpenNet {
 }
 
 /// The block, and the team that it is for.
-#[derive(Debug, PartialEq, Eq, Drop)]
+#[derive(PartialEq, Eq, Drop)]
 pub struct Grant {
     /// The team that may give out the numbers.
     pub team: Team,
@@ -53,8 +53,8 @@ pub struct Grant {
     pub block: FormBlock,
 }
 
-/// A message that is to have an identifier of the team's blocks.
-#[derive(Debug, PartialEq, Eq, Drop)]
+/// A new message that is to get an identifier from the team's blocks.
+#[derive(PartialEq, Eq, Drop)]
 pub struct TakeIdent {
     /// How many bits the identifier has.
     pub form: IdentForm,
@@ -64,6 +64,6 @@ pub struct TakeIdent {
     pub length: PayloadLength,
     /// The node that transmits the message.
     pub node: Option<Name>,
-    /// The identifier that is wanted, of any size; without one the least free is taken.
+    /// The identifier that is wanted, of any size; without one the least free identifier is given out.
     pub want: Option<u32>,
 }

@@ -6,8 +6,8 @@ ghost use Rattle.office_types.specs.Free.{has_form, greatest_number, is_taken, l
 use crate::block::Block;
 use can_id::IdentForm;
 
-/// What the numbers that are asked for are.
-#[derive(Clone, Copy, Debug, PartialEq, Eq, Hash)]
+/// What kind of number is asked for.
+#[derive(Clone, Copy, Debug, PartialEq, Eq)]
 pub enum Form {
     /// 11-bit identifiers, 0 to 2047.
     Std,
@@ -46,7 +46,7 @@ impl Form {
     }
 }
 
-/// Whether each number is above the one before it. None or one number rises.
+/// Whether each number is above the one before it. No numbers, or one, are in ascending order.
 pub fn rises(numbers: &[u32]) -> bool
     ensures { IsTrue result ↔ IsStrictlyIncreasing numbers.now }
 {
@@ -69,7 +69,7 @@ fn count_below(taken: &[u32], number: u32) -> usize
     }
 }
 
-/// Whether the number is the one after the lesser ones.
+/// Whether the number is among the taken ones, where `below` of these are below it.
 fn stands_at(taken: &[u32], below: usize, number: u32) -> bool
     requires rising { IsStrictlyIncreasing taken.now }
     requires split { SplitsAt taken.now below number }
@@ -106,9 +106,9 @@ fn lesser(a: Option<u32>, b: Option<u32>) -> Option<u32>
     }
 }
 
-/// The least number that lies in one of the blocks, has the form and isn't taken; `None` where there is none.
+/// The least number that is in one of the blocks, has the form and isn't taken; `None` if there is none.
 ///
-/// `taken` rises, which [`rises`] tells. The blocks need not be in any order, nor apart.
+/// `taken` must be in ascending order, which [`rises`] checks. The blocks may be in any order, and may overlap.
 pub fn least_free(taken: &[u32], blocks: &[Block], form: Form) -> Option<u32>
     requires { IsStrictlyIncreasing taken.now }
     ensures least { IsLeastFree taken.now blocks.now form result }

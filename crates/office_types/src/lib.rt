@@ -1,15 +1,15 @@
-//! What the office speaks of: teams and networks, commands and replies, the state, and the allocators.
+//! The types of the office: teams and networks, commands and replies, the state, and the allocators.
 //!
-//! A [`Command`] asks for one thing on one network; its fields are typed so that no value out of range can be
-//! written. A [`Reply`] is what the office answers. The state is plain data: [`Office`] holds networks in the
-//! order of their names and the [`SpnBook`], a [`Net`] holds its live messages, blocks and held identifiers,
-//! each in the order of a key, so that the state is also what tables ordered by key hold. A [`Change`] is one
-//! thing that a command sets.
+//! A [`Command`] asks for one thing on one network; the types of its fields allow no value out of range. A [`Reply`]
+//! is what the office answers. The state is plain data: [`Office`] holds networks in the order of their names and the
+//! [`SpnBook`], and a [`Net`] holds its live messages, blocks and held identifiers, each in the order of a key, as
+//! database tables in that order do. A [`Change`] is one thing that a command sets.
 //!
 //! [`least_free`] is the allocator: the least number of some blocks that has a form and isn't taken.
 //!
 //! The definitions are in `specs/`: `PlainName.antt`, `Command.antt` (ranges of a command's fields),
-//! `Reply.antt` (numbers, names and lines of replies), `State.antt` (what every office keeps) and `Free.antt`.
+//! `Reply.antt` (the lines of replies), `Refusal.antt` (numbers and names of refusals), `State.antt` (the invariants of
+//! an office) and `Free.antt`.
 #![tactic(auto)]
 
 mod block;
@@ -30,9 +30,8 @@ pub use change::{Change, Decision, Head};
 pub use command::{Action, Command, Grant, NetKind, OpenNet, TakeIdent};
 pub use free::{Form, least_free, rises};
 pub use net_name::NetName;
-pub use plain_name::PlainName;
 pub use quantity::ReviewCount;
 pub use refusal::Refusal;
 pub use reply::Reply;
 pub use state::{GrantedBlock, LiveMessage, Message, Net, Node, Office, Phase, SpnBlock, SpnBook};
-pub use team::Team;
+pub use team::{Team, is_office};

@@ -2,9 +2,9 @@
 ghost use Rattle.std.specs.Prelude.{◌≡◌};
 
 /// Why the office refused a command.
-#[derive(Clone, Copy, Debug, PartialEq, Eq, Hash)]
+#[derive(Clone, Copy, Debug, PartialEq, Eq)]
 pub enum Refusal {
-    /// 26: a limit of the catalogue is reached.
+    /// 26: the network has as many live messages as it may have.
     TooMany,
     /// 40: there is no network of that name.
     NoNet,
@@ -14,19 +14,19 @@ pub enum Refusal {
     NotOffice,
     /// 43: the network has no node of that name.
     NoNode,
-    /// 46: a number of the block is granted already.
+    /// 46: a number of the block is granted already, in that form on the network.
     BlockTaken,
     /// 47: the team has no block of that form on the network.
     NoBlock,
-    /// 48: no number of the team's blocks is free.
+    /// 48: no number of the team's blocks of that form is free.
     BlockFull,
-    /// 49: the wanted number is in none of the team's blocks.
+    /// 49: the wanted number is in none of the team's blocks of the form.
     OutsideBlock,
-    /// 50: the network has that name already.
+    /// 50: a live message has the name.
     NameTaken,
     /// 51: a live message has the wanted identifier.
     IdentTaken,
-    /// 52: a release has the wanted identifier, which is held for good.
+    /// 52: the wanted identifier is held for good, since a release has used it.
     Held,
     /// 54: the network is in review.
     InReview,

@@ -3,7 +3,7 @@ use crate::refusal::Refusal;
 use std::fmt;
 
 /// What the office answers to a command. Its text is the reply's line, without the line's end.
-#[derive(Clone, Copy, Debug, PartialEq, Eq, Hash)]
+#[derive(Clone, Copy, Debug, PartialEq, Eq)]
 pub enum Reply {
     /// The command was carried out.
     Done,

@@ -10,7 +10,6 @@ use std::alloc::{AllocError, Global};
 use std::cmp::Ordering;
 
 /// The whole office.
-#[derive(Debug)]
 pub struct Office {
     /// The networks, in ascending order of name.
     pub nets: Items<Net>,
@@ -19,11 +18,10 @@ pub struct Office {
 }
 
 /// One vehicle network.
-#[derive(Debug)]
 pub struct Net {
-    /// The network's name, by which commands speak of it.
+    /// The network's name, by which commands refer to it.
     pub name: NetName,
-    /// Whether J1939 parameter groups are allotted.
+    /// Whether J1939 parameter groups are given out.
     pub kind: NetKind,
     /// How many approvals a release needs.
     pub reviews: ReviewCount,
@@ -40,7 +38,6 @@ pub struct Net {
 }
 
 /// Whether a network is being changed or reviewed.
-#[derive(Debug)]
 pub enum Phase {
     /// Teams may change the network.
     Draft,
@@ -52,14 +49,12 @@ pub enum Phase {
 }
 
 /// A node of a network.
-#[derive(Debug)]
 pub struct Node {
     /// The node's name.
     pub name: Name,
 }
 
 /// A message without signals.
-#[derive(Debug)]
 pub struct Message {
     /// The identifier under which it is sent.
     pub ident: Ident,
@@ -72,7 +67,6 @@ pub struct Message {
 }
 
 /// A live message, and the team that took it.
-#[derive(Debug)]
 pub struct LiveMessage {
     /// The message.
     pub message: Message,
@@ -81,7 +75,6 @@ pub struct LiveMessage {
 }
 
 /// A block of numbers, and the team that it was granted to.
-#[derive(Debug)]
 pub struct GrantedBlock {
     /// The numbers.
     pub block: FormBlock,
@@ -90,16 +83,14 @@ pub struct GrantedBlock {
 }
 
 /// The J1939 suspect parameter numbers of the whole office.
-#[derive(Debug)]
 pub struct SpnBook {
     /// The granted blocks, by network and then by their first number.
     pub blocks: Items<SpnBlock>,
-    /// Each number that was ever used, ascending.
+    /// Each number that was ever used, in ascending order.
     pub used: Items<u32>,
 }
 
 /// A block of suspect parameter numbers from `first` to `last`, inclusive, of a team on a network.
-#[derive(Debug)]
 pub struct SpnBlock {
     /// The network.
     pub net: NetName,

@@ -1,5 +1,5 @@
 //! Charts of signals that are written out on the command line.
-use crate::row::{Row, is_told};
+use crate::row::{Row, is_printed};
 use canoffice_cli::Status;
 
 const ROWS: [Row; 6] = [
@@ -99,6 +99,6 @@ clear
 #[test]
 fn signals_are_charted(rt: HostRuntime) {
     for row in ROWS {
-        assert!(rt; is_told(rt.alloc(), &row), "{}", row.name);
+        assert!(rt; is_printed(rt.alloc(), &row), "{}", row.name);
     }
 }

@@ -105,10 +105,7 @@ fn is_delivered(alloc: Global, output: Limits, errors: Limits) -> bool {
 fn writes_fail_at_each_byte_and_flush(rt: HostRuntime) {
     for output in 0..14 {
         for errors in 0..20 {
-            assert!(rt;
-                is_delivered(rt.alloc(), limits_at(output), limits_at(errors)),
-                "{output} {errors}"
-            );
+            assert!(rt; is_delivered(rt.alloc(), limits_at(output), limits_at(errors)));
         }
     }
 }
@@ -127,7 +124,7 @@ impl FileSource for Exhausted {
     }
 }
 
-/// Whether a run of the command tells that memory was lost.
+/// Whether a run of the command reports that it ran out of memory.
 fn is_lost(alloc: Global, command: &str) -> bool {
     let mut output = Vec::new(alloc);
     let mut errors = Vec::new(alloc);
@@ -137,7 +134,7 @@ fn is_lost(alloc: Global, command: &str) -> bool {
 }
 
 #[test]
-fn lost_memory_is_told(rt: HostRuntime) {
+fn lost_memory_is_printed(rt: HostRuntime) {
     for command in ["apply", "check", "format"] {
         assert!(rt; is_lost(rt.alloc(), command));
     }

@@ -1,9 +1,12 @@
-//! Tests of the program's library through `perform`, and of its parts that no run of the program shows. The runs of the
-//! built program are in `tests/`.
+//! Tests of `perform` over files in memory: rows of scripts, charts and DBC files. And what no run of the program shows:
+//! writers that fail, memory that runs out, and a file that is cut at each of its bytes. Further runs of the built program
+//! are in `tests/`.
 #![tactic(auto)]
 
 #[cfg(test)]
 mod charts;
+#[cfg(test)]
+mod cuts;
 #[cfg(test)]
 mod dbc_files;
 #[cfg(test)]

@@ -2,7 +2,7 @@
 use canoffice_cli::{ListedFiles, NamedFile, Status, perform};
 use std::alloc::Global;
 
-/// A run, and all that it tells.
+/// A run, and all that it prints.
 #[derive(Clone, Copy)]
 pub(crate) struct Row {
     pub(crate) name: &'static str,
@@ -14,8 +14,8 @@ pub(crate) struct Row {
     pub(crate) status: Status,
 }
 
-/// Whether a run on the row's words and file tells what the row has, and no more.
-pub(crate) fn is_told(alloc: Global, row: &Row) -> bool {
+/// Whether a run on the row's words and file prints what the row has, and nothing else.
+pub(crate) fn is_printed(alloc: Global, row: &Row) -> bool {
     let files = [NamedFile {
         path: "file",
         bytes: row.file,

@@ -1,5 +1,5 @@
 //! Scripts, and the replies that they print.
-use crate::row::{Row, is_told};
+use crate::row::{Row, is_printed};
 use canoffice_cli::Status;
 
 const APPLY: &[&str] = &["canoffice", "apply", "file"];
@@ -71,6 +71,6 @@ refused 49 OutsideBlock\nrefused 47 NoBlock\nrefused 40 NoNet\n",
 #[test]
 fn scripts_are_applied(rt: HostRuntime) {
     for row in ROWS {
-        assert!(rt; is_told(rt.alloc(), &row), "{}", row.name);
+        assert!(rt; is_printed(rt.alloc(), &row), "{}", row.name);
     }
 }

@@ -8,9 +8,10 @@ use std::fs::File;
 use std::io::{self, ErrorKind, Read};
 use std::rt::Files;
 
-/// The files that the runtime reaches, of which nothing is known before they are read.
+/// The machine's files, as the runtime opens them. Nothing is known of them before they are read.
 #[derive(Clone, Copy)]
 pub struct HostFiles<'r, R> {
+    /// The runtime.
     pub rt: &'r R,
 }
 
@@ -32,7 +33,7 @@ impl<R: Files> FileSource for HostFiles<'_, R> {
     }
 }
 
-/// Out of memory is told apart from every other reason.
+/// Why a file can't be read: out of memory, or any other reason.
 fn fault_of(error: &io::Error) -> FileFault
     ensures { (result ≡ FileFault.Memory) ↔ (error_kind error.now ≡ ErrorKind.OutOfMemory) }
 {

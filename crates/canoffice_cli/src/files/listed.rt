@@ -8,13 +8,16 @@ use std::alloc::Global;
 /// The bytes of a file, and the path that names it.
 #[derive(Clone, Copy, Debug)]
 pub struct NamedFile<'a> {
+    /// The path.
     pub path: &'a str,
+    /// The bytes.
     pub bytes: &'a [u8],
 }
 
-/// The files of a list, and no others. Where a path is named twice, the first file counts.
+/// The files of a list, and no others. If a path occurs twice, the first file counts.
 #[derive(Clone, Copy, Debug)]
 pub struct ListedFiles<'a> {
+    /// The files, in order.
     pub files: &'a [NamedFile<'a>],
 }
 
@@ -34,7 +37,7 @@ impl FileSource for ListedFiles<'_> {
     }
 }
 
-/// The first file of the path.
+/// The first file with this path.
 fn first_at<'a>(files: &'a [NamedFile<'a>], path: &str) -> Option<&'a NamedFile<'a>>
     ensures { option_map (λ file. file.now) result ≡ find (λ file. bytes_eq file.path.now path.now) files.now }
 {

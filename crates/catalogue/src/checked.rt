@@ -1,0 +1,173 @@
+//! Bytes that keep a rule.
+ghost use Rattle.std.specs.Prelude.{◌≡◌, ◌↔◌, ℕ, Bool, List, [], IfOk, IsTrue, SomeIff};
+
+use crate::copying::Copying;
+use crate::keyed::Keyed;
+use std::alloc::{AllocError, Global};
+use std::cmp::Ordering;
+use std::marker::{Model, PhantomData};
+
+/// Which bytes a type may have: a name, a text, the name of a team.
+pub trait Rule {
+    /// The bytes keep the rule.
+    ghost Keeps: { List ℕ → Type 0 };
+
+    /// The same computed.
+    ghost accepts: { List ℕ → Bool };
+
+    /// Whether the bytes keep the rule.
+    fn accepts(bytes: &[u8]) -> bool
+        ensures computed { result ≡ accepts bytes.now }
+        ensures keeps { IsTrue result ↔ Keeps bytes.now };
+}
+
+/// Bytes that keep the rule. Contracts see them as a list.
+pub struct Checked<R: Rule> {
+    bytes: Vec<u8>,
+    rule: PhantomData<R>,
+}
+
+impl<R: Rule> Model for Checked<R> {
+    ghost use Rattle.std.specs.Prelude.{ℕ, List, IsTrue};
+
+    ghost Value = { List ℕ };
+
+    ghost view = { λ checked. checked.bytes.items };
+
+    ghost invariant = { λ checked. R.Keeps checked.bytes.items × IsTrue (R.accepts checked.bytes.items) };
+}
+
+impl<R: Rule> Checked<R> {
+    /// A copy of the bytes, or `None` where they don't keep the rule.
+    pub fn of(alloc: Global, bytes: &[u8]) -> Result<Option<Self>, AllocError>
+        ensures { IfOk result (λ found. SomeIff found (R.Keeps bytes.now) bytes.now) }
+    {
+        if !R::accepts(bytes) {
+            return Ok(None);
+        }
+        Ok(Some(Checked {
+            bytes: Vec::from_slice(alloc, bytes)?,
+            rule: PhantomData,
+        }))
+    }
+
+    /// No bytes, which keep the rule. Takes no memory.
+    pub(crate) fn none(alloc: Global) -> Self
+        requires keeps { R.Keeps [] }
+        requires computed { IsTrue (R.accepts []) }
+        ensures { result ≡ [] }
+    {
+        Checked {
+            bytes: Vec::new(alloc),
+            rule: PhantomData,
+        }
+    }
+
+    /// The bytes.
+    pub fn as_bytes(&self) -> &[u8]
+        ensures bytes { result.now ≡ self.now }
+        ensures keeps { R.Keeps self.now }
+        ensures computed { IsTrue (R.accepts self.now) }
+    {
+        &self.bytes
+    }
+}
+
+impl<R: Rule> PartialEq for Checked<R> {
+    ghost use Rattle.std.specs.Str.{bytes_eq};
+    ghost use Rattle.std.proofs.Common.{rules};
+    ghost use Rattle.std.specs.Cmp.Rules.{comparing};
+
+    ghost eq = { bytes_eq };
+
+    ghost laws = { Prim.search (comparing, rules) };
+
+    fn eq(&self, other: &Self) -> bool {
+        self.bytes.as_slice() == other.bytes.as_slice()
+    }
+}
+
+impl<R: Rule> Eq for Checked<R> {
+    ghost use Rattle.std.proofs.Common.{rules};
+    ghost use Rattle.std.specs.Cmp.Rules.{comparing};
+
+    ghost laws = { Prim.search (comparing, rules) };
+}
+
+impl<R: Rule> PartialOrd for Checked<R> {
+    ghost use Rattle.std.specs.Prelude.{Some};
+    ghost use Rattle.std.specs.Cmp.Lexicographic.{texts_po};
+    ghost use Rattle.catalogue.specs.Keyed.{text_cmp};
+
+    ghost partial_cmp = { λ x y. Some (text_cmp x y) };
+
+    ghost laws = { texts_po };
+
+    fn partial_cmp(&self, other: &Self) -> Option<Ordering> {
+        Some(self.cmp(other))
+    }
+}
+
+/// In the order of the bytes.
+impl<R: Rule> Ord for Checked<R> {
+    ghost use Rattle.std.specs.Prelude.{refl};
+    ghost use Rattle.std.specs.Cmp.Lexicographic.{nat_list_cmp_total, texts_ties};
+    ghost use Rattle.catalogue.specs.Keyed.{text_cmp};
+
+    ghost cmp = { text_cmp };
+
+    ghost total = { nat_list_cmp_total };
+
+    ghost matches_partial_cmp = { λ x y. refl };
+
+    ghost matches_eq = { texts_ties };
+
+    fn cmp(&self, other: &Self) -> Ordering {
+        self.bytes.as_slice().cmp(other.bytes.as_slice())
+    }
+}
+
+/// The key is the bytes.
+impl<R: Rule> Keyed for Checked<R> {
+    ghost use Rattle.std.specs.Cmp.Lexicographic.{nat_list_cmp_total};
+    ghost use Rattle.catalogue.specs.Keyed.{text_cmp};
+
+    ghost order = { text_cmp };
+
+    ghost ordered = { nat_list_cmp_total };
+
+    fn compare(&self, other: &Self) -> Ordering {
+        self.cmp(other)
+    }
+}
+
+impl<R: Rule> Clone for Checked<R> {
+    ghost use Rattle.std.specs.Prelude.{◌≡◌};
+
+    ghost is_clone = { λ checked copy. copy ≡ checked };
+
+    fn clone(&self) -> Result<Self, AllocError> {
+        Ok(Checked {
+            bytes: self.bytes.clone()?,
+            rule: PhantomData,
+        })
+    }
+}
+
+impl<R: Rule> Copying for Checked<R> {
+    fn duplicate(&self, alloc: Global) -> Result<Self, AllocError> {
+        Ok(Checked {
+            bytes: Vec::from_slice(alloc, self.as_bytes())?,
+            rule: PhantomData,
+        })
+    }
+}
+
+impl<R: Rule> Drop for Checked<R> {
+    fn drop(self) {
+        let Checked {
+            bytes: _bytes,
+            rule: _rule,
+        } = self;
+    }
+}

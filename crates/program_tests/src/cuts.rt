@@ -1,0 +1,49 @@
+//! A file that is cut at each of its bytes.
+use crate::dbc_files::FILE;
+use canoffice_cli::{FileFault, FileSource, Status, perform};
+use std::alloc::Global;
+
+/// Files of which each has these bytes. Contracts see nothing of them.
+#[derive(Clone, Copy)]
+struct Cut<'a> {
+    bytes: &'a [u8],
+}
+
+impl FileSource for Cut<'_> {
+    ghost use Rattle.canoffice_cli.specs.Holding.{unknown};
+
+    ghost held = { λ _ _. unknown };
+
+    fn read(&self, alloc: Global, _path: &str) -> Result<Vec<u8>, FileFault> {
+        match Vec::from_slice(alloc, self.bytes) {
+            Ok(bytes) => Ok(bytes),
+            Err(_) => Err(FileFault::Memory),
+        }
+    }
+}
+
+/// Whether a check of the bytes tells what they are, or their fault. That its offset is inside them or at their end is proved.
+fn is_answered(alloc: Global, command: &str, cut: Cut) -> bool {
+    let mut output = Vec::new(alloc);
+    let mut errors = Vec::new(alloc);
+    let words = ["canoffice", command, "file"];
+    let status = perform(alloc, &words, &cut, &mut output, &mut errors);
+    errors.is_empty() && (status == Status::Success || status == Status::FaultFound)
+}
+
+#[test]
+fn every_cut_of_a_file(rt: HostRuntime) {
+    assert!(rt; FILE.len() == 676);
+    for end in 0..=FILE.len() {
+        assert!(rt;
+            is_answered(
+                rt.alloc(),
+                "check",
+                Cut {
+                    bytes: &FILE[..end]
+                }
+            ),
+            "at {end}"
+        );
+    }
+}

@@ -1,4 +1,4 @@
-//! Prints how long parts of the work take, on standard error. Standard output has counts and answers alone, which are
+//! Prints how long parts of the work take, on standard error. Standard output has counts and answers only, which are
 //! the same at each run.
 //!
 //! Without words it measures the searches of `bitlayout`. `tokens FILE` counts the tokens of a DBC file, `divide FILE`

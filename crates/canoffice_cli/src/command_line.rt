@@ -28,9 +28,7 @@ fn apply_command<'a>(alloc: Global) -> Result<Command<'a>, AllocError>
     ensures app { IfOk result (λ c. app_of c ≡ apply_app) }
     ensures local { IfOk result (λ c. (fields_of c).has_globals ≡ false) }
 {
-    let named = Command::new(alloc, "apply").about(
-        "Applies a script's lines and prints each reply",
-    );
+    let named = Command::new(alloc, "apply").about("Runs a script and prints each reply");
     let apply = named.arg(required(alloc, "SCRIPT", "The script's file"))?;
     Ok(apply)
 }
@@ -41,7 +39,7 @@ fn chart_command<'a>(alloc: Global) -> Result<Command<'a>, AllocError>
     ensures local { IfOk result (λ c. (fields_of c).has_globals ≡ false) }
 {
     let named = Command::new(alloc, "chart").about(
-        "Prints which signal has which bit of a message, and whether they clash",
+        "Prints which signal has which bit of a message, and the first clash",
     );
     let length = "How many bytes the message has, 0 to 64";
     let signal = "A signal: name=start|size@order, then nothing, ,M or ,mN";
@@ -56,7 +54,7 @@ fn check_command<'a>(alloc: Global) -> Result<Command<'a>, AllocError>
     ensures local { IfOk result (λ c. (fields_of c).has_globals ≡ false) }
 {
     let named = Command::new(alloc, "check").about(
-        "Says what of a DBC file is passed over, and whether its sheet is clear",
+        "Lists the skipped statements of a DBC file, and checks that its signals fit",
     );
     let check = named.arg(required(alloc, "FILE", "The DBC file"))?;
     Ok(check)
@@ -67,9 +65,7 @@ fn format_command<'a>(alloc: Global) -> Result<Command<'a>, AllocError>
     ensures app { IfOk result (λ c. app_of c ≡ format_app) }
     ensures local { IfOk result (λ c. (fields_of c).has_globals ≡ false) }
 {
-    let named = Command::new(alloc, "format").about(
-        "Prints the canonical text of what a DBC file says",
-    );
+    let named = Command::new(alloc, "format").about("Prints a DBC file in its canonical form");
     let format = named.arg(required(alloc, "FILE", "The DBC file"))?;
     Ok(format)
 }
@@ -80,7 +76,7 @@ pub fn canoffice_command<'a>(alloc: Global) -> Result<Command<'a>, AllocError>
     ensures local { IfOk result (λ c. (fields_of c).has_globals ≡ false) }
 {
     let named = Command::new(alloc, "canoffice").about(
-        "Gives out numbers on a vehicle's CAN networks",
+        "Checks, formats and charts DBC files, and gives out CAN identifiers",
     );
     let wanting = named.subcommand_required(true).arg_required_else_help(true);
     let with_apply = wanting.subcommand(apply_command(alloc)?)?;

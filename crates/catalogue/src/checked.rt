@@ -1,4 +1,4 @@
-//! Bytes that keep a rule.
+//! Bytes that follow a rule.
 ghost use Rattle.std.specs.Prelude.{◌≡◌, ◌↔◌, ℕ, Bool, List, [], IfOk, IsTrue, SomeIff};
 
 use crate::copying::Copying;

@@ -73,7 +73,7 @@ impl<T: Drop> Items<T> {
         Ok(())
     }
 
-    /// Takes out the item at `at`, from 0.
+    /// Removes the item at `at`, from 0.
     pub fn remove(&mut self, at: usize) -> T
         requires { at < length self.old }
         ensures item { slice_get self.old at ≡ Some result }

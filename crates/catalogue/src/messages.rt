@@ -122,7 +122,7 @@ impl Messages {
         }
     }
 
-    /// Takes out the message of the number.
+    /// Removes the message with the number.
     pub(crate) fn remove(&mut self, number: u32) -> Option<Message>
         ensures found { result ≡ message_at self.old number }
         ensures rest { self.new ≡ without_number self.old number }

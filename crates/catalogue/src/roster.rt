@@ -25,8 +25,8 @@ pub trait Named {
         ensures { result.now ≡ name_of self.now };
 }
 
-/// At most [`ROSTER_LIMIT`] things in the order in which they were added, no two of one name. Contracts see it as the
-/// list of them. A set of the names tells whether a name is there without a walk over the list.
+/// At most [`ROSTER_LIMIT`] things in the order in which they were added, no two with the same name. Contracts see it as the
+/// list of them. A set of the names shows whether a name is there without a walk over the list.
 pub struct Roster<T: Named> {
     things: Vec<T>,
     names: NameSet,
@@ -116,7 +116,7 @@ impl<T: Named> Roster<T> {
         }
     }
 
-    /// Takes out the thing of the name, or answers `None` and changes nothing where there is none. Takes no memory.
+    /// Removes the thing with the name, or returns `None` and changes nothing if there is none. Takes no memory.
     pub(crate) fn remove(&mut self, name: &Name) -> Option<T>
         ensures found { result ≡ thing_named T.name_of self.old name.now }
         ensures rest { self.new ≡ without_named T.name_of self.old name.now }

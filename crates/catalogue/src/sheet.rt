@@ -36,7 +36,7 @@ pub struct Sheet {
 }
 
 impl Sheet {
-    /// The sheet that says nothing. Takes no memory.
+    /// The empty sheet. Takes no memory.
     pub fn new(alloc: Global) -> Sheet
         ensures { result ≡ empty_sheet }
     {
@@ -160,7 +160,7 @@ impl Sheet {
             .map_err(|code| SheetFault { code, about })
     }
 
-    /// Takes out the message of the DBC number, or answers `None` and changes nothing where there is none. Takes no
+    /// Removes the message with the DBC number, or returns `None` and changes nothing if there is none. Takes no
     /// memory.
     pub fn without_message(&mut self, number: u32) -> Option<Message>
         ensures found { result ≡ message_at self.old.messages number }

@@ -17,7 +17,7 @@ use std::alloc::{AllocError, Global};
 use std::marker::Model;
 
 /// The signals of one message in the order in which they were added: at most [`ROSTER_LIMIT`](crate::ROSTER_LIMIT), no
-/// two of one name, and at most one the multiplexor. Contracts see it as the list of them.
+/// two with the same name, and at most one the multiplexor. Contracts see it as the list of them.
 pub struct Signals {
     roster: Roster<Signal>,
     multiplexed: bool,
@@ -110,7 +110,7 @@ impl Signals {
         self.roster.change(name, |signal| signal.values = values)
     }
 
-    /// Takes out the signal of the name, or answers `None` and changes nothing where there is none. Takes no memory.
+    /// Removes the signal with the name, or returns `None` and changes nothing if there is none. Takes no memory.
     pub fn remove(&mut self, name: &Name) -> Option<Signal>
         ensures found { result ≡ signal_named self.old name.now }
         ensures rest { self.new ≡ without_signal self.old name.now }

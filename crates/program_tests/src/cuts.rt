@@ -22,7 +22,8 @@ impl FileSource for Cut<'_> {
     }
 }
 
-/// Whether a check of the bytes tells what they are, or their fault. That its offset is inside them or at their end is proved.
+/// Whether a check of the bytes ends with a verdict or a fault. That the offset of a fault is inside them or at their end is
+/// proved.
 fn is_answered(alloc: Global, command: &str, cut: Cut) -> bool {
     let mut output = Vec::new(alloc);
     let mut errors = Vec::new(alloc);

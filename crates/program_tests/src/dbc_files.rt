@@ -118,7 +118,7 @@ fn files_are_checked_and_formatted(rt: HostRuntime) {
     }
 }
 
-/// Files of one fault, and the line that tells it.
+/// Files with one fault each, and the line that reports it.
 const FAULTS: [(&[u8], &str); 11] = [
     (b"FOO 1", "fault 33 UnknownStatement 0\n"),
     (b"BO_ 1 A 8 X", "fault 32 Unexpected 8\n"),

@@ -17,14 +17,14 @@ use Rattle.bitlayout.proofs.Clearance.{clear_from_none, none_from_clear}
 use Rattle.bitlayout.proofs.Faults.{clash_at_place}
 use Rattle.bitlayout.proofs.Search.{none_before, none_if_none}
 
-or_turned : (a b : Bool) → (a || (b || false)) ≡ (b || a)
-or_turned true true = refl
-or_turned true false = refl
-or_turned false true = refl
-or_turned false false = refl
+or_swapped : (a b : Bool) → (a || (b || false)) ≡ (b || a)
+or_swapped true true = refl
+or_swapped true false = refl
+or_swapped false true = refl
+or_swapped false false = refl
 
 pub has_multiplexor-added : (places : List Place) (place : Place) → has_multiplexor (places ++ place ∷ []) ≡ (is_multiplexor place.mux || has_multiplexor places)
-has_multiplexor-added places place = list_any-append (λ p. is_multiplexor p.mux) places (place ∷ []) ∙ or_turned (has_multiplexor places) (is_multiplexor place.mux)
+has_multiplexor-added places place = list_any-append (λ p. is_multiplexor p.mux) places (place ∷ []) ∙ or_swapped (has_multiplexor places) (is_multiplexor place.mux)
 
 length-added : (places : List Place) (place : Place) → length (places ++ place ∷ []) ≡ length places + 1
 length-added places place = length-append places (place ∷ [])

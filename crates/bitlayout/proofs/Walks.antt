@@ -124,8 +124,8 @@ share_from_rank a b e n low_a high_a low_b high_b =
     (q, bit_from_within a q (omega arith) (omega arith), bit_from_within b q (omega arith) (omega arith))
 
 -- two orders count a byte's bits in opposite directions
-pub turned_rank : (a b : Order) → (a ≡ b → ⊥) → (q : ℕ) → rank a q + rank b q ≡ 16 * (q / 8) + 7
-turned_rank Intel Intel differ q = absurd (differ refl)
-turned_rank Intel Motorola differ q = omega arith
-turned_rank Motorola Intel differ q = omega arith
-turned_rank Motorola Motorola differ q = absurd (differ refl)
+pub reversed_rank : (a b : Order) → (a ≡ b → ⊥) → (q : ℕ) → rank a q + rank b q ≡ 16 * (q / 8) + 7
+reversed_rank Intel Intel differ q = absurd (differ refl)
+reversed_rank Intel Motorola differ q = omega arith
+reversed_rank Motorola Intel differ q = omega arith
+reversed_rank Motorola Motorola differ q = absurd (differ refl)

@@ -46,7 +46,7 @@ fn share_bit_across(a: Layout, b: Layout) -> bool
     let first_byte = (ranks_of_a.first / 8).max(ranks_of_b.first / 8);
     let last_byte = ((ranks_of_a.end - 1) / 8).min((ranks_of_b.end - 1) / 8);
     for byte in first_byte..last_byte + 1 {
-        let part_of_a = ranks_of_a.in_byte(byte).turned(byte);
+        let part_of_a = ranks_of_a.in_byte(byte).reversed_in_byte(byte);
         if part_of_a.meets(ranks_of_b.in_byte(byte)) {
             return true;
         }

@@ -67,7 +67,7 @@ impl Interval {
     }
 
     /// A part of one byte, with that byte's bits numbered in the opposite direction.
-    pub fn turned(self, byte: u32) -> Interval
+    pub fn reversed_in_byte(self, byte: u32) -> Interval
         requires byte { byte < 2 ^ 20 }
         requires end { self.end ≤ 8 * byte + 8 }
         requires first { self.first ≤ 8 * byte + 8 }

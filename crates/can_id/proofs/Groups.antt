@@ -2,7 +2,7 @@
 use Rattle.std.proofs.Common.{◌≡◌, ℕ, ◌/◌, ◌%◌, ◌<◌, ◌≤◌, Bool, true, false, cond, refl, arith}
 use Rattle.std.specs.Prelude.{◌↔◌, IsTrue, Ok}
 use Rattle.std.proofs.lemmas.Bool.Decides.{nat_tests}
-use Rattle.can_id.specs.J1939.{Fields, IsOfGroup, IsPgn, IsBuilt, page_bit, page_of, is_pdu1, is_pgn, format_of, fields_with, built}
+use Rattle.can_id.specs.J1939.{Fields, IsOfGroup, IsPgn, IsBuilt, page_bit, page_of, is_pdu1, is_pgn, format_of, fields_with, build_result}
 
 pub page_bit_below : (b : Bool) → page_bit b ≤ 1
 page_bit_below true = omega arith
@@ -54,8 +54,8 @@ built_as_asked priority pgn destination source hp hg global hd hs =
     }
 
 -- and it is the only message with these fields
-pub built_only : (wanted pgn address sender : ℕ) (f : Fields) → IsBuilt wanted pgn address sender f → built wanted pgn address sender ≡ Ok f
-built_only wanted pgn address sender f h =
+pub build_result_only : (wanted pgn address sender : ℕ) (f : Fields) → IsBuilt wanted pgn address sender f → build_result wanted pgn address sender ≡ Ok f
+build_result_only wanted pgn address sender f h =
     let extended = page_bit_below f.extended_page in
     let page = page_bit_below f.data_page in
     let test = is_pgn_of_group pgn f h.group in

@@ -1,9 +1,10 @@
 -- The definitions computed on messages of SAE J1939-71 and J1939-81, whose identifiers are known.
-use Rattle.std.proofs.Common.{◌≡◌, true, false, Some, None, Ok, refl}
-use Rattle.can_id.specs.Ident.{dbc_number}
+use Rattle.std.proofs.Common.{◌≡◌, true, false, [], ◌∷◌, map, Some, None, Ok, refl}
+use Rattle.can_id.specs.Ident.{dbc_number, ident_in}
+use Rattle.can_id.specs.declared.form.IdentForm.TheVariants.{Standard, Extended}
 use Rattle.can_id.specs.declared.ident.Ident.TheVariants.{Std, Ext}
 use Rattle.can_id.specs.declared.fault.IdFault.TheVariants as fault
-use Rattle.can_id.specs.J1939.{Fields, fields_of, ident_fields, number_of, pgn_of, is_pgn, build_fault, built}
+use Rattle.can_id.specs.J1939.{Fields, fields_of, ident_fields, number_of, pgn_of, is_pgn, build_fault, build_result}
 
 -- electronic engine controller 1 (EEC1), from source 254
 engine_controller : Fields
@@ -21,7 +22,7 @@ engine_controller_pgn : pgn_of engine_controller ≡ 61444
 unfolding engine_controller
 engine_controller_pgn = refl
 
-engine_controller_built : built 3 61444 255 254 ≡ Ok engine_controller
+engine_controller_built : build_result 3 61444 255 254 ≡ Ok engine_controller
 unfolding engine_controller
 engine_controller_built = refl
 
@@ -29,7 +30,7 @@ engine_controller_built = refl
 torque_control : Fields
 torque_control = record { priority = 3; extended_page = false; data_page = false; pf = 0; ps = 0; source = 3 }
 
-torque_control_built : built 3 0 0 3 ≡ Ok torque_control
+torque_control_built : build_result 3 0 0 3 ≡ Ok torque_control
 unfolding torque_control
 torque_control_built = refl
 
@@ -45,7 +46,7 @@ torque_control_pgn = refl
 engine_temperature : Fields
 engine_temperature = record { priority = 6; extended_page = false; data_page = false; pf = 0xFE; ps = 0xEE; source = 0 }
 
-engine_temperature_built : built 6 65262 255 0 ≡ Ok engine_temperature
+engine_temperature_built : build_result 6 65262 255 0 ≡ Ok engine_temperature
 unfolding engine_temperature
 engine_temperature_built = refl
 
@@ -65,7 +66,7 @@ address_claimed_pgn : pgn_of address_claimed ≡ 60928
 unfolding address_claimed
 address_claimed_pgn = refl
 
-address_claimed_built : built 6 60928 255 0x80 ≡ Ok address_claimed
+address_claimed_built : build_result 6 60928 255 0x80 ≡ Ok address_claimed
 unfolding address_claimed
 address_claimed_built = refl
 
@@ -104,3 +105,13 @@ then_the_destination = refl
 
 none_refused : build_fault 7 61440 255 ≡ None
 none_refused = refl
+
+-- the least and the greatest of each form, as a DBC file writes them
+dbc_numbers : map dbc_number (Std 0 ∷ Std 2047 ∷ Ext 0 ∷ Ext 536870911 ∷ []) ≡ 0 ∷ 2047 ∷ 2147483648 ∷ 2684354559 ∷ []
+dbc_numbers = refl
+
+greatest_standard : map (ident_in Standard) (2047 ∷ 2048 ∷ []) ≡ Some (Std 2047) ∷ None ∷ []
+greatest_standard = refl
+
+greatest_extended : map (ident_in Extended) (536870911 ∷ 536870912 ∷ []) ≡ Some (Ext 536870911) ∷ None ∷ []
+greatest_extended = refl

@@ -126,13 +126,13 @@ build_fault priority pgn destination =
     else (if not (is_pgn pgn) then Some NotPgn
     else (if not (is_pdu1 (format_of pgn)) && not (destination == 255) then Some Destination else None))
 
-abbrev pub built_or : Option IdFault → Fields → Result Fields IdFault
-built_or None f = Ok f
-built_or (Some fault) f = Err fault
+abbrev pub fields_or_fault : Option IdFault → Fields → Result Fields IdFault
+fields_or_fault None f = Ok f
+fields_or_fault (Some fault) f = Err fault
 
-abbrev pub built : ℕ → ℕ → ℕ → ℕ → Result Fields IdFault
-built priority pgn destination source =
-    built_or (build_fault priority pgn destination) (fields_with priority pgn destination source)
+abbrev pub build_result : ℕ → ℕ → ℕ → ℕ → Result Fields IdFault
+build_result priority pgn destination source =
+    fields_or_fault (build_fault priority pgn destination) (fields_with priority pgn destination source)
 
 -- how many of the numbers below the limit are parameter group numbers
 unfoldable pub pgn_count : ℕ → ℕ

@@ -1,6 +1,6 @@
 //! The fields of a 29-bit identifier, and parameter group numbers (SAE J1939-21, the protocol data unit).
 ghost use Rattle.std.specs.Prelude.{◌≡◌, ◌↔◌, IsTrue, MatchResult, Ok, Option, Some};
-ghost use Rattle.can_id.specs.J1939.{AreInRange, Fields, HasFields, IsBuildFault, IsBuilt, IsPgn, built, fields_of, ident_fields, is_pdu1, is_pgn, number_of, pgn_count, pgn_of};
+ghost use Rattle.can_id.specs.J1939.{AreInRange, Fields, HasFields, IsBuildFault, IsBuilt, IsPgn, build_result, fields_of, format_of, ident_fields, is_pdu1, is_pgn, number_of, pgn_count, pgn_of};
 ghost use Rattle.can_id.specs.declared.ident.Ident.TheVariants.{Ext};
 
 use crate::fault::IdFault;
@@ -53,6 +53,13 @@ pub fn is_pgn(number: u32) -> bool
     number >> 18 == 0 && (!is_pdu1(pf) || number & 0xff == 0)
 }
 
+/// Whether a message of the parameter group of this number has a destination address (PDU1).
+pub fn has_destination(pgn: u32) -> bool
+    ensures { result ≡ is_pdu1 (format_of pgn) }
+{
+    is_pdu1(((pgn >> 8) & 0xff) as u8)
+}
+
 /// How many parameter groups have the extended data page clear: on each of two data pages 240 with a destination
 /// address, and 16 times 256 without.
 pub fn pgn_count() -> u32
@@ -87,7 +94,7 @@ impl J1939 {
     pub fn build(priority: u8, pgn: u32, destination: u8, source: u8) -> Result<J1939, IdFault>
         ensures outcome { MatchResult result (IsBuilt priority pgn destination source) (IsBuildFault priority pgn destination) }
         ensures only { (other : Fields) → IsBuilt priority pgn destination source other → result ≡ Ok other }
-        ensures computed { result ≡ built priority pgn destination source }
+        ensures computed { result ≡ build_result priority pgn destination source }
     {
         if priority > 7 {
             return Err(IdFault::Priority);

@@ -20,4 +20,4 @@ mod j1939;
 pub use fault::IdFault;
 pub use form::{EXTENDED_FLAG, GREATEST_EXTENDED, GREATEST_STANDARD, IdentForm};
 pub use ident::{ExtendedId, Ident, StandardId};
-pub use j1939::{J1939, is_pgn, pgn_count};
+pub use j1939::{J1939, has_destination, is_pgn, pgn_count};

@@ -2,7 +2,7 @@
 //! program's library.
 #![tactic(auto)]
 
-use canoffice_cli::{HostFiles, LineFault, Status, deliver, fault_report, perform, words_not_text};
+use canoffice_cli::{HostFiles, LineFault, Status, deliver, fault_report, not_utf8_fault, perform};
 use std::alloc::AllocError;
 use std::env;
 use std::io::ErrorKind;
@@ -32,7 +32,7 @@ fn words(rt: &HostRuntime) -> Result<Vec<String>, LineFault> {
     match env::args(rt) {
         Ok(words) => words.collect(rt.alloc()).map_err(|_| LineFault::Memory),
         Err(error) if matches!(error.kind(), ErrorKind::OutOfMemory) => Err(LineFault::Memory),
-        Err(_) => Err(words_not_text(rt.alloc())),
+        Err(_) => Err(not_utf8_fault(rt.alloc())),
     }
 }
 

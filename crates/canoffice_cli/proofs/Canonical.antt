@@ -10,9 +10,9 @@ use Rattle.canoffice_cli.specs.Outcome.{Outcome, success}
 
 -- the canonical text of what it reads as is that text
 pub printed_again : GrammarLaw → (bytes : List ℕ) (read : Sheet) (o : Outcome) → Reads bytes read → o ≡ success (canonical_text read) → KeepsCanonical bytes o
-printed_again law bytes read o reads told s form same =
+printed_again law bytes read o reads outcome_is s form same =
     let is : read ≡ s = (law s form).only read (subst (λ b. Reads b read) same reads) in
-    told ∙ ap success (ap canonical_text is ∙ sym same)
+    outcome_is ∙ ap success (ap canonical_text is ∙ sym same)
 
 -- and it reads as something
 pub not_nothing : GrammarLaw → (bytes : List ℕ) (o : Outcome) → ReadsAsNothing bytes → KeepsCanonical bytes o

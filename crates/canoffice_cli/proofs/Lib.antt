@@ -4,7 +4,7 @@ pub mod Writes
 pub mod Performed
 pub mod WrongWords
 pub mod Commands
-pub mod OfFile
+pub mod FileJobs
 pub mod Canonical
 pub mod PassedLines
 pub mod ReadFaults

@@ -7,7 +7,7 @@ use Rattle.office_types.specs.declared.reply.Reply.{Reply}
 use Rattle.office_types.specs.declared.state.Office.{Office}
 use Rattle.office.specs.Step.{opening, Run}
 use Rattle.office_script.specs.Lines.{lines_of}
-use Rattle.office_script.specs.Script.{asked_by_all, IsFirstWrong}
+use Rattle.office_script.specs.Script.{requests_of_lines, IsFirstWrong}
 use Rattle.canoffice_cli.specs.Outcome.{Outcome, success, wrong_line}
 use Rattle.canoffice_cli.specs.declared.report.Status.TheVariants.{Failed}
 
@@ -40,5 +40,5 @@ IsRunOf requests o = IsRun requests o ⊎ IsRunUntilLost requests o
 -- what the script asks for was run; or a line is wrong, the number of the first one is printed, and nothing was run
 abbrev pub IsScriptOutcome : List ℕ → Outcome → Type 0
 IsScriptOutcome script o =
-    ((requests : List (List ℕ × Command)) × (asked_by_all (lines_of script) ≡ Some requests) × IsRunOf requests o)
+    ((requests : List (List ℕ × Command)) × (requests_of_lines (lines_of script) ≡ Some requests) × IsRunOf requests o)
     ⊎ ((number : ℕ) × IsFirstWrong (lines_of script) number × (o ≡ wrong_line number))

@@ -29,5 +29,5 @@ holding_of None = absent
 holding_of (Some file) = holding file.bytes.now
 
 -- what a list of files holds at a path: the first file of that path
-abbrev pub listed_at : List NamedFile → List ℕ → Holding
-listed_at files path = holding_of (find (λ file. bytes_eq file.path.now path) files)
+abbrev pub file_at : List NamedFile → List ℕ → Holding
+file_at files path = holding_of (find (λ file. bytes_eq file.path.now path) files)

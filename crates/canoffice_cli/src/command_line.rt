@@ -8,7 +8,7 @@ use clap::{Arg, Command};
 use std::alloc::{AllocError, Global};
 
 /// A required positional argument.
-fn required<'a>(alloc: Global, id: &'a str, help: &'a str) -> Arg<'a>
+fn required_argument<'a>(alloc: Global, id: &'a str, help: &'a str) -> Arg<'a>
     ensures rule { rule_of result ≡ required_word id.entry.now }
     ensures local { result.global ≡ false }
 {
@@ -16,11 +16,11 @@ fn required<'a>(alloc: Global, id: &'a str, help: &'a str) -> Arg<'a>
 }
 
 /// A required positional argument that takes all further words, at least one.
-fn required_many<'a>(alloc: Global, id: &'a str, help: &'a str) -> Arg<'a>
+fn required_arguments<'a>(alloc: Global, id: &'a str, help: &'a str) -> Arg<'a>
     ensures rule { rule_of result ≡ required_words id.entry.now }
     ensures local { result.global ≡ false }
 {
-    required(alloc, id, help).num_args(1..)
+    required_argument(alloc, id, help).num_args(1..)
 }
 
 /// `apply SCRIPT`
@@ -29,7 +29,7 @@ fn apply_command<'a>(alloc: Global) -> Result<Command<'a>, AllocError>
     ensures local { IfOk result (λ c. (fields_of c).has_globals ≡ false) }
 {
     let named = Command::new(alloc, "apply").about("Runs a script and prints each reply");
-    let apply = named.arg(required(alloc, "SCRIPT", "The script's file"))?;
+    let apply = named.arg(required_argument(alloc, "SCRIPT", "The script's file"))?;
     Ok(apply)
 }
 
@@ -43,8 +43,8 @@ fn chart_command<'a>(alloc: Global) -> Result<Command<'a>, AllocError>
     );
     let length = "How many bytes the message has, 0 to 64";
     let signal = "A signal: name=start|size@order, then nothing, ,M or ,mN";
-    let with_length = named.arg(required(alloc, "LENGTH", length))?;
-    let chart = with_length.arg(required_many(alloc, "SIGNAL", signal))?;
+    let with_length = named.arg(required_argument(alloc, "LENGTH", length))?;
+    let chart = with_length.arg(required_arguments(alloc, "SIGNAL", signal))?;
     Ok(chart)
 }
 
@@ -56,7 +56,7 @@ fn check_command<'a>(alloc: Global) -> Result<Command<'a>, AllocError>
     let named = Command::new(alloc, "check").about(
         "Lists the skipped statements of a DBC file, and checks that its signals fit",
     );
-    let check = named.arg(required(alloc, "FILE", "The DBC file"))?;
+    let check = named.arg(required_argument(alloc, "FILE", "The DBC file"))?;
     Ok(check)
 }
 
@@ -66,7 +66,7 @@ fn format_command<'a>(alloc: Global) -> Result<Command<'a>, AllocError>
     ensures local { IfOk result (λ c. (fields_of c).has_globals ≡ false) }
 {
     let named = Command::new(alloc, "format").about("Prints a DBC file in its canonical form");
-    let format = named.arg(required(alloc, "FILE", "The DBC file"))?;
+    let format = named.arg(required_argument(alloc, "FILE", "The DBC file"))?;
     Ok(format)
 }
 

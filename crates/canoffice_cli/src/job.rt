@@ -67,7 +67,7 @@ pub fn job_of<'a>(alloc: Global, words: &'a [&'a str]) -> Result<Job<'a>, LineFa
 }
 
 /// The fault of arguments that aren't UTF-8, so that they can't be read as words: `Usage`, unless memory runs out.
-pub fn words_not_text(alloc: Global) -> LineFault
+pub fn not_utf8_fault(alloc: Global) -> LineFault
     ensures { IsFaultOfKind ErrorKind.ValueValidation result }
 {
     let Ok(mut command) = canoffice_command(alloc) else {

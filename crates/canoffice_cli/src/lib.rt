@@ -28,6 +28,6 @@ pub use checking::check_report;
 pub use delivery::deliver;
 pub use files::{FileFault, FileSource, HostFiles, ListedFiles, NamedFile};
 pub use formatting::format_report;
-pub use job::{Job, LineFault, job_of, words_not_text};
+pub use job::{Job, LineFault, job_of, not_utf8_fault};
 pub use program::{fault_report, perform, report_of};
 pub use report::{LOST_MEMORY, Report, Status, bad_line, bad_word, cannot_read, help, usage};

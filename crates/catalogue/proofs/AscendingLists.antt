@@ -11,8 +11,8 @@ use Rattle.std.proofs.lemmas.Cmp.{ranked}
 use Rattle.std.proofs.lemmas.Map.Keys.{Less-from_sorted}
 use Rattle.catalogue.specs.Keyed.{are_above, put}
 use Rattle.catalogue.specs.Ascending.{IsAt, IsGap}
-use Rattle.catalogue.proofs.Put.{put_cases}
-use Rattle.catalogue.proofs.Putting.{put_first}
+use Rattle.catalogue.proofs.PutKeeps.{put_cases}
+use Rattle.catalogue.proofs.PutCode.{put_first}
 
 differs : (a b : ℕ) → a ≢ b → a == b ≡ false
 differs a b h = grind (arith, nat_tests)
@@ -31,12 +31,12 @@ equal≢greater : Equal ≡ Greater → ⊥
 equal≢greater e = cc
 
 module _ {A : Type 0} (key : A → ℕ) where
-  rises : (xs : List A) → IsStrictlySortedBy (on key nat_cmp) xs → (i j : ℕ) (d : A) → i < j → j < length xs → key (get_or xs i d) < key (get_or xs j d)
-  rises xs sorted i j d lt within = ranked _ _ _ (sym (Less-from_sorted (on key nat_cmp) xs i j d sorted lt within))
+  ascends : (xs : List A) → IsStrictlySortedBy (on key nat_cmp) xs → (i j : ℕ) (d : A) → i < j → j < length xs → key (get_or xs i d) < key (get_or xs j d)
+  ascends xs sorted i j d lt within = ranked _ _ _ (sym (Less-from_sorted (on key nat_cmp) xs i j d sorted lt within))
 
-  comparisons_rise : (xs : List A) (k : ℕ) → IsStrictlySortedBy (on key nat_cmp) xs → IsNonDecreasingBy (λ x. ordering_index (nat_cmp (key x) k)) xs
-  comparisons_rise xs k sorted i j d le within =
-      let keys_rise : key (get_or xs i d) ≤ key (get_or xs j d) = grind (arith, rises xs sorted i j d, λ (same : i ≡ j). ap (λ n. key (get_or xs n d)) same) in
+  comparisons_ascend : (xs : List A) (k : ℕ) → IsStrictlySortedBy (on key nat_cmp) xs → IsNonDecreasingBy (λ x. ordering_index (nat_cmp (key x) k)) xs
+  comparisons_ascend xs k sorted i j d le within =
+      let keys_ascend : key (get_or xs i d) ≤ key (get_or xs j d) = grind (arith, ascends xs sorted i j d, λ (same : i ≡ j). ap (λ n. key (get_or xs n d)) same) in
       grind (arith, nat_tests)
 
   -- a binary search ends at the number, or at the gap for it
@@ -47,18 +47,18 @@ module _ {A : Type 0} (key : A → ℕ) where
       within = within;
       here = λ d. ranked _ k _ (sym (equal d));
       others = λ j d lt differs. elim (cases_lt j i) [
-        | inl below ↦ (λ same. let h : key (get_or xs i d) ≡ k = ranked _ k _ (sym (equal d)) in omega (arith, rises xs sorted j i d below within))
-        | inr above ↦ (λ same. let h : key (get_or xs i d) ≡ k = ranked _ k _ (sym (equal d)) in omega (arith, rises xs sorted i j d (omega arith) lt))
+        | inl below ↦ (λ same. let h : key (get_or xs i d) ≡ k = ranked _ k _ (sym (equal d)) in omega (arith, ascends xs sorted j i d below within))
+        | inr above ↦ (λ same. let h : key (get_or xs i d) ≡ k = ranked _ k _ (sym (equal d)) in omega (arith, ascends xs sorted i j d (omega arith) lt))
       ];
     };
     absent = tt;
   }
-  searched xs k sorted (Err i) within parted = record {
+  searched xs k sorted (Err i) within splits = record {
     found = tt;
     absent = record {
       within = within;
-      below = λ j d lt. ranked _ k _ (sym ((parted (comparisons_rise xs k sorted)).0 j d (omega arith) lt));
-      above = λ j d le lt. ranked _ k _ (sym ((parted (comparisons_rise xs k sorted)).1 j d le lt));
+      below = λ j d lt. ranked _ k _ (sym ((splits (comparisons_ascend xs k sorted)).0 j d (omega arith) lt));
+      above = λ j d le lt. ranked _ k _ (sym ((splits (comparisons_ascend xs k sorted)).1 j d le lt));
     };
   }
 

@@ -86,9 +86,9 @@ statements_repeat = record {
   last = λ ts e. ap next e;
 }
 
-ended : (x : List Statement × List Token) (ss : List Statement) → all_of x ≡ Some ss → x ≡ (ss, [])
-ended (us, []) ss e = let k : us ≡ ss = cc in ap (λ (l : List Statement). let made : List Statement × List Token = (l, []) in made) k
-ended (us, t ∷ ts) ss e = absurd cc
+none_left : (x : List Statement × List Token) (ss : List Statement) → all_of x ≡ Some ss → x ≡ (ss, [])
+none_left (us, []) ss e = let k : us ≡ ss = cc in ap (λ (l : List Statement). let made : List Statement × List Token = (l, []) in made) k
+none_left (us, t ∷ ts) ss e = absurd cc
 
 pub reading_is_exact : ReadingIsExact
 unfolding statements_at
@@ -96,7 +96,7 @@ reading_is_exact ts ss = (
   λ h. rw ((exact_many statements_repeat ts).again ss [] h refl) refl,
   λ e.
       let b = bind_takes (many_at is_more statement_at ts) all_of ss e in
-      (exact_many statements_repeat ts).takes (ss, []) (b.1 ∙ ap (λ (x : List Statement × List Token). Some x) (ended b.0 ss b.2)),
+      (exact_many statements_repeat ts).takes (ss, []) (b.1 ∙ ap (λ (x : List Statement × List Token). Some x) (none_left b.0 ss b.2)),
 )
 
 pub one_division : OneDivision

@@ -19,7 +19,7 @@ use Rattle.catalogue.specs.declared.token.TokenKind.{TokenKind}
 use Rattle.catalogue.specs.declared.token.TokenKind.TheVariants.{Name, Number as NumberKind, Text, Mark}
 use Rattle.catalogue.proofs.Exactness.{Exact, Any, length_within, bind_takes, exact_then, exact_next, exact_token, exact_one, exact_done}
 use Rattle.catalogue.proofs.Exactness.{exact_followed, exact_optional, exact_many, exact_either, token_chance, one_chance, Repeats, Eats}
-use Rattle.catalogue.proofs.Exactness.{eats, said, tested, passed_only, first_answers}
+use Rattle.catalogue.proofs.Exactness.{eats, token_passes, one_passes, only_passes, first_answers}
 
 -- What a token is that says something.
 
@@ -44,10 +44,10 @@ pub mark_text : (w : List ℕ) (t : Token) → is_mark w t ≡ true → t.text �
 mark_text w t e = (bytes_eq-Decides t.text w).0 (and_parts (is_a Mark t) (bytes_eq t.text w) e).1
 
 pub name_cited : (t : Token) (x : List ℕ) → cited_name t ≡ Some x → t.kind ≡ Name
-name_cited t x e = kind_is Name t (passed_only (is_a Name t) t.text x e)
+name_cited t x e = kind_is Name t (only_passes (is_a Name t) t.text x e)
 
 pub name_made : (t : Token) (x : List ℕ) → made_name t ≡ Some x → t.kind ≡ Name
-name_made t x e = kind_is Name t (and_parts (is_a Name t) (is_name t.text) (passed_only (is_a Name t && is_name t.text) t.text x e)).0
+name_made t x e = kind_is Name t (and_parts (is_a Name t) (is_name t.text) (only_passes (is_a Name t && is_name t.text) t.text x e)).0
 
 node_by : (t : Token) (x : Option (List ℕ)) (b : Bool) → (is_a Name t && bytes_eq t.text no_node) ≡ b
     → (if b then Some None else option_map Some (made_name t)) ≡ Some x → is_a Name t ≡ true
@@ -71,13 +71,13 @@ pub number_number : (negative : Bool) (t : Token) (n : Number) → number_of neg
 number_number negative t n e = kind_is NumberKind t (gate (is_a NumberKind t) _ n e)
 
 pub passes : (test : Token → Bool) (t : Token) (x : Unit {0}) → only (test t) tt ≡ Some x → test t ≡ true
-passes test t x e = passed_only (test t) tt x e
+passes test t x e = only_passes (test t) tt x e
 
 sign_by : (t : Token) (minus : Bool) (b : Bool) → is_mark (codes "+") t ≡ b
     → (if b then Some false else only (is_mark (codes "-") t) true) ≡ Some minus → is_mark (codes ";") t ≡ false
 sign_by t minus true e h = rw (mark_text (codes "+") t e, mark_kind (codes "+") t e) refl
 sign_by t minus false e h =
-    let m = passed_only (is_mark (codes "-") t) true minus h in
+    let m = only_passes (is_mark (codes "-") t) true minus h in
     rw (mark_text (codes "-") t m, mark_kind (codes "-") t m) refl
 
 -- a sign ends no statement
@@ -184,7 +184,7 @@ name_goes_on (t ∷ ts) e = or_left (is_some (node_of t)) _ e
 
 further_goes_on : (ts : List Token) (x : Option (List ℕ)) (rest : List Token) → further ts x rest → goes_on ts ≡ true
 unfolding further
-further_goes_on ts x rest h = by_comma h.value h.middle h.begins (said node_of h.middle h.goes_on.value h.goes_on.middle h.goes_on.begins)
+further_goes_on ts x rest h = by_comma h.value h.middle h.begins (token_passes node_of h.middle h.goes_on.value h.goes_on.middle h.goes_on.begins)
   where
     by_comma : (comma : Option (Unit {0})) (mid : List Token) → optional (mark (codes ",")) ts comma mid → begins node_of mid ≡ true → goes_on ts ≡ true
     by_comma None mid e k = name_goes_on ts (ap (begins node_of) (sym e) ∙ k)
@@ -225,7 +225,7 @@ exact_some_names ts =
 
 some_begin : (ts : List Token) (xs : List (List ℕ)) (rest : List Token) → some_names ts xs rest → begins node_of ts ≡ true
 unfolding some_names
-some_begin ts xs rest h = said node_of ts h.value h.middle h.begins
+some_begin ts xs rest h = token_passes node_of ts h.value h.middle h.begins
 
 none_begin : (ts : List Token) (xs : List (List ℕ)) (rest : List Token) → no_names ts xs rest → begins node_of ts ≡ false
 unfolding no_names
@@ -261,4 +261,4 @@ eats_signal ts =
 
 pub signal_starts : (ts : List Token) (x : _) (rest : List Token) → signal ts x rest → starts (is_key Signal) ts ≡ true
 unfolding signal
-signal_starts ts x rest h = tested (is_key Signal) ts h.value h.middle h.begins
+signal_starts ts x rest h = one_passes (is_key Signal) ts h.value h.middle h.begins

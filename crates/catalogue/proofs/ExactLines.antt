@@ -19,7 +19,7 @@ use Rattle.catalogue.specs.declared.keyword.Keyword.{Keyword}
 use Rattle.catalogue.specs.declared.keyword.Keyword.TheVariants.{Nodes, Message, Signal, EnvironmentVariable}
 use Rattle.catalogue.specs.declared.token.TokenKind.TheVariants.{Name, Number as NumberKind}
 use Rattle.catalogue.proofs.Exactness.{Exact, Any, bind_takes, exact_then, exact_next, exact_any, exact_token, exact_one, exact_done}
-use Rattle.catalogue.proofs.Exactness.{exact_followed, exact_optional, exact_many, one_chance, Chance, Repeats, tokens_repeat, tested}
+use Rattle.catalogue.proofs.Exactness.{exact_followed, exact_optional, exact_many, one_chance, Chance, Repeats, tokens_repeat, one_passes}
 use Rattle.catalogue.proofs.Exactness.{first_answers}
 use Rattle.catalogue.specs.ValueType.{value_type_of}
 use Rattle.catalogue.proofs.ExactFields.{kind_is, number_whole, passes, exact_nodes, entries_repeat, signal_starts, eats_signal, not_true}
@@ -75,7 +75,7 @@ exact_registers ts =
 
 registers_begin : (ts : List Token) (x : Unit {0}) (rest : List Token) → registers ts x rest → starts (is_mark (codes ":")) ts ≡ true
 unfolding registers
-registers_begin ts x rest h = tested (is_mark (codes ":")) ts h.value h.middle h.begins
+registers_begin ts x rest h = one_passes (is_mark (codes ":")) ts h.value h.middle h.begins
 
 registers_chance : Chance Next registers (starts (is_mark (codes ":"))) registers_at
 registers_chance = record { each = λ ts. exact_any (exact_registers ts); begins = registers_begin; stops = next_no_mark (codes ":") }
@@ -90,7 +90,7 @@ exact_timing ts =
 
 timing_begins : (ts : List Token) (x : Unit {0}) (rest : List Token) → timing ts x rest → starts (is_a NumberKind) ts ≡ true
 unfolding timing
-timing_begins ts x rest h = tested (is_a NumberKind) ts h.value h.middle h.begins
+timing_begins ts x rest h = one_passes (is_a NumberKind) ts h.value h.middle h.begins
 
 timing_chance : Chance Next timing (starts (is_a NumberKind)) timing_at
 timing_chance = record { each = exact_timing; begins = timing_begins; stops = next_no_number }

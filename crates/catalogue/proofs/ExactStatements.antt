@@ -20,7 +20,7 @@ use Rattle.catalogue.specs.declared.keyword.Keyword.TheVariants.{Version, NewSym
 use Rattle.catalogue.specs.declared.keyword.Keyword.TheVariants.{Comment, ValueTexts, SignalValueType, AttributeValue, EnvironmentVariable}
 use Rattle.catalogue.specs.declared.token.TokenKind.TheVariants.{Name}
 use Rattle.catalogue.proofs.Exactness.{Exact, Any, bind_takes, exact_then, exact_any, exact_done, exact_either, exact_unless, Eats, eats}
-use Rattle.catalogue.proofs.Exactness.{said, passed_only, first_answers}
+use Rattle.catalogue.proofs.Exactness.{token_passes, only_passes, first_answers}
 use Rattle.catalogue.proofs.ExactFields.{kind_is, name_cited, passes}
 use Rattle.catalogue.proofs.ExactLines.{Next, exact_version, exact_symbols, exact_timing_line, exact_nodes_line, exact_table, exact_message}
 use Rattle.catalogue.proofs.ExactLines.{exact_file_comment, exact_node_comment, exact_message_comment, exact_signal_comment}
@@ -97,7 +97,7 @@ exact_comment : (ts : List Token) → Exact Any ts (comment_line ts) (comment_at
 unfolding comment_line comment_at file_comment node_comment message_comment signal_comment passed_comment
 exact_comment ts =
     exact_either (begins text_of ts) (exact_file_comment ts) (exact_named_comment ts)
-    (λ x rest h. said text_of ts h.value h.middle h.begins)
+    (λ x rest h. token_passes text_of ts h.value h.middle h.begins)
     (λ x rest h. elim h [
       | inl h ↦ no_text Nodes h
       | inr (inl h) ↦ no_text Message h
@@ -108,7 +108,7 @@ exact_comment ts =
 -- Messages.
 
 is_independent : (n x : ℕ) → only (n == 3221225472) n ≡ Some x → ident_of n ≡ None
-is_independent n x e = rw ((Decides-eqb n 3221225472).0 (passed_only (n == 3221225472) n x e)) refl
+is_independent n x e = rw ((Decides-eqb n 3221225472).0 (only_passes (n == 3221225472) n x e)) refl
 
 independent_no_message : (t : Token) (x : ℕ) → independent_number t ≡ Some x → is_some (message_ident t) ≡ false
 independent_no_message t x e =
@@ -117,7 +117,7 @@ independent_no_message t x e =
 
 message_begins : (ts : List Token) (x : Content) (rest : List Token) → message_line ts x rest → begins message_ident ts ≡ true
 unfolding message_line
-message_begins ts x rest h = said message_ident ts h.value h.middle h.begins
+message_begins ts x rest h = token_passes message_ident ts h.value h.middle h.begins
 
 independent_begins : (ts : List Token) (x : Content) (rest : List Token) → independent_line ts x rest → begins message_ident ts ≡ false
 unfolding independent_line
@@ -132,7 +132,7 @@ exact_numbered ts =
 
 texts_begin : (ts : List Token) (x : Content) (rest : List Token) → value_texts_line ts x rest → begins cited_number ts ≡ true
 unfolding value_texts_line
-texts_begin ts x rest h = said cited_number ts h.value h.middle h.begins
+texts_begin ts x rest h = token_passes cited_number ts h.value h.middle h.begins
 
 passed_texts_begin : (ts : List Token) (x : Content) (rest : List Token) → passed_value_texts ts x rest → begins cited_number ts ≡ false
 unfolding passed_value_texts

@@ -91,16 +91,16 @@ pub exact_one : (test : Token → Bool) (ts : List Token) → Exact Any ts (one 
 exact_one test ts = exact_token (λ t. only (test t) tt) ts
 
 -- a token that says something passes the test of those that do
-pub said : {A : Type 0} (says : Token → Option A) (ts : List Token) (x : A) (rest : List Token) → token says ts x rest → begins says ts ≡ true
-said says ts x rest h = ap (begins says) h.front ∙ ap is_some h.value
+pub token_passes : {A : Type 0} (says : Token → Option A) (ts : List Token) (x : A) (rest : List Token) → token says ts x rest → begins says ts ≡ true
+token_passes says ts x rest h = ap (begins says) h.front ∙ ap is_some h.value
 
-pub passed_only : {A : Type 0} (b : Bool) (x y : A) → only b x ≡ Some y → b ≡ true
-passed_only true x y e = refl
-passed_only false x y e = absurd cc
+pub only_passes : {A : Type 0} (b : Bool) (x y : A) → only b x ≡ Some y → b ≡ true
+only_passes true x y e = refl
+only_passes false x y e = absurd cc
 
 -- what comes first passes the test
-pub tested : (test : Token → Bool) (ts : List Token) (x : Unit {0}) (rest : List Token) → one test ts x rest → starts test ts ≡ true
-tested test ts x rest h = ap (starts test) h.front ∙ passed_only (test h.first) tt x h.value
+pub one_passes : (test : Token → Bool) (ts : List Token) (x : Unit {0}) (rest : List Token) → one test ts x rest → starts test ts ≡ true
+one_passes test ts x rest h = ap (starts test) h.front ∙ only_passes (test h.first) tt x h.value
 
 -- and so another test, where the one implies the other's answer
 pub first_answers : {A : Type 0} (says : Token → Option A) (test : Token → Bool) (b : Bool)
@@ -180,10 +180,10 @@ module _ {A : Type 0} {F : List Token → Type 0} {r : Rule A} {test : List Toke
 
 -- an optional token
 pub token_chance : {A : Type 0} (says : Token → Option A) → Chance (λ ts. begins says ts ≡ false) (token says) (begins says) (token_at says)
-token_chance says = record { each = λ ts. exact_any (exact_token says ts); begins = said says; stops = λ ts h. h }
+token_chance says = record { each = λ ts. exact_any (exact_token says ts); begins = token_passes says; stops = λ ts h. h }
 
 pub one_chance : (test : Token → Bool) → Chance (λ ts. starts test ts ≡ false) (one test) (starts test) (one_at test)
-one_chance test = record { each = λ ts. exact_any (exact_one test ts); begins = tested test; stops = λ ts h. h }
+one_chance test = record { each = λ ts. exact_any (exact_one test ts); begins = one_passes test; stops = λ ts h. h }
 
 -- Any number of times.
 
@@ -241,7 +241,7 @@ module _ {A : Type 0} {F I : List Token → Type 0} {r : Rule A} {test : List To
 pub tokens_repeat : (test : Token → Bool) → Repeats (λ ts. starts test ts ≡ false) Any (one test) (starts test) (one_at test)
 tokens_repeat test = record {
   each = exact_one test;
-  begins = tested test;
+  begins = one_passes test;
   before = λ ts x rest h. tt;
   shorter = λ ts x rest h. omega (arith, ap length h.front);
   stops = λ ts h. h;

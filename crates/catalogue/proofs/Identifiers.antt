@@ -20,23 +20,23 @@ extended n true test (Ext k) e =
     let high : n ≤ 2684354559 = grind (arith, nat_tests) in
     (omega (arith, same, low, high), omega (arith, same, low, high))
 
-written : (n : ℕ) (standard : Bool) → nat_le n 2047 ≡ standard → (ident : Ident)
+writes_ident : (n : ℕ) (standard : Bool) → nat_le n 2047 ≡ standard → (ident : Ident)
     → (if standard then Some (Std n) else only (nat_le 2147483648 n && nat_le n 2684354559) (Ext (n - 2147483648))) ≡ Some ident → Writes n ident
-written n true test (Std k) e =
+writes_ident n true test (Std k) e =
     let same : n ≡ k = cc in
     let low : n ≤ 2047 = grind (arith, nat_tests) in
     (omega (arith, same, low), omega (arith, same))
-written n true test (Ext k) e = absurd cc
-written n false test ident e = extended n (nat_le 2147483648 n && nat_le n 2684354559) refl ident e
+writes_ident n true test (Ext k) e = absurd cc
+writes_ident n false test ident e = extended n (nat_le 2147483648 n && nat_le n 2684354559) refl ident e
 
-found : (n : ℕ) (ident : Ident) → Writes n ident → ident_of n ≡ Some ident
-found n (Std k) (range, e) =
+ident_of_writing : (n : ℕ) (ident : Ident) → Writes n ident → ident_of n ≡ Some ident
+ident_of_writing n (Std k) (range, e) =
     let test : nat_le n 2047 ≡ true = grind (arith, nat_tests) in
     rw test (ap (λ m. Some (Std m)) (omega (arith, e)))
-found n (Ext k) (range, e) =
+ident_of_writing n (Ext k) (range, e) =
     let test : nat_le n 2047 ≡ false = grind (arith, nat_tests) in
     let in_range : (nat_le 2147483648 n && nat_le n 2684354559) ≡ true = grind (arith, nat_tests) in
     rw (test, in_range) (ap (λ m. Some (Ext m)) (omega (arith, e)))
 
 pub numbers_are_identifiers : NumbersAreIdentifiers
-numbers_are_identifiers n ident = (λ e. written n (nat_le n 2047) refl ident e, found n ident)
+numbers_are_identifiers n ident = (λ e. writes_ident n (nat_le n 2047) refl ident e, ident_of_writing n ident)

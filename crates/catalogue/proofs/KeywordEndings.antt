@@ -23,5 +23,5 @@ pub no_keyword : (word : List ℕ) → ends_keyword word ≡ false → keyword_o
 no_keyword word fails = none_found word keywords refl fails
 
 -- the word that is spelled as a keyword is that keyword
-pub spelled : (word : List ℕ) (k : Keyword) → keyword_of (keyword_text k) ≡ Some k → bytes_eq word (keyword_text k) ≡ true → keyword_of word ≡ Some k
-spelled word k found same = ap keyword_of ((bytes_eq-Decides word (keyword_text k)).0 same) ∙ found
+pub keyword_of_spelling : (word : List ℕ) (k : Keyword) → keyword_of (keyword_text k) ≡ Some k → bytes_eq word (keyword_text k) ≡ true → keyword_of word ≡ Some k
+keyword_of_spelling word k found same = ap keyword_of ((bytes_eq-Decides word (keyword_text k)).0 same) ∙ found

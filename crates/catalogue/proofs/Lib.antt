@@ -1,24 +1,25 @@
-pub mod Putting
-pub mod Put
+pub mod PutCode
+pub mod PutKeeps
 mod Digits
 pub mod Texts
 mod KeywordEndings
 mod NameSets
-mod Rosters
+pub mod Rosters
 mod SameMessages
-mod AscendingLists
-mod Naming
+pub mod AscendingLists
+pub mod Naming
 mod NamedThings
 pub mod Refusals
-mod Switches
+pub mod Multiplexors
 mod Clearness
 mod MessageRules
 mod SheetRows
+mod NameRows
 mod CanonRows
 mod ChangeRows
 pub mod WholeNumbers
 pub mod Separators
-pub mod Rising
+pub mod AscendingUnique
 pub mod OneSheet
 pub mod EachSaid
 pub mod SignalKeys
@@ -34,6 +35,7 @@ mod TokenReading
 pub mod TokenExact
 mod TokenSlices
 mod TokenExamples
+mod FileTokens
 pub mod TokenSteps
 pub mod Exactness
 pub mod Repeating

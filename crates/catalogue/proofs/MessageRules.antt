@@ -18,12 +18,12 @@ use Rattle.catalogue.specs.declared.message.Message.{Message}
 use Rattle.catalogue.specs.declared.name_set.NameSet.{NameSet}
 use Rattle.catalogue.proofs.Naming.{any-insert, apart-insert, apart-filter, names-remove}
 use Rattle.catalogue.proofs.AscendingLists.{put_gap, remove_at, any_at, any_gap}
-use Rattle.catalogue.proofs.Put.{IsStrictlySortedBy-put}
+use Rattle.catalogue.proofs.PutKeeps.{IsStrictlySortedBy-put}
 use Rattle.catalogue.proofs.Refusals.{none_holds}
 
 pub none_indexed : (messages : List Message) (names : NameSet) → messages ≡ [] → ((n : List ℕ) → holds_name names n ≡ false) → AreIndexed messages names
 unfolding IsDistinct IsStrictlySortedBy
-none_indexed messages names none e = rw none (record { together = record { rise = tt; apart = tt; few = omega arith }; index = e })
+none_indexed messages names none e = rw none (record { together = record { ascending = tt; apart = tt; few = omega arith }; index = e })
 
 not_full : (messages : List Message) → ¬ (message_limit ≤ length messages) → nat_le message_limit (length messages) ≡ false
 not_full messages h = grind (arith, nat_tests)
@@ -51,8 +51,8 @@ none_refuses messages m at few gap new = rw (not_full messages few, any_gap numb
 one_more : (messages : List Message) (m : Message) (at : ℕ) → at ≤ length messages → nat_le message_limit (length messages) ≡ false → length (insert messages at m) ≤ message_limit
 one_more messages m at within h = rw (length-insert messages at m within) (grind (arith, nat_tests))
 
-rising_put : (messages : List Message) (m : Message) → IsStrictlySortedBy by_number messages → IsStrictlySortedBy by_number (put by_number m messages)
-rising_put messages m h = IsStrictlySortedBy-put by_number (search (comparing, rules)) m messages h
+put_keeps_order : (messages : List Message) (m : Message) → IsStrictlySortedBy by_number messages → IsStrictlySortedBy by_number (put by_number m messages)
+put_keeps_order messages m h = IsStrictlySortedBy-put by_number (search (comparing, rules)) m messages h
 
 -- one more that isn't refused
 pub with_message : (messages more : List Message) (m : Message) (at : ℕ) (names with : NameSet) → AreIndexed messages names
@@ -62,7 +62,7 @@ with_message messages more m at names with is free gap same index =
     let tests = none_holds (message_tests messages m) free in
     rw same (record {
       together = record {
-        rise = subst (IsStrictlySortedBy by_number) (put_gap number_of m messages at gap) (rising_put messages m is.together.rise);
+        ascending = subst (IsStrictlySortedBy by_number) (put_gap number_of m messages at gap) (put_keeps_order messages m is.together.ascending);
         apart = apart-insert message_name messages at m is.together.apart tests.1.1.0;
         few = one_more messages m at gap.within tests.0;
       };
@@ -90,7 +90,7 @@ pub without_message : (messages rest : List Message) (m : Message) (n at : ℕ) 
 without_message messages rest m n at names left is there found same index =
     rw same (record {
       together = record {
-        rise = subst (IsStrictlySortedBy by_number) (sym (remove_at number_of messages n at there)) (IsStrictlySortedBy-filter by_number (λ x. not (number_of x == n)) messages is.together.rise);
+        ascending = subst (IsStrictlySortedBy by_number) (sym (remove_at number_of messages n at there)) (IsStrictlySortedBy-filter by_number (λ x. not (number_of x == n)) messages is.together.ascending);
         apart = subst (AreNamedApart message_name) (sym (remove_at number_of messages n at there)) (apart-filter message_name (λ x. not (number_of x == n)) messages is.together.apart);
         few = few_left messages at there.within is.together.few;
       };

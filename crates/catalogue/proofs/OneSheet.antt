@@ -5,7 +5,7 @@ use Rattle.catalogue.specs.Messages.{number_of}
 use Rattle.catalogue.specs.Saying.{Says, messages_of, whole_message}
 use Rattle.catalogue.specs.Statement.{Statement}
 use Rattle.catalogue.specs.declared.sheet.Sheet.{Sheet}
-use Rattle.catalogue.proofs.Rising.{one_rising}
+use Rattle.catalogue.proofs.AscendingUnique.{one_ascending}
 
 pub one_sheet : (statements : List Statement) (s t : Sheet) → Says statements s → Says statements t → s ≡ t
 one_sheet statements s t a b =
@@ -14,6 +14,6 @@ one_sheet statements s t a b =
     let nodes : s.nodes ≡ t.nodes = a.nodes ∙ sym b.nodes in
     let tables : s.tables ≡ t.tables = a.tables ∙ sym b.tables in
     let messages : s.messages ≡ t.messages =
-    one_rising number_of s.messages t.messages a.is_sheet.well_formed.together.rise b.is_sheet.well_formed.together.rise
+    one_ascending number_of s.messages t.messages a.is_sheet.well_formed.together.ascending b.is_sheet.well_formed.together.ascending
     (IsPermutation-trans s.messages (map (whole_message statements) (messages_of statements)) t.messages (IsPermutation-sym _ _ a.messages) b.messages) in
     λ i. record { version = version i; comment = comment i; nodes = nodes i; tables = tables i; messages = messages i }

@@ -247,12 +247,12 @@ is_a_sheet = record {
     nodes = record { apart = tt; few = omega arith };
     tables = record { apart = tt; few = omega arith };
     entries = tt;
-    together = record { rise = ((refl, tt), (tt, tt)); apart = ((refl, tt), (tt, tt)); few = omega arith };
+    together = record { ascending = ((refl, tt), (tt, tt)); apart = ((refl, tt), (tt, tt)); few = omega arith };
     messages = (
-      record { signals = record { apart = (tt, tt); one_switch = (tt, tt); few = omega arith }; values = (omega arith, tt) },
+      record { signals = record { apart = (tt, tt); one_multiplexor = (tt, tt); few = omega arith }; values = (omega arith, tt) },
       (
         record {
-          signals = record { apart = ((refl, tt), (tt, tt)); one_switch = ((refl, tt), (tt, tt)); few = omega arith };
+          signals = record { apart = ((refl, tt), (tt, tt)); one_multiplexor = ((refl, tt), (tt, tt)); few = omega arith };
           values = (omega arith, (omega arith, tt));
         },
         tt,

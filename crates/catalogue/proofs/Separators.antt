@@ -33,12 +33,12 @@ front_of [] bs = refl
 front_of (b ∷ front) bs = ap (λ ts. b ∷ ts) (front_of front bs)
 
 -- what follows the prefix and one byte
-past : (front bs : List ℕ) (c : ℕ) → drop (suc (length front)) (front ++ (c ∷ bs)) ≡ bs
-past [] bs c = refl
-past (b ∷ front) bs c = past front bs c
+after_prefix : (front bs : List ℕ) (c : ℕ) → drop (suc (length front)) (front ++ (c ∷ bs)) ≡ bs
+after_prefix [] bs c = refl
+after_prefix (b ∷ front) bs c = after_prefix front bs c
 
 back_of : (front bs : List ℕ) (c : ℕ) → drop (length front + 1) (front ++ (c ∷ bs)) ≡ bs
-back_of front bs c = rw (add-one (length front)) (past front bs c)
+back_of front bs c = rw (add-one (length front)) (after_prefix front bs c)
 
 no_split : (c : ℕ) (bs : List ℕ) → Lacks c bs → split_once c bs ≡ None
 no_split c bs h = rw (any_lacks c bs h) refl

@@ -69,8 +69,8 @@ row_without = refl
 abbrev four : List Message
 four = put by_number (second 0 (codes "A")) (put by_number (second 2047 (codes "C")) (put by_number (second 7 (codes "B")) (put by_number (extended 0 (codes "D")) [])))
 
-row_rising : four ≡ second 0 (codes "A") ∷ second 7 (codes "B") ∷ second 2047 (codes "C") ∷ extended 0 (codes "D") ∷ []
-row_rising = refl
+row_ascending : four ≡ second 0 (codes "A") ∷ second 7 (codes "B") ∷ second 2047 (codes "C") ∷ extended 0 (codes "D") ∷ []
+row_ascending = refl
 
 row_least : message_at four 0 ≡ Some (second 0 (codes "A"))
 row_least = refl
@@ -148,65 +148,65 @@ signal name mux = record {
   value_type = Integer;
 }
 
-abbrev switched : List Signal
-switched = signal (codes "Sel") Multiplexor ∷ signal (codes "Val") (Under 1) ∷ []
+abbrev multiplexed_signals : List Signal
+multiplexed_signals = signal (codes "Sel") Multiplexor ∷ signal (codes "Val") (Under 1) ∷ []
 
 row_second_signal : first_refusal (signal_tests (signal (codes "Sel") Multiplexor ∷ []) (signal (codes "Val") (Under 1))) ≡ None
 row_second_signal = refl
 
 -- a second multiplexor of the name of another, and of its own name
-row_second_name : first_refusal (signal_tests switched (signal (codes "Val") Multiplexor)) ≡ Some DoubleName
+row_second_name : first_refusal (signal_tests multiplexed_signals (signal (codes "Val") Multiplexor)) ≡ Some DoubleName
 row_second_name = refl
 
-row_second_switch : first_refusal (signal_tests switched (signal (codes "Other") Multiplexor)) ≡ Some TwoMultiplexors
-row_second_switch = refl
+row_second_multiplexor : first_refusal (signal_tests multiplexed_signals (signal (codes "Other") Multiplexor)) ≡ Some TwoMultiplexors
+row_second_multiplexor = refl
 
 row_full_of_signals : first_refusal (signal_tests (replicate 4096 (signal (codes "S0") (Under 1))) (signal (codes "S0") Multiplexor)) ≡ Some TooMany
 row_full_of_signals = refl
 
 -- faults in words
-abbrev told : SheetCode → About → List ℕ
-told code about = decimal (code_number code) ++ codes " " ++ code_name code ++ codes ": " ++ about_text about
+abbrev printed_fault : SheetCode → About → List ℕ
+printed_fault code about = decimal (code_number code) ++ codes " " ++ code_name code ++ codes ": " ++ about_text about
 
-row_told_number : told DoubleNumber (about.Message 256) ≡ codes "20 DoubleNumber: message 256"
+row_printed_number : printed_fault DoubleNumber (about.Message 256) ≡ codes "20 DoubleNumber: message 256"
 unfolding digits
-row_told_number = refl
+row_printed_number = refl
 
-row_told_name : told DoubleName (about.Message 257) ≡ codes "21 DoubleName: message 257"
+row_printed_name : printed_fault DoubleName (about.Message 257) ≡ codes "21 DoubleName: message 257"
 unfolding digits
-row_told_name = refl
+row_printed_name = refl
 
-row_told_node : told DoubleName about.Node ≡ codes "21 DoubleName: a node"
+row_printed_node : printed_fault DoubleName about.Node ≡ codes "21 DoubleName: a node"
 unfolding digits
-row_told_node = refl
+row_printed_node = refl
 
-row_told_table : told DoubleName about.Table ≡ codes "21 DoubleName: a value table"
+row_printed_table : printed_fault DoubleName about.Table ≡ codes "21 DoubleName: a value table"
 unfolding digits
-row_told_table = refl
+row_printed_table = refl
 
-row_told_switches : told TwoMultiplexors (about.Message 256) ≡ codes "25 TwoMultiplexors: message 256"
+row_printed_multiplexors : printed_fault TwoMultiplexors (about.Message 256) ≡ codes "25 TwoMultiplexors: message 256"
 unfolding digits
-row_told_switches = refl
+row_printed_multiplexors = refl
 
-row_told_full : told TooMany (about.Message 2147483648) ≡ codes "26 TooMany: message 2147483648"
+row_printed_full : printed_fault TooMany (about.Message 2147483648) ≡ codes "26 TooMany: message 2147483648"
 unfolding digits
-row_told_full = refl
+row_printed_full = refl
 
-row_told_full_of_nodes : told TooMany about.Node ≡ codes "26 TooMany: a node"
+row_printed_full_of_nodes : printed_fault TooMany about.Node ≡ codes "26 TooMany: a node"
 unfolding digits
-row_told_full_of_nodes = refl
+row_printed_full_of_nodes = refl
 
-row_told_outside : told OutsidePayload (about.Signals 9 (clash.Outside 0)) ≡ codes "22 OutsidePayload: signals of message 9"
+row_printed_outside : printed_fault OutsidePayload (about.Signals 9 (clash.Outside 0)) ≡ codes "22 OutsidePayload: signals of message 9"
 unfolding digits
-row_told_outside = refl
+row_printed_outside = refl
 
-row_told_clash : told Clash (about.Signals 7 (clash.Overlap 0 1)) ≡ codes "23 Clash: signals of message 7"
+row_printed_clash : printed_fault Clash (about.Signals 7 (clash.Overlap 0 1)) ≡ codes "23 Clash: signals of message 7"
 unfolding digits
-row_told_clash = refl
+row_printed_clash = refl
 
-row_told_no_multiplexor : told NoMultiplexor (about.Signals 1 (clash.NoMultiplexor 0)) ≡ codes "24 NoMultiplexor: signals of message 1"
+row_printed_no_multiplexor : printed_fault NoMultiplexor (about.Signals 1 (clash.NoMultiplexor 0)) ≡ codes "24 NoMultiplexor: signals of message 1"
 unfolding digits
-row_told_no_multiplexor = refl
+row_printed_no_multiplexor = refl
 
 -- texts: empty, plain, a quote that is escaped, a backslash that is escaped
 row_empty : is_text [] ≡ true
@@ -228,5 +228,5 @@ row_lone_quote = refl
 row_lone_backslash : is_text (97 ∷ 92 ∷ []) ≡ false
 row_lone_backslash = refl
 
-row_quote_behind : is_text (92 ∷ 92 ∷ 34 ∷ []) ≡ false
-row_quote_behind = refl
+row_quote_after : is_text (92 ∷ 92 ∷ 34 ∷ []) ≡ false
+row_quote_after = refl

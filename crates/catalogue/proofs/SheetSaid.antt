@@ -13,9 +13,9 @@ use Rattle.catalogue.specs.declared.message.Message.{Message}
 use Rattle.catalogue.specs.declared.node.Node.{Node}
 use Rattle.catalogue.specs.declared.sheet.Sheet.{Sheet}
 use Rattle.catalogue.specs.declared.signal.Signal.{Signal}
-use Rattle.catalogue.proofs.EachSaid.{each_said, kept, keys, said}
+use Rattle.catalogue.proofs.EachSaid.{each_said, kept_entries, keys, last_value}
 use Rattle.catalogue.proofs.Naming.{bytes_eq-flip}
-use Rattle.catalogue.proofs.Rising.{distinct_rising}
+use Rattle.catalogue.proofs.AscendingUnique.{distinct_if_ascending}
 use Rattle.catalogue.proofs.SignalKeys.{sheet_keys_distinct}
 
 pub nat_itself : (n : ℕ) → nat_eq n n ≡ true
@@ -86,21 +86,21 @@ abbrev pub message_signals : Message → List Signal
 message_signals m = m.signals
 
 module _ {V : Type 0} (keep : V → Bool) (d : V) (empty : (v : V) → keep v ≡ false → v ≡ d) (s : Sheet) (well : IsWellFormed s) where
-  pub nodes_said : (value : Node → V) → AllByRecursion (λ n. said bytes_eq d n.name (kept keep (entries node_name value s.nodes)) ≡ value n) s.nodes
+  pub nodes_said : (value : Node → V) → AllByRecursion (λ n. last_value bytes_eq d n.name (kept_entries keep (entries node_name value s.nodes)) ≡ value n) s.nodes
   nodes_said value =
       each_entry node_name value _ s.nodes
       (each_said bytes_eq bytes_itself bytes_eq-flip keep d empty (entries node_name value s.nodes)
       (subst (IsDistinct bytes_eq) (sym (keys-entries node_name value s.nodes)) (distinct_keys node_name value bytes_eq s.nodes well.nodes.apart)))
 
-  pub messages_said : (value : Message → V) → AllByRecursion (λ m. said nat_eq d (number_of m) (kept keep (entries number_of value s.messages)) ≡ value m) s.messages
+  pub messages_said : (value : Message → V) → AllByRecursion (λ m. last_value nat_eq d (number_of m) (kept_entries keep (entries number_of value s.messages)) ≡ value m) s.messages
   messages_said value =
-      let numbers = distinct_keys number_of value nat_eq s.messages (distinct_rising number_of s.messages well.together.rise) in
+      let numbers = distinct_keys number_of value nat_eq s.messages (distinct_if_ascending number_of s.messages well.together.ascending) in
       each_entry number_of value _ s.messages
       (each_said nat_eq nat_itself nat_flip keep d empty (entries number_of value s.messages)
       (subst (IsDistinct nat_eq) (sym (keys-entries number_of value s.messages)) numbers))
 
   pub signals_said : (value : Signal → V) → AllByRecursion (λ m. AllByRecursion (λ x.
-      said same_signal d (signal_key m x) (kept keep (part_entries message_signals signal_key value s.messages)) ≡ value x) m.signals) s.messages
+      last_value same_signal d (signal_key m x) (kept_entries keep (part_entries message_signals signal_key value s.messages)) ≡ value x) m.signals) s.messages
   signals_said value =
       each_part message_signals signal_key value _ s.messages
       (each_said same_signal signal_itself signal_flip keep d empty (part_entries message_signals signal_key value s.messages)

@@ -10,7 +10,7 @@ use Rattle.catalogue.specs.WellFormed.{IsWellFormed, IsWellFormedMessage}
 use Rattle.catalogue.specs.declared.message.Message.{Message}
 use Rattle.catalogue.specs.declared.sheet.Sheet.{Sheet}
 use Rattle.catalogue.specs.declared.signal.Signal.{Signal}
-use Rattle.catalogue.proofs.Rising.{distinct_rising}
+use Rattle.catalogue.proofs.AscendingUnique.{distinct_if_ascending}
 
 all_append : {A : Type 0} (P : A → Type 0) (xs ys : List A) → AllByRecursion P xs → AllByRecursion P ys → AllByRecursion P (xs ++ ys)
 all_append P [] ys a b = b
@@ -65,5 +65,5 @@ apart_in (m ∷ messages) all = (all.0.signals.apart, apart_in messages all.1)
 pub sheet_keys_distinct : (s : Sheet) → IsWellFormed s
     → IsDistinct same_signal (flat_map (λ (m : Message). map (λ (x : Signal). (number_of m, x.name)) m.signals) s.messages)
 sheet_keys_distinct s well =
-    let numbers = distinct_rising number_of s.messages well.together.rise in
+    let numbers = distinct_if_ascending number_of s.messages well.together.ascending in
     keys_distinct signal_name number_of (λ (m : Message). m.signals) s.messages numbers (apart_in s.messages well.messages)

@@ -45,8 +45,8 @@ words word [] = word ∷ []
 words word (b ∷ bs) = if b == 32 then word ∷ words [] bs else words (word ++ b ∷ []) bs
 
 abbrev tokens_from : ℕ → List (List ℕ) → List Token
-tokens_from place [] = []
-tokens_from place (w ∷ ws) = record { kind = kind_of w; start = place; end = place + 1; text = w } ∷ tokens_from (place + 1) ws
+tokens_from offset [] = []
+tokens_from offset (w ∷ ws) = record { kind = kind_of w; start = offset; end = offset + 1; text = w } ∷ tokens_from (offset + 1) ws
 
 abbrev tokens : List ℕ → List Token
 tokens text = tokens_from 0 (words [] text)
@@ -92,7 +92,7 @@ isnt {texts} h = record { each = none_is texts h }
 -- The statements of examples.
 
 abbrev starting : ℕ → Keyword → Content → Statement
-starting place k content = record { start = place; keyword = k; content = content }
+starting offset k content = record { start = offset; keyword = k; content = content }
 
 abbrev one : Keyword → Content → List Statement
 one k content = starting 0 k content ∷ []

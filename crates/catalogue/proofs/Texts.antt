@@ -35,15 +35,15 @@ pieces_of [] h = record { pieces = []; each = tt; whole = refl }
 pieces_of (b ∷ []) h = last_piece b (b == 34) (b == 92) refl refl h
 pieces_of (b ∷ c ∷ bytes) h = next_piece b c bytes (b == 34) (b == 92) refl refl (pieces_of bytes) (pieces_of (c ∷ bytes)) h
 
-joined : (pieces : List (List ℕ)) → AllByRecursion IsPiece pieces → is_text (flat_map (λ piece. piece) pieces) ≡ true
-joined [] h = refl
-joined ([] ∷ pieces) h = absurd h.0
-joined ((b ∷ []) ∷ pieces) h = rw (tells b 34 h.0.0, tells b 92 h.0.1) (joined pieces h.1)
-joined ((b ∷ c ∷ []) ∷ pieces) h = rw h.0 (joined pieces h.1)
-joined ((b ∷ c ∷ d ∷ more) ∷ pieces) h = absurd h.0
+join_is_text : (pieces : List (List ℕ)) → AllByRecursion IsPiece pieces → is_text (flat_map (λ piece. piece) pieces) ≡ true
+join_is_text [] h = refl
+join_is_text ([] ∷ pieces) h = absurd h.0
+join_is_text ((b ∷ []) ∷ pieces) h = rw (tells b 34 h.0.0, tells b 92 h.0.1) (join_is_text pieces h.1)
+join_is_text ((b ∷ c ∷ []) ∷ pieces) h = rw h.0 (join_is_text pieces h.1)
+join_is_text ((b ∷ c ∷ d ∷ more) ∷ pieces) h = absurd h.0
 
 pub text-Decides : (bytes : List ℕ) → Decides (is_text bytes) (IsText bytes)
-text-Decides bytes = (pieces_of bytes, λ text. ap is_text (sym text.whole) ∙ joined text.pieces text.each)
+text-Decides bytes = (pieces_of bytes, λ text. ap is_text (sym text.whole) ∙ join_is_text text.pieces text.each)
 
 -- the test at one byte more: one that is escaped, and one that means itself or escapes the next
 pub after_escaped : (bytes : List ℕ) (i : ℕ) (escaped next r : Bool) → i < length bytes → escaped ≡ true → next ≡ false

@@ -71,9 +71,9 @@ tail_le (c ∷ cs) (b ∷ bs) more f e =
     let past : drop (1 + length cs) (c ∷ (cs ++ tail)) ≡ tail = drop_at (c ∷ cs) tail (1 + length cs) (omega arith) in
     rw (p.0, exact, past) (omega (arith, exponent_le (b ∷ bs) more e))
 
-behind_whole : (whole tail : List ℕ) (n : ℕ) → are_digits whole ≡ true → Stops is_ascii_digit tail → n ≤ tail_len tail → length whole + n ≤ number_len (whole ++ tail)
+after_whole : (whole tail : List ℕ) (n : ℕ) → are_digits whole ≡ true → Stops is_ascii_digit tail → n ≤ tail_len tail → length whole + n ≤ number_len (whole ++ tail)
 unfolding number_len
-behind_whole whole tail n w stops le =
+after_whole whole tail n w stops le =
     rw (prefix_exact is_ascii_digit whole tail w stops, drop_at whole tail (length whole) refl) (omega arith)
 
 parts_le : (whole fraction exponent more : List ℕ) → are_digits whole ≡ true → is_fraction fraction ≡ true → is_exponent exponent ≡ true
@@ -81,10 +81,10 @@ parts_le : (whole fraction exponent more : List ℕ) → are_digits whole ≡ tr
 unfolding number_len
 parts_le whole [] [] more w f e = omega (arith, prefix_le is_ascii_digit whole more w)
 parts_le whole [] (b ∷ bs) more w f e =
-    behind_whole whole (b ∷ bs ++ more) (0 + length (b ∷ bs)) w (e_digit b (and_parts (is_letter_e b) _ e).0) (tail_le [] (b ∷ bs) more f e)
+    after_whole whole (b ∷ bs ++ more) (0 + length (b ∷ bs)) w (e_digit b (and_parts (is_letter_e b) _ e).0) (tail_le [] (b ∷ bs) more f e)
 parts_le whole (c ∷ cs) exponent more w f e =
     let stops = point_digit c (and_parts (eqb c 46) _ f).0 in
-    behind_whole whole (c ∷ cs ++ (exponent ++ more)) (length (c ∷ cs) + length exponent) w stops (tail_le (c ∷ cs) exponent more f e)
+    after_whole whole (c ∷ cs ++ (exponent ++ more)) (length (c ∷ cs) + length exponent) w stops (tail_le (c ∷ cs) exponent more f e)
 
 pub number_le : (word more : List ℕ) (s : Spelling) → IsNumberToken word s → length word ≤ number_len (word ++ more)
 number_le word more s token =

@@ -6,11 +6,11 @@ use Rattle.catalogue.specs.Token.{Token}
 use Rattle.catalogue.specs.TokenLaw.{AreSlices}
 use Rattle.catalogue.proofs.TokenExact.{IsRead, first_of, read_is_there}
 
-slices : (ts : List Token) (o : Option LexFault) (place : ℕ) (source front bytes : List ℕ) → source ≡ front ++ bytes → length front ≡ place
-    → IsRead place bytes ts o → AreSlices place source ts
-slices [] o place source front bytes e at h = tt
-slices (t ∷ ts) o place source front bytes e at h =
-    let (rest, f, more) = first_of place bytes t ts o h in
+slices : (ts : List Token) (o : Option LexFault) (offset : ℕ) (source front bytes : List ℕ) → source ≡ front ++ bytes → length front ≡ offset
+    → IsRead offset bytes ts o → AreSlices offset source ts
+slices [] o offset source front bytes e at h = tt
+slices (t ∷ ts) o offset source front bytes e at h =
+    let (rest, f, more) = first_of offset bytes t ts o h in
     let whole : source ≡ (front ++ f.gap) ++ (t.text ++ rest) = e ∙ ap (λ v. front ++ v) f.parts ∙ sym (append_assoc front f.gap (t.text ++ rest)) in
     let start : length (front ++ f.gap) ≡ t.start = omega (arith, at, f.start, length-append front f.gap) in
     let long : length t.text ≡ t.end - t.start = omega (arith, f.end) in

@@ -68,8 +68,8 @@ number_is_found b bytes h = record {
 text_inside : (b : ℕ) (bytes word rest : List ℕ) → (s : Spells Text word) → b ∷ bytes ≡ word ++ rest → inside_len false bytes ≡ Some (length s.0)
 text_inside b bytes word rest (inside, text, q) e =
     let all : b ∷ bytes ≡ 34 ∷ (inside ++ 34 ∷ rest) = e ∙ ap (λ v. v ++ rest) q ∙ simp append_assoc in
-    let behind : bytes ≡ inside ++ 34 ∷ rest = cc in
-    ap (inside_len false) behind ∙ inside_exact false inside rest ((text-Decides inside).1 text)
+    let after : bytes ≡ inside ++ 34 ∷ rest = cc in
+    ap (inside_len false) after ∙ inside_exact false inside rest ((text-Decides inside).1 text)
 
 text_found : (bytes : List ℕ) (n : ℕ) → inside_len false bytes ≡ Some n → IsWord Text (34 ∷ bytes) (n + 2)
 text_found bytes n h =
@@ -126,7 +126,7 @@ word_found b bytes kind h = by_first b bytes kind (starts_identifier b) (is_asci
 pub of_that_kind : (b : ℕ) (bytes : List ℕ) (kind : TokenKind) → kind_of b ≡ Some kind
     → (k : TokenKind) (word rest : List ℕ) → Spells k word → b ∷ bytes ≡ word ++ rest → Spells kind word
 of_that_kind b bytes kind h k word rest s e =
-    let here : Begins kind (b ∷ bytes) = record { first = b; behind = bytes; parts = refl; tells = h } in
+    let here : Begins kind (b ∷ bytes) = record { first = b; after = bytes; parts = refl; tells = h } in
     let same : k ≡ kind = one_kind k kind (word ++ rest) (b ∷ bytes) (begins_further k word rest s) here (sym e) in
     subst (λ l. Spells l word) same s
 

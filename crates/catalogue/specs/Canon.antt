@@ -151,9 +151,9 @@ spn_default = word tight (codes "BA_DEF_DEF_") ∷ quoted space (codes "SPN") �
 abbrev pub spn_definitions : List Line
 spn_definitions = spn_definition ∷ spn_default ∷ []
 
-abbrev pub defined : List Line → List Line
-defined [] = []
-defined (l ∷ ls) = spn_definitions ++ l ∷ ls
+abbrev pub with_spn_definitions : List Line → List Line
+with_spn_definitions [] = []
+with_spn_definitions (l ∷ ls) = spn_definitions ++ l ∷ ls
 
 -- VAL_ number name and the values with their texts
 abbrev pub value_lines : Message → Signal → List Line
@@ -172,7 +172,7 @@ abbrev pub canonical_lines : Sheet → List Line
 canonical_lines s = version_line s ∷ symbols_line ∷ timing_line ∷ nodes_line s
     ∷ map table_line s.tables ++ flat_map message_lines s.messages
     ++ comment_lines [] s.comment ++ flat_map node_comment s.nodes ++ flat_map message_comments s.messages
-    ++ defined (each_signal spn_lines s) ++ each_signal value_lines s ++ each_signal type_lines s
+    ++ with_spn_definitions (each_signal spn_lines s) ++ each_signal value_lines s ++ each_signal type_lines s
 
 -- the bytes of a line, and its LF
 abbrev pub line_text : Line → List ℕ

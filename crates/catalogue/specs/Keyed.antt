@@ -13,15 +13,15 @@ abbrev pub are_above : {A : Type 0} → (A → A → Ordering) → A → List A 
 are_above order x ys = list_all (λ y. is_lt (order x y)) ys
 
 -- x at y, where the items after y are above x
-abbrev pub placed : {A : Type 0} → Ordering → A → A → List A → List A
-placed Less x y ys = x ∷ y ∷ ys
-placed Equal x y ys = x ∷ ys
-placed Greater x y ys = y ∷ x ∷ ys
+abbrev pub put_by_order : {A : Type 0} → Ordering → A → A → List A → List A
+put_by_order Less x y ys = x ∷ y ∷ ys
+put_by_order Equal x y ys = x ∷ ys
+put_by_order Greater x y ys = y ∷ x ∷ ys
 
 -- the list with x after the last item that is not above it, or in place of that one where it has the key of x
 abbrev pub put : {A : Type 0} → (A → A → Ordering) → A → List A → List A
 put order x [] = x ∷ []
-put order x (y ∷ ys) = if are_above order x ys then placed (order x y) x y ys else y ∷ put order x ys
+put order x (y ∷ ys) = if are_above order x ys then put_by_order (order x y) x y ys else y ∷ put order x ys
 
 -- to write x there, or to insert it there, is to put it
 abbrev pub IsSlotOf : {A : Type 0} → (A → A → Ordering) → A → List A → Slot → Type 0

@@ -94,9 +94,9 @@ first_token offset bytes = token_at (offset + prefix_len is_gap bytes) (drop (pr
 
 -- what is read of the bytes, from their first token and from what is read after it
 abbrev pub with_first : Result (Option Token) LexFault → (Token → Lexed) → Lexed
-with_first (Err fault) behind = record { tokens = []; fault = Some fault }
-with_first (Ok None) behind = record { tokens = []; fault = None }
-with_first (Ok (Some token)) behind = record { tokens = token ∷ (behind token).tokens; fault = (behind token).fault }
+with_first (Err fault) after = record { tokens = []; fault = Some fault }
+with_first (Ok None) after = record { tokens = []; fault = None }
+with_first (Ok (Some token)) after = record { tokens = token ∷ (after token).tokens; fault = (after token).fault }
 
 -- what is read in at most this many steps
 unfoldable pub lexed_in : ℕ → ℕ → List ℕ → Lexed

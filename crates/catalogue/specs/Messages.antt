@@ -44,7 +44,7 @@ IsClearMessage m = IsClear (places_of m.signals) m.length
 
 -- The messages of one sheet: each number once, in ascending order, each name once, and at most as many as the limit.
 pub record AreMessages (messages : List Message) : Type 0 where
-  pub rise : IsStrictlySortedBy by_number messages
+  pub ascending : IsStrictlySortedBy by_number messages
   pub apart : AreNamedApart message_name messages
   pub few : length messages ≤ message_limit
 

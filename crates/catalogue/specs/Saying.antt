@@ -71,8 +71,8 @@ abbrev pub same_signal : SignalKey → SignalKey → Bool
 same_signal a b = a.0 == b.0 && bytes_eq a.1 b.1
 
 -- v for the signal that is cited; nothing if no message is cited
-abbrev pub of_signal : {V : Type 0} → Cited → List ℕ → V → Option (SignalKey × V)
-of_signal cited name v = option_map (λ number. ((number, name), v)) cited
+abbrev pub with_signal_key : {V : Type 0} → Cited → List ℕ → V → Option (SignalKey × V)
+with_signal_key cited name v = option_map (λ number. ((number, name), v)) cited
 
 -- What one statement says, by kind: about the file, or with the name, number or key of what it is about.
 
@@ -105,19 +105,19 @@ message_comment_in (MessageCommentIs cited text) = option_map (λ number. (numbe
 message_comment_in content = None
 
 abbrev pub signal_comment_in : Content → Option (SignalKey × List ℕ)
-signal_comment_in (SignalCommentIs cited name text) = of_signal cited name text
+signal_comment_in (SignalCommentIs cited name text) = with_signal_key cited name text
 signal_comment_in content = None
 
 abbrev pub value_texts_in : Content → Option (SignalKey × List ValueText)
-value_texts_in (ValueTextsAre cited name texts) = of_signal cited name texts
+value_texts_in (ValueTextsAre cited name texts) = with_signal_key cited name texts
 value_texts_in content = None
 
 abbrev pub value_type_in : Content → Option (SignalKey × ValueType)
-value_type_in (ValueTypeIs cited name value_type) = of_signal cited name value_type
+value_type_in (ValueTypeIs cited name value_type) = with_signal_key cited name value_type
 value_type_in content = None
 
 abbrev pub spn_in : Content → Option (SignalKey × ℕ)
-spn_in (SpnIs cited name spn) = of_signal cited name spn
+spn_in (SpnIs cited name spn) = with_signal_key cited name spn
 spn_in content = None
 
 -- What all statements say.
@@ -131,8 +131,8 @@ abbrev pub last_in : {V : Type 0} → V → (Content → Option V) → List Stat
 last_in v kind statements = unwrap_or (last_or None (each_in kind statements)) v
 
 -- what the last one of a kind that is about k says of it, or else v
-abbrev pub last_said : {K V : Type 0} → (K → K → Bool) → K → V → (Content → Option (K × V)) → List Statement → V
-last_said same k v kind statements = unwrap_or (last_at same k None (each_in kind statements)) v
+abbrev pub last_value_of : {K V : Type 0} → (K → K → Bool) → K → V → (Content → Option (K × V)) → List Statement → V
+last_value_of same k v kind statements = unwrap_or (last_at same k None (each_in kind statements)) v
 
 -- the names of the nodes: several statements add up
 abbrev pub node_names_of : List Statement → List (List ℕ)
@@ -154,7 +154,7 @@ signal_keys_of statements = flat_map keys_of (messages_of statements)
 -- Nodes, signals and messages with what the statements say of them.
 
 abbrev pub whole_node : List Statement → List ℕ → Node
-whole_node statements name = record { name = name; comment = last_said bytes_eq name [] node_comment_in statements }
+whole_node statements name = record { name = name; comment = last_value_of bytes_eq name [] node_comment_in statements }
 
 abbrev pub whole_signal : List Statement → ℕ → SignalLine → Signal
 whole_signal statements number line =
@@ -170,10 +170,10 @@ whole_signal statements number line =
       maximum = line.maximum;
       unit = line.unit;
       receivers = line.receivers;
-      comment = last_said same_signal key [] signal_comment_in statements;
-      spn = last_said same_signal key 0 spn_in statements;
-      values = last_said same_signal key [] value_texts_in statements;
-      value_type = last_said same_signal key Integer value_type_in statements;
+      comment = last_value_of same_signal key [] signal_comment_in statements;
+      spn = last_value_of same_signal key 0 spn_in statements;
+      values = last_value_of same_signal key [] value_texts_in statements;
+      value_type = last_value_of same_signal key Integer value_type_in statements;
     }
 
 abbrev pub whole_message : List Statement → MessageLine → Message
@@ -182,7 +182,7 @@ whole_message statements line = record {
   name = line.name;
   length = line.length;
   transmitter = line.transmitter;
-  comment = last_said nat_eq (dbc_number line.ident) [] message_comment_in statements;
+  comment = last_value_of nat_eq (dbc_number line.ident) [] message_comment_in statements;
   signals = map (whole_signal statements (dbc_number line.ident)) line.signals;
 }
 

@@ -27,35 +27,35 @@ abbrev pub at_signal : (Signal → Signal) → List ℕ → List Signal → List
 at_signal = at_named signal_name
 
 -- whether a signal is the multiplexor
-abbrev pub is_switch : Signal → Bool
-is_switch s = is_multiplexor s.mux
+abbrev pub signal_is_multiplexor : Signal → Bool
+signal_is_multiplexor s = is_multiplexor s.mux
 
 -- whether one of them is
-abbrev pub are_switched : List Signal → Bool
-are_switched signals = list_any is_switch signals
+abbrev pub has_multiplexor : List Signal → Bool
+has_multiplexor signals = list_any signal_is_multiplexor signals
 
 -- no two of them are
-abbrev pub HaveOneSwitch : List Signal → Type 0
-HaveOneSwitch signals = IsDistinct (λ a b. is_switch a && is_switch b) signals
+abbrev pub HaveOneMultiplexor : List Signal → Type 0
+HaveOneMultiplexor signals = IsDistinct (λ a b. signal_is_multiplexor a && signal_is_multiplexor b) signals
 
 -- The signals of one message: no two have the same name, no two are the multiplexor, and they are at most as many as
 -- the limit.
 pub record AreSignals (signals : List Signal) : Type 0 where
   pub apart : AreNamedApart signal_name signals
-  pub one_switch : HaveOneSwitch signals
+  pub one_multiplexor : HaveOneMultiplexor signals
   pub few : length signals ≤ roster_limit
 
 -- why one more signal is refused
 abbrev pub signal_tests : List Signal → Signal → List (Test SheetCode)
 signal_tests signals s = record { holds = nat_le roster_limit (length signals); refusal = TooMany }
     ∷ record { holds = has_name signal_name signals s.name; refusal = DoubleName }
-    ∷ record { holds = is_switch s && are_switched signals; refusal = TwoMultiplexors } ∷ []
+    ∷ record { holds = signal_is_multiplexor s && has_multiplexor signals; refusal = TwoMultiplexors } ∷ []
 
 -- the places of the signals, in order
 abbrev pub places_of : List Signal → List Place
 places_of signals = map place_of signals
 
 -- what the code keeps in addition to the signals: whether one of them is the multiplexor
-pub record IsSwitchKnown (signals : List Signal) (switched : Bool) : Type 0 where
-  pub one_switch : HaveOneSwitch signals
-  pub known : switched ≡ are_switched signals
+pub record IsMultiplexorKnown (signals : List Signal) (multiplexed : Bool) : Type 0 where
+  pub one_multiplexor : HaveOneMultiplexor signals
+  pub known : multiplexed ≡ has_multiplexor signals

@@ -8,16 +8,16 @@ use Rattle.catalogue.specs.Token.{Token}
 use Rattle.catalogue.specs.Tokens.{HasTokens, IsFirst, IsGap}
 
 -- these tokens, and no fault
-abbrev pub all_read : List Token → Lexed
-all_read tokens = record { tokens = tokens; fault = None }
+abbrev pub tokens_without_fault : List Token → Lexed
+tokens_without_fault tokens = record { tokens = tokens; fault = None }
 
 -- these tokens, and then the fault
-abbrev pub stopped : List Token → LexFault → Lexed
-stopped tokens fault = record { tokens = tokens; fault = Some fault }
+abbrev pub tokens_then_fault : List Token → LexFault → Lexed
+tokens_then_fault tokens fault = record { tokens = tokens; fault = Some fault }
 
 -- A text has the tokens exactly if they are what is read of it without a fault.
 abbrev pub TokensAreRead : Type 0
-TokensAreRead = (bytes : List ℕ) (tokens : List Token) → HasTokens 0 bytes tokens ↔ (lexed 0 bytes ≡ all_read tokens)
+TokensAreRead = (bytes : List ℕ) (tokens : List Token) → HasTokens 0 bytes tokens ↔ (lexed 0 bytes ≡ tokens_without_fault tokens)
 
 -- A text has at most one list of tokens.
 abbrev pub TokensAreOne : Type 0
@@ -28,11 +28,11 @@ TokensAreOne = (bytes : List ℕ) (ts us : List Token) → HasTokens 0 bytes ts 
 pub record NoToken (offset : ℕ) (bytes : List ℕ) (fault : LexFault) : Type 0 where
   pub gap : List ℕ
   pub first : ℕ
-  pub behind : List ℕ
-  pub parts : bytes ≡ gap ++ (first ∷ behind)
+  pub after : List ℕ
+  pub parts : bytes ≡ gap ++ (first ∷ after)
   pub gap_is : IsGap gap
   pub no_gap : is_gap first ≡ false
-  pub none : (kind : TokenKind) (word rest : List ℕ) → Spells kind word → first ∷ behind ≡ word ++ rest → ⊥
+  pub none : (kind : TokenKind) (word rest : List ℕ) → Spells kind word → first ∷ after ≡ word ++ rest → ⊥
   pub fault_is : fault ≡ (if is_quote first then UnclosedText (offset + length gap) else StrayByte (offset + length gap))
 
 -- The bytes, which are at the offset, have first these tokens, and after them none begins.
@@ -42,7 +42,7 @@ StopsWith offset bytes (token ∷ tokens) fault = (rest : List ℕ) × IsFirst o
 
 -- Reading ends with a fault exactly if no token begins after those that were read.
 abbrev pub FaultsAreExact : Type 0
-FaultsAreExact = (bytes : List ℕ) (tokens : List Token) (fault : LexFault) → StopsWith 0 bytes tokens fault ↔ (lexed 0 bytes ≡ stopped tokens fault)
+FaultsAreExact = (bytes : List ℕ) (tokens : List Token) (fault : LexFault) → StopsWith 0 bytes tokens fault ↔ (lexed 0 bytes ≡ tokens_then_fault tokens fault)
 
 -- Each token begins at the offset or after it, ends within the source, and its bytes are those between; the next ones
 -- begin at its end or after it.

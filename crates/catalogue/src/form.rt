@@ -18,27 +18,28 @@ use crate::value_texts::{ValueText, ValueTexts};
 use bitlayout::{Layout, Mux};
 
 /// A value whose type guarantees a form.
-trait Formed {
+pub trait Formed {
     /// The form.
     ghost form: { Self → Type 0 };
 
     /// The value has the form.
-    fn formed(&self)
+    fn has_form(&self)
         ensures { form self.now };
 }
 
-fn each_formed<T: Formed>(items: &[T])
+/// Each of the items has the form that its type keeps.
+pub fn each_has_form<T: Formed>(items: &[T])
     ensures { All T.form items.now }
 {
     for item in items {
-        item.formed();
+        item.has_form();
     }
 }
 
 impl Formed for Name {
     ghost form = { IsName };
 
-    fn formed(&self) {
+    fn has_form(&self) {
         self.as_bytes();
     }
 }
@@ -46,7 +47,7 @@ impl Formed for Name {
 impl Formed for Text {
     ghost form = { IsText };
 
-    fn formed(&self) {
+    fn has_form(&self) {
         self.as_bytes();
     }
 }
@@ -54,24 +55,24 @@ impl Formed for Text {
 impl Formed for ValueText {
     ghost form = { IsValueText };
 
-    fn formed(&self) {
+    fn has_form(&self) {
         self.value.mantissa();
-        self.text.formed();
+        self.text.has_form();
     }
 }
 
 impl Formed for ValueTexts {
     ghost form = { KeepsTexts };
 
-    fn formed(&self) {
-        each_formed(self.as_slice());
+    fn has_form(&self) {
+        each_has_form(self.as_slice());
     }
 }
 
 impl Formed for Layout {
     ghost form = { IsLayout };
 
-    fn formed(&self) {
+    fn has_form(&self) {
         u32::from(self.start);
         self.size.bits();
     }
@@ -80,7 +81,7 @@ impl Formed for Layout {
 impl Formed for Mux {
     ghost form = { IsMux };
 
-    fn formed(&self) {
+    fn has_form(&self) {
         match self {
             Mux::Always | Mux::Multiplexor => {}
             Mux::Under(value) => {
@@ -93,52 +94,52 @@ impl Formed for Mux {
 impl Formed for Signal {
     ghost form = { KeepsSignal };
 
-    fn formed(&self) {
-        self.name.formed();
-        self.layout.formed();
-        self.mux.formed();
+    fn has_form(&self) {
+        self.name.has_form();
+        self.layout.has_form();
+        self.mux.has_form();
         self.factor.mantissa();
         self.offset.mantissa();
         self.minimum.mantissa();
         self.maximum.mantissa();
-        self.unit.formed();
-        each_formed(self.receivers.as_slice());
-        self.comment.formed();
+        self.unit.has_form();
+        each_has_form(self.receivers.as_slice());
+        self.comment.has_form();
         self.spn.number();
-        self.values.formed();
+        self.values.has_form();
     }
 }
 
 impl Formed for Message {
     ghost form = { KeepsMessage };
 
-    fn formed(&self) {
+    fn has_form(&self) {
         self.ident.to_dbc();
-        self.name.formed();
+        self.name.has_form();
         self.length.bytes();
         if let Some(transmitter) = &self.transmitter {
-            transmitter.formed();
+            transmitter.has_form();
         }
-        self.comment.formed();
-        each_formed(self.signals.as_slice());
+        self.comment.has_form();
+        each_has_form(self.signals.as_slice());
     }
 }
 
 impl Formed for Node {
     ghost form = { IsNode };
 
-    fn formed(&self) {
-        self.name.formed();
-        self.comment.formed();
+    fn has_form(&self) {
+        self.name.has_form();
+        self.comment.has_form();
     }
 }
 
 impl Formed for ValueTable {
     ghost form = { KeepsTable };
 
-    fn formed(&self) {
-        self.name.formed();
-        self.entries.formed();
+    fn has_form(&self) {
+        self.name.has_form();
+        self.entries.has_form();
     }
 }
 
@@ -147,9 +148,9 @@ impl Formed for ValueTable {
 pub fn sheets_are_well_formed(sheet: &Sheet)
     ensures { IsSheet sheet.now }
 {
-    sheet.version().formed();
-    sheet.comment().formed();
-    each_formed(sheet.nodes());
-    each_formed(sheet.tables());
-    each_formed(sheet.messages());
+    sheet.version().has_form();
+    sheet.comment().has_form();
+    each_has_form(sheet.nodes());
+    each_has_form(sheet.tables());
+    each_has_form(sheet.messages());
 }

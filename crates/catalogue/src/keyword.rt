@@ -126,7 +126,7 @@ fn ends_keyword(word: &[u8]) -> bool
 }
 
 /// The most frequent keywords of a file, which are looked for first.
-fn frequent(word: &[u8]) -> Option<Keyword>
+fn frequent_keyword(word: &[u8]) -> Option<Keyword>
     ensures { IfSome result (λ keyword. keyword_of word.now ≡ Some keyword) }
 {
     if word == b"SG_".as_slice() {
@@ -152,14 +152,14 @@ impl Keyword {
         if !ends_keyword(word) {
             return None;
         }
-        match frequent(word) {
+        match frequent_keyword(word) {
             Some(keyword) => Some(keyword),
-            None => Keyword::listed(word),
+            None => Keyword::listed_keyword(word),
         }
     }
 
     /// The keyword among all of them that the bytes spell.
-    fn listed(word: &[u8]) -> Option<Keyword>
+    fn listed_keyword(word: &[u8]) -> Option<Keyword>
         ensures { result ≡ keyword_of word.now }
     {
         KEYWORDS

@@ -52,7 +52,7 @@ mod value_type;
 pub use checked::{Checked, Rule};
 pub use copying::Copying;
 pub use fault::{About, SheetCode, SheetFault};
-pub use form::sheets_are_well_formed;
+pub use form::{Formed, each_has_form, sheets_are_well_formed};
 pub use indicator::mux_of_indicator;
 pub use items::Items;
 pub use keyed::{Keyed, Slot, put_item, slot_of};

@@ -3,7 +3,7 @@ ghost use Rattle.std.specs.Prelude.{◌≡◌, ◌++◌, ◌∷◌, [], None, If
 ghost use Rattle.catalogue.specs.Fault.{IsRefusal};
 ghost use Rattle.catalogue.specs.Refusing.{first_refusal};
 ghost use Rattle.catalogue.specs.Named.{has_name};
-ghost use Rattle.catalogue.specs.Signals.{AreSignals, are_switched, at_signal, places_of, signal_name, signal_named, signal_tests, without_signal};
+ghost use Rattle.catalogue.specs.Signals.{AreSignals, at_signal, has_multiplexor, places_of, signal_name, signal_named, signal_tests, without_signal};
 
 use crate::copying::Copying;
 use crate::fault::SheetCode;
@@ -25,14 +25,14 @@ pub struct Signals {
 
 impl Model for Signals {
     ghost use Rattle.std.specs.Prelude.{List};
-    ghost use Rattle.catalogue.specs.Signals.{IsSwitchKnown};
+    ghost use Rattle.catalogue.specs.Signals.{IsMultiplexorKnown};
     ghost use Rattle.catalogue.specs.declared.signal.Signal.{Signal};
 
     ghost Value = { List Signal };
 
     ghost view = { λ signals. signals.roster };
 
-    ghost invariant = { λ signals. IsSwitchKnown signals.roster signals.multiplexed };
+    ghost invariant = { λ signals. IsMultiplexorKnown signals.roster signals.multiplexed };
 }
 
 impl Signals {
@@ -56,7 +56,7 @@ impl Signals {
 
     /// Whether one of them is the multiplexor.
     pub fn are_multiplexed(&self) -> bool
-        ensures { result ≡ are_switched self.now }
+        ensures { result ≡ has_multiplexor self.now }
     {
         self.multiplexed
     }

@@ -4,7 +4,7 @@ ghost use Rattle.std.specs.Option.{option_map};
 ghost use Rattle.catalogue.specs.Split.{split_once};
 
 /// The parts, by the first separator.
-fn parted(bytes: &[u8], separator: u8) -> Option<(&[u8], &[u8])>
+fn split_at_first(bytes: &[u8], separator: u8) -> Option<(&[u8], &[u8])>
     ensures { MatchOption result (All (λ b. b ≢ separator) bytes.now)
         (λ parts. All (λ b. b ≢ separator) parts.0.now × (bytes.now ≡ parts.0.now ++ (separator ∷ parts.1.now))) }
 {
@@ -18,5 +18,5 @@ pub fn split_once(bytes: &[u8], separator: u8) -> Option<(&[u8], &[u8])>
         (λ parts. All (λ b. b ≢ separator) parts.0.now × (bytes.now ≡ parts.0.now ++ (separator ∷ parts.1.now))) }
     ensures computed { option_map (λ parts. (parts.0.now, parts.1.now)) result ≡ split_once separator bytes.now }
 {
-    parted(bytes, separator)
+    split_at_first(bytes, separator)
 }

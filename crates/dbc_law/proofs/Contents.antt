@@ -82,9 +82,9 @@ abbrev pub spns : Message → Signal → List Content
 spns m s = if s.spn == 0 then [] else (SpnIs (Some (number_of m)) s.name s.spn ∷ [])
 
 -- the definitions of the attribute before the first of them, which are skipped
-abbrev pub defined : List Content → List Content
-defined [] = []
-defined (c ∷ cs) = PassedOver ∷ PassedOver ∷ c ∷ cs
+abbrev pub with_spn_definitions : List Content → List Content
+with_spn_definitions [] = []
+with_spn_definitions (c ∷ cs) = PassedOver ∷ PassedOver ∷ c ∷ cs
 
 abbrev pub texts : ℕ → List ℕ → List ValueText → List Content
 texts number name [] = []
@@ -100,7 +100,7 @@ value_types m s = if value_type_number s.value_type == 0 then [] else (ValueType
 abbrev pub sections : Sheet → List Content
 sections s = map table s.tables ++ map message s.messages
     ++ comments CommentIs s.comment ++ flat_map node_comments s.nodes ++ flat_map message_comments s.messages
-    ++ defined (each_signal spns s) ++ each_signal value_texts s ++ each_signal value_types s
+    ++ with_spn_definitions (each_signal spns s) ++ each_signal value_texts s ++ each_signal value_types s
 
 abbrev pub contents : Sheet → List Content
 contents s = VersionIs s.version ∷ Dropped ∷ Dropped ∷ NodesAre (node_names s) ∷ sections s

@@ -13,8 +13,8 @@ use Rattle.dbc_law.proofs.Tokens.{text_has_tokens}
 
 canonical_reads : (s : Sheet) → IsSheet s → Reads (canonical_text s) s
 canonical_reads s h =
-    let (tokens, has_tokens, stand) = text_has_tokens s h in
-    let (statements, divides, contents) = lines_divide s h tokens stand in (
+    let (tokens, has_tokens, are_lines) = text_has_tokens s h in
+    let (statements, divides, contents) = lines_divide s h tokens are_lines in (
       passed_by statements,
       record { tokens = tokens; statements = statements; has_tokens = has_tokens; divides = divides; says = contents_say s h statements contents; passes = refl },
     )

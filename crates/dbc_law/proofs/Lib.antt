@@ -1,4 +1,4 @@
-pub mod Standing
+pub mod PieceTokens
 pub mod Contents
 pub mod DecimalPieces
 pub mod MessageNumbers
@@ -26,7 +26,7 @@ pub mod StatementComments
 pub mod StatementAttached
 pub mod Statements
 pub mod SayingContents
-pub mod SayingSilence
+pub mod SayingOtherKinds
 pub mod SayingEntries
 pub mod SayingSections
 pub mod SayingKinds

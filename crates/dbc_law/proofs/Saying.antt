@@ -20,7 +20,7 @@ use Rattle.catalogue.specs.Saying.{
   table_in,
   message_in,
   each_in,
-  last_said,
+  last_value_of,
   node_names_of,
   messages_of,
   whole_message,
@@ -35,7 +35,7 @@ use Rattle.catalogue.specs.declared.node.Node.{Node}
 use Rattle.catalogue.specs.declared.sheet.Sheet.{Sheet}
 use Rattle.catalogue.specs.declared.signal.Signal.{Signal}
 use Rattle.catalogue.specs.declared.value_type.ValueType.TheVariants.{Integer}
-use Rattle.catalogue.proofs.EachSaid.{kept, said}
+use Rattle.catalogue.proofs.EachSaid.{kept_entries, last_value}
 use Rattle.catalogue.proofs.SheetSaid.{message_signals, messages_said, nodes_said, part_entries, signal_key, signals_said}
 use Rattle.dbc_law.proofs.Contents.{comments, contents, contents_of, message_line, node_names, signal_line}
 use Rattle.dbc_law.proofs.SayingContents.{each_in-contents}
@@ -51,13 +51,13 @@ module _ (statements : List Statement) where
   -- ---- what the statements say of each node, message and signal is its own value
 
   abbrev NodesSaid : List Node → Type 0
-  NodesSaid ns = AllByRecursion (λ (n : Node). last_said bytes_eq n.name [] node_comment_in statements ≡ n.comment) ns
+  NodesSaid ns = AllByRecursion (λ (n : Node). last_value_of bytes_eq n.name [] node_comment_in statements ≡ n.comment) ns
 
   abbrev MessagesSaid : List Message → Type 0
-  MessagesSaid ms = AllByRecursion (λ (m : Message). last_said nat_eq (number_of m) [] message_comment_in statements ≡ m.comment) ms
+  MessagesSaid ms = AllByRecursion (λ (m : Message). last_value_of nat_eq (number_of m) [] message_comment_in statements ≡ m.comment) ms
 
   abbrev SignalsSaid : {V : Type 0} → V → (Content → Option (SignalKey × V)) → (Signal → V) → Message → List Signal → Type 0
-  SignalsSaid v kind value m xs = AllByRecursion (λ (x : Signal). last_said same_signal (signal_key m x) v kind statements ≡ value x) xs
+  SignalsSaid v kind value m xs = AllByRecursion (λ (x : Signal). last_value_of same_signal (signal_key m x) v kind statements ≡ value x) xs
 
   abbrev EachSignalSaid : {V : Type 0} → V → (Content → Option (SignalKey × V)) → (Signal → V) → List Message → Type 0
   EachSignalSaid v kind value ms = AllByRecursion (λ (m : Message). SignalsSaid v kind value m m.signals) ms
@@ -110,20 +110,20 @@ module _ (s : Sheet) (is : IsSheet s) (statements : List Statement) (say : conte
   -- so each node, message and signal has its own comment, number, texts and type
   nodes_own : NodesSaid statements s.nodes
   nodes_own =
-      subst (λ es. AllByRecursion (λ (n : Node). said bytes_eq [] n.name es ≡ n.comment) s.nodes)
+      subst (λ es. AllByRecursion (λ (n : Node). last_value bytes_eq [] n.name es ≡ n.comment) s.nodes)
       (sym (said_by node_comment_in _ (kinds.node_comment_in-contents s)))
       (nodes_said some_of [] empty_list s is.well_formed (λ (n : Node). n.comment))
 
   messages_own : MessagesSaid statements s.messages
   messages_own =
-      subst (λ es. AllByRecursion (λ (m : Message). said nat_eq [] (number_of m) es ≡ m.comment) s.messages)
+      subst (λ es. AllByRecursion (λ (m : Message). last_value nat_eq [] (number_of m) es ≡ m.comment) s.messages)
       (sym (said_by message_comment_in _ (kinds.message_comment_in-contents s)))
       (messages_said some_of [] empty_list s is.well_formed (λ (m : Message). m.comment))
 
   signals_own : {V : Type 0} (keep : V → Bool) (v : V) → ((x : V) → keep x ≡ false → x ≡ v) → (kind : Content → Option (SignalKey × V)) (value : Signal → V)
-      → filter_map kind (contents s) ≡ kept keep (part_entries message_signals signal_key value s.messages) → EachSignalSaid statements v kind value s.messages
+      → filter_map kind (contents s) ≡ kept_entries keep (part_entries message_signals signal_key value s.messages) → EachSignalSaid statements v kind value s.messages
   signals_own keep v empty kind value e =
-      subst (λ es. AllByRecursion (λ (m : Message). AllByRecursion (λ (x : Signal). said same_signal v (signal_key m x) es ≡ value x) m.signals) s.messages)
+      subst (λ es. AllByRecursion (λ (m : Message). AllByRecursion (λ (x : Signal). last_value same_signal v (signal_key m x) es ≡ value x) m.signals) s.messages)
       (sym (said_by kind _ e)) (signals_said keep v empty s is.well_formed value)
 
   -- and messages and nodes are the sheet's

@@ -8,10 +8,10 @@ use Rattle.catalogue.specs.ValueType.{value_type_number}
 use Rattle.catalogue.specs.declared.value_texts.ValueText.{ValueText}
 use Rattle.catalogue.specs.declared.value_type.ValueType.{ValueType}
 use Rattle.catalogue.specs.declared.value_type.ValueType.TheVariants.{Integer, Float, Double}
-use Rattle.catalogue.proofs.EachSaid.{kept}
+use Rattle.catalogue.proofs.EachSaid.{kept_entries}
 use Rattle.catalogue.proofs.SheetSaid.{entries, part_entries}
 use Rattle.dbc_law.proofs.Contents.{comments, texts}
-use Rattle.dbc_law.proofs.SayingContents.{Tell, ◌also◌, no_contents, speaks, told_as}
+use Rattle.dbc_law.proofs.SayingContents.{Tell, ◌also◌, no_contents, speaks, tell_same}
 
 -- ---- tests of values that are not empty; each fails at the empty one alone
 
@@ -65,19 +65,19 @@ module _ {K : Type 0} where
 
 module _ {K V : Type 0} {kind : Content → Option (K × V)} (keep : V → Bool) where
   pub each_tells : {A : Type 0} (key : A → K) (value : A → V) (says : A → List Content)
-      → ((x : A) → Tell kind (says x) (entry (keep (value x)) (key x) (value x))) → (xs : List A) → Tell kind (flat_map says xs) (kept keep (entries key value xs))
+      → ((x : A) → Tell kind (says x) (entry (keep (value x)) (key x) (value x))) → (xs : List A) → Tell kind (flat_map says xs) (kept_entries keep (entries key value xs))
   each_tells key value says each [] = no_contents
-  each_tells key value says each (x ∷ xs) = told_as (by (keep (value x))) (each x also each_tells key value says each xs)
+  each_tells key value says each (x ∷ xs) = tell_same (by (keep (value x))) (each x also each_tells key value says each xs)
     where
-      by : (b : Bool) → entry b (key x) (value x) ++ kept keep (entries key value xs)
-          ≡ cond b ((key x, value x) ∷ kept keep (entries key value xs)) (kept keep (entries key value xs))
+      by : (b : Bool) → entry b (key x) (value x) ++ kept_entries keep (entries key value xs)
+          ≡ cond b ((key x, value x) ∷ kept_entries keep (entries key value xs)) (kept_entries keep (entries key value xs))
       by true = refl
       by false = refl
 
   -- and those of the parts of each thing in a list
   pub parts_tell : {M S : Type 0} (parts : M → List S) (key : M → S → K) (value : S → V) (says : M → List Content)
-      → ((m : M) → Tell kind (says m) (kept keep (entries (key m) value (parts m)))) → (ms : List M) → Tell kind (flat_map says ms) (kept keep (part_entries parts key value ms))
+      → ((m : M) → Tell kind (says m) (kept_entries keep (entries (key m) value (parts m)))) → (ms : List M) → Tell kind (flat_map says ms) (kept_entries keep (part_entries parts key value ms))
   parts_tell parts key value says each [] = no_contents
   parts_tell parts key value says each (m ∷ ms) =
-      told_as (sym (filter-append (λ (e : K × V). keep e.1) (entries (key m) value (parts m)) (part_entries parts key value ms)))
+      tell_same (sym (filter-append (λ (e : K × V). keep e.1) (entries (key m) value (parts m)) (part_entries parts key value ms)))
       (each m also parts_tell parts key value says each ms)

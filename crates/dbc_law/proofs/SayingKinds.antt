@@ -9,12 +9,12 @@ use Rattle.catalogue.specs.declared.message.Message.{Message}
 use Rattle.catalogue.specs.declared.node.Node.{Node}
 use Rattle.catalogue.specs.declared.sheet.Sheet.{Sheet}
 use Rattle.catalogue.specs.declared.signal.Signal.{Signal}
-use Rattle.catalogue.proofs.EachSaid.{kept}
+use Rattle.catalogue.proofs.EachSaid.{kept_entries}
 use Rattle.catalogue.proofs.SheetSaid.{entries, message_signals, part_entries, signal_key}
-use Rattle.dbc_law.proofs.Contents.{comments, contents, defined, each_signal, message, message_comments, message_line, node_comments, node_names, sections, spns, table, value_texts, value_types}
+use Rattle.dbc_law.proofs.Contents.{comments, contents, each_signal, message, message_comments, message_line, node_comments, node_names, sections, spns, table, value_texts, value_types, with_spn_definitions}
 use Rattle.dbc_law.proofs.SayingContents.{Tell, ◌also◌}
 use Rattle.dbc_law.proofs.SayingEntries.{some_number, some_of, some_type}
-use Rattle.dbc_law.proofs.SayingSilence.{no_comment, no_message_comments, no_messages, no_node_comments, no_spns, no_tables, no_value_texts, no_value_types}
+use Rattle.dbc_law.proofs.SayingOtherKinds.{no_comment, no_message_comments, no_messages, no_node_comments, no_spns, no_tables, no_value_texts, no_value_types}
 use Rattle.dbc_law.proofs.SayingSections.{
   message_comments_tell,
   messages_tell,
@@ -29,9 +29,9 @@ use Rattle.dbc_law.proofs.SayingSections.{
 -- what the sections say, one after the other
 sections_tell : {X : Type 0} (kind : Content → Option X) (s : Sheet) {ts ms xs ns os ps vs ys : List X} → Tell kind (map table s.tables) ts
     → Tell kind (map message s.messages) ms → Tell kind (comments CommentIs s.comment) xs → Tell kind (flat_map node_comments s.nodes) ns
-    → Tell kind (flat_map message_comments s.messages) os → Tell kind (defined (each_signal spns s)) ps → Tell kind (each_signal value_texts s) vs
+    → Tell kind (flat_map message_comments s.messages) os → Tell kind (with_spn_definitions (each_signal spns s)) ps → Tell kind (each_signal value_texts s) vs
     → Tell kind (each_signal value_types s) ys → filter_map kind (sections s) ≡ ts ++ ms ++ xs ++ ns ++ os ++ ps ++ vs ++ ys
-sections_tell kind s t m x n o p v y = (t also m also x also n also o also p also v also y).told
+sections_tell kind s t m x n o p v y = (t also m also x also n also o also p also v also y).contents_are
 
 module _ (s : Sheet) where
   pub version_in-contents : filter_map version_in (contents s) ≡ s.version ∷ []
@@ -61,39 +61,39 @@ module _ (s : Sheet) where
   -- the comment of the sheet, where it is not empty
   pub comment_in-contents : filter_map comment_in (contents s) ≡ filter_map comment_in (comments CommentIs s.comment)
   comment_in-contents =
-      sections_tell comment_in s (no_tables s (λ n vs. refl)) (no_messages s (λ m. refl)) (record { told = refl }) (no_node_comments s (λ n t. refl))
+      sections_tell comment_in s (no_tables s (λ n vs. refl)) (no_messages s (λ m. refl)) (record { contents_are = refl }) (no_node_comments s (λ n t. refl))
       (no_message_comments s (λ c t. refl) (λ c n t. refl)) (no_spns s refl (λ c n p. refl))
       (no_value_texts s (λ c n vs. refl)) (no_value_types s (λ c n t. refl)) ∙ simp append-nil refl
 
   -- comments, numbers, texts and types, where they are not empty: of nodes, of messages and of signals
-  pub node_comment_in-contents : filter_map node_comment_in (contents s) ≡ kept some_of (entries node_name (λ (n : Node). n.comment) s.nodes)
+  pub node_comment_in-contents : filter_map node_comment_in (contents s) ≡ kept_entries some_of (entries node_name (λ (n : Node). n.comment) s.nodes)
   node_comment_in-contents =
       sections_tell node_comment_in s (no_tables s (λ n vs. refl)) (no_messages s (λ m. refl)) (no_comment s (λ t. refl)) (node_comments_tell s)
       (no_message_comments s (λ c t. refl) (λ c n t. refl)) (no_spns s refl (λ c n p. refl))
       (no_value_texts s (λ c n vs. refl)) (no_value_types s (λ c n t. refl)) ∙ simp append-nil refl
 
-  pub message_comment_in-contents : filter_map message_comment_in (contents s) ≡ kept some_of (entries number_of (λ (m : Message). m.comment) s.messages)
+  pub message_comment_in-contents : filter_map message_comment_in (contents s) ≡ kept_entries some_of (entries number_of (λ (m : Message). m.comment) s.messages)
   message_comment_in-contents =
       sections_tell message_comment_in s (no_tables s (λ n vs. refl)) (no_messages s (λ m. refl)) (no_comment s (λ t. refl)) (no_node_comments s (λ n t. refl))
       (message_comments_tell s) (no_spns s refl (λ c n p. refl)) (no_value_texts s (λ c n vs. refl)) (no_value_types s (λ c n t. refl)) ∙ simp append-nil refl
 
-  pub signal_comment_in-contents : filter_map signal_comment_in (contents s) ≡ kept some_of (part_entries message_signals signal_key (λ (x : Signal). x.comment) s.messages)
+  pub signal_comment_in-contents : filter_map signal_comment_in (contents s) ≡ kept_entries some_of (part_entries message_signals signal_key (λ (x : Signal). x.comment) s.messages)
   signal_comment_in-contents =
       sections_tell signal_comment_in s (no_tables s (λ n vs. refl)) (no_messages s (λ m. refl)) (no_comment s (λ t. refl)) (no_node_comments s (λ n t. refl))
       (signal_comments_tell s) (no_spns s refl (λ c n p. refl)) (no_value_texts s (λ c n vs. refl)) (no_value_types s (λ c n t. refl)) ∙ simp append-nil refl
 
-  pub spn_in-contents : filter_map spn_in (contents s) ≡ kept some_number (part_entries message_signals signal_key (λ (x : Signal). x.spn) s.messages)
+  pub spn_in-contents : filter_map spn_in (contents s) ≡ kept_entries some_number (part_entries message_signals signal_key (λ (x : Signal). x.spn) s.messages)
   spn_in-contents =
       sections_tell spn_in s (no_tables s (λ n vs. refl)) (no_messages s (λ m. refl)) (no_comment s (λ t. refl)) (no_node_comments s (λ n t. refl))
       (no_message_comments s (λ c t. refl) (λ c n t. refl)) (spns_tell s)
       (no_value_texts s (λ c n vs. refl)) (no_value_types s (λ c n t. refl)) ∙ simp append-nil refl
 
-  pub value_texts_in-contents : filter_map value_texts_in (contents s) ≡ kept some_of (part_entries message_signals signal_key (λ (x : Signal). x.values) s.messages)
+  pub value_texts_in-contents : filter_map value_texts_in (contents s) ≡ kept_entries some_of (part_entries message_signals signal_key (λ (x : Signal). x.values) s.messages)
   value_texts_in-contents =
       sections_tell value_texts_in s (no_tables s (λ n vs. refl)) (no_messages s (λ m. refl)) (no_comment s (λ t. refl)) (no_node_comments s (λ n t. refl))
       (no_message_comments s (λ c t. refl) (λ c n t. refl)) (no_spns s refl (λ c n p. refl)) (value_texts_tell s) (no_value_types s (λ c n t. refl)) ∙ simp append-nil refl
 
-  pub value_type_in-contents : filter_map value_type_in (contents s) ≡ kept some_type (part_entries message_signals signal_key (λ (x : Signal). x.value_type) s.messages)
+  pub value_type_in-contents : filter_map value_type_in (contents s) ≡ kept_entries some_type (part_entries message_signals signal_key (λ (x : Signal). x.value_type) s.messages)
   value_type_in-contents =
       sections_tell value_type_in s (no_tables s (λ n vs. refl)) (no_messages s (λ m. refl)) (no_comment s (λ t. refl)) (no_node_comments s (λ n t. refl))
       (no_message_comments s (λ c t. refl) (λ c n t. refl)) (no_spns s refl (λ c n p. refl)) (no_value_texts s (λ c n vs. refl)) (value_types_tell s)

@@ -11,12 +11,12 @@ use Rattle.catalogue.specs.declared.node.Node.{Node}
 use Rattle.catalogue.specs.declared.sheet.Sheet.{Sheet}
 use Rattle.catalogue.specs.declared.signal.Signal.{Signal}
 use Rattle.catalogue.specs.declared.value_table.ValueTable.{ValueTable}
-use Rattle.catalogue.proofs.EachSaid.{kept}
+use Rattle.catalogue.proofs.EachSaid.{kept_entries}
 use Rattle.catalogue.proofs.SheetSaid.{entries, message_signals, part_entries, signal_key}
-use Rattle.dbc_law.proofs.Contents.{defined, each_signal, message, message_comments, message_line, node_comments, signal_comments, spns, table, value_texts, value_types}
-use Rattle.dbc_law.proofs.SayingContents.{Tell, ◌also◌, no_contents, speaks, told_as}
+use Rattle.dbc_law.proofs.Contents.{each_signal, message, message_comments, message_line, node_comments, signal_comments, spns, table, value_texts, value_types, with_spn_definitions}
+use Rattle.dbc_law.proofs.SayingContents.{Tell, ◌also◌, no_contents, speaks, tell_same}
 use Rattle.dbc_law.proofs.SayingEntries.{chosen_tells, comment_tells, each_tells, entry, parts_tell, some_number, some_of, some_type, texts_tell}
-use Rattle.dbc_law.proofs.SayingSilence.{no_own_comment, no_signal_comments, passing_definitions}
+use Rattle.dbc_law.proofs.SayingOtherKinds.{no_own_comment, no_signal_comments, passing_definitions}
 
 -- ---- tables and messages
 
@@ -33,39 +33,39 @@ messages_tell (m ∷ ms) = speaks refl (messages_tell ms)
 -- a section about each signal says the entries that are kept
 signals_tell : {V : Type 0} {kind : Content → Option (SignalKey × V)} (keep : V → Bool) (value : Signal → V) (says : Message → Signal → List Content) (s : Sheet)
     → ((m : Message) (x : Signal) → Tell kind (says m x) (entry (keep (value x)) (signal_key m x) (value x)))
-    → Tell kind (each_signal says s) (kept keep (part_entries message_signals signal_key value s.messages))
+    → Tell kind (each_signal says s) (kept_entries keep (part_entries message_signals signal_key value s.messages))
 signals_tell keep value says s each =
     parts_tell keep message_signals signal_key value (λ (m : Message). flat_map (says m) m.signals)
     (λ m. each_tells keep (signal_key m) value (says m) (each m) m.signals) s.messages
 
-pub node_comments_tell : (s : Sheet) → Tell node_comment_in (flat_map node_comments s.nodes) (kept some_of (entries node_name (λ (n : Node). n.comment) s.nodes))
+pub node_comments_tell : (s : Sheet) → Tell node_comment_in (flat_map node_comments s.nodes) (kept_entries some_of (entries node_name (λ (n : Node). n.comment) s.nodes))
 node_comments_tell s =
     each_tells some_of node_name (λ (n : Node). n.comment) node_comments (λ n. comment_tells (NodeCommentIs n.name) n.name (λ t. refl) n.comment) s.nodes
 
-pub message_comments_tell : (s : Sheet) → Tell message_comment_in (flat_map message_comments s.messages) (kept some_of (entries number_of (λ (m : Message). m.comment) s.messages))
+pub message_comments_tell : (s : Sheet) → Tell message_comment_in (flat_map message_comments s.messages) (kept_entries some_of (entries number_of (λ (m : Message). m.comment) s.messages))
 message_comments_tell s =
     each_tells some_of number_of (λ (m : Message). m.comment) message_comments
-    (λ m. told_as (append-nil _)
+    (λ m. tell_same (append-nil _)
     (comment_tells (MessageCommentIs (Some (number_of m))) (number_of m) (λ t. refl) m.comment also no_signal_comments m (λ c n t. refl))) s.messages
 
 pub signal_comments_tell : (s : Sheet)
-    → Tell signal_comment_in (flat_map message_comments s.messages) (kept some_of (part_entries message_signals signal_key (λ (x : Signal). x.comment) s.messages))
+    → Tell signal_comment_in (flat_map message_comments s.messages) (kept_entries some_of (part_entries message_signals signal_key (λ (x : Signal). x.comment) s.messages))
 signal_comments_tell s =
     parts_tell some_of message_signals signal_key (λ (x : Signal). x.comment) message_comments
     (λ m. no_own_comment m (λ c t. refl) also each_tells some_of (signal_key m) (λ (x : Signal). x.comment) (signal_comments m)
     (λ x. comment_tells (SignalCommentIs (Some (number_of m)) x.name) (signal_key m x) (λ t. refl) x.comment) m.signals) s.messages
 
-pub spns_tell : (s : Sheet) → Tell spn_in (defined (each_signal spns s)) (kept some_number (part_entries message_signals signal_key (λ (x : Signal). x.spn) s.messages))
+pub spns_tell : (s : Sheet) → Tell spn_in (with_spn_definitions (each_signal spns s)) (kept_entries some_number (part_entries message_signals signal_key (λ (x : Signal). x.spn) s.messages))
 spns_tell s =
     passing_definitions (each_signal spns s) refl (signals_tell some_number (λ (x : Signal). x.spn) spns s
     (λ m x. chosen_tells (x.spn == 0) (SpnIs (Some (number_of m)) x.name x.spn) (signal_key m x) x.spn refl))
 
-pub value_texts_tell : (s : Sheet) → Tell value_texts_in (each_signal value_texts s) (kept some_of (part_entries message_signals signal_key (λ (x : Signal). x.values) s.messages))
+pub value_texts_tell : (s : Sheet) → Tell value_texts_in (each_signal value_texts s) (kept_entries some_of (part_entries message_signals signal_key (λ (x : Signal). x.values) s.messages))
 value_texts_tell s =
     signals_tell some_of (λ (x : Signal). x.values) value_texts s (λ m x. texts_tell (number_of m) x.name (signal_key m x) (λ vs. refl) x.values)
 
 pub value_types_tell : (s : Sheet)
-    → Tell value_type_in (each_signal value_types s) (kept some_type (part_entries message_signals signal_key (λ (x : Signal). x.value_type) s.messages))
+    → Tell value_type_in (each_signal value_types s) (kept_entries some_type (part_entries message_signals signal_key (λ (x : Signal). x.value_type) s.messages))
 value_types_tell s =
     signals_tell some_type (λ (x : Signal). x.value_type) value_types s
     (λ m x. chosen_tells (value_type_number x.value_type == 0) (ValueTypeIs (Some (number_of m)) x.name x.value_type) (signal_key m x) x.value_type refl)

@@ -12,7 +12,7 @@ use Rattle.catalogue.specs.declared.message.Message.{Message}
 use Rattle.catalogue.specs.declared.node.Node.{Node}
 use Rattle.catalogue.specs.declared.signal.Signal.{Signal}
 use Rattle.dbc_law.proofs.Contents.{comments, message_comments, node_comments, signal_comments}
-use Rattle.dbc_law.proofs.Standing.{line}
+use Rattle.dbc_law.proofs.PieceTokens.{line}
 use Rattle.dbc_law.proofs.StatementLines.{Writes, ◌also◌, writes_each, writes_line, writes_none}
 use Rattle.dbc_law.proofs.StatementRules.{finish, past}
 use Rattle.dbc_law.proofs.StatementWords.{says_cited, says_text}
@@ -27,7 +27,7 @@ comment_writes : (of_what : List canon.Piece) (says : List ℕ → Content) (tex
 unfolding grammar.line
 comment_writes of_what says [] reads = writes_none
 comment_writes of_what says (b ∷ bs) reads =
-    writes_line keyword.Comment (of_what ++ text_and_end (b ∷ bs)) (says (b ∷ bs)) refl (λ ts rest stands next. reads ts rest stands)
+    writes_line keyword.Comment (of_what ++ text_and_end (b ∷ bs)) (says (b ∷ bs)) refl (λ ts rest is_line next. reads ts rest is_line)
 
 pub file_comment_writes : (text : List ℕ) → Writes (canon.comment_lines [] text) (comments CommentIs text)
 unfolding grammar.comment_line grammar.file_comment

@@ -15,7 +15,7 @@ use Rattle.catalogue.specs.declared.keyword.Keyword.TheVariants.{Signal}
 use Rattle.catalogue.specs.declared.token.TokenKind.TheVariants.{Name}
 use Rattle.catalogue.proofs.ExactFields.{kind_is}
 use Rattle.catalogue.proofs.ExactLines.{next_name}
-use Rattle.dbc_law.proofs.Standing.{token_of}
+use Rattle.dbc_law.proofs.PieceTokens.{token_of}
 use Rattle.dbc_law.proofs.StatementNodes.{EndsList}
 
 keyword_is_no_name : (w : List ℕ) → is_keyword w ≡ true → is_name w ≡ false

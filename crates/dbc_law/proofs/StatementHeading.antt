@@ -14,11 +14,11 @@ use Rattle.catalogue.specs.declared.node.Node.{Node}
 use Rattle.catalogue.specs.declared.sheet.Sheet.{Sheet}
 use Rattle.catalogue.specs.declared.value_table.ValueTable.{ValueTable}
 use Rattle.dbc_law.proofs.Contents.{node_names, table}
-use Rattle.dbc_law.proofs.Standing.{line}
+use Rattle.dbc_law.proofs.PieceTokens.{line}
 use Rattle.dbc_law.proofs.StatementEnds.{next_ends}
-use Rattle.dbc_law.proofs.StatementLines.{Writes, ◌also◌, begins_next, statement_stands, writes_line, writes_none}
+use Rattle.dbc_law.proofs.StatementLines.{Writes, ◌also◌, begins_next, statement_is_read, writes_line, writes_none}
 use Rattle.dbc_law.proofs.StatementNodes.{IsNamed, spaced_nodes}
-use Rattle.dbc_law.proofs.StatementRules.{chain, finish, parted, past, seen}
+use Rattle.dbc_law.proofs.StatementRules.{chain, finish, past, split_pieces, then_followed}
 use Rattle.dbc_law.proofs.StatementValues.{entries_read}
 use Rattle.dbc_law.proofs.StatementWords.{says_made, says_text}
 
@@ -40,17 +40,17 @@ unfolding grammar.line grammar.symbols_line grammar.timing_line
 symbols_and_timing_write = record {
   written = λ ts rest (a, (b, symbols, (c, colon, end)), (d, (e, timing, (f, mark, last)), same)) next.
       let at_timing : grammar.ends_symbols c ≡ true = ap grammar.ends_symbols (sym end ∙ timing.front) in
-      let first = statement_stands keyword.NewSymbols Dropped ts b a symbols (past colon (λ _ _. refl) (chain [] c refl (seen at_timing (finish end)))) in
-      let second = statement_stands keyword.BitTiming Dropped a e d timing (past mark (λ _ _. refl) (chain None f refl (finish last))) in
+      let first = statement_is_read keyword.NewSymbols Dropped ts b a symbols (past colon (λ _ _. refl) (chain [] c refl (then_followed at_timing (finish end)))) in
+      let second = statement_is_read keyword.BitTiming Dropped a e d timing (past mark (λ _ _. refl) (chain None f refl (finish last))) in
       ((a, first, (d, second, same)), begins_next keyword.NewSymbols ts b refl symbols);
 }
 
 -- ---- the nodes
 
-abbrev nodes_behind : Sheet → List canon.Piece
-nodes_behind s = canon.mark canon.tight (codes ":") ∷ map (λ (n : Node). canon.word canon.space n.name) s.nodes
+abbrev nodes_after : Sheet → List canon.Piece
+nodes_after s = canon.mark canon.tight (codes ":") ∷ map (λ (n : Node). canon.word canon.space n.name) s.nodes
 
-nodes_read : (s : Sheet) → All IsNode s.nodes → (ts rest : List Token) → line ts (nodes_behind s) rest → grammar.next rest ≡ true
+nodes_read : (s : Sheet) → All IsNode s.nodes → (ts rest : List Token) → line ts (nodes_after s) rest → grammar.next rest ≡ true
     → grammar.line keyword.Nodes ts (NodesAre (node_names s)) rest
 unfolding grammar.line grammar.nodes_line
 nodes_read s h ts rest (middle, colon, names) next =
@@ -58,24 +58,24 @@ nodes_read s h ts rest (middle, colon, names) next =
     past colon (λ _ _. refl) (chain (node_names s) rest (spaced_nodes node_name s.nodes middle rest named names (next_ends rest next)) (finish refl))
 
 nodes_write : (s : Sheet) → All IsNode s.nodes → Writes (canon.nodes_line s ∷ []) (NodesAre (node_names s) ∷ [])
-nodes_write s h = writes_line keyword.Nodes (nodes_behind s) _ refl (nodes_read s h)
+nodes_write s h = writes_line keyword.Nodes (nodes_after s) _ refl (nodes_read s h)
 
 -- ---- value tables
 
-abbrev table_behind : ValueTable → List canon.Piece
-table_behind t = canon.word canon.space t.name ∷ canon.entries t.entries
+abbrev table_after : ValueTable → List canon.Piece
+table_after t = canon.word canon.space t.name ∷ canon.entries t.entries
 
-table_reads : (t : ValueTable) → IsTable t → (ts rest : List Token) → line ts (table_behind t) rest → grammar.next rest ≡ true
+table_reads : (t : ValueTable) → IsTable t → (ts rest : List Token) → line ts (table_after t) rest → grammar.next rest ≡ true
     → grammar.line keyword.ValueTable ts (table t) rest
 unfolding grammar.line grammar.table_line
-table_reads t h ts rest (middle, name, behind) next =
-    parted (flat_map canon.entry t.entries) (canon.mark canon.space (codes ";") ∷ []) middle rest behind (λ end entries (last, mark, same).
+table_reads t h ts rest (middle, name, after) next =
+    split_pieces (flat_map canon.entry t.entries) (canon.mark canon.space (codes ";") ∷ []) middle rest after (λ end entries (last, mark, same).
     past name (says_made canon.space t.name h.named)
     (chain t.entries end (entries_read t.entries middle end h.entries entries)
     (past mark (λ _ _. refl) (finish same))))
 
 table_writes : (t : ValueTable) → IsTable t → Writes (canon.table_line t ∷ []) (table t ∷ [])
-table_writes t h = writes_line keyword.ValueTable (table_behind t) _ refl (table_reads t h)
+table_writes t h = writes_line keyword.ValueTable (table_after t) _ refl (table_reads t h)
 
 pub tables_write : (tables : List ValueTable) → All IsTable tables → Writes (map canon.table_line tables) (map table tables)
 tables_write [] h = writes_none

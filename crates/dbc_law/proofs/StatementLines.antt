@@ -11,7 +11,7 @@ use Rattle.catalogue.specs.Statement.{Content, Statement}
 use Rattle.catalogue.specs.Token.{Token}
 use Rattle.catalogue.specs.declared.keyword.Keyword.{Keyword}
 use Rattle.catalogue.proofs.ExactStatements.{keyword_back}
-use Rattle.dbc_law.proofs.Standing.{Front, line, lines, many_append, many_parts, token_of}
+use Rattle.dbc_law.proofs.PieceTokens.{Front, line, lines, many_append, many_parts, token_of}
 use Rattle.dbc_law.proofs.StatementRules.{chain, finish}
 
 -- the tokens begin with a statement of this content
@@ -36,9 +36,9 @@ writes_none = record { written = λ ts rest same next. (same, ap grammar.next (s
 infixl 10 ◌also◌
 pub ◌also◌ : {ls ms : List Line} {cs ds : List Content} → Writes ls cs → Writes ms ds → Writes (ls ++ ms) (cs ++ ds)
 ◌also◌ {ls} {ms} {cs} {ds} first second = record {
-  written = λ ts rest stand next.
-      let (middle, front, behind) = many_parts line ts ls ms rest stand in
-      let (others, begins) = second.written middle rest behind next in
+  written = λ ts rest are_lines next.
+      let (middle, front, after) = many_parts line ts ls ms rest are_lines in
+      let (others, begins) = second.written middle rest after next in
       let (here, start) = first.written ts middle front begins in
       (many_append means ts cs ds middle rest here others, start);
 }
@@ -59,13 +59,13 @@ abbrev pub keyword_piece : Keyword → Piece
 keyword_piece k = word tight (keyword_text k)
 
 -- if the tokens of its keyword and of its line come there
-pub statement_stands : (k : Keyword) (c : Content) (ts middle rest : List Token) → Front ts (keyword_piece k) middle → grammar.line k middle c rest → Means ts c rest
+pub statement_is_read : (k : Keyword) (c : Content) (ts middle rest : List Token) → Front ts (keyword_piece k) middle → grammar.line k middle c rest → Means ts c rest
 unfolding grammar.statement
-statement_stands k c ts middle rest f behind = record {
+statement_is_read k c ts middle rest f after = record {
   is = record { start = f.start; keyword = k; content = c };
   there = chain (f.start, k) middle
       (record { first = token_of (keyword_piece k) f.start f.end; front = f.front; value = ap (option_map (λ (j : Keyword). (f.start, j))) (keyword_back k) })
-      (chain c rest behind (finish refl));
+      (chain c rest after (finish refl));
   content = refl;
 }
 
@@ -80,7 +80,7 @@ begins_next k ts middle e f = ap grammar.next f.front ∙ e
 pub writes_line : (k : Keyword) (ps : List Piece) (c : Content) → BeginsNext k
     → ((ts rest : List Token) → line ts ps rest → grammar.next rest ≡ true → grammar.line k ts c rest) → Writes ((keyword_piece k ∷ ps) ∷ []) (c ∷ [])
 writes_line k ps c begins reads = record {
-  written = λ ts rest (end, (middle, word, behind), same) next.
-      let there = reads middle end behind (ap grammar.next (sym same) ∙ next) in
-      ((end, statement_stands k c ts middle end word there, same), begins_next k ts middle begins word);
+  written = λ ts rest (end, (middle, word, after), same) next.
+      let there = reads middle end after (ap grammar.next (sym same) ∙ next) in
+      ((end, statement_is_read k c ts middle end word there, same), begins_next k ts middle begins word);
 }

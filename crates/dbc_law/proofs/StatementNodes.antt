@@ -10,8 +10,8 @@ use Rattle.catalogue.specs.Fields.{further, goes_on, no_names, node_of, nodes, s
 use Rattle.catalogue.specs.Name.{IsName}
 use Rattle.catalogue.specs.Rules.{begins, many}
 use Rattle.catalogue.specs.Token.{Token}
-use Rattle.dbc_law.proofs.Standing.{line}
-use Rattle.dbc_law.proofs.StatementRules.{chain, finish, past, read, seen}
+use Rattle.dbc_law.proofs.PieceTokens.{line}
+use Rattle.dbc_law.proofs.StatementRules.{chain, finish, past, read, then_followed}
 use Rattle.dbc_law.proofs.StatementWords.{says_node}
 
 -- the tokens don't begin with a name of a list
@@ -47,11 +47,11 @@ module _ {A : Type 0} (name_of : A → List ℕ) where
 
   pub spaced_nodes : (xs : List A) (ts rest : List Token) → All IsNamed xs → line ts (spaced xs) rest → EndsList rest → nodes ts (map name_of xs) rest
   unfolding nodes some_names no_names
-  spaced_nodes [] ts rest h same end = inr (seen (ap not (none_begins ts (ap goes_on (sym same) ∙ end))) (finish same))
+  spaced_nodes [] ts rest h same end = inr (then_followed (ap not (none_begins ts (ap goes_on (sym same) ∙ end))) (finish same))
   spaced_nodes (x ∷ xs) ts rest h (middle, name, others) end =
       inl (past name (says_node canon.space (name_of x) (All-head IsNamed x xs h))
       (chain (map (λ y. Some (name_of y)) xs) rest (spaced_further xs middle rest (All-tail IsNamed x xs h) others)
-      (seen (ap not end) (record { value = ap (λ names. name_of x ∷ names) (sym (all_kept xs)); all = refl }))))
+      (then_followed (ap not end) (record { value = ap (λ names. name_of x ∷ names) (sym (all_kept xs)); all = refl }))))
 
 -- ---- the receivers of a signal, with a comma before each further one
 
@@ -61,9 +61,9 @@ comma_pieces names = flat_map (λ (n : List ℕ). canon.mark canon.tight (codes 
 comma_further : (names : List (List ℕ)) (ts rest : List Token) → All IsName names → line ts (comma_pieces names) rest → many further ts (map Some names) rest
 unfolding further
 comma_further [] ts rest h same = same
-comma_further (n ∷ names) ts rest h (behind, comma, (middle, name, others)) = (
+comma_further (n ∷ names) ts rest h (after, comma, (middle, name, others)) = (
   middle,
-  chain (Some tt) behind (read comma (λ _ _. refl)) (past name (says_node canon.tight n (All-head IsName n names h)) (finish refl)),
+  chain (Some tt) after (read comma (λ _ _. refl)) (past name (says_node canon.tight n (All-head IsName n names h)) (finish refl)),
   comma_further names middle rest (All-tail IsName n names h) others,
 )
 
@@ -71,8 +71,8 @@ pub receivers_read : (names : List (List ℕ)) (ts rest : List Token) → All Is
     → nodes ts names rest
 unfolding nodes some_names
 receivers_read [] ts rest h (middle, name, same) end =
-    inl (past name (λ _ _. refl) (chain [] middle refl (seen (ap not (ap goes_on (sym same) ∙ end)) (finish same))))
+    inl (past name (λ _ _. refl) (chain [] middle refl (then_followed (ap not (ap goes_on (sym same) ∙ end)) (finish same))))
 receivers_read (n ∷ names) ts rest h (middle, name, others) end =
     inl (past name (says_node canon.space n (All-head IsName n names h))
     (chain (map Some names) rest (comma_further names middle rest (All-tail IsName n names h) others)
-    (seen (ap not end) (record { value = ap (λ others. n ∷ others) (sym (all_kept (λ m. m) names ∙ map-id names)); all = refl }))))
+    (then_followed (ap not end) (record { value = ap (λ others. n ∷ others) (sym (all_kept (λ m. m) names ∙ map-id names)); all = refl }))))

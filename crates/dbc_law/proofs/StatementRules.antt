@@ -3,7 +3,7 @@ use Rattle.std.proofs.Common.{◌≡◌, ◌++◌, ℕ, Bool, true, List, Option
 use Rattle.catalogue.specs.Canon.{Piece}
 use Rattle.catalogue.specs.Rules.{Rule, ◌>>=◌, done, followed, token}
 use Rattle.catalogue.specs.Token.{Token}
-use Rattle.dbc_law.proofs.Standing.{Front, line, many_parts, piece, token_of}
+use Rattle.dbc_law.proofs.PieceTokens.{Front, line, many_parts, piece, token_of}
 
 -- the token of the piece means x; `λ _ _. refl` shows it if that follows from the piece alone
 pub read : {A : Type 0} {says : Token → Option A} {x : A} {p : Piece} {ts rest : List Token} → Front ts p rest
@@ -21,17 +21,17 @@ pub past : {A B : Type 0} {says : Token → Option A} {others : A → Rule B} {x
 past {x} {middle} f e more = chain x middle (read f e) more
 
 -- first a look at what follows, which passes the test
-pub seen : {B : Type 0} {test : List Token → Bool} {others : Unit {0} → Rule B} {ts rest : List Token} {y : B} → test ts ≡ true
+pub then_followed : {B : Type 0} {test : List Token → Bool} {others : Unit {0} → Rule B} {ts rest : List Token} {y : B} → test ts ≡ true
     → others tt ts y rest → (followed test >>= others) ts y rest
-seen {ts} e more = chain tt ts (record { passes = e; all = refl }) more
+then_followed {ts} e more = chain tt ts (record { passes = e; all = refl }) more
 
 pub finish : {A : Type 0} {x : A} {ts rest : List Token} → rest ≡ ts → done x ts x rest
 finish e = record { value = refl; all = e }
 
 -- If pieces come before others, there is an offset between them. What follows from it is stated as a function of that
 -- offset, which keeps the terms small.
-pub parted : {C : Type 0} (front back : List Piece) (ts rest : List Token) → line ts (front ++ back) rest
+pub split_pieces : {C : Type 0} (front back : List Piece) (ts rest : List Token) → line ts (front ++ back) rest
     → ((middle : List Token) → line ts front middle → line middle back rest → C) → C
-parted front back ts rest stands says =
-    let (middle, first, others) = many_parts piece ts front back rest stands in
+split_pieces front back ts rest is_line says =
+    let (middle, first, others) = many_parts piece ts front back rest is_line in
     says middle first others

@@ -16,9 +16,9 @@ use Rattle.catalogue.specs.Rules.{optional, token}
 use Rattle.catalogue.specs.Token.{Token}
 use Rattle.catalogue.specs.declared.signal.Signal.{Signal}
 use Rattle.dbc_law.proofs.Contents.{signal_line}
-use Rattle.dbc_law.proofs.Standing.{line, token_of}
+use Rattle.dbc_law.proofs.PieceTokens.{line, token_of}
 use Rattle.dbc_law.proofs.StatementNodes.{EndsList, receivers_read}
-use Rattle.dbc_law.proofs.StatementRules.{chain, finish, parted, past, read}
+use Rattle.dbc_law.proofs.StatementRules.{chain, finish, past, read, split_pieces}
 use Rattle.dbc_law.proofs.StatementValues.{pair_reads}
 use Rattle.dbc_law.proofs.StatementWords.{says_at_most, says_made, says_text, says_where, whole_decimal}
 
@@ -65,33 +65,33 @@ says_under n h start end = rw (whole_decimal n h) refl
 
 mux_reads : (m : Mux) (ts rest : List Token) → IsMux m → line ts (canon.mux_pieces m) rest → optional (token mux_of) ts (indicator m) rest
 mux_reads Always ts rest h same = same
-mux_reads Multiplexor ts rest h (behind, word, same) = rw same (read word (λ _ _. refl))
-mux_reads (Under n) ts rest h (behind, word, same) = rw same (read word (says_under n h))
+mux_reads Multiplexor ts rest h (after, word, same) = rw same (read word (λ _ _. refl))
+mux_reads (Under n) ts rest h (after, word, same) = rw same (read word (says_under n h))
 
 -- ---- the whole line
 
-abbrev named_pieces : Signal → List canon.Piece
-named_pieces s = canon.word canon.space (codes "SG_") ∷ canon.word canon.space s.name ∷ canon.mux_pieces s.mux
+abbrev up_to_name : Signal → List canon.Piece
+up_to_name s = canon.word canon.space (codes "SG_") ∷ canon.word canon.space s.name ∷ canon.mux_pieces s.mux
 
-abbrev placed_pieces : Signal → List canon.Piece
-placed_pieces s = named_pieces s ++ canon.mark canon.space (codes ":") ∷ canon.layout_pieces s
+abbrev up_to_layout : Signal → List canon.Piece
+up_to_layout s = up_to_name s ++ canon.mark canon.space (codes ":") ∷ canon.layout_pieces s
 
-abbrev scaled_pieces : Signal → List canon.Piece
-scaled_pieces s = placed_pieces s ++ canon.pair (codes "(") (codes ",") (codes ")") s.factor s.offset
+abbrev up_to_scale : Signal → List canon.Piece
+up_to_scale s = up_to_layout s ++ canon.pair (codes "(") (codes ",") (codes ")") s.factor s.offset
 
-abbrev ranged_pieces : Signal → List canon.Piece
-ranged_pieces s = scaled_pieces s ++ canon.pair (codes "[") (codes "|") (codes "]") s.minimum s.maximum
+abbrev up_to_range : Signal → List canon.Piece
+up_to_range s = up_to_scale s ++ canon.pair (codes "[") (codes "|") (codes "]") s.minimum s.maximum
 
 same_line : (s : Signal) → signal_line s ≡ record (signal_line s) { mux = unwrap_or (indicator s.mux) Always }
 same_line s = λ i. record (signal_line s) { mux = sym (indicator_kept s.mux) i }
 
 pub signal_reads : (s : Signal) (ts rest : List Token) → IsSignal s → line ts (canon.signal_line s) rest → EndsList rest → signal ts (signal_line s) rest
 unfolding signal
-signal_reads s ts rest h stands end =
-    parted (ranged_pieces s) (canon.quoted canon.space s.unit ∷ canon.receiver_pieces s.receivers) ts rest stands (λ e ranged (f, unit, receivers).
-    parted (scaled_pieces s) (canon.pair (codes "[") (codes "|") (codes "]") s.minimum s.maximum) ts e ranged (λ d scaled range.
-    parted (placed_pieces s) (canon.pair (codes "(") (codes ",") (codes ")") s.factor s.offset) ts d scaled (λ c placed scale.
-    parted (named_pieces s) (canon.mark canon.space (codes ":") ∷ canon.layout_pieces s) ts c placed (λ b (a, word, (n, name, mux)) (p, colon, place).
+signal_reads s ts rest h is_line end =
+    split_pieces (up_to_range s) (canon.quoted canon.space s.unit ∷ canon.receiver_pieces s.receivers) ts rest is_line (λ e ranged (f, unit, receivers).
+    split_pieces (up_to_scale s) (canon.pair (codes "[") (codes "|") (codes "]") s.minimum s.maximum) ts e ranged (λ d scaled range.
+    split_pieces (up_to_layout s) (canon.pair (codes "(") (codes ",") (codes ")") s.factor s.offset) ts d scaled (λ c placed scale.
+    split_pieces (up_to_name s) (canon.mark canon.space (codes ":") ∷ canon.layout_pieces s) ts c placed (λ b (a, word, (n, name, mux)) (p, colon, place).
     past word (λ _ _. refl)
     (past name (says_made canon.space s.name h.named)
     (chain (indicator s.mux) b (mux_reads s.mux n b h.mux mux)

@@ -11,7 +11,7 @@ use Rattle.std.proofs.lemmas.Bool.Decides.{nat_tests}
 use Rattle.std.proofs.lemmas.Fmt.{decimal_is_IsNumeral}
 use Rattle.decimal.specs.Number.{IsDecimal, Number}
 use Rattle.decimal.specs.Reading.{reading}
-use Rattle.decimal.proofs.Back.{text_reads}
+use Rattle.decimal.proofs.ReadsBack.{text_reads}
 use Rattle.decimal.proofs.Computed.{read_is_reading}
 use Rattle.catalogue.specs.Canon.{mark, number, quoted, space, word}
 use Rattle.catalogue.specs.Fields.{cited_number, is_mark, made_name, node_of, number_of as decimal_of, text_of, whole_where}
@@ -28,7 +28,7 @@ use Rattle.catalogue.proofs.TokenTexts.{inside_kept}
 use Rattle.catalogue.proofs.WholeNumbers.{numeral, whole_of-is}
 use Rattle.dbc_law.proofs.DecimalPieces.{digits, digits_piece}
 use Rattle.dbc_law.proofs.MessageNumbers.{number_small}
-use Rattle.dbc_law.proofs.Standing.{token_of}
+use Rattle.dbc_law.proofs.PieceTokens.{token_of}
 
 pub says_text : (gap text : List ℕ) (start end : ℕ) → text_of (token_of (quoted gap text) start end) ≡ Some text
 says_text gap text start end = ap Some (inside_kept text)

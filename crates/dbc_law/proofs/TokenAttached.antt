@@ -2,7 +2,7 @@
 use Rattle.std.proofs.Common.{◌<◌, ◌^◌, ◌==◌, List, [], ◌∷◌, refl, arith}
 use Rattle.std.specs.List.{All, flat_map}
 use Rattle.std.specs.Prelude.{codes}
-use Rattle.catalogue.specs.Canon.{Line, defined, each_signal, mark, number, space, spn_definitions, spn_lines, tight, type_lines, value_lines}
+use Rattle.catalogue.specs.Canon.{Line, each_signal, mark, number, space, spn_definitions, spn_lines, tight, type_lines, value_lines, with_spn_definitions}
 use Rattle.catalogue.specs.Form.{IsMessage, IsSheet, IsSignal, IsValueText}
 use Rattle.catalogue.specs.Limits.{spn_limit}
 use Rattle.catalogue.specs.Text.{IsText}
@@ -55,12 +55,12 @@ definitions_legible =
     let default = keyword_line keyword.AttributeDefault _ (text_follows (codes "SPN") _ spn_text (number_follows 0 _ zero_small end_follows).legible) in
     record { each = (definition, (default, tt)) }
 
-defined_legible : (ls : List Line) → AreLegibleLines ls → AreLegibleLines (defined ls)
-defined_legible [] h = no_lines
-defined_legible (l ∷ ls) h = definitions_legible also h
+with_spn_definitions_legible : (ls : List Line) → AreLegibleLines ls → AreLegibleLines (with_spn_definitions ls)
+with_spn_definitions_legible [] h = no_lines
+with_spn_definitions_legible (l ∷ ls) h = definitions_legible also h
 
-pub spns_legible : (s : Sheet) → IsSheet s → AreLegibleLines (defined (each_signal spn_lines s))
-spns_legible s h = defined_legible (each_signal spn_lines s) (each_signal_legible spn_lines spn_legible s h)
+pub spns_legible : (s : Sheet) → IsSheet s → AreLegibleLines (with_spn_definitions (each_signal spn_lines s))
+spns_legible s h = with_spn_definitions_legible (each_signal spn_lines s) (each_signal_legible spn_lines spn_legible s h)
 
 -- ---- texts for values
 

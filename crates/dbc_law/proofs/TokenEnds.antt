@@ -38,7 +38,7 @@ word_exact Mark word rest s ends = ap Some (sym (ap length s.2))
 pub word_longest : (kind : TokenKind) (word rest : List ℕ) → Spells kind word → Ends kind rest → IsLongest (length word) (word ++ rest)
 word_longest kind word rest s ends =
     let b = spelling_begins kind word s in
-    let e : word ++ rest ≡ b.first ∷ (b.behind ++ rest) = ap (λ v. v ++ rest) b.parts in
-    let long : word_len kind (b.first ∷ (b.behind ++ rest)) ≡ Some (length word) = ap (word_len kind) (sym e) ∙ word_exact kind word rest s ends in
-    let found = subst (IsFound kind b.first (b.behind ++ rest)) long (word_found b.first (b.behind ++ rest) kind b.tells) in
-    subst (IsLongest (length word)) (sym e) (longest_of_all b.first (b.behind ++ rest) kind (length word) b.tells found)
+    let e : word ++ rest ≡ b.first ∷ (b.after ++ rest) = ap (λ v. v ++ rest) b.parts in
+    let long : word_len kind (b.first ∷ (b.after ++ rest)) ≡ Some (length word) = ap (word_len kind) (sym e) ∙ word_exact kind word rest s ends in
+    let found = subst (IsFound kind b.first (b.after ++ rest)) long (word_found b.first (b.after ++ rest) kind b.tells) in
+    subst (IsLongest (length word)) (sym e) (longest_of_all b.first (b.after ++ rest) kind (length word) b.tells found)

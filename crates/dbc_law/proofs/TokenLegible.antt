@@ -16,10 +16,10 @@ abbrev pub pieces_text : List Piece → List ℕ
 pieces_text ps = flat_map (λ (p : Piece). p.gap ++ p.text) ps
 
 -- a piece, and those after it in its line
-pub record IsLegible (p : Piece) (behind : List Piece) : Type 0 where
+pub record IsLegible (p : Piece) (after : List Piece) : Type 0 where
   pub gap : IsGap p.gap
   pub spelled : Spells p.kind p.text
-  pub ends : Ends p.kind (line_text behind)
+  pub ends : Ends p.kind (line_text after)
 
 abbrev pub AreLegible : List Piece → Type 0
 AreLegible [] = Unit {0}

@@ -10,7 +10,7 @@ use Rattle.std.proofs.lemmas.Bool.Decides.{nat_tests}
 use Rattle.std.proofs.lemmas.List.{append-nil}
 use Rattle.decimal.specs.Number.{IsDecimal, Number}
 use Rattle.decimal.specs.Spelling.{are_digits}
-use Rattle.decimal.proofs.Back.{IsSmall, decimal_digits, decimal_numeral, text_reads}
+use Rattle.decimal.proofs.ReadsBack.{IsSmall, decimal_digits, decimal_numeral, text_reads}
 use Rattle.catalogue.specs.Canon.{Piece, line_text, mark, number, quoted, space, tight, value, word}
 use Rattle.catalogue.specs.Keyword.{keyword_text}
 use Rattle.catalogue.specs.Name.{IsName, continues_identifier, is_c_identifier, is_name}

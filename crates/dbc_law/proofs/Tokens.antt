@@ -5,7 +5,7 @@ use Rattle.catalogue.specs.Form.{IsMessage, IsNode, IsSheet}
 use Rattle.catalogue.specs.Token.{Token}
 use Rattle.catalogue.specs.Tokens.{HasTokens}
 use Rattle.catalogue.specs.declared.sheet.Sheet.{Sheet}
-use Rattle.dbc_law.proofs.Standing.{lines}
+use Rattle.dbc_law.proofs.PieceTokens.{lines}
 use Rattle.dbc_law.proofs.TokenAttached.{spns_legible, value_texts_legible, value_types_legible}
 use Rattle.dbc_law.proofs.TokenComments.{comment_legible, message_comments_legible, node_comment_legible}
 use Rattle.dbc_law.proofs.TokenHeading.{heading_legible, tables_legible}

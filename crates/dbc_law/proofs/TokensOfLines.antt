@@ -8,7 +8,7 @@ use Rattle.catalogue.specs.Canon.{Line, Piece, line_text}
 use Rattle.catalogue.specs.Spelling.{is_gap}
 use Rattle.catalogue.specs.Token.{Token}
 use Rattle.catalogue.specs.Tokens.{HasTokens, IsGap}
-use Rattle.dbc_law.proofs.Standing.{line, lines, token_of}
+use Rattle.dbc_law.proofs.PieceTokens.{line, lines, token_of}
 use Rattle.dbc_law.proofs.TokenEnds.{word_longest}
 use Rattle.dbc_law.proofs.TokenLegible.{AreLegible, ends_before, pieces_text}
 
@@ -17,9 +17,9 @@ use Rattle.dbc_law.proofs.TokenLegible.{AreLegible, ends_before, pieces_text}
 gap_append : (gap more : List ℕ) → IsGap gap → IsGap more → IsGap (gap ++ more)
 gap_append gap more h k = list_all-append is_gap gap more ∙ and_from (list_all is_gap gap) (list_all is_gap more) h k
 
-behind_gap : (place : ℕ) (gap bytes : List ℕ) (ts : List Token) → IsGap gap → HasTokens (place + length gap) bytes ts → HasTokens place (gap ++ bytes) ts
-behind_gap place gap bytes [] h has = gap_append gap bytes h has
-behind_gap place gap bytes (t ∷ ts) h (rest, first, others) = (
+after_gap : (offset : ℕ) (gap bytes : List ℕ) (ts : List Token) → IsGap gap → HasTokens (offset + length gap) bytes ts → HasTokens offset (gap ++ bytes) ts
+after_gap offset gap bytes [] h has = gap_append gap bytes h has
+after_gap offset gap bytes (t ∷ ts) h (rest, first, others) = (
   rest,
   record {
     gap = gap ++ first.gap;
@@ -37,18 +37,18 @@ behind_gap place gap bytes (t ∷ ts) h (rest, first, others) = (
 
 -- the offset at which pieces end that begin at the given one
 abbrev end_of : ℕ → List Piece → ℕ
-end_of place [] = place
-end_of place (p ∷ ps) = end_of (place + length p.gap + length p.text) ps
+end_of offset [] = offset
+end_of offset (p ∷ ps) = end_of (offset + length p.gap + length p.text) ps
 
 -- pieces of a line, before its end and whatever follows
-pieces_have : (place : ℕ) (ps : List Piece) (more : List ℕ) (ts : List Token) → AreLegible ps → HasTokens (end_of place ps) (10 ∷ more) ts
-    → (us : List Token) × HasTokens place (pieces_text ps ++ 10 ∷ more) us × line us ps ts
-pieces_have place [] more ts legible has = (ts, has, refl)
-pieces_have place (p ∷ ps) more ts legible has =
-    let start = place + length p.gap in
-    let end = place + length p.gap + length p.text in
+pieces_have : (offset : ℕ) (ps : List Piece) (more : List ℕ) (ts : List Token) → AreLegible ps → HasTokens (end_of offset ps) (10 ∷ more) ts
+    → (us : List Token) × HasTokens offset (pieces_text ps ++ 10 ∷ more) us × line us ps ts
+pieces_have offset [] more ts legible has = (ts, has, refl)
+pieces_have offset (p ∷ ps) more ts legible has =
+    let start = offset + length p.gap in
+    let end = offset + length p.gap + length p.text in
     let rest = pieces_text ps ++ 10 ∷ more in
-    let (us, behind, stands) = pieces_have end ps more ts legible.1 has in (
+    let (us, after, rest_is) = pieces_have end ps more ts legible.1 has in (
       token_of p start end ∷ us,
       (
         rest,
@@ -61,16 +61,16 @@ pieces_have place (p ∷ ps) more ts legible has =
           spelled = legible.0.spelled;
           longest = word_longest p.kind p.text rest legible.0.spelled (ends_before p.kind (pieces_text ps) (10 ∷ more) legible.0.ends refl);
         },
-        behind,
+        after,
       ),
-      (us, record { start = start; end = end; front = refl }, stands),
+      (us, record { start = start; end = end; front = refl }, rest_is),
     )
 
-pub lines_have : (place : ℕ) (ls : List Line) → AllByRecursion AreLegible ls → (ts : List Token) × HasTokens place (flat_map line_text ls) ts × lines ts ls []
-lines_have place [] legible = ([], refl, refl)
-lines_have place (l ∷ ls) legible =
+pub lines_have : (offset : ℕ) (ls : List Line) → AllByRecursion AreLegible ls → (ts : List Token) × HasTokens offset (flat_map line_text ls) ts × lines ts ls []
+lines_have offset [] legible = ([], refl, refl)
+lines_have offset (l ∷ ls) legible =
     let more = flat_map line_text ls in
-    let (ts, has, stands) = lines_have (end_of place l + 1) ls legible.1 in
-    let (us, here, front) = pieces_have place l more ts legible.0 (behind_gap (end_of place l) (10 ∷ []) more ts refl has) in
+    let (ts, has, rest_is) = lines_have (end_of offset l + 1) ls legible.1 in
+    let (us, here, front) = pieces_have offset l more ts legible.0 (after_gap (end_of offset l) (10 ∷ []) more ts refl has) in
     let parts : line_text l ++ more ≡ pieces_text l ++ 10 ∷ more = simp append_assoc in
-    (us, subst (λ v. HasTokens place v us) (sym parts) here, (ts, front, stands))
+    (us, subst (λ v. HasTokens offset v us) (sym parts) here, (ts, front, rest_is))

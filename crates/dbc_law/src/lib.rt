@@ -17,9 +17,9 @@
 //!   (`StatementLines`), and then the sections (`StatementHeading`, `StatementSignals`, `StatementMessages`,
 //!   `StatementComments`, `StatementAttached`).
 //! - These statements say the sheet: `Saying`. Each kind of statement (`SayingContents`, `SayingKinds`) comes from one
-//!   section (`SayingEntries`, `SayingSections`), and the others have none of it (`SayingSilence`).
+//!   section (`SayingEntries`, `SayingSections`), and the others have none of it (`SayingOtherKinds`).
 //!
-//! The parts share two files: `Standing` defines which tokens belong to which pieces, and `Contents` lists the contents
+//! The parts share two files: `PieceTokens` defines which tokens belong to which pieces, and `Contents` lists the contents
 //! of the statements. `DecimalPieces` and `MessageNumbers` serve the first two parts.
 #![tactic(auto)]
 

@@ -1,7 +1,7 @@
 -- What a call of the lexer returns, and what it leaves.
 use Rattle.std.specs.Prelude.{◌≡◌, [], ◌∷◌, Option, Some, None, Result, Ok, Err}
 use Rattle.catalogue.specs.Lexing.{Lexed, LexFault}
-use Rattle.catalogue.specs.TokenLaw.{all_read, stopped}
+use Rattle.catalogue.specs.TokenLaw.{tokens_then_fault, tokens_without_fault}
 use Rattle.dbc_lex.specs.declared.fault.ReadFault.{ReadFault}
 use Rattle.dbc_lex.specs.declared.token.Token.{Token as TextToken}
 use Rattle.dbc_lex.specs.Fault.{fault_of}
@@ -12,6 +12,6 @@ use Rattle.dbc_lex.specs.Token.{token_of}
 -- that fault was left and no token. Both leave everything as it was, so that the next call returns the same.
 abbrev pub GivesNext : Lexed → Result (Option TextToken) ReadFault → Lexed → Type 0
 GivesNext old (Ok (Some t)) new = (old.tokens ≡ token_of t ∷ new.tokens) × (old.fault ≡ new.fault)
-GivesNext old (Ok None) new = (old ≡ all_read []) × (new ≡ old)
+GivesNext old (Ok None) new = (old ≡ tokens_without_fault []) × (new ≡ old)
 GivesNext old (Err fault) new =
-    (cause : LexFault) × (old ≡ stopped [] cause) × (fault ≡ fault_of cause) × (new ≡ old)
+    (cause : LexFault) × (old ≡ tokens_then_fault [] cause) × (fault ≡ fault_of cause) × (new ≡ old)

@@ -11,14 +11,14 @@ use Rattle.catalogue.proofs.Divisions.{one_division}
 use Rattle.catalogue.proofs.OneReading.{reads_only}
 use Rattle.catalogue.proofs.TokensOnce.{tokens_once}
 use Rattle.dbc_statements.specs.Division.{HasNoDivision, IsDivided}
-use Rattle.dbc_read.specs.Built.{CanStand, IsBuilt}
+use Rattle.dbc_read.specs.Built.{CanBeSheet, IsBuilt}
 use Rattle.dbc_read.specs.Gathered.{AreGathered}
 use Rattle.dbc_read.specs.Passed.{start_and_keyword}
 use Rattle.dbc_read.specs.Reading.{ReadsAsNothing}
 use Rattle.dbc_read.specs.Sheets.{SaysNothing}
 use Rattle.dbc_read.specs.declared.gathered.Gathered.{Gathered}
 use Rattle.dbc_read.specs.declared.reading.Reading.{Reading}
-use Rattle.dbc_read.proofs.Unsaid.{says_built, stands_again, unsaid_built}
+use Rattle.dbc_read.proofs.SheetsSaid.{can_be_sheet_again, says_built, says_nothing}
 
 module _ (bytes : List ℕ) where
   pub undivided : HasNoDivision bytes → ReadsAsNothing bytes
@@ -51,12 +51,12 @@ module _ (bytes : List ℕ) where
 
     module _ (g : Gathered) (a : AreGathered ss g) where
       -- where what is gathered can't be in one sheet, the text reads as none
-      pub reads_none : ¬ CanStand g → ReadsAsNothing bytes
-      reads_none never = unsaid (unsaid_built ss g a never)
+      pub reads_none : ¬ CanBeSheet g → ReadsAsNothing bytes
+      reads_none never = unsaid (says_nothing ss g a never)
 
       -- and what is gathered of it once more can't be either
-      pub stands_never : ¬ CanStand g → (us : List Statement) → IsDivided bytes us → (h : Gathered) → AreGathered us h → ¬ CanStand h
-      stands_never never us e h b = λ can. never (stands_again ss g h a (subst (λ l. AreGathered l h) (same_statements us e) b) can)
+      pub can_never_be_sheet : ¬ CanBeSheet g → (us : List Statement) → IsDivided bytes us → (h : Gathered) → AreGathered us h → ¬ CanBeSheet h
+      can_never_be_sheet never us e h b = λ can. never (can_be_sheet_again ss g h a (subst (λ l. AreGathered l h) (same_statements us e) b) can)
 
       -- the sheet that is built of what is gathered
       pub reads_built : (r : Reading) → IsBuilt g r.sheet → r.passed ≡ g.passed → ReadsAs bytes r.sheet (map start_and_keyword r.passed)

@@ -14,12 +14,12 @@ use Rattle.catalogue.specs.declared.message.Message.{Message}
 use Rattle.catalogue.specs.declared.signal.Signal.{Signal}
 use Rattle.catalogue.specs.declared.value_table.ValueTable.{ValueTable}
 use Rattle.catalogue.specs.declared.value_texts.ValueText.{ValueText}
-use Rattle.dbc_read.specs.Built.{CanStand, feeds_after, feeds_in, first_or, messages_from, nodes_from, rest_of, signals_from}
+use Rattle.dbc_read.specs.Built.{CanBeSheet, feeds_after, feeds_in, first_or, messages_from, nodes_from, rest_of, signals_from}
 use Rattle.dbc_read.specs.Faults.{AreMessageLines, AreNamedWithin, HaveSignalLines, entries_of, line_number}
 use Rattle.dbc_read.specs.Fit.{IsFit}
 use Rattle.dbc_read.specs.declared.feed.Feeds.{Feeds}
 use Rattle.dbc_read.specs.declared.gathered.Gathered.{Gathered}
-use Rattle.dbc_read.proofs.Apart.{apart_mapped}
+use Rattle.dbc_read.proofs.DistinctNames.{apart_mapped}
 use Rattle.dbc_statements.specs.Parts.{table_of}
 use Rattle.dbc_statements.specs.Statement.{message_of, names_of, signals_of}
 use Rattle.dbc_statements.specs.declared.statement.MessageLine.{MessageLine}
@@ -103,7 +103,7 @@ messages_fit (m ∷ lines) comments f h few =
       record {
         together = record {
           apart = distinct_too bytes_eq (λ (s : SignalLine). s.name) signal_name signals made (signal_keys signals f) h.0.names.apart;
-          one_switch = distinct_too (λ (a b : Mux). is_multiplexor a && is_multiplexor b) (λ (s : SignalLine). s.mux) (λ (s : Signal). s.mux) signals made (signal_marks signals f) h.0.one_multiplexor;
+          one_multiplexor = distinct_too (λ (a b : Mux). is_multiplexor a && is_multiplexor b) (λ (s : SignalLine). s.mux) (λ (s : Signal). s.mux) signals made (signal_marks signals f) h.0.one_multiplexor;
           few = subst (λ n. n ≤ roster_limit) (sym (as_many bytes_eq (λ (s : SignalLine). s.name) signal_name signals made (signal_keys signals f))) h.0.names.few;
         };
         values = signals_few signals f few;
@@ -111,9 +111,9 @@ messages_fit (m ∷ lines) comments f h few =
       messages_fit lines (drop 1 comments) (feeds_after (signals_of signals) f) h.1 (few_after signals f few),
     )
 
-pub can_stand : (g : Gathered) → AreNamedWithin (λ (n : NodeName). n.name) roster_limit g.nodes → AreNamedWithin (λ (t : TableLine). t.name) roster_limit g.tables → AreMessageLines g.messages
-    → AreFew (entries_of g.tables) → AreFew g.signal_values → CanStand g
-can_stand g nodes tables messages entries values =
+pub can_be_sheet : (g : Gathered) → AreNamedWithin (λ (n : NodeName). n.name) roster_limit g.nodes → AreNamedWithin (λ (t : TableLine). t.name) roster_limit g.tables → AreMessageLines g.messages
+    → AreFew (entries_of g.tables) → AreFew g.signal_values → CanBeSheet g
+can_be_sheet g nodes tables messages entries values =
     let node_list = nodes_from (names_of g.nodes) g.node_comments in
     let message_list = messages_from (map message_of g.messages) g.message_comments (feeds_in g) in
     let node_equal = node_keys g.nodes g.node_comments in

@@ -5,7 +5,7 @@ use Rattle.dbc_lex.specs.declared.fault.ReadCode.{ReadCode}
 use Rattle.dbc_lex.specs.declared.fault.ReadFault.{ReadFault}
 use Rattle.dbc_read.specs.Faults.{HaveSignalLines, IsFaultAt, IsFaultOfSignals, IsSignalsFault}
 use Rattle.dbc_statements.specs.declared.statement.MessageLine.{MessageLine}
-use Rattle.dbc_read.proofs.Giving.{item_parts}
+use Rattle.dbc_read.proofs.IteratorItems.{item_parts}
 
 module _ {A : Type 0} (offset : A → ℕ) (IsRefused : List A → A → ReadCode → Type 0) (items : List A) where
   -- at the item at i, which is refused after those before it

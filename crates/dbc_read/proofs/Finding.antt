@@ -10,7 +10,7 @@ use Rattle.std.specs.declared.cmp.Ordering.TheVariants.{Less, Equal, Greater}
 use Rattle.std.proofs.lemmas.Bool.{cases_lt}
 use Rattle.std.proofs.lemmas.List.Elements.{All-from_recursion, recursion_from_All}
 use Rattle.std.proofs.lemmas.List.Sorted.{All-permutation, IsPermutation-sym, searchable_from_sorted}
-use Rattle.dbc_read.specs.Lookup.{IsLookupOf, IsIndexIn, numbered}
+use Rattle.dbc_read.specs.Lookup.{IsLookupOf, IsIndexIn, with_indices}
 use Rattle.dbc_read.specs.declared.lookup.Lookup.{Lookup}
 
 module _ {K : Type 0} where
@@ -26,17 +26,17 @@ module _ {K : Type 0} where
   IsAt keys e = slice_get keys e.1 ≡ Some e.0
 
   -- each numbered key is at its number
-  are_at : (front ks : List K) → AllByRecursion (IsAt (front ++ ks)) (numbered (length front) ks)
+  are_at : (front ks : List K) → AllByRecursion (IsAt (front ++ ks)) (with_indices (length front) ks)
   are_at front [] = tt
   are_at front (k ∷ ks) = (
     last_of front k ks,
-    subst (λ (all : List K). AllByRecursion (IsAt all) (numbered (suc (length front)) ks)) (append_assoc front (k ∷ []) ks)
-        (subst (λ n. AllByRecursion (IsAt ((front ++ k ∷ []) ++ ks)) (numbered n ks)) (one_longer front k) (are_at (front ++ k ∷ []) ks)),
+    subst (λ (all : List K). AllByRecursion (IsAt all) (with_indices (suc (length front)) ks)) (append_assoc front (k ∷ []) ks)
+        (subst (λ n. AllByRecursion (IsAt ((front ++ k ∷ []) ++ ks)) (with_indices n ks)) (one_longer front k) (are_at (front ++ k ∷ []) ks)),
   )
 
   module _ (test : K → Bool) where
     seen_at : (keys : List K) (i : ℕ) (k : K) → slice_get keys i ≡ Some k → test k ≡ true → slice_get (map test keys) i ≡ Some true
-    seen_at keys i k stands passes = mapped keys i ∙ ap (option_map_test) stands ∙ ap (λ b. Some b) passes
+    seen_at keys i k is_entry passes = mapped keys i ∙ ap (option_map_test) is_entry ∙ ap (λ b. Some b) passes
       where
         option_map_test : Option K → Option Bool
         option_map_test None = None
@@ -47,7 +47,7 @@ module _ {K : Type 0} where
         mapped (x ∷ xs) zero = refl
         mapped (x ∷ xs) (suc j) = mapped xs j
 
-    none_seen : (n : ℕ) (keys : List K) → AllByRecursion (λ (e : K × ℕ). test e.0 ≡ false) (numbered n keys) → list_any test keys ≡ false
+    none_seen : (n : ℕ) (keys : List K) → AllByRecursion (λ (e : K × ℕ). test e.0 ≡ false) (with_indices n keys) → list_any test keys ≡ false
     none_seen n [] h = refl
     none_seen n (k ∷ keys) h = ap (λ b. b || list_any test keys) h.0 ∙ none_seen (suc n) keys h.1
 
@@ -57,17 +57,17 @@ module _ {K : Type 0} where
     pub found : (key : K) (at : ℕ) (e : K × ℕ) → at < length lookup.sorted.items → e ≡ get_or lookup.sorted.items at e
         → HoldsAt (λ (y : K × ℕ). cmp y.0 key ≡ Equal) lookup.sorted.items at → slice_get (map (λ k. eq k key) keys) e.1 ≡ Some true
     found key at e within here equal =
-        let stands = All-permutation (IsAt keys) _ _ is.entries (All-from_recursion (IsAt keys) _ (are_at [] keys)) at e within in
+        let is_entry = All-permutation (IsAt keys) _ _ is.entries (All-from_recursion (IsAt keys) _ (are_at [] keys)) at e within in
         let same : cmp e.0 key ≡ Equal = subst (λ (y : K × ℕ). cmp y.0 key ≡ Equal) (sym here) (equal e) in
-        seen_at (λ k. eq k key) keys e.1 e.0 (subst (λ (y : K × ℕ). IsAt keys y) (sym here) stands) (tied e.0 key ∙ ap is_eq same)
+        seen_at (λ k. eq k key) keys e.1 e.0 (subst (λ (y : K × ℕ). IsAt keys y) (sym here) is_entry) (tied e.0 key ∙ ap is_eq same)
 
     -- where a gap was found
     pub absent : (key : K) (at : ℕ)
         → (IsNonDecreasingBy (λ (y : K × ℕ). ordering_index (cmp y.0 key)) lookup.sorted.items
         → IsPartitionPoint (λ (y : K × ℕ). cmp y.0 key ≡ Less) (λ (y : K × ℕ). cmp y.0 key ≡ Greater) lookup.sorted.items at)
         → list_any (λ k. eq k key) keys ≡ false
-    absent key at parted =
-        let parts = parted (searchable_from_sorted order (λ (e : K × ℕ). e.0) lookup.sorted.items key is.sorted) in
+    absent key at splits =
+        let parts = splits (searchable_from_sorted order (λ (e : K × ℕ). e.0) lookup.sorted.items key is.sorted) in
         let apart : All (λ (e : K × ℕ). eq e.0 key ≡ false) lookup.sorted.items = λ j d lt.
         let e = get_or lookup.sorted.items j d in
         elim (cases_lt j at) [

@@ -7,7 +7,7 @@ use Rattle.std.specs.Cmp.Lexicographic.{lists_equiv}
 use Rattle.std.specs.List.{AllByRecursion, IsDistinct, cons_option, last_or, list_any}
 use Rattle.std.specs.Str.{bytes_eq}
 use Rattle.std.proofs.lemmas.List.{map-append}
-use Rattle.catalogue.specs.Saying.{SignalKey, comment_in, each_in, has_message, has_signal, is_passed, last_at, last_said, message_comment_in, messages_of, node_comment_in, node_names_of, numbers_of, of_signal, passed_by, same_signal, signal_comment_in, signal_keys_of, spn_in, table_in, value_texts_in, value_type_in, version_in}
+use Rattle.catalogue.specs.Saying.{SignalKey, comment_in, each_in, has_message, has_signal, is_passed, last_at, last_value_of, message_comment_in, messages_of, node_comment_in, node_names_of, numbers_of, passed_by, same_signal, signal_comment_in, signal_keys_of, spn_in, table_in, value_texts_in, value_type_in, version_in, with_signal_key}
 use Rattle.catalogue.specs.Statement as says
 use Rattle.catalogue.specs.Statement.{Cited}
 use Rattle.catalogue.specs.declared.keyword.Keyword.{Keyword}
@@ -127,7 +127,7 @@ signals_equiv = record {
 
 signal_settled : {V : Type 0} (d : V) (all : List says.Statement) (number : Cited) (name : List ℕ) (v : V) (ps : List (SignalKey × V)) (vs : List V) (index : Option ℕ)
     → IsSignalIndex all number name index → IsDistinct same_signal (signal_keys_of all)
-    → finished same_signal d (cons_option (of_signal number name v) ps) (signal_keys_of all) vs ≡ finished same_signal d ps (signal_keys_of all) (set_at index v vs)
+    → finished same_signal d (cons_option (with_signal_key number name v) ps) (signal_keys_of all) vs ≡ finished same_signal d ps (signal_keys_of all) (set_at index v vs)
 signal_settled d all None name v ps vs index is distinct = ap (λ o. finished same_signal d ps (signal_keys_of all) (set_at o v vs)) (sym is)
 signal_settled d all (Some n) name v ps vs index is distinct = settled same_signal d signals_equiv (n, name) v ps (signal_keys_of all) vs index distinct is
 
@@ -160,17 +160,17 @@ pub record Gathers (all : List says.Statement) (g : Gathered) (rest : List says.
   pub tables : map table_of g.tables ++ each_in table_in rest ≡ each_in table_in all
   pub messages : map message_of g.messages ++ messages_of rest ≡ messages_of all
   pub node_comments : IsDistinct bytes_eq (node_names_of all) → finished bytes_eq [] (each_in node_comment_in rest) (node_names_of all) g.node_comments
-      ≡ map (λ name. last_said bytes_eq name [] node_comment_in all) (node_names_of all)
+      ≡ map (λ name. last_value_of bytes_eq name [] node_comment_in all) (node_names_of all)
   pub message_comments : IsDistinct nat_eq (numbers_of all) → finished nat_eq [] (each_in message_comment_in rest) (numbers_of all) g.message_comments
-      ≡ map (λ number. last_said nat_eq number [] message_comment_in all) (numbers_of all)
+      ≡ map (λ number. last_value_of nat_eq number [] message_comment_in all) (numbers_of all)
   pub signal_comments : IsDistinct same_signal (signal_keys_of all) → finished same_signal [] (each_in signal_comment_in rest) (signal_keys_of all) g.signal_comments
-      ≡ map (λ key. last_said same_signal key [] signal_comment_in all) (signal_keys_of all)
+      ≡ map (λ key. last_value_of same_signal key [] signal_comment_in all) (signal_keys_of all)
   pub signal_values : IsDistinct same_signal (signal_keys_of all) → finished same_signal [] (each_in value_texts_in rest) (signal_keys_of all) g.signal_values
-      ≡ map (λ key. last_said same_signal key [] value_texts_in all) (signal_keys_of all)
+      ≡ map (λ key. last_value_of same_signal key [] value_texts_in all) (signal_keys_of all)
   pub signal_types : IsDistinct same_signal (signal_keys_of all) → finished same_signal Integer (each_in value_type_in rest) (signal_keys_of all) g.signal_types
-      ≡ map (λ key. last_said same_signal key Integer value_type_in all) (signal_keys_of all)
+      ≡ map (λ key. last_value_of same_signal key Integer value_type_in all) (signal_keys_of all)
   pub signal_spns : IsDistinct same_signal (signal_keys_of all) → finished same_signal 0 (each_in spn_in rest) (signal_keys_of all) g.signal_spns
-      ≡ map (λ key. last_said same_signal key 0 spn_in all) (signal_keys_of all)
+      ≡ map (λ key. last_value_of same_signal key 0 spn_in all) (signal_keys_of all)
   pub passed : map start_and_keyword g.passed ++ passed_in all rest ≡ passed_by all
 
 -- One statement more, of the content c, which cites what has this index.

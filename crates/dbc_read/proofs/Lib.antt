@@ -1,4 +1,4 @@
-pub mod Giving
+pub mod IteratorItems
 pub mod Finding
 pub mod Gathering
 pub mod Refused
@@ -6,13 +6,13 @@ pub mod SignalsFit
 pub mod Bytes
 pub mod SheetsFit
 pub mod Putting
-pub mod Wholes
-pub mod Apart
-pub mod Refusable
+pub mod WholeParts
+pub mod DistinctNames
+pub mod FirstRefused
 pub mod Multiplexors
-pub mod Excess
+pub mod EntryLimits
 pub mod Faultless
 pub mod FaultsAt
-pub mod Unsaid
+pub mod SheetsSaid
 pub mod Divided
 pub mod TokenFaults

@@ -5,7 +5,7 @@ use Rattle.std.proofs.lemmas.Bool.Decides.{Decides-eqb}
 use Rattle.std.proofs.lemmas.Cmp.{ranked}
 use Rattle.std.proofs.lemmas.List.Sorted.{IsPermutation-append_left, IsPermutation-cons, IsPermutation-middle, IsPermutation-refl, IsPermutation-trans, IsPermutation-sym}
 use Rattle.catalogue.specs.Keyed.{put}
-use Rattle.catalogue.proofs.Put.{put_cases}
+use Rattle.catalogue.proofs.PutKeeps.{put_cases}
 use Rattle.catalogue.specs.Messages.{by_number, has_number, number_of}
 use Rattle.catalogue.specs.declared.message.Message.{Message}
 

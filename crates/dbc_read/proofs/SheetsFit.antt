@@ -15,7 +15,7 @@ use Rattle.catalogue.specs.declared.fault.SheetCode.{SheetCode}
 use Rattle.catalogue.specs.declared.message.Message.{Message}
 use Rattle.catalogue.specs.declared.value_table.ValueTable.{ValueTable}
 use Rattle.catalogue.proofs.SheetSaid.{nat_flip}
-use Rattle.dbc_read.specs.Fit.{CanMeet, IsFit, TablesFit}
+use Rattle.dbc_read.specs.Fit.{CanShareSheet, IsFit, TablesFit}
 use Rattle.dbc_read.specs.Refusal.{Unless, refusal_of}
 use Rattle.dbc_read.specs.declared.refusal.Refusal.{Refusal}
 use Rattle.dbc_read.proofs.Refused.{each_middle, none_before, refused, room, unless}
@@ -72,15 +72,15 @@ name_flip : (a b : Message) → bytes_eq (message_name a) (message_name b) ≡ b
 name_flip a b = bytes_flip a.name b.name
 
 -- in any order
-pub meet_anyhow : (xs ys : List Message) → IsPermutation xs ys → CanMeet xs → CanMeet ys
-meet_anyhow xs ys p h = record {
+pub share_in_any_order : (xs ys : List Message) → IsPermutation xs ys → CanShareSheet xs → CanShareSheet ys
+share_in_any_order xs ys p h = record {
   numbers = IsDistinct-IsPermutation (λ a b. number_of a == number_of b) number_flip xs ys p h.numbers;
   names = IsDistinct-IsPermutation (λ a b. bytes_eq (message_name a) (message_name b)) name_flip xs ys p h.names;
   few = subst (λ n. n ≤ message_limit) (sym (length_permutation xs ys p)) h.few;
 }
 
-meeting : (before : List Message) (m : Message) (after : List Message) → CanMeet (before ++ m ∷ after) → AllByRecursion (λ t. t.holds ≡ false) (message_tests before m)
-meeting before m after h = (
+sharing : (before : List Message) (m : Message) (after : List Message) → CanShareSheet (before ++ m ∷ after) → AllByRecursion (λ t. t.holds ≡ false) (message_tests before m)
+sharing before m after h = (
   room message_limit before m after h.few,
   (
     none_before (λ a b. number_of a == number_of b) before m after h.numbers,
@@ -90,9 +90,9 @@ meeting before m after h = (
 
 -- a message that is refused beside others
 pub message_refused : (before : List Message) (m : Message) (after whole : List Message) (code : SheetCode) → IsPermutation whole (before ++ m ∷ after)
-    → IsRefusal (first_refusal (message_tests before m)) code → Unless (refusal_of code) (CanMeet whole → ⊥)
+    → IsRefusal (first_refusal (message_tests before m)) code → Unless (refusal_of code) (CanShareSheet whole → ⊥)
 message_refused before m after whole code p is =
-    refused (message_tests before m) code (CanMeet whole) (λ h. meeting before m after (meet_anyhow whole (before ++ m ∷ after) p h)) is
+    refused (message_tests before m) code (CanShareSheet whole) (λ h. sharing before m after (share_in_any_order whole (before ++ m ∷ after) p h)) is
 
 -- a message that isn't fit
 pub message_unfit : (before : List Message) (m : Message) (after whole : List Message) (refusal : Refusal) → before ++ m ∷ after ≡ whole

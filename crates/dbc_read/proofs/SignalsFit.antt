@@ -5,7 +5,7 @@ use Rattle.std.specs.Str.{bytes_eq}
 use Rattle.catalogue.specs.Fault.{IsRefusal}
 use Rattle.catalogue.specs.Limits.{roster_limit}
 use Rattle.catalogue.specs.Refusing.{first_refusal}
-use Rattle.catalogue.specs.Signals.{AreSignals, are_switched, is_switch, signal_name, signal_tests}
+use Rattle.catalogue.specs.Signals.{AreSignals, has_multiplexor, signal_is_multiplexor, signal_name, signal_tests}
 use Rattle.catalogue.specs.WellFormed.{AreFewTexts}
 use Rattle.catalogue.specs.declared.fault.SheetCode.{SheetCode}
 use Rattle.catalogue.specs.declared.signal.Signal.{Signal}
@@ -14,18 +14,18 @@ use Rattle.dbc_read.specs.Refusal.{Unless, refusal_of}
 use Rattle.dbc_read.specs.declared.refusal.Refusal.{Refusal}
 use Rattle.dbc_read.proofs.Refused.{each_middle, none_before, refused, room, unless}
 
-other_switch : (s : Signal) (before : List Signal) → list_any (λ x. is_switch x && is_switch s) before ≡ false → (is_switch s && are_switched before) ≡ false
-other_switch s before h = by (is_switch s) before h
+no_other_multiplexor : (s : Signal) (before : List Signal) → list_any (λ x. signal_is_multiplexor x && signal_is_multiplexor s) before ≡ false → (signal_is_multiplexor s && has_multiplexor before) ≡ false
+no_other_multiplexor s before h = by (signal_is_multiplexor s) before h
   where
-    by : (b : Bool) (xs : List Signal) → list_any (λ x. is_switch x && b) xs ≡ false → (b && list_any is_switch xs) ≡ false
+    by : (b : Bool) (xs : List Signal) → list_any (λ x. signal_is_multiplexor x && b) xs ≡ false → (b && list_any signal_is_multiplexor xs) ≡ false
     by true [] h = refl
     by false [] h = refl
     by false (x ∷ xs) h = refl
     by true (x ∷ xs) h = all_true (x ∷ xs) ∙ h
       where
-        all_true : (ys : List Signal) → list_any is_switch ys ≡ list_any (λ z. is_switch z && true) ys
+        all_true : (ys : List Signal) → list_any signal_is_multiplexor ys ≡ list_any (λ z. signal_is_multiplexor z && true) ys
         all_true [] = refl
-        all_true (y ∷ ys) = λ i. and_true (is_switch y) i || all_true ys i
+        all_true (y ∷ ys) = λ i. and_true (signal_is_multiplexor y) i || all_true ys i
           where
             and_true : (a : Bool) → a ≡ (a && true)
             and_true true = refl
@@ -36,7 +36,7 @@ none_holds before s after h = (
   room roster_limit before s after h.few,
   (
     none_before (λ a b. bytes_eq (signal_name a) (signal_name b)) before s after h.apart,
-    (other_switch s before (none_before (λ a b. is_switch a && is_switch b) before s after h.one_switch), tt),
+    (no_other_multiplexor s before (none_before (λ a b. signal_is_multiplexor a && signal_is_multiplexor b) before s after h.one_multiplexor), tt),
   ),
 )
 

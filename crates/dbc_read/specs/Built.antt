@@ -11,7 +11,7 @@ use Rattle.catalogue.specs.declared.sheet.Sheet.{Sheet}
 use Rattle.catalogue.specs.declared.signal.Signal.{Signal}
 use Rattle.catalogue.specs.declared.value_table.ValueTable.{ValueTable}
 use Rattle.catalogue.specs.declared.value_type.ValueType.TheVariants.{Integer}
-use Rattle.dbc_read.specs.Fit.{CanMeet, IsFit, TablesFit}
+use Rattle.dbc_read.specs.Fit.{CanShareSheet, IsFit, TablesFit}
 use Rattle.dbc_read.specs.declared.feed.Feeds.{Feeds}
 use Rattle.dbc_read.specs.declared.gathered.Gathered.{Gathered}
 use Rattle.dbc_statements.specs.Parts.{message_with, signal_with, table_of}
@@ -51,7 +51,7 @@ messages_from (line ∷ lines) comments f = next_message line (first_or [] comme
 -- each of these messages is fit for a sheet, and they can be added to those that are there
 pub record AreAddable (before messages : List Message) : Type 0 where
   pub fit : AllByRecursion IsFit messages
-  pub together : CanMeet (before ++ messages)
+  pub together : CanShareSheet (before ++ messages)
 
 -- of all that is gathered
 
@@ -77,8 +77,8 @@ pub record IsBuilt (g : Gathered) (s : Sheet) : Type 0 where
   pub messages : IsPermutation (messages_in g) s.messages
 
 -- all that is gathered can be in one sheet
-pub record CanStand (g : Gathered) : Type 0 where
+pub record CanBeSheet (g : Gathered) : Type 0 where
   pub nodes : AreRostered node_name (nodes_in g)
   pub tables : TablesFit (tables_in g)
   pub messages : AllByRecursion IsFit (messages_in g)
-  pub together : CanMeet (messages_in g)
+  pub together : CanShareSheet (messages_in g)

@@ -25,7 +25,7 @@ pub record TablesFit (tables : List ValueTable) : Type 0 where
   pub entries : AllByRecursion (λ (t : ValueTable). AreFewTexts t.entries) tables
 
 -- messages that can be in one sheet, whichever their order
-pub record CanMeet (messages : List Message) : Type 0 where
+pub record CanShareSheet (messages : List Message) : Type 0 where
   pub numbers : IsDistinct (λ a b. number_of a == number_of b) messages
   pub names : AreNamedApart message_name messages
   pub few : length messages ≤ message_limit

@@ -2,7 +2,7 @@
 use Rattle.std.specs.Prelude.{◌≡◌, ℕ, nat_eq, List, [], ◌∷◌, ◌++◌, map, Option, Some, None, length, replicate, slice_set}
 use Rattle.std.specs.List.{IsDistinct, last_or}
 use Rattle.std.specs.Str.{bytes_eq}
-use Rattle.catalogue.specs.Saying.{comment_in, each_in, last_said, message_comment_in, messages_of, node_comment_in, node_names_of, numbers_of, passed_by, same_signal, signal_comment_in, signal_keys_of, spn_in, table_in, value_texts_in, value_type_in, version_in}
+use Rattle.catalogue.specs.Saying.{comment_in, each_in, last_value_of, message_comment_in, messages_of, node_comment_in, node_names_of, numbers_of, passed_by, same_signal, signal_comment_in, signal_keys_of, spn_in, table_in, value_texts_in, value_type_in, version_in}
 use Rattle.catalogue.specs.Statement as says
 use Rattle.catalogue.specs.declared.value_type.ValueType.TheVariants.{Integer}
 use Rattle.dbc_read.specs.Lookups.{AreCitedIndices}
@@ -72,15 +72,15 @@ pub record AreGathered (statements : List says.Statement) (g : Gathered) : Type 
   pub tables : map table_of g.tables ≡ each_in table_in statements
   pub messages : map message_of g.messages ≡ messages_of statements
   pub node_comments : IsDistinct bytes_eq (node_names_of statements)
-      → g.node_comments ≡ map (λ name. last_said bytes_eq name [] node_comment_in statements) (node_names_of statements)
+      → g.node_comments ≡ map (λ name. last_value_of bytes_eq name [] node_comment_in statements) (node_names_of statements)
   pub message_comments : IsDistinct nat_eq (numbers_of statements)
-      → g.message_comments ≡ map (λ number. last_said nat_eq number [] message_comment_in statements) (numbers_of statements)
+      → g.message_comments ≡ map (λ number. last_value_of nat_eq number [] message_comment_in statements) (numbers_of statements)
   pub signal_comments : IsDistinct same_signal (signal_keys_of statements)
-      → g.signal_comments ≡ map (λ key. last_said same_signal key [] signal_comment_in statements) (signal_keys_of statements)
+      → g.signal_comments ≡ map (λ key. last_value_of same_signal key [] signal_comment_in statements) (signal_keys_of statements)
   pub signal_values : IsDistinct same_signal (signal_keys_of statements)
-      → g.signal_values ≡ map (λ key. last_said same_signal key [] value_texts_in statements) (signal_keys_of statements)
+      → g.signal_values ≡ map (λ key. last_value_of same_signal key [] value_texts_in statements) (signal_keys_of statements)
   pub signal_types : IsDistinct same_signal (signal_keys_of statements)
-      → g.signal_types ≡ map (λ key. last_said same_signal key Integer value_type_in statements) (signal_keys_of statements)
+      → g.signal_types ≡ map (λ key. last_value_of same_signal key Integer value_type_in statements) (signal_keys_of statements)
   pub signal_spns : IsDistinct same_signal (signal_keys_of statements)
-      → g.signal_spns ≡ map (λ key. last_said same_signal key 0 spn_in statements) (signal_keys_of statements)
+      → g.signal_spns ≡ map (λ key. last_value_of same_signal key 0 spn_in statements) (signal_keys_of statements)
   pub passed : map start_and_keyword g.passed ≡ passed_by statements

@@ -12,12 +12,12 @@ IsIndexIn test keys None = list_any test keys ≡ false
 IsIndexIn test keys (Some i) = slice_get (map test keys) i ≡ Some true
 
 -- the keys, numbered from n on
-abbrev pub numbered : {K : Type 0} → ℕ → List K → List (K × ℕ)
-numbered n [] = []
-numbered n (k ∷ ks) = (k, n) ∷ numbered (suc n) ks
+abbrev pub with_indices : {K : Type 0} → ℕ → List K → List (K × ℕ)
+with_indices n [] = []
+with_indices n (k ∷ ks) = (k, n) ∷ with_indices (suc n) ks
 
 -- it has the keys, and these with their indices in ascending order
 pub record IsLookupOf {K : Type 0} (cmp : K → K → Ordering) (lookup : Lookup K) (keys : List K) : Type 0 where
   pub is : lookup.keys.items ≡ keys
-  pub entries : IsPermutation (numbered 0 keys) lookup.sorted.items
+  pub entries : IsPermutation (with_indices 0 keys) lookup.sorted.items
   pub sorted : IsSortedBy (λ (a b : K × ℕ). is_lt (cmp a.0 b.0)) lookup.sorted.items

@@ -7,7 +7,7 @@ ghost use Rattle.std.specs.List.{AllByRecursion};
 ghost use Rattle.catalogue.specs.Limits.{value_text_limit};
 ghost use Rattle.catalogue.specs.WellFormed.{AreFewTexts};
 ghost use Rattle.dbc_lex.specs.declared.fault.ReadCode.TheVariants.{TooMany};
-ghost use Rattle.dbc_read.specs.Built.{CanStand};
+ghost use Rattle.dbc_read.specs.Built.{CanBeSheet};
 ghost use Rattle.dbc_read.specs.Faults.{
   AreMessageLines,
   AreNamedWithin,
@@ -106,16 +106,16 @@ fn multiplexor_fault(signals: &[SignalLine]) -> Option<ReadFault>
     ensures none { IfNone result (HaveOneMultiplexor signals.now) }
     ensures fault { IfSome result (IsMultiplexorFault signals.now) }
 {
-    let mut is_switched = false;
+    let mut has_multiplexor = false;
     for signal in signals {
         if signal.mux.is_multiplexor() {
-            if is_switched {
+            if has_multiplexor {
                 return Some(ReadFault {
                     code: ReadCode::TwoMultiplexors,
                     at: signal.mux_at,
                 });
             }
-            is_switched = true;
+            has_multiplexor = true;
         }
     }
     None
@@ -193,7 +193,7 @@ fn messages_fault(alloc: Global, messages: &[MessageLine]) -> Result<Option<Read
 
 /// The first fault of what is gathered, which can't be in one sheet.
 pub(crate) fn first_fault(alloc: Global, gathered: &Gathered) -> Result<ReadFault, AllocError>
-    requires { ¬ CanStand gathered.now }
+    requires { ¬ CanBeSheet gathered.now }
     ensures { IfOk result (IsFault gathered.now) }
 {
     let node = name_fault(alloc, gathered.nodes.as_slice(), ROSTER_LIMIT)?;

@@ -1,7 +1,7 @@
 //! The contents of the statements, gathered by kind.
 ghost use Rattle.std.specs.Prelude.{◌≡◌, ◌++◌, IfErr, IfOk, OnOk, List, [], replicate};
 ghost use Rattle.catalogue.specs.Statement as says;
-ghost use Rattle.dbc_read.specs.Built.{CanStand, IsBuilt};
+ghost use Rattle.dbc_read.specs.Built.{CanBeSheet, IsBuilt};
 ghost use Rattle.dbc_read.specs.Gathered.{AreGathered, IsBeginning, IsNothing, gathered_after, passed_after, passed_of, set_at};
 ghost use Rattle.dbc_read.specs.Lookups.{AreLookups};
 ghost use Rattle.dbc_read.specs.Refusal.{Unless};
@@ -80,7 +80,7 @@ fn copies<T: Copy + Drop>(alloc: Global, count: usize, value: T) -> Result<Items
 }
 
 /// What is gathered before any statement.
-fn nothing(alloc: Global, lookups: &Lookups) -> Result<Gathered, AllocError>
+fn empty_gathered(alloc: Global, lookups: &Lookups) -> Result<Gathered, AllocError>
     ensures { IfOk result (λ gathered. (statements : List says.Statement) → AreLookups lookups.now statements → IsNothing statements gathered) }
 {
     let nodes = lookups.nodes.len();
@@ -198,7 +198,7 @@ fn gather_statement(
 }
 
 /// What is gathered before any statement, and the indices of what the statements cite.
-fn beginning(
+fn start_gathering(
     alloc: Global,
     statements: &[Statement],
 ) -> Result<(Gathered, Vec<Option<usize>>), AllocError>
@@ -206,7 +206,7 @@ fn beginning(
 {
     let lookups = lookups_of(alloc, statements)?;
     let cited = cited_indices(alloc, &lookups, statements)?;
-    let gathered = nothing(alloc, &lookups)?;
+    let gathered = empty_gathered(alloc, &lookups)?;
     Ok((gathered, cited))
 }
 
@@ -214,7 +214,7 @@ fn beginning(
 pub(crate) fn gathered_of(alloc: Global, statements: Vec<Statement>) -> Result<Gathered, AllocError>
     ensures { IfOk result (λ gathered. AreGathered (statements_of statements.items) gathered) }
 {
-    let (mut gathered, cited) = beginning(alloc, &statements)?;
+    let (mut gathered, cited) = start_gathering(alloc, &statements)?;
     let mut indices = Feed::of(Items::from_vec(cited));
     for statement in statements {
         let index = indices.next_or(None);
@@ -228,7 +228,7 @@ impl Gathered {
     pub(crate) fn into_reading(self, alloc: Global) -> Result<Reading, Refusal>
         ensures built { IfOk result (λ reading. IsBuilt self reading.sheet) }
         ensures passed { IfOk result (λ reading. reading.passed ≡ self.passed) }
-        ensures refused { IfErr result (λ refusal. Unless refusal (¬ CanStand self)) }
+        ensures refused { IfErr result (λ refusal. Unless refusal (¬ CanBeSheet self)) }
     {
         let Gathered {
             version,

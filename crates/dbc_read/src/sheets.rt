@@ -3,7 +3,7 @@ ghost use Rattle.std.specs.Prelude.{◌≡◌, ◌++◌, [], IfErr, IfOk, IsPerm
 ghost use Rattle.catalogue.specs.Sheet.{empty_sheet, node_name};
 ghost use Rattle.catalogue.specs.WellFormed.{AreFewTexts, AreRostered};
 ghost use Rattle.dbc_read.specs.Built.{AreAddable, messages_from, nodes_from};
-ghost use Rattle.dbc_read.specs.Fit.{CanMeet, TablesFit};
+ghost use Rattle.dbc_read.specs.Fit.{CanShareSheet, TablesFit};
 ghost use Rattle.dbc_read.specs.Refusal.{Unless};
 ghost use Rattle.dbc_statements.specs.Parts.{table_of};
 ghost use Rattle.dbc_statements.specs.Statement.{message_of, names_of};
@@ -91,7 +91,7 @@ fn by_number(messages: Items<Message>) -> Result<Vec<Message>, AllocError>
 fn add_messages(alloc: Global, messages: Vec<Message>, sheet: &mut Sheet) -> Result<(), Refusal>
     ensures all { OnOk result (IsPermutation (sheet.old.messages ++ messages.items) sheet.new.messages) }
     ensures rest { OnOk result (sheet.new ≡ record sheet.old { messages = sheet.new.messages }) }
-    ensures refused { IfErr result (λ refusal. Unless refusal (¬ CanMeet (sheet.old.messages ++ messages.items))) }
+    ensures refused { IfErr result (λ refusal. Unless refusal (¬ CanShareSheet (sheet.old.messages ++ messages.items))) }
 {
     for message in messages {
         sheet.with_message(alloc, message)?;

@@ -1,6 +1,6 @@
 pub mod Spelled
-pub mod Rounds
+pub mod LoopRounds
 pub mod NameLists
 pub mod Skip
 pub mod Offsets
-pub mod Whole
+pub mod WholeText

@@ -6,7 +6,7 @@ use Rattle.catalogue.specs.Parsing.{Parsed, many_at, further_at, with_front}
 use Rattle.catalogue.specs.Token.{Token}
 use Rattle.catalogue.proofs.Repeating.{further_take, goes_round}
 use Rattle.dbc_statements.specs.Names.{names_in, with_names}
-use Rattle.dbc_statements.proofs.Rounds.{at_start}
+use Rattle.dbc_statements.proofs.LoopRounds.{at_start}
 
 abbrev Names : Type 0
 Names = List (List ℕ)

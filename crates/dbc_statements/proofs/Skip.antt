@@ -7,7 +7,7 @@ use Rattle.catalogue.specs.Token.{Token}
 use Rattle.catalogue.proofs.Exactness.{tokens_repeat}
 use Rattle.catalogue.proofs.Repeating.{Takes, repeats_take, goes_round, is_over}
 use Rattle.dbc_statements.specs.Skipping.{IsSkipping, Skips, begins_no_next}
-use Rattle.dbc_statements.proofs.Rounds.{at_start}
+use Rattle.dbc_statements.proofs.LoopRounds.{at_start}
 
 tokens_take : (test : Token → Bool) → Takes (starts test) (one_at test)
 tokens_take test = repeats_take (tokens_repeat test) refl

@@ -18,13 +18,13 @@ pub read_are_spelled : (bytes : List ℕ) → AreSpelled (lexed 0 bytes).tokens
 read_are_spelled bytes = are_spelled 0 bytes (lexed 0 bytes).tokens (lexed 0 bytes).fault (read_is_there 0 bytes)
 
 no_tokens_are : (lexer : Lexed) → lexer.tokens ≡ [] → AreTokens None lexer
-no_tokens_are lexer none = record { in_sight = none; spelled = subst AreSpelled (sym none) tt }
+no_tokens_are lexer none = record { lookahead = none; spelled = subst AreSpelled (sym none) tt }
 
 -- the tokens of a text, once the first one is in sight
 pub at_first : (next : Option TextToken) (bytes : List ℕ) (old lexer : Lexed) → old ≡ lexed 0 bytes → GivesNext old (Ok next) lexer → AreTokens next lexer
 at_first None bytes old lexer e g = no_tokens_are lexer (ap (λ (l : Lexed). l.tokens) (g.1 ∙ g.0))
 at_first (Some t) bytes old lexer e g = record {
-  in_sight = tt;
+  lookahead = tt;
   spelled = subst AreSpelled (ap (λ (l : Lexed). l.tokens) (sym e) ∙ g.0) (read_are_spelled bytes);
 }
 

@@ -18,12 +18,12 @@ abbrev pub AreSpelled : List Token → Type 0
 AreSpelled tokens = AllByRecursion (λ (t : Token). Spells t.kind t.text) tokens
 
 -- the next token has been read, if there is one
-abbrev pub IsInSight : Option TextToken → Lexed → Type 0
-IsInSight None lexer = lexer.tokens ≡ []
-IsInSight (Some t) lexer = ⊤
+abbrev pub IsLookahead : Option TextToken → Lexed → Type 0
+IsLookahead None lexer = lexer.tokens ≡ []
+IsLookahead (Some t) lexer = ⊤
 
 pub record AreTokens (next : Option TextToken) (lexer : Lexed) : Type 0 where
-  pub in_sight : IsInSight next lexer
+  pub lookahead : IsLookahead next lexer
   pub spelled : AreSpelled (tokens_from next lexer)
 
 -- if there is one, it is spelled as its kind requires

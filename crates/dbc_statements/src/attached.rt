@@ -18,7 +18,7 @@ use dbc_lex::{ReadCode, ReadFault};
 use std::alloc::Global;
 
 #[tactic(auto, unfolding(catalogue::specs::Parsing::value_texts_at))]
-fn of_signal(alloc: Global, tokens: &mut Tokens) -> Result<Content, ReadFault>
+fn signal_value_texts(alloc: Global, tokens: &mut Tokens) -> Result<Content, ReadFault>
     ensures { Reads content_of result (value_texts_at tokens.old) tokens.new }
 {
     let number = cited_number(tokens)?;
@@ -33,7 +33,7 @@ pub(crate) fn value_texts(alloc: Global, tokens: &mut Tokens) -> Result<Content,
     ensures { Reads content_of result (either_at (begins fields.cited_number) value_texts_at passed_value_texts_at tokens.old) tokens.new }
 {
     if begins_number(tokens) {
-        of_signal(alloc, tokens)
+        signal_value_texts(alloc, tokens)
     } else {
         passed_value_texts(tokens)
     }

@@ -15,7 +15,7 @@ use dbc_lex::ReadFault;
 use std::alloc::Global;
 
 #[tactic(auto, unfolding(catalogue::specs::Parsing::file_comment_at))]
-fn of_file(alloc: Global, tokens: &mut Tokens) -> Result<Content, ReadFault>
+fn file_comment(alloc: Global, tokens: &mut Tokens) -> Result<Content, ReadFault>
     ensures { Reads content_of result (file_comment_at tokens.old) tokens.new }
 {
     let text = text(alloc, tokens)?;
@@ -24,7 +24,7 @@ fn of_file(alloc: Global, tokens: &mut Tokens) -> Result<Content, ReadFault>
 }
 
 #[tactic(auto, unfolding(catalogue::specs::Parsing::node_comment_at))]
-fn of_node(alloc: Global, tokens: &mut Tokens) -> Result<Content, ReadFault>
+fn node_comment(alloc: Global, tokens: &mut Tokens) -> Result<Content, ReadFault>
     ensures { Reads content_of result (node_comment_at tokens.old) tokens.new }
 {
     key(tokens, Keyword::Nodes)?;
@@ -35,7 +35,7 @@ fn of_node(alloc: Global, tokens: &mut Tokens) -> Result<Content, ReadFault>
 }
 
 #[tactic(auto, unfolding(catalogue::specs::Parsing::message_comment_at))]
-fn of_message(alloc: Global, tokens: &mut Tokens) -> Result<Content, ReadFault>
+fn message_comment(alloc: Global, tokens: &mut Tokens) -> Result<Content, ReadFault>
     ensures { Reads content_of result (message_comment_at tokens.old) tokens.new }
 {
     key(tokens, Keyword::Message)?;
@@ -46,7 +46,7 @@ fn of_message(alloc: Global, tokens: &mut Tokens) -> Result<Content, ReadFault>
 }
 
 #[tactic(auto, unfolding(catalogue::specs::Parsing::signal_comment_at))]
-fn of_signal(alloc: Global, tokens: &mut Tokens) -> Result<Content, ReadFault>
+fn signal_comment(alloc: Global, tokens: &mut Tokens) -> Result<Content, ReadFault>
     ensures { Reads content_of result (signal_comment_at tokens.old) tokens.new }
 {
     key(tokens, Keyword::Signal)?;
@@ -63,10 +63,10 @@ pub(crate) fn comment(alloc: Global, tokens: &mut Tokens) -> Result<Content, Rea
     ensures { Reads content_of result (comment_at tokens.old) tokens.new }
 {
     match tokens.first() {
-        Some(token) if is_text(&token) => of_file(alloc, tokens),
-        Some(token) if is_key(&token, Keyword::Nodes) => of_node(alloc, tokens),
-        Some(token) if is_key(&token, Keyword::Message) => of_message(alloc, tokens),
-        Some(token) if is_key(&token, Keyword::Signal) => of_signal(alloc, tokens),
+        Some(token) if is_text(&token) => file_comment(alloc, tokens),
+        Some(token) if is_key(&token, Keyword::Nodes) => node_comment(alloc, tokens),
+        Some(token) if is_key(&token, Keyword::Message) => message_comment(alloc, tokens),
+        Some(token) if is_key(&token, Keyword::Signal) => signal_comment(alloc, tokens),
         _ => passed_comment(tokens),
     }
 }

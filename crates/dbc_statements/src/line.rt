@@ -15,7 +15,7 @@ pub(crate) struct Line {
 }
 
 /// The line with this content, which doesn't end with a list.
-pub(crate) fn line_of(read: Result<Content, ReadFault>) -> Result<Line, ReadFault>
+pub(crate) fn line_without_list(read: Result<Content, ReadFault>) -> Result<Line, ReadFault>
     ensures { MatchResult read (λ content. IsOkAnd result (λ line. line.content ≡ content)) (λ fault. result ≡ Err fault) }
 {
     match read {

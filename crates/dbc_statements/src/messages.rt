@@ -7,7 +7,7 @@ ghost use Rattle.dbc_statements.specs.Reading.{Reads};
 ghost use Rattle.dbc_statements.specs.Statement.{line_content};
 
 use crate::fields::{begins_message, length, made_name, mark, message_ident};
-use crate::line::{Line, line_of};
+use crate::line::{Line, line_without_list};
 use crate::names::transmitter;
 use crate::passing::independent;
 use crate::signals::signals;
@@ -47,6 +47,6 @@ pub(crate) fn message_or_independent(alloc: Global, tokens: &mut Tokens) -> Resu
     if begins_message(tokens) {
         message(alloc, tokens)
     } else {
-        line_of(independent(tokens))
+        line_without_list(independent(tokens))
     }
 }

@@ -11,7 +11,7 @@ ghost use Rattle.dbc_statements.specs.Tokens.{IsReached};
 use crate::attached::{attribute_value, value_texts, value_types};
 use crate::comments::comment;
 use crate::heading::{bit_timing, new_symbols, node_names, value_table, version};
-use crate::line::{Line, line_of};
+use crate::line::{Line, line_without_list};
 use crate::messages::message_or_independent;
 use crate::names::Ended;
 use crate::passing::skip_to_end;
@@ -88,16 +88,16 @@ fn line(
     ensures { Reads line_content result (line_at keyword tokens.old) tokens.new }
 {
     match keyword {
-        Keyword::Version => line_of(version(alloc, tokens)),
-        Keyword::NewSymbols => line_of(new_symbols(tokens)),
-        Keyword::BitTiming => line_of(bit_timing(tokens)),
+        Keyword::Version => line_without_list(version(alloc, tokens)),
+        Keyword::NewSymbols => line_without_list(new_symbols(tokens)),
+        Keyword::BitTiming => line_without_list(bit_timing(tokens)),
         Keyword::Nodes => node_names(alloc, tokens),
-        Keyword::ValueTable => line_of(value_table(alloc, tokens)),
+        Keyword::ValueTable => line_without_list(value_table(alloc, tokens)),
         Keyword::Message => message_or_independent(alloc, tokens),
-        Keyword::Comment => line_of(comment(alloc, tokens)),
-        Keyword::ValueTexts => line_of(value_texts(alloc, tokens)),
-        Keyword::SignalValueType => line_of(value_types(alloc, tokens)),
-        Keyword::AttributeValue => line_of(attribute_value(alloc, tokens)),
+        Keyword::Comment => line_without_list(comment(alloc, tokens)),
+        Keyword::ValueTexts => line_without_list(value_texts(alloc, tokens)),
+        Keyword::SignalValueType => line_without_list(value_types(alloc, tokens)),
+        Keyword::AttributeValue => line_without_list(attribute_value(alloc, tokens)),
         Keyword::Signal => Err(ReadFault {
             code: ReadCode::Unexpected,
             at: start,
@@ -106,7 +106,7 @@ fn line(
             code: ReadCode::ExtendedMultiplexing,
             at: start,
         }),
-        _ => line_of(skip_to_end(tokens)),
+        _ => line_without_list(skip_to_end(tokens)),
     }
 }
 
@@ -130,7 +130,11 @@ fn statement(
 }
 
 /// Reads all statements. Whatever it returns, the tokens were read at least up to the offset `reached`.
-fn all(alloc: Global, tokens: &mut Tokens, reached: &mut usize) -> Result<Vec<Statement>, ReadFault>
+fn all_statements(
+    alloc: Global,
+    tokens: &mut Tokens,
+    reached: &mut usize,
+) -> Result<Vec<Statement>, ReadFault>
     ensures ok { IfOk result (λ statements. statements_at tokens.old ≡ Some (statements_of statements.items)) }
     ensures err { IfErr result (λ fault. UnlessMemory fault.code (statements_at tokens.old ≡ None)) }
     ensures reached { IsReached tokens.old reached.new }
@@ -160,7 +164,7 @@ pub fn statements_of(alloc: Global, source: &[u8]) -> Result<Vec<Statement>, Rea
 {
     let mut tokens = Tokens::of(source);
     let mut reached = 0;
-    let read = all(alloc, &mut tokens, &mut reached);
+    let read = all_statements(alloc, &mut tokens, &mut reached);
     fault_after(source, reached)?;
     let statements = read?;
     Ok(statements)

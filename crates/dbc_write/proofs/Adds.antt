@@ -15,13 +15,13 @@ pub none : {X : Type 0} (f : X → List ℕ) (a : List ℕ) → Adds f a a []
 none f a = record { text = sym (append-nil a) }
 
 -- one thing after the other
-joined : {X : Type 0} (f : X → List ℕ) (a b c : List ℕ) (xs ys : List X) → b ≡ a ++ flat_map f xs → c ≡ b ++ flat_map f ys
+join_items : {X : Type 0} (f : X → List ℕ) (a b c : List ℕ) (xs ys : List X) → b ≡ a ++ flat_map f xs → c ≡ b ++ flat_map f ys
     → c ≡ a ++ flat_map f (xs ++ ys)
-joined f a b c xs ys x y =
+join_items f a b c xs ys x y =
     y ∙ ap (λ v. v ++ flat_map f ys) x ∙ append_assoc a (flat_map f xs) (flat_map f ys) ∙ ap (λ v. a ++ v) (sym (flat_map-append f xs ys))
 
 pub also : {X : Type 0} {f : X → List ℕ} {a b c : List ℕ} {xs ys : List X} → Adds f a b xs → Adds f b c ys → Adds f a c (xs ++ ys)
-also {X} {f} {a} {b} {c} {xs} {ys} x y = record { text = joined f a b c xs ys x.text y.text }
+also {X} {f} {a} {b} {c} {xs} {ys} x y = record { text = join_items f a b c xs ys x.text y.text }
 
 -- the pieces of a line, and its LF
 pub line : {a b c : List ℕ} {ps : Line} → Adds piece_text a b ps → c ≡ b ++ 10 ∷ [] → Adds line_text a c (ps ∷ [])
@@ -45,5 +45,5 @@ signed gap digits true = append_assoc gap (45 ∷ []) (digits ++ []) ∙ ap (λ 
 signed gap digits false = append-nil (gap ++ digits)
 
 -- the pieces of a decimal are its gap and its text
-pub spelled : (gap : List ℕ) (n : Number) → flat_map piece_text (value gap n) ≡ gap ++ text_of n
-spelled gap n = signed gap (unsigned_text (unsigned_abs n.mantissa) n.exponent) (is_negative n.mantissa)
+pub decimal_text : (gap : List ℕ) (n : Number) → flat_map piece_text (value gap n) ≡ gap ++ text_of n
+decimal_text gap n = signed gap (unsigned_text (unsigned_abs n.mantissa) n.exponent) (is_negative n.mantissa)

@@ -1,7 +1,7 @@
 -- The definitions of the attribute SPN are written if some signal has a number.
 use Rattle.std.proofs.Common.{◌≡◌, ◌==◌, ◌||◌, ◌++◌, Bool, true, false, not, if◌then◌else◌, List, [], ◌∷◌, refl, ◌∙◌}
 use Rattle.std.specs.List.{flat_map, list_any}
-use Rattle.catalogue.specs.Canon.{Line, defined, each_signal, spn_definitions, spn_lines}
+use Rattle.catalogue.specs.Canon.{Line, each_signal, spn_definitions, spn_lines, with_spn_definitions}
 use Rattle.catalogue.specs.declared.message.Message.{Message}
 use Rattle.catalogue.specs.declared.sheet.Sheet.{Sheet}
 use Rattle.catalogue.specs.declared.signal.Signal.{Signal}
@@ -32,16 +32,16 @@ spn_there s =
     any_of_each (λ (m : Message). flat_map (spn_lines m) m.signals) message_has_spn
     (λ m. any_of_each (spn_lines m) (λ (g : Signal). not (g.spn == 0)) (spn_line m) m.signals) s.messages
 
-with_definitions : (ls : List Line) → has_any ls ≡ true → defined ls ≡ spn_definitions ++ ls
+with_definitions : (ls : List Line) → has_any ls ≡ true → with_spn_definitions ls ≡ spn_definitions ++ ls
 with_definitions [] h = search h
 with_definitions (l ∷ ls) h = refl
 
-without_definitions : (ls : List Line) → has_any ls ≡ false → defined ls ≡ []
+without_definitions : (ls : List Line) → has_any ls ≡ false → with_spn_definitions ls ≡ []
 without_definitions [] h = refl
 without_definitions (l ∷ ls) h = search h
 
-pub defined_first : (s : Sheet) → has_spn s ≡ true → defined (each_signal spn_lines s) ≡ spn_definitions ++ each_signal spn_lines s
+pub defined_first : (s : Sheet) → has_spn s ≡ true → with_spn_definitions (each_signal spn_lines s) ≡ spn_definitions ++ each_signal spn_lines s
 defined_first s h = with_definitions (each_signal spn_lines s) (spn_there s ∙ h)
 
-pub none_defined : (s : Sheet) → has_spn s ≡ false → defined (each_signal spn_lines s) ≡ []
+pub none_defined : (s : Sheet) → has_spn s ≡ false → with_spn_definitions (each_signal spn_lines s) ≡ []
 none_defined s h = without_definitions (each_signal spn_lines s) (spn_there s ∙ h)

@@ -5,13 +5,13 @@ ghost use Rattle.catalogue.specs.Canon.{comment_lines, line_text, message_commen
 ghost use Rattle.catalogue.specs.Messages.{number_of};
 ghost use Rattle.dbc_write.specs.Adding.{Adds};
 
-use crate::places;
+use crate::citations;
 use crate::tokens::{quoted, spaced_number, spaced_word, tight_mark, tight_word};
 use catalogue::{Message, Node, Signal, Text};
 use std::alloc::AllocError;
 
 /// The comment of the whole file.
-pub(crate) fn of_file(text: &mut Vec<u8>, comment: &Text) -> Result<(), AllocError>
+pub(crate) fn file_comment(text: &mut Vec<u8>, comment: &Text) -> Result<(), AllocError>
     ensures { OnOk result (Adds line_text text.old.items text.new.items (comment_lines [] comment.now)) }
 {
     if comment.is_empty() {
@@ -24,7 +24,7 @@ pub(crate) fn of_file(text: &mut Vec<u8>, comment: &Text) -> Result<(), AllocErr
     Ok(())
 }
 
-fn of_node(text: &mut Vec<u8>, node: &Node) -> Result<(), AllocError>
+fn node_comment(text: &mut Vec<u8>, node: &Node) -> Result<(), AllocError>
     ensures { OnOk result (Adds line_text text.old.items text.new.items (node_comment node.now)) }
 {
     if node.comment.is_empty() {
@@ -40,16 +40,16 @@ fn of_node(text: &mut Vec<u8>, node: &Node) -> Result<(), AllocError>
 }
 
 /// The comments of the nodes.
-pub(crate) fn of_nodes(text: &mut Vec<u8>, nodes: &[Node]) -> Result<(), AllocError>
+pub(crate) fn node_comments(text: &mut Vec<u8>, nodes: &[Node]) -> Result<(), AllocError>
     ensures { OnOk result (Adds line_text text.old.items text.new.items (flat_map node_comment nodes.now)) }
 {
     for node in nodes {
-        of_node(text, node)?;
+        node_comment(text, node)?;
     }
     Ok(())
 }
 
-fn of_message(text: &mut Vec<u8>, message: &Message) -> Result<(), AllocError>
+fn message_comment(text: &mut Vec<u8>, message: &Message) -> Result<(), AllocError>
     ensures { OnOk result (Adds line_text text.old.items text.new.items
         (comment_lines (word space (codes "BO_") ∷ number space (number_of message.now) ∷ []) message.now.comment)) }
 {
@@ -65,7 +65,7 @@ fn of_message(text: &mut Vec<u8>, message: &Message) -> Result<(), AllocError>
     Ok(())
 }
 
-fn of_signal(text: &mut Vec<u8>, message: &Message, signal: &Signal) -> Result<(), AllocError>
+fn signal_comment(text: &mut Vec<u8>, message: &Message, signal: &Signal) -> Result<(), AllocError>
     ensures { OnOk result (Adds line_text text.old.items text.new.items
         (comment_lines (signal_pieces message.now signal.now) signal.now.comment)) }
 {
@@ -73,7 +73,7 @@ fn of_signal(text: &mut Vec<u8>, message: &Message, signal: &Signal) -> Result<(
         return Ok(());
     }
     tight_word(text, b"CM_")?;
-    places::of_signal(text, message, signal)?;
+    citations::signal_citation(text, message, signal)?;
     quoted(text, signal.comment.as_bytes())?;
     tight_mark(text, b';')?;
     text.push(b'\n')?;
@@ -83,15 +83,15 @@ fn of_signal(text: &mut Vec<u8>, message: &Message, signal: &Signal) -> Result<(
 fn with_signals(text: &mut Vec<u8>, message: &Message) -> Result<(), AllocError>
     ensures { OnOk result (Adds line_text text.old.items text.new.items (message_comments message.now)) }
 {
-    of_message(text, message)?;
+    message_comment(text, message)?;
     for signal in message.signals.as_slice() {
-        of_signal(text, message, signal)?;
+        signal_comment(text, message, signal)?;
     }
     Ok(())
 }
 
 /// The comments of the messages, each followed by those of its signals.
-pub(crate) fn of_messages(text: &mut Vec<u8>, messages: &[Message]) -> Result<(), AllocError>
+pub(crate) fn message_comments(text: &mut Vec<u8>, messages: &[Message]) -> Result<(), AllocError>
     ensures { OnOk result (Adds line_text text.old.items text.new.items (flat_map message_comments messages.now)) }
 {
     for message in messages {

@@ -10,11 +10,11 @@
 //! written, and by the grammar law (`dbc_law`) the text reads as this sheet and as no other.
 #![tactic(auto)]
 
+mod citations;
 mod comments;
 mod entries;
 mod heading;
 mod messages;
-mod places;
 mod sections;
 mod sheet;
 mod signals;

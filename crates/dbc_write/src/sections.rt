@@ -2,12 +2,12 @@
 //! signal after the other.
 ghost use Rattle.std.specs.Prelude.{◌≡◌, ◌∷◌, [], OnOk};
 ghost use Rattle.std.specs.List.{flat_map};
-ghost use Rattle.catalogue.specs.Canon.{defined, each_signal, line_text, spn_default, spn_definition, spn_lines, type_lines, value_lines};
+ghost use Rattle.catalogue.specs.Canon.{each_signal, line_text, spn_default, spn_definition, spn_lines, type_lines, value_lines, with_spn_definitions};
 ghost use Rattle.dbc_write.specs.Adding.{Adds};
 ghost use Rattle.dbc_write.specs.Sections.{has_spn, message_has_spn, section_lines};
 
+use crate::citations;
 use crate::entries::entries;
-use crate::places;
 use crate::tokens::{quoted, spaced_mark, spaced_number, spaced_word, tight_mark, tight_word};
 use catalogue::{Message, SPN_LIMIT, Sheet, Signal};
 use std::alloc::AllocError;
@@ -32,7 +32,7 @@ fn spn_line(text: &mut Vec<u8>, message: &Message, signal: &Signal) -> Result<()
     }
     tight_word(text, b"BA_")?;
     quoted(text, b"SPN")?;
-    places::of_signal(text, message, signal)?;
+    citations::signal_citation(text, message, signal)?;
     spaced_number(text, spn)?;
     tight_mark(text, b';')?;
     text.push(b'\n')?;
@@ -46,7 +46,7 @@ fn value_line(text: &mut Vec<u8>, message: &Message, signal: &Signal) -> Result<
         return Ok(());
     }
     tight_word(text, b"VAL_")?;
-    places::place(text, message, signal)?;
+    citations::cited_signal(text, message, signal)?;
     entries(text, &signal.values)?;
     text.push(b'\n')?;
     Ok(())
@@ -60,7 +60,7 @@ fn type_line(text: &mut Vec<u8>, message: &Message, signal: &Signal) -> Result<(
         return Ok(());
     }
     tight_word(text, b"SIG_VALTYPE_")?;
-    places::place(text, message, signal)?;
+    citations::cited_signal(text, message, signal)?;
     spaced_mark(text, b':')?;
     spaced_number(text, number)?;
     tight_mark(text, b';')?;
@@ -149,7 +149,7 @@ fn default_value(text: &mut Vec<u8>) -> Result<(), AllocError>
 
 /// The suspect parameter numbers; before them, if there are any, the definition of the attribute.
 pub(crate) fn spns(text: &mut Vec<u8>, sheet: &Sheet) -> Result<(), AllocError>
-    ensures { OnOk result (Adds line_text text.old.items text.new.items (defined (each_signal spn_lines sheet.now))) }
+    ensures { OnOk result (Adds line_text text.old.items text.new.items (with_spn_definitions (each_signal spn_lines sheet.now))) }
 {
     if !has_spn(sheet) {
         return Ok(());

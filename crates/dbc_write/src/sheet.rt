@@ -16,9 +16,9 @@ fn lines(text: &mut Vec<u8>, sheet: &Sheet) -> Result<(), AllocError>
     heading::heading(text, sheet)?;
     entries::table_lines(text, sheet.tables())?;
     messages::messages(text, sheet.messages())?;
-    comments::of_file(text, sheet.comment())?;
-    comments::of_nodes(text, sheet.nodes())?;
-    comments::of_messages(text, sheet.messages())?;
+    comments::file_comment(text, sheet.comment())?;
+    comments::node_comments(text, sheet.nodes())?;
+    comments::message_comments(text, sheet.messages())?;
     sections::spns(text, sheet)?;
     sections::lines(text, Section::Values, sheet)?;
     sections::lines(text, Section::ValueTypes, sheet)?;

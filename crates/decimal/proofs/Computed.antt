@@ -9,14 +9,14 @@ use Rattle.std.proofs.lemmas.List.Sums.{suffix_len-le-length}
 use Rattle.decimal.specs.Number.{Number, IsInRange}
 use Rattle.decimal.specs.Spelling.{Spelling, IsNumberToken, is_numeral, is_exponent, digits_of, signed}
 use Rattle.decimal.specs.Cutting.{cut, is_zero}
-use Rattle.decimal.specs.Reading.{Reads, reading, reading_of, reading_parts, moved, is_in_range}
+use Rattle.decimal.specs.Reading.{Reads, reading, reading_of, reading_parts, stripped_exponent, is_in_range}
 use Rattle.decimal.specs.declared.fault.DecimalFault.{DecimalFault}
 use Rattle.decimal.specs.declared.fault.DecimalFault.TheVariants.{NotNumber}
 use Rattle.decimal.proofs.Values.{ten_pos}
 use Rattle.decimal.proofs.Significant.{core, core_value, core_stripped, front_before_end, back_zeros, digits_after_zeros}
 use Rattle.decimal.proofs.Readings.{writes, stripped, size_signed, token_digits, reads_zero, zero_decimal, decimal_from_stripped}
 use Rattle.decimal.proofs.Tokens.{cut_is_token, token_is_cut}
-use Rattle.decimal.proofs.Once.{reads_once}
+use Rattle.decimal.proofs.OneReading.{reads_once}
 
 le_true : (a b : ℤ) → a ≤ℤ b → int_le a b ≡ true
 le_true a b h = grind (arith, ints)
@@ -34,7 +34,7 @@ out_of_range e h range =
     both_ways (is_in_range e) h (and_from (int_le (negsuc 399) e) (int_le e (pos 400)) (le_true (negsuc 399) e range.low) (le_true e (pos 400) range.high))
 
 -- a number without a zero at its end, times a power of ten
-reads_of : (negative : Bool) (bytes : List ℕ) (s : Spelling) → IsNumberToken bytes s → (n z : ℕ) (e : ℤ) → digits_value 10 (digits_of s) ≡ n * 10 ^ z → e ≡ moved s z → n % 10 ≢ 0 → Reads negative bytes (reading_of negative n e)
+reads_of : (negative : Bool) (bytes : List ℕ) (s : Spelling) → IsNumberToken bytes s → (n z : ℕ) (e : ℤ) → digits_value 10 (digits_of s) ≡ n * 10 ^ z → e ≡ stripped_exponent s z → n % 10 ≢ 0 → Reads negative bytes (reading_of negative n e)
 reads_of negative bytes s token n z e value at some =
     let w = writes negative bytes s token n z e value at in
     let h = stripped negative n e some in
@@ -57,11 +57,11 @@ some_left xs end e =
 
 reads_parts_at : (negative : Bool) (bytes : List ℕ) (s : Spelling) → IsNumberToken bytes s → (end : ℕ) → end + suffix_len is_zero (digits_of s) ≡ length (digits_of s) → Reads negative bytes (reading_parts negative s)
 reads_parts_at negative bytes s token zero e =
-    subst (λ (n : ℕ). Reads negative bytes (reading_of negative n (moved s (suffix_len is_zero (digits_of s))))) (sym (all_zeros (digits_of s) e)) (reads_zero negative bytes s token 0 refl e, zero_decimal)
+    subst (λ (n : ℕ). Reads negative bytes (reading_of negative n (stripped_exponent s (suffix_len is_zero (digits_of s))))) (sym (all_zeros (digits_of s) e)) (reads_zero negative bytes s token 0 refl e, zero_decimal)
 reads_parts_at negative bytes s token (suc end) e =
     let le = front_before_end (digits_of s) end e in
-    subst (λ (n : ℕ). Reads negative bytes (reading_of negative n (moved s (suffix_len is_zero (digits_of s))))) (sym (some_left (digits_of s) end e))
-    (reads_of negative bytes s token (digits_value 10 (core (digits_of s) (suc end))) (suffix_len is_zero (digits_of s)) (moved s (suffix_len is_zero (digits_of s)))
+    subst (λ (n : ℕ). Reads negative bytes (reading_of negative n (stripped_exponent s (suffix_len is_zero (digits_of s))))) (sym (some_left (digits_of s) end e))
+    (reads_of negative bytes s token (digits_value 10 (core (digits_of s) (suc end))) (suffix_len is_zero (digits_of s)) (stripped_exponent s (suffix_len is_zero (digits_of s)))
     (core_value (digits_of s) (suc end) (omega (arith, le)) e) refl (core_stripped (digits_of s) end (token_digits bytes s token) le e))
 
 reads_parts : (negative : Bool) (bytes : List ℕ) (s : Spelling) → IsNumberToken bytes s → Reads negative bytes (reading_parts negative s)

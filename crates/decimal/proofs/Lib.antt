@@ -5,8 +5,8 @@ pub mod Significant
 pub mod Powers
 pub mod Readings
 pub mod PlainNumbers
-pub mod Once
+pub mod OneReading
 pub mod Texts
-pub mod Back
+pub mod ReadsBack
 pub mod Computed
 pub mod Rows

@@ -8,7 +8,7 @@ use Rattle.std.proofs.lemmas.Int.{ints}
 use Rattle.decimal.specs.Number.{Number, IsInRange, IsDecimal}
 use Rattle.decimal.specs.Spelling.{Spelling, IsNumberToken, Writes, are_digits, is_fraction, digits_of, number_of, power_of, signed}
 use Rattle.decimal.specs.Cutting.{is_zero}
-use Rattle.decimal.specs.Reading.{IsStripped, Reads, moved}
+use Rattle.decimal.specs.Reading.{IsStripped, Reads, stripped_exponent}
 use Rattle.decimal.specs.declared.fault.DecimalFault.TheVariants.{TooManyDigits, ExponentRange}
 use Rattle.decimal.proofs.Values.{same_from_meet, neg-times, zero_same}
 use Rattle.decimal.proofs.Significant.{core_value, core_stripped, core_long, front_before_end, back_zeros, digits_after_zeros}
@@ -26,7 +26,7 @@ signed_zero : (b : Bool) → signed b 0 ≡ pos 0
 signed_zero true = refl
 signed_zero false = refl
 
-pub writes : (negative : Bool) (bytes : List ℕ) (s : Spelling) → IsNumberToken bytes s → (v z : ℕ) (e : ℤ) → digits_value 10 (digits_of s) ≡ v * 10 ^ z → e ≡ moved s z → Writes negative bytes (record { mantissa = signed negative v; exponent = e })
+pub writes : (negative : Bool) (bytes : List ℕ) (s : Spelling) → IsNumberToken bytes s → (v z : ℕ) (e : ℤ) → digits_value 10 (digits_of s) ≡ v * 10 ^ z → e ≡ stripped_exponent s z → Writes negative bytes (record { mantissa = signed negative v; exponent = e })
 writes negative bytes s token v z e value is = record {
   spelling = s;
   token = token;
@@ -110,19 +110,19 @@ pub reads_long : (negative : Bool) (bytes : List ℕ) (s : Spelling) → IsNumbe
 reads_long negative bytes s token start end digits ends long =
     let v = between (digits_of s) start end in
     let z = length (digits_of s) - end in (
-      record { mantissa = signed negative v; exponent = moved s z },
-      writes negative bytes s token v z (moved s z) (between_value (digits_of s) start end ends) refl,
-      stripped negative v (moved s z) (between_stripped (digits_of s) start end digits ends),
+      record { mantissa = signed negative v; exponent = stripped_exponent s z },
+      writes negative bytes s token v z (stripped_exponent s z) (between_value (digits_of s) start end ends) refl,
+      stripped negative v (stripped_exponent s z) (between_stripped (digits_of s) start end digits ends),
       rw size_signed (between_long (digits_of s) start end digits ends long),
     )
 
-pub reads_far : (negative : Bool) (bytes : List ℕ) (s : Spelling) → IsNumberToken bytes s → (start end : ℕ) → are_digits (digits_of s) ≡ true → AreEnds (digits_of s) start end → between (digits_of s) start end < 10 ^ 36 → ¬ (IsInRange (moved s (length (digits_of s) - end))) → Reads negative bytes (Err ExponentRange)
+pub reads_far : (negative : Bool) (bytes : List ℕ) (s : Spelling) → IsNumberToken bytes s → (start end : ℕ) → are_digits (digits_of s) ≡ true → AreEnds (digits_of s) start end → between (digits_of s) start end < 10 ^ 36 → ¬ (IsInRange (stripped_exponent s (length (digits_of s) - end))) → Reads negative bytes (Err ExponentRange)
 reads_far negative bytes s token start end digits ends short far =
     let v = between (digits_of s) start end in
     let z = length (digits_of s) - end in (
-      record { mantissa = signed negative v; exponent = moved s z },
-      writes negative bytes s token v z (moved s z) (between_value (digits_of s) start end ends) refl,
-      stripped negative v (moved s z) (between_stripped (digits_of s) start end digits ends),
+      record { mantissa = signed negative v; exponent = stripped_exponent s z },
+      writes negative bytes s token v z (stripped_exponent s z) (between_value (digits_of s) start end ends) refl,
+      stripped negative v (stripped_exponent s z) (between_stripped (digits_of s) start end digits ends),
       rw size_signed short,
       far,
     )
@@ -138,18 +138,18 @@ pub decimal_between : (negative : Bool) (s : Spelling) (start end v : ℕ) (e : 
 decimal_between negative s start end v e digits ends is short range =
     decimal_from_stripped negative v e short (subst (λ (n : ℕ). n % 10 ≢ 0) (sym is) (between_stripped (digits_of s) start end digits ends)) range
 
-pub reads_decimal : (negative : Bool) (bytes : List ℕ) (s : Spelling) → IsNumberToken bytes s → (start end v : ℕ) (e : ℤ) → are_digits (digits_of s) ≡ true → AreEnds (digits_of s) start end → v ≡ between (digits_of s) start end → v < 10 ^ 36 → e ≡ moved s (length (digits_of s) - end) → IsInRange e → Reads negative bytes (Ok (record { mantissa = signed negative v; exponent = e }))
+pub reads_decimal : (negative : Bool) (bytes : List ℕ) (s : Spelling) → IsNumberToken bytes s → (start end v : ℕ) (e : ℤ) → are_digits (digits_of s) ≡ true → AreEnds (digits_of s) start end → v ≡ between (digits_of s) start end → v < 10 ^ 36 → e ≡ stripped_exponent s (length (digits_of s) - end) → IsInRange e → Reads negative bytes (Ok (record { mantissa = signed negative v; exponent = e }))
 reads_decimal negative bytes s token start end v e digits ends is short at range =
     let z = length (digits_of s) - end in (
       writes negative bytes s token v z e (between_value (digits_of s) start end ends ∙ ap (λ n. n * 10 ^ z) (sym is)) at,
       decimal_between negative s start end v e digits ends is short range,
     )
 
-pub moved_at : (s : Spelling) (f k end : ℕ) → f ≡ length (drop 1 s.fraction) → k ≡ length (digits_of s) → power_of (drop 1 s.exponent) -ℤ pos f +ℤ pos (k - end) ≡ moved s (length (digits_of s) - end)
-moved_at s f k end p q = rw (p, q) refl
+pub stripped_exponent_at : (s : Spelling) (f k end : ℕ) → f ≡ length (drop 1 s.fraction) → k ≡ length (digits_of s) → power_of (drop 1 s.exponent) -ℤ pos f +ℤ pos (k - end) ≡ stripped_exponent s (length (digits_of s) - end)
+stripped_exponent_at s f k end p q = rw (p, q) refl
 
 -- a number that machine arithmetic read of the digits, and then took the zeros from
-pub reads_plain : (negative : Bool) (bytes : List ℕ) (s : Spelling) → IsNumberToken bytes s → (v z : ℕ) (e : ℤ) → digits_value 10 (digits_of s) ≡ v * 10 ^ z → v % 10 ≢ 0 → v < 10 ^ 36 → e ≡ moved s z → IsInRange e → Reads negative bytes (Ok (record { mantissa = signed negative v; exponent = e }))
+pub reads_plain : (negative : Bool) (bytes : List ℕ) (s : Spelling) → IsNumberToken bytes s → (v z : ℕ) (e : ℤ) → digits_value 10 (digits_of s) ≡ v * 10 ^ z → v % 10 ≢ 0 → v < 10 ^ 36 → e ≡ stripped_exponent s z → IsInRange e → Reads negative bytes (Ok (record { mantissa = signed negative v; exponent = e }))
 reads_plain negative bytes s token v z e value last short at range =
     (writes negative bytes s token v z e value at, decimal_from_stripped negative v e short last range)
 

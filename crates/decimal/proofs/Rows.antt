@@ -1,7 +1,7 @@
 -- Worked rows: what the definitions give for spellings of DBC files.
-use Rattle.std.proofs.Common.{◌≡◌, ℕ, Bool, true, false, List, refl, Result, Ok, Err}
+use Rattle.std.proofs.Common.{◌≡◌, ℕ, Bool, true, false, List, [], ◌∷◌, map, refl, Result, Ok, Err}
 use Rattle.std.specs.Fmt.{digits}
-use Rattle.std.specs.Prelude.{codes}
+use Rattle.std.specs.Prelude.{◌==◌, if◌then◌else◌, codes}
 use Rattle.decimal.specs.Number.{Number}
 use Rattle.decimal.specs.Cutting.{cut}
 use Rattle.decimal.specs.Reading.{reading}
@@ -60,3 +60,54 @@ long_zero = refl
 no_digit_before_the_point : reading false (codes ".5") ≡ Err NotNumber
 unfolding reading cut
 no_digit_before_the_point = refl
+
+-- the same where a minus in front is no part of the bytes
+abbrev spelled : List ℕ → Result (List ℕ) DecimalFault
+spelled [] = printed false []
+spelled (b ∷ bytes) = if b == 45 then printed true bytes else printed false (b ∷ bytes)
+
+scales : map spelled (codes "0.03125" ∷ codes "0.125" ∷ codes "-273" ∷ codes "1.72E-003" ∷ codes "-1.72e-25" ∷ [])
+    ≡ Ok (codes "0.03125") ∷ Ok (codes "0.125") ∷ Ok (codes "-273") ∷ Ok (codes "0.00172") ∷ Ok (codes "-172E-27") ∷ []
+unfolding reading cut unsigned_text digits
+scales = refl
+
+greatest_of_32_and_64_bits : map spelled (codes "4294967295" ∷ codes "18446744073709551615" ∷ [])
+    ≡ Ok (codes "4294967295") ∷ Ok (codes "18446744073709551615") ∷ []
+unfolding reading cut unsigned_text digits
+greatest_of_32_and_64_bits = refl
+
+points_and_zeros : map spelled (codes "1." ∷ codes "1.E5" ∷ codes "0012.3400" ∷ codes "-0.000E-99999999999999999999" ∷ [])
+    ≡ Ok (codes "1") ∷ Ok (codes "100000") ∷ Ok (codes "12.34") ∷ Ok (codes "0") ∷ []
+unfolding reading cut unsigned_text digits
+points_and_zeros = refl
+
+zeros_at_both_ends : map spelled (codes "0.000999999999999999999999999999999999999000" ∷ codes "1000000000000000000000000000000000000" ∷ [])
+    ≡ Ok (codes "999999999999999999999999999999999999E-39") ∷ Ok (codes "1E36") ∷ []
+unfolding reading cut unsigned_text digits
+zeros_at_both_ends = refl
+
+least_and_greatest_exponents : map spelled (codes "1E-400" ∷ codes "10E-401" ∷ codes "0.1E401" ∷ [])
+    ≡ Ok (codes "1E-400") ∷ Ok (codes "1E-400") ∷ Ok (codes "1E400") ∷ []
+unfolding reading cut unsigned_text digits
+least_and_greatest_exponents = refl
+
+-- plain digits for the exponents -20 to 20
+plain_or_not : map spelled (codes "1E-20" ∷ codes "1E-21" ∷ codes "1E20" ∷ codes "1E21" ∷ [])
+    ≡ Ok (codes "0.00000000000000000001") ∷ Ok (codes "1E-21") ∷ Ok (codes "100000000000000000000") ∷ Ok (codes "1E21") ∷ []
+unfolding reading cut unsigned_text digits
+plain_or_not = refl
+
+no_numbers : map spelled ([] ∷ codes "--1" ∷ codes "1E" ∷ codes "1E+" ∷ codes "1E401 " ∷ codes "0x10" ∷ [])
+    ≡ Err NotNumber ∷ Err NotNumber ∷ Err NotNumber ∷ Err NotNumber ∷ Err NotNumber ∷ Err NotNumber ∷ []
+unfolding reading cut unsigned_text digits
+no_numbers = refl
+
+-- an exponent that is out of range too
+digits_37 : spelled (codes "1.000000000000000000000000000000000001E999") ≡ Err TooManyDigits
+unfolding reading cut unsigned_text digits
+digits_37 = refl
+
+exponents_out_of_range : map spelled (codes "10E400" ∷ codes "1E-401" ∷ codes "1E99999999999999999999" ∷ codes "1E-99999999999999999999" ∷ [])
+    ≡ Err ExponentRange ∷ Err ExponentRange ∷ Err ExponentRange ∷ Err ExponentRange ∷ []
+unfolding reading cut unsigned_text digits
+exponents_out_of_range = refl

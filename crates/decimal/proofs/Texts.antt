@@ -4,7 +4,7 @@ use Rattle.std.proofs.Common.{◌<ℤ◌, ◌≤ℤ◌, ◌⊎◌, inl, inr, uns
 use Rattle.std.proofs.lemmas.Bool.{and_from, and_left, and_right}
 use Rattle.std.proofs.lemmas.Int.{ints}
 use Rattle.std.specs.Fmt.{decimal, signed_decimal}
-use Rattle.decimal.specs.Printing.{unsigned_text, plain_text, pointed}
+use Rattle.decimal.specs.Printing.{unsigned_text, plain_text, with_point}
 use Rattle.std.proofs.lemmas.Fmt.{length-decimal-le_wide}
 use Rattle.decimal.proofs.DigitLists.{ten_le}
 use Rattle.decimal.proofs.Values.{ten_pos}
@@ -41,9 +41,9 @@ pub text_far : (n : ℕ) (e : ℤ) → (e <ℤ negsuc 19) ⊎ (pos 20 <ℤ e) �
 text_far n e (inl h) = at_far n e (and_left _ _ (le_false (negsuc 19) e h))
 text_far n e (inr h) = at_far n e (and_right _ _ (le_false e (pos 20) h))
 
-pub text_pointed : (n : ℕ) (e : ℤ) → negsuc 19 ≤ℤ e → e <ℤ pos 0 → unsigned_text n e ≡ pointed (unsigned_abs e) n
-text_pointed n (pos k) low high = absurd (omega (arith, ints))
-text_pointed n (negsuc k) low high = at_plain n (negsuc k) (and_from _ _ (le_true (negsuc 19) (negsuc k) low) refl)
+pub text_with_point : (n : ℕ) (e : ℤ) → negsuc 19 ≤ℤ e → e <ℤ pos 0 → unsigned_text n e ≡ with_point (unsigned_abs e) n
+text_with_point n (pos k) low high = absurd (omega (arith, ints))
+text_with_point n (negsuc k) low high = at_plain n (negsuc k) (and_from _ _ (le_true (negsuc 19) (negsuc k) low) refl)
 
 pub text_zeros : (n : ℕ) (e : ℤ) → pos 0 ≤ℤ e → e ≤ℤ pos 20 → unsigned_text n e ≡ decimal n ++ replicate (unsigned_abs e) 48
 text_zeros n (pos k) low high = at_plain n (pos k) (and_from _ _ refl (le_true (pos k) (pos 20) high))

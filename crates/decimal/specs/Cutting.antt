@@ -25,9 +25,9 @@ abbrev pub greatest_power : ℕ
 greatest_power = 10 ^ 20
 
 -- the power itself, or the greatest one with its sign
-abbrev pub capped : ℤ → ℤ
-capped (pos n) = pos (min n greatest_power)
-capped (negsuc n) = neg_ℤ (pos (min (suc n) greatest_power))
+abbrev pub capped_power : ℤ → ℤ
+capped_power (pos n) = pos (min n greatest_power)
+capped_power (negsuc n) = neg_ℤ (pos (min (suc n) greatest_power))
 
 -- the digit 0
 abbrev pub is_zero : ℕ → Bool

@@ -8,12 +8,12 @@ pub record Number : Type 0 where
   pub exponent : ℤ
 
 -- the mantissa that writes the number at the exponent k, which is no greater than its own
-abbrev pub scaled : Number → ℤ → ℤ
-scaled n k = n.mantissa *ℤ pos (10 ^ unsigned_abs (n.exponent -ℤ k))
+abbrev pub mantissa_at : Number → ℤ → ℤ
+mantissa_at n k = n.mantissa *ℤ pos (10 ^ unsigned_abs (n.exponent -ℤ k))
 
 -- Two numbers have the same value if their mantissas, scaled to the lesser of their exponents, are equal.
 pub record SameValue (m n : Number) : Type 0 where
-  pub equal : scaled m (int_min m.exponent n.exponent) ≡ scaled n (int_min m.exponent n.exponent)
+  pub equal : mantissa_at m (int_min m.exponent n.exponent) ≡ mantissa_at n (int_min m.exponent n.exponent)
 
 -- an exponent that a decimal may have
 pub record IsInRange (exponent : ℤ) : Type 0 where

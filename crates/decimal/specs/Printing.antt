@@ -6,17 +6,17 @@ use Rattle.decimal.specs.Number.{Number}
 use Rattle.decimal.specs.Reading.{Reads}
 
 -- the digits of n, with leading zeros up to k digits
-abbrev pub filled : ℕ → ℕ → List ℕ
-filled k n = replicate (k - length (decimal n)) 48 ++ decimal n
+abbrev pub zero_padded : ℕ → ℕ → List ℕ
+zero_padded k n = replicate (k - length (decimal n)) 48 ++ decimal n
 
 -- n with a point before its last k digits, and at least one digit before the point
-abbrev pub pointed : ℕ → ℕ → List ℕ
-pointed k n = decimal (n / 10 ^ k) ++ 46 ∷ filled k (n % 10 ^ k)
+abbrev pub with_point : ℕ → ℕ → List ℕ
+with_point k n = decimal (n / 10 ^ k) ++ 46 ∷ zero_padded k (n % 10 ^ k)
 
 -- plain digits: a zero for each power of ten, or a point
 abbrev pub plain_text : ℕ → ℤ → List ℕ
 plain_text n (pos k) = decimal n ++ replicate k 48
-plain_text n (negsuc k) = pointed (suc k) n
+plain_text n (negsuc k) = with_point (suc k) n
 
 -- A mantissa without its sign, and an exponent: plain digits for the exponents -20 to 20, and otherwise the
 -- mantissa, E and the exponent.

@@ -21,8 +21,8 @@ Reads negative bytes (Err TooManyDigits) = (n : Number) × Writes negative bytes
 Reads negative bytes (Err ExponentRange) = (n : Number) × Writes negative bytes n × IsStripped n × (unsigned_abs n.mantissa < 10 ^ 36) × ¬ (IsInRange n.exponent)
 
 -- the exponent that a spelling's digits have without the zeros at their end
-abbrev pub moved : Spelling → ℕ → ℤ
-moved s zeros = power_of (drop 1 s.exponent) -ℤ pos (length (drop 1 s.fraction)) +ℤ pos zeros
+abbrev pub stripped_exponent : Spelling → ℕ → ℤ
+stripped_exponent s zeros = power_of (drop 1 s.exponent) -ℤ pos (length (drop 1 s.fraction)) +ℤ pos zeros
 
 abbrev pub is_in_range : ℤ → Bool
 is_in_range e = int_le (negsuc 399) e && int_le e (pos 400)
@@ -39,7 +39,7 @@ reading_of negative n e =
 abbrev pub reading_parts : Bool → Spelling → Result Number DecimalFault
 reading_parts negative s =
     let zeros = suffix_len is_zero (digits_of s) in
-    reading_of negative (digits_value 10 (digits_of s) / 10 ^ zeros) (moved s zeros)
+    reading_of negative (digits_value 10 (digits_of s) / 10 ^ zeros) (stripped_exponent s zeros)
 
 -- The same answer computed, for whoever parses by a function.
 unfoldable pub reading : Bool → List ℕ → Result Number DecimalFault

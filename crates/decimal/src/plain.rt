@@ -10,7 +10,7 @@ use crate::spelling::{Parts, after_point};
 
 /// The number that the digits write if they are appended to those of another number. `None` if it is too great, or if
 /// a byte is no digit.
-fn followed_by(number: u64, digits: &[u8]) -> Option<u64>
+fn append_digits(number: u64, digits: &[u8]) -> Option<u64>
     ensures { IfSome result (λ n. n ≡ digits_value_after 10 number digits.now) }
 {
     let mut number = number;
@@ -63,7 +63,7 @@ pub(crate) fn plain_decimal(negative: bool, parts: Parts) -> Option<Decimal>
     if !parts.exponent.is_empty() || fraction.len() > 20 {
         return None;
     }
-    let number = followed_by(followed_by(0, parts.whole)?, fraction)?;
+    let number = append_digits(append_digits(0, parts.whole)?, fraction)?;
     if number == 0 {
         return Some(Decimal::ZERO);
     }

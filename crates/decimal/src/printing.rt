@@ -2,7 +2,7 @@
 ghost use Rattle.std.specs.Prelude.{◌≡◌, ◌≤◌, ◌<◌, ◌+◌, ◌^◌, ◌++◌, length, decimal, replicate, pos, negsuc, ◌≤ℤ◌, Some, OnOk, OnErr};
 ghost use Rattle.arrayvec.specs.ArrayString.{array_string_len};
 ghost use Rattle.decimal.specs.Number.{IsDecimal};
-ghost use Rattle.decimal.specs.Printing.{filled, pointed, text_of, unsigned_text};
+ghost use Rattle.decimal.specs.Printing.{text_of, unsigned_text, with_point, zero_padded};
 
 use crate::Decimal;
 use arrayvec::ArrayString;
@@ -37,10 +37,10 @@ fn push_zeros(text: &mut Text, count: usize)
 }
 
 /// The number's digits, after as many zeros as the width leaves.
-fn push_filled(text: &mut Text, number: u128, width: usize)
+fn push_zero_padded(text: &mut Text, number: u128, width: usize)
     requires room { array_string_len text.old + width ≤ 64 }
     requires narrow { length (decimal number) ≤ width }
-    ensures { text.new.bytes ≡ text.old.bytes ++ filled width number }
+    ensures { text.new.bytes ≡ text.old.bytes ++ zero_padded width number }
 {
     let mut buffer = Buffer::new();
     let digits = buffer.format(number);
@@ -50,17 +50,17 @@ fn push_filled(text: &mut Text, number: u128, width: usize)
 
 /// The number's digits with a point before the last of them.
 #[tactic(auto, using(crate::proofs::Texts::pointing))]
-fn push_pointed(text: &mut Text, number: u128, places: u32)
+fn push_with_point(text: &mut Text, number: u128, places: u32)
     requires number { number < 10 ^ 36 }
     requires some { 0 < places }
     requires few { places ≤ 20 }
     requires room { array_string_len text.old ≤ 1 }
-    ensures { text.new.bytes ≡ text.old.bytes ++ pointed places number }
+    ensures { text.new.bytes ≡ text.old.bytes ++ with_point places number }
 {
     let unit = 10u128.pow(places);
     push_number(text, number / unit);
     text.push('.');
-    push_filled(text, number % unit, places as usize);
+    push_zero_padded(text, number % unit, places as usize);
 }
 
 fn push_unsigned(text: &mut Text, magnitude: u128, exponent: i16)
@@ -71,7 +71,7 @@ fn push_unsigned(text: &mut Text, magnitude: u128, exponent: i16)
     ensures { text.new.bytes ≡ text.old.bytes ++ unsigned_text magnitude exponent }
 {
     match exponent {
-        LEAST_PLAIN..=-1 => push_pointed(text, magnitude, u32::from(exponent.unsigned_abs())),
+        LEAST_PLAIN..=-1 => push_with_point(text, magnitude, u32::from(exponent.unsigned_abs())),
         0..=MOST_PLAIN => {
             push_number(text, magnitude);
             push_zeros(text, exponent as usize);

@@ -6,7 +6,7 @@ ghost use Rattle.std.specs.Option.{SomeIff};
 ghost use Rattle.std.specs.Str.Parse.{digits_value};
 ghost use Rattle.decimal.specs.Spelling.{Spelling, IsNumberToken, are_digits, is_numeral, is_power, is_exponent, power_of};
 ghost use Rattle.decimal.specs.Number.{IsInRange};
-ghost use Rattle.decimal.specs.Cutting.{fraction_len, cut, spelling, capped, greatest_power};
+ghost use Rattle.decimal.specs.Cutting.{fraction_len, cut, spelling, capped_power, greatest_power};
 
 /// Digits, a point with the digits after it, and what is left.
 #[derive(Clone, Copy)]
@@ -128,7 +128,7 @@ fn capped_value(digits: &[u8]) -> u128
 /// The whole number after the letter E, 0 where there is none, or the greatest power with its sign.
 fn power(exponent: &[u8]) -> i128
     requires { IsTrue (is_exponent exponent.now) }
-    ensures { result ≡ capped (power_of (drop 1 exponent.now)) }
+    ensures { result ≡ capped_power (power_of (drop 1 exponent.now)) }
 {
     match exponent {
         [] | [_] => 0,
@@ -147,9 +147,9 @@ pub(crate) fn exponent_of(exponent: &[u8], fraction_digits: usize, zeros: usize)
     ensures { let e = power_of (drop 1 exponent.now) -ℤ pos fraction_digits +ℤ pos zeros in
         SomeIff result (IsInRange e) e }
 {
-    let moved = power(exponent) - fraction_digits as i128 + zeros as i128;
-    if moved >= -GREATEST_EXPONENT && moved <= GREATEST_EXPONENT {
-        Some(moved as i16)
+    let stripped_exponent = power(exponent) - fraction_digits as i128 + zeros as i128;
+    if stripped_exponent >= -GREATEST_EXPONENT && stripped_exponent <= GREATEST_EXPONENT {
+        Some(stripped_exponent as i16)
     } else {
         None
     }

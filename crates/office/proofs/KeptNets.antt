@@ -9,7 +9,7 @@ use Rattle.std.proofs.lemmas.List.Elements.{All-nil, All-weaker, All-contains}
 use Rattle.std.proofs.lemmas.Slice.Eq.{bytes_eq-Decides}
 use Rattle.can_id.specs.Ident.{dbc_number}
 use Rattle.catalogue.specs.Limits.{message_limit}
-use Rattle.catalogue.proofs.Put.{length-put, All-put, AllPairs-put, IsStrictlySortedBy-put}
+use Rattle.catalogue.proofs.PutKeeps.{length-put, All-put, AllPairs-put, IsStrictlySortedBy-put}
 use Rattle.office_types.proofs.Blocks.{have_common-comm}
 use Rattle.office_types.specs.Block.{IsRange, have_common, form_rank}
 use Rattle.office_types.specs.Command.{IsAction}

@@ -7,7 +7,7 @@ use Rattle.std.specs.Str.{bytes_eq}
 use Rattle.std.proofs.lemmas.Bool.{cond_both}
 use Rattle.std.proofs.lemmas.Cmp.{nat_list_cmp_total, on_total}
 use Rattle.std.proofs.lemmas.List.Elements.{All-nil, All-head, All-tail}
-use Rattle.catalogue.proofs.Put.{All-put, IsStrictlySortedBy-put}
+use Rattle.catalogue.proofs.PutKeeps.{All-put, IsStrictlySortedBy-put}
 use Rattle.office_types.specs.State.{by_name, IsNet, IsOffice}
 use Rattle.office_types.specs.declared.state.Net.{Net}
 use Rattle.office_types.specs.declared.state.Office.{Office}

@@ -5,27 +5,27 @@ use Rattle.std.proofs.lemmas.List.Splits.{length-slice_split, join_with_byte-sli
 use Rattle.std.proofs.lemmas.List.Elements.{All-head, All-tail, All-cons, All-nil}
 use Rattle.std.proofs.lemmas.Bool.{ne_eqb}
 use Rattle.office_script.proofs.Parts.{Lacks, parts_lack, split_at_separator, split_without_separator}
-use Rattle.office_script.specs.Lines.{lines_of, with_feeds, completed, lines_of_parts, AreLinesOf}
+use Rattle.office_script.specs.Lines.{lines_of, with_feeds, with_last_feed, lines_of_parts, AreLinesOf}
 
 -- a text is completed at its end
-completed_front : (front rest : List ℕ) → completed (front ++ (10 ∷ rest)) ≡ front ++ (10 ∷ completed rest)
-completed_front [] [] = refl
-completed_front [] (c ∷ rest) = refl
-completed_front (x ∷ []) rest = ap (λ bs. x ∷ bs) (completed_front [] rest)
-completed_front (x ∷ y ∷ front) rest = ap (λ bs. x ∷ bs) (completed_front (y ∷ front) rest)
+with_last_feed_front : (front rest : List ℕ) → with_last_feed (front ++ (10 ∷ rest)) ≡ front ++ (10 ∷ with_last_feed rest)
+with_last_feed_front [] [] = refl
+with_last_feed_front [] (c ∷ rest) = refl
+with_last_feed_front (x ∷ []) rest = ap (λ bs. x ∷ bs) (with_last_feed_front [] rest)
+with_last_feed_front (x ∷ y ∷ front) rest = ap (λ bs. x ∷ bs) (with_last_feed_front (y ∷ front) rest)
 
 -- a last line without a feed gets one
-completed_last : (x : ℕ) (xs : List ℕ) → Lacks 10 (x ∷ xs) → completed (x ∷ xs) ≡ (x ∷ xs) ++ (10 ∷ [])
-completed_last x [] h = rw (ne_eqb x 10 (All-head (λ b. b ≢ 10) x [] h))
-completed_last x (y ∷ xs) h = ap (λ bs. x ∷ bs) (completed_last y xs (All-tail (λ b. b ≢ 10) x (y ∷ xs) h))
+with_last_feed_last : (x : ℕ) (xs : List ℕ) → Lacks 10 (x ∷ xs) → with_last_feed (x ∷ xs) ≡ (x ∷ xs) ++ (10 ∷ [])
+with_last_feed_last x [] h = rw (ne_eqb x 10 (All-head (λ b. b ≢ 10) x [] h))
+with_last_feed_last x (y ∷ xs) h = ap (λ bs. x ∷ bs) (with_last_feed_last y xs (All-tail (λ b. b ≢ 10) x (y ∷ xs) h))
 
 -- the parts without an empty last one, each with a feed after it
-feeds_of_parts : (part : List ℕ) (parts : List (List ℕ)) → All (Lacks 10) (part ∷ parts) → with_feeds (lines_of_parts (part ∷ parts)) ≡ completed (join_with_byte 10 (part ∷ parts))
+feeds_of_parts : (part : List ℕ) (parts : List (List ℕ)) → All (Lacks 10) (part ∷ parts) → with_feeds (lines_of_parts (part ∷ parts)) ≡ with_last_feed (join_with_byte 10 (part ∷ parts))
 feeds_of_parts [] [] h = refl
-feeds_of_parts (x ∷ xs) [] h = sym (completed_last x xs (All-head (Lacks 10) (x ∷ xs) [] h))
+feeds_of_parts (x ∷ xs) [] h = sym (with_last_feed_last x xs (All-head (Lacks 10) (x ∷ xs) [] h))
 feeds_of_parts part (next ∷ parts) h =
     ap (λ bs. part ++ (10 ∷ bs)) (feeds_of_parts next parts (All-tail (Lacks 10) part (next ∷ parts) h))
-    ∙ sym (completed_front part (join_with_byte 10 (next ∷ parts)))
+    ∙ sym (with_last_feed_front part (join_with_byte 10 (next ∷ parts)))
 
 -- the lines of parts have no feed where the parts have none
 lack_without_last : (parts : List (List ℕ)) → All (Lacks 10) parts → All (Lacks 10) (lines_of_parts parts)
@@ -36,7 +36,7 @@ lack_without_last (part ∷ next ∷ parts) h =
     All-cons (Lacks 10) part (lines_of_parts (next ∷ parts)) (All-head (Lacks 10) part (next ∷ parts) h) (lack_without_last (next ∷ parts) (All-tail (Lacks 10) part (next ∷ parts) h))
 
 -- the same of any list of one part or more
-feeds_of_split : (parts : List (List ℕ)) → 0 < length parts → All (Lacks 10) parts → with_feeds (lines_of_parts parts) ≡ completed (join_with_byte 10 parts)
+feeds_of_split : (parts : List (List ℕ)) → 0 < length parts → All (Lacks 10) parts → with_feeds (lines_of_parts parts) ≡ with_last_feed (join_with_byte 10 parts)
 feeds_of_split [] some h = absurd (omega (arith, some))
 feeds_of_split (part ∷ parts) some h = feeds_of_parts part parts h
 
@@ -46,7 +46,7 @@ lines_of_are text = record {
   apart = lack_without_last (slice_split (λ b. b == 10) text) (parts_lack 10 text);
   joined =
       feeds_of_split (slice_split (λ b. b == 10) text) (omega (arith, length-slice_split (λ b. b == 10) text)) (parts_lack 10 text)
-      ∙ ap completed (join_with_byte-slice_split 10 text);
+      ∙ ap with_last_feed (join_with_byte-slice_split 10 text);
 }
 
 -- the parts of lines with a feed after each are the lines, and an empty one

@@ -3,7 +3,7 @@ use Rattle.std.proofs.Common.{◌≡◌, ◌+◌, ◌≤◌, ◌<◌, ◌++◌, 
 use Rattle.std.specs.Option.{option_map, option_and_then}
 use Rattle.office_types.specs.declared.command.Command.{Command}
 use Rattle.office_script.specs.Lines.{lines_of}
-use Rattle.office_script.specs.Script.{asked_by, asked_by_all}
+use Rattle.office_script.specs.Script.{requests_of_line, requests_of_lines}
 
 abbrev Requests : Type 0
 Requests = List (List ℕ × Command)
@@ -19,15 +19,15 @@ pub record IsReadSoFar (text rest : List ℕ) (number : ℕ) (requests : List (L
   pub done : List (List ℕ)
   pub parts : lines_of text ≡ done ++ lines_of rest
   pub numbered : number ≡ length done
-  pub asked : asked_by_all done ≡ Some requests
+  pub asked : requests_of_lines done ≡ Some requests
   pub room : number + length rest ≤ length text
 
 -- what a line and the lines after it ask for
-abbrev joined : Option Requests → Option Requests → Option Requests
-joined first rest = option_and_then (λ here. option_map (λ others. here ++ others) rest) first
+abbrev join_requests : Option Requests → Option Requests → Option Requests
+join_requests first rest = option_and_then (λ here. option_map (λ others. here ++ others) rest) first
 
-joined_more : (first rest more : Option Requests) (before here : Requests) → joined first rest ≡ Some before
-    → ((middle : Requests) → rest ≡ Some middle → more ≡ Some (middle ++ here)) → joined first more ≡ Some (before ++ here)
+joined_more : (first rest more : Option Requests) (before here : Requests) → join_requests first rest ≡ Some before
+    → ((middle : Requests) → rest ≡ Some middle → more ≡ Some (middle ++ here)) → join_requests first more ≡ Some (before ++ here)
 joined_more None rest more before here e h = absurd (some_none before (sym e))
 joined_more (Some a) None more before here e h = absurd (some_none before (sym e))
 joined_more (Some a) (Some middle) more before here e h =
@@ -35,16 +35,16 @@ joined_more (Some a) (Some middle) more before here e h =
     ∙ ap Some (sym (append_assoc a middle here) ∙ ap (λ (v : Requests). v ++ here) (some_same (a ++ middle) before e))
 
 -- what one line more asks for is added
-asked_more : (done : List (List ℕ)) (line : List ℕ) (before here : Requests) → asked_by_all done ≡ Some before → asked_by line ≡ Some here
-    → asked_by_all (done ++ line ∷ []) ≡ Some (before ++ here)
+asked_more : (done : List (List ℕ)) (line : List ℕ) (before here : Requests) → requests_of_lines done ≡ Some before → requests_of_line line ≡ Some here
+    → requests_of_lines (done ++ line ∷ []) ≡ Some (before ++ here)
 asked_more [] line before here e h =
-    ap (λ (first : Option Requests). joined first (Some [])) h ∙ ap Some (append-nil here ∙ ap (λ (v : Requests). v ++ here) (some_same [] before e))
+    ap (λ (first : Option Requests). join_requests first (Some [])) h ∙ ap Some (append-nil here ∙ ap (λ (v : Requests). v ++ here) (some_same [] before e))
 asked_more (first ∷ done) line before here e h =
-    joined_more (asked_by first) (asked_by_all done) (asked_by_all (done ++ line ∷ [])) before here e (λ middle m. asked_more done line middle here m h)
+    joined_more (requests_of_line first) (requests_of_lines done) (requests_of_lines (done ++ line ∷ [])) before here e (λ middle m. asked_more done line middle here m h)
 
 -- one line more was read
 pub read_more : (text rest left line : List ℕ) (number : ℕ) (before here after : Requests) → IsReadSoFar text rest number before → lines_of rest ≡ line ∷ lines_of left
-    → length left < length rest → asked_by line ≡ Some here → after ≡ before ++ here → IsReadSoFar text left (number + 1) after
+    → length left < length rest → requests_of_line line ≡ Some here → after ≡ before ++ here → IsReadSoFar text left (number + 1) after
 read_more text rest left line number before here after so next shorter asks added = record {
   done = so.done ++ line ∷ [];
   parts = so.parts ∙ ap (λ v. so.done ++ v) next ∙ sym (append_assoc so.done (line ∷ []) (lines_of left));

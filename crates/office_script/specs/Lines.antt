@@ -23,15 +23,15 @@ with_feeds [] = []
 with_feeds (line ∷ lines) = line ++ (10 ∷ with_feeds lines)
 
 -- the text, with a line feed added to a last line that has none
-abbrev pub completed : List ℕ → List ℕ
-completed [] = []
-completed (b ∷ []) = if b == 10 then 10 ∷ [] else b ∷ 10 ∷ []
-completed (b ∷ c ∷ text) = b ∷ completed (c ∷ text)
+abbrev pub with_last_feed : List ℕ → List ℕ
+with_last_feed [] = []
+with_last_feed (b ∷ []) = if b == 10 then 10 ∷ [] else b ∷ 10 ∷ []
+with_last_feed (b ∷ c ∷ text) = b ∷ with_last_feed (c ∷ text)
 
 -- lines without line feeds, which with one after each are the completed text
 pub record AreLinesOf (text : List ℕ) (lines : List (List ℕ)) : Type 0 where
   pub apart : All (All (λ b. b ≢ 10)) lines
-  pub joined : with_feeds lines ≡ completed text
+  pub joined : with_feeds lines ≡ with_last_feed text
 
 -- a line that asks for nothing: an empty one, or one that begins with `#` (35)
 abbrev pub says_nothing : List ℕ → Bool

@@ -36,8 +36,8 @@ fn is_known(known: &[&[u8]], name: &[u8]) -> bool
 pub(crate) fn known_once(fields: &[Field<'_>], known: &[&[u8]]) -> bool
     ensures { IsTrue result ↔ AreKnownOnce (map (λ k. k.now) known.now) (names_of (named_values fields.now)) }
 {
-    for (place, field) in fields.iter().enumerate() {
-        if !is_known(known, field.name) || is_named(&fields[..place], field.name) {
+    for (index, field) in fields.iter().enumerate() {
+        if !is_known(known, field.name) || is_named(&fields[..index], field.name) {
             return false;
         }
     }

@@ -1,7 +1,7 @@
 //! Scripts: what their lines ask for.
 ghost use Rattle.std.specs.Prelude.{◌≡◌, Some, IfOk, IfErr};
 ghost use Rattle.office_script.specs.Lines.{lines_of};
-ghost use Rattle.office_script.specs.Script.{asked_by_all, IsScriptFault, AddsAsked};
+ghost use Rattle.office_script.specs.Script.{requests_of_lines, IsScriptFault, AddsRequests};
 
 use crate::lines::{first_line, says_nothing};
 use crate::requests::request_of;
@@ -19,8 +19,12 @@ pub enum ScriptFault {
 }
 
 /// Adds what a line asks for.
-fn add_asked(alloc: Global, line: &[u8], requests: &mut Vec<(Team, Command)>) -> Result<(), Unread>
-    ensures { AddsAsked line.now requests.old.items requests.new.items result }
+fn add_requests(
+    alloc: Global,
+    line: &[u8],
+    requests: &mut Vec<(Team, Command)>,
+) -> Result<(), Unread>
+    ensures { AddsRequests line.now requests.old.items requests.new.items result }
 {
     if says_nothing(line) {
         return Ok(());
@@ -37,7 +41,7 @@ fn add_asked(alloc: Global, line: &[u8], requests: &mut Vec<(Team, Command)>) ->
 /// in its range, and those that aren't optional are there. The fault is the first line that is none of these, or out
 /// of memory.
 pub fn requests_of(alloc: Global, text: &[u8]) -> Result<Vec<(Team, Command)>, ScriptFault>
-    ensures asked { IfOk result (λ requests. asked_by_all (lines_of text.now) ≡ Some requests.items) }
+    ensures asked { IfOk result (λ requests. requests_of_lines (lines_of text.now) ≡ Some requests.items) }
     ensures fault { IfErr result (IsScriptFault text.now) }
 {
     let mut requests = Vec::new(alloc);
@@ -45,7 +49,7 @@ pub fn requests_of(alloc: Global, text: &[u8]) -> Result<Vec<(Team, Command)>, S
     let mut number = 0usize;
     while let Some(first) = first_line(rest) {
         number += 1;
-        match add_asked(alloc, first.line, &mut requests) {
+        match add_requests(alloc, first.line, &mut requests) {
             Ok(()) => {}
             Err(Unread::Wrong) => return Err(ScriptFault::BadLine(number)),
             Err(Unread::Memory) => return Err(ScriptFault::Memory),

@@ -22,9 +22,9 @@ pub struct ListedFiles<'a> {
 }
 
 impl FileSource for ListedFiles<'_> {
-    ghost use Rattle.canoffice_cli.specs.Holding.{listed_at};
+    ghost use Rattle.canoffice_cli.specs.Holding.{file_at};
 
-    ghost held = { λ s path. listed_at s.files.now path };
+    ghost held = { λ s path. file_at s.files.now path };
 
     fn read(&self, alloc: Global, path: &str) -> Result<Vec<u8>, FileFault> {
         match first_at(self.files, path) {

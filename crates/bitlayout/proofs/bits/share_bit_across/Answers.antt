@@ -1,7 +1,7 @@
 use Rattle.std.proofs.Common.{◌≡◌, ℕ, ◌/◌, ◌≤◌, false, refl, inl, inr, arith}
 use Rattle.std.proofs.lemmas.Bool.{cases_lt, both_ways, iff_false}
 use Rattle.bitlayout.specs.Interval.{rank}
-use Rattle.bitlayout.proofs.Walks.{bit_within, bit_from_within, rank_byte, rank_of_rank, turned_rank}
+use Rattle.bitlayout.proofs.Walks.{bit_within, bit_from_within, rank_byte, rank_of_rank, reversed_rank}
 use Rattle.bitlayout.proofs.bits.share_bit_across.Goals as goal
 
 pub loop-byte-init : goal.loop-byte-init
@@ -21,7 +21,7 @@ returns-then-meets c =
     let at_b : rank b.order q ≡ n = rank_of_rank b.order n in
     let byte_b = rank_byte b.order n in
     let byte_q = rank_byte b.order q in
-    let turned = turned_rank a.order b.order c.requires q in (
+    let reversed = reversed_rank a.order b.order c.requires q in (
       λ _. (q, bit_from_within a q (omega arith) (omega arith), bit_from_within b q (omega arith) (omega arith)),
       λ _. refl,
     )
@@ -38,7 +38,7 @@ loop-byte-preserved c = λ q of_a of_b.
           let within_b = bit_within b q of_b in
           let byte_a = rank_byte a.order q in
           let byte_b = rank_byte b.order q in
-          let turned = turned_rank a.order b.order c.requires q in
+          let reversed = reversed_rank a.order b.order c.requires q in
           absurd (iff_false c.meets.ensures c.if-meets.false (rank b.order q, (omega arith, omega arith), (omega arith, omega arith)))
     ]
 

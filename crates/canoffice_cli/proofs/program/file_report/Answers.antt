@@ -1,5 +1,5 @@
 use Rattle.canoffice_cli.specs.Performance.{ComesTo}
-use Rattle.canoffice_cli.proofs.OfFile.{of_bytes, unread}
+use Rattle.canoffice_cli.proofs.FileJobs.{of_bytes, unread}
 use Rattle.canoffice_cli.proofs.program.file_report.Goals as goal
 
 pub returns-in-Ok : goal.returns-in-Ok

@@ -1,7 +1,7 @@
 use Rattle.std.proofs.Common.{◌≡◌, ◌∙◌, ◌-◌, ◌<◌, suc, drop, length, sym, ap, arith}
 use Rattle.std.specs.List.{insert}
 use Rattle.catalogue.specs.Keyed.{are_above}
-use Rattle.catalogue.proofs.Putting.{put_after, put_at, put_first}
+use Rattle.catalogue.proofs.PutCode.{put_after, put_at, put_first}
 use Rattle.catalogue.proofs.keyed.slot_of.Goals as goal
 
 pub returns-in-Equal : goal.returns-in-Equal

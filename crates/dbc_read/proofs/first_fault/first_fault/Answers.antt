@@ -1,5 +1,5 @@
 use Rattle.dbc_read.proofs.FaultsAt.{at_none}
-use Rattle.dbc_read.proofs.Faultless.{can_stand}
+use Rattle.dbc_read.proofs.Faultless.{can_be_sheet}
 use Rattle.dbc_read.proofs.first_fault.first_fault.Goals as goal
 
 pub unreachable-requires : goal.unreachable-requires
@@ -8,7 +8,7 @@ unreachable-requires c =
     let named = at_none c.earlier-named.result _ c.in-None.ensures.none.0 c.earlier-named.ensures.none in
     let others = at_none c.earlier.result _ named.1 c.earlier.ensures.none in
     let lists = at_none c.earlier-2.result _ c.in-None.ensures.none.1 c.earlier-2.ensures.none in
-    c.requires (can_stand g
+    c.requires (can_be_sheet g
     (rw c.as_slice.ensures at (at_none c.in_ok-node.node _ named.0 c.in_ok-node.ensures.none))
     (rw c.as_slice-2.ensures at (at_none c.in_ok-table.table _ others.0 c.in_ok-table.ensures.none))
     (rw c.as_slice-3.ensures at (at_none c.in_ok-message.message _ others.1 c.in_ok-message.ensures.none))

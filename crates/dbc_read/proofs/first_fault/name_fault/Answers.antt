@@ -6,8 +6,8 @@ use Rattle.std.proofs.lemmas.List.{take_all}
 use Rattle.catalogue.specs.Keyed.{text_cmp}
 use Rattle.dbc_read.specs.Faults.{AreNamedWithin, IsNameRefused}
 use Rattle.dbc_read.proofs.FaultsAt.{fault_at}
-use Rattle.dbc_read.proofs.Giving.{item_taken}
-use Rattle.dbc_read.proofs.Refusable.{ArePassed, none_passed, one_passed, was_there}
+use Rattle.dbc_read.proofs.IteratorItems.{item_taken}
+use Rattle.dbc_read.proofs.FirstRefused.{ArePassed, none_passed, one_passed, was_there}
 use Rattle.dbc_read.proofs.first_fault.name_fault.Goals as goal
 
 pub loop-item-init : goal.loop-item-init

@@ -1,7 +1,7 @@
 use Rattle.std.proofs.Common.{take}
 use Rattle.std.specs.Str.{bytes_eq}
 use Rattle.catalogue.specs.Keyed.{text_cmp}
-use Rattle.dbc_read.proofs.Refusable.{ArePassed}
+use Rattle.dbc_read.proofs.FirstRefused.{ArePassed}
 use Rattle.dbc_read.proofs.first_fault.name_fault.Given as goal
 
 abbrev pub invariant-loop-item : goal.invariant-loop-item

@@ -4,8 +4,8 @@ use Rattle.std.proofs.lemmas.List.{take_all}
 use Rattle.catalogue.specs.Limits.{message_limit}
 use Rattle.dbc_read.specs.Faults.{AreNumbered, IsNumberRefused, line_number}
 use Rattle.dbc_read.proofs.FaultsAt.{fault_at}
-use Rattle.dbc_read.proofs.Giving.{item_taken}
-use Rattle.dbc_read.proofs.Refusable.{none_passed, one_passed, was_there}
+use Rattle.dbc_read.proofs.IteratorItems.{item_taken}
+use Rattle.dbc_read.proofs.FirstRefused.{none_passed, one_passed, was_there}
 use Rattle.dbc_statements.specs.declared.statement.MessageLine.{MessageLine}
 use Rattle.dbc_read.proofs.first_fault.number_fault.Goals as goal
 

@@ -1,5 +1,5 @@
-use Rattle.dbc_read.proofs.Excess.{one_more}
-use Rattle.dbc_read.proofs.Giving.{item_taken}
+use Rattle.dbc_read.proofs.EntryLimits.{one_more}
+use Rattle.dbc_read.proofs.IteratorItems.{item_taken}
 use Rattle.std.proofs.Common.{take}
 use Rattle.dbc_read.proofs.first_fault.values_fault.Goals as goal
 

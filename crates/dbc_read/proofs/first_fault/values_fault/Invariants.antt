@@ -1,5 +1,5 @@
 use Rattle.std.proofs.Common.{take}
-use Rattle.dbc_read.proofs.Excess.{IsFirstExcess}
+use Rattle.dbc_read.proofs.EntryLimits.{IsFirstExcess}
 use Rattle.dbc_read.proofs.first_fault.values_fault.Given as goal
 
 abbrev pub invariant-loop-entries : goal.invariant-loop-entries

@@ -1,5 +1,5 @@
 use Rattle.std.proofs.Common.{◌∙◌, ◌++◌, append-nil, ap, sym}
-use Rattle.dbc_read.proofs.Giving.{nothing_left}
+use Rattle.dbc_read.proofs.IteratorItems.{nothing_left}
 use Rattle.dbc_read.proofs.gathered.gather_nodes.Goals as goal
 
 pub returns : goal.returns

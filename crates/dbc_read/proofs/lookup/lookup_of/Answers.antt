@@ -3,14 +3,14 @@ use Rattle.std.specs.Prelude.{IsPermutation, length}
 use Rattle.std.specs.Ordering.{is_lt}
 use Rattle.std.proofs.Math.ListN.{drop_of_length-le}
 use Rattle.std.proofs.lemmas.List.Sorted.{answers_always, ranks_by}
-use Rattle.dbc_read.specs.Lookup.{numbered}
+use Rattle.dbc_read.specs.Lookup.{with_indices}
 use Rattle.dbc_read.proofs.lookup.lookup_of.Goals as goal
 
 pub returns : goal.returns
 returns g c =
     let made = c.loop-key.sorted.items in
     let none = drop_of_length-le c.deref-key-items.result.now c.loop-key-test.false in
-    let whole = sym (append-nil made) ∙ ap (λ ks. made ++ numbered (length made) ks) (sym none) ∙ c.loop-key.invariant ∙ ap (numbered 0) c.deref-key-items.ensures.value in
+    let whole = sym (append-nil made) ∙ ap (λ ks. made ++ with_indices (length made) ks) (sym none) ∙ c.loop-key.invariant ∙ ap (with_indices 0) c.deref-key-items.ensures.value in
     record {
       is = λ i. c.args.keys.items;
       entries = subst (λ es. IsPermutation es c.sort_by.new.self.items) whole c.in_ok-sort_by.ensures.permutation;

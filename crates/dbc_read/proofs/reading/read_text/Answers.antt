@@ -1,5 +1,5 @@
 use Rattle.std.proofs.lemmas.Result.{err_from_is_err_and}
-use Rattle.dbc_read.proofs.Divided.{reads_built, reads_none, reads_only_built, stands_never, undivided}
+use Rattle.dbc_read.proofs.Divided.{can_never_be_sheet, reads_built, reads_none, reads_only_built, undivided}
 use Rattle.dbc_statements.specs.Statement.{statements_of}
 use Rattle.dbc_read.proofs.reading.read_text.Goals as goal
 
@@ -19,7 +19,7 @@ returns-in-Ok-clause-only c =
 pub first_fault-requires : goal.first_fault-requires
 first_fault-requires c =
     let never = rw c.in-Err-NoSheet.field-0-is at c.in-Err-NoSheet.ensures.refused in
-    stands_never c.args.source.now (statements_of c.in_ok-statements.statements.items) c.in_ok-statements.ensures.ok c.in_ok-gathered.gathered c.in_ok-gathered.ensures never
+    can_never_be_sheet c.args.source.now (statements_of c.in_ok-statements.statements.items) c.in_ok-statements.ensures.ok c.in_ok-gathered.gathered c.in_ok-gathered.ensures never
     (statements_of c.in_ok-statements-in-Err-NoSheet.statements.items) c.in_ok-statements-in-Err-NoSheet.ensures.ok c.in_ok-gathered-in-Err-NoSheet.gathered c.in_ok-gathered-in-Err-NoSheet.ensures
 
 pub returns-in_ok-first_fault-in-Err-NoSheet-clause-none : goal.returns-in_ok-first_fault-in-Err-NoSheet-clause-none

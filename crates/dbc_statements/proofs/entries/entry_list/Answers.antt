@@ -3,7 +3,7 @@ use Rattle.catalogue.specs.Grammar.{is_open}
 use Rattle.catalogue.specs.Parsing.{many_at, entry_at, entries_at}
 use Rattle.catalogue.specs.Rules.{starts}
 use Rattle.catalogue.proofs.Repeating.{entries_take, goes_round}
-use Rattle.dbc_statements.proofs.Rounds.{at_start}
+use Rattle.dbc_statements.proofs.LoopRounds.{at_start}
 use Rattle.dbc_statements.proofs.entries.entry_list.Goals as goal
 
 pub entries-init : goal.entries-init

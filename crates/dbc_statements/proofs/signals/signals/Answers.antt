@@ -6,7 +6,7 @@ use Rattle.catalogue.specs.Rules.{starts}
 use Rattle.catalogue.specs.declared.keyword.Keyword.TheVariants.{Signal}
 use Rattle.catalogue.proofs.Repeating.{signals_take, goes_round}
 use Rattle.dbc_statements.specs.Statement.{signal_of, signals_of}
-use Rattle.dbc_statements.proofs.Rounds.{at_start}
+use Rattle.dbc_statements.proofs.LoopRounds.{at_start}
 use Rattle.dbc_statements.proofs.signals.signals.Goals as goal
 
 pub signals-init : goal.signals-init

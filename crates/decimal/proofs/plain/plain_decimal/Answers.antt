@@ -6,20 +6,20 @@ use Rattle.decimal.specs.Number.{Number}
 use Rattle.decimal.specs.Spelling.{bytes_of, signed}
 use Rattle.decimal.specs.Cutting.{spelling}
 use Rattle.decimal.specs.Reading.{Reads}
-use Rattle.decimal.proofs.PlainNumbers.{joined, plain_reads}
+use Rattle.decimal.proofs.PlainNumbers.{plain_reads, value_of_parts}
 use Rattle.decimal.proofs.Readings.{reads_nothing}
 use Rattle.decimal.proofs.plain.plain_decimal.Goals as goal
 
 pub returns-then-number-eq0 : goal.returns-then-number-eq0
 returns-then-number-eq0 c =
     let s = spelling c.args.parts in
-    let value = joined s.whole (drop 1 s.fraction) c.after_point-fraction.result.now c.in_ok-followed_by.field-0 c.in_ok-number.number c.after_point-fraction.ensures c.in_ok-followed_by.ensures c.in_ok-number.ensures in
+    let value = value_of_parts s.whole (drop 1 s.fraction) c.after_point-fraction.result.now c.in_ok-append_digits.field-0 c.in_ok-number.number c.after_point-fraction.ensures c.in_ok-append_digits.ensures c.in_ok-number.ensures in
     reads_nothing c.args.negative (bytes_of s) s c.requires (value ∙ c.if-number-eq0.true)
 
 pub new-requires : goal.new-requires
 new-requires c =
     let s = spelling c.args.parts in
-    let value = joined s.whole (drop 1 s.fraction) c.after_point-fraction.result.now c.in_ok-followed_by.field-0 c.in_ok-number.number c.after_point-fraction.ensures c.in_ok-followed_by.ensures c.in_ok-number.ensures in
+    let value = value_of_parts s.whole (drop 1 s.fraction) c.after_point-fraction.result.now c.in_ok-append_digits.field-0 c.in_ok-number.number c.after_point-fraction.ensures c.in_ok-append_digits.ensures c.in_ok-number.ensures in
     let v = c.in_ok-stripped.stripped.number in
     let z = c.in_ok-stripped.stripped.zeros in
     let k = length c.after_point-fraction.result.now in
@@ -33,7 +33,7 @@ new-requires c =
 pub returns : goal.returns
 returns c =
     let s = spelling c.args.parts in
-    let value = joined s.whole (drop 1 s.fraction) c.after_point-fraction.result.now c.in_ok-followed_by.field-0 c.in_ok-number.number c.after_point-fraction.ensures c.in_ok-followed_by.ensures c.in_ok-number.ensures in
+    let value = value_of_parts s.whole (drop 1 s.fraction) c.after_point-fraction.result.now c.in_ok-append_digits.field-0 c.in_ok-number.number c.after_point-fraction.ensures c.in_ok-append_digits.ensures c.in_ok-number.ensures in
     let v = c.in_ok-stripped.stripped.number in
     let z = c.in_ok-stripped.stripped.zeros in
     let k = length c.after_point-fraction.result.now in

@@ -3,8 +3,8 @@ use Rattle.std.specs.Int.{w16}
 use Rattle.std.specs.Fmt.{decimal, signed_decimal}
 use Rattle.std.proofs.lemmas.Int.{ints}
 use Rattle.std.proofs.lemmas.List.{append_assoc}
-use Rattle.decimal.specs.Printing.{pointed}
-use Rattle.decimal.proofs.Texts.{text_far, text_pointed, text_zeros}
+use Rattle.decimal.specs.Printing.{with_point}
+use Rattle.decimal.proofs.Texts.{text_far, text_with_point, text_zeros}
 use Rattle.decimal.proofs.printing.push_unsigned.Goals as goal
 use Rattle.decimal.proofs.printing.push_unsigned.Goals.{in_default-via-then-exponent-ltminus20, in_default-via-else-exponent-ltminus20+else-exponent-lt0+else-exponent-lt21}
 
@@ -14,7 +14,7 @@ returns-in-minus20-to-minus1 c =
     let high : c.args.exponent <ℤ pos 0 = omega (arith, ints) in
     let same : to_z w16 (of_z w16 c.args.exponent) ≡ c.args.exponent = omega (arith, ints) in
     let places = c.from.ensures ∙ c.unsigned_abs.ensures.value ∙ ap unsigned_abs same in
-    c.push_pointed.ensures ∙ ap (λ (k : ℕ). c.args.text.now.bytes ++ pointed k c.args.magnitude) places ∙ ap (λ (bs : List ℕ). c.args.text.now.bytes ++ bs) (sym (text_pointed c.args.magnitude c.args.exponent low high))
+    c.push_with_point.ensures ∙ ap (λ (k : ℕ). c.args.text.now.bytes ++ with_point k c.args.magnitude) places ∙ ap (λ (bs : List ℕ). c.args.text.now.bytes ++ bs) (sym (text_with_point c.args.magnitude c.args.exponent low high))
 
 pub returns-in-0-to-20 : goal.returns-in-0-to-20
 returns-in-0-to-20 c =

@@ -8,7 +8,7 @@ use Rattle.decimal.specs.Number.{Number, IsInRange}
 use Rattle.decimal.specs.Spelling.{digits_of, bytes_of, signed}
 use Rattle.decimal.specs.Cutting.{spelling, is_zero}
 use Rattle.decimal.proofs.DigitLists.{ten_le}
-use Rattle.decimal.proofs.Readings.{AreEnds, between, ends_ordered, reads_zero, zero_decimal, reads_long, reads_far, token_digits, decimal_between, reads_decimal, moved_at}
+use Rattle.decimal.proofs.Readings.{AreEnds, between, ends_ordered, reads_zero, zero_decimal, reads_long, reads_far, token_digits, decimal_between, reads_decimal, stripped_exponent_at}
 use Rattle.decimal.proofs.reading.long_decimal.Goals as goal
 
 pub returns-then-end-eq0 : goal.returns-then-end-eq0
@@ -55,7 +55,7 @@ new-requires c =
     let value = c.value-magnitude.ensures.value ∙ ap (λ (ds : List ℕ). between ds start end) is in
     let bound = c.value-magnitude.ensures.digits in
     let top = ten_le (c.len_without_trailing_zeros-end.result - c.leading_zeros-start.result) 36 (omega arith) in
-    let moved_is = moved_at s (length c.after_point-fraction.result.now) c.len.result end (ap length c.after_point-fraction.ensures) (c.len.ensures.value ∙ ap length is) in
+    let exponent_is = stripped_exponent_at s (length c.after_point-fraction.result.now) c.len.result end (ap length c.after_point-fraction.ensures) (c.len.ensures.value ∙ ap length is) in
     let found = c.in-Some.ensures in
     let range : IsInRange c.in-Some.exponent = subst IsInRange (sym found.1) found.0 in
     let low = range.low in
@@ -77,7 +77,7 @@ returns-in-Some c =
     let value = c.value-magnitude.ensures.value ∙ ap (λ (ds : List ℕ). between ds start end) is in
     let bound = c.value-magnitude.ensures.digits in
     let top = ten_le (c.len_without_trailing_zeros-end.result - c.leading_zeros-start.result) 36 (omega arith) in
-    let moved_is = moved_at s (length c.after_point-fraction.result.now) c.len.result end (ap length c.after_point-fraction.ensures) (c.len.ensures.value ∙ ap length is) in
+    let exponent_is = stripped_exponent_at s (length c.after_point-fraction.result.now) c.len.result end (ap length c.after_point-fraction.ensures) (c.len.ensures.value ∙ ap length is) in
     let found = c.in-Some.ensures in
     let range : IsInRange c.in-Some.exponent = subst IsInRange (sym found.1) found.0 in
     let low = range.low in
@@ -86,7 +86,7 @@ returns-in-Some c =
     let exponent : to_z w16 (of_z w16 c.in-Some.exponent) ≡ c.in-Some.exponent = omega (arith, ints, low, high) in
     let same : c.new.result ≡ record { mantissa = signed c.args.negative c.value-magnitude.result; exponent = c.in-Some.exponent } = c.new.ensures ∙ (λ t. record { mantissa = mantissa t; exponent = exponent t }) in
     subst (λ (n : Number). Reads c.args.negative (bytes_of (spelling c.args.parts)) (Ok n)) (sym same)
-    (reads_decimal c.args.negative (bytes_of s) s c.requires.token start end c.value-magnitude.result c.in-Some.exponent digits ends value (omega (arith, bound, top)) (found.1 ∙ moved_is) range)
+    (reads_decimal c.args.negative (bytes_of s) s c.requires.token start end c.value-magnitude.result c.in-Some.exponent digits ends value (omega (arith, bound, top)) (found.1 ∙ exponent_is) range)
 
 pub returns-in-None : goal.returns-in-None
 returns-in-None c =
@@ -100,6 +100,6 @@ returns-in-None c =
     let value = c.value-magnitude.ensures.value ∙ ap (λ (ds : List ℕ). between ds start end) is in
     let bound = c.value-magnitude.ensures.digits in
     let top = ten_le (c.len_without_trailing_zeros-end.result - c.leading_zeros-start.result) 36 (omega arith) in
-    let moved_is = moved_at s (length c.after_point-fraction.result.now) c.len.result end (ap length c.after_point-fraction.ensures) (c.len.ensures.value ∙ ap length is) in
+    let exponent_is = stripped_exponent_at s (length c.after_point-fraction.result.now) c.len.result end (ap length c.after_point-fraction.ensures) (c.len.ensures.value ∙ ap length is) in
     let short = subst (λ (n : ℕ). n < 10 ^ 36) value (omega (arith, bound, top)) in
-    reads_far c.args.negative (bytes_of s) s c.requires.token start end digits ends short (λ range. c.in-None.ensures (subst IsInRange (sym moved_is) range))
+    reads_far c.args.negative (bytes_of s) s c.requires.token start end digits ends short (λ range. c.in-None.ensures (subst IsInRange (sym exponent_is) range))

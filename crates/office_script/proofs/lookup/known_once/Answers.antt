@@ -10,21 +10,21 @@ pub returns-then-not-is_known : goal.returns-then-not-is_known
 returns-then-not-is_known c =
     let known = map (λ k. k.now) c.args.known.now in
     let fields = c.args.fields.now in
-    let place = c.loop-place.place in
-    let field = c.index-fields-place.result in
-    let short : place < length fields = omega arith in
+    let index = c.loop-index.index in
+    let field = c.index-fields-index.result in
+    let short : index < length fields = omega arith in
     elim c.then-not-is_known.branch [
       | then-not-is_known-via-then-not-is_known w ↦
-          (λ e. absurd (no e), λ h. absurd (unknown_stops known fields place field short c.index-fields-place.is (λ found. no (w.if-not-is_known.ensures.1 found)) h))
+          (λ e. absurd (no e), λ h. absurd (unknown_stops known fields index field short c.index-fields-index.is (λ found. no (w.if-not-is_known.ensures.1 found)) h))
       | then-not-is_known-via-else-not-is_known+then-is_named w ↦
-          (λ e. absurd (no e), λ h. absurd (twice_stops known fields place field short c.index-fields-place.is (w.if-is_named.ensures.0 refl) h))
+          (λ e. absurd (no e), λ h. absurd (twice_stops known fields index field short c.index-fields-index.is (w.if-is_named.ensures.0 refl) h))
     ]
 
-pub loop-place-preserved : goal.loop-place-preserved
-loop-place-preserved c =
+pub loop-index-preserved : goal.loop-index-preserved
+loop-index-preserved c =
     let known = map (λ k. k.now) c.args.known.now in
     let fields = c.args.fields.now in
-    let place = c.loop-place.place in
-    let field = c.index-fields-place.result in
-    let short : place < length fields = omega arith in
-    once_more known fields place field short c.index-fields-place.is c.loop-place.invariant (c.if-not-is_known.ensures.0 refl) (λ found. no (c.if-is_named.ensures.1 found))
+    let index = c.loop-index.index in
+    let field = c.index-fields-index.result in
+    let short : index < length fields = omega arith in
+    once_more known fields index field short c.index-fields-index.is c.loop-index.invariant (c.if-not-is_known.ensures.0 refl) (λ found. no (c.if-is_named.ensures.1 found))

@@ -1,7 +1,7 @@
 use Rattle.std.proofs.Common.{◌∙◌, ap, sym, refl}
 use Rattle.catalogue.specs.Refusing.{first_refusal}
 use Rattle.catalogue.specs.Signals.{signal_tests}
-use Rattle.catalogue.proofs.Switches.{known_with}
+use Rattle.catalogue.proofs.Multiplexors.{known_with}
 use Rattle.catalogue.proofs.signals.Signals.add.Goals as goal
 
 pub invariant_of-self-2 : goal.invariant_of-self-2

@@ -1,4 +1,4 @@
-use Rattle.catalogue.proofs.Switches.{none_known}
+use Rattle.catalogue.proofs.Multiplexors.{none_known}
 use Rattle.catalogue.proofs.signals.Signals.new.Goals as goal
 
 pub invariant_of-result : goal.invariant_of-result

@@ -1,5 +1,5 @@
 use Rattle.std.proofs.Common.{◌∙◌, ◌&&◌, not, sym, ap}
-use Rattle.catalogue.proofs.Switches.{known_still, known_without}
+use Rattle.catalogue.proofs.Multiplexors.{known_still, known_without}
 use Rattle.catalogue.proofs.signals.Signals.remove.Goals as goal
 
 pub invariant_of-self : goal.invariant_of-self

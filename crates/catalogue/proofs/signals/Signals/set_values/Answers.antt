@@ -1,6 +1,6 @@
 use Rattle.std.proofs.Common.{rules, refl}
 use Rattle.catalogue.specs.declared.signal.Signal.{Signal}
-use Rattle.catalogue.proofs.Switches.{known_changed}
+use Rattle.catalogue.proofs.Multiplexors.{known_changed}
 use Rattle.catalogue.proofs.signals.Signals.set_values.Goals as goal
 
 pub invariant_of-self : goal.invariant_of-self

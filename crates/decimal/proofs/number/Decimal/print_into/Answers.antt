@@ -1,4 +1,4 @@
-use Rattle.decimal.proofs.Back.{text_reads}
+use Rattle.decimal.proofs.ReadsBack.{text_reads}
 use Rattle.decimal.proofs.number.Decimal.print_into.Goals as goal
 
 pub returns-clause-reads_back : goal.returns-clause-reads_back

@@ -2,7 +2,7 @@ use Rattle.std.proofs.Common.{List, ℕ, subst, sym, Err}
 use Rattle.decimal.specs.declared.fault.DecimalFault.TheVariants.{NotNumber}
 use Rattle.decimal.specs.Reading.{Reads}
 use Rattle.decimal.proofs.Computed.{read_is_reading}
-use Rattle.decimal.proofs.Once.{reads_once}
+use Rattle.decimal.proofs.OneReading.{reads_once}
 use Rattle.decimal.proofs.number.Decimal.read.Goals as goal
 
 pub returns-in-Some-clause-only : goal.returns-in-Some-clause-only

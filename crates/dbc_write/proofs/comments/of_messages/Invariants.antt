@@ -1,8 +1,0 @@
-use Rattle.std.proofs.Common.{take}
-use Rattle.std.specs.List.{flat_map}
-use Rattle.catalogue.specs.Canon.{line_text, message_comments}
-use Rattle.dbc_write.specs.Adding.{Adds}
-use Rattle.dbc_write.proofs.comments.of_messages.Given as goal
-
-abbrev pub invariant-loop-message : goal.invariant-loop-message
-invariant-loop-message l = Adds line_text l.initial.text.items l.text.items (flat_map message_comments (take l.message-index l.messages))

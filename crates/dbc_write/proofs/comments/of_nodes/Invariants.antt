@@ -1,8 +1,0 @@
-use Rattle.std.proofs.Common.{take}
-use Rattle.std.specs.List.{flat_map}
-use Rattle.catalogue.specs.Canon.{line_text, node_comment}
-use Rattle.dbc_write.specs.Adding.{Adds}
-use Rattle.dbc_write.proofs.comments.of_nodes.Given as goal
-
-abbrev pub invariant-loop-node : goal.invariant-loop-node
-invariant-loop-node l = Adds line_text l.initial.text.items l.text.items (flat_map node_comment (take l.node-index l.nodes))

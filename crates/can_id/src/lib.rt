@@ -6,7 +6,8 @@
 //! `BO_`). [`Ident::from_dbc`] and [`Ident::to_dbc`] go both ways, exactly; every other number is refused.
 //!
 //! A 29-bit identifier has the fields of SAE J1939-21's protocol data unit: [`J1939`] takes it apart, builds it of the
-//! fields of a message, and gives its parameter group number. [`is_pgn`] says which numbers are those of groups.
+//! fields of a message, and gives its parameter group number. [`is_pgn`] says which numbers are those of groups, and
+//! [`has_destination`] which groups have a destination address.
 //!
 //! Nothing here takes memory. The definitions are in `specs/Form.antt`, `specs/Ident.antt` and
 //! `specs/J1939.antt`.

@@ -2,11 +2,11 @@
 use Rattle.std.proofs.Common.{◌≡◌, ℕ, List, inl, inr, subst, sym, ◌∙◌, Result, Ok, Err}
 use Rattle.std.specs.Prelude.{IfOk}
 use Rattle.std.specs.declared.alloc.AllocError.{AllocError}
-use Rattle.canoffice_cli.specs.Holding.{FailsWith, Gives, Holding, unknown, absent, holding}
+use Rattle.office_script.specs.Files.{FailsWith, Gives, Holding, unknown, absent, holding}
 use Rattle.canoffice_cli.specs.Outcome.{Outcome, outcome_of, unreadable}
 use Rattle.canoffice_cli.specs.Performance.{IsOfFile}
-use Rattle.canoffice_cli.specs.declared.files.FileFault.{FileFault}
-use Rattle.canoffice_cli.specs.declared.files.FileFault.TheVariants.{Unreadable, Memory}
+use Rattle.office_script.specs.declared.files.FileFault.{FileFault}
+use Rattle.office_script.specs.declared.files.FileFault.TheVariants.{Unreadable, Memory}
 use Rattle.canoffice_cli.specs.declared.report.Report.{Report}
 
 pub of_bytes : (IsOf : List ℕ → Outcome → Type 0) (path : List ℕ) (held : Holding) (bytes : List ℕ) (r : Result Report AllocError) → Gives held bytes

@@ -7,7 +7,6 @@ pub mod Commands
 pub mod FileJobs
 pub mod Canonical
 pub mod PassedLines
-pub mod ReadFaults
 pub mod NoFault
 pub mod FilledRows
 pub mod FilledWalk

@@ -6,7 +6,8 @@ use Rattle.canoffice_cli.specs.declared.report.Report.{Report}
 use Rattle.canoffice_cli.specs.declared.report.Status.{Status}
 use Rattle.canoffice_cli.specs.Delivery.{IsDelivered, Writing}
 use Rattle.canoffice_cli.specs.Outcome.{memory_lost, outcome_of, final_outcome}
-use Rattle.canoffice_cli.specs.Performance.{Files, IsAnswered, IsPerformed}
+use Rattle.office_script.specs.Files.{Files}
+use Rattle.canoffice_cli.specs.Performance.{IsAnswered, IsPerformed}
 
 pub performed : (words : List (List ℕ)) (files : Files) (output errors : Writing) (status : Status) (answer : Result Report AllocError)
     → IfOk answer (λ report. IsAnswered words files (outcome_of report)) → IsDelivered (final_outcome answer) output errors status → IsPerformed words files output errors status

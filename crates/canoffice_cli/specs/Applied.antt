@@ -1,14 +1,15 @@
 -- The outcome of a script on a new office.
-use Rattle.std.specs.Prelude.{◌≡◌, ◌⊎◌, ℕ, ◌≤◌, List, [], ◌∷◌, ◌++◌, length, take, Some, codes}
+use Rattle.std.specs.Prelude.{◌≡◌, ◌⊎◌, ℕ, ◌≤◌, List, [], ◌∷◌, ◌++◌, length, take, codes}
 use Rattle.std.specs.List.{flat_map}
 use Rattle.office_types.specs.Reply.{reply_text}
 use Rattle.office_types.specs.declared.command.Command.{Command}
 use Rattle.office_types.specs.declared.reply.Reply.{Reply}
 use Rattle.office_types.specs.declared.state.Office.{Office}
-use Rattle.office.specs.Step.{opening, Run}
+use Rattle.office_rules.specs.Step.{opening, Run}
 use Rattle.office_script.specs.Lines.{lines_of}
-use Rattle.office_script.specs.Script.{requests_of_lines, IsFirstWrong}
-use Rattle.canoffice_cli.specs.Outcome.{Outcome, success, wrong_line}
+use Rattle.office_script.specs.Files.{Files}
+use Rattle.office_script.specs.Script.{AreCommandsOf, IsFirstAmiss, IsWrong, NamesUnreadable}
+use Rattle.canoffice_cli.specs.Outcome.{Outcome, success, unreadable, wrong_line}
 use Rattle.canoffice_cli.specs.declared.report.Status.TheVariants.{Failed}
 
 abbrev pub reply_line : Reply → List ℕ
@@ -37,8 +38,10 @@ pub record IsRunUntilLost (requests : List (List ℕ × Command)) (o : Outcome) 
 abbrev pub IsRunOf : List (List ℕ × Command) → Outcome → Type 0
 IsRunOf requests o = IsRun requests o ⊎ IsRunUntilLost requests o
 
--- what the script asks for was run; or a line is wrong, the number of the first one is printed, and nothing was run
-abbrev pub IsScriptOutcome : List ℕ → Outcome → Type 0
-IsScriptOutcome script o =
-    ((requests : List (List ℕ × Command)) × (requests_of_lines (lines_of script) ≡ Some requests) × IsRunOf requests o)
-    ⊎ ((number : ℕ) × IsFirstWrong (lines_of script) number × (o ≡ wrong_line number))
+-- The commands of the script were run. Or nothing was run: at the first line at which something is amiss the line is
+-- wrong, and its number is printed, or the file that it names can't be read, and its path is printed.
+abbrev pub IsScriptOutcome : Files → List ℕ → Outcome → Type 0
+IsScriptOutcome files script o =
+    ((commands : List (List ℕ × Command)) × AreCommandsOf files (lines_of script) commands × IsRunOf commands o)
+    ⊎ (((number : ℕ) × IsFirstAmiss files IsWrong (lines_of script) number × (o ≡ wrong_line number))
+    ⊎ ((path : List ℕ) × (number : ℕ) × IsFirstAmiss files (NamesUnreadable files path) (lines_of script) number × (o ≡ unreadable path)))

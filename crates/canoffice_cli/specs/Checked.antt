@@ -1,5 +1,5 @@
 -- The outcome of checking a DBC text.
-use Rattle.std.specs.Prelude.{◌≡◌, ◌≢◌, ◌≤◌, ◌⊎◌, ◌++◌, ℕ, List, [], Some, codes, decimal, length}
+use Rattle.std.specs.Prelude.{◌≡◌, ◌⊎◌, ◌++◌, ℕ, List, [], Some, codes, decimal, length}
 use Rattle.std.specs.List.{flat_map}
 use Rattle.catalogue.specs.Fault.{code_name, code_number, message_about}
 use Rattle.catalogue.specs.Keyword.{keyword_text}
@@ -10,12 +10,9 @@ use Rattle.catalogue.specs.declared.fault.SheetFault.{SheetFault}
 use Rattle.catalogue.specs.declared.keyword.Keyword.{Keyword}
 use Rattle.catalogue.specs.declared.message.Message.{Message}
 use Rattle.catalogue.specs.declared.sheet.Sheet.{Sheet}
-use Rattle.catalogue.specs.Lexing.{LexFault, lexed}
 use Rattle.dbc_lex.specs.Fault as reading
-use Rattle.dbc_lex.specs.Fault.{fault_of}
-use Rattle.dbc_lex.specs.declared.fault.ReadCode.TheVariants.{Memory}
 use Rattle.dbc_lex.specs.declared.fault.ReadFault.{ReadFault}
-use Rattle.dbc_read.specs.Reading.{ReadsAsNothing}
+use Rattle.dbc_read.specs.Reading.{IsReadFault}
 use Rattle.canoffice_cli.specs.Outcome.{Outcome, success}
 use Rattle.canoffice_cli.specs.declared.report.Status.TheVariants.{FaultFound}
 
@@ -49,14 +46,6 @@ fault_line fault =
     codes "fault " ++ (decimal (reading.code_number fault.code) ++ (codes " " ++ (reading.code_name fault.code ++ (codes " " ++ (decimal fault.at ++ codes "\n")))))
 
 -- ---- the outcome
-
--- A fault that `read` gives for the text, other than out of memory: the text reads as no sheet, the offset is in it or
--- at its end, and if at some offset no token begins, the fault is the first one of this kind.
-pub record IsReadFault (bytes : List ℕ) (fault : ReadFault) : Type 0 where
-  pub named : fault.code ≢ Memory
-  pub nothing : ReadsAsNothing bytes
-  pub within : fault.at ≤ length bytes
-  pub tokens : (cause : LexFault) → (lexed 0 bytes).fault ≡ Some cause → fault ≡ fault_of cause
 
 -- the sheet is clear, or else the line is that of its first fault, with the number of its message
 abbrev pub IsVerdict : Sheet → List (ℕ × Keyword) → Outcome → Type 0

@@ -5,7 +5,8 @@ use Rattle.catalogue.specs.Form.{IsSheet}
 use Rattle.catalogue.specs.Reads.{Reads}
 use Rattle.catalogue.specs.declared.sheet.Sheet.{Sheet}
 use Rattle.dbc_lex.specs.declared.fault.ReadFault.{ReadFault}
-use Rattle.canoffice_cli.specs.Checked.{fault_line, IsReadFault}
+use Rattle.dbc_read.specs.Reading.{IsReadFault}
+use Rattle.canoffice_cli.specs.Checked.{fault_line}
 use Rattle.canoffice_cli.specs.Outcome.{Outcome, success}
 use Rattle.canoffice_cli.specs.declared.report.Status.TheVariants.{FaultFound}
 

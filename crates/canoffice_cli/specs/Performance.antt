@@ -1,7 +1,7 @@
 -- The outcome of the program, from its words and from what is known of the files.
 use Rattle.std.specs.Prelude.{◌≡◌, ◌⊎◌, ℕ, List, map, Result, Ok, Err, string_bytes}
+use Rattle.office_script.specs.Files.{Files, Holding, unknown, absent, holding}
 use Rattle.canoffice_cli.specs.CommandLine.{IsLine}
-use Rattle.canoffice_cli.specs.Holding.{Holding, unknown, absent, holding}
 use Rattle.canoffice_cli.specs.Outcome.{Outcome, memory_lost, success, wrong_input, unreadable}
 use Rattle.canoffice_cli.specs.Applied.{IsScriptOutcome}
 use Rattle.canoffice_cli.specs.Charted.{IsChartOutcome}
@@ -16,28 +16,24 @@ use Rattle.canoffice_cli.specs.declared.job.Job.TheVariants.{Apply, Chart, Check
 use Rattle.canoffice_cli.specs.declared.job.LineFault.{LineFault}
 use Rattle.canoffice_cli.specs.declared.job.LineFault.TheVariants.{Help, Usage, Memory}
 
--- what is known of the file at each path
-abbrev pub Files : Type 0
-Files = List ℕ → Holding
-
 -- the outcome of a job whose file is at the path: that of its bytes, or that it can't be read
 abbrev pub IsOfFile : (List ℕ → Outcome → Type 0) → List ℕ → Holding → Outcome → Type 0
 IsOfFile IsOf path unknown o = (o ≡ unreadable path) ⊎ ((bytes : List ℕ) × IsOf bytes o)
 IsOfFile IsOf path absent o = o ≡ unreadable path
 IsOfFile IsOf path (holding bytes) o = IsOf bytes o
 
--- the outcome of the bytes of a file, by what is done with them
-abbrev pub ComesTo : FileTask → List ℕ → Outcome → Type 0
-ComesTo task.Apply bytes o = IsScriptOutcome bytes o
-ComesTo task.Check bytes o = IsCheckOutcome bytes o
-ComesTo task.Format bytes o = IsFormatOutcome bytes o
+-- the outcome of the bytes of a file, by what is done with them; a script may name further files
+abbrev pub ComesTo : Files → FileTask → List ℕ → Outcome → Type 0
+ComesTo files task.Apply bytes o = IsScriptOutcome files bytes o
+ComesTo files task.Check bytes o = IsCheckOutcome bytes o
+ComesTo files task.Format bytes o = IsFormatOutcome bytes o
 
 -- the outcome of the job
 abbrev pub IsDone : Files → Job → Outcome → Type 0
-IsDone files (Apply script) o = IsOfFile (ComesTo task.Apply) script.now (files script.now) o
+IsDone files (Apply script) o = IsOfFile (ComesTo files task.Apply) script.now (files script.now) o
 IsDone files (Chart length signals) o = IsChartOutcome length.now (map (λ s. s.now) signals.items) o
-IsDone files (Check file) o = IsOfFile (ComesTo task.Check) file.now (files file.now) o
-IsDone files (Format file) o = IsOfFile (ComesTo task.Format) file.now (files file.now) o
+IsDone files (Check file) o = IsOfFile (ComesTo files task.Check) file.now (files file.now) o
+IsDone files (Format file) o = IsOfFile (ComesTo files task.Format) file.now (files file.now) o
 
 -- the outcome of words that ask for no job: the text of their fault
 abbrev pub IsFaultAnswer : LineFault → Outcome → Type 0

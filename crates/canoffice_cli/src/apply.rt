@@ -3,8 +3,9 @@ ghost use Rattle.std.specs.Prelude.{IfOk};
 ghost use Rattle.canoffice_cli.specs.Outcome.{outcome_of};
 ghost use Rattle.canoffice_cli.specs.Applied.{IsRunOf, IsScriptOutcome};
 
+use crate::files::FileSource;
 use crate::lines::{Line, lines_of};
-use crate::report::{LOST_MEMORY, Report, Status, bad_line};
+use crate::report::{LOST_MEMORY, Report, Status, bad_line, cannot_read};
 use office::PlainOffice;
 use office_script::{ScriptFault, requests_of};
 use office_types::{Command, Reply, Team};
@@ -41,15 +42,20 @@ fn run_report(alloc: Global, requests: &[(Team, Command)]) -> Result<Report, All
 
 /// Applies the script of these bytes to an office with no network.
 ///
-/// The whole script is read first: if a line is wrong, the number of the first one is reported, and nothing is done.
-/// Else the reply to each command is printed, and the status is `Success` whatever was refused. If memory runs out
+/// The whole script is read first, and each file that it names, line by line: if a line is wrong, the number of the first
+/// one is reported, and if a file can't be read, the path of the first one; then nothing is done. Else the reply to each command is printed, and the status is `Success` whatever was refused. If memory runs out
 /// while the commands are run, the replies so far are printed, then [`LOST_MEMORY`], and the status is `Failed`.
-pub fn apply_script(alloc: Global, script: &[u8]) -> Result<Report, AllocError>
-    ensures { IfOk result (λ report. IsScriptOutcome script.now (outcome_of report)) }
+pub fn apply_script<F: FileSource>(
+    alloc: Global,
+    script: &[u8],
+    files: &F,
+) -> Result<Report, AllocError>
+    ensures { IfOk result (λ report. IsScriptOutcome (F.held files.now) script.now (outcome_of report)) }
 {
-    match requests_of(alloc, script) {
+    match requests_of(alloc, script, files) {
         Ok(requests) => run_report(alloc, &requests),
         Err(ScriptFault::BadLine(number)) => bad_line(alloc, number),
+        Err(ScriptFault::Unreadable(path)) => cannot_read(alloc, path.as_str()),
         Err(ScriptFault::Memory) => Err(AllocError),
     }
 }

@@ -1,33 +1,7 @@
 //! Reading files by their paths.
-ghost use Rattle.std.specs.Prelude.{ℕ, List, IfOk, IfErr};
-ghost use Rattle.canoffice_cli.specs.Holding.{Holding, Gives, FailsWith};
-
 mod host;
 mod listed;
 
 pub use host::HostFiles;
 pub use listed::{ListedFiles, NamedFile};
-use std::alloc::Global;
-
-/// Why a file's bytes can't be had.
-#[derive(Clone, Copy, Debug, PartialEq, Eq)]
-pub enum FileFault {
-    /// No file can be read at the path.
-    Unreadable,
-    /// Memory ran out.
-    Memory,
-}
-
-/// Files that can be read by their paths.
-pub trait FileSource {
-    /// What is known of the file at each path.
-    ghost held: { Self → List ℕ → Holding };
-
-    /// All bytes of the file at the path.
-    ///
-    /// If the file's bytes are known, it gives exactly these, and fails only if memory runs out. If it is known that no
-    /// file can be read at the path, it fails.
-    fn read(&self, alloc: Global, path: &str) -> Result<Vec<u8>, FileFault>
-        ensures bytes { IfOk result (λ v. Gives (held self.now path.now) v.items) }
-        ensures fault { IfErr result (FailsWith (held self.now path.now)) };
-}
+pub use office_script::{FileFault, FileSource};

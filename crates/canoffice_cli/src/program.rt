@@ -1,7 +1,7 @@
 //! A run of the program, from its words to its exit status.
 ghost use Rattle.std.specs.Prelude.{◌≡◌, IfOk, map};
 ghost use Rattle.canoffice_cli.specs.Outcome.{outcome_of, unreadable};
-ghost use Rattle.canoffice_cli.specs.declared.files.FileFault.TheVariants.{Unreadable};
+ghost use Rattle.office_script.specs.declared.files.FileFault.TheVariants.{Unreadable};
 ghost use Rattle.canoffice_cli.specs.Performance.{ComesTo, IsAnswered, IsDone, IsFaultAnswer, IsOfFile, IsPerformed};
 
 use crate::apply::apply_script;
@@ -84,20 +84,25 @@ fn file_report<F: FileSource>(
     path: &str,
     files: &F,
 ) -> Result<Report, AllocError>
-    ensures { IfOk result (λ report. IsOfFile (ComesTo task) path.now (F.held files.now path.now) (outcome_of report)) }
+    ensures { IfOk result (λ report. IsOfFile (ComesTo (F.held files.now) task) path.now (F.held files.now path.now) (outcome_of report)) }
 {
     match files.read(alloc, path) {
-        Ok(bytes) => task_report(alloc, task, &bytes),
+        Ok(bytes) => task_report(alloc, task, &bytes, files),
         Err(fault) => unreadable_report(alloc, path, fault),
     }
 }
 
 /// The report on the bytes of a file.
-fn task_report(alloc: Global, task: FileTask, bytes: &[u8]) -> Result<Report, AllocError>
-    ensures { IfOk result (λ report. ComesTo task bytes.now (outcome_of report)) }
+fn task_report<F: FileSource>(
+    alloc: Global,
+    task: FileTask,
+    bytes: &[u8],
+    files: &F,
+) -> Result<Report, AllocError>
+    ensures { IfOk result (λ report. ComesTo (F.held files.now) task bytes.now (outcome_of report)) }
 {
     match task {
-        FileTask::Apply => apply_script(alloc, bytes),
+        FileTask::Apply => apply_script(alloc, bytes, files),
         FileTask::Check => check_report(alloc, bytes),
         FileTask::Format => format_report(alloc, bytes),
     }

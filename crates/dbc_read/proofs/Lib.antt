@@ -16,3 +16,4 @@ pub mod FaultsAt
 pub mod SheetsSaid
 pub mod Divided
 pub mod TokenFaults
+pub mod ReadFaults

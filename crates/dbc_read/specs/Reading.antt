@@ -1,7 +1,19 @@
--- A text that reads as no sheet.
-use Rattle.std.specs.Prelude.{ℕ, List}
+-- A text that reads as no sheet, and its fault.
+use Rattle.std.specs.Prelude.{◌≡◌, ◌≢◌, ◌≤◌, ℕ, List, Some, length}
+use Rattle.catalogue.specs.Lexing.{LexFault, lexed}
 use Rattle.catalogue.specs.Reads.{Reads}
 use Rattle.catalogue.specs.declared.sheet.Sheet.{Sheet}
+use Rattle.dbc_lex.specs.Fault.{fault_of}
+use Rattle.dbc_lex.specs.declared.fault.ReadCode.TheVariants.{Memory}
+use Rattle.dbc_lex.specs.declared.fault.ReadFault.{ReadFault}
 
 abbrev pub ReadsAsNothing : List ℕ → Type 0
 ReadsAsNothing bytes = (s : Sheet) → ¬ (Reads bytes s)
+
+-- A fault that `read` gives for the text, other than out of memory: the text reads as no sheet, the offset is in it or
+-- at its end, and if at some offset no token begins, the fault is the first one of this kind.
+pub record IsReadFault (bytes : List ℕ) (fault : ReadFault) : Type 0 where
+  pub named : fault.code ≢ Memory
+  pub nothing : ReadsAsNothing bytes
+  pub within : fault.at ≤ length bytes
+  pub tokens : (cause : LexFault) → (lexed 0 bytes).fault ≡ Some cause → fault ≡ fault_of cause

@@ -1,5 +1,5 @@
 //! The least free number.
-use office_types::{Block, Form, least_free, rises};
+use office_types::{Block, Form, is_ascending, least_free};
 
 #[test]
 fn the_least_free_number(rt: HostRuntime) {
@@ -7,6 +7,8 @@ fn the_least_free_number(rt: HostRuntime) {
         first: 256,
         last: 258,
     };
-    assert!(rt; rises(&[7, 8, 4294967295]) && !rises(&[7, 7]) && !rises(&[1, 3, 2]));
+    assert!(rt;
+        is_ascending(&[7, 8, 4294967295]) && !is_ascending(&[7, 7]) && !is_ascending(&[1, 3, 2])
+    );
     assert!(rt; least_free(&[256, 258], &[block], Form::Std) == Some(257));
 }

@@ -1,10 +1,3 @@
-pub mod Taken
-pub mod Stepping
-pub mod Passing
-pub mod Absent
-pub mod TakenNumbers
-pub mod Fresh
-pub mod KeptNets
-pub mod KeptCommands
-pub mod KeptOffices
-pub mod Rows
+mod CarriedOut
+mod Decisions
+mod Runs

@@ -1,6 +1,2 @@
-pub mod Net
-pub mod Outcome
-pub mod Step
-pub mod Change
-pub mod Draft
-pub mod Laws
+pub mod Carried
+pub mod Imported

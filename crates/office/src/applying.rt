@@ -1,108 +1,131 @@
 //! Applying changes to a network and the book.
-ghost use Rattle.std.specs.Prelude.{◌≡◌, IfOk, Some};
-ghost use Rattle.office.specs.Outcome.{empty_net, with_message, with_block};
-ghost use Rattle.office.specs.Change.{headed, changed_net, all_applied};
-ghost use Rattle.office.specs.Draft.{excerpt_of};
+ghost use Rattle.std.specs.Prelude.{◌≡◌, IfOk, OnOk, OnErr};
+ghost use Rattle.office_rules.specs.Change.{net_changed, applied, all_applied};
+ghost use Rattle.office_rules.specs.Opening.{bare_net};
 
 use catalogue::{Copying, Items, put_item};
-use office_types::{Change, GrantedBlock, Head, LiveMessage, Net, NetName, Phase, SpnBook};
+use office_net::same_ident;
+use office_types::{Change, Head, Net, NetName, SpnBook};
 use std::alloc::{AllocError, Global};
+use std::marker::Model;
 
-/// A network, which may not exist yet, and the book, while changes are applied to them.
-#[derive(Drop)]
+/// A command's network, which may not be there yet, and the book, while changes are applied to them.
 pub struct Draft {
-    /// The network, if it exists.
+    /// The network, if it is there.
     pub net: Option<Net>,
     /// The book.
     pub book: SpnBook,
 }
 
-fn empty_net(alloc: Global, name: &NetName, head: &Head) -> Result<Net, AllocError>
-    ensures { IfOk result (λ net. net ≡ empty_net name.now (record { kind = head.now.kind; reviews = head.now.reviews })) }
-{
-    Ok(Net {
-        name: name.duplicate(alloc)?,
-        kind: head.kind,
-        reviews: head.reviews,
-        phase: Phase::Draft,
-        nodes: Items::new(alloc),
-        live: Items::new(alloc),
-        blocks: Items::new(alloc),
-        held: Items::new(alloc),
-    })
+impl Model for Draft {
+    ghost use Rattle.office_rules.specs.Change.{NetAndBook};
+
+    ghost Value = { NetAndBook };
+
+    ghost view = { λ draft. record { net = draft.net; book = draft.book } };
+
+    ghost inverse = { λ both. record { net = both.net; book = both.book } };
 }
 
-fn with_head(
-    alloc: Global,
-    name: &NetName,
-    head: &Head,
-    net: Option<Net>,
-) -> Result<Net, AllocError>
-    ensures { IfOk result (λ after. after ≡ headed name.now head.now net) }
-{
-    match net {
-        None => empty_net(alloc, name, head),
-        Some(net) => {
-            let mut net = net;
-            net.kind = head.kind;
-            net.reviews = head.reviews;
-            Ok(net)
-        }
+impl Draft {
+    /// The network and the book.
+    pub(crate) fn into_parts(self) -> (Option<Net>, SpnBook)
+        ensures { (result.0 ≡ self.net) × (result.1 ≡ self.book) }
+    {
+        let Draft { net, book } = self;
+        (net, book)
     }
 }
 
-fn with_message(net: Net, message: LiveMessage) -> Result<Net, AllocError>
-    ensures { IfOk result (λ after. after ≡ with_message net message) }
+/// A network with nothing but its head.
+pub(crate) fn bare_net(alloc: Global, name: &NetName, head: Head) -> Result<Net, AllocError>
+    ensures { IfOk result (λ net. net ≡ bare_net name.now head) }
 {
-    let mut net = net;
-    put_item(&mut net.live, message)?;
-    Ok(net)
+    let name = name.duplicate(alloc)?;
+    Ok(Net {
+        name,
+        head,
+        live: Items::new(alloc),
+        blocks: Items::new(alloc),
+        held: Items::new(alloc),
+        approvals: Items::new(alloc),
+        releases: Items::new(alloc),
+    })
 }
 
-fn with_block(net: Net, block: GrantedBlock) -> Result<Net, AllocError>
-    ensures { IfOk result (λ after. after ≡ with_block net block) }
-{
-    let mut net = net;
-    put_item(&mut net.blocks, block)?;
-    Ok(net)
-}
-
-fn with_change(
-    alloc: Global,
-    name: &NetName,
-    net: Option<Net>,
-    change: Change,
-) -> Result<Option<Net>, AllocError>
-    ensures { IfOk result (λ after. after ≡ changed_net name.now change net) }
+/// Applies a change to a network that is there; one of the book does nothing to it. When memory runs out, nothing
+/// changes.
+pub(crate) fn change_net(alloc: Global, net: &mut Net, change: Change) -> Result<(), AllocError>
+    ensures ok { OnOk result (net.new ≡ net_changed change net.old) }
+    ensures err { OnErr result (net.new ≡ net.old) }
 {
     match change {
-        Change::SetHead(head) => Ok(Some(with_head(alloc, name, &head, net)?)),
-        Change::SetMessage(message) => match net {
-            None => Ok(None),
-            Some(net) => Ok(Some(with_message(net, message)?)),
-        },
-        Change::SetBlock(block) => match net {
-            None => Ok(None),
-            Some(net) => Ok(Some(with_block(net, block)?)),
+        Change::SetHead(head) => {
+            net.head = head;
+            Ok(())
+        }
+        Change::SetMessage(message) => put_item(&mut net.live, message),
+        Change::RemoveMessage(ident) => {
+            net.live
+                .retain(|live| !same_ident(live.message.ident, ident));
+            Ok(())
+        }
+        Change::SetBlock(block) => put_item(&mut net.blocks, block),
+        Change::SetSpnBlock(_) | Change::EnterSpn(_) => Ok(()),
+        Change::Hold(ident) => put_item(&mut net.held, ident),
+        Change::SetApproval(team) => put_item(&mut net.approvals, team),
+        Change::ClearApprovals => {
+            net.approvals = Items::new(alloc);
+            Ok(())
+        }
+        Change::AddRelease(sheet) => net.releases.push(sheet),
+    }
+}
+
+fn change_draft(
+    alloc: Global,
+    name: &NetName,
+    draft: &mut Draft,
+    change: Change,
+) -> Result<(), AllocError>
+    ensures { OnOk result (draft.new ≡ applied name.now change draft.old) }
+{
+    match change {
+        Change::SetSpnBlock(block) => put_item(&mut draft.book.blocks, block),
+        Change::EnterSpn(spn) => draft.book.used.enter(spn),
+        other => match &mut draft.net {
+            Some(net) => change_net(alloc, net, other),
+            None => match other {
+                Change::SetHead(head) => {
+                    draft.net = Some(bare_net(alloc, name, head)?);
+                    Ok(())
+                }
+                _ => Ok(()),
+            },
         },
     }
 }
 
 /// Applies changes in order.
-pub(crate) fn apply_all(
+pub(crate) fn change_all(
     alloc: Global,
     name: &NetName,
-    net: Option<Net>,
-    book: SpnBook,
+    draft: &mut Draft,
     changes: Items<Change>,
-) -> Result<Draft, AllocError>
-    ensures { IfOk result (λ after. excerpt_of after ≡ all_applied name.now changes (record { net = net; book = book })) }
+) -> Result<(), AllocError>
+    ensures { OnOk result (draft.new ≡ all_applied name.now changes draft.old) }
 {
-    let mut changes = changes;
-    let mut net = net;
-    'changes: while !changes.as_slice().is_empty() {
-        let change = changes.remove(0);
-        net = with_change(alloc, name, net, change)?;
+    for change in changes.into_vec() {
+        change_draft(alloc, name, draft, change)?;
     }
-    Ok(Draft { net, book })
+    Ok(())
+}
+
+impl Drop for Draft {
+    fn drop(self) {
+        let Draft {
+            net: _net,
+            book: _book,
+        } = self;
+    }
 }

@@ -1,18 +1,52 @@
 //! What the office does with a command.
 ghost use Rattle.std.specs.Prelude.{◌≡◌, IfOk};
 ghost use Rattle.std.specs.Option.{option_copied};
-ghost use Rattle.office.specs.Outcome.{outcome};
-ghost use Rattle.office.specs.Change.{Decides};
+ghost use Rattle.office_rules.specs.Change.{Decides, IsDecision};
+ghost use Rattle.office_rules.specs.Commands.{acted};
+ghost use Rattle.office.specs.Imported.{IsCommandDecision};
 
-use crate::decision::refused;
-use crate::granting::decide_grant;
-use crate::opening::decide_open_net;
-use crate::taking::decide_take_ident;
-use office_types::{Action, Command, Decision, Net, Refusal, SpnBook, Team, is_office};
+use crate::importing::decide_import_of;
+use crate::on_message::{remove_signal, retire, set_values, take_bits, take_spn};
+use office_import::decide_release;
+use office_take::{
+    decide_add_node, decide_approve, decide_grant, decide_open_net, decide_reject, decide_submit,
+    decide_take_ident, decide_take_pgn,
+};
+use office_types::{Action, Command, Decision, Net, NetName, SpnBook, Task, Team};
 use std::alloc::{AllocError, Global};
 
-/// Decides the team's command on its network, which may not exist: the reply, and the changes that lead to the
-/// network after the command. A refusal has no change. Nothing is changed here.
+fn decide_action(
+    alloc: Global,
+    team: &Team,
+    name: &NetName,
+    net: Option<&Net>,
+    book: &SpnBook,
+    action: &Action,
+) -> Result<Decision, AllocError>
+    ensures { IfOk result (Decides name.now (record { net = option_copied net.entry; book = book.now }) (acted team.now name.now (option_copied net.entry) book.now action.now)) }
+{
+    match action {
+        Action::OpenNet(open) => decide_open_net(alloc, team, name, net, open),
+        Action::Grant(grant) => decide_grant(alloc, team, name, net, book, grant),
+        Action::AddNode(node) => decide_add_node(alloc, net, node),
+        Action::TakeIdent(take) => decide_take_ident(alloc, team, net, take),
+        Action::TakePgn(take) => decide_take_pgn(alloc, team, net, take),
+        Action::TakeSpn(take) => take_spn(alloc, team, name, net, book, take),
+        Action::TakeBits(take) => take_bits(alloc, team, net, take),
+        Action::SetValues(set) => set_values(alloc, team, net, set),
+        Action::RemoveSignal(path) => remove_signal(alloc, team, net, path),
+        Action::Retire(message) => retire(alloc, team, net, message),
+        Action::Submit => decide_submit(alloc, team, net),
+        Action::Approve => decide_approve(alloc, team, net),
+        Action::Reject => decide_reject(alloc, team, net),
+        Action::Release => decide_release(alloc, team, net),
+    }
+}
+
+/// Decides the team's command on its network, which may not be there: the reply, and the changes that lead to the
+/// network and the book after the command. A refusal has no change. Nothing is changed here, and the file of an import is
+/// read only where the network is there and in draft. A file that reads as no sheet is refused with the fault and the
+/// offset that [`read`](dbc_read::read) gives. The error is out of memory.
 pub fn decide(
     alloc: Global,
     team: &Team,
@@ -20,22 +54,11 @@ pub fn decide(
     book: &SpnBook,
     command: &Command,
 ) -> Result<Decision, AllocError>
-    ensures { IfOk result (Decides command.now.net (record { net = option_copied net.entry; book = book.now }) (outcome team.now (option_copied net.entry) book.now command.now)) }
+    ensures decision { IfOk result (IsDecision team.now (record { net = option_copied net.entry; book = book.now }) command.now) }
+    ensures read { IfOk result (IsCommandDecision team.now (record { net = option_copied net.entry; book = book.now }) command.now) }
 {
-    match &command.action {
-        Action::OpenNet(open) => decide_open_net(alloc, team, &command.net, net, book, open),
-        Action::Grant(grant) => {
-            if !is_office(team) {
-                return Ok(refused(alloc, Refusal::NotOffice));
-            }
-            match net {
-                None => Ok(refused(alloc, Refusal::NoNet)),
-                Some(net) => decide_grant(alloc, net, book, grant),
-            }
-        }
-        Action::TakeIdent(take) => match net {
-            None => Ok(refused(alloc, Refusal::NoNet)),
-            Some(net) => decide_take_ident(alloc, team, net, book, take),
-        },
+    match &command.task {
+        Task::Act(action) => decide_action(alloc, team, &command.net, net, book, action),
+        Task::Import(file) => decide_import_of(alloc, team, net, file.as_slice()),
     }
 }

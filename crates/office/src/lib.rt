@@ -1,26 +1,24 @@
 //! What the office does with a command.
 //!
-//! [`decide`] decides a team's command on its network: it gives the reply, and the changes that lead to the network
-//! after it. [`PlainOffice`] is an office in memory: [`PlainOffice::step`] carries a command out completely, or
-//! refuses it and changes nothing, and [`PlainOffice::run`] runs a list of commands.
+//! [`decide`] decides a team's command on its network: it gives the reply, and the changes that lead to the network and
+//! the book after it. [`PlainOffice`] is an office in memory: [`PlainOffice::step`] carries a command out completely, or
+//! refuses it and changes nothing, and [`PlainOffice::run`] runs a list of commands. What it holds is always that of an
+//! office (`office_rules/specs/Kept.antt`), so the laws of `office_law` hold of what the program runs.
 //!
-//! The definition of a step is in `specs/`: `Outcome.antt` has each command's refusals, a list in the order in which
-//! they are tested, and its change; `Step.antt` defines steps and runs of them; `Change.antt` what changes do;
-//! `Net.antt` the properties of a network that are tested; `Laws.antt` what holds of every step, which the functions
-//! of `laws.rt` prove.
+//! The bodies of the commands are in `office_take`, `office_signals` and `office_import`; here one is chosen, an imported
+//! file is read, and changes are carried out: one change in place, more of them on copies of the network and the book
+//! first, so that nothing is changed where memory runs out.
+//!
+//! The definitions are in `office_rules/specs`: `Commands.antt` and `Step.antt` what a command comes to, `Change.antt`
+//! what changes do. `specs/Carried.antt` here has what they do to a whole office.
 #![tactic(auto)]
 
 mod applying;
+mod carrying;
 mod deciding;
-mod decision;
-mod granting;
-mod laws;
-mod net;
-mod numbers;
-mod opening;
+mod importing;
+mod on_message;
 mod plain;
-mod taking;
 
 pub use deciding::decide;
-pub use laws::{identifiers_are_fresh, offices_are_kept};
 pub use plain::PlainOffice;

@@ -1,99 +1,31 @@
 //! An office in memory.
-ghost use Rattle.std.specs.Prelude.{◌≡◌, IfOk, OnOk, OnErr, find};
+ghost use Rattle.std.specs.Prelude.{◌≡◌, IfOk, OnOk, OnErr};
 ghost use Rattle.std.specs.Option.{option_copied};
-ghost use Rattle.std.specs.Str.{bytes_eq};
-ghost use Rattle.office.specs.Outcome.{outcome, reply_of};
-ghost use Rattle.office.specs.Step.{opening, Step, HasRun, HasBegun};
-ghost use Rattle.office.specs.Draft.{changed_or_none, left_by};
+ghost use Rattle.office_rules.specs.Kept.{IsOffice};
+ghost use Rattle.office_rules.specs.Step.{opening, Step, HasRun, HasBegun};
 
-use crate::applying::{Draft, apply_all};
+use crate::carrying::{carry_out, index_of, net_at};
 use crate::deciding::decide;
-use catalogue::{Copying, Items, put_item};
-use office_types::{Command, Decision, Net, NetName, Office, Reply, SpnBook, Team};
+use catalogue::Items;
+use office_types::{Command, Decision, Net, Reply, SpnBook, Team, UsedSpns, command_is_in_range};
 use std::alloc::{AllocError, Global};
 use std::marker::Model;
 
-/// A network and the book as a command leaves them.
-#[derive(Drop)]
-pub struct Changed {
-    /// The network.
-    pub net: Net,
-    /// The book.
-    pub book: SpnBook,
-}
-
-/// A reply, and what the command leaves if it wasn't refused.
-#[derive(Drop)]
-struct Answer {
-    reply: Reply,
-    changed: Option<Changed>,
-}
-
-fn net_named<'a>(nets: &'a [Net], name: &NetName) -> Option<&'a Net>
-    ensures { option_copied result ≡ find (λ n. bytes_eq n.name name.now) nets.now }
-{
-    nets.iter().find(|net| net.name == *name)
-}
-
-fn copy_of(alloc: Global, net: Option<&Net>) -> Result<Option<Net>, AllocError>
-    ensures { IfOk result (λ copy. copy ≡ option_copied net.entry) }
-{
-    match net {
-        None => Ok(None),
-        Some(net) => Ok(Some(net.duplicate(alloc)?)),
-    }
-}
-
-fn changed_by(draft: Draft) -> Option<Changed>
-    ensures { result ≡ changed_or_none draft.net draft.book }
-{
-    let Draft { net, book } = draft;
-    match net {
-        None => None,
-        Some(net) => Some(Changed { net, book }),
-    }
-}
-
-/// Decides the command, and carries it out on copies of the network and the book.
-fn answer_from_copies(
-    alloc: Global,
-    team: &Team,
-    net: Option<&Net>,
-    book: &SpnBook,
-    command: &Command,
-) -> Result<Answer, AllocError>
-    ensures reply { IfOk result (λ a. a.reply ≡ reply_of (outcome team.now (option_copied net.entry) book.now command.now)) }
-    ensures changed { IfOk result (λ a. a.changed ≡ left_by (outcome team.now (option_copied net.entry) book.now command.now)) }
-{
-    let decision = decide(alloc, team, net, book, command)?;
-    let Decision { changes, reply } = decision;
-    if matches!(reply, Reply::Refused(_)) {
-        return Ok(Answer {
-            reply,
-            changed: None,
-        });
-    }
-    let before = copy_of(alloc, net)?;
-    let book = book.duplicate(alloc)?;
-    let draft = apply_all(alloc, &command.net, before, book, changes)?;
-    Ok(Answer {
-        reply,
-        changed: changed_by(draft),
-    })
-}
-
-/// An office in memory. Contracts see it as the state that it holds.
-#[derive(Drop)]
+/// An office in memory. Contracts see it as the state that it holds, which is always that of an office.
 pub struct PlainOffice {
-    state: Office,
+    nets: Vec<Net>,
+    book: SpnBook,
 }
 
 impl Model for PlainOffice {
     ghost use Rattle.office_types.specs.declared.state.Office.{Office};
+    ghost use Rattle.office_rules.specs.Kept.{IsOffice};
 
     ghost Value = { Office };
 
-    ghost view = { λ p. p.state };
+    ghost view = { λ p. record { nets = p.nets.items; book = p.book } };
+
+    ghost invariant = { λ p. IsOffice (record { nets = p.nets.items; book = p.book }) };
 }
 
 impl PlainOffice {
@@ -102,14 +34,20 @@ impl PlainOffice {
         ensures { result ≡ opening }
     {
         PlainOffice {
-            state: Office {
-                nets: Items::new(alloc),
-                book: SpnBook {
-                    blocks: Items::new(alloc),
-                    used: Items::new(alloc),
-                },
+            nets: Vec::new(alloc),
+            book: SpnBook {
+                blocks: Items::new(alloc),
+                used: UsedSpns::new(alloc),
             },
         }
+    }
+
+    /// The networks, in ascending order of name.
+    pub fn nets(&self) -> &[Net]
+        ensures nets { result.now ≡ self.now.nets }
+        ensures office { IsOffice self.now }
+    {
+        self.nets.as_slice()
     }
 
     /// One step of the office: the team's command is carried out, or it is refused and nothing changes. If memory
@@ -123,23 +61,21 @@ impl PlainOffice {
         ensures step { IfOk result (λ reply. Step self.old team.now command.now reply self.new) }
         ensures err { OnErr result (self.new ≡ self.old) }
     {
-        let net = net_named(self.state.nets.as_slice(), &command.net);
-        let Answer { reply, changed } = answer_from_copies(
+        team.as_bytes();
+        command_is_in_range(command);
+        let index = index_of(&self.nets, &self.book, &command.net);
+        let net = net_at(&self.nets, index);
+        let decision = decide(alloc, team, net, &self.book, command)?;
+        let Decision { changes, reply } = decision;
+        carry_out(
             alloc,
-            team,
-            net,
-            &self.state.book,
-            command,
+            &command.net,
+            &mut self.nets,
+            &mut self.book,
+            index,
+            changes,
         )?;
-        match changed {
-            None => Ok(reply),
-            Some(changed) => {
-                let Changed { net, book } = changed;
-                put_item(&mut self.state.nets, net)?;
-                self.state.book = book;
-                Ok(reply)
-            }
-        }
+        Ok(reply)
     }
 
     /// Runs the commands in order, each for its team, and adds their replies. If memory runs out, the first commands
@@ -159,5 +95,14 @@ impl PlainOffice {
             replies.push_reserved(reply);
         }
         Ok(())
+    }
+}
+
+impl Drop for PlainOffice {
+    fn drop(self) {
+        let PlainOffice {
+            nets: _nets,
+            book: _book,
+        } = self;
     }
 }

@@ -8,7 +8,8 @@ use Rattle.std.proofs.lemmas.List.Elements.{All-head, All-tail, All-cons, All-ni
 use Rattle.office_script.proofs.Parts.{Lacks}
 use Rattle.office_script.proofs.EscapeLaws.{escapes_law}
 use Rattle.office_script.specs.Escapes.{unescaped}
-use Rattle.office_script.specs.Fields.{NamedValue, IsFieldWord, AreFieldWords, field_of, fields_of}
+use Rattle.office_fields.specs.Given.{NamedValue}
+use Rattle.office_script.specs.Fields.{IsFieldWord, AreFieldWords, field_of, fields_of}
 
 -- bytes without `c` fail the search for it
 any_lacks : (c : ℕ) (bs : List ℕ) → Lacks c bs → list_any (λ b. b == c) bs ≡ false

@@ -3,8 +3,7 @@ mod WordLaws
 mod LineLaws
 mod EscapeLaws
 mod FieldLaws
-mod FieldNames
-mod KnownOnce
-mod Readings
+mod Fillings
 mod Scripts
 mod Rows
+mod RequestRows

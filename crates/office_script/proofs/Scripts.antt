@@ -1,12 +1,16 @@
 -- The lines of a script, one after the other.
 use Rattle.std.proofs.Common.{◌≡◌, ◌+◌, ◌≤◌, ◌<◌, ◌++◌, ◌∷◌, [], ℕ, List, Option, Some, None, length, refl, sym, ap, ◌∙◌, arith, append_assoc, append-nil, length-append}
+use Rattle.std.specs.List.{AllZip}
 use Rattle.std.specs.Option.{option_map, option_and_then}
 use Rattle.office_types.specs.declared.command.Command.{Command}
+use Rattle.office_fields.specs.declared.asked.Asked.{Asked}
+use Rattle.office_script.specs.Files.{AreFilled, Files}
 use Rattle.office_script.specs.Lines.{lines_of}
-use Rattle.office_script.specs.Script.{requests_of_line, requests_of_lines}
+use Rattle.office_script.specs.Requests.{requests_of_line}
+use Rattle.office_script.specs.Script.{AreCommandsOf, AreCommandsOfLine, IsFirstAmiss, requests_of_lines}
 
-abbrev Requests : Type 0
-Requests = List (List ℕ × Command)
+abbrev pub Requests : Type 0
+Requests = List (List ℕ × Asked)
 
 some_none : (x : Requests) → ◌≡◌ {A = Option Requests} (Some x) None → ⊥
 some_none x e = cc
@@ -15,12 +19,16 @@ some_same : (x y : Requests) → ◌≡◌ {A = Option Requests} (Some x) (Some 
 some_same x y e = cc
 
 -- the lines so far were read, and the others are those of the rest
-pub record IsReadSoFar (text rest : List ℕ) (number : ℕ) (requests : List (List ℕ × Command)) : Type 0 where
+pub record IsReadSoFar (files : Files) (text rest : List ℕ) (number : ℕ) (commands : List (List ℕ × Command)) : Type 0 where
   pub done : List (List ℕ)
   pub parts : lines_of text ≡ done ++ lines_of rest
   pub numbered : number ≡ length done
-  pub asked : requests_of_lines done ≡ Some requests
+  pub read : AreCommandsOf files done commands
   pub room : number + length rest ≤ length text
+
+-- no line was read
+pub read_none : (files : Files) (text : List ℕ) → IsReadSoFar files text text 0 []
+read_none files text = record { done = []; parts = refl; numbered = refl; read = record { requests = []; asked = refl; filled = tt }; room = omega arith }
 
 -- what a line and the lines after it ask for
 abbrev join_requests : Option Requests → Option Requests → Option Requests
@@ -42,13 +50,45 @@ asked_more [] line before here e h =
 asked_more (first ∷ done) line before here e h =
     joined_more (requests_of_line first) (requests_of_lines done) (requests_of_lines (done ++ line ∷ [])) before here e (λ middle m. asked_more done line middle here m h)
 
+-- two lists in step, and two more
+zip_append : {A B : Type 0} (R : A → B → Type 0) (xs vs : List A) (ys ws : List B) → AllZip R xs ys → AllZip R vs ws → AllZip R (xs ++ vs) (ys ++ ws)
+zip_append R [] vs [] ws h k = k
+zip_append R [] vs (y ∷ ys) ws h k = absurd h
+zip_append R (x ∷ xs) vs [] ws h k = absurd h
+zip_append R (x ∷ xs) vs (y ∷ ys) ws h k = (h.0, zip_append R xs vs ys ws h.1 k)
+
+filled_more : (files : Files) (before here : Requests) (earlier more : List (List ℕ × Command)) → AreFilled files before earlier → AreFilled files here more → AreFilled files (before ++ here) (earlier ++ more)
+filled_more files before here earlier more h k = zip_append _ before here earlier more h k
+
 -- one line more was read
-pub read_more : (text rest left line : List ℕ) (number : ℕ) (before here after : Requests) → IsReadSoFar text rest number before → lines_of rest ≡ line ∷ lines_of left
-    → length left < length rest → requests_of_line line ≡ Some here → after ≡ before ++ here → IsReadSoFar text left (number + 1) after
-read_more text rest left line number before here after so next shorter asks added = record {
+pub read_more : (files : Files) (text rest left line : List ℕ) (number : ℕ) (before here after : List (List ℕ × Command)) → IsReadSoFar files text rest number before
+    → lines_of rest ≡ line ∷ lines_of left → length left < length rest → AreCommandsOfLine files line here → after ≡ before ++ here → IsReadSoFar files text left (number + 1) after
+read_more files text rest left line number before here after so next shorter own added = record {
   done = so.done ++ line ∷ [];
   parts = so.parts ∙ ap (λ v. so.done ++ v) next ∙ sym (append_assoc so.done (line ∷ []) (lines_of left));
   numbered = ap (λ n. n + 1) so.numbered ∙ sym (length-append so.done (line ∷ []));
-  asked = asked_more so.done line before here so.asked asks ∙ ap Some (sym added);
+  read = record {
+    requests = so.read.requests ++ own.requests;
+    asked = asked_more so.done line so.read.requests own.requests so.read.asked own.asked;
+    filled = rw added (filled_more files so.read.requests own.requests before here so.read.filled own.filled);
+  };
   room = let r : number + length rest ≤ length text = so.room in omega arith;
+}
+
+-- all lines were read
+pub read_all : (files : Files) (text rest : List ℕ) (number : ℕ) (commands : List (List ℕ × Command)) → IsReadSoFar files text rest number commands → lines_of rest ≡ [] → AreCommandsOf files (lines_of text) commands
+read_all files text rest number commands so none = rw (so.parts ∙ ap (λ v. so.done ++ v) none ∙ append-nil so.done) so.read
+
+-- the next line is amiss
+pub amiss_next : (files : Files) (IsAmiss : List ℕ → Type 0) (text rest left line : List ℕ) (number : ℕ) (commands : List (List ℕ × Command)) → IsReadSoFar files text rest number commands
+    → lines_of rest ≡ line ∷ lines_of left → IsAmiss line → IsFirstAmiss files IsAmiss (lines_of text) (number + 1)
+amiss_next files IsAmiss text rest left line number commands so next h = record {
+  before = so.done;
+  line = line;
+  after = lines_of left;
+  parts = so.parts ∙ ap (λ v. so.done ++ v) next;
+  numbered = ap (λ n. n + 1) so.numbered;
+  commands = commands;
+  sound = so.read;
+  amiss = h;
 }

@@ -1,21 +1,9 @@
 -- The fields of a line.
-use Rattle.std.specs.Prelude.{◌≡◌, ◌≢◌, ◌==◌, if◌then◌else◌, ◌++◌, ℕ, List, [], ◌∷◌, map, Option, Some, None, All, AllPairs, Contains, find}
+use Rattle.std.specs.Prelude.{◌≡◌, ◌≢◌, ◌==◌, if◌then◌else◌, ◌++◌, ℕ, List, [], ◌∷◌, Option, Some, None, All}
 use Rattle.std.specs.Option.{option_map, option_and_then}
 use Rattle.std.specs.List.{AllZip, before_first, after_first, list_any}
-use Rattle.std.specs.Str.{bytes_eq}
-use Rattle.std.specs.Coded.{Coded, code_by, coded×, coded_list, coded_ℕ}
-use Rattle.std.specs.Prelude.{refl}
+use Rattle.office_fields.specs.Given.{NamedValue}
 use Rattle.office_script.specs.Escapes.{StandsFor, unescaped}
-
--- a field: its name, and the bytes that its written value stands for
-pub record NamedValue : Type 0 where
-  pub name : List ℕ
-  pub value : List ℕ
-
--- as a pair of lists
-abbrev pub coded_named_value : Coded NamedValue
-coded_named_value =
-    code_by (List ℕ × List ℕ) (coded× (coded_list coded_ℕ) (coded_list coded_ℕ)) (λ f. (f.name, f.value)) (λ p. record { name = p.0; value = p.1 }) (λ _. refl)
 
 -- a word is `name=value`: a name without `=` (61), a `=`, and the written value
 pub record IsFieldWord (word : List ℕ) (field : NamedValue) : Type 0 where
@@ -39,16 +27,3 @@ field_of word =
 abbrev pub fields_of : List (List ℕ) → Option (List NamedValue)
 fields_of [] = Some []
 fields_of (word ∷ words) = option_and_then (λ field. option_map (λ fields. field ∷ fields) (fields_of words)) (field_of word)
-
--- the names of fields
-abbrev pub names_of : List NamedValue → List (List ℕ)
-names_of fields = map (λ f. f.name) fields
-
--- the value of the first field of a name
-abbrev pub value_of : List NamedValue → List ℕ → Option (List ℕ)
-value_of fields name = option_map (λ f. f.value) (find (λ f. bytes_eq f.name name) fields)
-
--- each name is among the known ones, and none occurs twice
-pub record AreKnownOnce (known names : List (List ℕ)) : Type 0 where
-  pub all_known : All (Contains known) names
-  pub once : AllPairs (λ a b. a ≢ b) names

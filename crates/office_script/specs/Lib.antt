@@ -2,8 +2,6 @@ pub mod Lines
 pub mod Words
 pub mod Escapes
 pub mod Fields
-pub mod FieldViews
-pub mod Values
-pub mod Commands
-pub mod Reading
+pub mod Requests
+pub mod Files
 pub mod Script

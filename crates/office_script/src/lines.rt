@@ -2,7 +2,7 @@
 ghost use Rattle.std.specs.Prelude.{◌≡◌, ◌↔◌, ◌<◌, ◌∷◌, [], List, ℕ, length, MatchOption, IfSome};
 ghost use Rattle.office_script.specs.Lines.{lines_of, AreLinesOf, says_nothing};
 
-use crate::split::split_once;
+use catalogue::split_once;
 
 /// The first line of a text, and what follows it.
 #[derive(Clone, Copy, Debug)]

@@ -2,7 +2,7 @@
 ghost use Rattle.std.specs.Prelude.{◌≡◌, ◌↔◌, ◌<◌, ◌∷◌, ◌++◌, List, ℕ, length, IfSome, MatchOption};
 ghost use Rattle.office_script.specs.Words.{words_of, words_after, AreWordsOf};
 
-use crate::split::split_once;
+use catalogue::split_once;
 
 /// The first word of a line, and what follows it.
 #[derive(Clone, Copy, Debug)]

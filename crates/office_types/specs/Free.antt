@@ -1,26 +1,41 @@
 -- The least number of some blocks that has a form and isn't taken.
-use Rattle.std.specs.Prelude.{ℕ, ◌+◌, ◌-◌, ◌<◌, ◌≤◌, Bool, not, ◌&&◌, ◌==◌, nat_le, List, [], ◌∷◌, length, min, Option, Some, None, slice_index}
+use Rattle.std.specs.Prelude.{ℕ, ◌+◌, ◌-◌, ◌%◌, ◌<◌, ◌≤◌, Bool, true, not, ◌&&◌, ◌==◌, nat_le, List, [], ◌∷◌, length, min, Option, Some, None, slice_index}
 use Rattle.std.specs.List.{list_any}
 use Rattle.can_id.specs.Form as identifiers
 use Rattle.can_id.specs.declared.form.IdentForm.{IdentForm}
 use Rattle.can_id.specs.declared.form.IdentForm.TheVariants.{Standard, Extended}
+use Rattle.can_id.specs.J1939.{format_of, is_pdu1}
+use Rattle.catalogue.specs.Limits.{spn_limit}
 use Rattle.office_types.specs.Least.{IsLeastOf, least_from}
 use Rattle.office_types.specs.Block.{in_block}
 use Rattle.office_types.specs.declared.free.Form.{Form}
-use Rattle.office_types.specs.declared.free.Form.TheVariants.{Std, Ext}
+use Rattle.office_types.specs.declared.free.Form.TheVariants.{Std, Ext, Pdu1, Pdu2, Spn}
 use Rattle.office_types.specs.declared.block.Block.{Block}
+use Rattle.office_types.specs.declared.block.TheConstants.{GREATEST_PGN}
 
 abbrev pub greatest_number : Form → ℕ
 greatest_number Std = identifiers.greatest_number Standard
 greatest_number Ext = identifiers.greatest_number Extended
+greatest_number Pdu1 = GREATEST_PGN
+greatest_number Pdu2 = GREATEST_PGN
+greatest_number Spn = spn_limit
 
 -- the form of the numbers of identifiers
 abbrev pub number_form : IdentForm → Form
 number_form Standard = Std
 number_form Extended = Ext
 
+-- what else the form asks: a parameter group has a destination address, and then a low byte of 0, or it has none
+-- (SAE J1939-21); and no suspect parameter number is 0
+abbrev pub is_formed : Form → ℕ → Bool
+is_formed Std n = true
+is_formed Ext n = true
+is_formed Pdu1 n = is_pdu1 (format_of n) && n % 256 == 0
+is_formed Pdu2 n = not (is_pdu1 (format_of n))
+is_formed Spn n = nat_le 1 n
+
 abbrev pub has_form : Form → ℕ → Bool
-has_form form n = nat_le n (greatest_number form)
+has_form form n = nat_le n (greatest_number form) && is_formed form n
 
 abbrev pub is_taken : ℕ → List ℕ → Bool
 is_taken n taken = list_any (λ t. t == n) taken

@@ -1,35 +1,43 @@
-//! The changes that a command makes, and the decision on a command.
-use crate::command::NetKind;
-use crate::quantity::ReviewCount;
+//! What a command changes, and the decision on it.
+use crate::book::{SpnBlock, UsableSpn};
+use crate::release::FrozenSheet;
 use crate::reply::Reply;
-use crate::state::{GrantedBlock, LiveMessage};
+use crate::state::{GrantedBlock, Head, LiveMessage};
+use crate::team::Team;
+use can_id::Ident;
 use catalogue::Items;
 
-/// One thing that a command sets in its network.
+/// One thing that a command sets or removes: a row that is written or removed by its key. A change that isn't of the
+/// book is made at the command's network.
 #[derive(Drop)]
 pub enum Change {
-    /// The network's head; if the network doesn't exist, it is made, empty.
+    /// Sets the network's head; a network that isn't there is made, with nothing but its head.
     SetHead(Head),
-    /// The live message that has an identifier.
+    /// Sets the live message of an identifier.
     SetMessage(LiveMessage),
-    /// The granted block that has a form and a first number.
+    /// Removes the live message of the identifier.
+    RemoveMessage(Ident),
+    /// Sets the block of a form and a first number.
     SetBlock(GrantedBlock),
+    /// Sets the block of suspect parameter numbers of a network and a first number, in the book.
+    SetSpnBlock(SpnBlock),
+    /// Holds the identifier for good.
+    Hold(Ident),
+    /// Enters the suspect parameter number into the book.
+    EnterSpn(UsableSpn),
+    /// Sets the team's approval.
+    SetApproval(Team),
+    /// Removes all approvals.
+    ClearApprovals,
+    /// Adds the sheet as the next release.
+    AddRelease(FrozenSheet),
 }
 
-/// A network's kind, and how many approvals its releases need.
-#[derive(Clone, Copy, Debug, PartialEq, Eq)]
-pub struct Head {
-    /// The network's kind.
-    pub kind: NetKind,
-    /// How many approvals each release needs.
-    pub reviews: ReviewCount,
-}
-
-/// The changes that a command makes, in order, and the reply to it.
+/// What a command changes, in order, and what it is answered.
 #[derive(Drop)]
 pub struct Decision {
-    /// What is set, in order; nothing if the command is refused.
+    /// What is set and removed, in order; nothing where the command is refused.
     pub changes: Items<Change>,
-    /// The reply.
+    /// The answer.
     pub reply: Reply,
 }

@@ -1,42 +1,75 @@
 //! Commands on a network, with fields that keep their ranges.
+ghost use Rattle.std.specs.Prelude.{◌≡◌};
+
 use crate::block::FormBlock;
+use crate::free::Form;
 use crate::net_name::NetName;
-use crate::quantity::ReviewCount;
+use crate::quantity::{Priority, ReviewCount};
 use crate::team::Team;
+use bitlayout::{Mux, Order, Size};
 use can_id::IdentForm;
-use catalogue::{Name, PayloadLength};
+use catalogue::{Items, Name, PayloadLength, Text, ValueText};
+use decimal::Decimal;
 
 /// A command on one network.
-#[derive(PartialEq, Eq, Drop)]
 pub struct Command {
     /// The network that the command is about.
     pub net: NetName,
     /// What is asked of it.
-    pub action: Action,
+    pub task: Task,
 }
 
-/// What is asked of the network.
-#[derive(PartialEq, Eq, Drop)]
+/// What is asked of a network: an action, or to import a file, which alone is read.
+pub enum Task {
+    /// Carry the action out.
+    Act(Action),
+    /// Add the messages of a DBC file, of which these are the bytes.
+    Import(Items<u8>),
+}
+
+/// The things that are asked of a network without a file.
 pub enum Action {
     /// Open the network, empty.
     OpenNet(OpenNet),
     /// Grant a block of numbers to a team.
     Grant(Grant),
+    /// Add a node of this name.
+    AddNode(Name),
     /// Take an identifier for a new message.
     TakeIdent(TakeIdent),
+    /// Take a J1939 parameter group for a new message.
+    TakePgn(TakePgn),
+    /// Take a suspect parameter number for a signal.
+    TakeSpn(TakeSpn),
+    /// Take bits of a message for a new signal.
+    TakeBits(TakeBits),
+    /// Set the texts of a signal's values.
+    SetValues(SetValues),
+    /// Take a signal out of its message.
+    RemoveSignal(SignalPath),
+    /// Take the message of this name out.
+    Retire(Name),
+    /// Ask for a review.
+    Submit,
+    /// Approve of the network as it is.
+    Approve,
+    /// Turn the review down.
+    Reject,
+    /// Freeze the network as it is, as its next release.
+    Release,
 }
 
-/// Whether J1939 parameter groups are given out on a network.
+/// Whether J1939 parameter groups are allotted on a network.
 #[derive(Clone, Copy, Debug, PartialEq, Eq)]
 pub enum NetKind {
     /// A plain CAN network.
     Can,
-    /// A network on which J1939 parameter groups are given out too.
+    /// A network on which J1939 parameter groups are allotted too.
     J1939,
 }
 
 /// The network's kind, and how many approvals its releases need.
-#[derive(Clone, Copy, Debug, PartialEq, Eq)]
+#[derive(Clone, Copy)]
 pub struct OpenNet {
     /// The network's kind.
     pub kind: NetKind,
@@ -45,7 +78,7 @@ pub struct OpenNet {
 }
 
 /// The block, and the team that it is for.
-#[derive(PartialEq, Eq, Drop)]
+#[derive(Drop)]
 pub struct Grant {
     /// The team that may give out the numbers.
     pub team: Team,
@@ -53,17 +86,225 @@ pub struct Grant {
     pub block: FormBlock,
 }
 
-/// A new message that is to get an identifier from the team's blocks.
-#[derive(PartialEq, Eq, Drop)]
-pub struct TakeIdent {
-    /// How many bits the identifier has.
-    pub form: IdentForm,
+/// What a new message says of itself, whatever number it gets.
+pub struct NewMessage {
     /// The message's name.
     pub name: Name,
     /// How many bytes the message carries.
     pub length: PayloadLength,
     /// The node that transmits the message.
     pub node: Option<Name>,
-    /// The identifier that is wanted, of any size; without one the least free identifier is given out.
+}
+
+/// A message that is to have an identifier of the team's blocks.
+#[derive(Drop)]
+pub struct TakeIdent {
+    /// How many bits the identifier has.
+    pub form: IdentForm,
+    /// The message.
+    pub message: NewMessage,
+    /// The identifier that is wanted, of any size; without one the least free is taken.
     pub want: Option<u32>,
+}
+
+/// Whether a J1939 message goes to one address or to all.
+#[derive(Clone, Copy)]
+pub enum Pdu {
+    /// To this address, or to every node where none is given (PDU1).
+    Addressed(Option<u8>),
+    /// To every node (PDU2).
+    Broadcast,
+}
+
+/// A message that is to have a parameter group of the team's blocks.
+#[derive(Drop)]
+pub struct TakePgn {
+    /// The message.
+    pub message: NewMessage,
+    /// Whether it goes to one address or to all.
+    pub pdu: Pdu,
+    /// How urgent it is.
+    pub priority: Priority,
+    /// The address of the node that sends it.
+    pub source: u8,
+}
+
+/// A signal of a live message, by their names.
+pub struct SignalPath {
+    /// The message's name.
+    pub message: Name,
+    /// The signal's name.
+    pub signal: Name,
+}
+
+/// A signal that is to have a suspect parameter number.
+#[derive(Drop)]
+pub struct TakeSpn {
+    /// The signal.
+    pub path: SignalPath,
+    /// A number that was given out before, of any size; without one the least free of the team's blocks is taken.
+    pub same: Option<u32>,
+}
+
+/// A signal that is to have bits of a message.
+pub struct TakeBits {
+    /// The message, and the new signal's name.
+    pub path: SignalPath,
+    /// How many bits.
+    pub size: Size,
+    /// How they follow one another.
+    pub order: Order,
+    /// Whether the raw value is signed.
+    pub signed: bool,
+    /// When the signal is present.
+    pub mux: Mux,
+    /// What a raw value is multiplied by.
+    pub factor: Decimal,
+    /// What is added to it then.
+    pub offset: Decimal,
+    /// The least physical value.
+    pub minimum: Decimal,
+    /// The greatest physical value.
+    pub maximum: Decimal,
+    /// The unit of the physical value.
+    pub unit: Text,
+    /// The nodes that receive the signal; one may be named twice.
+    pub receivers: Items<Name>,
+    /// The start that is wanted, a bit position; without one the least that is free is taken.
+    pub start: Option<u16>,
+}
+
+/// The texts that a signal's values are to have.
+pub struct SetValues {
+    /// The signal.
+    pub path: SignalPath,
+    /// The values with their texts.
+    pub values: Items<ValueText>,
+}
+
+impl NetKind {
+    ghost use Rattle.std.specs.Prelude.{Some, IfSome};
+    ghost use Rattle.office_types.specs.Command.{kind_number, kind_at};
+
+    /// The kind's number: 0 for CAN, 1 for J1939.
+    pub fn number(self) -> u8
+        ensures number { result ≡ kind_number self }
+        ensures back { kind_at result ≡ Some self }
+    {
+        match self {
+            NetKind::Can => 0,
+            NetKind::J1939 => 1,
+        }
+    }
+
+    /// The kind of this number, or `None` where none has it.
+    pub fn of_number(number: u32) -> Option<NetKind>
+        ensures kind { result ≡ kind_at number }
+        ensures numbered { IfSome result (λ kind. kind_number kind ≡ number) }
+    {
+        if number == 0 {
+            Some(NetKind::Can)
+        } else if number == 1 {
+            Some(NetKind::J1939)
+        } else {
+            None
+        }
+    }
+}
+
+impl Pdu {
+    ghost use Rattle.office_types.specs.Command.{group_form};
+
+    /// The form of the parameter groups as numbers.
+    pub fn number_form(self) -> Form
+        ensures { result ≡ group_form self }
+    {
+        match self {
+            Pdu::Addressed(_) => Form::Pdu1,
+            Pdu::Broadcast => Form::Pdu2,
+        }
+    }
+}
+
+impl Drop for Command {
+    fn drop(self) {
+        let Command {
+            net: _net,
+            task: _task,
+        } = self;
+    }
+}
+
+impl Drop for Task {
+    fn drop(self) {
+        match self {
+            Task::Act(_action) => {}
+            Task::Import(_file) => {}
+        }
+    }
+}
+
+impl Drop for Action {
+    fn drop(self) {
+        match self {
+            Action::OpenNet(_) => {}
+            Action::Grant(_grant) => {}
+            Action::AddNode(_node) => {}
+            Action::TakeIdent(_take) => {}
+            Action::TakePgn(_take) => {}
+            Action::TakeSpn(_take) => {}
+            Action::TakeBits(_take) => {}
+            Action::SetValues(_set) => {}
+            Action::RemoveSignal(_path) => {}
+            Action::Retire(_message) => {}
+            Action::Submit | Action::Approve | Action::Reject | Action::Release => {}
+        }
+    }
+}
+
+impl Drop for NewMessage {
+    fn drop(self) {
+        let NewMessage {
+            name: _name,
+            length: _length,
+            node: _node,
+        } = self;
+    }
+}
+
+impl Drop for SignalPath {
+    fn drop(self) {
+        let SignalPath {
+            message: _message,
+            signal: _signal,
+        } = self;
+    }
+}
+
+impl Drop for TakeBits {
+    fn drop(self) {
+        let TakeBits {
+            path: _path,
+            size: _size,
+            order: _order,
+            signed: _signed,
+            mux: _mux,
+            factor: _factor,
+            offset: _offset,
+            minimum: _minimum,
+            maximum: _maximum,
+            unit: _unit,
+            receivers: _receivers,
+            start: _start,
+        } = self;
+    }
+}
+
+impl Drop for SetValues {
+    fn drop(self) {
+        let SetValues {
+            path: _path,
+            values: _values,
+        } = self;
+    }
 }

@@ -1,18 +1,27 @@
 //! The allocator: the least free number of some blocks.
-ghost use Rattle.std.specs.Prelude.{◌≡◌, ℕ, ◌<◌, ◌≤◌, ◌↔◌, ◌∷◌, [], ◌&&◌, ◌==◌, nat_lt, IsTrue, length, slice_index};
+ghost use Rattle.std.specs.Prelude.{◌≡◌, ℕ, ◌<◌, ◌≤◌, ◌↔◌, ◌∷◌, [], ◌&&◌, ◌==◌, nat_lt, IsTrue, List, length, slice_index};
 ghost use Rattle.std.specs.List.Sorted.{IsStrictlyIncreasing};
 ghost use Rattle.office_types.specs.Free.{has_form, greatest_number, is_taken, lesser_of, IsLeastFree, SplitsAt, least_free};
+ghost use Rattle.office_types.specs.declared.block.Block.{Block};
+ghost use Rattle.office_types.specs.declared.free.Form.{Form};
 
-use crate::block::Block;
-use can_id::IdentForm;
+use crate::block::{Block, GREATEST_PGN};
+use can_id::{IdentForm, has_destination};
+use catalogue::SPN_LIMIT;
 
-/// What kind of number is asked for.
+/// What the numbers that are asked for are.
 #[derive(Clone, Copy, Debug, PartialEq, Eq)]
 pub enum Form {
     /// 11-bit identifiers, 0 to 2047.
     Std,
     /// 29-bit identifiers, 0 to 536870911.
     Ext,
+    /// J1939 parameter groups with a destination address and with the extended data page clear.
+    Pdu1,
+    /// J1939 parameter groups without one, with the extended data page clear.
+    Pdu2,
+    /// J1939 suspect parameter numbers, 1 to 524287.
+    Spn,
 }
 
 impl Form {
@@ -35,6 +44,8 @@ impl Form {
         match self {
             Form::Std => IdentForm::Standard.greatest(),
             Form::Ext => IdentForm::Extended.greatest(),
+            Form::Pdu1 | Form::Pdu2 => GREATEST_PGN,
+            Form::Spn => SPN_LIMIT,
         }
     }
 
@@ -43,11 +54,22 @@ impl Form {
         ensures { result ≡ has_form self number }
     {
         number <= self.greatest()
+            && match self {
+                Form::Std | Form::Ext => true,
+                Form::Pdu1 => has_destination(number) && number % 256 == 0,
+                Form::Pdu2 => !has_destination(number),
+                Form::Spn => number >= 1,
+            }
     }
 }
 
-/// Whether each number is above the one before it. No numbers, or one, are in ascending order.
-pub fn rises(numbers: &[u32]) -> bool
+/// The least free number, as it is computed, is the least number that is free, and it is none only where none is free.
+pub fn least_numbers_are_least()
+    ensures { (taken : List ℕ) (blocks : List Block) (form : Form) → IsLeastFree taken blocks form (least_free taken blocks form) }
+{}
+
+/// Whether each number is above the one before it. None or one number rises.
+pub fn is_ascending(numbers: &[u32]) -> bool
     ensures { IsTrue result ↔ IsStrictlyIncreasing numbers.now }
 {
     for i in 1..numbers.len() {
@@ -69,8 +91,8 @@ fn count_below(taken: &[u32], number: u32) -> usize
     }
 }
 
-/// Whether the number is among the taken ones, where `below` of these are below it.
-fn stands_at(taken: &[u32], below: usize, number: u32) -> bool
+/// Whether the number is the one after the lesser ones.
+fn is_at(taken: &[u32], below: usize, number: u32) -> bool
     requires rising { IsStrictlyIncreasing taken.now }
     requires split { SplitsAt taken.now below number }
     ensures { result ≡ is_taken number taken.now }
@@ -87,7 +109,7 @@ fn least_in(taken: &[u32], block: Block, form: Form) -> Option<u32>
     let mut below = count_below(taken, block.first);
     for wide in u64::from(block.first)..u64::from(last) + 1 {
         let number = wide as u32;
-        if stands_at(taken, below, number) {
+        if is_at(taken, below, number) {
             below += 1;
         } else if form.has(number) {
             return Some(number);
@@ -106,9 +128,9 @@ fn lesser(a: Option<u32>, b: Option<u32>) -> Option<u32>
     }
 }
 
-/// The least number that is in one of the blocks, has the form and isn't taken; `None` if there is none.
+/// The least number that lies in one of the blocks, has the form and isn't taken; `None` where there is none.
 ///
-/// `taken` must be in ascending order, which [`rises`] checks. The blocks may be in any order, and may overlap.
+/// `taken` rises, which [`is_ascending`] tells. The blocks need not be in any order, nor apart.
 pub fn least_free(taken: &[u32], blocks: &[Block], form: Form) -> Option<u32>
     requires { IsStrictlyIncreasing taken.now }
     ensures least { IsLeastFree taken.now blocks.now form result }

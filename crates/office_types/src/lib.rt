@@ -1,37 +1,47 @@
-//! The types of the office: teams and networks, commands and replies, the state, and the allocators.
+//! What the office speaks of: teams and networks, commands and replies, the state, and the allocators.
 //!
-//! A [`Command`] asks for one thing on one network; the types of its fields allow no value out of range. A [`Reply`]
-//! is what the office answers. The state is plain data: [`Office`] holds networks in the order of their names and the
-//! [`SpnBook`], and a [`Net`] holds its live messages, blocks and held identifiers, each in the order of a key, as
-//! database tables in that order do. A [`Change`] is one thing that a command sets.
+//! A [`Command`] asks for one thing on one network: an [`Action`], or to import a file. Its fields are typed so that no
+//! value out of range can be written ([`command_is_in_range`]). A [`Reply`] is what the office answers. The state is
+//! plain data: [`Office`] holds networks in the order of their names and the [`SpnBook`]; a [`Net`] holds its [`Head`],
+//! live messages, blocks, held identifiers, approvals and releases, each in the order of a key, so that the state is
+//! also what tables ordered by key hold. A [`Change`] is one thing that a command sets or removes. What tables keep as
+//! numbers (kinds, phases, forms, refusals, replies) has its numbers here, both ways.
 //!
 //! [`least_free`] is the allocator: the least number of some blocks that has a form and isn't taken.
 //!
 //! The definitions are in `specs/`: `PlainName.antt`, `Command.antt` (ranges of a command's fields),
-//! `Reply.antt` (the lines of replies), `Refusal.antt` (numbers and names of refusals), `State.antt` (the invariants of
-//! an office) and `Free.antt`.
+//! `Refusal.antt` and `Reply.antt` (numbers, names and lines), `State.antt` and `Book.antt` (orders), and `Free.antt`.
 #![tactic(auto)]
 
 mod block;
+mod book;
 mod change;
 mod command;
 mod free;
 mod net_name;
 mod plain_name;
 mod quantity;
+mod range;
 mod refusal;
+mod release;
 mod reply;
 mod state;
 mod team;
 
-pub use block::{Block, BlockForm, FormBlock};
+pub use block::{Block, BlockForm, FormBlock, GREATEST_PGN};
+pub use book::{SpnBlock, SpnBook, UsableSpn, UsedSpns};
 pub use can_id::IdentForm;
-pub use change::{Change, Decision, Head};
-pub use command::{Action, Command, Grant, NetKind, OpenNet, TakeIdent};
-pub use free::{Form, least_free, rises};
+pub use change::{Change, Decision};
+pub use command::{
+    Action, Command, Grant, NetKind, NewMessage, OpenNet, Pdu, SetValues, SignalPath, TakeBits,
+    TakeIdent, TakePgn, TakeSpn, Task,
+};
+pub use free::{Form, is_ascending, least_free, least_numbers_are_least};
 pub use net_name::NetName;
-pub use quantity::ReviewCount;
-pub use refusal::Refusal;
-pub use reply::Reply;
-pub use state::{GrantedBlock, LiveMessage, Message, Net, Node, Office, Phase, SpnBlock, SpnBook};
+pub use quantity::{Priority, ReviewCount};
+pub use range::command_is_in_range;
+pub use refusal::{FileFault, Refusal, refusals_are_numbered};
+pub use release::{FrozenSheet, RELEASE_LIMIT};
+pub use reply::{Reply, ReplyNumbers, replies_are_numbered};
+pub use state::{GrantedBlock, Head, LiveMessage, Net, Office, Phase};
 pub use team::{Team, is_office};

@@ -1,11 +1,16 @@
-//! The office's state: networks with their messages, blocks and held identifiers, and the SPN book.
+//! The office's state: networks, each with its head, live messages, blocks, held identifiers, approvals and releases;
+//! and the SPN book.
+ghost use Rattle.std.specs.Prelude.{◌≡◌};
+
 use crate::block::FormBlock;
+use crate::book::SpnBook;
 use crate::command::NetKind;
 use crate::net_name::NetName;
 use crate::quantity::ReviewCount;
+use crate::release::FrozenSheet;
 use crate::team::Team;
 use can_id::Ident;
-use catalogue::{Copying, Items, Keyed, Name, PayloadLength};
+use catalogue::{Copying, Items, Keyed, Message, Sheet};
 use std::alloc::{AllocError, Global};
 use std::cmp::Ordering;
 
@@ -19,22 +24,32 @@ pub struct Office {
 
 /// One vehicle network.
 pub struct Net {
-    /// The network's name, by which commands refer to it.
+    /// The network's name, by which commands speak of it.
     pub name: NetName,
-    /// Whether J1939 parameter groups are given out.
+    /// What it has once.
+    pub head: Head,
+    /// The live messages, in ascending order of DBC number.
+    pub live: Items<LiveMessage>,
+    /// The granted blocks, by form and then by their first number; those of suspect parameter numbers are in the book.
+    pub blocks: Items<GrantedBlock>,
+    /// The identifiers that are held for good, in ascending order of DBC number.
+    pub held: Items<Ident>,
+    /// The teams that approved of the network in this review, in ascending order of name; none in draft.
+    pub approvals: Items<Team>,
+    /// The releases, from the first one on.
+    pub releases: Items<FrozenSheet>,
+}
+
+/// What a network has once: a row of the table of networks.
+pub struct Head {
+    /// Whether J1939 parameter groups are allotted.
     pub kind: NetKind,
     /// How many approvals a release needs.
     pub reviews: ReviewCount,
     /// Whether the network may be changed.
     pub phase: Phase,
-    /// The nodes, in the order in which they were added.
-    pub nodes: Items<Node>,
-    /// The live messages, in ascending order of DBC number.
-    pub live: Items<LiveMessage>,
-    /// The granted blocks, by form and then by their first number.
-    pub blocks: Items<GrantedBlock>,
-    /// The identifiers that are held for good, in ascending order of DBC number.
-    pub held: Items<Ident>,
+    /// The live sheet without its messages.
+    pub frame: Sheet,
 }
 
 /// Whether a network is being changed or reviewed.
@@ -46,24 +61,6 @@ pub enum Phase {
         /// The team that asked for the review.
         submitter: Team,
     },
-}
-
-/// A node of a network.
-pub struct Node {
-    /// The node's name.
-    pub name: Name,
-}
-
-/// A message without signals.
-pub struct Message {
-    /// The identifier under which it is sent.
-    pub ident: Ident,
-    /// The message's name.
-    pub name: Name,
-    /// How many bytes it carries.
-    pub length: PayloadLength,
-    /// The node that transmits it.
-    pub transmitter: Option<Name>,
 }
 
 /// A live message, and the team that took it.
@@ -82,42 +79,50 @@ pub struct GrantedBlock {
     pub team: Team,
 }
 
-/// The J1939 suspect parameter numbers of the whole office.
-pub struct SpnBook {
-    /// The granted blocks, by network and then by their first number.
-    pub blocks: Items<SpnBlock>,
-    /// Each number that was ever used, in ascending order.
-    pub used: Items<u32>,
-}
+impl Phase {
+    ghost use Rattle.std.specs.Option.{option_copied};
+    ghost use Rattle.office_types.specs.State.{phase_number, phase_at, submitter_of};
 
-/// A block of suspect parameter numbers from `first` to `last`, inclusive, of a team on a network.
-pub struct SpnBlock {
-    /// The network.
-    pub net: NetName,
-    /// The team.
-    pub team: Team,
-    /// The least number, at least 1.
-    pub first: u32,
-    /// The greatest number, at most 524287.
-    pub last: u32,
-}
-
-impl Copying for Node {
-    fn duplicate(&self, alloc: Global) -> Result<Self, AllocError> {
-        Ok(Node {
-            name: self.name.duplicate(alloc)?,
-        })
+    /// The phase's number: 0 for draft, 1 for a review.
+    pub fn number(&self) -> u8
+        ensures { result ≡ phase_number self.now }
+    {
+        match self {
+            Phase::Draft => 0,
+            Phase::Review { .. } => 1,
+        }
     }
-}
 
-impl Copying for Message {
-    fn duplicate(&self, alloc: Global) -> Result<Self, AllocError> {
-        Ok(Message {
-            ident: self.ident,
-            name: self.name.duplicate(alloc)?,
-            length: self.length,
-            transmitter: self.transmitter.duplicate(alloc)?,
-        })
+    /// The team that asked for the review, `None` in draft.
+    pub fn submitter(&self) -> Option<&Team>
+        ensures { option_copied result ≡ submitter_of self.now }
+    {
+        match self {
+            Phase::Draft => None,
+            Phase::Review { submitter } => Some(submitter),
+        }
+    }
+
+    /// The phase of this number and submitter: draft has none, a review has one. `None` where no phase is so.
+    pub fn of_number(number: u32, submitter: Option<Team>) -> Option<Phase>
+        ensures { result ≡ phase_at number submitter }
+    {
+        match submitter {
+            None => {
+                if number == 0 {
+                    Some(Phase::Draft)
+                } else {
+                    None
+                }
+            }
+            Some(submitter) => {
+                if number == 1 {
+                    Some(Phase::Review { submitter })
+                } else {
+                    None
+                }
+            }
+        }
     }
 }
 
@@ -150,37 +155,27 @@ impl Copying for Phase {
     }
 }
 
+impl Copying for Head {
+    fn duplicate(&self, alloc: Global) -> Result<Self, AllocError> {
+        Ok(Head {
+            kind: self.kind,
+            reviews: self.reviews,
+            phase: self.phase.duplicate(alloc)?,
+            frame: self.frame.duplicate(alloc)?,
+        })
+    }
+}
+
 impl Copying for Net {
     fn duplicate(&self, alloc: Global) -> Result<Self, AllocError> {
         Ok(Net {
             name: self.name.duplicate(alloc)?,
-            kind: self.kind,
-            reviews: self.reviews,
-            phase: self.phase.duplicate(alloc)?,
-            nodes: self.nodes.duplicate(alloc)?,
+            head: self.head.duplicate(alloc)?,
             live: self.live.duplicate(alloc)?,
             blocks: self.blocks.duplicate(alloc)?,
             held: self.held.duplicate(alloc)?,
-        })
-    }
-}
-
-impl Copying for SpnBlock {
-    fn duplicate(&self, alloc: Global) -> Result<Self, AllocError> {
-        Ok(SpnBlock {
-            net: self.net.duplicate(alloc)?,
-            team: self.team.duplicate(alloc)?,
-            first: self.first,
-            last: self.last,
-        })
-    }
-}
-
-impl Copying for SpnBook {
-    fn duplicate(&self, alloc: Global) -> Result<Self, AllocError> {
-        Ok(SpnBook {
-            blocks: self.blocks.duplicate(alloc)?,
-            used: self.used.duplicate(alloc)?,
+            approvals: self.approvals.duplicate(alloc)?,
+            releases: self.releases.duplicate(alloc)?,
         })
     }
 }
@@ -222,9 +217,9 @@ impl Keyed for GrantedBlock {
     ghost ordered = { Prim.search (comparing, rules) };
 
     fn compare(&self, other: &GrantedBlock) -> Ordering {
-        let rank = self.block.form().rank();
-        let other_rank = other.block.form().rank();
-        rank.cmp(&other_rank).then(self.block.numbers().first.cmp(&other.block.numbers().first))
+        let form = self.block.form().number();
+        let other_form = other.block.form().number();
+        form.cmp(&other_form).then(self.block.numbers().first.cmp(&other.block.numbers().first))
     }
 }
 
@@ -241,31 +236,35 @@ impl Drop for Net {
     fn drop(self) {
         let Net {
             name: _name,
-            kind: _kind,
-            reviews: _reviews,
-            phase: _phase,
-            nodes: _nodes,
+            head: _head,
             live: _live,
             blocks: _blocks,
             held: _held,
+            approvals: _approvals,
+            releases: _releases,
         } = self;
     }
 }
 
-impl Drop for Node {
+impl Drop for Head {
     fn drop(self) {
-        let Node { name: _name } = self;
+        let Head {
+            kind: _kind,
+            reviews: _reviews,
+            phase: _phase,
+            frame: _frame,
+        } = self;
     }
 }
 
-impl Drop for Message {
+impl Drop for Phase {
     fn drop(self) {
-        let Message {
-            ident: _ident,
-            name: _name,
-            length: _length,
-            transmitter: _transmitter,
-        } = self;
+        match self {
+            Phase::Draft => {}
+            Phase::Review {
+                submitter: _submitter,
+            } => {}
+        }
     }
 }
 
@@ -284,36 +283,5 @@ impl Drop for GrantedBlock {
             block: _block,
             team: _team,
         } = self;
-    }
-}
-
-impl Drop for SpnBook {
-    fn drop(self) {
-        let SpnBook {
-            blocks: _blocks,
-            used: _used,
-        } = self;
-    }
-}
-
-impl Drop for SpnBlock {
-    fn drop(self) {
-        let SpnBlock {
-            net: _net,
-            team: _team,
-            first: _first,
-            last: _last,
-        } = self;
-    }
-}
-
-impl Drop for Phase {
-    fn drop(self) {
-        match self {
-            Phase::Draft => {}
-            Phase::Review {
-                submitter: _submitter,
-            } => {}
-        }
     }
 }

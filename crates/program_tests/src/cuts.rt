@@ -10,7 +10,7 @@ struct Cut<'a> {
 }
 
 impl FileSource for Cut<'_> {
-    ghost use Rattle.canoffice_cli.specs.Holding.{unknown};
+    ghost use Rattle.office_script.specs.Files.{unknown};
 
     ghost held = { λ _ _. unknown };
 

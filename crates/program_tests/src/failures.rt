@@ -115,7 +115,7 @@ fn writes_fail_at_each_byte_and_flush(rt: HostRuntime) {
 struct Exhausted;
 
 impl FileSource for Exhausted {
-    ghost use Rattle.canoffice_cli.specs.Holding.{unknown};
+    ghost use Rattle.office_script.specs.Files.{unknown};
 
     ghost held = { λ _ _. unknown };
 

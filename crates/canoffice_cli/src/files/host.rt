@@ -16,7 +16,7 @@ pub struct HostFiles<'r, R> {
 }
 
 impl<R: Files> FileSource for HostFiles<'_, R> {
-    ghost use Rattle.canoffice_cli.specs.Holding.{unknown};
+    ghost use Rattle.office_script.specs.Files.{unknown};
 
     ghost held = { λ _ _. unknown };
 

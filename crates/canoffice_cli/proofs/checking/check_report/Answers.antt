@@ -1,6 +1,6 @@
 use Rattle.std.proofs.Common.{ap, inr, refl, ◌∙◌}
 use Rattle.canoffice_cli.specs.Checked.{fault_output}
-use Rattle.canoffice_cli.proofs.ReadFaults.{read_fault}
+use Rattle.dbc_read.proofs.ReadFaults.{read_fault}
 use Rattle.canoffice_cli.proofs.checking.check_report.Goals as goal
 
 pub returns-in_ok-line-in_default : goal.returns-in_ok-line-in_default

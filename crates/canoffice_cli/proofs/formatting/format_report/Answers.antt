@@ -3,7 +3,7 @@ use Rattle.dbc_read.specs.Passed.{start_and_keyword}
 use Rattle.canoffice_cli.specs.Formatted.{fault_errors}
 use Rattle.canoffice_cli.specs.Outcome.{success}
 use Rattle.canoffice_cli.proofs.Canonical.{not_nothing, printed_again}
-use Rattle.canoffice_cli.proofs.ReadFaults.{read_fault}
+use Rattle.dbc_read.proofs.ReadFaults.{read_fault}
 use Rattle.canoffice_cli.proofs.formatting.format_report.Goals as goal
 
 pub returns-in_ok-output-in-Ok-clause-canonical : goal.returns-in_ok-output-in-Ok-clause-canonical

@@ -1,7 +1,7 @@
 use Rattle.std.proofs.Common.{rules, ◌≡◌, None, Some}
 use Rattle.office_script.specs.Words.{words_after}
 use Rattle.office_script.specs.Fields.{fields_of}
-use Rattle.office_script.specs.FieldViews.{named_values}
+use Rattle.office_fields.specs.Given.{named_values}
 use Rattle.office_script.proofs.FieldLaws.{fields_law}
 use Rattle.office_script.proofs.fields.read_fields.Goals as goal
 

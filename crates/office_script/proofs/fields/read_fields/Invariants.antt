@@ -2,7 +2,7 @@ use Rattle.std.proofs.Common.{◌≡◌, ◌++◌, length}
 use Rattle.std.specs.Option.{option_map}
 use Rattle.office_script.specs.Words.{words_after}
 use Rattle.office_script.specs.Fields.{fields_of}
-use Rattle.office_script.specs.FieldViews.{named_values}
+use Rattle.office_fields.specs.Given.{named_values}
 use Rattle.office_script.proofs.fields.read_fields.Given as goal
 
 -- the fields so far, and those of the words that are left

@@ -9,13 +9,13 @@ returns-then-is_empty-clause-lines c = lines_law c.args.text.now
 
 pub returns-in-Some-clause-next : goal.returns-in-Some-clause-next
 returns-in-Some-clause-next c =
-    ap lines_of c.in-Some.ensures.1 ∙ lines_of-feed c.in-Some.line.now c.in-Some.rest.now c.in-Some.ensures.0
+    ap lines_of c.in-Some.ensures.parts.1 ∙ lines_of-feed c.in-Some.line.now c.in-Some.rest.now c.in-Some.ensures.parts.0
 
 pub returns-in-Some-clause-lines : goal.returns-in-Some-clause-lines
 returns-in-Some-clause-lines c = lines_law c.args.text.now
 
 pub returns-in-None-clause-next : goal.returns-in-None-clause-next
-returns-in-None-clause-next c = lines_of-last c.args.text.now c.in-None.ensures (grind (arith, nat_tests))
+returns-in-None-clause-next c = lines_of-last c.args.text.now c.in-None.ensures.parts (grind (arith, nat_tests))
 
 pub returns-in-None-clause-lines : goal.returns-in-None-clause-lines
 returns-in-None-clause-lines c = lines_law c.args.text.now

@@ -3,7 +3,7 @@ use Rattle.office_script.proofs.Scripts.{IsReadSoFar}
 use Rattle.office_script.proofs.script.requests_of.Given as goal
 
 abbrev pub invariant-loop-first : goal.invariant-loop-first
-invariant-loop-first l = IsReadSoFar l.text l.rest l.number l.requests.items
+invariant-loop-first g l = IsReadSoFar (g.F.FileSource.held l.files) l.text l.rest l.number l.requests.items
 
 abbrev pub decreases-loop-first : goal.decreases-loop-first
-decreases-loop-first l = length l.rest
+decreases-loop-first g l = length l.rest

@@ -1,6 +1,6 @@
 use Rattle.office_types.specs.declared.reply.Reply.{Reply}
 use Rattle.std.proofs.Common.{List, ◌++◌, ◌∷◌, [], ap, ◌∙◌}
-use Rattle.office.proofs.Stepping.{HasRun-more}
+use Rattle.office.proofs.Runs.{HasRun-more}
 use Rattle.office.proofs.plain.PlainOffice.run.Goals as goal
 
 pub loop-team-preserved : goal.loop-team-preserved

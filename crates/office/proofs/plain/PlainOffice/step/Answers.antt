@@ -1,35 +1,25 @@
-use Rattle.std.proofs.Common.{List, Option, ap, ◌∙◌, sym, subst, find}
-use Rattle.std.specs.Str.{bytes_eq}
-use Rattle.office_types.specs.declared.state.Net.{Net}
+use Rattle.std.proofs.Common.{subst}
+use Rattle.std.specs.Option.{option_copied}
 use Rattle.office_types.specs.declared.state.Office.{Office}
-use Rattle.office.specs.Outcome.{outcome, reply_of}
-use Rattle.office.specs.Draft.{left_by}
-use Rattle.office.specs.Step.{Step, step_outcome}
-use Rattle.office.proofs.Stepping.{office_after-none, office_after-some}
+use Rattle.office_rules.specs.Step.{Step}
+use Rattle.office_law.proofs.KeptOffice.{offices_are_kept}
+use Rattle.office.proofs.Runs.{indexed_step}
 use Rattle.office.proofs.plain.PlainOffice.step.Goals as goal
 
-pub returns-in-None-clause-step : goal.returns-in-None-clause-step
-returns-in-None-clause-step c =
-    let team = c.args.team.now in
-    let command = c.args.command.now in
-    let state = c.self.inside.state in
-    let there = c.net_named-net.ensures ∙ ap (find (λ (n : Net). bytes_eq n.name command.net)) c.as_slice.ensures in
-    subst (λ (o : Office). Step o team command c.in_ok-reply.field-0.reply o) c.self.view_is record {
-      answered = c.in_ok-reply.ensures.reply ∙ ap (λ (n : Option Net). reply_of (outcome team n state.book command)) there;
-      left = office_after-none state (step_outcome state team command)
-          (sym c.in-None.is ∙ c.in_ok-reply.ensures.changed ∙ ap (λ (n : Option Net). left_by (outcome team n state.book command)) there);
-    }
+pub returns-clause-step : goal.returns-clause-step
+returns-clause-step c =
+    let o : Office = record { nets = c.self.inside.nets.items; book = c.self.inside.book } in
+    let after : Office = record { nets = c.carry_out.new.nets.items; book = c.carry_out.new.book } in
+    let d = c.in_ok-decision in
+    subst (λ (before : Office). Step before c.args.team.now c.args.command.now d.decision.reply after) c.self.view_is
+    (indexed_step o after c.deref.result.now c.deref-2.result.now c.args.team.now c.args.command.now c.index_of-index.result (option_copied c.net_at-net.result)
+    d.decision c.self.invariant.rising c.deref.ensures.value c.deref-2.ensures.value c.index_of-index.ensures c.net_at-net.ensures d.ensures.decision c.in_ok-carry_out.ensures.ok)
 
-pub returns-in_ok-put_item-in-Some-clause-step : goal.returns-in_ok-put_item-in-Some-clause-step
-returns-in_ok-put_item-in-Some-clause-step c =
-    let team = c.args.team.now in
-    let command = c.args.command.now in
-    let state = c.self.inside.state in
-    let there = c.net_named-net.ensures ∙ ap (find (λ (n : Net). bytes_eq n.name command.net)) c.as_slice.ensures in
-    subst (λ (o : Office). Step o team command c.in_ok-reply.field-0.reply (record { nets = c.put_item.new.items; book = c.in-Some.changed.book })) c.self.view_is record {
-      answered = c.in_ok-reply.ensures.reply ∙ ap (λ (n : Option Net). reply_of (outcome team n state.book command)) there;
-      left =
-          ap (λ (ns : List Net). record { nets = ns; book = c.in-Some.changed.book }) c.in_ok-put_item-in-Some.ensures.ok
-          ∙ office_after-some state (step_outcome state team command) c.in-Some.changed
-          (sym c.in-Some.is ∙ c.in_ok-reply.ensures.changed ∙ ap (λ (n : Option Net). left_by (outcome team n state.book command)) there);
-    }
+pub invariant_of-self-2 : goal.invariant_of-self-2
+invariant_of-self-2 c =
+    let o : Office = record { nets = c.self.inside.nets.items; book = c.self.inside.book } in
+    let after : Office = record { nets = c.carry_out.new.nets.items; book = c.carry_out.new.book } in
+    let d = c.in_ok-decision in
+    offices_are_kept.step o after c.args.team.now c.args.command.now d.decision.reply c.self.invariant c.as_bytes.ensures.keeps c.command_is_in_range.ensures
+    (indexed_step o after c.deref.result.now c.deref-2.result.now c.args.team.now c.args.command.now c.index_of-index.result (option_copied c.net_at-net.result)
+    d.decision c.self.invariant.rising c.deref.ensures.value c.deref-2.ensures.value c.index_of-index.ensures c.net_at-net.ensures d.ensures.decision c.in_ok-carry_out.ensures.ok)

@@ -1,0 +1,84 @@
+-- What is decided on a command, by what is decided on its action or its import.
+use Rattle.std.proofs.Common.{◌≡◌, ℕ, List, Option, Some, None, Contains, refl, sym, subst, arith}
+use Rattle.dbc_lex.specs.Fault.{code_number}
+use Rattle.dbc_lex.specs.declared.fault.ReadCode.{ReadCode}
+use Rattle.dbc_lex.specs.declared.fault.ReadCode.TheVariants.{DoubleNumber, DoubleName, TwoMultiplexors, TooMany, UnclosedText, StrayByte, Unexpected, UnknownStatement, ExtendedMultiplexing, Number, Identifier, Name, Length, Size, Memory}
+use Rattle.office_types.specs.declared.change.Decision.{Decision}
+use Rattle.office_types.specs.declared.command.Action.{Action}
+use Rattle.office_types.specs.declared.command.Command.{Command}
+use Rattle.office_types.specs.declared.command.Task.TheVariants.{Act, Import}
+use Rattle.office_types.specs.declared.state.Net.{Net}
+use Rattle.office_types.specs.declared.state.Phase.{Phase}
+use Rattle.office_types.specs.declared.state.Phase.TheVariants.{Draft, Review}
+use Rattle.office_rules.specs.Change.{Decides, IsDecision, NetAndBook}
+use Rattle.office_rules.specs.Commands.{acted, done_task}
+use Rattle.office_rules.specs.Importing.{FileReading, Reading, Unreadable}
+use Rattle.office_rules.specs.Step.{IsRead, IsUnreadable, fault_codes, file_wanted}
+use Rattle.office_types.specs.declared.refusal.FileFault.{FileFault}
+use Rattle.office.specs.Imported.{IsCommandDecision, IsImportDecision, IsToldFault, IsWantedReading}
+
+-- Any reading will do where no file is wanted.
+pub no_reading : FileReading
+no_reading = Unreadable (record { fault = 0; at = 0 })
+
+phase_unwanted : (a : Action) (net : Net) (phase : Phase) → net.head.phase ≡ phase → file_wanted (Some net) (Act a) ≡ None
+phase_unwanted a net Draft is = subst (λ p. file_wanted (Some (record net { head = record net.head { phase = p } })) (Act a) ≡ None) (sym is) refl
+phase_unwanted a net (Review team) is = subst (λ p. file_wanted (Some (record net { head = record net.head { phase = p } })) (Act a) ≡ None) (sym is) refl
+
+unwanted : (a : Action) (net : Option Net) → file_wanted net (Act a) ≡ None
+unwanted a None = refl
+unwanted a (Some net) = phase_unwanted a net net.head.phase refl
+
+pub action_decided : (team : List ℕ) (before : NetAndBook) (c : Command) (a : Action) (d : Decision) → c.task ≡ Act a
+    → Decides c.net before (acted team c.net before.net before.book a) d → IsCommandDecision team before c d
+action_decided team before c a d is h = record {
+  reading = no_reading;
+  read = subst (λ t. IsWantedReading (file_wanted before.net t) no_reading) (sym is) (subst (λ o. IsWantedReading o no_reading) (sym (unwanted a before.net)) (tt {0}));
+  decides = subst (λ t. Decides c.net before (done_task team c.net no_reading before.net before.book t) d) (sym is) h;
+}
+
+pub import_decided : (team : List ℕ) (before : NetAndBook) (c : Command) (file : List ℕ) (d : Decision) → c.task ≡ Import file
+    → IsImportDecision team before.net file d → IsCommandDecision team before c d
+import_decided team before c file d is h = record {
+  reading = h.reading;
+  read = subst (λ t. IsWantedReading (file_wanted before.net t) h.reading) (sym is) h.read;
+  decides = subst (λ t. Decides c.net before (done_task team c.net h.reading before.net before.book t) d) (sym is) (h.decides c.net before.book);
+}
+
+-- each code but that of memory is one that reading has
+pub code_told : (code : ReadCode) → (code ≡ Memory → ⊥) → Contains fault_codes (code_number code)
+code_told DoubleNumber other = (0, omega arith, refl)
+code_told DoubleName other = (1, omega arith, refl)
+code_told TwoMultiplexors other = (2, omega arith, refl)
+code_told TooMany other = (3, omega arith, refl)
+code_told UnclosedText other = (4, omega arith, refl)
+code_told StrayByte other = (5, omega arith, refl)
+code_told Unexpected other = (6, omega arith, refl)
+code_told UnknownStatement other = (7, omega arith, refl)
+code_told ExtendedMultiplexing other = (8, omega arith, refl)
+code_told Number other = (9, omega arith, refl)
+code_told Identifier other = (10, omega arith, refl)
+code_told Name other = (11, omega arith, refl)
+code_told Length other = (12, omega arith, refl)
+code_told Size other = (13, omega arith, refl)
+code_told Memory other = absurd (other refl)
+
+-- a fault that `read` gives is one that the step allows
+unreadable_if_told : (file : List ℕ) (told : FileFault) → IsToldFault file told → IsUnreadable file told
+unreadable_if_told file told h = record {
+  unread = h.given.nothing;
+  code = subst (Contains fault_codes) (sym h.tells.code) (code_told h.fault.code h.tells.other);
+  offset = (let is = h.tells.offset in let within = h.given.within in omega (arith, is, within));
+}
+
+read_if_wanted : (wanted : Option (List ℕ)) (reading : FileReading) → IsWantedReading wanted reading → IsRead wanted reading
+read_if_wanted None reading h = tt
+read_if_wanted (Some file) (Reading s) h = h
+read_if_wanted (Some file) (Unreadable told) h = unreadable_if_told file told h
+
+pub decision_if_read : (team : List ℕ) (before : NetAndBook) (c : Command) (d : Decision) → IsCommandDecision team before c d → IsDecision team before c d
+decision_if_read team before c d h = record {
+  reading = h.reading;
+  read = read_if_wanted (file_wanted before.net c.task) h.reading h.read;
+  decides = h.decides;
+}

@@ -1,0 +1,23 @@
+-- What a list of changes, decided for the network of a name, leaves of the whole office.
+use Rattle.std.specs.Prelude.{◌≡◌, ℕ, ◌<◌, List, length, Option, Some, None, slice_get}
+use Rattle.catalogue.specs.Keyed.{put}
+use Rattle.office_types.specs.State.{by_name}
+use Rattle.office_types.specs.declared.change.Change.{Change}
+use Rattle.office_types.specs.declared.state.Office.{Office}
+use Rattle.office_rules.specs.Change.{NetAndBook, all_applied}
+use Rattle.office_rules.specs.Step.{net_named}
+
+-- the office with its network and its book so
+abbrev pub with_both : Office → NetAndBook → Office
+with_both o both = elim both.net [
+  | None ↦ record o { book = both.book }
+  | Some net ↦ record { nets = put by_name net o.nets; book = both.book }
+]
+
+abbrev pub carried : Office → List ℕ → List Change → Office
+carried o name changes = with_both o (all_applied name changes (record { net = net_named o name; book = o.book }))
+
+-- the index of the network of the name, if it is there
+abbrev pub IsIndexOf : Office → List ℕ → Option ℕ → Type 0
+IsIndexOf o name None = net_named o name ≡ None
+IsIndexOf o name (Some i) = (i < length o.nets) × (slice_get o.nets i ≡ net_named o name)

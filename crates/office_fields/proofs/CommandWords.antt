@@ -1,0 +1,23 @@
+-- Each command is that of its word.
+use Rattle.std.proofs.Common.{◌≡◌, Some, refl}
+use Rattle.office_fields.specs.declared.kind.ActionKind.TheVariants as act
+use Rattle.office_fields.specs.declared.kind.CommandKind.{CommandKind}
+use Rattle.office_fields.specs.declared.kind.CommandKind.TheVariants.{Act, Import}
+use Rattle.office_fields.specs.Kind.{kind_of_word, word_of}
+
+pub named_back : (kind : CommandKind) → kind_of_word (word_of kind) ≡ Some kind
+named_back (Act act.OpenNet) = refl
+named_back (Act act.Grant) = refl
+named_back (Act act.AddNode) = refl
+named_back (Act act.TakeIdent) = refl
+named_back (Act act.TakePgn) = refl
+named_back (Act act.TakeSpn) = refl
+named_back (Act act.TakeBits) = refl
+named_back (Act act.SetValues) = refl
+named_back (Act act.RemoveSignal) = refl
+named_back (Act act.Retire) = refl
+named_back (Act act.Submit) = refl
+named_back (Act act.Approve) = refl
+named_back (Act act.Reject) = refl
+named_back (Act act.Release) = refl
+named_back Import = refl

@@ -1,0 +1,34 @@
+-- The command that named values give.
+use Rattle.std.specs.Prelude.{List, Option, Some}
+use Rattle.std.specs.Option.{option_map}
+use Rattle.office_types.specs.declared.command.Command.{Command}
+use Rattle.office_types.specs.declared.command.Task.TheVariants as task
+use Rattle.office_fields.specs.declared.asked.Asked.{Asked}
+use Rattle.office_fields.specs.declared.asked.Asked.TheVariants as asked
+use Rattle.office_fields.specs.declared.asked.FileImport.{FileImport}
+use Rattle.office_fields.specs.declared.field.Field.TheVariants as field
+use Rattle.office_fields.specs.declared.kind.ActionKind.{ActionKind}
+use Rattle.office_fields.specs.declared.kind.CommandKind.{CommandKind}
+use Rattle.office_fields.specs.declared.kind.CommandKind.TheVariants.{Act, Import}
+use Rattle.office_fields.specs.Action.{action_of}
+use Rattle.office_fields.specs.Field.{fields_of}
+use Rattle.office_fields.specs.Given.{NamedValue, are_known, given}
+use Rattle.office_fields.specs.Value.{◌>>=◌, where_true}
+
+-- a command, where no value is of another field
+abbrev pub command_of : ActionKind → List NamedValue → Option Command
+command_of k values = where_true (are_known (fields_of (Act k)) values) do
+  net ← given field.Net values
+  action ← action_of k values
+  Some (record { net = net; task = task.Act action })
+
+-- the import of a file that is still to be read
+abbrev pub file_import_of : List NamedValue → Option FileImport
+file_import_of values = where_true (are_known (fields_of Import) values) do
+  net ← given field.Net values
+  file ← given field.File values
+  Some (record { net = net; file = file })
+
+abbrev pub asked_of : CommandKind → List NamedValue → Option Asked
+asked_of (Act k) values = option_map asked.Command (command_of k values)
+asked_of Import values = option_map asked.Import (file_import_of values)

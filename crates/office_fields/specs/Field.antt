@@ -1,0 +1,89 @@
+-- The fields of the commands: the table.
+use Rattle.std.specs.Prelude.{ℕ, List, [], ◌∷◌, codes}
+use Rattle.office_fields.specs.declared.field.Field.{Field}
+use Rattle.office_fields.specs.declared.field.Field.TheVariants as field
+use Rattle.office_fields.specs.declared.field.FieldKind.{FieldKind}
+use Rattle.office_fields.specs.declared.field.FieldKind.TheVariants as kind
+use Rattle.office_fields.specs.declared.field.Occurrence.{Occurrence}
+use Rattle.office_fields.specs.declared.field.Occurrence.TheVariants.{Required, Optional, Repeated}
+use Rattle.office_fields.specs.declared.kind.ActionKind.{ActionKind}
+use Rattle.office_fields.specs.declared.kind.ActionKind.TheVariants as act
+use Rattle.office_fields.specs.declared.kind.CommandKind.{CommandKind}
+use Rattle.office_fields.specs.declared.kind.CommandKind.TheVariants.{Act, Import}
+
+-- a field: its name, the kind of its values, and how often it may be given
+pub record Row : Type 0 where
+  pub name : List ℕ
+  pub kind : FieldKind
+  pub occurrence : Occurrence
+
+-- exactly once
+abbrev required : List ℕ → FieldKind → Row
+required name k = record { name = name; kind = k; occurrence = Required }
+
+-- at most once
+abbrev optional : List ℕ → FieldKind → Row
+optional name k = record { name = name; kind = k; occurrence = Optional }
+
+-- any number of times, none too
+abbrev repeated : List ℕ → FieldKind → Row
+repeated name k = record { name = name; kind = k; occurrence = Repeated }
+
+abbrev pub row_of : Field → Row
+row_of field.Net = required (codes "net") kind.NetName
+row_of field.Kind = required (codes "kind") kind.NetKind
+row_of field.Reviews = required (codes "reviews") kind.Reviews
+row_of field.Team = required (codes "team") kind.Team
+row_of field.BlockForm = required (codes "form") kind.BlockForm
+row_of field.First = required (codes "first") kind.Number
+row_of field.Last = required (codes "last") kind.Number
+row_of field.Name = required (codes "name") kind.Name
+row_of field.IdentForm = required (codes "form") kind.IdentForm
+row_of field.Length = required (codes "length") kind.Length
+row_of field.Node = optional (codes "node") kind.Name
+row_of field.Want = optional (codes "want") kind.Number
+row_of field.Pdu = required (codes "pdu") kind.Addressing
+row_of field.Priority = required (codes "priority") kind.Priority
+row_of field.Source = required (codes "source") kind.Address
+row_of field.Destination = optional (codes "destination") kind.Address
+row_of field.Message = required (codes "message") kind.Name
+row_of field.Signal = required (codes "signal") kind.Name
+row_of field.Same = optional (codes "same") kind.Number
+row_of field.Size = required (codes "size") kind.Size
+row_of field.Order = required (codes "order") kind.ByteOrder
+row_of field.Signed = required (codes "signed") kind.Truth
+row_of field.Mux = optional (codes "mux") kind.Mark
+row_of field.Factor = required (codes "factor") kind.Decimal
+row_of field.Offset = required (codes "offset") kind.Decimal
+row_of field.Minimum = required (codes "minimum") kind.Decimal
+row_of field.Maximum = required (codes "maximum") kind.Decimal
+row_of field.Unit = required (codes "unit") kind.Text
+row_of field.Receiver = repeated (codes "receiver") kind.Name
+row_of field.Start = optional (codes "start") kind.Start
+row_of field.Value = repeated (codes "value") kind.ValueText
+row_of field.File = required (codes "file") kind.Path
+
+-- the fields of an action beside the network
+abbrev pub action_fields : ActionKind → List Field
+action_fields act.OpenNet = field.Kind ∷ field.Reviews ∷ []
+action_fields act.Grant = field.Team ∷ field.BlockForm ∷ field.First ∷ field.Last ∷ []
+action_fields act.AddNode = field.Name ∷ []
+action_fields act.TakeIdent = field.IdentForm ∷ field.Name ∷ field.Length ∷ field.Node ∷ field.Want ∷ []
+action_fields act.TakePgn =
+    field.Name ∷ field.Length ∷ field.Node ∷ field.Pdu ∷ field.Priority ∷ field.Source ∷ field.Destination ∷ []
+action_fields act.TakeSpn = field.Message ∷ field.Signal ∷ field.Same ∷ []
+action_fields act.TakeBits =
+    field.Message ∷ field.Signal ∷ field.Size ∷ field.Order ∷ field.Signed ∷ field.Mux ∷ field.Factor ∷ field.Offset ∷
+    field.Minimum ∷ field.Maximum ∷ field.Unit ∷ field.Receiver ∷ field.Start ∷ []
+action_fields act.SetValues = field.Message ∷ field.Signal ∷ field.Value ∷ []
+action_fields act.RemoveSignal = field.Message ∷ field.Signal ∷ []
+action_fields act.Retire = field.Message ∷ []
+action_fields act.Submit = []
+action_fields act.Approve = []
+action_fields act.Reject = []
+action_fields act.Release = []
+
+-- the fields of a command
+abbrev pub fields_of : CommandKind → List Field
+fields_of (Act k) = field.Net ∷ action_fields k
+fields_of Import = field.Net ∷ field.File ∷ []

@@ -1,0 +1,7 @@
+pub mod Kind
+pub mod Value
+pub mod Field
+pub mod Given
+pub mod Action
+pub mod Asked
+pub mod Reading

@@ -1,0 +1,111 @@
+//! The command that named values give.
+ghost use Rattle.std.specs.Prelude.{◌≡◌};
+ghost use Rattle.office_fields.specs.Asked.{asked_of, command_of, file_import_of};
+ghost use Rattle.office_fields.specs.Given.{named_values};
+ghost use Rattle.office_fields.specs.Reading.{Reads};
+
+use crate::actions::action_of;
+use crate::field::Field;
+use crate::given::{GivenValue, are_known, once};
+use crate::kind::{ActionKind, CommandKind};
+use crate::path::FilePath;
+use crate::unread::Unread;
+use catalogue::Items;
+use office_types::{Command, NetName, Task};
+use std::alloc::Global;
+
+/// What named values ask for.
+#[derive(Drop)]
+pub enum Asked {
+    /// A command.
+    Command(Command),
+    /// To import a file, which is still to be read.
+    Import(FileImport),
+}
+
+/// The import of a file that is still to be read.
+pub struct FileImport {
+    /// The network.
+    pub net: NetName,
+    /// The path of the file.
+    pub file: FilePath,
+}
+
+impl FileImport {
+    ghost use Rattle.office_types.specs.declared.command.Task.TheVariants.{Import};
+
+    /// The command that imports these bytes, which are those of the file. Takes no memory.
+    pub fn with_bytes(self, bytes: Vec<u8>) -> Command
+        ensures { result ≡ record { net = self.net; task = Import bytes.items } }
+    {
+        let FileImport { net, file: _file } = self;
+        Command {
+            net,
+            task: Task::Import(Items::from_vec(bytes)),
+        }
+    }
+
+    /// The path of the file. Takes no memory.
+    pub fn into_path(self) -> FilePath
+        ensures { result ≡ self.file }
+    {
+        let FileImport { net: _net, file } = self;
+        file
+    }
+}
+
+/// The command of the kind with these values, in any order: those of its fields and no others, each as often as its field
+/// may be given and of its kind. `Wrong` where the values aren't so; where a block's last number is below its first or
+/// one of them is no number of its form; and where a broadcast has a destination.
+pub fn command_of(
+    alloc: Global,
+    kind: ActionKind,
+    values: &[GivenValue<'_>],
+) -> Result<Command, Unread>
+    ensures { Reads (command_of kind (named_values values.now)) result }
+{
+    if !are_known(CommandKind::Act(kind).fields(), values) {
+        return Err(Unread::Wrong);
+    }
+    let net = once(alloc, values, Field::Net)?;
+    let action = action_of(alloc, kind, values)?;
+    Ok(Command {
+        net,
+        task: Task::Act(action),
+    })
+}
+
+/// The import with these values, in any order. `Wrong` as for [`command_of`].
+fn file_import_of(alloc: Global, values: &[GivenValue<'_>]) -> Result<FileImport, Unread>
+    ensures { Reads (file_import_of (named_values values.now)) result }
+{
+    if !are_known(CommandKind::Import.fields(), values) {
+        return Err(Unread::Wrong);
+    }
+    let net = once(alloc, values, Field::Net)?;
+    let file = once(alloc, values, Field::File)?;
+    Ok(FileImport { net, file })
+}
+
+/// What a command with these values asks for: [`command_of`], but that an import has the path of its file.
+pub fn asked_of(
+    alloc: Global,
+    kind: CommandKind,
+    values: &[GivenValue<'_>],
+) -> Result<Asked, Unread>
+    ensures { Reads (asked_of kind (named_values values.now)) result }
+{
+    match kind {
+        CommandKind::Act(kind) => Ok(Asked::Command(command_of(alloc, kind, values)?)),
+        CommandKind::Import => Ok(Asked::Import(file_import_of(alloc, values)?)),
+    }
+}
+
+impl Drop for FileImport {
+    fn drop(self) {
+        let FileImport {
+            net: _net,
+            file: _file,
+        } = self;
+    }
+}

@@ -1,0 +1,186 @@
+//! The commands, by their words.
+ghost use Rattle.std.specs.Prelude.{◌≡◌, Some};
+ghost use Rattle.office_fields.specs.Field.{fields_of};
+
+use crate::field::Field;
+
+/// A command that reads no file.
+#[derive(Clone, Copy)]
+pub enum ActionKind {
+    /// `open_net`.
+    OpenNet,
+    /// `grant`.
+    Grant,
+    /// `add_node`.
+    AddNode,
+    /// `take_ident`.
+    TakeIdent,
+    /// `take_pgn`.
+    TakePgn,
+    /// `take_spn`.
+    TakeSpn,
+    /// `take_bits`.
+    TakeBits,
+    /// `set_values`.
+    SetValues,
+    /// `remove_signal`.
+    RemoveSignal,
+    /// `retire`.
+    Retire,
+    /// `submit`.
+    Submit,
+    /// `approve`.
+    Approve,
+    /// `reject`.
+    Reject,
+    /// `release`.
+    Release,
+}
+
+/// A command.
+#[derive(Clone, Copy)]
+pub enum CommandKind {
+    /// One that reads no file.
+    Act(ActionKind),
+    /// `import`, which reads one.
+    Import,
+}
+
+/// All commands.
+const COMMANDS: [CommandKind; 15] = [
+    CommandKind::Act(ActionKind::OpenNet),
+    CommandKind::Act(ActionKind::Grant),
+    CommandKind::Act(ActionKind::AddNode),
+    CommandKind::Act(ActionKind::TakeIdent),
+    CommandKind::Act(ActionKind::TakePgn),
+    CommandKind::Act(ActionKind::TakeSpn),
+    CommandKind::Act(ActionKind::TakeBits),
+    CommandKind::Act(ActionKind::SetValues),
+    CommandKind::Act(ActionKind::RemoveSignal),
+    CommandKind::Act(ActionKind::Retire),
+    CommandKind::Import,
+    CommandKind::Act(ActionKind::Submit),
+    CommandKind::Act(ActionKind::Approve),
+    CommandKind::Act(ActionKind::Reject),
+    CommandKind::Act(ActionKind::Release),
+];
+
+impl ActionKind {
+    ghost use Rattle.office_fields.specs.Kind.{action_word};
+
+    /// The command's word.
+    pub fn word(self) -> &'static str
+        ensures { result.now ≡ action_word self }
+    {
+        match self {
+            ActionKind::OpenNet => "open_net",
+            ActionKind::Grant => "grant",
+            ActionKind::AddNode => "add_node",
+            ActionKind::TakeIdent => "take_ident",
+            ActionKind::TakePgn => "take_pgn",
+            ActionKind::TakeSpn => "take_spn",
+            ActionKind::TakeBits => "take_bits",
+            ActionKind::SetValues => "set_values",
+            ActionKind::RemoveSignal => "remove_signal",
+            ActionKind::Retire => "retire",
+            ActionKind::Submit => "submit",
+            ActionKind::Approve => "approve",
+            ActionKind::Reject => "reject",
+            ActionKind::Release => "release",
+        }
+    }
+}
+
+impl CommandKind {
+    ghost use Rattle.office_fields.specs.Kind.{kind_of_word, word_of};
+    ghost use Rattle.office_fields.specs.Field.{fields_of};
+
+    /// The command's word.
+    pub fn word(self) -> &'static str
+        ensures word { result.now ≡ word_of self }
+        ensures back { kind_of_word result.now ≡ Some self }
+    {
+        match self {
+            CommandKind::Act(kind) => kind.word(),
+            CommandKind::Import => "import",
+        }
+    }
+
+    /// The command that the word names, or `None` where it names none.
+    pub fn of_word(word: &[u8]) -> Option<CommandKind>
+        ensures { result ≡ kind_of_word word.now }
+    {
+        COMMANDS
+            .iter()
+            .copied()
+            .find(|kind| kind.word().as_bytes() == word)
+    }
+
+    /// The command's fields.
+    pub fn fields(self) -> &'static [Field]
+        ensures { result.now ≡ fields_of self }
+    {
+        match self {
+            CommandKind::Act(kind) => action_fields(kind),
+            CommandKind::Import => &[Field::Net, Field::File],
+        }
+    }
+}
+
+/// The fields of a command that reads no file.
+fn action_fields(kind: ActionKind) -> &'static [Field]
+    ensures { result.now ≡ fields_of (CommandKind.Act kind) }
+{
+    match kind {
+        ActionKind::OpenNet => &[Field::Net, Field::Kind, Field::Reviews],
+        ActionKind::Grant => &[
+            Field::Net,
+            Field::Team,
+            Field::BlockForm,
+            Field::First,
+            Field::Last,
+        ],
+        ActionKind::AddNode => &[Field::Net, Field::Name],
+        ActionKind::TakeIdent => &[
+            Field::Net,
+            Field::IdentForm,
+            Field::Name,
+            Field::Length,
+            Field::Node,
+            Field::Want,
+        ],
+        ActionKind::TakePgn => &[
+            Field::Net,
+            Field::Name,
+            Field::Length,
+            Field::Node,
+            Field::Pdu,
+            Field::Priority,
+            Field::Source,
+            Field::Destination,
+        ],
+        ActionKind::TakeSpn => &[Field::Net, Field::Message, Field::Signal, Field::Same],
+        ActionKind::TakeBits => &[
+            Field::Net,
+            Field::Message,
+            Field::Signal,
+            Field::Size,
+            Field::Order,
+            Field::Signed,
+            Field::Mux,
+            Field::Factor,
+            Field::Offset,
+            Field::Minimum,
+            Field::Maximum,
+            Field::Unit,
+            Field::Receiver,
+            Field::Start,
+        ],
+        ActionKind::SetValues => &[Field::Net, Field::Message, Field::Signal, Field::Value],
+        ActionKind::RemoveSignal => &[Field::Net, Field::Message, Field::Signal],
+        ActionKind::Retire => &[Field::Net, Field::Message],
+        ActionKind::Submit | ActionKind::Approve | ActionKind::Reject | ActionKind::Release => {
+            &[Field::Net]
+        }
+    }
+}

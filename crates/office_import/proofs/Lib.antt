@@ -1,0 +1,8 @@
+pub mod Each
+pub mod Refused
+pub mod Imported
+pub mod Searched
+pub mod NameSets
+pub mod Sides
+pub mod Rostered
+pub mod Counted

@@ -1,0 +1,7 @@
+use Rattle.std.proofs.Common.{◌≡◌, ◌++◌, map, take}
+use Rattle.office_types.specs.declared.change.Change.TheVariants.{EnterSpn}
+use Rattle.office_rules.specs.Importing.{new_messages, spns_of}
+use Rattle.office_import.proofs.changes.add_all_spns.Given as goal
+
+abbrev pub invariant-loop-message : goal.invariant-loop-message
+invariant-loop-message l = l.changes ≡ l.fn.changes ++ map EnterSpn (spns_of (new_messages l.index (take l.message-index l.messages)))

@@ -1,0 +1,7 @@
+use Rattle.std.proofs.Common.{◌≡◌, ◌++◌, map, take}
+use Rattle.office_types.specs.declared.change.Change.TheVariants.{SetMessage}
+use Rattle.office_rules.specs.Importing.{new_messages, owned_by}
+use Rattle.office_import.proofs.changes.add_messages.Given as goal
+
+abbrev pub invariant-loop-message : goal.invariant-loop-message
+invariant-loop-message l = l.changes ≡ l.fn.changes ++ map (λ m. SetMessage (owned_by l.team m)) (new_messages l.index (take l.message-index l.messages))

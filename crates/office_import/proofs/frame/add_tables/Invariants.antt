@@ -1,0 +1,10 @@
+use Rattle.std.proofs.Common.{◌≡◌, ◌++◌}
+use Rattle.std.specs.Vec.Iter.{into_iter_items}
+use Rattle.catalogue.specs.declared.sheet.Sheet.{Sheet}
+use Rattle.office_import.proofs.frame.add_tables.Given as goal
+
+abbrev pub invariant-loop-table : goal.invariant-loop-table
+invariant-loop-table l = record {
+  rest : l.sheet.tables ++ into_iter_items l.table-iterator ≡ l.initial.sheet.tables ++ l.fn.tables;
+  same : ◌≡◌ {A = Sheet} l.sheet (record l.initial.sheet { tables = l.sheet.tables });
+}

@@ -1,0 +1,97 @@
+-- What a command takes from the book and writes into its network is in its reply.
+use Rattle.std.proofs.Common.{◌≡◌, ℕ, List, Option, Some, None, refl, sym, ap, subst}
+use Rattle.catalogue.specs.Refusing.{Test, first_refusal}
+use Rattle.office_types.specs.declared.book.SpnBook.{SpnBook}
+use Rattle.office_types.specs.declared.command.Action.{Action}
+use Rattle.office_types.specs.declared.command.Action.TheVariants as act
+use Rattle.office_types.specs.declared.command.Grant.{Grant}
+use Rattle.office_types.specs.declared.command.TakeSpn.{TakeSpn}
+use Rattle.office_types.specs.declared.command.Task.{Task}
+use Rattle.office_types.specs.declared.command.Task.TheVariants.{Act, Import}
+use Rattle.office_types.specs.declared.refusal.Refusal.{Refusal}
+use Rattle.office_types.specs.declared.refusal.Refusal.TheVariants as no
+use Rattle.office_types.specs.declared.reply.Reply.{Reply}
+use Rattle.office_types.specs.declared.reply.Reply.TheVariants.{Number}
+use Rattle.office_types.specs.declared.state.Net.{Net}
+use Rattle.office_rules.specs.Commands.{acted, done_task}
+use Rattle.office_rules.specs.Facts.{live_named, message_facts}
+use Rattle.office_rules.specs.Importing.{FileReading}
+use Rattle.office_rules.specs.Numbers.{with_message}
+use Rattle.office_rules.specs.Opening.{grant, grant_tests, granted}
+use Rattle.office_rules.specs.Outcome.{Outcome, Refusing, Changing, given_or, on_net, refused_or, reply_of, unless}
+use Rattle.office_rules.specs.Signals.{spn_given, take_spn, take_spn_tests, with_spn}
+use Rattle.office_law.specs.Histories.{net_after}
+use Rattle.office_law.proofs.Left.{IsAnswer, IsLeft, left_task}
+use Rattle.office_law.proofs.Passing.{Leaves}
+
+-- where both are answered, and alike, they leave one network
+abbrev pub Agree : Outcome → Outcome → Type 0
+Agree (Refusing r) b = Unit {0}
+Agree (Changing r n d) (Refusing s) = Unit {0}
+Agree (Changing r n d) (Changing s m e) = r ≡ s → n ≡ m
+
+agree_same : (a : Outcome) → Agree a a
+agree_same (Refusing r) = tt
+agree_same (Changing r n e) = λ _. refl
+
+agree_refused : (a : Outcome) (s : Refusal) → Agree a (Refusing s)
+agree_refused (Refusing r) s = tt
+agree_refused (Changing r n e) s = tt
+
+agree_or : (o p : Option Refusal) (a b : Outcome) → Agree a b → Agree (refused_or o a) (refused_or p b)
+agree_or None None a b h = h
+agree_or None (Some s) a b h = agree_refused a s
+agree_or (Some r) p a b h = tt
+
+agree_unless : (ts us : List (Test Refusal)) (a b : Outcome) → Agree a b → Agree (unless ts a) (unless us b)
+agree_unless ts us a b h = agree_or (first_refusal ts) (first_refusal us) a b h
+
+agree_with : {A : Type 0} (r : Refusal) (o : Option A) (f g : A → Outcome) → ((x : A) → Agree (f x) (g x)) → Agree (given_or r o f) (given_or r o g)
+agree_with r None f g h = tt
+agree_with r (Some x) f g h = h x
+
+agree_given : {A : Type 0} (r : Refusal) (o p : Option A) (f g : A → Outcome) → ((x y : A) → Agree (f x) (g y)) → Agree (given_or r o f) (given_or r p g)
+agree_given r None p f g h = tt
+agree_given r (Some x) None f g h = agree_refused (f x) r
+agree_given r (Some x) (Some y) f g h = h x y
+
+same_number : (a b : ℕ) → ◌≡◌ {A = Reply} (Number a) (Number b) → a ≡ b
+same_number a b e = cc
+
+module _ (team name : List ℕ) (book other : SpnBook) where
+  agree_grant : (net : Option Net) (c : Grant) → Agree (grant team name net book c) (grant team name net other c)
+  agree_grant None c = agree_unless (grant_tests team None book c) (grant_tests team None other c) (Refusing no.NoNet) (Refusing no.NoNet) tt
+  agree_grant (Some n) c = agree_unless (grant_tests team (Some n) book c) (grant_tests team (Some n) other c) (granted name n c) (granted name n c) (agree_same (granted name n c))
+
+  agree_spn : (net : Option Net) (c : TakeSpn) → Agree (take_spn team name net book c) (take_spn team name net other c)
+  agree_spn None c = tt
+  agree_spn (Some n) c =
+      agree_unless (on_net (Some n) (λ n. take_spn_tests team name (message_facts n c.path.message) book c)) (on_net (Some n) (λ n. take_spn_tests team name (message_facts n c.path.message) other c)) _ _
+      (agree_with no.NoMessage (live_named n.live c.path.message) _ _ (λ m.
+      agree_given no.BlockFull (spn_given team name book c) (spn_given team name other c) _ _
+      (λ x y e. ap (λ k. with_message n (with_spn m c.path.signal k)) (same_number x y e))))
+
+  agree_act : (net : Option Net) (a : Action) → Agree (acted team name net book a) (acted team name net other a)
+  agree_act net (act.Grant c) = agree_grant net c
+  agree_act net (act.TakeSpn c) = agree_spn net c
+  agree_act net a = agree_same (acted team name net book a)
+
+  pub agree_task : (reading : FileReading) (net : Option Net) (t : Task) → Agree (done_task team name reading net book t) (done_task team name reading net other t)
+  agree_task reading net (Act a) = agree_act net a
+  agree_task reading net (Import file) = agree_same (done_task team name reading net book (Import file))
+
+module _ (name : List ℕ) (t : Task) (net : Option Net) where
+  one_network : (a b : Outcome) → Agree a b → Leaves (λ r n e. IsLeft name t net r n) a → Leaves (λ r n e. IsLeft name t net r n) b
+      → reply_of a ≡ reply_of b → net_after net a ≡ net_after net b
+  one_network (Refusing r) (Refusing s) h ha hb same = refl
+  one_network (Refusing r) (Changing s m e) h ha hb same = absurd (subst IsAnswer (sym same) hb.answer)
+  one_network (Changing r n d) (Refusing s) h ha hb same = absurd (subst IsAnswer same ha.answer)
+  one_network (Changing r n d) (Changing s m e) h ha hb same = ap Some (h same)
+
+-- a command that is answered alike with two books leaves one network
+pub one_reply_one_network : (team name : List ℕ) (reading : FileReading) (net : Option Net) (book other : SpnBook) (t : Task)
+    → reply_of (done_task team name reading net book t) ≡ reply_of (done_task team name reading net other t)
+    → net_after net (done_task team name reading net book t) ≡ net_after net (done_task team name reading net other t)
+one_reply_one_network team name reading net book other t same =
+    one_network name t net (done_task team name reading net book t) (done_task team name reading net other t)
+    (agree_task team name book other reading net t) (left_task team name book reading net t) (left_task team name other reading net t) same

@@ -1,0 +1,330 @@
+-- What every office keeps is kept by each step, and by runs of them.
+use Rattle.std.proofs.Common.{◌≡◌, ◌≤◌, ◌+◌, length, ◌∙◌, ◌||◌, not, Bool, true, false, cond, ℕ, List, [], ◌∷◌, Option, Some, None, Contains, inl, inr, refl, sym, ap, subst, arith}
+use Rattle.std.specs.Prelude.{IfSome, is_some}
+use Rattle.std.specs.List.{All, IsDistinct, find, list_any}
+use Rattle.std.specs.List.Sorted.{IsStrictlySortedBy}
+use Rattle.std.specs.Ordering.{is_eq, nat_cmp}
+use Rattle.std.specs.Str.{bytes_eq}
+use Rattle.std.specs.declared.cmp.Ordering.{Ordering}
+use Rattle.std.specs.declared.cmp.Ordering.TheVariants.{Equal}
+use Rattle.std.proofs.lemmas.Bool.{cond_both, false≢true}
+use Rattle.std.proofs.lemmas.Cmp.{nat_list_cmp_total, on_total}
+use Rattle.std.proofs.lemmas.List.Elements.{All-cons, All-filter, All-head, All-nil, All-tail, All-weaker}
+use Rattle.std.proofs.lemmas.List.Folds.{Any-from_list_any, list_any_at}
+use Rattle.std.proofs.lemmas.Map.Text.{is_eq-slice_cmp}
+use Rattle.std.proofs.lemmas.Slice.Eq.{bytes_eq-Decides}
+use Rattle.catalogue.specs.Form.{IsMessage}
+use Rattle.catalogue.specs.Keyed.{put, text_cmp}
+use Rattle.catalogue.proofs.PutKeeps.{All-put, IsStrictlySortedBy-put}
+use Rattle.catalogue.specs.Refusing.{Test}
+use Rattle.office_types.specs.declared.command.Action.{Action}
+use Rattle.office_types.specs.declared.command.Action.TheVariants as act
+use Rattle.office_types.specs.declared.command.Command.{Command}
+use Rattle.office_types.specs.declared.command.Task.{Task}
+use Rattle.office_types.specs.declared.command.Task.TheVariants.{Act, Import}
+use Rattle.office_types.specs.declared.refusal.Refusal.{Refusal}
+use Rattle.office_types.specs.declared.refusal.Refusal.TheVariants as no
+use Rattle.office_types.specs.declared.reply.Reply.{Reply}
+use Rattle.office_types.specs.declared.reply.Reply.TheVariants.{Done, Release}
+use Rattle.office_rules.specs.Commands.{acted, done_task}
+use Rattle.office_rules.specs.Numbers.{take_ident, take_pgn}
+use Rattle.office_rules.specs.Reviewing.{approve, in_phase, reject, release, release_tests, submit, with_release}
+use Rattle.office_rules.specs.Signals.{remove_signal, set_values, take_bits, take_spn}
+use Rattle.office_law.proofs.OnSignals.{IsText-empty}
+use Rattle.office_law.proofs.Passing.{Leaves, leaves_unless}
+use Rattle.office_types.specs.Book.{by_net}
+use Rattle.office_types.specs.Command.{IsAction, IsCommand, IsTask}
+use Rattle.office_types.specs.PlainName.{IsPlainName}
+use Rattle.office_types.specs.State.{by_name, live_messages, sheet_of}
+use Rattle.office_types.specs.declared.book.SpnBook.{SpnBook}
+use Rattle.office_types.specs.declared.command.OpenNet.{OpenNet}
+use Rattle.office_types.specs.declared.state.Net.{Net}
+use Rattle.office_types.specs.declared.state.Office.{Office}
+use Rattle.office_types.specs.declared.state.Phase.TheVariants.{Draft, Review}
+use Rattle.office_rules.specs.Facts.{in_review, is_live, was_released}
+use Rattle.office_rules.specs.Importing.{FileReading, Reading, Unreadable, import, new_messages, spns_entered}
+use Rattle.office_rules.specs.Kept.{AreEntered, IsBook, IsEntered, IsNet, IsOffice}
+use Rattle.office_rules.specs.Lists.{put_all}
+use Rattle.office_rules.specs.Opening.{add_node, bare_net, grant, grant_tests, granted, new_head, open_net, open_net_tests}
+use Rattle.office_rules.specs.Outcome.{Entries, no_entries, entered, Outcome, Refusing, Changing, given_or, unless}
+use Rattle.office_rules.specs.Retiring.{retire, retired, with_held, without_message}
+use Rattle.office_rules.specs.Step.{IsRead, IsReadingOf, file_wanted, net_named, office_after, opening, Run, Step, step_outcome}
+use Rattle.office_law.specs.Kept.{AreRequests, OfficesAreKept}
+use Rattle.office_law.proofs.Going.{Allowed, Goes, IsReadingSheet, goes_approve, goes_bits, goes_grant, goes_ident, goes_import, goes_node, goes_pgn, goes_reject, goes_release, goes_removal, goes_retire, goes_spn, goes_submit, goes_values}
+use Rattle.office_law.proofs.KeptBlocks.{IsNet-approved, IsNet-granted, IsNet-in_phase, IsNet-noded}
+use Rattle.office_law.proofs.KeptBook.{IsBook-granted, IsBook-used, still_used}
+use Rattle.office_law.proofs.KeptEntered.{IsEntered-changed, IsEntered-imported, IsEntered-more, IsEntered-released, IsEntered-retired, IsEntered-silent, are_spns}
+use Rattle.office_law.proofs.KeptImport.{IsNet-imported}
+use Rattle.office_law.proofs.KeptMessages.{IsNet-changed, IsNet-joined, IsNet-released, IsNet-retired}
+use Rattle.office_law.proofs.Lists.{Contains-put, Contains-put_other}
+use Rattle.office_law.proofs.Ways.{Way, GrantsSpns, Grants, AddsNode, Adds, Changes, Retires, Imports, Submits, Approves, Rejects, Releases}
+
+-- What a command leaves of its network and of the book.
+pub record IsWellLeft (name : List ℕ) (book : SpnBook) (n : Net) (e : Entries) : Type 0 where
+  pub net : IsNet n
+  pub named : n.name ≡ name
+  pub book_is : IsBook (entered book e)
+  pub numbers : IsEntered (entered book e).used n
+  pub home : All (λ b. b.net ≡ name) e.blocks
+
+-- the same of an equal network and equal entries
+left_at : (name : List ℕ) (book : SpnBook) (n m : Net) (e f : Entries) → n ≡ m → e ≡ f → IsWellLeft name book m f → IsWellLeft name book n e
+left_at name book n m e f same entries h =
+    subst (λ v. IsWellLeft name book v e) (sym same) (subst (λ v. IsWellLeft name book m v) (sym entries) h)
+
+-- nothing enters the book
+quiet : (name : List ℕ) (book : SpnBook) (n : Net) → IsNet n → n.name ≡ name → IsBook book → IsEntered book.used n → IsWellLeft name book n no_entries
+quiet name book n h named b numbers = record { net = h; named = named; book_is = b; numbers = numbers; home = All-nil (λ b. b.net ≡ name) }
+
+same_numbers : (used : List ℕ) (net n : Net) → net.live ≡ n.live → net.releases ≡ n.releases → IsEntered used net → IsEntered used n
+same_numbers used net n live releases h = record {
+  live = subst (λ l. AreEntered used (live_messages l)) live h.live;
+  released = subst (λ r. All (λ s. AreEntered used s.messages) r) releases h.released;
+}
+
+-- each way leaves the network and the book as they have to be
+pub well_left : (team name : List ℕ) (book : SpnBook) (net n : Net) (e : Entries) (inside : Type 0) → Allowed team name book net inside → net.name ≡ name → IsEntered book.used net
+    → Way (Allowed team name book net inside) team name book net n e → IsWellLeft name book n e
+well_left team name book net n e inside ok named numbers (GrantsSpns b can home same entries) =
+    left_at name book n net e (record no_entries { blocks = b ∷ [] }) same entries (record {
+      net = ok.net_is;
+      named = named;
+      book_is = IsBook-granted book b ok.book_is (can ok);
+      numbers = numbers;
+      home = All-cons (λ o. o.net ≡ name) b [] home (All-nil (λ o. o.net ≡ name));
+    })
+well_left team name book net n e inside ok named numbers (Grants g can same entries) =
+    left_at name book n _ e no_entries same entries
+    (quiet name book _ (IsNet-granted net g ok.net_is (can ok)) named ok.book_is (same_numbers book.used net _ refl refl numbers))
+well_left team name book net n e inside ok named numbers (AddsNode node can same entries) =
+    left_at name book n _ e no_entries same entries
+    (quiet name book _ (IsNet-noded net node ok.net_is (can ok)) named ok.book_is (same_numbers book.used net _ refl refl numbers))
+well_left team name book net n e inside ok named numbers (Adds m can same entries) =
+    left_at name book n _ e no_entries same entries
+    (quiet name book _ (IsNet-joined net m ok.net_is (can ok).joins (can ok).few) named ok.book_is (IsEntered-silent book.used net m numbers (can ok).silent))
+well_left team name book net n e inside ok named numbers (Changes m signals can none same) =
+    left_at name book n _ e e same refl (record {
+      net = IsNet-changed net e m signals ok.net_is (can ok);
+      named = named;
+      book_is = subst (λ bs. IsBook (record { blocks = put_all by_net bs book.blocks; used = put_all nat_cmp e.numbers book.used })) (sym none) (IsBook-used book e.numbers ok.book_is (can ok).numbers);
+      numbers = IsEntered-changed book.used net e m signals numbers (can ok);
+      home = subst (All (λ b. b.net ≡ name)) (sym none) (All-nil (λ b. b.net ≡ name));
+    })
+well_left team name book net n e inside ok named numbers (Retires m there same entries) =
+    left_at name book n _ e no_entries same entries
+    (quiet name book _ (IsNet-retired net m ok.net_is there) (name_kept ∙ named) ok.book_is (IsEntered-retired book.used net m.message.ident numbers))
+  where
+    name_kept : (retired net m.message.ident).name ≡ net.name
+    name_kept = cond_both (was_released net.releases m.message.ident) (with_held (without_message net m.message.ident) m.message.ident) (without_message net m.message.ident)
+        (λ (v : Net). v.name ≡ net.name) (λ _. refl) (λ _. refl)
+well_left team name book net n e inside ok named numbers (Imports s can same entries) =
+    left_at name book n _ e (spns_entered net s) same entries (record {
+      net = IsNet-imported team net s ok.net_is (can ok);
+      named = named;
+      book_is = IsBook-used book (spns_entered net s).numbers ok.book_is (are_spns (new_messages net s.messages)
+          (All-filter (λ m. not (is_live net m.ident)) IsMessage s.messages (can ok).sheet.messages));
+      numbers = IsEntered-imported book.used team net s numbers;
+      home = All-nil (λ b. b.net ≡ name);
+    })
+well_left team name book net n e inside ok named numbers (Submits plain same entries) =
+    left_at name book n _ e no_entries same entries
+    (quiet name book _ (IsNet-in_phase net (Review team) ok.net_is (plain ok)) named ok.book_is (same_numbers book.used net _ refl refl numbers))
+well_left team name book net n e inside ok named numbers (Approves can same entries) =
+    left_at name book n _ e no_entries same entries
+    (quiet name book _ (IsNet-approved net team ok.net_is (can ok)) named ok.book_is (same_numbers book.used net _ refl refl numbers))
+well_left team name book net n e inside ok named numbers (Rejects same entries) =
+    left_at name book n _ e no_entries same entries
+    (quiet name book _ (IsNet-in_phase net Draft ok.net_is tt) named ok.book_is (same_numbers book.used net _ refl refl numbers))
+well_left team name book net n e inside ok named numbers (Releases few same entries) =
+    left_at name book n _ e no_entries same entries
+    (quiet name book _ (IsNet-released net ok.net_is few) named ok.book_is (IsEntered-released book.used net Draft numbers))
+
+-- A network that a command opens.
+opened : (name : List ℕ) (book : SpnBook) (c : OpenNet) → IsPlainName name → c.reviews ≤ 9 → IsBook book → IsWellLeft name book (bare_net name (new_head c)) no_entries
+unfolding IsStrictlySortedBy IsDistinct
+opened name book c plain few h = quiet name book (bare_net name (new_head c)) (record {
+  named = plain;
+  head = record { reviewed = few; submitted = tt; frame_alone = refl };
+  live = record {
+    sheet = record {
+      well_formed = record {
+        nodes = record { apart = tt; few = omega arith };
+        tables = record { apart = tt; few = omega arith };
+        entries = tt;
+        together = record { ascending = tt; apart = tt; few = omega arith };
+        messages = tt;
+      };
+      version = IsText-empty;
+      comment = IsText-empty;
+      nodes = All-nil _;
+      tables = All-nil _;
+      messages = All-nil _;
+    };
+    clear = All-nil _;
+    owned = All-nil _;
+  };
+  blocks = record { ranges = All-nil _; formed = All-nil _; groups = All-nil _; rising = tt; apart = λ i j d l w. absurd (omega arith) };
+  held = record { identifiers = All-nil _; rising = tt; released = All-nil _; apart = All-nil _ };
+  approvals = record { plain = All-nil _; rising = tt; in_review = λ _. refl; others = tt };
+  releases = record { sheets = All-nil _; clear = All-nil _; few = omega arith; kept = All-nil _; one_name = All-nil _ };
+}) refl h (record { live = All-nil _; released = All-nil _ })
+
+-- Each command.
+
+-- the network that the command finds
+pub record IsFound (name : List ℕ) (book : SpnBook) (net : Net) : Type 0 where
+  pub net_is : IsNet net
+  pub named : net.name ≡ name
+  pub numbers : IsEntered book.used net
+
+module _ (team name : List ℕ) (book : SpnBook) (plain : IsPlainName team) (named : IsPlainName name) (book_is : IsBook book) where
+  abbrev Well : Outcome → Type 0
+  Well = Leaves (λ r n e. IsWellLeft name book n e)
+
+  -- a command that goes a way
+  along : (net : Net) (inside : Type 0) (out : Outcome) → IsFound name book net → inside → Goes team name book net inside out → Well out
+  along net inside (Refusing r) found fields way = tt
+  along net inside (Changing r n e) found fields way =
+      well_left team name book net n e inside (record { net_is = found.net_is; book_is = book_is; team_is = plain; name_is = named; fields = fields }) found.named found.numbers way
+
+  -- where there is no network
+  nowhere : (tests : List (Test Refusal)) (out : Net → Outcome) → Well (unless tests (given_or no.NoNet None out))
+  nowhere tests out = leaves_unless (λ r n e. IsWellLeft name book n e) tests (Refusing no.NoNet) (λ _. tt)
+
+  opens : (net : Option Net) (c : OpenNet) → c.reviews ≤ 9 → Well (open_net team name net c)
+  opens net c few = leaves_unless (λ r n e. IsWellLeft name book n e) (open_net_tests team net) (Changing Done (bare_net name (new_head c)) no_entries) (λ _. opened name book c named few book_is)
+
+  well_acted : (net : Option Net) (a : Action) → IsAction a → IfSome net (IsFound name book) → Well (acted team name net book a)
+  well_acted net (act.OpenNet c) fields found = opens net c fields
+  well_acted (Some net) (act.Grant c) fields found = along net _ (grant team name (Some net) book c) found fields (goes_grant team name book net c)
+  well_acted (Some net) (act.AddNode node) fields found = along net _ (add_node (Some net) node) found fields (goes_node team name book net node)
+  well_acted (Some net) (act.TakeIdent c) fields found = along net _ (take_ident team (Some net) c) found fields (goes_ident team name book net c)
+  well_acted (Some net) (act.TakePgn c) fields found = along net _ (take_pgn team (Some net) c) found fields (goes_pgn team name book net c)
+  well_acted (Some net) (act.TakeSpn c) fields found = along net _ (take_spn team name (Some net) book c) found fields (goes_spn team name book net c)
+  well_acted (Some net) (act.TakeBits c) fields found = along net _ (take_bits team (Some net) c) found fields (goes_bits team name book net c)
+  well_acted (Some net) (act.SetValues c) fields found = along net _ (set_values team (Some net) c) found fields (goes_values team name book net c)
+  well_acted (Some net) (act.RemoveSignal path) fields found = along net _ (remove_signal team (Some net) path) found fields (goes_removal team name book net path)
+  well_acted (Some net) (act.Retire message) fields found = along net _ (retire team (Some net) message) found fields (goes_retire team name book net message)
+  well_acted (Some net) act.Submit fields found = along net _ (submit team (Some net)) found tt (goes_submit team name book net)
+  well_acted (Some net) act.Approve fields found = along net _ (approve team (Some net)) found tt (goes_approve team name book net)
+  well_acted (Some net) act.Reject fields found = along net _ (reject team (Some net)) found tt (goes_reject team name book net)
+  well_acted (Some net) act.Release fields found = along net _ (release team (Some net)) found tt (goes_release team name book net)
+  well_acted None (act.Grant c) fields found = nowhere (grant_tests team None book c) (λ n. granted name n c)
+  well_acted None (act.AddNode node) fields found = tt
+  well_acted None (act.TakeIdent c) fields found = tt
+  well_acted None (act.TakePgn c) fields found = tt
+  well_acted None (act.TakeSpn c) fields found = tt
+  well_acted None (act.TakeBits c) fields found = tt
+  well_acted None (act.SetValues c) fields found = tt
+  well_acted None (act.RemoveSignal path) fields found = tt
+  well_acted None (act.Retire message) fields found = tt
+  well_acted None act.Submit fields found = tt
+  well_acted None act.Approve fields found = tt
+  well_acted None act.Reject fields found = tt
+  well_acted None act.Release fields found =
+      nowhere (release_tests team None) (λ n. Changing (Release (length n.releases + 1)) (in_phase (with_release n (sheet_of n)) Draft) no_entries)
+
+  pub well_done : (net : Option Net) (task : Task) (reading : FileReading) → IsTask task → IsRead (file_wanted net task) reading → IfSome net (IsFound name book)
+      → Well (done_task team name reading net book task)
+  well_done net (Act a) reading fields read found = well_acted net a fields found
+  well_done None (Import file) reading fields read found = tt
+  well_done (Some net) (Import file) reading fields read found =
+      along net _ (import team (Some net) reading) found (λ draft. read_sheet file reading (in_draft file reading (in_review net.head.phase) draft read)) (goes_import team name book net reading)
+    where
+      in_draft : (bytes : List ℕ) (r : FileReading) (b : Bool) → b ≡ false → IsRead (elim b [ true ↦ None | false ↦ Some bytes ]) r → IsReadingOf bytes r
+      in_draft bytes r true e h = absurd (false≢true (sym e))
+      in_draft bytes r false e h = h
+
+      read_sheet : (bytes : List ℕ) (r : FileReading) → IsReadingOf bytes r → IsReadingSheet r
+      read_sheet bytes (Reading s) h = h.1.says.is_sheet
+      read_sheet bytes (Unreadable f) h = tt
+
+-- The whole office.
+
+pub found_named : (name : List ℕ) (book : SpnBook) (nets : List Net) → All IsNet nets → All (IsEntered book.used) nets → IfSome (find (λ net. bytes_eq net.name name) nets) (IsFound name book)
+found_named name book [] h k = tt
+found_named name book (net ∷ nets) h k =
+    cond_both (bytes_eq net.name name) (Some net) (find (λ n. bytes_eq n.name name) nets) (λ (o : Option Net). IfSome o (IsFound name book))
+    (λ same. record { net_is = All-head IsNet net nets h; named = (bytes_eq-Decides net.name name).0 same; numbers = All-head (IsEntered book.used) net nets k })
+    (λ _. found_named name book nets (All-tail IsNet net nets h) (All-tail (IsEntered book.used) net nets k))
+
+is_some_any : {A : Type 0} (p : A → Bool) (xs : List A) → is_some (find p xs) ≡ list_any p xs
+is_some_any p [] = refl
+is_some_any p (x ∷ xs) = by_test (p x) (is_some_any p xs)
+  where
+    by_test : (b : Bool) → is_some (find p xs) ≡ list_any p xs → is_some (cond b (Some x) (find p xs)) ≡ (b || list_any p xs)
+    by_test true h = refl
+    by_test false h = h
+
+is_there : (nets : List Net) (k : List ℕ) (x : Net) → Contains nets x → bytes_eq x.name k ≡ true → is_some (find (λ net. bytes_eq net.name k) nets) ≡ true
+is_there nets k x c e =
+    is_some_any (λ net. bytes_eq net.name k) nets ∙ list_any_at (λ (net : Net). bytes_eq net.name k) nets c.0 x c.1 (ap (λ (v : Net). bytes_eq v.name k) c.2 ∙ e)
+
+pub same_text : (a b : List ℕ) → text_cmp a b ≡ Equal → a ≡ b
+same_text a b e = (bytes_eq-Decides a b).0 (sym (is_eq-slice_cmp a b) ∙ ap is_eq e)
+
+-- a network that is there still is, under the same name
+stays_there : (n : Net) (nets : List Net) (name : List ℕ) → is_some (find (λ net. bytes_eq net.name name) nets) ≡ true → is_some (find (λ net. bytes_eq net.name name) (put by_name n nets)) ≡ true
+stays_there n nets name h =
+    let w = Any-from_list_any (λ (net : Net). bytes_eq net.name name) nets (sym (is_some_any (λ net. bytes_eq net.name name) nets) ∙ h) in
+    elim (Contains-put_other by_name n w.1 nets (w.0, w.2, w.3)) [
+      | inl there ↦ is_there (put by_name n nets) name w.1 there w.4
+      | inr equal ↦ is_there (put by_name n nets) name n (Contains-put by_name n nets) (subst (λ v. bytes_eq v name ≡ true) (sym (same_text n.name w.1.name equal)) w.4)
+    ]
+
+All-put_all : {A : Type 0} (P : A → Type 0) (order : A → A → Ordering) (xs ys : List A) → All P xs → All P ys → All P (put_all order xs ys)
+All-put_all P order [] ys h k = k
+All-put_all P order (x ∷ xs) ys h k = All-put_all P order xs (put order x ys) (All-tail P x xs h) (All-put P order x ys (All-head P x xs h) k)
+
+-- the office with what a command leaves
+pub IsOffice-after : (o : Office) (name : List ℕ) (n : Net) (e : Entries) → IsOffice o → IsWellLeft name o.book n e → IsOffice (record { nets = put by_name n o.nets; book = entered o.book e })
+IsOffice-after o name n e h w = record {
+  nets = All-put IsNet by_name n o.nets w.net h.nets;
+  rising = IsStrictlySortedBy-put by_name (on_total (λ (x : Net). x.name) nat_list_cmp_total) n o.nets h.rising;
+  book = w.book_is;
+  granted = All-put_all (λ b. is_some (find (λ net. bytes_eq net.name b.net) (put by_name n o.nets)) ≡ true) by_net e.blocks o.book.blocks
+      (All-weaker (λ b. b.net ≡ name) (λ b. is_some (find (λ net. bytes_eq net.name b.net) (put by_name n o.nets)) ≡ true)
+      (λ b home. is_there (put by_name n o.nets) b.net n (Contains-put by_name n o.nets) ((bytes_eq-Decides n.name b.net).1 (w.named ∙ sym home))) e.blocks w.home)
+      (All-weaker (λ b. is_some (net_named o b.net) ≡ true) (λ b. is_some (find (λ net. bytes_eq net.name b.net) (put by_name n o.nets)) ≡ true)
+      (λ b there. stays_there n o.nets b.net there) o.book.blocks h.granted);
+  entered = All-put (IsEntered (entered o.book e).used) by_name n o.nets w.numbers
+      (All-weaker (IsEntered o.book.used) (IsEntered (entered o.book e).used) (λ net k. IsEntered-more o.book.used (entered o.book e).used net (still_used e.numbers o.book.used) k) o.nets h.entered);
+}
+
+IsOffice-opening : IsOffice opening
+unfolding IsStrictlySortedBy
+IsOffice-opening = record {
+  nets = All-nil _;
+  rising = tt;
+  book = record {
+    ranges = All-nil _;
+    rising = tt;
+    apart = λ i j d l w. absurd (omega arith);
+    used = record { rising = λ k l. absurd (omega arith); numbers_are = refl };
+  };
+  granted = All-nil _;
+  entered = All-nil _;
+}
+
+after_outcome : (o : Office) (name : List ℕ) (out : Outcome) → IsOffice o → Leaves (λ r n e. IsWellLeft name o.book n e) out → IsOffice (office_after o out)
+after_outcome o name (Refusing r) h w = h
+after_outcome o name (Changing r n e) h w = IsOffice-after o name n e h w
+
+IsOffice-step : (before after : Office) (team : List ℕ) (c : Command) (reply : Reply) → IsOffice before → IsPlainName team → IsCommand c → Step before team c reply after → IsOffice after
+IsOffice-step before after team c reply h plain command step =
+    subst IsOffice (sym step.left)
+    (after_outcome before c.net (step_outcome before team step.reading c) h
+    (well_done team c.net before.book plain command.net h.book (net_named before c.net) c.task step.reading command.task step.read
+    (found_named c.net before.book before.nets h.nets h.entered)))
+
+IsOffice-run : (before after : Office) (requests : List (List ℕ × Command)) (replies : List Reply) → IsOffice before → AreRequests requests → Run before requests replies after → IsOffice after
+IsOffice-run before after [] [] h all run = subst IsOffice (sym run) h
+IsOffice-run before after [] (r ∷ replies) h all run = absurd run
+IsOffice-run before after (q ∷ requests) [] h all run = absurd run
+IsOffice-run before after (q ∷ requests) (r ∷ replies) h all run =
+    let first = All-head (λ (p : List ℕ × Command). IsPlainName p.0 × IsCommand p.1) q requests all in
+    IsOffice-run run.0 after requests replies (IsOffice-step before run.0 q.0 q.1 r h first.0 first.1 run.1)
+    (All-tail (λ (p : List ℕ × Command). IsPlainName p.0 × IsCommand p.1) q requests all) run.2
+
+pub offices_are_kept : OfficesAreKept
+offices_are_kept = record { opening_is = IsOffice-opening; step = IsOffice-step; run = IsOffice-run }

@@ -1,0 +1,5 @@
+use Rattle.office_law.proofs.Wanting.{never_two}
+use Rattle.office_law.proofs.laws.sheets_have_one_multiplexor.Goals as goal
+
+pub returns : goal.returns
+returns c = never_two

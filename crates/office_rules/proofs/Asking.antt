@@ -1,0 +1,99 @@
+-- Requests, one after the other, and what they are answered: for worked examples.
+use Rattle.std.proofs.Common.{ℕ, false, List, [], ◌∷◌, Option, None}
+use Rattle.std.specs.Prelude.{pos, codes}
+use Rattle.bitlayout.specs.declared.layout.Order.{Order}
+use Rattle.bitlayout.specs.declared.place.Mux.{Mux}
+use Rattle.can_id.specs.declared.form.IdentForm.TheVariants.{Standard}
+use Rattle.can_id.specs.declared.ident.Ident.{Ident}
+use Rattle.catalogue.specs.Sheet.{empty_sheet}
+use Rattle.catalogue.specs.declared.message.Message.{Message}
+use Rattle.catalogue.specs.declared.sheet.Sheet.{Sheet}
+use Rattle.catalogue.specs.declared.signal.Signal.{Signal}
+use Rattle.decimal.specs.Number.{Number}
+use Rattle.office_types.specs.declared.block.BlockForm.{BlockForm}
+use Rattle.office_types.specs.declared.command.Action.{Action}
+use Rattle.office_types.specs.declared.command.Action.TheVariants as act
+use Rattle.office_types.specs.declared.command.Command.{Command}
+use Rattle.office_types.specs.declared.command.NetKind.{NetKind}
+use Rattle.office_types.specs.declared.command.NewMessage.{NewMessage}
+use Rattle.office_types.specs.declared.command.Pdu.{Pdu}
+use Rattle.office_types.specs.declared.command.SignalPath.{SignalPath}
+use Rattle.office_types.specs.declared.command.Task.TheVariants.{Act, Import}
+use Rattle.office_types.specs.declared.reply.Reply.{Reply}
+use Rattle.office_types.specs.declared.state.Office.{Office}
+use Rattle.office_rules.specs.Importing.{FileReading, Reading}
+use Rattle.office_rules.specs.Outcome.{reply_of}
+use Rattle.office_rules.specs.Step.{step_outcome, office_after}
+
+-- a team's command, and what its file comes to
+pub record Asked : Type 0 where
+  pub team : List ℕ
+  pub reading : FileReading
+  pub command : Command
+
+abbrev pub replies_to : Office → List Asked → List Reply
+replies_to o [] = []
+replies_to o (q ∷ qs) =
+    reply_of (step_outcome o q.team q.reading q.command) ∷ replies_to (office_after o (step_outcome o q.team q.reading q.command)) qs
+
+abbrev pub left_by : Office → List Asked → Office
+left_by o [] = o
+left_by o (q ∷ qs) = left_by (office_after o (step_outcome o q.team q.reading q.command)) qs
+
+abbrev pub office : List ℕ
+office = codes "office"
+
+abbrev pub engine : List ℕ
+engine = codes "engine"
+
+abbrev pub truck : List ℕ
+truck = codes "truck"
+
+abbrev pub asks : List ℕ → Action → Asked
+asks team action = record { team = team; reading = Reading empty_sheet; command = record { net = truck; task = Act action } }
+
+abbrev pub imports : List ℕ → Sheet → Asked
+imports team s = record { team = team; reading = Reading s; command = record { net = truck; task = Import [] } }
+
+abbrev pub opens : NetKind → ℕ → Asked
+opens kind reviews = asks office (act.OpenNet (record { kind = kind; reviews = reviews }))
+
+abbrev pub grants : List ℕ → BlockForm → ℕ → ℕ → Asked
+grants team form first last = asks office (act.Grant (record { team = team; block = record { form = form; first = first; last = last } }))
+
+abbrev pub named : List ℕ → NewMessage
+named name = record { name = name; length = 8; node = None }
+
+abbrev pub takes : List ℕ → List ℕ → Option ℕ → Asked
+takes team name want = asks team (act.TakeIdent (record { form = Standard; message = named name; want = want }))
+
+abbrev pub takes_group : List ℕ → Pdu → Asked
+takes_group name pdu = asks engine (act.TakePgn (record { message = named name; pdu = pdu; priority = 6; source = 0 }))
+
+abbrev pub path : List ℕ → List ℕ → SignalPath
+path message signal = record { message = message; signal = signal }
+
+abbrev pub number : ℕ → Number
+number n = record { mantissa = pos n; exponent = pos 0 }
+
+abbrev pub takes_bits : List ℕ → ℕ → Order → Mux → Option ℕ → Asked
+takes_bits signal size order mux start = asks engine (act.TakeBits (record {
+  path = path (codes "E1") signal;
+  size = size;
+  order = order;
+  signed = false;
+  mux = mux;
+  factor = number 1;
+  offset = number 0;
+  minimum = number 0;
+  maximum = number 0;
+  unit = [];
+  receivers = [];
+  start = start;
+}))
+
+abbrev pub takes_spn : List ℕ → Option ℕ → Asked
+takes_spn signal same = asks engine (act.TakeSpn (record { path = path (codes "E1") signal; same = same }))
+
+abbrev pub message : Ident → List ℕ → List Signal → Message
+message i name signals = record { ident = i; name = name; length = 8; transmitter = None; comment = []; signals = signals }

@@ -1,0 +1,4 @@
+mod Asking
+mod Rows
+pub mod Idents
+pub mod Widened

@@ -1,0 +1,91 @@
+-- What a list of changes does at a network and in the book.
+use Rattle.std.specs.Prelude.{◌≡◌, ℕ, List, [], ◌∷◌, Option, Some, None}
+use Rattle.std.specs.Option.{option_map}
+use Rattle.std.specs.Ordering.{nat_cmp}
+use Rattle.catalogue.specs.Keyed.{put}
+use Rattle.office_types.specs.Book.{by_net}
+use Rattle.office_types.specs.declared.book.SpnBook.{SpnBook}
+use Rattle.office_types.specs.declared.change.Change.{Change}
+use Rattle.office_types.specs.declared.change.Change.TheVariants.{SetHead, SetMessage, RemoveMessage, SetBlock, SetSpnBlock, Hold, EnterSpn, SetApproval, ClearApprovals, AddRelease}
+use Rattle.office_types.specs.declared.change.Decision.{Decision}
+use Rattle.office_types.specs.declared.command.Command.{Command}
+use Rattle.office_types.specs.declared.state.Head.{Head}
+use Rattle.office_types.specs.declared.state.Net.{Net}
+use Rattle.office_rules.specs.Commands.{outcome}
+use Rattle.office_rules.specs.Importing.{FileReading}
+use Rattle.office_rules.specs.Numbers.{with_message}
+use Rattle.office_rules.specs.Opening.{bare_net, with_block}
+use Rattle.office_rules.specs.Outcome.{Outcome, Refusing, Changing, entered, reply_of}
+use Rattle.office_rules.specs.Retiring.{without_message, with_held}
+use Rattle.office_rules.specs.Reviewing.{with_approval, with_release}
+use Rattle.office_rules.specs.Step.{IsRead, file_wanted}
+
+-- the command's network, if it is there, and the book
+pub record NetAndBook : Type 0 where
+  pub net : Option Net
+  pub book : SpnBook
+
+-- the network with this head; one that isn't there is made, with nothing else
+abbrev pub headed : List ℕ → Head → Option Net → Net
+headed name h None = bare_net name h
+headed name h (Some net) = record net { head = h }
+
+-- what a change does at a network that is there
+abbrev pub net_changed : Change → Net → Net
+net_changed (SetHead h) net = record net { head = h }
+net_changed (SetMessage m) net = with_message net m
+net_changed (RemoveMessage i) net = without_message net i
+net_changed (SetBlock g) net = with_block net g
+net_changed (SetSpnBlock b) net = net
+net_changed (Hold i) net = with_held net i
+net_changed (EnterSpn n) net = net
+net_changed (SetApproval team) net = with_approval net team
+net_changed ClearApprovals net = record net { approvals = [] }
+net_changed (AddRelease s) net = with_release net s
+
+-- at one that isn't there only a head is set
+abbrev pub changed_net : List ℕ → Change → Option Net → Option Net
+changed_net name (SetHead h) net = Some (headed name h net)
+changed_net name c net = option_map (net_changed c) net
+
+abbrev pub changed_book : Change → SpnBook → SpnBook
+changed_book (SetSpnBlock b) book = record book { blocks = put by_net b book.blocks }
+changed_book (EnterSpn n) book = record book { used = put nat_cmp n book.used }
+changed_book c book = book
+
+-- what one change does for a command on the network of this name
+abbrev pub applied : List ℕ → Change → NetAndBook → NetAndBook
+applied name c e = record { net = changed_net name c e.net; book = changed_book c e.book }
+
+abbrev pub all_applied : List ℕ → List Change → NetAndBook → NetAndBook
+all_applied name [] e = e
+all_applied name (c ∷ cs) e = all_applied name cs (applied name c e)
+
+abbrev pub left_after : NetAndBook → Outcome → NetAndBook
+left_after e (Refusing r) = e
+left_after e (Changing r net entries) = record { net = Some net; book = entered e.book entries }
+
+-- a refusal has no change
+abbrev pub IsQuiet : Outcome → List Change → Type 0
+IsQuiet (Refusing r) cs = cs ≡ []
+IsQuiet (Changing r net e) cs = Unit {0}
+
+-- where there is no network, nothing is changed or a head comes first, since rows hang on that of their network
+abbrev pub IsHeadFirst : Option Net → List Change → Type 0
+IsHeadFirst (Some net) cs = Unit {0}
+IsHeadFirst None [] = Unit {0}
+IsHeadFirst None (SetHead h ∷ cs) = Unit {0}
+IsHeadFirst None (c ∷ cs) = ⊥
+
+-- the decision tells the outcome's reply, and its changes lead to what the outcome leaves
+pub record Decides (name : List ℕ) (before : NetAndBook) (out : Outcome) (d : Decision) : Type 0 where
+  pub reply : d.reply ≡ reply_of out
+  pub changes : all_applied name d.changes before ≡ left_after before out
+  pub quiet : IsQuiet out d.changes
+  pub head_first : IsHeadFirst before.net d.changes
+
+-- what the office decides, by a reading of the file where one is wanted
+pub record IsDecision (team : List ℕ) (before : NetAndBook) (c : Command) (d : Decision) : Type 0 where
+  pub reading : FileReading
+  pub read : IsRead (file_wanted before.net c.task) reading
+  pub decides : Decides c.net before (outcome team reading before.net before.book c) d

@@ -1,0 +1,13 @@
+pub mod Lists
+pub mod Facts
+pub mod Outcome
+pub mod Opening
+pub mod Numbers
+pub mod Signals
+pub mod Retiring
+pub mod Importing
+pub mod Reviewing
+pub mod Commands
+pub mod Step
+pub mod Change
+pub mod Kept

@@ -1,0 +1,5 @@
+pub mod Adding
+pub mod Starting
+pub mod Switches
+pub mod Together
+pub mod Used

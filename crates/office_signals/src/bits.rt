@@ -1,0 +1,156 @@
+//! Taking bits for a new signal.
+ghost use Rattle.std.specs.Prelude.{◌≡◌, ◌&&◌, ◌∷◌, [], ℕ, List, IfErr, IfOk, None, Some, not};
+ghost use Rattle.std.specs.List.{list_all};
+ghost use Rattle.bitlayout.specs.Mux.{is_multiplexor, is_under};
+ghost use Rattle.catalogue.specs.Refusing.{first_refusal};
+ghost use Rattle.catalogue.specs.Signals.{has_multiplexor, places_of, signal_tests};
+ghost use Rattle.office_net.specs.Told.{message_facts_of};
+ghost use Rattle.office_types.specs.declared.book.SpnBook.{SpnBook};
+ghost use Rattle.office_types.specs.declared.change.Change.TheVariants.{SetMessage};
+ghost use Rattle.office_types.specs.declared.reply.Reply.TheVariants.{Start};
+ghost use Rattle.office_types.specs.declared.state.Net.{Net};
+ghost use Rattle.office_rules.specs.Change.{Decides};
+ghost use Rattle.office_rules.specs.Facts.{has_node, message_facts};
+ghost use Rattle.office_rules.specs.Signals.{new_signal, start_tests, take_bits, take_bits_tests, with_last_signal};
+ghost use Rattle.office_signals.specs.Together.{MayHaveMux};
+
+use crate::own::own_message;
+use crate::start::{place_at, start_for};
+use bitlayout::Mux;
+use catalogue::{
+    Copying, Name, Node, ROSTER_LIMIT, SheetCode, Signal, Signals, Spn, Text, ValueTexts, ValueType,
+};
+use office_net::{MessageFacts, has_node, has_signal, one_change, refusal_decision};
+use office_types::{Change, Decision, LiveMessage, Refusal, Reply, TakeBits, Team};
+use std::alloc::{AllocError, Global};
+
+/// Whether the signal would be a second multiplexor.
+fn is_second(signals: &Signals, mux: Mux) -> bool
+    ensures { result ≡ (is_multiplexor mux && has_multiplexor signals.now) }
+{
+    mux.is_multiplexor() && signals.are_multiplexed()
+}
+
+/// Whether the signal would depend on a multiplexor that isn't there.
+fn is_lacking(signals: &Signals, mux: Mux) -> bool
+    ensures { result ≡ (is_under mux && not (has_multiplexor signals.now)) }
+{
+    mux.is_under() && !signals.are_multiplexed()
+}
+
+/// Whether all of them are nodes.
+fn has_nodes(nodes: &[Node], names: &[Name]) -> bool
+    ensures { result ≡ list_all (has_node nodes.now) names.now }
+{
+    names.iter().all(|name| has_node(nodes, name))
+}
+
+/// The message that the signal may be added to wherever it starts, or the first refusal that doesn't depend on the start.
+fn message_for<'a>(
+    team: &Team,
+    facts: &MessageFacts<'a>,
+    command: &TakeBits,
+) -> Result<&'a LiveMessage, Refusal>
+    ensures there { IfOk result (λ live. (message_facts_of facts.now).found ≡ Some live.now) }
+    ensures passed { IfOk result (λ live.
+        first_refusal (take_bits_tests team.now (message_facts_of facts.now) command.now)
+        ≡ first_refusal (start_tests (places_of live.now.message.signals) live.now.message.length command.now)) }
+    ensures room { IfOk result (λ live. (start : ℕ) → first_refusal (signal_tests live.now.message.signals (new_signal command.now start)) ≡ None) }
+    ensures mux { IfOk result (λ live. MayHaveMux (places_of live.now.message.signals) command.now.mux) }
+    ensures refused { IfErr result (λ refusal.
+        first_refusal (take_bits_tests team.now (message_facts_of facts.now) command.now)
+        ≡ Some refusal) }
+{
+    let live = own_message(team, facts)?;
+    let signals = &live.message.signals;
+    if has_signal(signals.as_slice(), &command.path.signal) {
+        Err(Refusal::NameTaken)
+    } else if !has_nodes(facts.nodes, command.receivers.as_slice()) {
+        Err(Refusal::NoNode)
+    } else if signals.as_slice().len() >= ROSTER_LIMIT {
+        Err(Refusal::TooMany)
+    } else if is_second(signals, command.mux) {
+        Err(Refusal::TwoMultiplexors)
+    } else if is_lacking(signals, command.mux) {
+        Err(Refusal::NoMultiplexor)
+    } else {
+        Ok(live)
+    }
+}
+
+/// The signal from a start. The error is out of memory.
+fn new_signal(alloc: Global, command: &TakeBits, start: u16) -> Result<Signal, AllocError>
+    ensures { IfOk result (λ s. s ≡ new_signal command.now start) }
+{
+    let place = place_at(command, start);
+    Ok(Signal {
+        name: command.path.signal.duplicate(alloc)?,
+        layout: place.layout,
+        signed: command.signed,
+        mux: command.mux,
+        factor: command.factor,
+        offset: command.offset,
+        minimum: command.minimum,
+        maximum: command.maximum,
+        unit: command.unit.duplicate(alloc)?,
+        receivers: command.receivers.duplicate(alloc)?,
+        comment: Text::empty(alloc),
+        spn: Spn::NONE,
+        values: ValueTexts::empty(alloc),
+        value_type: ValueType::Integer,
+    })
+}
+
+/// The message with the signal from a start, last. The error is out of memory.
+fn with_new_signal(
+    alloc: Global,
+    live: &LiveMessage,
+    command: &TakeBits,
+    start: u16,
+) -> Result<LiveMessage, AllocError>
+    requires { first_refusal (signal_tests live.now.message.signals (new_signal command.now start)) ≡ None }
+    ensures { IfOk result (λ m. m ≡ with_last_signal live.now (new_signal command.now start)) }
+{
+    let signal = new_signal(alloc, command, start)?;
+    let mut with = live.duplicate(alloc)?;
+    match with.message.signals.add(alloc, signal) {
+        Ok(()) => Ok(with),
+        Err(SheetCode::Memory) => Err(AllocError),
+        Err(_) => unreachable!(),
+    }
+}
+
+fn bits_taken(
+    alloc: Global,
+    live: &LiveMessage,
+    command: &TakeBits,
+    start: u16,
+) -> Result<Decision, AllocError>
+    requires { first_refusal (signal_tests live.now.message.signals (new_signal command.now start)) ≡ None }
+    ensures changes { IfOk result (λ d. d.changes ≡ SetMessage (with_last_signal live.now (new_signal command.now start)) ∷ []) }
+    ensures reply { IfOk result (λ d. d.reply ≡ Start start) }
+{
+    let with = with_new_signal(alloc, live, command, start)?;
+    one_change(alloc, Change::SetMessage(with), Reply::Start(start))
+}
+
+/// Decides the team's `take_bits` on a network that has these facts for the command's message. The error is out of
+/// memory.
+pub fn decide_take_bits(
+    alloc: Global,
+    team: &Team,
+    facts: &MessageFacts<'_>,
+    command: &TakeBits,
+) -> Result<Decision, AllocError>
+    ensures { IfOk result (λ d. (name : List ℕ) (net : Net) (book : SpnBook) →
+        message_facts_of facts.now ≡ message_facts net command.now.path.message →
+        Decides name (record { net = Some net; book = book }) (take_bits team.now (Some net) command.now) d) }
+{
+    match message_for(team, facts, command) {
+        Err(refusal) => Ok(refusal_decision(alloc, refusal)),
+        Ok(live) => match start_for(alloc, &live.message, command)? {
+            Err(refusal) => Ok(refusal_decision(alloc, refusal)),
+            Ok(start) => bits_taken(alloc, live, command, start),
+        },
+    }
+}

@@ -1,0 +1,93 @@
+//! Removing a signal from its message.
+ghost use Rattle.std.specs.Prelude.{◌≡◌, ◌&&◌, ◌∷◌, [], ℕ, List, IfOk, Some};
+ghost use Rattle.std.specs.List.{list_any};
+ghost use Rattle.std.specs.Str.{bytes_eq};
+ghost use Rattle.bitlayout.specs.Mux.{is_under};
+ghost use Rattle.catalogue.specs.Signals.{signal_is_multiplexor};
+ghost use Rattle.office_net.specs.Told.{message_facts_of};
+ghost use Rattle.office_types.specs.declared.book.SpnBook.{SpnBook};
+ghost use Rattle.office_types.specs.declared.change.Change.TheVariants.{SetMessage};
+ghost use Rattle.office_types.specs.declared.reply.Reply.TheVariants.{Done};
+ghost use Rattle.office_types.specs.declared.state.Net.{Net};
+ghost use Rattle.office_rules.specs.Change.{Decides};
+ghost use Rattle.office_rules.specs.Facts.{message_facts};
+ghost use Rattle.office_rules.specs.Signals.{is_needed, remove_signal, with_signal_out};
+
+use crate::own::own_message;
+use catalogue::{Copying, Name, Signal};
+use office_net::{MessageFacts, has_signal, one_change, refusal_decision};
+use office_types::{Change, Decision, LiveMessage, Refusal, Reply, SignalPath, Team};
+use std::alloc::{AllocError, Global};
+
+/// Whether the signal of the name is the multiplexor.
+fn is_the_multiplexor(signals: &[Signal], name: &Name) -> bool
+    ensures { result ≡ list_any (λ s. bytes_eq s.name name.now && signal_is_multiplexor s) signals.now }
+{
+    signals.iter().any(|signal| signal.name == *name && signal.mux.is_multiplexor())
+}
+
+/// Whether one of the signals is multiplexed.
+fn some_multiplexed(signals: &[Signal]) -> bool
+    ensures { result ≡ list_any (λ s. is_under s.mux) signals.now }
+{
+    signals.iter().any(|signal| signal.mux.is_under())
+}
+
+/// Whether the signal of the name is the multiplexor, and one of the signals is multiplexed.
+fn is_needed(signals: &[Signal], name: &Name) -> bool
+    ensures { result ≡ is_needed signals.now name.now }
+{
+    is_the_multiplexor(signals, name) && some_multiplexed(signals)
+}
+
+/// The message without the signal of the name. The error is out of memory.
+fn with_signal_out(
+    alloc: Global,
+    live: &LiveMessage,
+    name: &Name,
+) -> Result<LiveMessage, AllocError>
+    ensures { IfOk result (λ m. m ≡ with_signal_out live.now name.now) }
+{
+    let mut without = live.duplicate(alloc)?;
+    let _removed = without.message.signals.remove(name);
+    Ok(without)
+}
+
+fn signal_removed(
+    alloc: Global,
+    live: &LiveMessage,
+    path: &SignalPath,
+) -> Result<Decision, AllocError>
+    ensures changes { IfOk result (λ d. d.changes ≡ SetMessage (with_signal_out live.now path.now.signal) ∷ []) }
+    ensures reply { IfOk result (λ d. d.reply ≡ Done) }
+{
+    let without = with_signal_out(alloc, live, &path.signal)?;
+    one_change(alloc, Change::SetMessage(without), Reply::Done)
+}
+
+/// Decides the team's `remove_signal` on a network that has these facts for the path's message. The error is out of
+/// memory.
+pub fn decide_remove_signal(
+    alloc: Global,
+    team: &Team,
+    facts: &MessageFacts<'_>,
+    path: &SignalPath,
+) -> Result<Decision, AllocError>
+    ensures { IfOk result (λ d. (name : List ℕ) (net : Net) (book : SpnBook) →
+        message_facts_of facts.now ≡ message_facts net path.now.message →
+        Decides name (record { net = Some net; book = book }) (remove_signal team.now (Some net) path.now) d) }
+{
+    match own_message(team, facts) {
+        Err(refusal) => Ok(refusal_decision(alloc, refusal)),
+        Ok(live) => {
+            let signals = live.message.signals.as_slice();
+            if !has_signal(signals, &path.signal) {
+                Ok(refusal_decision(alloc, Refusal::NoSignal))
+            } else if is_needed(signals, &path.signal) {
+                Ok(refusal_decision(alloc, Refusal::NoMultiplexor))
+            } else {
+                signal_removed(alloc, live, path)
+            }
+        }
+    }
+}

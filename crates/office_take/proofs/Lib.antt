@@ -1,0 +1,4 @@
+pub mod Full
+pub mod Least
+mod Rows
+pub mod Shown

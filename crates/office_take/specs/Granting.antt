@@ -1,0 +1,12 @@
+-- The change of a grant.
+use Rattle.std.specs.Prelude.{ℕ, List, if◌then◌else◌}
+use Rattle.office_types.specs.Block.{is_spn}
+use Rattle.office_types.specs.declared.change.Change.{Change}
+use Rattle.office_types.specs.declared.change.Change.TheVariants.{SetBlock, SetSpnBlock}
+use Rattle.office_types.specs.declared.command.Grant.{Grant}
+
+-- the block is set on the network, or in the book where its numbers are suspect parameter numbers
+abbrev pub grant_change : List ℕ → Grant → Change
+grant_change name c =
+    if is_spn c.block.form then SetSpnBlock (record { net = name; team = c.team; first = c.block.first; last = c.block.last })
+    else SetBlock (record { block = c.block; team = c.team })

@@ -1,0 +1,82 @@
+//! Adding a node.
+ghost use Rattle.std.specs.Prelude.{◌≡◌, ◌++◌, ◌∷◌, [], ℕ, List, length, nat_le, false, Some, IfOk};
+ghost use Rattle.std.specs.Option.{option_copied};
+ghost use Rattle.catalogue.specs.Limits.{roster_limit};
+ghost use Rattle.catalogue.specs.Refusing.{first_refusal};
+ghost use Rattle.office_types.specs.declared.book.SpnBook.{SpnBook};
+ghost use Rattle.office_types.specs.declared.change.Change.TheVariants.{SetHead};
+ghost use Rattle.office_types.specs.declared.reply.Reply.TheVariants.{Done};
+ghost use Rattle.office_rules.specs.Change.{Decides};
+ghost use Rattle.office_rules.specs.Facts.{has_node};
+ghost use Rattle.office_rules.specs.Opening.{add_node, add_node_tests, with_node};
+
+use catalogue::{Copying, Name, Node, ROSTER_LIMIT, Sheet, SheetCode, Text};
+use office_net::{has_node, head_with, in_review, one_change, refusal_decision};
+use office_types::{Change, Decision, Net, Refusal, Reply};
+use std::alloc::{AllocError, Global};
+
+/// Why the node can't be added to the network.
+fn add_node_refusal(net: &Net, name: &Name) -> Option<Refusal>
+    ensures { result ≡ first_refusal (add_node_tests (Some net.now) name.now) }
+{
+    let nodes = net.head.frame.nodes();
+    if in_review(&net.head.phase) {
+        Some(Refusal::InReview)
+    } else if has_node(nodes, name) {
+        Some(Refusal::NameTaken)
+    } else if nodes.len() >= ROSTER_LIMIT {
+        Some(Refusal::TooMany)
+    } else {
+        None
+    }
+}
+
+/// The frame with the node last. It has room, and no node of the name, so that nothing but memory can be missing.
+fn frame_with(alloc: Global, frame: &Sheet, node: Node) -> Result<Sheet, AllocError>
+    requires room { nat_le roster_limit (length frame.now.nodes) ≡ false }
+    requires new { has_node frame.now.nodes node.name ≡ false }
+    ensures { IfOk result (λ with. with ≡ record frame.now { nodes = frame.now.nodes ++ node ∷ [] }) }
+{
+    let mut with = frame.duplicate(alloc)?;
+    match with.with_node(alloc, node) {
+        Ok(()) => Ok(with),
+        Err(fault) => match fault.code {
+            SheetCode::Memory => Err(AllocError),
+            _ => unreachable!(),
+        },
+    }
+}
+
+/// The decision that adds the node.
+fn node_added(alloc: Global, net: &Net, name: &Name) -> Result<Decision, AllocError>
+    requires room { nat_le roster_limit (length net.now.head.frame.nodes) ≡ false }
+    requires new { has_node net.now.head.frame.nodes name.now ≡ false }
+    ensures changes { IfOk result (λ d. d.changes ≡ SetHead (with_node net.now (record { name = name.now; comment = [] })).head ∷ []) }
+    ensures reply { IfOk result (λ d. d.reply ≡ Done) }
+{
+    let node = Node {
+        name: name.duplicate(alloc)?,
+        comment: Text::empty(alloc),
+    };
+    let frame = frame_with(alloc, &net.head.frame, node)?;
+    let head = head_with(alloc, &net.head, frame)?;
+    one_change(alloc, Change::SetHead(head), Reply::Done)
+}
+
+/// Decides an `add_node` of this name, on the network, which may not be there. It reads no team and no book. The error
+/// is out of memory.
+pub fn decide_add_node(
+    alloc: Global,
+    net: Option<&Net>,
+    name: &Name,
+) -> Result<Decision, AllocError>
+    ensures { IfOk result (λ d. (at : List ℕ) (book : SpnBook) → Decides at (record { net = option_copied net.entry; book = book }) (add_node (option_copied net.entry) name.now) d) }
+{
+    match net {
+        None => Ok(refusal_decision(alloc, Refusal::NoNet)),
+        Some(net) => match add_node_refusal(net, name) {
+            Some(refusal) => Ok(refusal_decision(alloc, refusal)),
+            None => node_added(alloc, net, name),
+        },
+    }
+}

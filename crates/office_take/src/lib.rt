@@ -1,0 +1,30 @@
+//! Decisions on the commands that open networks, grant blocks, add nodes, give out numbers for new messages, and
+//! review.
+//!
+//! Each `decide_..` gives what its command comes to by the definition of `office_rules` that has its name: a reply, and
+//! the changes that lead to what the command leaves. `opening` opens a network, `granting` grants a block, `adding`
+//! adds a node and `reviewing` has reviews.
+//!
+//! `idents` gives out identifiers and `groups` parameter groups. Both read [`NumberFacts`] of a network, and the
+//! numbers that are taken by a [`Taken`], which gathers and sorts them only where no other test refuses; so a refusal
+//! takes no memory, but for that of full blocks. [`decide_take_ident_on`] and [`decide_take_pgn_on`] decide from such
+//! facts, wherever these are kept.
+#![tactic(auto)]
+
+mod adding;
+mod granting;
+mod groups;
+mod idents;
+mod numbers;
+mod opening;
+mod reviewing;
+mod taken;
+
+pub use adding::decide_add_node;
+pub use granting::decide_grant;
+pub use groups::{decide_take_pgn, decide_take_pgn_on};
+pub use idents::{decide_take_ident, decide_take_ident_on};
+pub use numbers::{NumberFacts, group_facts, ident_facts};
+pub use opening::decide_open_net;
+pub use reviewing::{decide_approve, decide_reject, decide_submit};
+pub use taken::Taken;

@@ -50,7 +50,7 @@ only_memory o TwoMultiplexors e h = absurd (none-some TwoMultiplexors (sym e ∙
 only_memory o TooMany e h = absurd (none-some TooMany (sym e ∙ h))
 only_memory o Memory e h = refl
 
--- one of a roster, after those before it, is refused for want of memory alone
+-- one of a roster, after those before it, is refused only where memory runs out
 pub memory_alone : {A : Type 0} (name : A → List ℕ) (before : List A) (x : A) (after whole : List A) (code : SheetCode) → before ++ x ∷ after ≡ whole → AreRostered name whole
     → IsRefusal (first_refusal (roster_tests name before (name x))) code → code ≡ Memory
 memory_alone name before x after whole code e h is =

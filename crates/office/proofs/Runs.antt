@@ -13,6 +13,7 @@ use Rattle.office_types.specs.declared.state.Office.{Office}
 use Rattle.office_rules.specs.Change.{IsDecision, left_after}
 use Rattle.office_rules.specs.Outcome.{Outcome, Refusing, Changing}
 use Rattle.office_rules.specs.Step.{HasRun, Run, Step, net_named, office_after, step_outcome}
+use Rattle.office_rules.proofs.Runs.{run_more}
 use Rattle.office.specs.Carried.{IsIndexOf, carried, with_both}
 use Rattle.office.proofs.CarriedOut.{index_found, nothing_carried}
 
@@ -41,14 +42,6 @@ indexed_step o after nets others team c index found d sorted same same_too at is
     let here : IsIndexOf o c.net index = subst (λ (ns : List Net). IsIndexOf (record { nets = ns; book = o.book }) c.net index) same at in
     let there : found ≡ net_named o c.net = is ∙ ap (λ (ns : List Net). option_and_then (slice_get ns) index) same_too ∙ index_found o c.net index here in
     carried_step o after team c d sorted (subst (λ (n : Option Net). IsDecision team (record { net = n; book = o.book }) c d) there h) left
-
--- a run and a step more
-run_more : (a b c : Office) (qs : List (List ℕ × Command)) (rs : List Reply) (q : List ℕ × Command) (r : Reply)
-    → Run a qs rs b → Step b q.0 q.1 r c → Run a (qs ++ q ∷ []) (rs ++ r ∷ []) c
-run_more a b c [] [] q r run step = (c, subst (λ (o : Office). Step o q.0 q.1 r c) run step, refl)
-run_more a b c [] (s ∷ rs) q r run step = absurd run
-run_more a b c (p ∷ qs) [] q r run step = absurd run
-run_more a b c (p ∷ qs) (s ∷ rs) q r run step = (run.0, run.1, run_more run.0 b c qs rs q r run.2 step)
 
 pub HasRun-more : (a b c : Office) (requests : List (List ℕ × Command)) (i : ℕ) (q : List ℕ × Command) (earlier before after : List Reply) (r : Reply)
     → i < length requests → q ≡ get_or requests i q → HasRun a (take i requests) earlier before b → Step b q.0 q.1 r c → after ≡ before ++ r ∷ []

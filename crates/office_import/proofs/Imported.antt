@@ -1,5 +1,5 @@
 -- What the changes of an import lead to.
-use Rattle.std.proofs.Common.{◌≡◌, ℕ, List, [], ◌∷◌, ◌++◌, map, Some, refl, ap, ◌∙◌}
+use Rattle.std.proofs.Common.{◌≡◌, ℕ, List, [], ◌∷◌, ◌++◌, map, Some, refl, sym, ap, subst, ◌∙◌}
 use Rattle.std.specs.Ordering.{nat_cmp}
 use Rattle.catalogue.specs.declared.message.Message.{Message}
 use Rattle.catalogue.specs.declared.sheet.Sheet.{Sheet}
@@ -8,7 +8,7 @@ use Rattle.office_types.specs.declared.change.Change.{Change}
 use Rattle.office_types.specs.declared.change.Change.TheVariants.{SetMessage, EnterSpn}
 use Rattle.office_types.specs.declared.change.Decision.{Decision}
 use Rattle.office_types.specs.declared.state.Net.{Net}
-use Rattle.office_rules.specs.Change.{Decides, NetAndBook, all_applied, applied}
+use Rattle.office_rules.specs.Change.{Decides, HaveOwnBlocks, NetAndBook, all_applied, applied}
 use Rattle.office_rules.specs.Importing.{import_sheet, new_messages, owned_by, spns_of, widened, with_frame, with_messages}
 use Rattle.office_rules.specs.Lists.{put_all}
 use Rattle.office_rules.specs.Numbers.{with_message}
@@ -33,6 +33,12 @@ spns_applied : (name : List ℕ) (ns : List ℕ) (net : Net) (book : SpnBook)
 spns_applied name [] net book = refl
 spns_applied name (n ∷ ns) net book = spns_applied name ns net (record book { used = put_all nat_cmp (n ∷ []) book.used })
 
+-- no block is set by messages and numbers
+no_blocks : (team : List ℕ) (ms : List Message) (ns : List ℕ) → HaveOwnBlocks (map (λ m. SetMessage (owned_by team m)) ms ++ map EnterSpn ns)
+no_blocks team [] [] = tt
+no_blocks team [] (n ∷ ns) = no_blocks team [] ns
+no_blocks team (m ∷ ms) ns = no_blocks team ms ns
+
 -- a head, then messages, then numbers
 pub Decides-imported : (name team : List ℕ) (net : Net) (book : SpnBook) (s : Sheet) (d : Decision)
     → d.changes ≡ import_changes team net s → d.reply ≡ import_reply net s
@@ -50,4 +56,5 @@ Decides-imported name team net book s d changes reply =
           ∙ spns_applied name (spns_of new) (with_messages wide (map (owned_by team) new)) book;
       quiet = tt;
       head_first = tt;
+      own_blocks = subst (λ (cs : List Change). HaveOwnBlocks cs) (sym changes) (no_blocks team new (spns_of new));
     }

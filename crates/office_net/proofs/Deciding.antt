@@ -6,7 +6,7 @@ use Rattle.office_types.specs.declared.change.Decision.{Decision}
 use Rattle.office_types.specs.declared.refusal.Refusal.{Refusal}
 use Rattle.office_types.specs.declared.reply.Reply.TheVariants.{Refused}
 use Rattle.office_types.specs.declared.state.Net.{Net}
-use Rattle.office_rules.specs.Change.{Decides, IsHeadFirst, NetAndBook, all_applied}
+use Rattle.office_rules.specs.Change.{Decides, HaveOwnBlocks, IsHeadFirst, NetAndBook, all_applied}
 use Rattle.office_rules.specs.Outcome.{Outcome, refused_or, unless}
 
 nothing_first : (net : Option Net) → IsHeadFirst net []
@@ -22,6 +22,7 @@ Decides-refused name before tests out d r first reply quiet =
       changes = ap (λ (cs : List Change). all_applied name cs before) quiet;
       quiet = quiet;
       head_first = subst (λ (cs : List Change). IsHeadFirst before.net cs) (sym quiet) (nothing_first before.net);
+      own_blocks = subst (λ (cs : List Change). HaveOwnBlocks cs) (sym quiet) tt;
     })
 
 -- no test refuses, and the decision is that of what comes after the tests

@@ -1,4 +1,5 @@
-mod Asking
+pub mod Asking
 mod Rows
 pub mod Idents
 pub mod Widened
+pub mod Runs

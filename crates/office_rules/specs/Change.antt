@@ -1,8 +1,9 @@
 -- What a list of changes does at a network and in the book.
-use Rattle.std.specs.Prelude.{◌≡◌, ℕ, List, [], ◌∷◌, Option, Some, None}
+use Rattle.std.specs.Prelude.{◌≡◌, false, ℕ, List, [], ◌∷◌, Option, Some, None}
 use Rattle.std.specs.Option.{option_map}
 use Rattle.std.specs.Ordering.{nat_cmp}
 use Rattle.catalogue.specs.Keyed.{put}
+use Rattle.office_types.specs.Block.{is_spn}
 use Rattle.office_types.specs.Book.{by_net}
 use Rattle.office_types.specs.declared.book.SpnBook.{SpnBook}
 use Rattle.office_types.specs.declared.change.Change.{Change}
@@ -77,12 +78,19 @@ IsHeadFirst None [] = Unit {0}
 IsHeadFirst None (SetHead h ∷ cs) = Unit {0}
 IsHeadFirst None (c ∷ cs) = ⊥
 
+-- No block of suspect parameter numbers is set on a network: the book has those.
+abbrev pub HaveOwnBlocks : List Change → Type 0
+HaveOwnBlocks [] = Unit {0}
+HaveOwnBlocks (SetBlock g ∷ cs) = (is_spn g.block.form ≡ false) × HaveOwnBlocks cs
+HaveOwnBlocks (c ∷ cs) = HaveOwnBlocks cs
+
 -- the decision tells the outcome's reply, and its changes lead to what the outcome leaves
 pub record Decides (name : List ℕ) (before : NetAndBook) (out : Outcome) (d : Decision) : Type 0 where
   pub reply : d.reply ≡ reply_of out
   pub changes : all_applied name d.changes before ≡ left_after before out
   pub quiet : IsQuiet out d.changes
   pub head_first : IsHeadFirst before.net d.changes
+  pub own_blocks : HaveOwnBlocks d.changes
 
 -- what the office decides, by a reading of the file where one is wanted
 pub record IsDecision (team : List ℕ) (before : NetAndBook) (c : Command) (d : Decision) : Type 0 where

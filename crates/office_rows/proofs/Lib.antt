@@ -1,0 +1,11 @@
+mod Asked
+mod Examples
+mod ProfileTexts
+mod NetTexts
+mod MessageTexts
+mod BlockTexts
+mod HeldTexts
+mod SpnTexts
+mod ApprovalTexts
+mod FrozenTexts
+mod ReplyTexts

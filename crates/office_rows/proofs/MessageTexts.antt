@@ -1,0 +1,110 @@
+-- What the texts on `message` make of it, and show of it.
+use Rattle.std.proofs.Common.{◌≡◌, ℕ, pos, List, [], ◌∷◌, ◌++◌, codes, false, not, Err, Result, refl, ◌∙◌}
+use Rattle.std.specs.Prelude.{IfOk, IsTrue, filter, length}
+use Rattle.sqlite.specs.declared.types.Value.TheVariants.{Null, Int, Text}
+use Rattle.sqlite.specs.declared.error.Error.{Error}
+use Rattle.sqlite.specs.declared.error.Error.TheVariants.{SqliteFailure}
+use Rattle.sqlite.specs.declared.error.ErrorCode.TheVariants.{TransactionState}
+use Rattle.sqlite.specs.Order.{Row}
+use Rattle.sqlite.specs.Term.{Term, lit, col}
+use Rattle.sqlite.specs.Tree.{Trees, put_row}
+use Rattle.sqlite.specs.Schema.{Schema}
+use Rattle.sqlite.specs.Source.TheVariants.{Values}
+use Rattle.sqlite.specs.Command.TheVariants.{Insert, Delete}
+use Rattle.sqlite.specs.Edit.{edit_of, edited, next_rowid}
+use Rattle.sqlite.specs.Rowids.TheVariants.{Chosen}
+use Rattle.sqlite.specs.Effect.{value_rows}
+use Rattle.sqlite.specs.Rows.{stamped}
+use Rattle.sqlite_value.specs.declared.keys.Key.{Key}
+use Rattle.sqlite_value.proofs.OrderLemmas.{then-Equal}
+use Rattle.sqlite_tied.specs.Compute.{everything}
+use Rattle.sqlite.specs.Listing.{understood}
+use Rattle.sqlite.specs.State.{State, ExecutesInside, Shown}
+use Rattle.sqlite.proofs.Callers.{IsPlain, command_of}
+use Rattle.office_tables.specs.Schema.{office_schema}
+use Rattle.office_tables.specs.Tables.{tables_of, values, IsOffice}
+use Rattle.office_tables.specs.Statements.{Makes}
+use Rattle.office_tables.specs.Selected.{IsSelected}
+use Rattle.office_tables.proofs.Columns.{cast_null, cast_number, column_is}
+use Rattle.office_tables.proofs.Changing.{appends, makes, removes}
+use Rattle.office_tables.proofs.Keeping.{plain_in}
+use Rattle.office_tables.proofs.Places.{message, message_placed, message_only}
+use Rattle.office_tables.proofs.Selecting.{query}
+use Rattle.office_tables.proofs.Finding.{ascending, Asks, Means, finds}
+use Rattle.office_rows.specs.declared.row.MessageRow.{MessageRow}
+use Rattle.office_rows.specs.Rows.{has_net_and_number, is_of_net, message_row}
+use Rattle.office_rows.specs.Shown.{messages_order, messages_shown}
+use Rattle.office_rows.proofs.Asked.{net_asked, numbered_asked, one_test, two_tests}
+
+-- ---- insert_message
+
+abbrev insert_text : List ℕ
+insert_text = codes "INSERT INTO message VALUES (?1, ?2, ?3, ?4, ?5)"
+
+abbrev insert_terms : List Term
+insert_terms = lit Null ∷ col 0 0 ∷ col 0 1 ∷ col 0 2 ∷ col 0 3 ∷ col 0 4 ∷ []
+
+insert_is : command_of (understood office_schema insert_text) ≡ Insert 2 (Values insert_terms 6)
+unfolding understood everything office_schema
+insert_is = refl
+
+insert_plain : IsPlain (understood office_schema insert_text)
+unfolding understood everything office_schema
+insert_plain = (refl, refl)
+
+put : (row : MessageRow) (db : Trees) → edited db (edit_of db message [] Chosen 0 (value_rows (stamped message (message_row row)) 6 1 insert_terms)) ≡ put_row (Int (next_rowid (db 3)) ∷ message_row row) (db 3)
+put row db = rw (cast_null, cast_number row.number) refl
+
+pub inserts : (row : MessageRow) (old new : State) (r : Result ℕ Error) → IsOffice old.now → (old.in_transaction ≡ false → r ≡ Err (SqliteFailure TransactionState)) → (IsTrue old.in_transaction → ExecutesInside 0 insert_text (message_row row) old new r)
+    → IfOk r (λ rows. Makes (λ t. record t { message = t.message ++ message_row row ∷ [] }) old new × (rows ≡ 1))
+unfolding office_schema
+inserts row old new r office ended ran = makes insert_text (message_row row) _ 1 old new r (appends 2 message message_placed message_only insert_text (message_row row) insert_terms 6 insert_is insert_plain (message_row row) refl (λ db. refl) (λ db shaped. put row db) old new office) ended ran
+
+-- ---- delete_message
+
+abbrev delete_message_text : List ℕ
+delete_message_text = codes "DELETE FROM message WHERE net = ?1 AND number = ?2"
+
+delete_message_is : (params : Row) → command_of (understood office_schema delete_message_text) ≡ Delete 2 (record { lets = []; body = query 3 two_tests (col 1 0 ∷ []) [] params })
+unfolding understood everything office_schema
+delete_message_is params = refl
+
+delete_message_plain : IsPlain (understood office_schema delete_message_text)
+unfolding understood everything office_schema
+delete_message_plain = (refl, refl)
+
+pub delete_messages : (net : List ℕ) (number : ℕ) (old new : State) (r : Result ℕ Error) → IsOffice old.now → (old.in_transaction ≡ false → r ≡ Err (SqliteFailure TransactionState)) → (IsTrue old.in_transaction → ExecutesInside 0 delete_message_text (Text net ∷ Int (pos number) ∷ []) old new r)
+    → IfOk r (λ rows. Makes (λ t. record t { message = filter (λ row. not (has_net_and_number net number row)) t.message }) old new × (rows ≡ length (filter (has_net_and_number net number) (tables_of old.now.trees).message)))
+unfolding office_schema
+delete_messages net number old new r office ended ran =
+    makes delete_message_text (Text net ∷ Int (pos number) ∷ []) _ _ old new r
+    (removes 2 message message_placed message_only delete_message_text (Text net ∷ Int (pos number) ∷ []) two_tests (delete_message_is (Text net ∷ Int (pos number) ∷ [])) delete_message_plain (has_net_and_number net number) (numbered_asked net number) message_placed old new office) ended ran
+
+-- ---- select_messages
+
+abbrev pub messages_text : List ℕ
+messages_text = codes "SELECT owner, body FROM message WHERE net = ?1 ORDER BY number"
+
+abbrev messages_columns : List Term
+messages_columns = col 1 4 ∷ col 1 5 ∷ []
+
+abbrev messages_by : List (Term × Key)
+messages_by = (col 1 2, ascending) ∷ []
+
+messages_asks : (params : Row) → Asks messages_text 3 one_test messages_columns messages_by (codes "owner" ∷ codes "body" ∷ []) params
+unfolding understood everything office_schema
+messages_asks params = record { command = refl; listing = refl; plain = (refl, refl) }
+
+messages_means : (net : List ℕ) → Means values 3 one_test messages_columns messages_by (Text net ∷ []) (is_of_net net) messages_shown messages_order
+messages_means net = record {
+  tests_same = net_asked net;
+  shows_same = λ r. rw (column_is r 3, column_is r 4) refl;
+  orders_same = λ x y. then-Equal _ ∙ rw (column_is x 1, column_is y 1) refl;
+}
+
+pub messages_found : {X : Type 0} (rows_of : X → List Row) (net : List ℕ) (old new : State) (r : Result X Error) → old.now.schema ≡ office_schema
+    → IfOk r (λ x. Shown messages_text (Text net ∷ []) old new (rows_of x)) → IfOk r (λ x. IsSelected (is_of_net net) messages_shown messages_order (tables_of old.now.trees).message (rows_of x))
+messages_found rows_of net = finds messages_text 3 one_test messages_columns messages_by _ (Text net ∷ []) (messages_asks (Text net ∷ [])) values (is_of_net net) messages_shown messages_order (messages_means net) rows_of
+
+pub messages_plain : (s : Schema) → s ≡ office_schema → IsPlain (understood s messages_text)
+messages_plain = plain_in messages_text (messages_asks []).plain

@@ -1,0 +1,36 @@
+//! The statements of the office: one function for each fixed text, over the tables of `office_tables`.
+//!
+//! `insert_..` adds one row, `delete_..` removes the rows of a key or of the beginning of one, and `select_..` reads rows
+//! of one table in the order of its key. A row is changed by removing and adding it. No text changes or removes
+//! a release, a reply or the profile.
+//!
+//! Each is called in a transaction and binds texts as bytes. On tables that are the office's, its contract gives the
+//! exact tables that it leaves, or the exact rows that it reads; on any other tables it is safe. Each answers `sqlite`'s
+//! error if there is one (memory ran out, the disk failed, a key is there already); then nothing is committed, and
+//! dropping the transaction rolls it back.
+//!
+//! The definitions are in `specs/`: `Rows.antt` (rows by the names of their columns, and which rows a text asks for) and
+//! `Shown.antt` (which columns a SELECT shows, and its order).
+#![tactic(auto)]
+
+mod approval;
+mod block;
+mod frozen;
+mod held;
+mod message;
+mod net;
+mod profile;
+mod reply;
+mod row;
+mod spn;
+
+pub use approval::{delete_approval, delete_approvals, insert_approval, select_approvals};
+pub use block::{delete_block, insert_block, select_blocks, select_blocks_of_form};
+pub use frozen::{insert_frozen, select_release, select_release_numbers, select_releases};
+pub use held::{delete_held, insert_held, select_held};
+pub use message::{delete_message, insert_message, select_messages};
+pub use net::{delete_net, insert_net, select_net, select_net_names};
+pub use profile::{insert_profile, select_profile};
+pub use reply::{insert_reply, select_reply};
+pub use row::{BlockRow, FrozenRow, MessageRow, NetRow, ReplyRow};
+pub use spn::{delete_spn, insert_spn, select_spns};

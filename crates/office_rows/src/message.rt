@@ -1,0 +1,72 @@
+//! Live messages.
+ghost use Rattle.std.specs.Prelude.{IfOk, OnOk, [], filter, length, not, ◌++◌, ◌∷◌, ◌≡◌};
+ghost use Rattle.office_tables.specs.Tables.{tables_of, IsOffice};
+ghost use Rattle.office_tables.specs.Statements.{Makes};
+ghost use Rattle.office_tables.specs.Selected.{IsSelected};
+ghost use Rattle.office_rows.specs.Rows.{has_net_and_number, is_of_net, message_row};
+ghost use Rattle.office_rows.specs.Shown.{messages_order, messages_shown};
+ghost use Rattle.sqlite.specs.Held.{state};
+ghost use Rattle.sqlite.specs.State.{HasCleanDisk, IsUnchanged, KeepsCommit, Survives};
+
+use crate::row::MessageRow;
+use sqlite::types::{ToSql, ValueRef};
+use sqlite::{Alter, Error, Row, Transaction};
+
+/// Adds a live message. Gives 1. An error where its key is there, or a message of its name.
+pub fn insert_message<S: Alter>(
+    tx: &mut Transaction<'_, S>,
+    row: &MessageRow<'_>,
+) -> Result<usize, Error>
+    ensures same_reference { tx.new.conn.ghost_name ≡ tx.old.conn.ghost_name }
+    ensures added { HasCleanDisk (state S.Store tx.new.conn.now) → IsOffice (state S.Store tx.old.conn.now).now
+        → OnOk result (Makes (λ t. record t { message = t.message ++ message_row row.now ∷ [] }) (state S.Store tx.old.conn.now) (state S.Store tx.new.conn.now)) }
+    ensures rows { HasCleanDisk (state S.Store tx.new.conn.now) → IsOffice (state S.Store tx.old.conn.now).now → IfOk result (λ rows. rows ≡ 1) }
+    ensures kept { HasCleanDisk (state S.Store tx.new.conn.now) → KeepsCommit (state S.Store tx.old.conn.now) (state S.Store tx.new.conn.now) }
+    ensures survives { Survives (state S.Store tx.old.conn.now) (state S.Store tx.new.conn.now) (λ _. ⊥) }
+{
+    tx.execute(
+        "INSERT INTO message VALUES (?1, ?2, ?3, ?4, ?5)",
+        &[
+            ValueRef::Text(row.net),
+            row.number.to_sql(),
+            ValueRef::Text(row.name),
+            ValueRef::Text(row.owner),
+            ValueRef::Blob(row.body),
+        ],
+    )
+}
+
+/// Removes the message of the network with the number, if it is there. Gives how many rows it removed.
+pub fn delete_message<S: Alter>(
+    tx: &mut Transaction<'_, S>,
+    net: &[u8],
+    number: u32,
+) -> Result<usize, Error>
+    ensures same_reference { tx.new.conn.ghost_name ≡ tx.old.conn.ghost_name }
+    ensures removed { HasCleanDisk (state S.Store tx.new.conn.now) → IsOffice (state S.Store tx.old.conn.now).now
+        → OnOk result (Makes (λ t. record t { message = filter (λ row. not (has_net_and_number net.now number row)) t.message }) (state S.Store tx.old.conn.now) (state S.Store tx.new.conn.now)) }
+    ensures rows { HasCleanDisk (state S.Store tx.new.conn.now) → IsOffice (state S.Store tx.old.conn.now).now
+        → IfOk result (λ rows. rows ≡ length (filter (has_net_and_number net.now number) (tables_of (state S.Store tx.old.conn.now).now.trees).message)) }
+    ensures kept { HasCleanDisk (state S.Store tx.new.conn.now) → KeepsCommit (state S.Store tx.old.conn.now) (state S.Store tx.new.conn.now) }
+    ensures survives { Survives (state S.Store tx.old.conn.now) (state S.Store tx.new.conn.now) (λ _. ⊥) }
+{
+    tx.execute(
+        "DELETE FROM message WHERE net = ?1 AND number = ?2",
+        &[ValueRef::Text(net), number.to_sql()],
+    )
+}
+
+/// The live messages of the network (`owner`, `body`; the body has the number and the name), in the order of their numbers.
+pub fn select_messages<S: Alter>(tx: &mut Transaction<'_, S>, net: &[u8]) -> Result<Vec<Row>, Error>
+    ensures same_reference { tx.new.conn.ghost_name ≡ tx.old.conn.ghost_name }
+    ensures found { HasCleanDisk (state S.Store tx.new.conn.now) → IsOffice (state S.Store tx.old.conn.now).now
+        → IfOk result (λ rows. IsSelected (is_of_net net.now) messages_shown messages_order (tables_of (state S.Store tx.old.conn.now).now.trees).message rows.items) }
+    ensures same { HasCleanDisk (state S.Store tx.new.conn.now) → IsOffice (state S.Store tx.old.conn.now).now → OnOk result (IsUnchanged (state S.Store tx.old.conn.now) (state S.Store tx.new.conn.now)) }
+    ensures kept { HasCleanDisk (state S.Store tx.new.conn.now) → IsOffice (state S.Store tx.old.conn.now).now → KeepsCommit (state S.Store tx.old.conn.now) (state S.Store tx.new.conn.now) }
+    ensures survives { Survives (state S.Store tx.old.conn.now) (state S.Store tx.new.conn.now) (λ _. ⊥) }
+{
+    tx.query_all(
+        "SELECT owner, body FROM message WHERE net = ?1 ORDER BY number",
+        &[ValueRef::Text(net)],
+    )
+}

@@ -1,0 +1,12 @@
+pub mod Numbering
+pub mod Inserting
+pub mod Deleting
+pub mod Selecting
+pub mod Keeping
+pub mod Columns
+pub mod Changing
+pub mod Finding
+pub mod Places
+pub mod OneSchema
+pub mod Making
+mod Examples

@@ -1,0 +1,105 @@
+-- The place of each table in the schema, and its tree.
+use Rattle.std.proofs.Common.{◌≡◌, slice_get, true, Some, refl}
+use Rattle.sqlite.specs.Table.{Table}
+use Rattle.office_tables.specs.Schema as tables
+use Rattle.office_tables.specs.Schema.{office_schema}
+use Rattle.office_tables.proofs.Changing.{is_only}
+
+abbrev pub profile : Table
+profile = record tables.profile { tree = 0 }
+
+pub profile_placed : slice_get office_schema.tables 0 ≡ Some profile
+unfolding office_schema
+profile_placed = refl
+
+pub profile_only : is_only office_schema.tables 0 0 ≡ true
+unfolding office_schema
+profile_only = refl
+
+abbrev pub net : Table
+net = record tables.net { tree = 1 }
+
+pub net_placed : slice_get office_schema.tables 1 ≡ Some net
+unfolding office_schema
+net_placed = refl
+
+pub net_only : is_only office_schema.tables 1 1 ≡ true
+unfolding office_schema
+net_only = refl
+
+abbrev pub message : Table
+message = record tables.message { tree = 3 }
+
+pub message_placed : slice_get office_schema.tables 2 ≡ Some message
+unfolding office_schema
+message_placed = refl
+
+pub message_only : is_only office_schema.tables 2 3 ≡ true
+unfolding office_schema
+message_only = refl
+
+abbrev pub block : Table
+block = record tables.block { tree = 6 }
+
+pub block_placed : slice_get office_schema.tables 3 ≡ Some block
+unfolding office_schema
+block_placed = refl
+
+pub block_only : is_only office_schema.tables 3 6 ≡ true
+unfolding office_schema
+block_only = refl
+
+abbrev pub held : Table
+held = record tables.held { tree = 8 }
+
+pub held_placed : slice_get office_schema.tables 4 ≡ Some held
+unfolding office_schema
+held_placed = refl
+
+pub held_only : is_only office_schema.tables 4 8 ≡ true
+unfolding office_schema
+held_only = refl
+
+abbrev pub spn : Table
+spn = record tables.spn { tree = 10 }
+
+pub spn_placed : slice_get office_schema.tables 5 ≡ Some spn
+unfolding office_schema
+spn_placed = refl
+
+pub spn_only : is_only office_schema.tables 5 10 ≡ true
+unfolding office_schema
+spn_only = refl
+
+abbrev pub approval : Table
+approval = record tables.approval { tree = 11 }
+
+pub approval_placed : slice_get office_schema.tables 6 ≡ Some approval
+unfolding office_schema
+approval_placed = refl
+
+pub approval_only : is_only office_schema.tables 6 11 ≡ true
+unfolding office_schema
+approval_only = refl
+
+abbrev pub frozen : Table
+frozen = record tables.frozen { tree = 13 }
+
+pub frozen_placed : slice_get office_schema.tables 7 ≡ Some frozen
+unfolding office_schema
+frozen_placed = refl
+
+pub frozen_only : is_only office_schema.tables 7 13 ≡ true
+unfolding office_schema
+frozen_only = refl
+
+abbrev pub reply : Table
+reply = record tables.reply { tree = 15 }
+
+pub reply_placed : slice_get office_schema.tables 8 ≡ Some reply
+unfolding office_schema
+reply_placed = refl
+
+pub reply_only : is_only office_schema.tables 8 15 ≡ true
+unfolding office_schema
+reply_only = refl

@@ -1,0 +1,4 @@
+pub mod Schema
+pub mod Tables
+pub mod Statements
+pub mod Selected

@@ -1,0 +1,195 @@
+//! Making the tables: one function for the text of each, in the one order that the trees' numbers hang on.
+//!
+//! Each answers the error of `sqlite` if there is one (memory ran out, the disk failed, the table is there). Then nothing
+//! is committed, and the transaction is to be dropped, which rolls it back.
+ghost use Rattle.std.specs.Prelude.{◌≡◌, IfOk, OnOk};
+ghost use Rattle.office_tables.specs.Schema.{no_schema, schema_1, schema_2, schema_3, schema_4, schema_5, schema_6, schema_7, schema_8, office_schema};
+ghost use Rattle.office_tables.specs.Statements.{AreMade, IsEmptyOffice};
+ghost use Rattle.sqlite.specs.Held.{state};
+ghost use Rattle.sqlite.specs.State.{HasCleanDisk, Survives, KeepsCommit};
+
+use sqlite::{Alter, Error, Transaction};
+
+/// Makes `profile` where there is no table. Gives 0: no row was written.
+pub fn create_profile<S: Alter>(tx: &mut Transaction<'_, S>) -> Result<usize, Error>
+    ensures same_reference { tx.new.conn.ghost_name ≡ tx.old.conn.ghost_name }
+    ensures made { HasCleanDisk (state S.Store tx.new.conn.now) → (state S.Store tx.old.conn.now).now.schema ≡ no_schema → OnOk result (AreMade schema_1 (state S.Store tx.new.conn.now)) }
+    ensures rows { HasCleanDisk (state S.Store tx.new.conn.now) → (state S.Store tx.old.conn.now).now.schema ≡ no_schema → IfOk result (λ rows. rows ≡ 0) }
+    ensures kept { HasCleanDisk (state S.Store tx.new.conn.now) → KeepsCommit (state S.Store tx.old.conn.now) (state S.Store tx.new.conn.now) }
+    ensures survives { Survives (state S.Store tx.old.conn.now) (state S.Store tx.new.conn.now) (λ _. ⊥) }
+{
+    tx.execute(
+        "CREATE TABLE profile (one INTEGER PRIMARY KEY, number INTEGER) STRICT",
+        &[],
+    )
+}
+
+/// Makes `net` where the tables up to `profile` were just made. Gives 0: no row was written.
+pub fn create_net<S: Alter>(tx: &mut Transaction<'_, S>) -> Result<usize, Error>
+    ensures same_reference { tx.new.conn.ghost_name ≡ tx.old.conn.ghost_name }
+    ensures made { HasCleanDisk (state S.Store tx.new.conn.now) → AreMade schema_1 (state S.Store tx.old.conn.now) → OnOk result (AreMade schema_2 (state S.Store tx.new.conn.now)) }
+    ensures rows { HasCleanDisk (state S.Store tx.new.conn.now) → AreMade schema_1 (state S.Store tx.old.conn.now) → IfOk result (λ rows. rows ≡ 0) }
+    ensures kept { HasCleanDisk (state S.Store tx.new.conn.now) → KeepsCommit (state S.Store tx.old.conn.now) (state S.Store tx.new.conn.now) }
+    ensures survives { Survives (state S.Store tx.old.conn.now) (state S.Store tx.new.conn.now) (λ _. ⊥) }
+{
+    tx.execute(
+        "CREATE TABLE net (name TEXT PRIMARY KEY, kind INTEGER, reviews INTEGER, phase INTEGER, submitter TEXT, frame BLOB) STRICT",
+        &[],
+    )
+}
+
+/// Makes `message` where the tables up to `net` were just made. Gives 0: no row was written.
+pub fn create_message<S: Alter>(tx: &mut Transaction<'_, S>) -> Result<usize, Error>
+    ensures same_reference { tx.new.conn.ghost_name ≡ tx.old.conn.ghost_name }
+    ensures made { HasCleanDisk (state S.Store tx.new.conn.now) → AreMade schema_2 (state S.Store tx.old.conn.now) → OnOk result (AreMade schema_3 (state S.Store tx.new.conn.now)) }
+    ensures rows { HasCleanDisk (state S.Store tx.new.conn.now) → AreMade schema_2 (state S.Store tx.old.conn.now) → IfOk result (λ rows. rows ≡ 0) }
+    ensures kept { HasCleanDisk (state S.Store tx.new.conn.now) → KeepsCommit (state S.Store tx.old.conn.now) (state S.Store tx.new.conn.now) }
+    ensures survives { Survives (state S.Store tx.old.conn.now) (state S.Store tx.new.conn.now) (λ _. ⊥) }
+{
+    tx.execute(
+        "CREATE TABLE message (net TEXT, number INTEGER, name TEXT, owner TEXT, body BLOB, PRIMARY KEY (net, number), UNIQUE (net, name)) STRICT",
+        &[],
+    )
+}
+
+/// Makes `block` where the tables up to `message` were just made. Gives 0: no row was written.
+pub fn create_block<S: Alter>(tx: &mut Transaction<'_, S>) -> Result<usize, Error>
+    ensures same_reference { tx.new.conn.ghost_name ≡ tx.old.conn.ghost_name }
+    ensures made { HasCleanDisk (state S.Store tx.new.conn.now) → AreMade schema_3 (state S.Store tx.old.conn.now) → OnOk result (AreMade schema_4 (state S.Store tx.new.conn.now)) }
+    ensures rows { HasCleanDisk (state S.Store tx.new.conn.now) → AreMade schema_3 (state S.Store tx.old.conn.now) → IfOk result (λ rows. rows ≡ 0) }
+    ensures kept { HasCleanDisk (state S.Store tx.new.conn.now) → KeepsCommit (state S.Store tx.old.conn.now) (state S.Store tx.new.conn.now) }
+    ensures survives { Survives (state S.Store tx.old.conn.now) (state S.Store tx.new.conn.now) (λ _. ⊥) }
+{
+    tx.execute(
+        "CREATE TABLE block (net TEXT, form INTEGER, first INTEGER, last INTEGER, team TEXT, PRIMARY KEY (net, form, first)) STRICT",
+        &[],
+    )
+}
+
+/// Makes `held` where the tables up to `block` were just made. Gives 0: no row was written.
+pub fn create_held<S: Alter>(tx: &mut Transaction<'_, S>) -> Result<usize, Error>
+    ensures same_reference { tx.new.conn.ghost_name ≡ tx.old.conn.ghost_name }
+    ensures made { HasCleanDisk (state S.Store tx.new.conn.now) → AreMade schema_4 (state S.Store tx.old.conn.now) → OnOk result (AreMade schema_5 (state S.Store tx.new.conn.now)) }
+    ensures rows { HasCleanDisk (state S.Store tx.new.conn.now) → AreMade schema_4 (state S.Store tx.old.conn.now) → IfOk result (λ rows. rows ≡ 0) }
+    ensures kept { HasCleanDisk (state S.Store tx.new.conn.now) → KeepsCommit (state S.Store tx.old.conn.now) (state S.Store tx.new.conn.now) }
+    ensures survives { Survives (state S.Store tx.old.conn.now) (state S.Store tx.new.conn.now) (λ _. ⊥) }
+{
+    tx.execute(
+        "CREATE TABLE held (net TEXT, number INTEGER, PRIMARY KEY (net, number)) STRICT",
+        &[],
+    )
+}
+
+/// Makes `spn` where the tables up to `held` were just made. Gives 0: no row was written.
+pub fn create_spn<S: Alter>(tx: &mut Transaction<'_, S>) -> Result<usize, Error>
+    ensures same_reference { tx.new.conn.ghost_name ≡ tx.old.conn.ghost_name }
+    ensures made { HasCleanDisk (state S.Store tx.new.conn.now) → AreMade schema_5 (state S.Store tx.old.conn.now) → OnOk result (AreMade schema_6 (state S.Store tx.new.conn.now)) }
+    ensures rows { HasCleanDisk (state S.Store tx.new.conn.now) → AreMade schema_5 (state S.Store tx.old.conn.now) → IfOk result (λ rows. rows ≡ 0) }
+    ensures kept { HasCleanDisk (state S.Store tx.new.conn.now) → KeepsCommit (state S.Store tx.old.conn.now) (state S.Store tx.new.conn.now) }
+    ensures survives { Survives (state S.Store tx.old.conn.now) (state S.Store tx.new.conn.now) (λ _. ⊥) }
+{
+    tx.execute("CREATE TABLE spn (number INTEGER PRIMARY KEY) STRICT", &[])
+}
+
+/// Makes `approval` where the tables up to `spn` were just made. Gives 0: no row was written.
+pub fn create_approval<S: Alter>(tx: &mut Transaction<'_, S>) -> Result<usize, Error>
+    ensures same_reference { tx.new.conn.ghost_name ≡ tx.old.conn.ghost_name }
+    ensures made { HasCleanDisk (state S.Store tx.new.conn.now) → AreMade schema_6 (state S.Store tx.old.conn.now) → OnOk result (AreMade schema_7 (state S.Store tx.new.conn.now)) }
+    ensures rows { HasCleanDisk (state S.Store tx.new.conn.now) → AreMade schema_6 (state S.Store tx.old.conn.now) → IfOk result (λ rows. rows ≡ 0) }
+    ensures kept { HasCleanDisk (state S.Store tx.new.conn.now) → KeepsCommit (state S.Store tx.old.conn.now) (state S.Store tx.new.conn.now) }
+    ensures survives { Survives (state S.Store tx.old.conn.now) (state S.Store tx.new.conn.now) (λ _. ⊥) }
+{
+    tx.execute(
+        "CREATE TABLE approval (net TEXT, team TEXT, PRIMARY KEY (net, team)) STRICT",
+        &[],
+    )
+}
+
+/// Makes `frozen` where the tables up to `approval` were just made. Gives 0: no row was written.
+pub fn create_frozen<S: Alter>(tx: &mut Transaction<'_, S>) -> Result<usize, Error>
+    ensures same_reference { tx.new.conn.ghost_name ≡ tx.old.conn.ghost_name }
+    ensures made { HasCleanDisk (state S.Store tx.new.conn.now) → AreMade schema_7 (state S.Store tx.old.conn.now) → OnOk result (AreMade schema_8 (state S.Store tx.new.conn.now)) }
+    ensures rows { HasCleanDisk (state S.Store tx.new.conn.now) → AreMade schema_7 (state S.Store tx.old.conn.now) → IfOk result (λ rows. rows ≡ 0) }
+    ensures kept { HasCleanDisk (state S.Store tx.new.conn.now) → KeepsCommit (state S.Store tx.old.conn.now) (state S.Store tx.new.conn.now) }
+    ensures survives { Survives (state S.Store tx.old.conn.now) (state S.Store tx.new.conn.now) (λ _. ⊥) }
+{
+    tx.execute(
+        "CREATE TABLE frozen (net TEXT, number INTEGER, body BLOB, PRIMARY KEY (net, number)) STRICT",
+        &[],
+    )
+}
+
+/// Makes `reply` where the tables up to `frozen` were just made. Gives 0: no row was written.
+pub fn create_reply<S: Alter>(tx: &mut Transaction<'_, S>) -> Result<usize, Error>
+    ensures same_reference { tx.new.conn.ghost_name ≡ tx.old.conn.ghost_name }
+    ensures made { HasCleanDisk (state S.Store tx.new.conn.now) → AreMade schema_8 (state S.Store tx.old.conn.now) → OnOk result (AreMade office_schema (state S.Store tx.new.conn.now)) }
+    ensures rows { HasCleanDisk (state S.Store tx.new.conn.now) → AreMade schema_8 (state S.Store tx.old.conn.now) → IfOk result (λ rows. rows ≡ 0) }
+    ensures kept { HasCleanDisk (state S.Store tx.new.conn.now) → KeepsCommit (state S.Store tx.old.conn.now) (state S.Store tx.new.conn.now) }
+    ensures survives { Survives (state S.Store tx.old.conn.now) (state S.Store tx.new.conn.now) (λ _. ⊥) }
+{
+    tx.execute(
+        "CREATE TABLE reply (team TEXT, key TEXT, content BLOB, kind INTEGER, a INTEGER, b INTEGER, c INTEGER, PRIMARY KEY (team, key)) STRICT",
+        &[],
+    )
+}
+
+/// Makes `profile`, `net`, `message`.
+fn make_first<S: Alter>(tx: &mut Transaction<'_, S>) -> Result<(), Error>
+    ensures same_reference { tx.new.conn.ghost_name ≡ tx.old.conn.ghost_name }
+    ensures made { HasCleanDisk (state S.Store tx.new.conn.now) → (state S.Store tx.old.conn.now).now.schema ≡ no_schema → OnOk result (AreMade schema_3 (state S.Store tx.new.conn.now)) }
+    ensures kept { HasCleanDisk (state S.Store tx.new.conn.now) → KeepsCommit (state S.Store tx.old.conn.now) (state S.Store tx.new.conn.now) }
+    ensures survives { Survives (state S.Store tx.old.conn.now) (state S.Store tx.new.conn.now) (λ _. ⊥) }
+{
+    create_profile(tx)?;
+    create_net(tx)?;
+    create_message(tx)?;
+    Ok(())
+}
+
+/// Makes `block`, `held`, `spn`.
+fn make_second<S: Alter>(tx: &mut Transaction<'_, S>) -> Result<(), Error>
+    ensures same_reference { tx.new.conn.ghost_name ≡ tx.old.conn.ghost_name }
+    ensures made { HasCleanDisk (state S.Store tx.new.conn.now) → AreMade schema_3 (state S.Store tx.old.conn.now) → OnOk result (AreMade schema_6 (state S.Store tx.new.conn.now)) }
+    ensures kept { HasCleanDisk (state S.Store tx.new.conn.now) → KeepsCommit (state S.Store tx.old.conn.now) (state S.Store tx.new.conn.now) }
+    ensures survives { Survives (state S.Store tx.old.conn.now) (state S.Store tx.new.conn.now) (λ _. ⊥) }
+{
+    create_block(tx)?;
+    create_held(tx)?;
+    create_spn(tx)?;
+    Ok(())
+}
+
+/// Makes `approval`, `frozen`, `reply`.
+fn make_third<S: Alter>(tx: &mut Transaction<'_, S>) -> Result<(), Error>
+    ensures same_reference { tx.new.conn.ghost_name ≡ tx.old.conn.ghost_name }
+    ensures made { HasCleanDisk (state S.Store tx.new.conn.now) → AreMade schema_6 (state S.Store tx.old.conn.now) → OnOk result (AreMade office_schema (state S.Store tx.new.conn.now)) }
+    ensures kept { HasCleanDisk (state S.Store tx.new.conn.now) → KeepsCommit (state S.Store tx.old.conn.now) (state S.Store tx.new.conn.now) }
+    ensures survives { Survives (state S.Store tx.old.conn.now) (state S.Store tx.new.conn.now) (λ _. ⊥) }
+{
+    create_approval(tx)?;
+    create_frozen(tx)?;
+    create_reply(tx)?;
+    Ok(())
+}
+
+/// Makes the tables, each after those before it.
+fn make_each<S: Alter>(tx: &mut Transaction<'_, S>) -> Result<(), Error>
+    ensures same_reference { tx.new.conn.ghost_name ≡ tx.old.conn.ghost_name }
+    ensures made { HasCleanDisk (state S.Store tx.new.conn.now) → (state S.Store tx.old.conn.now).now.schema ≡ no_schema → OnOk result (AreMade office_schema (state S.Store tx.new.conn.now)) }
+    ensures kept { HasCleanDisk (state S.Store tx.new.conn.now) → KeepsCommit (state S.Store tx.old.conn.now) (state S.Store tx.new.conn.now) }
+    ensures survives { Survives (state S.Store tx.old.conn.now) (state S.Store tx.new.conn.now) (λ _. ⊥) }
+{
+    make_first(tx)?;
+    make_second(tx)?;
+    make_third(tx)
+}
+
+/// Makes all tables where there is none: they are the office's, with no row.
+pub fn make_tables<S: Alter>(tx: &mut Transaction<'_, S>) -> Result<(), Error>
+    ensures same_reference { tx.new.conn.ghost_name ≡ tx.old.conn.ghost_name }
+    ensures made { HasCleanDisk (state S.Store tx.new.conn.now) → (state S.Store tx.old.conn.now).now.schema ≡ no_schema → OnOk result (IsEmptyOffice (state S.Store tx.new.conn.now)) }
+    ensures kept { HasCleanDisk (state S.Store tx.new.conn.now) → KeepsCommit (state S.Store tx.old.conn.now) (state S.Store tx.new.conn.now) }
+    ensures survives { Survives (state S.Store tx.old.conn.now) (state S.Store tx.new.conn.now) (λ _. ⊥) }
+{
+    make_each(tx)
+}

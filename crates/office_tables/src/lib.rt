@@ -1,0 +1,22 @@
+//! The tables of the office: their schema, the rows that they keep, and making them.
+//!
+//! [`make_tables`] makes all tables on an empty store, in one fixed order: `profile`, `net`, `message`, `block`, `held`,
+//! `spn`, `approval`, `frozen`, `reply`. A table that comes later is made last. docs/DESIGN.md says what each row means.
+//!
+//! [`is_new`] tells whether there is a table yet, and [`knows_schema`] that trees of the office are read with its schema.
+//!
+//! The statements that read and write rows are in the crate `office_rows`. What a statement of each form makes of the
+//! tables is proved here once, for any table: `proofs/Changing.antt` has INSERT and DELETE, `proofs/Selecting.antt` SELECT.
+//!
+//! The definitions are in `specs/`: `Schema.antt` (the tables, as `sqlite` has them), `Tables.antt` (their rows),
+//! `Statements.antt` (what a statement makes of them) and `Selected.antt` (what a SELECT shows).
+#![tactic(auto)]
+
+mod creating;
+mod opening;
+
+pub use creating::{
+    create_approval, create_block, create_frozen, create_held, create_message, create_net,
+    create_profile, create_reply, create_spn, make_tables,
+};
+pub use opening::{is_new, knows_schema};

@@ -1,0 +1,23 @@
+//! What a connection that was just opened tells of the tables.
+ghost use Rattle.std.specs.Prelude.{◌≡◌, ◌↔◌, IsTrue};
+ghost use Rattle.office_tables.specs.Schema.{no_schema, office_schema};
+ghost use Rattle.sqlite_catalog.specs.Listing.{IsSound};
+ghost use Rattle.sqlite.specs.Held.{state};
+
+use sqlite::{Alter, Connection};
+
+/// Whether there is no table, index or view, so that the tables can be made.
+pub fn is_new<S: Alter>(conn: &Connection<S>) -> bool
+    ensures { IsTrue result ↔ ((state S.Store conn.now).now.schema ≡ no_schema) }
+{
+    let schema = conn.schema();
+    schema.tables.is_empty() && schema.indexes.is_empty() && schema.views.is_empty()
+}
+
+/// Does nothing. Its contract is a law: where the trees list the office's tables and keep to them, the connection has the
+/// office's schema, since no other has the same list.
+pub fn knows_schema<S: Alter>(conn: &Connection<S>)
+    ensures { IsTrue (state S.Store conn.now).is_open → IsSound office_schema (state S.Store conn.now).now.trees → (state S.Store conn.now).now.schema ≡ office_schema }
+{
+    let _schema = conn.schema();
+}

@@ -83,7 +83,7 @@ block = keyed_table (codes "block")
     (keyed (text (codes "net")) ∷ keyed (integer (codes "form")) ∷ keyed (integer (codes "first")) ∷ integer (codes "last") ∷ text (codes "team") ∷ [])
     (1 ∷ 2 ∷ 3 ∷ [])
 
--- a number that a release of a network has used
+-- an identifier of a network that is held for good
 abbrev pub held : Table
 held = keyed_table (codes "held") (keyed (text (codes "net")) ∷ keyed (integer (codes "number")) ∷ []) (1 ∷ 2 ∷ [])
 

@@ -1,5 +1,6 @@
 -- Worked examples, computed from the definitions.
 use Rattle.std.proofs.Common.{◌≡◌, ℕ, false, List, [], ◌∷◌, map, Some, None, refl}
+use Rattle.std.proofs.lemmas.Bool.{true≢false}
 use Rattle.std.specs.Prelude.{codes}
 use Rattle.bitlayout.specs.Bits.{walk, shares_bit, is_inside}
 use Rattle.bitlayout.specs.Clash.{clash_after}
@@ -12,6 +13,7 @@ use Rattle.catalogue.specs.declared.sheet.Sheet.{Sheet}
 use Rattle.catalogue.specs.declared.signal.Signal.{Signal}
 use Rattle.catalogue.specs.declared.value_type.ValueType.TheVariants.{Integer}
 use Rattle.office_types.specs.declared.block.BlockForm.TheVariants as block
+use Rattle.office_types.specs.declared.change.Change.TheVariants.{SetBlock}
 use Rattle.office_types.specs.declared.command.Action.TheVariants as act
 use Rattle.office_types.specs.declared.command.NetKind.TheVariants.{Can, J1939}
 use Rattle.office_types.specs.declared.command.Pdu.TheVariants.{Addressed, Broadcast}
@@ -19,6 +21,7 @@ use Rattle.office_types.specs.declared.refusal.Refusal.TheVariants as no
 use Rattle.office_types.specs.declared.reply.Reply.{Reply}
 use Rattle.office_types.specs.declared.reply.Reply.TheVariants.{Done, Number, Start, Counts, Release, Refused}
 use Rattle.office_types.specs.declared.state.Net.{Net}
+use Rattle.office_rules.specs.Change.{HaveOwnBlocks}
 use Rattle.office_rules.specs.Importing.{Unreadable}
 use Rattle.office_rules.specs.Facts.{taken_groups}
 use Rattle.office_rules.specs.Step.{opening}
@@ -137,7 +140,7 @@ unfolding walk shares_bit is_inside clash_after first_answer
 groups_taken = refl
 
 -- a file whose signals share bits is refused with the first unclear message's number
-unclear : replies_to opening (opens Can 0 ∷ imports office (record empty_sheet { messages = message (id.Std 5) (codes "M") (temperature ∷ record temperature { name = codes "T2" } ∷ []) ∷ [] }) ∷ [])
+unclear : replies_to opening (opens Can 0 ∷ imports office (record empty_sheet { messages = message (id.Std 5) (codes "M") (temperature ∷ record temperature { name = codes "Oil" } ∷ []) ∷ [] }) ∷ [])
     ≡ Done ∷ Refused (no.FileFault (record { fault = 23; at = 5 })) ∷ []
 unfolding walk shares_bit is_inside clash_after first_answer
 unclear = refl
@@ -194,3 +197,9 @@ spns_taken : replies_to opening (with_bits (
     ≡ bits_given (Done ∷ Number 500 ∷ Number 501 ∷ Refused no.BlockFull ∷ Refused no.NoSpn ∷ Number 500 ∷ [])
 unfolding walk shares_bit is_inside clash_after first_answer
 spns_taken = refl
+
+block_of_identifiers : HaveOwnBlocks (SetBlock (record { block = record { form = block.Std; first = 256; last = 258 }; team = engine }) ∷ [])
+block_of_identifiers = (refl, tt)
+
+block_of_spns : HaveOwnBlocks (SetBlock (record { block = record { form = block.Spn; first = 500; last = 501 }; team = engine }) ∷ []) → ⊥
+block_of_spns blocks = true≢false blocks.0

@@ -1,0 +1,68 @@
+-- A worked example, computed from the definitions: repeats after the office has moved on.
+use Rattle.std.proofs.Common.{◌≡◌, ℕ, List, [], ◌∷◌, take, All, None, IfSome, refl}
+use Rattle.std.specs.Prelude.{codes}
+use Rattle.std.proofs.lemmas.List.Elements.{All-from_recursion}
+use Rattle.office_types.specs.declared.block.BlockForm.TheVariants as block
+use Rattle.office_types.specs.declared.command.Action.TheVariants as act
+use Rattle.office_types.specs.declared.command.NetKind.TheVariants.{Can}
+use Rattle.office_types.specs.declared.reply.Reply.TheVariants.{Done, Number}
+use Rattle.office_types.specs.declared.state.Office.{Office}
+use Rattle.office_rules.specs.Outcome.{reply_of}
+use Rattle.office_rules.specs.Step.{IsRead, Step, file_wanted, net_named, office_after, opening, step_outcome}
+use Rattle.office_rules.proofs.Asking.{Asked, asks, engine, grants, left_by, opens, takes}
+use Rattle.office_history.specs.declared.arrival.Answer.{Answer}
+use Rattle.office_history.specs.declared.arrival.Answer.TheVariants as answer
+use Rattle.office_history.specs.declared.arrival.Answer.TheVariants.{KeyReused}
+use Rattle.office_history.specs.History.{Answered, IsAnsweredAs, IsLegal, first_arrivals, first_of}
+
+abbrev answered : Asked → List ℕ → List ℕ → Answer → Answered
+answered q key content answer = record { team = q.team; key = key; content = content; command = q.command; answer = answer }
+
+abbrev take_1 : Asked
+take_1 = takes engine (codes "E1") None
+
+abbrev retire_1 : Asked
+retire_1 = asks engine (act.Retire (codes "E1"))
+
+abbrev take_2 : Asked
+take_2 = takes engine (codes "E2") None
+
+-- the number that was given out is free again when the request for it is repeated; then its key is used for another one
+abbrev moved_on : List Answered
+moved_on =
+    answered (opens Can 0) (codes "o1") (codes "open_net") (answer.Reply Done)
+    ∷ answered (grants engine block.Std 256 258) (codes "o2") (codes "grant") (answer.Reply Done)
+    ∷ answered take_1 (codes "a1") (codes "take E1") (answer.Reply (Number 256))
+    ∷ answered retire_1 (codes "a2") (codes "retire E1") (answer.Reply Done)
+    ∷ answered take_2 (codes "a3") (codes "take E2") (answer.Reply (Number 256))
+    ∷ answered take_1 (codes "a1") (codes "take E1") (answer.Reply (Number 256))
+    ∷ answered take_2 (codes "a1") (codes "take E2") KeyReused ∷ []
+
+abbrev asked_first : List Asked
+asked_first = opens Can 0 ∷ grants engine block.Std 256 258 ∷ take_1 ∷ retire_1 ∷ take_2 ∷ []
+
+the_first : first_arrivals moved_on ≡ take 5 moved_on
+the_first = refl
+
+step_of : (o : Office) (q : Asked) → IsRead (file_wanted (net_named o q.command.net) q.command.task) q.reading
+    → Step o q.team q.command (reply_of (step_outcome o q.team q.reading q.command)) (office_after o (step_outcome o q.team q.reading q.command))
+step_of o q read = record { reading = q.reading; read = read; answered = refl; left = refl }
+
+abbrev after : ℕ → Office
+after n = left_by opening (take n asked_first)
+
+it_is_legal : IsLegal moved_on (after 5)
+it_is_legal = record {
+  replies = Done ∷ Done ∷ Number 256 ∷ Done ∷ Number 256 ∷ [];
+  replied = refl;
+  run = (
+    after 1,
+    step_of opening (opens Can 0) (tt {0}),
+    (
+      after 2,
+      step_of (after 1) (grants engine block.Std 256 258) (tt {0}),
+      (after 3, step_of (after 2) take_1 (tt {0}), (after 4, step_of (after 3) retire_1 (tt {0}), (after 5, step_of (after 4) take_2 (tt {0}), refl))),
+    ),
+  );
+  again = All-from_recursion (λ a. IfSome (first_of moved_on a) (IsAnsweredAs a)) moved_on (refl, (refl, (refl, (refl, (refl, (refl, (refl, tt {0})))))));
+}

@@ -1,0 +1,3 @@
+pub mod Key
+pub mod History
+pub mod Laws

@@ -1,0 +1,18 @@
+//! Laws of histories. Each is the contract of a function that does nothing.
+ghost use Rattle.office_history.specs.Laws.{HistoriesGrow, HistoriesLeaveOffices};
+
+use catalogue::texts_read_as_one_sheet;
+
+/// A legal history goes on with an arrival that a step of the office answers, where its pair of team and key is new,
+/// and else with one that is answered as a repeat.
+pub fn histories_grow()
+    ensures { HistoriesGrow }
+{}
+
+/// A legal history of teams and commands in range leaves an office, with all that every office keeps; and two legal
+/// histories with the same requests first leave one office.
+pub fn histories_leave_offices()
+    ensures { HistoriesLeaveOffices }
+{
+    texts_read_as_one_sheet();
+}

@@ -1,0 +1,100 @@
+-- What an arrival makes of tables that hold a history.
+use Rattle.std.proofs.Common.{◌≡◌, inl, inr, ℕ, false, List, [], ◌∷◌, ◌++◌, Option, None, Some, refl, sym, ap, subst, ◌∙◌}
+use Rattle.std.specs.Option.{option_map}
+use Rattle.std.specs.Str.{bytes_eq}
+use Rattle.std.proofs.lemmas.Bool.{cases_Bool}
+use Rattle.std.proofs.lemmas.List.Elements.{All-push}
+use Rattle.std.proofs.lemmas.Slice.Eq.{bytes_eq-Decides}
+use Rattle.office_types.specs.declared.change.Change.{Change}
+use Rattle.office_types.specs.declared.change.Decision.{Decision}
+use Rattle.office_types.specs.declared.state.Office.{Office}
+use Rattle.office_rules.specs.Change.{HaveOwnBlocks, IsDecision, IsHeadFirst, NetAndBook, all_applied, left_after}
+use Rattle.office_rules.specs.Outcome.{Changing, Outcome, Refusing}
+use Rattle.office_rules.specs.Step.{Step, net_named, office_after, step_outcome}
+use Rattle.office_law.specs.Histories.{net_after}
+use Rattle.office_law.proofs.NetsApart.{nets_apart}
+use Rattle.office_tables.specs.Tables.{Tables}
+use Rattle.office_history.specs.declared.arrival.Answer.TheVariants as answer
+use Rattle.office_history.specs.History.{Answered, IsAnsweredAs, first_of}
+use Rattle.office_history.specs.Laws.{HistoriesLeaveOffices, IsInRange}
+use Rattle.office_history.proofs.Histories.{histories_grow}
+use Rattle.store_net.specs.Kept.{AreKept, kept_row}
+use Rattle.store_rows.specs.Follows.{Follows}
+use Rattle.store_rows.specs.Rows.{IsBookIn, IsNetAt}
+use Rattle.store_rows.proofs.Changes.{others_follow, same_net}
+use Rattle.store.specs.Holds.{Holds}
+use Rattle.store.proofs.Kept.{kept_again, kept_first}
+
+-- ---- a first arrival
+
+abbrev pub before_of : Office → List ℕ → NetAndBook
+before_of o name = record { net = net_named o name; book = o.book }
+
+-- what an outcome leaves of the network and of the book is what it leaves of the office
+net_left : (o : Office) (name : List ℕ) (out : Outcome) → (left_after (before_of o name) out).net ≡ net_after (net_named o name) out
+net_left o name (Refusing r) = refl
+net_left o name (Changing r net e) = refl
+
+book_left : (o : Office) (name : List ℕ) (out : Outcome) → (left_after (before_of o name) out).book ≡ (office_after o out).book
+book_left o name (Refusing r) = refl
+book_left o name (Changing r net e) = refl
+
+-- the rows of each network after a step stand for it: its own follow it, and the others stay
+nets_after : (o after : Office) (name : List ℕ) (t u : Tables) (changed : NetAndBook) → Follows name t u (before_of o name) changed → changed.net ≡ net_named after name
+    → ((other : List ℕ) → bytes_eq name other ≡ false → net_named after other ≡ net_named o other)
+    → ((other : List ℕ) → IsNetAt other t (net_named o other)) → (other : List ℕ) → IsNetAt other u (net_named after other)
+nets_after o after name t u changed follows own others nets other = elim (cases_Bool (bytes_eq name other)) [
+  | inl same ↦ subst (λ n. IsNetAt n u (net_named after n)) ((bytes_eq-Decides name other).0 same) (subst (IsNetAt name u) own (follows.here (nets name)))
+  | inr apart ↦ subst (IsNetAt other u) (sym (others other apart)) (others_follow name t u (before_of o name) changed follows other apart (net_named o other) (nets other))
+]
+
+abbrev pub with_reply : Answered → Decision → Tables → Tables
+with_reply a d t = record t { reply = t.reply ++ kept_row a.team a.key a.content d.reply ∷ [] }
+
+-- the changes were written, from the network and the book on which they were decided
+abbrev pub AreFollowed : List ℕ → NetAndBook → List Change → Tables → Tables → Type 0
+AreFollowed name before changes t u = IsHeadFirst before.net changes → HaveOwnBlocks changes → Follows name t u before (all_applied name changes before)
+
+pub first_holds : HistoriesLeaveOffices → (h : List Answered) (a : Answered) (d : Decision) (t u v : Tables) (holds : Holds h t) → IsInRange a → first_of h a ≡ None → a.answer ≡ answer.Reply d.reply
+    → IsDecision a.team (before_of holds.office a.command.net) a.command d → AreFollowed a.command.net (before_of holds.office a.command.net) d.changes t u
+    → v ≡ with_reply a d u → Holds (h ++ a ∷ []) v
+first_holds laws h a d t u v holds ranged new told decision followed kept =
+    let o = holds.office in
+    let name = a.command.net in
+    let decides = decision.decides in
+    let out = step_outcome o a.team decision.reading a.command in
+    let after = office_after o out in
+    let follows = followed decides.head_first decides.own_blocks in
+    let apart = nets_apart o a.team decision.reading a.command in
+    let sorted = (laws.kept h o holds.in_range holds.legal).rising in
+    let step : Step o a.team a.command d.reply after = record { reading = decision.reading; read = decision.read; answered = decides.reply; left = refl } in
+    let own = ap (λ (e : NetAndBook). e.net) decides.changes ∙ net_left o name out ∙ sym (apart.own sorted) in
+    let nets = nets_after o after name t u _ follows own apart.others holds.nets in
+    let book = subst (IsBookIn u) (ap (λ (e : NetAndBook). e.book) decides.changes ∙ book_left o name out) (follows.book holds.book) in
+    subst (Holds (h ++ a ∷ [])) (sym kept) (record {
+      office = after;
+      legal = histories_grow.first h o after a d.reply holds.legal new told step;
+      in_range = All-push IsInRange h a holds.in_range ranged;
+      book = record { blocks = book.blocks; used = book.used };
+      nets = λ other. same_net other u (with_reply a d u) (net_named after other) refl (nets other);
+      replies = subst (λ rows. AreKept (h ++ a ∷ []) (rows ++ kept_row a.team a.key a.content d.reply ∷ [])) (sym follows.replies) (kept_first h a d.reply t.reply new told holds.replies);
+      profile = follows.profile ∙ holds.profile;
+    })
+
+-- ---- a repeat
+
+-- something comes of a value only where there is one
+pub some_of : {X Y : Type 0} (f : X → Y) (found : Option X) (y : Y) → Some y ≡ option_map f found → (x : X) × (found ≡ Some x) × (y ≡ f x)
+some_of f None y is = absurd (cc)
+some_of f (Some x) y is = (x, refl, cc)
+
+pub again_holds : (h : List Answered) (a first : Answered) (t : Tables) → Holds h t → IsInRange a → first_of h a ≡ Some first → IsAnsweredAs a first → Holds (h ++ a ∷ []) t
+again_holds h a first t holds ranged found told = record {
+  office = holds.office;
+  legal = histories_grow.again h holds.office a first holds.legal found told;
+  in_range = All-push IsInRange h a holds.in_range ranged;
+  book = holds.book;
+  nets = holds.nets;
+  replies = kept_again h a first t.reply found holds.replies;
+  profile = holds.profile;
+}

@@ -1,0 +1,29 @@
+-- Worked examples, computed from the definitions.
+use Rattle.std.proofs.Common.{◌≡◌, [], ◌∷◌, Err, Ok, refl}
+use Rattle.sqlite.specs.declared.error.Error.TheVariants.{InvalidQuery, SqliteFailure}
+use Rattle.sqlite.specs.declared.error.ErrorCode.TheVariants.{DiskFull, OutOfMemory}
+use Rattle.office_history.specs.declared.arrival.Answer.{Answer}
+use Rattle.office_history.specs.declared.arrival.Answer.TheVariants.{KeyReused}
+use Rattle.office_history.specs.declared.arrival.Arrival.{Arrival}
+use Rattle.store.specs.declared.lost.Lost.TheVariants.{Memory, Store}
+use Rattle.store.specs.Lost.{lost_by, lost_number}
+use Rattle.store.specs.Running.{answered_of, lost_of, told}
+
+-- a lost arrival isn't in the history, one that is sent again is there twice, with both answers
+the_answered : (a b : Arrival) (x : Answer) → answered_of (a ∷ b ∷ a ∷ b ∷ []) (Err Memory ∷ Ok x ∷ Ok x ∷ Ok KeyReused ∷ []) ≡ told b x ∷ told a x ∷ told b KeyReused ∷ []
+the_answered a b x = refl
+
+the_lost : (a b : Arrival) (x : Answer) → lost_of (a ∷ b ∷ a ∷ []) (Err Memory ∷ Ok x ∷ Err Store ∷ []) ≡ a ∷ a ∷ []
+the_lost a b x = refl
+
+by_memory : lost_by (SqliteFailure OutOfMemory) ≡ Memory
+by_memory = refl
+
+by_disk : lost_by (SqliteFailure DiskFull) ≡ Store
+by_disk = refl
+
+by_rows : lost_by InvalidQuery ≡ Store
+by_rows = refl
+
+of_memory : lost_number Memory ≡ 71
+of_memory = refl

@@ -1,0 +1,7 @@
+pub mod Opened
+pub mod Kept
+pub mod Arrived
+pub mod Left
+pub mod Ran
+pub mod Clear
+mod Examples

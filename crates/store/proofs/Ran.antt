@@ -1,0 +1,126 @@
+-- A list of arrivals, and one more.
+use Rattle.std.proofs.Common.{◌≡◌, ◌≢◌, ◌⊎◌, inl, inr, true, false, List, [], ◌∷◌, ◌++◌, length, Ok, Err, Result, refl, sym, ap, subst, ◌∙◌, arith, append_assoc, append-nil, length-append}
+use Rattle.std.specs.Prelude.{Bool, ◌↔◌, IfErr, IfOk, IsTrue, OnErr}
+use Rattle.std.proofs.lemmas.Bool.{cases_Bool}
+use Rattle.std.proofs.lemmas.List.Elements.{Contains-append_left, Contains-push}
+use Rattle.sqlite.specs.Held.{state}
+use Rattle.sqlite.specs.State.{State}
+use Rattle.sqlite.specs.Tree.{Trees}
+use Rattle.sqlite_trees.specs.declared.store.Store.{Ghosts}
+use Rattle.office_history.specs.declared.arrival.Answer.{Answer}
+use Rattle.office_history.specs.declared.arrival.Arrival.{Arrival}
+use Rattle.office_history.specs.History.{Answered}
+use Rattle.store.specs.declared.lost.Lost.{Lost}
+use Rattle.store.specs.declared.lost.Lost.TheVariants.{Memory, NewerProfile, Store}
+use Rattle.store.specs.Holding.{Holding, Keeps, Leaves}
+use Rattle.store.specs.Office.{StoredOffice}
+use Rattle.store.specs.Headline.{HasRun}
+use Rattle.store.specs.Running.{KeepsWithOne, answered_of, lost_of, told}
+
+-- ---- one more arrival
+
+answered_more : (xs : List Arrival) (rs : List (Result Answer Lost)) (a : Arrival) (answer : Answer) → length rs ≡ length xs
+    → answered_of (xs ++ a ∷ []) (rs ++ Ok answer ∷ []) ≡ answered_of xs rs ++ told a answer ∷ []
+answered_more [] [] a answer each = refl
+answered_more [] (r ∷ rs) a answer each = absurd (omega (arith, each))
+answered_more (x ∷ xs) [] a answer each = absurd (omega (arith, each))
+answered_more (x ∷ xs) (Ok b ∷ rs) a answer each = ap (◌∷◌ (told x b)) (answered_more xs rs a answer (omega (arith, each)))
+answered_more (x ∷ xs) (Err lost ∷ rs) a answer each = answered_more xs rs a answer (omega (arith, each))
+
+answered_same : (xs : List Arrival) (rs : List (Result Answer Lost)) (a : Arrival) (lost : Lost) → length rs ≡ length xs
+    → answered_of (xs ++ a ∷ []) (rs ++ Err lost ∷ []) ≡ answered_of xs rs
+answered_same [] [] a lost each = refl
+answered_same [] (r ∷ rs) a lost each = absurd (omega (arith, each))
+answered_same (x ∷ xs) [] a lost each = absurd (omega (arith, each))
+answered_same (x ∷ xs) (Ok b ∷ rs) a lost each = ap (◌∷◌ (told x b)) (answered_same xs rs a lost (omega (arith, each)))
+answered_same (x ∷ xs) (Err e ∷ rs) a lost each = answered_same xs rs a lost (omega (arith, each))
+
+lost_more : (xs : List Arrival) (rs : List (Result Answer Lost)) (a : Arrival) (lost : Lost) → length rs ≡ length xs
+    → lost_of (xs ++ a ∷ []) (rs ++ Err lost ∷ []) ≡ lost_of xs rs ++ a ∷ []
+lost_more [] [] a lost each = refl
+lost_more [] (r ∷ rs) a lost each = absurd (omega (arith, each))
+lost_more (x ∷ xs) [] a lost each = absurd (omega (arith, each))
+lost_more (x ∷ xs) (Ok b ∷ rs) a lost each = lost_more xs rs a lost (omega (arith, each))
+lost_more (x ∷ xs) (Err e ∷ rs) a lost each = ap (◌∷◌ x) (lost_more xs rs a lost (omega (arith, each)))
+
+each_more : {X Y : Type 0} (xs : List X) (ys : List Y) (x : X) (y : Y) → length ys ≡ length xs → length (ys ++ y ∷ []) ≡ length (xs ++ x ∷ [])
+each_more xs ys x y each = let a = length-append xs (x ∷ []) in let b = length-append ys (y ∷ []) in omega (arith, a, b, each)
+
+-- one of the lost arrivals is one of more of them
+still_one : (h : List Answered) (lost : List Arrival) (a : Arrival) (db : Trees) → KeepsWithOne h lost db → KeepsWithOne h (lost ++ a ∷ []) db
+still_one h lost a db (inl keeps) = inl keeps
+still_one h lost a db (inr one) = inr (one.0, Contains-append_left lost (a ∷ []) one.0 one.1, one.2, one.3)
+
+-- ---- what is held after it
+
+-- no arrival leaves the history as it is
+pub run_none : (h : List Answered) (failed : Bool) (s : State) → (failed ≡ false → IsTrue s.is_open) → Holding h s → Leaves (Keeps h) s → HasRun h [] [] failed s
+run_none h failed s is_open holding left = record {
+  each = refl;
+  is_open = is_open;
+  held = λ now. subst (λ l. Holding l s) (sym (append-nil h)) holding;
+  left = λ db may. inl (subst (λ l. Keeps l db) (sym (append-nil h)) (left db may));
+}
+
+module _ {S : Type 0} (g : Ghosts S) (h : List Answered) (xs : List Arrival) (rs : List (Result Answer Lost)) (a : Arrival) (old new : StoredOffice S) (before : HasRun h xs rs old.failed (state g old.conn)) where
+  -- a failed office answers nothing, and stays as it is
+  failed_more : (lost : Lost) → old.failed ≡ true → HasRun h (xs ++ a ∷ []) (rs ++ Err lost ∷ []) old.failed (state g old.conn)
+  failed_more lost failed = record {
+    each = each_more xs rs a (Err lost) before.each;
+    is_open = λ working. absurd (let both : true ≡ false = sym failed ∙ working in cc);
+    held = λ now. subst (λ l. Holding (h ++ l) (state g old.conn)) (sym (answered_same xs rs a lost before.each)) (before.held now);
+    left = λ db may. subst (λ l. KeepsWithOne (h ++ l) (lost_of (xs ++ a ∷ []) (rs ++ Err lost ∷ [])) db) (sym (answered_same xs rs a lost before.each))
+        (subst (λ l. KeepsWithOne (h ++ answered_of xs rs) l db) (sym (lost_more xs rs a lost before.each)) (still_one (h ++ answered_of xs rs) (lost_of xs rs) a db (before.left db may)));
+  }
+
+  -- an answer goes into the history
+  answered_next : (answer : Answer) → Holding ((h ++ answered_of xs rs) ++ told a answer ∷ []) (state g new.conn) → Leaves (Keeps ((h ++ answered_of xs rs) ++ told a answer ∷ [])) (state g new.conn)
+      → HasRun h (xs ++ a ∷ []) (rs ++ Ok answer ∷ []) new.failed (state g new.conn)
+  answered_next answer holding left =
+      let line = append_assoc h (answered_of xs rs) (told a answer ∷ []) ∙ ap (λ l. h ++ l) (sym (answered_more xs rs a answer before.each)) in
+      record {
+        each = each_more xs rs a (Ok answer) before.each;
+        is_open = λ _. holding.is_open;
+        held = λ now. subst (λ l. Holding l (state g new.conn)) line holding;
+        left = λ db may. inl (subst (λ l. Keeps l db) line (left db may));
+      }
+
+  -- a loss leaves the history, or a crash may leave it with that arrival
+  lost_next : (lost : Lost) → (new.failed ≡ false → IsTrue (state g new.conn).is_open) → (IsTrue (state g new.conn).is_open → Holding (h ++ answered_of xs rs) (state g new.conn))
+      → Leaves (λ db. Keeps (h ++ answered_of xs rs) db ⊎ ((answer : Answer) × Keeps ((h ++ answered_of xs rs) ++ told a answer ∷ []) db)) (state g new.conn)
+      → HasRun h (xs ++ a ∷ []) (rs ++ Err lost ∷ []) new.failed (state g new.conn)
+  lost_next lost is_open held left =
+      let same = answered_same xs rs a lost before.each in
+      record {
+        each = each_more xs rs a (Err lost) before.each;
+        is_open = is_open;
+        held = λ now. subst (λ l. Holding (h ++ l) (state g new.conn)) (sym same) (held now);
+        left = λ db may. subst (λ l. KeepsWithOne (h ++ l) (lost_of (xs ++ a ∷ []) (rs ++ Err lost ∷ [])) db) (sym same)
+            (subst (λ l. KeepsWithOne (h ++ answered_of xs rs) l db) (sym (lost_more xs rs a lost before.each)) (elim (left db may) [
+              | inl keeps ↦ inl keeps
+              | inr one ↦ inr (a, Contains-push (lost_of xs rs) a, one.0, one.1)
+            ]));
+      }
+
+  -- unless the office has failed, a loss is that memory ran out
+  by_memory : (lost : Lost) → (IsTrue new.failed ↔ (◌≡◌ {A = Result Answer Lost} (Err lost) (Err Store))) → lost ≢ NewerProfile → new.failed ≡ false → lost ≡ Memory
+  by_memory Memory failed named working = refl
+  by_memory Store failed named working = absurd (let both : true ≡ false = sym (failed.1 refl) ∙ working in cc)
+  by_memory NewerProfile failed named working = absurd (named refl)
+
+  pub run_more : (r : Result Answer Lost) → (IsTrue new.failed ↔ (r ≡ Err Store)) → (IsTrue old.failed → new ≡ old) → IfErr r (λ lost. lost ≢ NewerProfile)
+      → ((k : List Answered) → Holding k (state g old.conn) → IfOk r (λ answer. Holding (k ++ told a answer ∷ []) (state g new.conn) × Leaves (Keeps (k ++ told a answer ∷ [])) (state g new.conn)))
+      → ((k : List Answered) → Holding k (state g old.conn) → IsTrue (state g new.conn).is_open → OnErr r (Holding k (state g new.conn)))
+      → IfErr r (λ lost. lost ≡ Memory → IsTrue (state g new.conn).is_open)
+      → ((k : List Answered) → Holding k (state g old.conn) → OnErr r (Leaves (λ db. Keeps k db ⊎ ((answer : Answer) × Keeps (k ++ told a answer ∷ []) db)) (state g new.conn)))
+      → HasRun h (xs ++ a ∷ []) (rs ++ r ∷ []) new.failed (state g new.conn)
+  run_more (Ok answer) failed refused named answered lost is_open left = elim (cases_Bool old.failed) [
+    | inl over ↦ absurd (let both = failed.0 (ap (λ (o : StoredOffice S). o.failed) (refused over) ∙ over) in cc)
+    | inr working ↦ let both = answered (h ++ answered_of xs rs) (before.held (before.is_open working)) in answered_next answer both.0 both.1
+  ]
+  run_more (Err e) failed refused named answered lost is_open left = elim (cases_Bool old.failed) [
+    | inl over ↦ subst (λ (o : StoredOffice S). HasRun h (xs ++ a ∷ []) (rs ++ Err e ∷ []) o.failed (state g o.conn)) (sym (refused over)) (failed_more e over)
+    | inr working ↦
+        let held = before.held (before.is_open working) in
+        lost_next e (λ fine. is_open (by_memory e failed named fine)) (λ now. lost (h ++ answered_of xs rs) held now) (left (h ++ answered_of xs rs) held)
+  ]

@@ -1,0 +1,28 @@
+-- What holds of the tables after every history.
+use Rattle.std.specs.Prelude.{◌≡◌, ℕ, pos, List, Some, filter, map, IsPermutation}
+use Rattle.std.specs.List.Sorted.{IsStrictlySortedBy}
+use Rattle.sqlite.specs.Order.{column}
+use Rattle.sqlite.specs.declared.types.Value.TheVariants.{Int}
+use Rattle.can_id.specs.Ident.{dbc_number}
+use Rattle.catalogue.specs.Messages.{by_number}
+use Rattle.catalogue.specs.Sheet.{IsClearSheet}
+use Rattle.office_types.specs.State.{live_messages, sheet_of}
+use Rattle.office_types.specs.declared.state.Net.{Net}
+use Rattle.office_types.specs.declared.state.Office.{Office}
+use Rattle.office_rules.specs.Step.{net_named}
+use Rattle.office_tables.specs.Tables.{Tables}
+use Rattle.office_rows.specs.Rows.{is_of_net}
+use Rattle.office_history.specs.History.{Answered, IsLegal}
+use Rattle.store.specs.Holds.{Holds}
+
+-- Of a network with these rows: no two live messages have one identifier, and no message has two signals that share a bit
+-- when both are present. Its rows of `message` have the numbers of the live messages, each once, and no other.
+pub record IsClearInRows (name : List ℕ) (t : Tables) (net : Net) : Type 0 where
+  pub clear : IsClearSheet (sheet_of net)
+  pub ascending : IsStrictlySortedBy by_number (live_messages net.live)
+  pub numbers : IsPermutation (map (λ row. column row 1) (filter (is_of_net name) t.message)) (map (λ m. Int (pos (dbc_number m.message.ident))) net.live)
+
+-- after every history that tables hold, each network of the office is so
+abbrev pub HeldNetworksAreClear : Type 0
+HeldNetworksAreClear =
+    (h : List Answered) (t : Tables) (office : Office) → Holds h t → IsLegal h office → (name : List ℕ) (net : Net) → net_named office name ≡ Some net → IsClearInRows name t net

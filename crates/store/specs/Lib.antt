@@ -1,0 +1,10 @@
+pub mod Office
+pub mod Lost
+pub mod Holds
+pub mod Holding
+pub mod Opening
+pub mod Arriving
+pub mod Running
+pub mod Headline
+pub mod Looking
+pub mod Laws

@@ -1,0 +1,30 @@
+-- Lists of arrivals, answered one after the other.
+use Rattle.std.specs.Prelude.{◌⊎◌, List, [], ◌∷◌, ◌++◌, Contains, Ok, Err, Result}
+use Rattle.sqlite.specs.Tree.{Trees}
+use Rattle.office_history.specs.declared.arrival.Answer.{Answer}
+use Rattle.office_history.specs.declared.arrival.Arrival.{Arrival}
+use Rattle.office_history.specs.History.{Answered}
+use Rattle.store.specs.declared.lost.Lost.{Lost}
+use Rattle.store.specs.Arriving.{answered}
+use Rattle.store.specs.Holding.{Keeps}
+
+abbrev pub told : Arrival → Answer → Answered
+told a answer = answered a.team a.key a.request answer
+
+-- the arrivals that were answered, in order, with their answers
+abbrev pub answered_of : List Arrival → List (Result Answer Lost) → List Answered
+answered_of [] results = []
+answered_of (a ∷ arrivals) [] = []
+answered_of (a ∷ arrivals) (Ok answer ∷ results) = told a answer ∷ answered_of arrivals results
+answered_of (a ∷ arrivals) (Err lost ∷ results) = answered_of arrivals results
+
+-- the arrivals that were lost
+abbrev pub lost_of : List Arrival → List (Result Answer Lost) → List Arrival
+lost_of [] results = []
+lost_of (a ∷ arrivals) [] = []
+lost_of (a ∷ arrivals) (Ok answer ∷ results) = lost_of arrivals results
+lost_of (a ∷ arrivals) (Err lost ∷ results) = a ∷ lost_of arrivals results
+
+-- the trees keep the history, or it and one of the lost arrivals, with an answer
+abbrev pub KeepsWithOne : List Answered → List Arrival → Trees → Type 0
+KeepsWithOne h lost db = Keeps h db ⊎ ((a : Arrival) × Contains lost a × (answer : Answer) × Keeps (h ++ told a answer ∷ []) db)

@@ -1,0 +1,31 @@
+//! The store: an office on SQLite tables, which answers requests that may arrive again.
+//!
+//! [`Office::open`] makes the tables on a database that has none, or takes those of an earlier run. [`Office::arrive`]
+//! answers one arrival, in one transaction, and [`Office::run`] a list of them. [`Office::look`] gives the text of a
+//! live sheet or of a release. [`Office::close`] gives the connection back. A call that is [`Lost`] counts as not made.
+//!
+//! Tables hold a history (`specs/Holds.antt`) if it is legal, their rows stand for the office that it leaves, and there
+//! is one kept reply for each first arrival. The main theorem is the contract of [`Office::run`]
+//! (`specs/Headline.antt`): for every list of arrivals, the history that the tables held before, followed by the
+//! arrivals that were answered, in order and with their answers, is what they hold after. [`held_networks_are_clear`]
+//! says what then holds of each network.
+//!
+//! The other definitions are in `specs/`: `Holding.antt` (connections, and what a crash leaves, that hold a history),
+//! `Opening.antt`, `Arriving.antt`, `Running.antt`, `Looking.antt` and `Laws.antt` by the names of the modules,
+//! `Office.antt` (an office as contracts see it) and `Lost.antt`.
+#![tactic(auto)]
+
+mod arriving;
+mod laws;
+mod looking;
+mod losing;
+mod lost;
+mod opening;
+mod question;
+mod running;
+mod stored_office;
+
+pub use laws::held_networks_are_clear;
+pub use lost::Lost;
+pub use question::Question;
+pub use stored_office::Office;

@@ -1,0 +1,40 @@
+//! Calls that are lost.
+ghost use Rattle.std.specs.Prelude.{◌≡◌, ◌≢◌, false, IsTrue};
+ghost use Rattle.sqlite.specs.Held.{state};
+ghost use Rattle.sqlite.specs.State.{HasCleanDisk, Survives};
+
+use crate::lost::Lost;
+use sqlite::{Alter, Connection, Error};
+
+/// Whether the connection is still open, so that it shows the last commit. A failure of the disk may have shut it.
+fn is_open<S: Alter>(conn: &mut Connection<S>) -> bool
+    requires { (state S.Store conn.old).in_transaction ≡ false }
+    ensures autocommit { (state S.Store conn.new).in_transaction ≡ false }
+    ensures open { HasCleanDisk (state S.Store conn.new) → IsTrue result → IsTrue (state S.Store conn.new).is_open }
+    ensures was_open { HasCleanDisk (state S.Store conn.new) → IsTrue (state S.Store conn.new).is_open → IsTrue (state S.Store conn.old).is_open }
+    ensures same { HasCleanDisk (state S.Store conn.new) → IsTrue (state S.Store conn.new).is_open → (state S.Store conn.new).now ≡ (state S.Store conn.old).now }
+    ensures survives { Survives (state S.Store conn.old) (state S.Store conn.new) (λ _. ⊥) }
+{
+    let _settled_before = conn.is_autocommit();
+    let prepared = conn.prepare("");
+    let _settled = conn.is_autocommit();
+    prepared.is_ok()
+}
+
+/// Why a call is lost in which this error came: out of memory, if the connection is still open, and else an error of
+/// the store.
+pub(crate) fn loss_by<S: Alter>(conn: &mut Connection<S>, error: Error) -> Lost
+    requires { (state S.Store conn.old).in_transaction ≡ false }
+    ensures autocommit { (state S.Store conn.new).in_transaction ≡ false }
+    ensures named { result ≢ Lost.NewerProfile }
+    ensures open { HasCleanDisk (state S.Store conn.new) → result ≡ Lost.Memory → IsTrue (state S.Store conn.new).is_open }
+    ensures was_open { HasCleanDisk (state S.Store conn.new) → IsTrue (state S.Store conn.new).is_open → IsTrue (state S.Store conn.old).is_open }
+    ensures same { HasCleanDisk (state S.Store conn.new) → IsTrue (state S.Store conn.new).is_open → (state S.Store conn.new).now ≡ (state S.Store conn.old).now }
+    ensures survives { Survives (state S.Store conn.old) (state S.Store conn.new) (λ _. ⊥) }
+{
+    let lost = Lost::from(error);
+    if lost == Lost::Memory && !is_open(conn) {
+        return Lost::Store;
+    }
+    lost
+}

@@ -1,0 +1,37 @@
+//! Lists of arrivals.
+ghost use Rattle.std.specs.Prelude.{◌≡◌, ◌≤◌, List, IfOk, OnErr};
+ghost use Rattle.sqlite.specs.Held.{state};
+ghost use Rattle.sqlite.specs.State.{HasCleanDisk};
+ghost use Rattle.sqlite_trees.specs.View.{doubt};
+ghost use Rattle.office_history.specs.History.{Answered};
+ghost use Rattle.store.specs.Holding.{Holding};
+ghost use Rattle.store.specs.Headline.{HasRun};
+
+use crate::lost::Lost;
+use crate::stored_office::Office;
+use office_history::{Answer, Arrival};
+use sqlite::Alter;
+use std::alloc::{AllocError, Global};
+
+impl<S: Alter> Office<S> {
+    /// Answers the arrivals in turn, each as [`Office::arrive`] does, and goes on after one that is lost. Gives the
+    /// results, in order. The error is out of memory for them: then nothing arrived.
+    pub fn run(
+        &mut self,
+        alloc: Global,
+        arrivals: &[Arrival],
+    ) -> Result<Vec<Result<Answer, Lost>>, AllocError>
+        ensures ran { HasCleanDisk (state S.Store self.new.conn) → (h : List Answered) → Holding h (state S.Store self.old.conn)
+            → IfOk result (λ results. HasRun h arrivals.now results.items self.new.failed (state S.Store self.new.conn)) }
+        ensures clean { doubt (state S.Store self.old.conn).is_clean ≤ doubt (state S.Store self.new.conn).is_clean }
+        ensures err { OnErr result (self.new ≡ self.old) }
+    {
+        self.leaves_now();
+        let mut results = Vec::with_capacity(alloc, arrivals.len())?;
+        for arrival in arrivals {
+            let answered = self.arrive(alloc, &arrival.team, &arrival.key, &arrival.request);
+            results.push_reserved(answered);
+        }
+        Ok(results)
+    }
+}

@@ -1,0 +1,66 @@
+//! An office on tables.
+ghost use Rattle.std.specs.Prelude.{◌≡◌, false, IsTrue};
+ghost use Rattle.sqlite.specs.Held.{state};
+ghost use Rattle.sqlite.specs.Tree.{Trees};
+
+use crate::opening::leaves_committed;
+use sqlite::{Alter, Connection};
+use std::marker::Model;
+
+/// An office that is kept in the tables of a connection. Between calls no transaction is open.
+pub struct Office<S: Alter> {
+    pub(crate) conn: Connection<S>,
+    pub(crate) failed: bool,
+}
+
+impl<S: Alter> Model for Office<S> {
+    ghost use Rattle.std.specs.Prelude.{◌≡◌, false};
+    ghost use Rattle.sqlite.specs.Held.{state};
+    ghost use Rattle.store.specs.Office.{StoredOffice, stored_code};
+
+    ghost Value = { StoredOffice S };
+
+    ghost coded = { stored_code S.code };
+
+    ghost view = { λ office. record { conn = office.conn; failed = office.failed } };
+
+    ghost invariant = { λ office. (state S.Store office.conn).in_transaction ≡ false };
+}
+
+impl<S: Alter> Office<S> {
+    /// Whether a call was lost because of the store. Then each later arrival and look is lost too, and changes nothing.
+    pub fn is_failed(&self) -> bool
+        ensures { result ≡ self.now.failed }
+    {
+        self.failed
+    }
+
+    /// Does nothing. Its contract is a law: while the connection is open, a crash leaves what it shows.
+    pub(crate) fn leaves_now(&self)
+        ensures { IsTrue (state S.Store self.now.conn).is_open → (db : Trees) → (state S.Store self.now.conn).may_leave db → db ≡ (state S.Store self.now.conn).now.trees }
+    {
+        leaves_committed(&self.conn);
+        let _settled = self.conn.is_autocommit();
+    }
+
+    /// The connection, as it is: nothing is written.
+    pub fn close(self) -> Connection<S>
+        ensures same { result ≡ self.conn }
+        ensures settled { (state S.Store result).in_transaction ≡ false }
+    {
+        let Office {
+            conn,
+            failed: _failed,
+        } = self;
+        conn
+    }
+}
+
+impl<S: Alter + Drop> Drop for Office<S> {
+    fn drop(self) {
+        let Office {
+            conn: _conn,
+            failed: _failed,
+        } = self;
+    }
+}

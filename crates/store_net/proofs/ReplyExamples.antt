@@ -1,0 +1,46 @@
+-- Worked examples, computed from the definitions.
+use Rattle.std.proofs.Common.{◌≡◌, [], ◌∷◌, pos, codes, None, Some, refl}
+use Rattle.sqlite.specs.declared.types.Value.TheVariants.{Int, Text, Blob}
+use Rattle.catalogue.specs.Sheet.{empty_sheet}
+use Rattle.office_types.specs.declared.command.NetKind.TheVariants.{Can}
+use Rattle.office_types.specs.declared.refusal.Refusal.TheVariants as no
+use Rattle.office_types.specs.declared.reply.Reply.TheVariants.{Counts, Number, Refused}
+use Rattle.office_types.specs.declared.state.Net.{Net}
+use Rattle.office_types.specs.declared.state.Phase.TheVariants.{Draft}
+use Rattle.office_rules.specs.Opening.{bare_net}
+use Rattle.office_history.specs.declared.arrival.Answer.TheVariants as answer
+use Rattle.office_history.specs.History.{Answered}
+use Rattle.office_rules.proofs.Asking.{engine, takes}
+use Rattle.store_net.specs.Kept.{AreKept, kept_row}
+use Rattle.store_net.specs.Writing.{next_number}
+
+-- the row of a request for an identifier, which got 256
+number_row : kept_row (codes "engine") (codes "a1") (codes "take E1") (Number 256)
+    ≡ Text (codes "engine") ∷ Text (codes "a1") ∷ Blob (codes "take E1") ∷ Int (pos 1) ∷ Int (pos 256) ∷ Int (pos 0) ∷ Int (pos 0) ∷ []
+number_row = refl
+
+-- of an import with two new messages and one that was live
+counts_row : kept_row (codes "engine") (codes "a2") (codes "import") (Counts 2 1)
+    ≡ Text (codes "engine") ∷ Text (codes "a2") ∷ Blob (codes "import") ∷ Int (pos 3) ∷ Int (pos 2) ∷ Int (pos 1) ∷ Int (pos 0) ∷ []
+counts_row = refl
+
+-- of one whose file has fault 34 at offset 120
+fault_row : kept_row (codes "engine") (codes "a3") (codes "import") (Refused (no.FileFault (record { fault = 34; at = 120 })))
+    ≡ Text (codes "engine") ∷ Text (codes "a3") ∷ Blob (codes "import") ∷ Int (pos 5) ∷ Int (pos 58) ∷ Int (pos 34) ∷ Int (pos 120) ∷ []
+fault_row = refl
+
+abbrev asked : Answered
+asked = record { team = engine; key = codes "a1"; content = codes "take E1"; command = (takes engine (codes "E1") None).command; answer = answer.Reply (Number 256) }
+
+-- a request that came twice has one row
+repeat_kept : AreKept (asked ∷ asked ∷ []) (kept_row engine (codes "a1") (codes "take E1") (Number 256) ∷ [])
+repeat_kept = ((Number 256, refl, refl), tt)
+
+first_release : next_number None ≡ 1
+first_release = refl
+
+abbrev truck : Net
+truck = record (bare_net (codes "truck") (record { kind = Can; reviews = 0; phase = Draft; frame = empty_sheet })) { releases = empty_sheet ∷ empty_sheet ∷ [] }
+
+third_release : next_number (Some truck) ≡ 3
+third_release = refl

@@ -1,0 +1,60 @@
+-- A network that is read part by part is the one that the tables have.
+use Rattle.std.proofs.Common.{◌≡◌, ℕ, List, [], Option, Some, None, refl, sym, ap, subst, ◌∙◌}
+use Rattle.std.specs.Option.{option_map}
+use Rattle.sqlite.specs.Effect.{Database}
+use Rattle.sqlite.specs.State.{State, Survives}
+use Rattle.sqlite.proofs.StateLemmas.{survives_then}
+use Rattle.can_id.specs.declared.ident.Ident.{Ident}
+use Rattle.catalogue.specs.declared.sheet.Sheet.{Sheet}
+use Rattle.office_types.specs.declared.state.GrantedBlock.{GrantedBlock}
+use Rattle.office_types.specs.declared.state.Head.{Head}
+use Rattle.office_types.specs.declared.state.LiveMessage.{LiveMessage}
+use Rattle.office_types.specs.declared.state.Net.{Net}
+use Rattle.office_tables.specs.Tables.{Tables, tables_of}
+use Rattle.office_rows.specs.Rows.{net_row}
+use Rattle.office_rows.specs.Shown.{net_order}
+use Rattle.store_rows.specs.Listed.{AreListed}
+use Rattle.store_rows.specs.Rows.{IsNetAt, IsNetRow, IsRowOf, NetRows}
+use Rattle.store_rows.proofs.Listing.{none_listed}
+use Rattle.store_net.specs.Parts.{HasApprovals, HasBlocks, HasHead, HasHeld, HasLive, HasReleases}
+
+-- of two calls that leave nothing for a crash to find
+pub nothing_left : (a b c : State) → Survives a b (λ _. ⊥) → Survives b c (λ _. ⊥) → Survives a c (λ _. ⊥)
+nothing_left a b c first second = survives_then a b c (λ _. ⊥) (λ _. ⊥) (λ _. ⊥) (λ _ db made. made) (λ _ db made. made) first second
+
+-- what was read of a database was read of one that is the same
+pub read_before : {A : Type 0} (Has : Tables → A → Type 0) (it : A) (after before : Database) → after ≡ before
+    → ((other : A) → Has (tables_of after.trees) other → it ≡ other) → (other : A) → Has (tables_of before.trees) other → it ≡ other
+read_before {A} Has it after before same one = subst (λ (d : Database). (other : A) → Has (tables_of d.trees) other → it ≡ other) same one
+
+abbrev pub head_in : Option Net → Option Head
+head_in net = option_map (λ (n : Net). n.head) net
+
+pub its_head : (name : List ℕ) (t : Tables) (net : Option Net) → IsNetAt name t net → HasHead name t (head_in net)
+its_head name t None at = subst (λ (r : NetRows). AreListed net_order (IsRowOf net_row (IsNetRow name)) r.head []) (sym at) none_listed
+its_head name t (Some net) at = at.head
+
+pub no_net : (net : Option Net) → None ≡ head_in net → None ≡ net
+no_net None none = refl
+no_net (Some net) none = absurd (cc)
+
+same_parts : (a b : Net) → a.name ≡ b.name → a.head ≡ b.head → a.live ≡ b.live → a.blocks ≡ b.blocks → a.held ≡ b.held → a.approvals ≡ b.approvals → a.releases ≡ b.releases → a ≡ b
+same_parts a b name head live blocks held approvals releases =
+    λ i. record { name = name i; head = head i; live = live i; blocks = blocks i; held = held i; approvals = approvals i; releases = releases i }
+
+-- each part is the one that the tables have
+pub record AreParts (name : List ℕ) (t : Tables) (made : Net) : Type 0 where
+  pub named : made.name ≡ name
+  pub live : (live : List LiveMessage) → HasLive name t live → made.live ≡ live
+  pub blocks : (blocks : List GrantedBlock) → HasBlocks name t blocks → made.blocks ≡ blocks
+  pub held : (held : List Ident) → HasHeld name t held → made.held ≡ held
+  pub approvals : (teams : List (List ℕ)) → HasApprovals name t teams → made.approvals ≡ teams
+  pub releases : (releases : List Sheet) → HasReleases name t releases → made.releases ≡ releases
+
+pub whole_net : (name : List ℕ) (t : Tables) (net : Option Net) (made : Net) → IsNetAt name t net → Some made.head ≡ head_in net → AreParts name t made → Some made ≡ net
+whole_net name t None made at head parts = absurd (cc)
+whole_net name t (Some net) made at head parts =
+    let same : made.head ≡ net.head = cc in
+    ap Some
+    (same_parts made net (parts.named ∙ sym at.named) same (parts.live net.live at.live) (parts.blocks net.blocks at.blocks) (parts.held net.held at.held)
+    (parts.approvals net.approvals at.approvals) (parts.releases net.releases at.releases))

@@ -1,0 +1,50 @@
+use Rattle.sqlite.specs.Held.{state}
+use Rattle.office_types.specs.declared.change.Change.TheVariants.{SetHead, SetMessage, RemoveMessage, SetSpnBlock, Hold, EnterSpn, SetApproval, ClearApprovals}
+use Rattle.office_tables.specs.Tables.{tables_of}
+use Rattle.store_net.proofs.OneByOne.{any_change, own_block}
+use Rattle.store_net.proofs.writing.write_change.Goals as goal
+
+pub returns-in-SetHead-clause-written : goal.returns-in-SetHead-clause-written
+returns-in-SetHead-clause-written g c clean office =
+    any_change c.write_head.result c.args.name.now c.args.change.now (SetHead c.in-SetHead.head) c.args.number (tables_of (state g.S.Store c.args.tx.now.conn.now).now.trees) (tables_of (state g.S.Store c.write_head.new.tx.conn.now).now.trees)
+    c.in-SetHead.is (c.write_head.ensures.written clean office)
+
+pub returns-in-SetMessage-clause-written : goal.returns-in-SetMessage-clause-written
+returns-in-SetMessage-clause-written g c clean office =
+    any_change c.write_message.result c.args.name.now c.args.change.now (SetMessage c.in-SetMessage.live) c.args.number (tables_of (state g.S.Store c.args.tx.now.conn.now).now.trees) (tables_of (state g.S.Store c.write_message.new.tx.conn.now).now.trees)
+    c.in-SetMessage.is (c.write_message.ensures.written clean office)
+
+pub returns-in-RemoveMessage-clause-written : goal.returns-in-RemoveMessage-clause-written
+returns-in-RemoveMessage-clause-written g c clean office =
+    any_change c.remove_message.result c.args.name.now c.args.change.now (RemoveMessage c.in-RemoveMessage.ident) c.args.number (tables_of (state g.S.Store c.args.tx.now.conn.now).now.trees) (tables_of (state g.S.Store c.remove_message.new.tx.conn.now).now.trees)
+    c.in-RemoveMessage.is (c.remove_message.ensures.written clean office)
+
+pub returns-in-SetSpnBlock-clause-written : goal.returns-in-SetSpnBlock-clause-written
+returns-in-SetSpnBlock-clause-written g c clean office =
+    any_change c.write_spn_block.result c.args.name.now c.args.change.now (SetSpnBlock c.in-SetSpnBlock.block) c.args.number (tables_of (state g.S.Store c.args.tx.now.conn.now).now.trees) (tables_of (state g.S.Store c.write_spn_block.new.tx.conn.now).now.trees)
+    c.in-SetSpnBlock.is (c.write_spn_block.ensures.written clean office)
+
+pub returns-in-Hold-clause-written : goal.returns-in-Hold-clause-written
+returns-in-Hold-clause-written g c clean office =
+    any_change c.write_held.result c.args.name.now c.args.change.now (Hold c.in-Hold.ident) c.args.number (tables_of (state g.S.Store c.args.tx.now.conn.now).now.trees) (tables_of (state g.S.Store c.write_held.new.tx.conn.now).now.trees)
+    c.in-Hold.is (c.write_held.ensures.written clean office)
+
+pub returns-in-EnterSpn-clause-written : goal.returns-in-EnterSpn-clause-written
+returns-in-EnterSpn-clause-written g c clean office =
+    any_change c.write_spn.result c.args.name.now c.args.change.now (EnterSpn c.in-EnterSpn.spn) c.args.number (tables_of (state g.S.Store c.args.tx.now.conn.now).now.trees) (tables_of (state g.S.Store c.write_spn.new.tx.conn.now).now.trees)
+    c.in-EnterSpn.is (c.write_spn.ensures.written clean office)
+
+pub returns-in-SetApproval-clause-written : goal.returns-in-SetApproval-clause-written
+returns-in-SetApproval-clause-written g c clean office =
+    any_change c.write_approval.result c.args.name.now c.args.change.now (SetApproval c.in-SetApproval.team) c.args.number (tables_of (state g.S.Store c.args.tx.now.conn.now).now.trees) (tables_of (state g.S.Store c.write_approval.new.tx.conn.now).now.trees)
+    c.in-SetApproval.is (c.write_approval.ensures.written clean office)
+
+pub returns-in-ClearApprovals-clause-written : goal.returns-in-ClearApprovals-clause-written
+returns-in-ClearApprovals-clause-written g c clean office =
+    any_change c.clear_approvals.result c.args.name.now c.args.change.now ClearApprovals c.args.number (tables_of (state g.S.Store c.args.tx.now.conn.now).now.trees) (tables_of (state g.S.Store c.clear_approvals.new.tx.conn.now).now.trees)
+    c.in-ClearApprovals.is (c.clear_approvals.ensures.written clean office)
+
+pub returns-in-SetBlock-clause-written : goal.returns-in-SetBlock-clause-written
+returns-in-SetBlock-clause-written g c clean office =
+    own_block c.write_block.result c.args.name.now c.args.change.now c.in-SetBlock.granted c.args.number (tables_of (state g.S.Store c.args.tx.now.conn.now).now.trees) (tables_of (state g.S.Store c.write_block.new.tx.conn.now).now.trees)
+    c.in-SetBlock.is (c.write_block.ensures.written clean office)

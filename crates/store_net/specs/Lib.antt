@@ -1,0 +1,4 @@
+pub mod Parts
+pub mod Texts
+pub mod Writing
+pub mod Kept

@@ -1,0 +1,28 @@
+-- The texts of a network: of its live sheet, and of its releases.
+use Rattle.std.specs.Prelude.{◌≡◌, ◌==◌, ℕ, List, Option, Some, None, find}
+use Rattle.std.specs.Option.{option_map}
+use Rattle.catalogue.specs.Canon.{canonical_text}
+use Rattle.catalogue.specs.Reads.{ReadsOnlyAs}
+use Rattle.catalogue.specs.declared.sheet.Sheet.{Sheet}
+use Rattle.office_types.specs.State.{sheet_of}
+use Rattle.office_types.specs.declared.state.Net.{Net}
+use Rattle.store_rows.specs.Rows.{numbered}
+
+-- the canonical text of the live sheet, where the network is there
+abbrev pub live_text : Option Net → Option (List ℕ)
+live_text net = option_map (λ (n : Net). canonical_text (sheet_of n)) net
+
+-- the release of the number, from 1
+abbrev pub release_at : Option Net → ℕ → Option Sheet
+release_at None number = None
+release_at (Some net) number = option_map (λ (r : ℕ × Sheet). r.1) (find (λ (r : ℕ × Sheet). r.0 == number) (numbered 1 net.releases))
+
+-- its canonical text
+abbrev pub release_text : Option Net → ℕ → Option (List ℕ)
+release_text net number = option_map canonical_text (release_at net number)
+
+-- a text that reads as the sheet and as no other; none where there is no sheet
+abbrev pub IsTextOf : Option Sheet → Option (List ℕ) → Type 0
+IsTextOf None text = text ≡ None
+IsTextOf (Some sheet) None = ⊥
+IsTextOf (Some sheet) (Some text) = ReadsOnlyAs text sheet

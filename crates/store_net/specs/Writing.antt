@@ -1,0 +1,16 @@
+-- What writing a change leaves.
+use Rattle.std.specs.Prelude.{ℕ, Option, Some, None, IsTrue}
+use Rattle.sqlite.specs.State.{State}
+use Rattle.office_types.specs.declared.state.Net.{Net}
+use Rattle.office_tables.specs.Tables.{IsOffice}
+use Rattle.store_rows.specs.Rows.{next_release}
+
+-- inside a transaction, the tables are the office's
+pub record IsInside (s : State) : Type 0 where
+  pub office : IsOffice s.now
+  pub inside : IsTrue s.in_transaction
+
+-- the number of the next release; a network that isn't there begins with 1
+abbrev pub next_number : Option Net → ℕ
+next_number None = 1
+next_number (Some net) = next_release net

@@ -1,0 +1,82 @@
+//! The live sheet of a network, and its text.
+ghost use Rattle.std.specs.Prelude.{◌≡◌, [], false, Option, IfOk, OnOk};
+ghost use Rattle.std.specs.List.Sorted.{IsStrictlySortedBy};
+ghost use Rattle.std.specs.Option.{option_map};
+ghost use Rattle.catalogue.specs.Keyed.{put};
+ghost use Rattle.catalogue.specs.Messages.{by_number, has_number, number_of};
+ghost use Rattle.office_tables.specs.Tables.{tables_of, IsOffice};
+ghost use Rattle.office_types.specs.State.{live_messages, sheet_with};
+ghost use Rattle.office_types.specs.declared.state.Net.{Net as Network};
+ghost use Rattle.sqlite.specs.Held.{state};
+ghost use Rattle.sqlite.specs.State.{HasCleanDisk, IsUnchanged, KeepsCommit, Survives};
+ghost use Rattle.store_rows.specs.Rows.{IsNetAt};
+ghost use Rattle.store_net.specs.Texts.{live_text};
+
+use crate::parts::{head_of, live_of};
+use catalogue::{Copying, Message, Sheet, SheetCode};
+use dbc_write::text_of;
+use office_types::{Head, LiveMessage, NetName};
+use sqlite::{Alter, Error, Transaction};
+use std::alloc::{AllocError, Global};
+use std::mem::replace;
+
+/// The frame of the head, without a message.
+fn frame_of(alloc: Global, head: Head) -> Sheet
+    ensures { result ≡ record head.frame { messages = [] } }
+{
+    let mut head = head;
+    let mut frame = replace(&mut head.frame, Sheet::new(alloc));
+    let _messages = frame.take_messages();
+    frame
+}
+
+/// Adds a message that the sheet doesn't have. An error is out of memory, or `InvalidQuery` where one sheet can't have
+/// both.
+fn add_message(alloc: Global, sheet: &mut Sheet, message: Message) -> Result<(), Error>
+    ensures ok { OnOk result (sheet.new ≡ record sheet.old { messages = put by_number message sheet.old.messages }) }
+    ensures absent { OnOk result (has_number sheet.old.messages (number_of message) ≡ false) }
+{
+    match sheet.with_message(alloc, message) {
+        Ok(()) => Ok(()),
+        Err(fault) => match fault.code {
+            SheetCode::Memory => Err(Error::from(AllocError)),
+            _ => Err(Error::InvalidQuery),
+        },
+    }
+}
+
+/// The live sheet: the frame with the live messages, which are in ascending order of their DBC numbers. An error is out
+/// of memory, or `InvalidQuery` where these messages can't be in one sheet.
+fn live_sheet(alloc: Global, head: Head, live: &[LiveMessage]) -> Result<Sheet, Error>
+    ensures { IfOk result (λ sheet. IsStrictlySortedBy by_number (live_messages live.now) → sheet ≡ sheet_with head.frame live.now) }
+{
+    let mut sheet = frame_of(alloc, head);
+    for one in live {
+        add_message(alloc, &mut sheet, one.message.duplicate(alloc)?)?;
+    }
+    // The messages of a sheet ascend, so they are the live ones in the same order.
+    let _ascending = sheet.messages();
+    Ok(sheet)
+}
+
+/// The canonical text of the network's live sheet, `None` where the network isn't there. An error is out of memory,
+/// what `sqlite` answers, or `InvalidQuery` where the rows are no network's.
+pub fn live_text<S: Alter>(
+    alloc: Global,
+    tx: &mut Transaction<'_, S>,
+    name: &NetName,
+) -> Result<Option<Vec<u8>>, Error>
+    ensures same_reference { tx.new.conn.ghost_name ≡ tx.old.conn.ghost_name }
+    ensures found { HasCleanDisk (state S.Store tx.new.conn.now) → IsOffice (state S.Store tx.old.conn.now).now
+        → IfOk result (λ found. (net : Option Network) → IsNetAt name.now (tables_of (state S.Store tx.old.conn.now).now.trees) net → option_map (λ text. text.items) found ≡ live_text net) }
+    ensures same { HasCleanDisk (state S.Store tx.new.conn.now) → IsOffice (state S.Store tx.old.conn.now).now → OnOk result (IsUnchanged (state S.Store tx.old.conn.now) (state S.Store tx.new.conn.now)) }
+    ensures kept { HasCleanDisk (state S.Store tx.new.conn.now) → IsOffice (state S.Store tx.old.conn.now).now → KeepsCommit (state S.Store tx.old.conn.now) (state S.Store tx.new.conn.now) }
+    ensures survives { Survives (state S.Store tx.old.conn.now) (state S.Store tx.new.conn.now) (λ _. ⊥) }
+{
+    let Some(head) = head_of(alloc, tx, name)? else {
+        return Ok(None);
+    };
+    let live = live_of(alloc, tx, name)?;
+    let sheet = live_sheet(alloc, head, live.as_slice())?;
+    Ok(Some(text_of(alloc, &sheet)?))
+}

@@ -1,0 +1,59 @@
+//! The text of a release.
+ghost use Rattle.std.specs.Prelude.{◌≡◌, Option, IfOk, OnOk};
+ghost use Rattle.catalogue.specs.Canon.{canonical_text};
+ghost use Rattle.catalogue.specs.Reads.{Reads, ReadsOnlyAs};
+ghost use Rattle.catalogue.specs.declared.sheet.Sheet.{Sheet as Told};
+ghost use Rattle.std.specs.Option.{option_map};
+ghost use Rattle.office_tables.specs.Tables.{tables_of, IsOffice};
+ghost use Rattle.office_types.specs.declared.state.Net.{Net as Network};
+ghost use Rattle.sqlite.specs.Held.{state};
+ghost use Rattle.sqlite.specs.Order.{column};
+ghost use Rattle.sqlite.specs.State.{HasCleanDisk, IsUnchanged, KeepsCommit, Survives};
+ghost use Rattle.sqlite.specs.declared.types.Value.TheVariants.{Blob};
+ghost use Rattle.store_rows.specs.Rows.{IsNetAt};
+ghost use Rattle.store_net.specs.Texts.{IsTextOf, release_at, release_text};
+
+use dbc_write::text_of;
+use office_bodies::sheet_of;
+use office_rows::select_release;
+use office_types::NetName;
+use sqlite::{Alter, Error, Transaction};
+use std::alloc::Global;
+use store_rows::blob_at;
+
+/// The canonical text of the sheet that the body reads as. An error is out of memory, or `InvalidQuery` where it reads
+/// as none.
+fn canonical_of(alloc: Global, body: &[u8]) -> Result<Vec<u8>, Error>
+    ensures text { IfOk result (λ text. (sheet : Told) → Reads body.now sheet → text.items ≡ canonical_text sheet) }
+    ensures reads { IfOk result (λ text. (sheet : Told) → Reads body.now sheet → ReadsOnlyAs text.items sheet) }
+{
+    match sheet_of(alloc, body)? {
+        Some(sheet) => Ok(text_of(alloc, &sheet)?),
+        None => Err(Error::InvalidQuery),
+    }
+}
+
+/// The canonical text of the network's release of the number, `None` where there is no such release. It reads as that
+/// release and as no other sheet. An error is out of memory, what `sqlite` answers, or `InvalidQuery` where the row is
+/// no release's.
+pub fn release_text<S: Alter>(
+    alloc: Global,
+    tx: &mut Transaction<'_, S>,
+    name: &NetName,
+    number: u32,
+) -> Result<Option<Vec<u8>>, Error>
+    ensures same_reference { tx.new.conn.ghost_name ≡ tx.old.conn.ghost_name }
+    ensures found { HasCleanDisk (state S.Store tx.new.conn.now) → IsOffice (state S.Store tx.old.conn.now).now
+        → IfOk result (λ found. (net : Option Network) → IsNetAt name.now (tables_of (state S.Store tx.old.conn.now).now.trees) net → option_map (λ text. text.items) found ≡ release_text net number) }
+    ensures reads { HasCleanDisk (state S.Store tx.new.conn.now) → IsOffice (state S.Store tx.old.conn.now).now
+        → IfOk result (λ found. (net : Option Network) → IsNetAt name.now (tables_of (state S.Store tx.old.conn.now).now.trees) net → IsTextOf (release_at net number) (option_map (λ text. text.items) found)) }
+    ensures same { HasCleanDisk (state S.Store tx.new.conn.now) → IsOffice (state S.Store tx.old.conn.now).now → OnOk result (IsUnchanged (state S.Store tx.old.conn.now) (state S.Store tx.new.conn.now)) }
+    ensures kept { HasCleanDisk (state S.Store tx.new.conn.now) → IsOffice (state S.Store tx.old.conn.now).now → KeepsCommit (state S.Store tx.old.conn.now) (state S.Store tx.new.conn.now) }
+    ensures survives { Survives (state S.Store tx.old.conn.now) (state S.Store tx.new.conn.now) (λ _. ⊥) }
+{
+    let rows = select_release(tx, name.as_bytes(), number)?;
+    match rows.first() {
+        Some(row) => Ok(Some(canonical_of(alloc, blob_at(row, 0)?)?)),
+        None => Ok(None),
+    }
+}

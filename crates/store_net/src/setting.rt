@@ -1,0 +1,100 @@
+//! Rows in place of those of their key: the rows of the key are removed, and the row is added.
+ghost use Rattle.std.specs.Prelude.{◌≡◌, OnOk};
+ghost use Rattle.sqlite.specs.Held.{state};
+ghost use Rattle.sqlite.specs.State.{HasCleanDisk, KeepsCommit, Survives};
+ghost use Rattle.office_tables.specs.Tables.{IsOffice};
+ghost use Rattle.office_tables.specs.Statements.{Makes};
+ghost use Rattle.store_rows.specs.Written.{with_net_row, with_message_row, with_block_row, with_held_row, with_spn_row, with_approval_row};
+
+use office_rows::{
+    BlockRow, MessageRow, NetRow, delete_approval, delete_block, delete_held, delete_message,
+    delete_net, delete_spn, insert_approval, insert_block, insert_held, insert_message, insert_net,
+    insert_spn,
+};
+use sqlite::{Alter, Error, Transaction};
+
+/// Sets the row of a network.
+pub(crate) fn set_net<S: Alter>(tx: &mut Transaction<'_, S>, row: &NetRow<'_>) -> Result<(), Error>
+    ensures same_reference { tx.new.conn.ghost_name ≡ tx.old.conn.ghost_name }
+    ensures set { HasCleanDisk (state S.Store tx.new.conn.now) → IsOffice (state S.Store tx.old.conn.now).now → OnOk result (Makes (with_net_row row.now) (state S.Store tx.old.conn.now) (state S.Store tx.new.conn.now)) }
+    ensures kept { HasCleanDisk (state S.Store tx.new.conn.now) → KeepsCommit (state S.Store tx.old.conn.now) (state S.Store tx.new.conn.now) }
+    ensures survives { Survives (state S.Store tx.old.conn.now) (state S.Store tx.new.conn.now) (λ _. ⊥) }
+{
+    delete_net(tx, row.name)?;
+    insert_net(tx, row)?;
+    Ok(())
+}
+
+/// Sets the row of a live message.
+pub(crate) fn set_message<S: Alter>(
+    tx: &mut Transaction<'_, S>,
+    row: &MessageRow<'_>,
+) -> Result<(), Error>
+    ensures same_reference { tx.new.conn.ghost_name ≡ tx.old.conn.ghost_name }
+    ensures set { HasCleanDisk (state S.Store tx.new.conn.now) → IsOffice (state S.Store tx.old.conn.now).now → OnOk result (Makes (with_message_row row.now) (state S.Store tx.old.conn.now) (state S.Store tx.new.conn.now)) }
+    ensures kept { HasCleanDisk (state S.Store tx.new.conn.now) → KeepsCommit (state S.Store tx.old.conn.now) (state S.Store tx.new.conn.now) }
+    ensures survives { Survives (state S.Store tx.old.conn.now) (state S.Store tx.new.conn.now) (λ _. ⊥) }
+{
+    delete_message(tx, row.net, row.number)?;
+    insert_message(tx, row)?;
+    Ok(())
+}
+
+/// Sets the row of a block.
+pub(crate) fn set_block<S: Alter>(
+    tx: &mut Transaction<'_, S>,
+    row: &BlockRow<'_>,
+) -> Result<(), Error>
+    ensures same_reference { tx.new.conn.ghost_name ≡ tx.old.conn.ghost_name }
+    ensures set { HasCleanDisk (state S.Store tx.new.conn.now) → IsOffice (state S.Store tx.old.conn.now).now → OnOk result (Makes (with_block_row row.now) (state S.Store tx.old.conn.now) (state S.Store tx.new.conn.now)) }
+    ensures kept { HasCleanDisk (state S.Store tx.new.conn.now) → KeepsCommit (state S.Store tx.old.conn.now) (state S.Store tx.new.conn.now) }
+    ensures survives { Survives (state S.Store tx.old.conn.now) (state S.Store tx.new.conn.now) (λ _. ⊥) }
+{
+    delete_block(tx, row.net, row.form, row.first)?;
+    insert_block(tx, row)?;
+    Ok(())
+}
+
+/// Sets the row of a held identifier, by its DBC number.
+pub(crate) fn set_held<S: Alter>(
+    tx: &mut Transaction<'_, S>,
+    net: &[u8],
+    number: u32,
+) -> Result<(), Error>
+    ensures same_reference { tx.new.conn.ghost_name ≡ tx.old.conn.ghost_name }
+    ensures set { HasCleanDisk (state S.Store tx.new.conn.now) → IsOffice (state S.Store tx.old.conn.now).now → OnOk result (Makes (with_held_row net.now number) (state S.Store tx.old.conn.now) (state S.Store tx.new.conn.now)) }
+    ensures kept { HasCleanDisk (state S.Store tx.new.conn.now) → KeepsCommit (state S.Store tx.old.conn.now) (state S.Store tx.new.conn.now) }
+    ensures survives { Survives (state S.Store tx.old.conn.now) (state S.Store tx.new.conn.now) (λ _. ⊥) }
+{
+    delete_held(tx, net, number)?;
+    insert_held(tx, net, number)?;
+    Ok(())
+}
+
+/// Sets the row of a used suspect parameter number.
+pub(crate) fn set_spn<S: Alter>(tx: &mut Transaction<'_, S>, number: u32) -> Result<(), Error>
+    ensures same_reference { tx.new.conn.ghost_name ≡ tx.old.conn.ghost_name }
+    ensures set { HasCleanDisk (state S.Store tx.new.conn.now) → IsOffice (state S.Store tx.old.conn.now).now → OnOk result (Makes (with_spn_row number) (state S.Store tx.old.conn.now) (state S.Store tx.new.conn.now)) }
+    ensures kept { HasCleanDisk (state S.Store tx.new.conn.now) → KeepsCommit (state S.Store tx.old.conn.now) (state S.Store tx.new.conn.now) }
+    ensures survives { Survives (state S.Store tx.old.conn.now) (state S.Store tx.new.conn.now) (λ _. ⊥) }
+{
+    delete_spn(tx, number)?;
+    insert_spn(tx, number)?;
+    Ok(())
+}
+
+/// Sets the row of a team's approval.
+pub(crate) fn set_approval<S: Alter>(
+    tx: &mut Transaction<'_, S>,
+    net: &[u8],
+    team: &[u8],
+) -> Result<(), Error>
+    ensures same_reference { tx.new.conn.ghost_name ≡ tx.old.conn.ghost_name }
+    ensures set { HasCleanDisk (state S.Store tx.new.conn.now) → IsOffice (state S.Store tx.old.conn.now).now → OnOk result (Makes (with_approval_row net.now team.now) (state S.Store tx.old.conn.now) (state S.Store tx.new.conn.now)) }
+    ensures kept { HasCleanDisk (state S.Store tx.new.conn.now) → KeepsCommit (state S.Store tx.old.conn.now) (state S.Store tx.new.conn.now) }
+    ensures survives { Survives (state S.Store tx.old.conn.now) (state S.Store tx.new.conn.now) (λ _. ⊥) }
+{
+    delete_approval(tx, net, team)?;
+    insert_approval(tx, net, team)?;
+    Ok(())
+}

@@ -1,0 +1,117 @@
+//! Lists of changes, written to the tables.
+ghost use Rattle.std.specs.Prelude.{◌≡◌, ◌+◌, ℕ, List, ◌∷◌, [], Option, IfOk, IsTrue, OnOk};
+ghost use Rattle.std.specs.Option.{option_copied};
+ghost use Rattle.sqlite.specs.Held.{state};
+ghost use Rattle.sqlite.specs.State.{HasCleanDisk, KeepsCommit, Survives};
+ghost use Rattle.office_types.specs.declared.book.SpnBook.{SpnBook as Book};
+ghost use Rattle.office_types.specs.declared.state.Net.{Net as Network};
+ghost use Rattle.office_rules.specs.Change.{HaveOwnBlocks, IsHeadFirst, all_applied, changed_net};
+ghost use Rattle.office_tables.specs.Tables.{IsOffice, tables_of};
+ghost use Rattle.store_rows.specs.Follows.{Follows};
+ghost use Rattle.store_rows.specs.Written.{IsWritten};
+ghost use Rattle.store_net.specs.Writing.{IsInside, next_number};
+
+use crate::change_rows::{
+    clear_approvals, remove_message, write_approval, write_block, write_head, write_held,
+    write_message, write_release, write_spn, write_spn_block,
+};
+use office_types::{Change, Net, NetName};
+use sqlite::{Alter, Error, Transaction};
+use std::alloc::Global;
+
+/// The number after this one. An error where it has more than 32 bits; no network has so many releases.
+fn number_above(number: u32) -> Result<u32, Error>
+    ensures { IfOk result (λ next. next ≡ number + 1) }
+{
+    match number.checked_add(1) {
+        Some(next) => Ok(next),
+        None => Err(Error::InvalidQuery),
+    }
+}
+
+/// The number of the network's next release.
+fn next_number(net: Option<&Net>) -> Result<u32, Error>
+    ensures { IfOk result (λ number. number ≡ next_number (option_copied net.entry)) }
+{
+    match net {
+        None => Ok(1),
+        Some(net) => match u32::try_from(net.releases.as_slice().len()) {
+            Ok(number) => number_above(number),
+            Err(_) => Err(Error::InvalidQuery),
+        },
+    }
+}
+
+/// The number of the next release after the change, where it was this one before.
+fn number_after(number: u32, change: &Change) -> Result<u32, Error>
+    ensures { IfOk result (λ after. (name : List ℕ) → (net : Option Network) → IsHeadFirst net (change.now ∷ []) → number ≡ next_number net → after ≡ next_number (changed_net name change.now net)) }
+{
+    match change {
+        Change::AddRelease(_) => number_above(number),
+        _ => Ok(number),
+    }
+}
+
+/// Writes the change; a release gets the number.
+fn write_change<S: Alter>(
+    alloc: Global,
+    tx: &mut Transaction<'_, S>,
+    name: &NetName,
+    number: u32,
+    change: &Change,
+) -> Result<(), Error>
+    ensures same_reference { tx.new.conn.ghost_name ≡ tx.old.conn.ghost_name }
+    ensures written { HasCleanDisk (state S.Store tx.new.conn.now) → IsOffice (state S.Store tx.old.conn.now).now
+        → OnOk result ((net : Option Network) → IsHeadFirst net (change.now ∷ []) → HaveOwnBlocks (change.now ∷ []) → number ≡ next_number net
+        → IsWritten name.now change.now net (tables_of (state S.Store tx.old.conn.now).now.trees) (tables_of (state S.Store tx.new.conn.now).now.trees)) }
+    ensures inside { HasCleanDisk (state S.Store tx.new.conn.now) → IsOffice (state S.Store tx.old.conn.now).now → OnOk result (IsInside (state S.Store tx.new.conn.now)) }
+    ensures kept { HasCleanDisk (state S.Store tx.new.conn.now) → KeepsCommit (state S.Store tx.old.conn.now) (state S.Store tx.new.conn.now) }
+    ensures survives { Survives (state S.Store tx.old.conn.now) (state S.Store tx.new.conn.now) (λ _. ⊥) }
+{
+    match change {
+        Change::SetHead(head) => write_head(alloc, tx, name, head),
+        Change::SetMessage(live) => write_message(alloc, tx, name, live),
+        Change::RemoveMessage(ident) => remove_message(tx, name, *ident),
+        Change::SetBlock(granted) => write_block(tx, name, granted),
+        Change::SetSpnBlock(block) => write_spn_block(tx, name, block),
+        Change::Hold(ident) => write_held(tx, name, *ident),
+        Change::EnterSpn(spn) => write_spn(tx, name, *spn),
+        Change::SetApproval(team) => write_approval(tx, name, team),
+        Change::ClearApprovals => clear_approvals(tx, name),
+        Change::AddRelease(release) => write_release(alloc, tx, name, number, release),
+    }
+}
+
+/// Writes the changes of a command at the network of this name, in order, where `net` is the network before, if it is
+/// there. The rows of the network and of the book become those of the network and the book that the changes lead to;
+/// other networks' rows, the kept replies and the profile stay. This is promised of changes as a decision has them:
+/// where the network isn't there, its head comes first, and no block of suspect parameter numbers is set on the network
+/// itself.
+///
+/// The error is `sqlite`'s: out of memory, the disk's, or that of rows with keys that are there already;
+/// [`Error::InvalidQuery`] where the number of a release has more than 32 bits, or its messages are no sheet's.
+pub fn write_changes<S: Alter>(
+    alloc: Global,
+    tx: &mut Transaction<'_, S>,
+    name: &NetName,
+    net: Option<&Net>,
+    changes: &[Change],
+) -> Result<(), Error>
+    ensures same_reference { tx.new.conn.ghost_name ≡ tx.old.conn.ghost_name }
+    ensures written { HasCleanDisk (state S.Store tx.new.conn.now) → IsOffice (state S.Store tx.old.conn.now).now
+        → OnOk result ((book : Book) → IsHeadFirst (option_copied net.entry) changes.now → HaveOwnBlocks changes.now
+        → Follows name.now (tables_of (state S.Store tx.old.conn.now).now.trees) (tables_of (state S.Store tx.new.conn.now).now.trees)
+        (record { net = option_copied net.entry; book = book }) (all_applied name.now changes.now (record { net = option_copied net.entry; book = book }))) }
+    ensures office { HasCleanDisk (state S.Store tx.new.conn.now) → IsOffice (state S.Store tx.old.conn.now).now → OnOk result (IsOffice (state S.Store tx.new.conn.now).now) }
+    ensures inside { HasCleanDisk (state S.Store tx.new.conn.now) → IsOffice (state S.Store tx.old.conn.now).now → IsTrue (state S.Store tx.old.conn.now).in_transaction
+        → OnOk result (IsTrue (state S.Store tx.new.conn.now).in_transaction) }
+    ensures kept { HasCleanDisk (state S.Store tx.new.conn.now) → KeepsCommit (state S.Store tx.old.conn.now) (state S.Store tx.new.conn.now) }
+    ensures survives { Survives (state S.Store tx.old.conn.now) (state S.Store tx.new.conn.now) (λ _. ⊥) }
+{
+    let mut number = next_number(net)?;
+    for change in changes {
+        write_change(alloc, tx, name, number, change)?;
+        number = number_after(number, change)?;
+    }
+    Ok(())
+}

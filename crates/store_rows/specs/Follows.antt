@@ -1,0 +1,22 @@
+-- Tables that follow what becomes of a network and of the book.
+use Rattle.std.specs.Prelude.{◌≡◌, ℕ, List, [], ◌∷◌, false}
+use Rattle.std.specs.Str.{bytes_eq}
+use Rattle.office_types.specs.declared.change.Change.{Change}
+use Rattle.office_rules.specs.Change.{NetAndBook, applied}
+use Rattle.office_tables.specs.Tables.{Tables}
+use Rattle.store_rows.specs.Rows.{IsBookIn, IsNetAt, rows_of}
+use Rattle.store_rows.specs.Written.{IsWritten}
+
+-- From the tables t to t2 the network of this name and the book come from `before` to `after`. Rows of other networks,
+-- kept replies and the profile stay.
+pub record Follows (name : List ℕ) (t t2 : Tables) (before after : NetAndBook) : Type 0 where
+  pub here : IsNetAt name t before.net → IsNetAt name t2 after.net
+  pub book : IsBookIn t before.book → IsBookIn t2 after.book
+  pub others : (other : List ℕ) → bytes_eq name other ≡ false → rows_of other t2 ≡ rows_of other t
+  pub replies : t2.reply ≡ t.reply
+  pub profile : t2.profile ≡ t.profile
+
+-- the changes were written, one after the other
+abbrev pub AreWritten : List ℕ → List Change → NetAndBook → Tables → Tables → Type 0
+AreWritten name [] e t t2 = t2 ≡ t
+AreWritten name (c ∷ cs) e t t2 = (mid : Tables) × IsWritten name c e.net t mid × AreWritten name cs (applied name c e) mid t2

@@ -1,0 +1,113 @@
+//! Scripts as lists of arrivals. A line is that of a script, but that its first word may be a key.
+use crate::folder::Folder;
+use catalogue::split_once;
+use office_history::{Arrival, Key, Request};
+use office_script::{first_line, requests_of, says_nothing};
+use office_types::{Command, Team};
+use std::alloc::{AllocError, Global};
+use std::fs;
+use std::io::{self, ErrorKind};
+
+/// A key for the line of this number: of one byte for the first ones, and of 64 bytes for others.
+fn key_bytes(alloc: Global, number: usize) -> Result<Vec<u8>, AllocError> {
+    let mut bytes = Vec::new(alloc);
+    // Bytes 33 to 44; 45 is `-`, which is no key alone.
+    if number < 12 {
+        bytes.push(33 + (number % 12) as u8)?;
+        return Ok(bytes);
+    }
+    for _ in 0..59 {
+        bytes.push(b'~')?;
+    }
+    let mut rest = number;
+    for _ in 0..5 {
+        bytes.push(b'0' + (rest % 10) as u8)?;
+        rest /= 10;
+    }
+    Ok(bytes)
+}
+
+/// The key that the word says, and for `-` one for the line.
+fn key_of(alloc: Global, word: &[u8], number: usize) -> io::Result<Key> {
+    let bytes = if word == b"-".as_slice() {
+        key_bytes(alloc, number)?
+    } else {
+        Vec::from_slice(alloc, word)?
+    };
+    match Key::of(alloc, &bytes)? {
+        Some(key) => Ok(key),
+        None => Err(ErrorKind::InvalidData)?,
+    }
+}
+
+/// The one request of a line.
+fn request_of(folder: &Folder<'_>, words: &[u8]) -> io::Result<(Team, Command)> {
+    let alloc = folder.rt.alloc();
+    let mut line = Vec::from_slice(alloc, b"- ")?;
+    line.extend_from_slice(words)?;
+    match requests_of(alloc, &line, folder) {
+        Ok(requests) => match requests.into_iter().next() {
+            Some(request) => Ok(request),
+            None => Err(ErrorKind::InvalidData)?,
+        },
+        Err(_) => Err(ErrorKind::InvalidData)?,
+    }
+}
+
+/// The arrival of a line; its content is what follows the key.
+fn arrival_of(folder: &Folder<'_>, line: &[u8], number: usize) -> io::Result<Arrival> {
+    let Some((word, words)) = split_once(line, b' ') else {
+        return Err(ErrorKind::InvalidData)?;
+    };
+    let alloc = folder.rt.alloc();
+    let key = key_of(alloc, word, number)?;
+    let content = Vec::from_slice(alloc, words)?;
+    let (team, command) = request_of(folder, words)?;
+    Ok(Arrival {
+        team,
+        key,
+        request: Request { content, command },
+    })
+}
+
+/// Adds the arrival of a line as often as `times` says.
+fn add_arrivals(
+    folder: &Folder<'_>,
+    line: &[u8],
+    number: usize,
+    times: usize,
+    arrivals: &mut Vec<Arrival>,
+) -> io::Result<()> {
+    for _ in 0..times {
+        arrivals.push(arrival_of(folder, line, number)?)?;
+    }
+    Ok(())
+}
+
+/// The arrivals of the lines, each as often as `times` says. Files are those of the folder.
+pub(crate) fn arrivals_of(
+    folder: &Folder<'_>,
+    text: &[u8],
+    times: usize,
+) -> io::Result<Vec<Arrival>> {
+    let mut arrivals = Vec::new(folder.rt.alloc());
+    let mut rest = text;
+    // A text has at most as many lines as bytes.
+    for number in 0..text.len() {
+        let Some(first) = first_line(rest) else {
+            break;
+        };
+        if !says_nothing(first.line) {
+            add_arrivals(folder, first.line, number, times, &mut arrivals)?;
+        }
+        rest = first.rest;
+    }
+    Ok(arrivals)
+}
+
+/// The arrivals of the folder's script, each as often as `times` says.
+pub(crate) fn arrivals_of_case(folder: &Folder<'_>, times: usize) -> io::Result<Vec<Arrival>> {
+    let path = folder.path_of(folder.rt.alloc(), "script.txt")?;
+    let text = fs::read(folder.rt, path.as_str())?;
+    arrivals_of(folder, &text, times)
+}

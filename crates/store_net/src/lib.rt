@@ -3,8 +3,8 @@
 //! Reading: [`net_at`] reads the network of a name, and [`book_of`] the book of suspect parameter numbers. If the
 //! tables have a network under the name (`IsNetAt` of `store_rows`), that is the one that `net_at` gives, and so it is
 //! with the book; nothing is asked of the rows of other networks. Each part is one SELECT, and one function (`parts`).
-//! [`live_text`] gives the canonical text of a network's live sheet, and [`release_text`] the text that was kept of a
-//! release, which reads as that release and as no other.
+//! [`live_text`] gives the canonical text of a network's live sheet, and [`release_text`] that of a release, which reads
+//! as the release and as no other sheet.
 //!
 //! Writing: [`write_changes`] writes the rows of a list of changes (`writing`, `change_rows`, `setting`): each removes
 //! the rows of its key and adds its own, so that the tables follow what the changes do at the network and in the book.

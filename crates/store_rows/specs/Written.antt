@@ -29,6 +29,7 @@ with_block_row it t = record t { block = filter (λ row. not (is_block it.net.no
 abbrev pub with_held_row : List ℕ → ℕ → Tables → Tables
 with_held_row name number t = record t { held = filter (λ row. not (has_net_and_number name number row)) t.held ++ held_row name number ∷ [] }
 
+-- `spn` is a table by its integer key, so the row is put in its place
 abbrev pub with_spn_row : ℕ → Tables → Tables
 with_spn_row number t = record t { spn = put_row (spn_row number) (filter (λ row. not (is_number number row)) t.spn) }
 

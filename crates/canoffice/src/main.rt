@@ -1,11 +1,16 @@
-//! The program `canoffice`: the words of its command line, the machine's files and the two streams, given to the
-//! program's library.
+//! The program `canoffice`: the words of its command line, the machine's files and databases, and the two streams, given to
+//! the program's library.
 #![tactic(auto)]
 
-use canoffice_cli::{HostFiles, LineFault, Status, deliver, fault_report, not_utf8_fault, perform};
+mod databases;
+
+use canoffice_cli::{
+    HostFiles, LineFault, Progress, Status, deliver, fault_report, not_utf8_fault, perform,
+};
+use databases::HostDatabases;
 use std::alloc::AllocError;
 use std::env;
-use std::io::ErrorKind;
+use std::io::{ErrorKind, IsTerminal};
 use std::process::ExitCode;
 
 fn main(rt: HostRuntime) -> ExitCode {
@@ -14,17 +19,38 @@ fn main(rt: HostRuntime) -> ExitCode {
 
 /// Reads the words, and performs what they ask for.
 fn run(rt: &HostRuntime) -> Status {
-    let alloc = rt.alloc();
-    let mut out = rt.stdout();
-    let mut errors = rt.stderr();
     let words = match words(rt) {
         Ok(words) => words,
-        Err(fault) => return deliver(fault_report(alloc, fault), &mut out, &mut errors),
+        Err(fault) => {
+            let report = fault_report(rt.alloc(), fault);
+            return deliver(report, &mut rt.stdout(), &mut rt.stderr());
+        }
     };
     match texts(rt, &words) {
-        Ok(texts) => perform(alloc, &texts, &HostFiles { rt }, &mut out, &mut errors),
-        Err(lost) => deliver(Err(lost), &mut out, &mut errors),
+        Ok(texts) => run_words(rt, &texts),
+        Err(lost) => deliver(Err(lost), &mut rt.stdout(), &mut rt.stderr()),
     }
+}
+
+/// Performs what the words ask for. How far it is, is shown on standard error if that is a terminal.
+fn run_words(rt: &HostRuntime, words: &[&str]) -> Status {
+    let errors = rt.stderr();
+    let mut progress = Progress {
+        to: if errors.is_terminal() {
+            Some(errors)
+        } else {
+            None
+        },
+    };
+    perform(
+        rt.alloc(),
+        words,
+        &HostFiles { rt },
+        &mut HostDatabases { rt },
+        &mut rt.stdout(),
+        &mut rt.stderr(),
+        &mut progress,
+    )
 }
 
 /// The program's arguments, the first of which is its own name.

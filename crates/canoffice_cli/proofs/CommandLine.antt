@@ -24,6 +24,10 @@ use Rattle.clap.proofs.WalkLemmas.{first_value-rows, raw_values-rows}
 pub value_in_rows : (f : Found) (id text : Text) → first_value f id ≡ Some text → first_of id (rows_of f) ≡ Some text
 value_in_rows f id text e = sym (first_value-rows f id) ∙ e
 
+-- and of an argument that may be absent, there is one in the rows where the getter gives one
+pub optional_in_rows : (f : Found) (id : Text) (r : Option Text) → r ≡ first_value f id → first_of id (rows_of f) ≡ r
+optional_in_rows f id r e = sym (first_value-rows f id) ∙ sym e
+
 -- the values that a getter gives are those that are in the rows
 pub values_in_rows : (f : Found) (id : Text) (vs : List Text) → option_map raw_values (matched_of f id) ≡ Some vs → all_of id (rows_of f) ≡ Some vs
 values_in_rows f id vs e = sym (raw_values-rows f id) ∙ e

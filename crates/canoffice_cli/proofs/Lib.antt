@@ -13,3 +13,6 @@ pub mod FilledWalk
 pub mod GivenValues
 pub mod EnteredSubcommand
 pub mod EnteredLine
+pub mod Told
+pub mod Opened
+pub mod Applied

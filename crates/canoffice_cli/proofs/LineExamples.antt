@@ -1,7 +1,7 @@
 -- What the definitions of the command line say of words that are written out.
-use Rattle.std.proofs.Common.{◌≡◌, List, [], ◌∷◌, Option, Some, codes, option_map, refl}
+use Rattle.std.proofs.Common.{◌≡◌, List, [], ◌∷◌, Option, Some, None, codes, option_map, refl}
 use Rattle.clap.specs.Words.{Row, Text, all_of, first_of, subcommand_of}
-use Rattle.clap.specs.declared.error.kind.ErrorKind.TheVariants.{DisplayHelp, DisplayHelpOnMissingArgumentOrSubcommand, InvalidSubcommand, MissingRequiredArgument, UnknownArgument}
+use Rattle.clap.specs.declared.error.kind.ErrorKind.TheVariants.{DisplayHelp, DisplayHelpOnMissingArgumentOrSubcommand, InvalidSubcommand, InvalidValue, MissingRequiredArgument, UnknownArgument}
 use Rattle.clap.proofs.OnLiterals.{clap_on_literals}
 use Rattle.canoffice_cli.specs.CommandLine.{canoffice_app, line_faults}
 
@@ -46,6 +46,33 @@ its_name = refl
 its_script : script_in (subcommand_of canoffice_app a_script) ≡ Some (Some (codes "a.txt"))
 unfolding clap_on_literals
 its_script = refl
+
+its_database : option_map (λ found. first_of (codes "db") found.1) (subcommand_of canoffice_app a_script) ≡ Some None
+unfolding clap_on_literals
+its_database = refl
+
+abbrev a_database : List Text
+a_database = codes "canoffice" ∷ codes "apply" ∷ codes "--db=office.db" ∷ codes "a.txt" ∷ []
+
+one_database : line_faults a_database ≡ []
+unfolding clap_on_literals
+one_database = refl
+
+named_database : option_map (λ found. first_of (codes "db") found.1) (subcommand_of canoffice_app a_database) ≡ Some (Some (codes "office.db"))
+unfolding clap_on_literals
+named_database = refl
+
+no_value : line_faults (codes "canoffice" ∷ codes "apply" ∷ codes "a.txt" ∷ codes "--db" ∷ []) ≡ InvalidValue ∷ []
+unfolding clap_on_literals
+no_value = refl
+
+no_database : line_faults (codes "canoffice" ∷ codes "export" ∷ codes "truck" ∷ codes "1" ∷ []) ≡ MissingRequiredArgument ∷ []
+unfolding clap_on_literals
+no_database = refl
+
+an_export : line_faults (codes "canoffice" ∷ codes "export" ∷ codes "--db" ∷ codes "office.db" ∷ codes "truck" ∷ codes "1" ∷ []) ≡ []
+unfolding clap_on_literals
+an_export = refl
 
 no_length : line_faults (codes "canoffice" ∷ codes "chart" ∷ []) ≡ MissingRequiredArgument ∷ []
 unfolding clap_on_literals

@@ -7,9 +7,11 @@ use Rattle.canoffice_cli.specs.declared.report.Status.{Status}
 use Rattle.canoffice_cli.specs.Delivery.{IsDelivered, Writing}
 use Rattle.canoffice_cli.specs.Outcome.{memory_lost, outcome_of, final_outcome}
 use Rattle.office_script.specs.Files.{Files}
+use Rattle.canoffice_cli.specs.Databases.{Databases}
 use Rattle.canoffice_cli.specs.Performance.{IsAnswered, IsPerformed}
 
-pub performed : (words : List (List ℕ)) (files : Files) (output errors : Writing) (status : Status) (answer : Result Report AllocError)
-    → IfOk answer (λ report. IsAnswered words files (outcome_of report)) → IsDelivered (final_outcome answer) output errors status → IsPerformed words files output errors status
-performed words files output errors status (Ok report) answered delivered = (outcome_of report, inr answered, delivered)
-performed words files output errors status (Err lost) answered delivered = (memory_lost, inl refl, delivered)
+pub performed : (words : List (List ℕ)) (files : Files) (before after : Databases) (output errors : Writing) (status : Status) (answer : Result Report AllocError)
+    → IfOk answer (λ report. IsAnswered words files before after (outcome_of report)) → IsDelivered (final_outcome answer) output errors status
+    → IsPerformed words files before after output errors status
+performed words files before after output errors status (Ok report) answered delivered = (outcome_of report, inr answered, delivered)
+performed words files before after output errors status (Err lost) answered delivered = (memory_lost, inl refl, delivered)

@@ -1,5 +1,5 @@
 -- The command line of the program, which job its words ask for, and which fault they have.
-use Rattle.std.specs.Prelude.{◌≡◌, ◌≢◌, List, [], ◌∷◌, find, map, codes, Option, Some, None, true, Result, Ok, Err}
+use Rattle.std.specs.Prelude.{◌≡◌, ◌≢◌, List, [], ◌∷◌, find, map, codes, Option, Some, None, option_map, true, Result, Ok, Err}
 use Rattle.std.specs.Str.{bytes_eq}
 use Rattle.clap.specs.Lexer.{usize_max}
 use Rattle.clap.specs.Words.{App, Shape, IsAmong, Kinds, Row, Rule, Text, all_of, fault_of, first_of, new_app, new_rule, subcommand_of, with_rule, with_subcommand}
@@ -7,7 +7,7 @@ use Rattle.clap.specs.Simple.{on_top}
 use Rattle.clap.specs.declared.error.kind.ErrorKind.{ErrorKind}
 use Rattle.clap.specs.declared.error.kind.ErrorKind.TheVariants.{DisplayHelp, OutOfMemory}
 use Rattle.canoffice_cli.specs.declared.job.Job.{Job}
-use Rattle.canoffice_cli.specs.declared.job.Job.TheVariants.{Apply, Chart, Check, Format}
+use Rattle.canoffice_cli.specs.declared.job.Job.TheVariants.{Apply, Chart, Check, Export, Format}
 use Rattle.canoffice_cli.specs.declared.job.LineFault.{LineFault}
 use Rattle.canoffice_cli.specs.declared.job.LineFault.TheVariants.{Help, Usage, Memory}
 
@@ -21,9 +21,17 @@ required_word id = record (new_rule id) { required = true }
 abbrev pub required_words : Text → Rule
 required_words id = record (required_word id) { range = Some (record { start_inclusive = 1; end_inclusive = usize_max }) }
 
--- apply SCRIPT
+-- an option `--id VALUE`
+abbrev pub option_word : Text → Rule
+option_word id = record (new_rule id) { long = Some id; value_names = 1 }
+
+-- the same, required
+abbrev pub required_option : Text → Rule
+required_option id = record (option_word id) { required = true }
+
+-- apply [--db FILE] SCRIPT
 abbrev pub apply_app : App
-apply_app = with_rule (new_app (codes "apply")) (required_word (codes "SCRIPT"))
+apply_app = with_rule (with_rule (new_app (codes "apply")) (option_word (codes "db"))) (required_word (codes "SCRIPT"))
 
 -- chart LENGTH SIGNAL..
 abbrev pub chart_app : App
@@ -33,6 +41,10 @@ chart_app = with_rule (with_rule (new_app (codes "chart")) (required_word (codes
 abbrev pub check_app : App
 check_app = with_rule (new_app (codes "check")) (required_word (codes "FILE"))
 
+-- export --db FILE NET N
+abbrev pub export_app : App
+export_app = with_rule (with_rule (with_rule (new_app (codes "export")) (required_option (codes "db"))) (required_word (codes "NET"))) (required_word (codes "N"))
+
 -- format FILE
 abbrev pub format_app : App
 format_app = with_rule (new_app (codes "format")) (required_word (codes "FILE"))
@@ -41,13 +53,14 @@ format_app = with_rule (new_app (codes "format")) (required_word (codes "FILE"))
 abbrev pub wants_subcommand : App → App
 wants_subcommand = on_top (λ s. record s { subcommand_required = true; arg_required_else_help = true })
 
--- canoffice apply .., canoffice chart .., canoffice check .., canoffice format ..
+-- canoffice apply .., chart .., check .., export .., format ..
 abbrev pub canoffice_app : App
 canoffice_app =
     let to_apply = with_subcommand (wants_subcommand (new_app (codes "canoffice"))) apply_app.top in
     let to_chart = with_subcommand to_apply chart_app.top in
     let to_check = with_subcommand to_chart check_app.top in
-    with_subcommand to_check format_app.top
+    let to_export = with_subcommand to_check export_app.top in
+    with_subcommand to_export format_app.top
 
 -- the kinds of fault that clap finds in the words
 abbrev pub line_faults : List Text → Kinds
@@ -65,10 +78,13 @@ HasValues rows id texts = all_of id rows ≡ Some texts
 
 -- the job is the subcommand, with the values of its arguments
 abbrev pub IsJobOf : Job → Text → List Row → Type 0
-IsJobOf (Apply script) name rows = (name ≡ codes "apply") × HasValue rows (codes "SCRIPT") script.now
+IsJobOf (Apply database script) name rows =
+    (name ≡ codes "apply") × (first_of (codes "db") rows ≡ option_map (λ path. path.now) database) × HasValue rows (codes "SCRIPT") script.now
 IsJobOf (Chart length signals) name rows =
     (name ≡ codes "chart") × HasValue rows (codes "LENGTH") length.now × HasValues rows (codes "SIGNAL") (map (λ s. s.now) signals.items)
 IsJobOf (Check file) name rows = (name ≡ codes "check") × HasValue rows (codes "FILE") file.now
+IsJobOf (Export database net number) name rows =
+    (name ≡ codes "export") × HasValue rows (codes "db") database.now × HasValue rows (codes "NET") net.now × HasValue rows (codes "N") number.now
 IsJobOf (Format file) name rows = (name ≡ codes "format") × HasValue rows (codes "FILE") file.now
 
 -- the job of the subcommand that was found, with its values

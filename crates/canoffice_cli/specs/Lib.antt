@@ -1,7 +1,10 @@
 pub mod CommandLine
 pub mod Holding
+pub mod Databases
 pub mod Outcome
+pub mod Answered
 pub mod Applied
+pub mod Exported
 pub mod Charted
 pub mod WordFault
 pub mod Checked

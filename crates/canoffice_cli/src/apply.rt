@@ -1,61 +1,89 @@
-//! Applying a script to a new office.
-ghost use Rattle.std.specs.Prelude.{IfOk};
+//! Applying a script.
+ghost use Rattle.std.specs.Prelude.{IfOk, option_map, ⊤};
+ghost use Rattle.canoffice_cli.specs.Answered.{InDatabase, InMemory};
+ghost use Rattle.canoffice_cli.specs.Applied.{IsApplyOutcome, IsScriptOutcome, Reports};
+ghost use Rattle.canoffice_cli.specs.Databases.{AreKept};
 ghost use Rattle.canoffice_cli.specs.Outcome.{outcome_of};
-ghost use Rattle.canoffice_cli.specs.Applied.{IsRunOf, IsScriptOutcome};
 
+use crate::answering::answer_in_memory;
+use crate::databases::Databases;
 use crate::files::FileSource;
-use crate::lines::{Line, lines_of};
-use crate::report::{LOST_MEMORY, Report, Status, bad_line, cannot_read};
-use office::PlainOffice;
-use office_script::{ScriptFault, requests_of};
-use office_types::{Command, Reply, Team};
+use crate::progress::Progress;
+use crate::report::{Report, bad_line, cannot_read};
+use office_script::{Dash, ScriptFault, arrivals_of};
 use std::alloc::{AllocError, Global};
+use std::io::Write;
 
-impl Line for Reply {
-    ghost use Rattle.canoffice_cli.specs.Applied.{reply_line};
-
-    ghost line = { reply_line };
-
-    fn line(&self, alloc: Global) -> Result<String, AllocError> {
-        format!(in alloc; "{self}\n")
-    }
-}
-
-/// Runs the requests in order on an office with no network, and reports their replies.
-fn run_report(alloc: Global, requests: &[(Team, Command)]) -> Result<Report, AllocError>
-    ensures { IfOk result (λ report. IsRunOf requests.now (outcome_of report)) }
+/// The report that a script can't be read.
+fn amiss_report(alloc: Global, fault: ScriptFault) -> Result<Report, AllocError>
+    ensures { IfOk result (λ report. Reports fault (outcome_of report)) }
 {
-    let mut office = PlainOffice::new(alloc);
-    let mut replies = Vec::new(alloc);
-    match office.run(alloc, requests, &mut replies) {
-        Ok(()) => {
-            let output = lines_of(alloc, &replies)?;
-            Ok(Report::of_output(alloc, output, Status::Success))
-        }
-        Err(_) => Ok(Report {
-            output: lines_of(alloc, &replies)?,
-            errors: LOST_MEMORY.to_vec(alloc)?,
-            status: Status::Failed,
-        }),
+    match fault {
+        ScriptFault::BadLine(number) => bad_line(alloc, number),
+        ScriptFault::Unreadable(path) => cannot_read(alloc, path.as_str()),
+        ScriptFault::Memory => Err(AllocError),
     }
 }
 
-/// Applies the script of these bytes to an office with no network.
-///
-/// The whole script is read first, and each file that it names, line by line: if a line is wrong, the number of the first
-/// one is reported, and if a file can't be read, the path of the first one; then nothing is done. Else the reply to each command is printed, and the status is `Success` whatever was refused. If memory runs out
-/// while the commands are run, the replies so far are printed, then [`LOST_MEMORY`], and the status is `Failed`.
-pub fn apply_script<F: FileSource>(
+/// Applies the script to a new office in memory. The key `-` stands for the number of its line.
+fn apply_in_memory<F: FileSource, W: Write>(
     alloc: Global,
     script: &[u8],
     files: &F,
+    progress: &mut Progress<W>,
 ) -> Result<Report, AllocError>
-    ensures { IfOk result (λ report. IsScriptOutcome (F.held files.now) script.now (outcome_of report)) }
+    ensures { IfOk result (λ report. IsScriptOutcome (F.held files.now) Dash.LineNumber InMemory ⊤ script.now (outcome_of report)) }
 {
-    match requests_of(alloc, script, files) {
-        Ok(requests) => run_report(alloc, &requests),
-        Err(ScriptFault::BadLine(number)) => bad_line(alloc, number),
-        Err(ScriptFault::Unreadable(path)) => cannot_read(alloc, path.as_str()),
-        Err(ScriptFault::Memory) => Err(AllocError),
+    match arrivals_of(alloc, script, Dash::LineNumber, files) {
+        Ok(arrivals) => {
+            let told = answer_in_memory(alloc, script, &arrivals, progress);
+            progress.ends();
+            told?.report(alloc)
+        }
+        Err(fault) => amiss_report(alloc, fault),
+    }
+}
+
+/// Applies the script to the office in the database of the path. The key `-` is wrong.
+fn apply_in_database<F: FileSource, D: Databases, W: Write>(
+    alloc: Global,
+    script: &[u8],
+    files: &F,
+    databases: &mut D,
+    path: &str,
+    progress: &mut Progress<W>,
+) -> Result<Report, AllocError>
+    ensures { IfOk result (λ report. IsScriptOutcome (F.held files.now) Dash.Wrong (InDatabase (D.known databases.old) (D.known databases.new) path.now) (AreKept (D.known databases.old) (D.known databases.new)) script.now (outcome_of report)) }
+{
+    match arrivals_of(alloc, script, Dash::Wrong, files) {
+        Ok(arrivals) => {
+            let told = databases.answer(alloc, path, script, &arrivals, progress);
+            progress.ends();
+            told?.report(alloc)
+        }
+        Err(fault) => amiss_report(alloc, fault),
+    }
+}
+
+/// Applies the script of these bytes to the office in the database of the path, or to a new one in memory.
+///
+/// The whole script is read first, and each file that it names, line by line: if a line is wrong, the number of the first
+/// one is reported, and if a file can't be read, the path of the first one; then nothing is done. Else each arrival is
+/// answered in turn, up to the first that is lost, and the answers are printed, with the status `Success` whatever was
+/// refused; after the last one `lost` and its number if one was lost, with the status `Failed`. The error is out of memory
+/// for the report.
+pub fn apply_script<F: FileSource, D: Databases, W: Write>(
+    alloc: Global,
+    script: &[u8],
+    files: &F,
+    database: Option<&str>,
+    databases: &mut D,
+    progress: &mut Progress<W>,
+) -> Result<Report, AllocError>
+    ensures { IfOk result (λ report. IsApplyOutcome (F.held files.now) (option_map (λ path. path.now) database.entry) (D.known databases.old) (D.known databases.new) script.now (outcome_of report)) }
+{
+    match database {
+        None => apply_in_memory(alloc, script, files, progress),
+        Some(path) => apply_in_database(alloc, script, files, databases, path, progress),
     }
 }

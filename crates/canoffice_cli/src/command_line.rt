@@ -2,7 +2,7 @@
 ghost use Rattle.std.specs.Prelude.{◌≡◌, IfOk, false};
 ghost use Rattle.clap.specs.Words.{app_of, rule_of};
 ghost use Rattle.clap.specs.declared.builder.command.Command.TheViews.{out-Command as fields_of};
-ghost use Rattle.canoffice_cli.specs.CommandLine.{apply_app, canoffice_app, chart_app, check_app, format_app, required_word, required_words};
+ghost use Rattle.canoffice_cli.specs.CommandLine.{apply_app, canoffice_app, chart_app, check_app, export_app, format_app, option_word, required_option, required_word, required_words};
 
 use clap::{Arg, Command};
 use std::alloc::{AllocError, Global};
@@ -23,13 +23,31 @@ fn required_arguments<'a>(alloc: Global, id: &'a str, help: &'a str) -> Arg<'a>
     required_argument(alloc, id, help).num_args(1..)
 }
 
-/// `apply SCRIPT`
+/// An option `--id VALUE`.
+fn option<'a>(alloc: Global, id: &'a str, value: &'a str, help: &'a str) -> Arg<'a>
+    ensures rule { rule_of result ≡ option_word id.entry.now }
+    ensures local { result.global ≡ false }
+{
+    Arg::new(alloc, id).long(id).value_name(value).help(help)
+}
+
+/// The same, required.
+fn required_option<'a>(alloc: Global, id: &'a str, value: &'a str, help: &'a str) -> Arg<'a>
+    ensures rule { rule_of result ≡ required_option id.entry.now }
+    ensures local { result.global ≡ false }
+{
+    option(alloc, id, value, help).required(true)
+}
+
+/// `apply [--db FILE] SCRIPT`
 fn apply_command<'a>(alloc: Global) -> Result<Command<'a>, AllocError>
     ensures app { IfOk result (λ c. app_of c ≡ apply_app) }
     ensures local { IfOk result (λ c. (fields_of c).has_globals ≡ false) }
 {
     let named = Command::new(alloc, "apply").about("Runs a script and prints each reply");
-    let apply = named.arg(required_argument(alloc, "SCRIPT", "The script's file"))?;
+    let database = "The office's database, which is made where there is none; else it is in memory";
+    let with_database = named.arg(option(alloc, "db", "FILE", database))?;
+    let apply = with_database.arg(required_argument(alloc, "SCRIPT", "The script's file"))?;
     Ok(apply)
 }
 
@@ -60,6 +78,19 @@ fn check_command<'a>(alloc: Global) -> Result<Command<'a>, AllocError>
     Ok(check)
 }
 
+/// `export --db FILE NET N`
+fn export_command<'a>(alloc: Global) -> Result<Command<'a>, AllocError>
+    ensures app { IfOk result (λ c. app_of c ≡ export_app) }
+    ensures local { IfOk result (λ c. (fields_of c).has_globals ≡ false) }
+{
+    let named = Command::new(alloc, "export").about("Prints a release as a DBC file");
+    let number = "The number of the release, 1 to 65535, or 0 for the live sheet";
+    let with_database = named.arg(required_option(alloc, "db", "FILE", "The office's database"))?;
+    let with_net = with_database.arg(required_argument(alloc, "NET", "The network's name"))?;
+    let export = with_net.arg(required_argument(alloc, "N", number))?;
+    Ok(export)
+}
+
 /// `format FILE`
 fn format_command<'a>(alloc: Global) -> Result<Command<'a>, AllocError>
     ensures app { IfOk result (λ c. app_of c ≡ format_app) }
@@ -82,6 +113,7 @@ pub fn canoffice_command<'a>(alloc: Global) -> Result<Command<'a>, AllocError>
     let with_apply = wanting.subcommand(apply_command(alloc)?)?;
     let with_chart = with_apply.subcommand(chart_command(alloc)?)?;
     let with_check = with_chart.subcommand(check_command(alloc)?)?;
-    let with_format = with_check.subcommand(format_command(alloc)?)?;
+    let with_export = with_check.subcommand(export_command(alloc)?)?;
+    let with_format = with_export.subcommand(format_command(alloc)?)?;
     Ok(with_format)
 }

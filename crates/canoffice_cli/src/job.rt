@@ -13,6 +13,8 @@ use std::alloc::{AllocError, Global};
 pub enum Job<'a> {
     /// Apply the lines of the script in the file of this name.
     Apply {
+        /// The path of the office's database; without one the office is in memory.
+        database: Option<&'a str>,
         /// The path of the script.
         script: &'a str,
     },
@@ -27,6 +29,15 @@ pub enum Job<'a> {
     Check {
         /// The path of the file.
         file: &'a str,
+    },
+    /// Print a release of a network, or its live sheet.
+    Export {
+        /// The path of the office's database.
+        database: &'a str,
+        /// The word that names the network.
+        net: &'a str,
+        /// The word that gives the number of the release.
+        number: &'a str,
     },
     /// Print the canonical text of the DBC text in the file of this name.
     Format {
@@ -114,20 +125,24 @@ fn job_in<'a>(alloc: Global, matches: &ArgMatches<'a>) -> Result<Job<'a>, AllocE
     if name == "check" {
         return Ok(check_job(found));
     }
+    if name == "export" {
+        return Ok(export_job(found));
+    }
     if name == "format" {
         return Ok(format_job(found));
     }
     unreachable!("clap knows no other subcommand")
 }
 
-/// `apply SCRIPT`
-#[tactic(auto, using(crate::proofs::CommandLine::value_in_rows, crate::proofs::CommandLine::text_is_given))]
+/// `apply [--db FILE] SCRIPT`
+#[tactic(auto, using(crate::proofs::CommandLine::value_in_rows, crate::proofs::CommandLine::optional_in_rows, crate::proofs::CommandLine::text_is_given))]
 fn apply_job<'a>(found: &ArgMatches<'a>) -> Job<'a>
     requires { HasSome (rows_of (found_of found.now)) (codes "SCRIPT") }
     ensures { IsJobOf result (codes "apply") (rows_of (found_of found.now)) }
 {
+    let database = found.get_str("db");
     let script = found.get_str("SCRIPT").unwrap();
-    Job::Apply { script }
+    Job::Apply { database, script }
 }
 
 /// `chart LENGTH SIGNAL..`
@@ -151,6 +166,24 @@ fn check_job<'a>(found: &ArgMatches<'a>) -> Job<'a>
 {
     let file = found.get_str("FILE").unwrap();
     Job::Check { file }
+}
+
+/// `export --db FILE NET N`
+#[tactic(auto, using(crate::proofs::CommandLine::value_in_rows, crate::proofs::CommandLine::text_is_given))]
+fn export_job<'a>(found: &ArgMatches<'a>) -> Job<'a>
+    requires database { HasSome (rows_of (found_of found.now)) (codes "db") }
+    requires net { HasSome (rows_of (found_of found.now)) (codes "NET") }
+    requires number { HasSome (rows_of (found_of found.now)) (codes "N") }
+    ensures { IsJobOf result (codes "export") (rows_of (found_of found.now)) }
+{
+    let database = found.get_str("db").unwrap();
+    let net = found.get_str("NET").unwrap();
+    let number = found.get_str("N").unwrap();
+    Job::Export {
+        database,
+        net,
+        number,
+    }
 }
 
 /// `format FILE`

@@ -2,32 +2,44 @@
 //!
 //! - `command_line` describes the subcommands and their arguments for clap; with it `job` turns the words into a `Job`
 //!   or a `LineFault`.
-//! - `files` reads files: those of the machine, or those of a list in memory.
+//! - `files` reads files: those of the machine, or those of a list in memory. `databases` has the offices in databases, of
+//!   which one in memory is here; those of the machine are in the program itself.
+//! - `apply`, `exporting`, `charting`, `checking` and `formatting` do the jobs. `answering` answers the arrivals of a script, by
+//!   an office in memory or on a connection to a database, and `progress` shows how far it is.
 //! - `report` is the result of a run: bytes for standard output and standard error, and a `Status`.
 //! - `delivery` writes a report to the two streams.
 //! - `program` joins them: `perform` is a whole run.
 //!
-//! The definitions in `specs/` describe the same in terms of bytes: `IsPerformed` is a whole run.
+//! The definitions in `specs/` describe the same in terms of bytes and of the histories that databases hold: `IsPerformed`
+//! is a whole run.
 #![tactic(auto)]
 
+mod answering;
 mod apply;
 mod charting;
 mod checking;
 mod command_line;
+mod databases;
 mod delivery;
+mod exporting;
 mod files;
 mod formatting;
 mod job;
 mod lines;
 mod program;
+mod progress;
 mod report;
 
+pub use answering::{Answers, answer_on, lost_at_once, told_and_closed};
 pub use apply::apply_script;
 pub use charting::chart_report;
 pub use checking::check_report;
+pub use databases::{Databases, MemoryDatabase};
 pub use delivery::deliver;
+pub use exporting::{export_report, look_on};
 pub use files::{FileFault, FileSource, HostFiles, ListedFiles, NamedFile};
 pub use formatting::format_report;
 pub use job::{Job, LineFault, job_of, not_utf8_fault};
 pub use program::{fault_report, perform, report_of};
+pub use progress::Progress;
 pub use report::{LOST_MEMORY, Report, Status, bad_line, bad_word, cannot_read, help, usage};

@@ -1,5 +1,5 @@
--- A worked example, computed from the definitions: repeats after the office has moved on.
-use Rattle.std.proofs.Common.{◌≡◌, ℕ, List, [], ◌∷◌, take, All, None, IfSome, refl}
+-- Worked examples, computed from the definitions: repeats after the office has moved on, and releases that stay.
+use Rattle.std.proofs.Common.{◌≡◌, ℕ, List, [], ◌∷◌, ◌++◌, map, take, Some, None, IfSome, refl}
 use Rattle.std.specs.Prelude.{codes}
 use Rattle.std.proofs.lemmas.List.Elements.{All-from_recursion}
 use Rattle.office_types.specs.declared.block.BlockForm.TheVariants as block
@@ -9,7 +9,7 @@ use Rattle.office_types.specs.declared.reply.Reply.TheVariants.{Done, Number}
 use Rattle.office_types.specs.declared.state.Office.{Office}
 use Rattle.office_rules.specs.Outcome.{reply_of}
 use Rattle.office_rules.specs.Step.{IsRead, Step, file_wanted, net_named, office_after, opening, step_outcome}
-use Rattle.office_rules.proofs.Asking.{Asked, asks, engine, grants, left_by, opens, takes}
+use Rattle.office_rules.proofs.Asking.{Asked, asks, engine, grants, left_by, office, opens, takes, truck}
 use Rattle.office_history.specs.declared.arrival.Answer.{Answer}
 use Rattle.office_history.specs.declared.arrival.Answer.TheVariants as answer
 use Rattle.office_history.specs.declared.arrival.Answer.TheVariants.{KeyReused}
@@ -28,7 +28,7 @@ abbrev take_2 : Asked
 take_2 = takes engine (codes "E2") None
 
 -- the number that was given out is free again when the request for it is repeated; then its key is used for another one
-abbrev moved_on : List Answered
+abbrev pub moved_on : List Answered
 moved_on =
     answered (opens Can 0) (codes "o1") (codes "open_net") (answer.Reply Done)
     ∷ answered (grants engine block.Std 256 258) (codes "o2") (codes "grant") (answer.Reply Done)
@@ -48,10 +48,10 @@ step_of : (o : Office) (q : Asked) → IsRead (file_wanted (net_named o q.comman
     → Step o q.team q.command (reply_of (step_outcome o q.team q.reading q.command)) (office_after o (step_outcome o q.team q.reading q.command))
 step_of o q read = record { reading = q.reading; read = read; answered = refl; left = refl }
 
-abbrev after : ℕ → Office
+abbrev pub after : ℕ → Office
 after n = left_by opening (take n asked_first)
 
-it_is_legal : IsLegal moved_on (after 5)
+pub it_is_legal : IsLegal moved_on (after 5)
 it_is_legal = record {
   replies = Done ∷ Done ∷ Number 256 ∷ Done ∷ Number 256 ∷ [];
   replied = refl;
@@ -66,3 +66,18 @@ it_is_legal = record {
   );
   again = All-from_recursion (λ a. IfSome (first_of moved_on a) (IsAnsweredAs a)) moved_on (refl, (refl, (refl, (refl, (refl, (refl, (refl, tt {0})))))));
 }
+
+-- A second release comes after the first one, which still has the message that is retired by then.
+
+abbrev released : List Asked
+released = opens Can 0 ∷ grants engine block.Std 256 258 ∷ take_1 ∷ asks engine act.Submit ∷ asks office act.Release ∷ []
+
+abbrev released_again : List Asked
+released_again = released ++ retire_1 ∷ take_2 ∷ asks engine act.Submit ∷ asks office act.Release ∷ []
+
+-- the names of the messages in each release
+abbrev names_released : List Asked → List (List (List ℕ))
+names_released qs = elim (net_named (left_by opening qs) truck) [ None ↦ [] | Some net ↦ map (λ s. map (λ m. m.name) s.messages) net.releases ]
+
+it_stays : (names_released released ≡ (codes "E1" ∷ []) ∷ []) × (names_released released_again ≡ (codes "E1" ∷ []) ∷ (codes "E2" ∷ []) ∷ [])
+it_stays = (refl, refl)

@@ -1,5 +1,5 @@
 -- How a legal history goes on.
-use Rattle.std.proofs.Common.{◌≡◌, ℕ, zero, suc, ◌<◌, Bool, true, false, cond, not, ◌&&◌, List, [], ◌∷◌, ◌++◌, append-nil, length, get_or, map, filter, find, All, Option, Some, None, IfSome, refl, sym, ap, subst, ◌∙◌, arith, inl, inr}
+use Rattle.std.proofs.Common.{◌≡◌, ℕ, zero, suc, ◌<◌, Bool, true, false, cond, not, List, [], ◌∷◌, ◌++◌, append-nil, length, get_or, map, filter, find, All, Option, Some, None, IfSome, refl, sym, ap, subst, ◌∙◌, arith, inl, inr}
 use Rattle.std.specs.Option.{option_or}
 use Rattle.std.proofs.lemmas.Bool.{and_from, cases_Bool, false≢true}
 use Rattle.std.proofs.lemmas.List.{map-append}
@@ -43,7 +43,7 @@ same_bytes xs = (bytes_eq-Decides xs xs).1 refl
 same_itself : (a : Answered) → same_pair a a ≡ true
 same_itself a = and_from (bytes_eq a.team a.team) (bytes_eq a.key a.key) (same_bytes a.team) (same_bytes a.key)
 
-abbrev others : Answered → Answered → Bool
+abbrev pub others : Answered → Answered → Bool
 others b c = not (same_pair b c)
 
 -- one of a new pair comes last

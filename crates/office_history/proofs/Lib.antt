@@ -1,3 +1,5 @@
 pub mod Histories
+pub mod Pairs
 pub mod Offices
-mod Examples
+pub mod Releases
+pub mod Examples

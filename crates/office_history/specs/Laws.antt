@@ -1,11 +1,13 @@
 -- How legal histories go on, and what they leave.
-use Rattle.std.specs.Prelude.{◌≡◌, List, [], ◌∷◌, ◌++◌, map, All, None, Some}
+use Rattle.std.specs.Prelude.{◌≡◌, ℕ, List, [], ◌∷◌, ◌++◌, map, All, None, Some}
+use Rattle.catalogue.specs.declared.sheet.Sheet.{Sheet}
 use Rattle.office_types.specs.Command.{IsCommand}
 use Rattle.office_types.specs.PlainName.{IsPlainName}
 use Rattle.office_types.specs.declared.reply.Reply.{Reply}
+use Rattle.office_types.specs.declared.state.Net.{Net}
 use Rattle.office_types.specs.declared.state.Office.{Office}
 use Rattle.office_rules.specs.Kept.{IsOffice}
-use Rattle.office_rules.specs.Step.{Step, opening}
+use Rattle.office_rules.specs.Step.{Step, net_named, opening}
 use Rattle.office_history.specs.declared.arrival.Answer.TheVariants as answer
 use Rattle.office_history.specs.History.{Answered, IsAnsweredAs, IsLegal, first_arrivals, first_of, request_of}
 
@@ -25,3 +27,9 @@ IsInRange a = IsPlainName a.team × IsCommand a.command
 pub record HistoriesLeaveOffices : Type 0 where
   pub kept : (h : List Answered) (office : Office) → All IsInRange h → IsLegal h office → IsOffice office
   pub one : (h g : List Answered) (a b : Office) → map request_of (first_arrivals h) ≡ map request_of (first_arrivals g) → IsLegal h a → IsLegal g b → a ≡ b
+
+-- However a legal history goes on, the networks that it left are there, and their releases are the first ones of those
+-- that they have after: no release changes, and none goes.
+abbrev pub ReleasesStay : Type 0
+ReleasesStay = (h more : List Answered) (before after : Office) (name : List ℕ) (net : Net) → IsLegal h before → IsLegal (h ++ more) after
+    → net_named before name ≡ Some net → (then : Net) × (net_named after name ≡ Some then) × (new : List Sheet) × (then.releases ≡ net.releases ++ new)

@@ -1,3 +1,4 @@
 pub mod Key
 pub mod History
+pub mod Answering
 pub mod Laws

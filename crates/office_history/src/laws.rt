@@ -1,5 +1,5 @@
 //! Laws of histories. Each is the contract of a function that does nothing.
-ghost use Rattle.office_history.specs.Laws.{HistoriesGrow, HistoriesLeaveOffices};
+ghost use Rattle.office_history.specs.Laws.{HistoriesGrow, HistoriesLeaveOffices, ReleasesStay};
 
 use catalogue::texts_read_as_one_sheet;
 
@@ -13,6 +13,14 @@ pub fn histories_grow()
 /// histories with the same requests first leave one office.
 pub fn histories_leave_offices()
     ensures { HistoriesLeaveOffices }
+{
+    texts_read_as_one_sheet();
+}
+
+/// A release never changes: of a legal history that goes on with further arrivals, the networks are there still, and each
+/// has its releases as they were, in order, before any newer ones.
+pub fn releases_stay()
+    ensures { ReleasesStay }
 {
     texts_read_as_one_sheet();
 }

@@ -7,7 +7,8 @@
 //!
 //! A history is a list of arrivals with their answers. It is legal (`IsLegal`, `specs/History.antt`) if its first
 //! arrivals, in order, are answered by the steps of the office, and each repeat as above. [`histories_grow`] says how a
-//! legal history goes on, and [`histories_leave_offices`] what it leaves. The definitions are in `specs/`.
+//! legal history goes on, [`histories_leave_offices`] what it leaves, and [`releases_stay`] that no release changes. The
+//! definitions are in `specs/`.
 #![tactic(auto)]
 
 mod arrival;
@@ -16,4 +17,4 @@ mod laws;
 
 pub use arrival::{Answer, Arrival, Request};
 pub use key::{Key, KeyRule};
-pub use laws::{histories_grow, histories_leave_offices};
+pub use laws::{histories_grow, histories_leave_offices, releases_stay};

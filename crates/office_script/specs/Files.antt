@@ -1,13 +1,14 @@
--- What is known of the files at paths, what reading one may give, and the command that a request is with the bytes of its
--- file.
-use Rattle.std.specs.Prelude.{◌≡◌, ℕ, List}
+-- What is known of the files at paths, what reading one may give, and the arrival of a request with the bytes of its file.
+use Rattle.std.specs.Prelude.{◌≡◌, ℕ, List, ◌∷◌, ◌++◌}
 use Rattle.std.specs.List.{AllZip}
-use Rattle.office_types.specs.declared.command.Command.{Command}
 use Rattle.office_types.specs.declared.command.Task.TheVariants as task
 use Rattle.office_fields.specs.declared.asked.Asked.{Asked}
 use Rattle.office_fields.specs.declared.asked.Asked.TheVariants as asked
+use Rattle.office_history.specs.declared.arrival.Arrival.{Arrival}
+use Rattle.office_history.specs.declared.arrival.Request.{Request}
 use Rattle.office_script.specs.declared.files.FileFault.{FileFault}
 use Rattle.office_script.specs.declared.files.FileFault.TheVariants.{Memory}
+use Rattle.office_script.specs.declared.requests.LineRequest.{LineRequest}
 
 -- what is known of the file of a path: nothing, or that no file can be read there, or its bytes
 pub data Holding : Type 0 where
@@ -31,12 +32,19 @@ FailsWith unknown fault = Unit {0}
 FailsWith absent fault = Unit {0}
 FailsWith (holding known) fault = fault ≡ Memory
 
--- the command is what is asked for, an import with the bytes of its file
-abbrev pub IsFilled : Files → Asked → Command → Type 0
-IsFilled files (asked.Command c) command = command ≡ c
-IsFilled files (asked.Import i) command =
-    (bytes : List ℕ) × Gives (files i.file) bytes × (command ≡ record { net = i.net; task = task.Import bytes })
+-- the request is of the text that a line has after its team, for what the text asks for; an import has the bytes of its
+-- file too, and in its content, after a line feed
+abbrev pub IsRequestFor : Files → List ℕ → Asked → Request → Type 0
+IsRequestFor files text (asked.Command c) request = (request.command ≡ c) × (request.content.items ≡ text)
+IsRequestFor files text (asked.Import i) request =
+    (bytes : List ℕ) × Gives (files i.file) bytes × (request.command ≡ record { net = i.net; task = task.Import bytes }) × (request.content.items ≡ text ++ (10 ∷ bytes))
 
--- each command is what its request asks for, by the same team
-abbrev pub AreFilled : Files → List (List ℕ × Asked) → List (List ℕ × Command) → Type 0
-AreFilled files requests commands = AllZip (λ r c. (c.0 ≡ r.0) × IsFilled files r.1 c.1) requests commands
+-- the arrival of what a line asks for
+pub record IsArrivalOf (files : Files) (r : LineRequest) (a : Arrival) : Type 0 where
+  pub team : a.team ≡ r.team
+  pub key : a.key ≡ r.key
+  pub request : IsRequestFor files r.text r.asked a.request
+
+-- each request has its arrival, in order
+abbrev pub HaveArrived : Files → List LineRequest → List Arrival → Type 0
+HaveArrived files requests arrivals = AllZip (IsArrivalOf files) requests arrivals

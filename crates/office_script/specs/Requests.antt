@@ -1,18 +1,17 @@
 -- Which request a line makes.
-use Rattle.std.specs.Prelude.{ℕ, Bool, List, [], ◌∷◌, Option, Some, None, if◌then◌else◌, codes}
+use Rattle.std.specs.Prelude.{ℕ, List, [], ◌∷◌, Option, Some, None, if◌then◌else◌}
+use Rattle.std.specs.List.{join_with_byte}
 use Rattle.std.specs.Option.{option_map}
-use Rattle.std.specs.Str.{bytes_eq}
 use Rattle.office_fields.specs.Asked.{asked_of}
 use Rattle.office_fields.specs.Kind.{kind_of_word}
-use Rattle.office_fields.specs.Value.{◌>>=◌, plain_name_of, where_true}
+use Rattle.office_fields.specs.Value.{◌>>=◌, plain_name_of}
 use Rattle.office_fields.specs.declared.asked.Asked.{Asked}
+use Rattle.office_script.specs.declared.keys.Dash.{Dash}
+use Rattle.office_script.specs.declared.requests.LineRequest.{LineRequest}
 use Rattle.office_script.specs.Fields.{fields_of}
+use Rattle.office_script.specs.Keys.{key_of}
 use Rattle.office_script.specs.Lines.{says_nothing}
 use Rattle.office_script.specs.Words.{words_of}
-
--- the only key of a line is `-`
-abbrev pub is_key : List ℕ → Bool
-is_key word = bytes_eq word (codes "-")
 
 -- what the command of this word asks for with the fields of these words
 unfoldable pub asked_by : List ℕ → List (List ℕ) → Option Asked
@@ -21,17 +20,20 @@ asked_by word rest = do
   fields ← fields_of rest
   asked_of kind fields
 
--- the team of a line's words, and what it asks for: key, team, command, and its fields
-abbrev pub request_of_words : List (List ℕ) → Option (List ℕ × Asked)
-request_of_words (key ∷ team ∷ word ∷ rest) = where_true (is_key key) do
-  sender ← plain_name_of team
+-- the request of the words of a line: key, team, command, and its fields. Its text is the words after the team, as they
+-- are in the line.
+abbrev pub request_of_words : Dash → ℕ → List (List ℕ) → Option LineRequest
+request_of_words dash number (first ∷ second ∷ word ∷ rest) = do
+  key ← key_of dash number first
+  team ← plain_name_of second
   asked ← asked_by word rest
-  Some (sender, asked)
-request_of_words words = None
+  Some (record { team = team; key = key; text = join_with_byte 32 (word ∷ rest); asked = asked })
+request_of_words dash number words = None
 
-abbrev pub request_of : List ℕ → Option (List ℕ × Asked)
-request_of line = request_of_words (words_of line)
+-- the request of the line of this number, from 1
+abbrev pub request_of : Dash → ℕ → List ℕ → Option LineRequest
+request_of dash number line = request_of_words dash number (words_of line)
 
--- what a line asks for: nothing, or one thing; `None` if it is wrong
-abbrev pub requests_of_line : List ℕ → Option (List (List ℕ × Asked))
-requests_of_line line = if says_nothing line then Some [] else option_map (λ r. r ∷ []) (request_of line)
+-- what the line of this number asks for: nothing, or one thing; `None` if it is wrong
+abbrev pub requests_of_line : Dash → ℕ → List ℕ → Option (List LineRequest)
+requests_of_line dash number line = if says_nothing line then Some [] else option_map (λ r. r ∷ []) (request_of dash number line)

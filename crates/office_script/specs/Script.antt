@@ -1,86 +1,94 @@
 -- What a script asks for, over the files that it names.
 use Rattle.std.specs.Prelude.{◌≡◌, ℕ, ◌+◌, List, [], ◌∷◌, ◌++◌, length, Option, Some, None, Result, Ok, Err, ⊤}
 use Rattle.std.specs.Option.{option_map, option_and_then}
-use Rattle.office_types.specs.declared.command.Command.{Command}
 use Rattle.office_fields.specs.declared.asked.Asked.{Asked}
 use Rattle.office_fields.specs.declared.asked.Asked.TheVariants as asked
 use Rattle.office_fields.specs.declared.unread.Unread.{Unread}
 use Rattle.office_fields.specs.declared.unread.Unread.TheVariants as unread
+use Rattle.office_history.specs.declared.arrival.Arrival.{Arrival}
+use Rattle.office_history.specs.declared.arrival.Request.{Request}
 use Rattle.office_script.specs.declared.files.FileFault.TheVariants as file
 use Rattle.office_script.specs.declared.filling.LineFault.{LineFault}
 use Rattle.office_script.specs.declared.filling.LineFault.TheVariants as why
+use Rattle.office_script.specs.declared.keys.Dash.{Dash}
+use Rattle.office_script.specs.declared.requests.LineRequest.{LineRequest}
 use Rattle.office_script.specs.declared.script.ScriptFault.{ScriptFault}
 use Rattle.office_script.specs.declared.script.ScriptFault.TheVariants as script
-use Rattle.office_script.specs.Files.{AreFilled, FailsWith, Files, IsFilled}
+use Rattle.office_script.specs.Files.{FailsWith, Files, HaveArrived, IsRequestFor}
 use Rattle.office_script.specs.Lines.{lines_of}
 use Rattle.office_script.specs.Requests.{requests_of_line}
 
--- what the lines ask for, in order, if none is wrong
-abbrev pub requests_of_lines : List (List ℕ) → Option (List (List ℕ × Asked))
-requests_of_lines [] = Some []
-requests_of_lines (line ∷ lines) = option_and_then (λ here. option_map (λ rest. here ++ rest) (requests_of_lines lines)) (requests_of_line line)
+-- what the lines ask for, in order, if none is wrong; the number is that of the first one
+abbrev pub requests_of_lines : Dash → ℕ → List (List ℕ) → Option (List LineRequest)
+requests_of_lines dash number [] = Some []
+requests_of_lines dash number (line ∷ lines) =
+    option_and_then (λ here. option_map (λ rest. here ++ rest) (requests_of_lines dash (number + 1) lines)) (requests_of_line dash number line)
 
--- the lines are right, and these are their commands with the bytes of the files
-pub record AreCommandsOf (files : Files) (lines : List (List ℕ)) (commands : List (List ℕ × Command)) : Type 0 where
-  pub requests : List (List ℕ × Asked)
-  pub asked : requests_of_lines lines ≡ Some requests
-  pub filled : AreFilled files requests commands
+-- the lines of a script, from its first one, are right, and these are their arrivals with the bytes of the files
+pub record AreArrivalsOf (files : Files) (dash : Dash) (lines : List (List ℕ)) (arrivals : List Arrival) : Type 0 where
+  pub requests : List LineRequest
+  pub asked : requests_of_lines dash 1 lines ≡ Some requests
+  pub arrived : HaveArrived files requests arrivals
 
--- the line of this number, from 1, is the first at which something is amiss: the lines before it have their commands
-pub record IsFirstAmiss (files : Files) (IsAmiss : List ℕ → Type 0) (lines : List (List ℕ)) (number : ℕ) : Type 0 where
+-- the line of this number, from 1, is the first at which something is amiss: the lines before it have their arrivals
+pub record IsFirstAmiss (files : Files) (dash : Dash) (IsAmiss : ℕ → List ℕ → Type 0) (lines : List (List ℕ)) (number : ℕ) : Type 0 where
   pub before : List (List ℕ)
   pub line : List ℕ
   pub after : List (List ℕ)
   pub parts : lines ≡ before ++ line ∷ after
   pub numbered : number ≡ length before + 1
-  pub commands : List (List ℕ × Command)
-  pub sound : AreCommandsOf files before commands
-  pub amiss : IsAmiss line
+  pub arrivals : List Arrival
+  pub sound : AreArrivalsOf files dash before arrivals
+  pub amiss : IsAmiss number line
 
--- the line is wrong
-abbrev pub IsWrong : List ℕ → Type 0
-IsWrong line = requests_of_line line ≡ None
+-- the line of this number is wrong
+abbrev pub IsWrong : Dash → ℕ → List ℕ → Type 0
+IsWrong dash number line = requests_of_line dash number line ≡ None
 
--- the line asks to import the file of this path, which may be unreadable
-pub record NamesUnreadable (files : Files) (path line : List ℕ) : Type 0 where
-  pub team : List ℕ
+-- what is asked for is to import the file of this path, which may be unreadable
+pub record AsksUnreadable (files : Files) (path : List ℕ) (a : Asked) : Type 0 where
   pub net : List ℕ
-  pub asked : requests_of_line line ≡ Some ((team, asked.Import (record { net = net; file = path })) ∷ [])
+  pub asked : a ≡ asked.Import (record { net = net; file = path })
   pub unreadable : FailsWith (files path) file.Unreadable
 
+-- the line of this number asks so
+pub record NamesUnreadable (files : Files) (dash : Dash) (path : List ℕ) (number : ℕ) (line : List ℕ) : Type 0 where
+  pub request : LineRequest
+  pub made : requests_of_line dash number line ≡ Some (request ∷ [])
+  pub names : AsksUnreadable files path request.asked
+
 -- the fault is that of the first line at which something is amiss; out of memory states nothing
-abbrev pub IsScriptFault : Files → List ℕ → ScriptFault → Type 0
-IsScriptFault files text (script.BadLine number) = IsFirstAmiss files IsWrong (lines_of text) number
-IsScriptFault files text (script.Unreadable path) = (number : ℕ) × IsFirstAmiss files (NamesUnreadable files path) (lines_of text) number
-IsScriptFault files text script.Memory = ⊤
+abbrev pub IsScriptFault : Files → Dash → List ℕ → ScriptFault → Type 0
+IsScriptFault files dash text (script.BadLine number) = IsFirstAmiss files dash (IsWrong dash) (lines_of text) number
+IsScriptFault files dash text (script.Unreadable path) = (number : ℕ) × IsFirstAmiss files dash (NamesUnreadable files dash path) (lines_of text) number
+IsScriptFault files dash text script.Memory = ⊤
 
--- the line is right, and these are its commands, one or none
-pub record AreCommandsOfLine (files : Files) (line : List ℕ) (commands : List (List ℕ × Command)) : Type 0 where
-  pub requests : List (List ℕ × Asked)
-  pub asked : requests_of_line line ≡ Some requests
-  pub filled : AreFilled files requests commands
+-- the line of this number is right, and these are its arrivals, one or none
+pub record AreArrivalsOfLine (files : Files) (dash : Dash) (number : ℕ) (line : List ℕ) (arrivals : List Arrival) : Type 0 where
+  pub requests : List LineRequest
+  pub asked : requests_of_line dash number line ≡ Some requests
+  pub arrived : HaveArrived files requests arrivals
 
--- the command of what is asked for, or the file that can't be read; out of memory states nothing
-abbrev pub Fills : Files → Asked → Result Command LineFault → Type 0
-Fills files a (Ok command) = IsFilled files a command
-Fills files a (Err why.Wrong) = ⊥
-Fills files a (Err (why.Unreadable path)) =
-    (net : List ℕ) × (a ≡ asked.Import (record { net = net; file = path })) × FailsWith (files path) file.Unreadable
-Fills files a (Err why.Memory) = ⊤
+-- the request for what a text asks for, or the file that can't be read; out of memory states nothing
+abbrev pub Fills : Files → List ℕ → Asked → Result Request LineFault → Type 0
+Fills files text a (Ok request) = IsRequestFor files text a request
+Fills files text a (Err why.Wrong) = ⊥
+Fills files text a (Err (why.Unreadable path)) = AsksUnreadable files path a
+Fills files text a (Err why.Memory) = ⊤
 
--- why a line has no command
-abbrev pub IsLineFault : Files → List ℕ → LineFault → Type 0
-IsLineFault files line why.Wrong = IsWrong line
-IsLineFault files line (why.Unreadable path) = NamesUnreadable files path line
-IsLineFault files line why.Memory = ⊤
+-- why a line has no arrival
+abbrev pub IsLineFault : Files → Dash → ℕ → List ℕ → LineFault → Type 0
+IsLineFault files dash number line why.Wrong = IsWrong dash number line
+IsLineFault files dash number line (why.Unreadable path) = NamesUnreadable files dash path number line
+IsLineFault files dash number line why.Memory = ⊤
 
--- the commands of a line were added, or it has none
-abbrev pub AddsCommands : Files → List ℕ → List (List ℕ × Command) → List (List ℕ × Command) → Result (Unit {0}) LineFault → Type 0
-AddsCommands files line before after (Ok u) =
-    (here : List (List ℕ × Command)) × AreCommandsOfLine files line here × (after ≡ before ++ here)
-AddsCommands files line before after (Err fault) = IsLineFault files line fault
+-- the arrivals of a line were added, or it has none
+abbrev pub AddsArrivals : Files → Dash → ℕ → List ℕ → List Arrival → List Arrival → Result (Unit {0}) LineFault → Type 0
+AddsArrivals files dash number line before after (Ok u) =
+    (here : List Arrival) × AreArrivalsOfLine files dash number line here × (after ≡ before ++ here)
+AddsArrivals files dash number line before after (Err fault) = IsLineFault files dash number line fault
 
--- why words can't be read is why their line has no command
+-- why words can't be read is why their line has no arrival
 abbrev pub line_fault : Unread → LineFault
 line_fault unread.Wrong = why.Wrong
 line_fault unread.Memory = why.Memory

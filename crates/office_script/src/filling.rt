@@ -1,14 +1,19 @@
-//! The command of a line: what it asks for, with the bytes of the file that it names.
-ghost use Rattle.office_script.specs.Script.{AddsCommands, Fills};
+//! The arrival of a line: what it asks for, with the bytes of the file that it names.
+ghost use Rattle.std.specs.Prelude.{◌≡◌, ◌++◌, ◌∷◌, Err, IfErr, IfOk};
+ghost use Rattle.office_types.specs.declared.command.Task.TheVariants as task;
+ghost use Rattle.office_script.specs.Files.{IsArrivalOf};
+ghost use Rattle.office_script.specs.Script.{AddsArrivals, Fills};
 
 use crate::files::{FileFault, FileSource};
+use crate::keys::Dash;
 use crate::lines::says_nothing;
-use crate::requests::request_of;
+use crate::requests::{LineRequest, request_of};
+use catalogue::Items;
 use office_fields::{Asked, FileImport, FilePath, Unread};
-use office_types::{Command, Team};
-use std::alloc::{AllocFailed, Global};
+use office_history::{Arrival, Request};
+use std::alloc::{AllocError, AllocFailed, Global};
 
-/// Why a line has no command.
+/// Why a line has no arrival.
 #[derive(Drop)]
 pub enum LineFault {
     /// The line is wrong.
@@ -33,6 +38,17 @@ impl From<Unread> for LineFault {
     }
 }
 
+impl From<AllocError> for LineFault {
+    ghost use Rattle.std.specs.Prelude.{◌≡◌};
+    ghost use Rattle.office_script.specs.declared.filling.LineFault.TheVariants.{Memory};
+
+    ghost from_gives = { λ _ e. e ≡ Memory };
+
+    fn from(_error: AllocError) -> LineFault {
+        LineFault::Memory
+    }
+}
+
 impl<T: Drop> From<AllocFailed<T>> for LineFault {
     ghost use Rattle.std.specs.Prelude.{◌≡◌};
     ghost use Rattle.office_script.specs.declared.filling.LineFault.TheVariants.{Memory};
@@ -44,47 +60,103 @@ impl<T: Drop> From<AllocFailed<T>> for LineFault {
     }
 }
 
-/// The import with the bytes of its file.
+/// The content of an import: the text that asks for it, a line feed and the bytes of its file.
+fn import_content(text: Items<u8>, bytes: &[u8]) -> Result<Vec<u8>, AllocError>
+    ensures { IfOk result (λ content. content.items ≡ text ++ (10 ∷ bytes.now)) }
+{
+    let mut content = text.into_vec();
+    content.push(b'\n')?;
+    content.extend_from_slice(bytes)?;
+    Ok(content)
+}
+
+/// The request of an import, with the bytes of its file.
+fn import_request(
+    text: Items<u8>,
+    import: FileImport,
+    bytes: Vec<u8>,
+) -> Result<Request, AllocError>
+    ensures content { IfOk result (λ request. request.content.items ≡ text ++ (10 ∷ bytes.items)) }
+    ensures command { IfOk result (λ request. request.command ≡ record { net = import.net; task = task.Import bytes.items }) }
+{
+    let content = import_content(text, &bytes)?;
+    let command = import.with_bytes(bytes);
+    Ok(Request { content, command })
+}
+
+/// The request of an import, whose file is read.
 fn read_import<F: FileSource>(
     alloc: Global,
+    text: Items<u8>,
     import: FileImport,
     files: &F,
-) -> Result<Command, LineFault>
-    ensures { Fills (F.held files.now) (Asked.Import import) result }
+) -> Result<Request, LineFault>
+    ensures { Fills (F.held files.now) text (Asked.Import import) result }
 {
     match files.read(alloc, import.file.as_str()) {
-        Ok(bytes) => Ok(import.with_bytes(bytes)),
+        Ok(bytes) => Ok(import_request(text, import, bytes)?),
         Err(FileFault::Unreadable) => Err(LineFault::Unreadable(import.into_path())),
         Err(FileFault::Memory) => Err(LineFault::Memory),
     }
 }
 
-/// What is asked for, with the bytes of its file.
-fn filled<F: FileSource>(alloc: Global, asked: Asked, files: &F) -> Result<Command, LineFault>
-    ensures { Fills (F.held files.now) asked result }
+/// The request for what the text asks for, with the bytes of its file.
+fn filled<F: FileSource>(
+    alloc: Global,
+    text: Items<u8>,
+    asked: Asked,
+    files: &F,
+) -> Result<Request, LineFault>
+    ensures { Fills (F.held files.now) text asked result }
 {
     match asked {
-        Asked::Command(command) => Ok(command),
-        Asked::Import(import) => read_import(alloc, import, files),
+        Asked::Command(command) => {
+            let content = text.into_vec();
+            Ok(Request { content, command })
+        }
+        Asked::Import(import) => read_import(alloc, text, import, files),
     }
 }
 
-/// Adds the command of a line, if it asks for anything.
-pub(crate) fn add_commands<F: FileSource>(
+/// The arrival of what a line asks for.
+fn arrival_of<F: FileSource>(
     alloc: Global,
+    line: LineRequest,
+    files: &F,
+) -> Result<Arrival, LineFault>
+    ensures ok { IfOk result (IsArrivalOf (F.held files.now) line) }
+    ensures fault { IfErr result (λ fault. Fills (F.held files.now) line.text line.asked (Err fault)) }
+{
+    let LineRequest {
+        team,
+        key,
+        text,
+        asked,
+    } = line;
+    match filled(alloc, text, asked, files) {
+        Ok(request) => Ok(Arrival { team, key, request }),
+        Err(fault) => Err(fault),
+    }
+}
+
+/// Adds the arrival of the line of this number, from 1, if it asks for anything.
+pub(crate) fn add_arrivals<F: FileSource>(
+    alloc: Global,
+    dash: Dash,
+    number: usize,
     line: &[u8],
     files: &F,
-    commands: &mut Vec<(Team, Command)>,
+    arrivals: &mut Vec<Arrival>,
 ) -> Result<(), LineFault>
-    ensures { AddsCommands (F.held files.now) line.now commands.old.items commands.new.items result }
+    ensures { AddsArrivals (F.held files.now) dash number line.now arrivals.old.items arrivals.new.items result }
 {
     if says_nothing(line) {
         return Ok(());
     }
-    let (team, asked) = request_of(alloc, line)?;
-    match filled(alloc, asked, files) {
-        Ok(command) => {
-            commands.push((team, command))?;
+    let request = request_of(alloc, dash, number, line)?;
+    match arrival_of(alloc, request, files) {
+        Ok(arrival) => {
+            arrivals.push(arrival)?;
             Ok(())
         }
         Err(fault) => Err(fault),

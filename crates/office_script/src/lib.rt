@@ -1,21 +1,22 @@
 //! Scripts: the requests to the office that the lines of a text make.
 //!
 //! A script is a sequence of bytes. Its lines are what is between line feeds (`lines`). A line that is empty or begins
-//! with `#` asks for nothing. Any other line consists of words with exactly one space between them (`words`): `-`, the
+//! with `#` asks for nothing. Any other line consists of words with exactly one space between them (`words`): a key, the
 //! team, the command and its fields `name=value`, where in a value `%` and two hexadecimal digits stand for a byte
-//! (`escapes`, `fields`). What the fields give is the matter of `office_fields`. An import names a file, which is read
-//! from a [`FileSource`] (`files`, `filling`). [`requests_of`] gives each line's team and command, or what is amiss at
-//! the first line at which something is.
+//! (`escapes`, `fields`). As a key `-` stands for the number of its line, or is wrong ([`Dash`], `keys`). What the fields give
+//! is the matter of `office_fields`. An import names a file, which is read from a [`FileSource`] (`files`, `filling`).
+//! [`arrivals_of`] gives each line's arrival, with its content, or what is amiss at the first line at which something is.
 //!
-//! The grammar is in `specs/`: `Lines.antt`, `Words.antt`, `Escapes.antt` and `Fields.antt` define the parts of a text,
-//! `Requests.antt` the request that a line makes, `Files.antt` what reading a file may give, and `Script.antt` what a
-//! whole script asks for.
+//! The grammar is in `specs/`: `Lines.antt`, `Words.antt`, `Escapes.antt`, `Keys.antt` and `Fields.antt` define the parts of
+//! a text, `Requests.antt` the request that a line makes, `Files.antt` what reading a file may give and the arrival of a
+//! request, and `Script.antt` what a whole script asks for.
 #![tactic(auto)]
 
 mod escapes;
 mod fields;
 mod files;
 mod filling;
+mod keys;
 mod lines;
 mod requests;
 mod script;
@@ -24,6 +25,7 @@ mod words;
 pub use escapes::unescape;
 pub use fields::read_fields;
 pub use files::{FileFault, FileSource};
+pub use keys::Dash;
 pub use lines::{FirstLine, first_line, says_nothing};
-pub use script::{ScriptFault, requests_of};
+pub use script::{ScriptFault, arrivals_of};
 pub use words::{FirstWord, first_word};

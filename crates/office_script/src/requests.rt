@@ -1,35 +1,55 @@
 //! The request of a line: its key, its team, and what it asks for.
-ghost use Rattle.std.specs.Prelude.{◌≡◌, ◌∷◌, None, MatchOption};
+ghost use Rattle.std.specs.Prelude.{◌≡◌, ◌∷◌, ℕ, IfOk, IfSome, None, MatchOption};
 ghost use Rattle.office_fields.specs.Kind.{kind_of_word};
 ghost use Rattle.office_fields.specs.Reading.{Reads};
 ghost use Rattle.office_script.specs.Words.{words_of, words_after};
 ghost use Rattle.office_script.specs.Requests.{asked_by, request_of_words, request_of};
 
 use crate::fields::read_fields;
+use crate::keys::{Dash, key_of};
 use crate::words::first_word;
+use catalogue::Items;
 use office_fields::{Asked, CommandKind, Unread, asked_of, team_of};
+use office_history::Key;
 use office_types::Team;
-use std::alloc::Global;
+use std::alloc::{AllocError, Global};
 
-/// The first three words of a line, and what follows the third.
+/// What a line asks for.
+#[derive(Drop)]
+pub struct LineRequest {
+    /// The team that asks.
+    pub team: Team,
+    /// The key of the request.
+    pub key: Key,
+    /// The words after the team, as they are in the line.
+    pub text: Items<u8>,
+    /// What they ask for.
+    pub asked: Asked,
+}
+
+/// The parts of a line: its first two words, and what follows them; of this the first word, and what follows that.
 #[derive(Clone, Copy)]
 struct LineParts<'a> {
     key: &'a [u8],
     team: &'a [u8],
+    text: &'a [u8],
     command: &'a [u8],
     rest: Option<&'a [u8]>,
 }
 
 fn line_parts(line: &[u8]) -> Option<LineParts<'_>>
-    ensures { MatchOption result (request_of_words (words_of line.now) ≡ None)
-        (λ p. words_of line.now ≡ p.key.now ∷ p.team.now ∷ p.command.now ∷ words_after p.rest) }
+    ensures words { MatchOption result ((dash : Dash) → (number : ℕ) → request_of_words dash number (words_of line.now) ≡ None)
+        (λ p. words_of line.now ≡ p.key.now ∷ p.team.now ∷ words_of p.text.now) }
+    ensures text { IfSome result (λ p. words_of p.text.now ≡ p.command.now ∷ words_after p.rest) }
 {
     let key = first_word(line);
     let team = first_word(key.rest?);
-    let command = first_word(team.rest?);
+    let text = team.rest?;
+    let command = first_word(text);
     Some(LineParts {
         key: key.word,
         team: team.word,
+        text,
         command: command.word,
         rest: command.rest,
     })
@@ -53,23 +73,44 @@ fn asked_of_words(alloc: Global, word: &[u8], rest: Option<&[u8]>) -> Result<Ask
     }
 }
 
-fn request_of_parts(alloc: Global, parts: &LineParts<'_>) -> Result<(Team, Asked), Unread>
-    ensures { Reads (request_of_words (parts.now.key.now ∷ parts.now.team.now ∷ parts.now.command.now ∷ words_after parts.now.rest)) result }
+fn copy_of(alloc: Global, text: &[u8]) -> Result<Items<u8>, AllocError>
+    ensures { IfOk result (λ copy. copy ≡ text.now) }
 {
-    if parts.key != b"-".as_slice() {
-        return Err(Unread::Wrong);
-    }
-    let team = team_of(alloc, parts.team)?;
-    let asked = asked_of_words(alloc, parts.command, parts.rest)?;
-    Ok((team, asked))
+    Ok(Items::from_vec(Vec::from_slice(alloc, text)?))
 }
 
-/// The request that a line makes.
-pub(crate) fn request_of(alloc: Global, line: &[u8]) -> Result<(Team, Asked), Unread>
-    ensures { Reads (request_of line.now) result }
+fn request_of_parts(
+    alloc: Global,
+    dash: Dash,
+    number: usize,
+    parts: &LineParts<'_>,
+) -> Result<LineRequest, Unread>
+    requires { words_of parts.now.text.now ≡ parts.now.command.now ∷ words_after parts.now.rest }
+    ensures { Reads (request_of_words dash number (parts.now.key.now ∷ parts.now.team.now ∷ words_of parts.now.text.now)) result }
+{
+    let key = key_of(alloc, dash, number, parts.key)?;
+    let team = team_of(alloc, parts.team)?;
+    let asked = asked_of_words(alloc, parts.command, parts.rest)?;
+    let text = copy_of(alloc, parts.text)?;
+    Ok(LineRequest {
+        team,
+        key,
+        text,
+        asked,
+    })
+}
+
+/// The request that the line of this number makes.
+pub(crate) fn request_of(
+    alloc: Global,
+    dash: Dash,
+    number: usize,
+    line: &[u8],
+) -> Result<LineRequest, Unread>
+    ensures { Reads (request_of dash number line.now) result }
 {
     match line_parts(line) {
-        Some(parts) => request_of_parts(alloc, &parts),
+        Some(parts) => request_of_parts(alloc, dash, number, &parts),
         None => Err(Unread::Wrong),
     }
 }

@@ -1,13 +1,14 @@
 //! Scripts: what their lines ask for.
 ghost use Rattle.std.specs.Prelude.{IfOk, IfErr};
 ghost use Rattle.office_script.specs.Lines.{lines_of};
-ghost use Rattle.office_script.specs.Script.{AreCommandsOf, IsScriptFault};
+ghost use Rattle.office_script.specs.Script.{AreArrivalsOf, IsScriptFault};
 
 use crate::files::FileSource;
-use crate::filling::{LineFault, add_commands};
+use crate::filling::{LineFault, add_arrivals};
+use crate::keys::Dash;
 use crate::lines::first_line;
 use office_fields::FilePath;
-use office_types::{Command, Team};
+use office_history::Arrival;
 use std::alloc::Global;
 
 /// Why a script can't be read: what is amiss at the first line at which something is.
@@ -21,27 +22,29 @@ pub enum ScriptFault {
     Memory,
 }
 
-/// The requests of a script's lines, in order: each line's team and command, an import with the bytes of its file.
+/// The arrivals of a script's lines, in order: each line's team, key and request, an import with the bytes of its file.
 ///
-/// An empty line and one that begins with `#` ask for nothing. Any other is `- team command field=value ..` with one
-/// space between words: `-` is the only key, and the command is that of its fields
-/// ([`asked_of`](office_fields::asked_of)). The lines are read one after the other, each with the file that it names, up
-/// to the first that is wrong or whose file can't be read: that is the fault, or else out of memory. A line whose fields
-/// are wrong is wrong, whatever file it names.
-pub fn requests_of<F: FileSource>(
+/// An empty line and one that begins with `#` ask for nothing. Any other is `key team command field=value ..` with one
+/// space between words: `dash` says what `-` means as a key, any other key is a [`Key`](office_history::Key), and the
+/// command is that of its fields ([`asked_of`](office_fields::asked_of)). The content of a request is the line after its
+/// team, as it is, and for an import a line feed and the file's bytes after it. The lines are read one after the other, each
+/// with the file that it names, up to the first that is wrong or whose file can't be read: that is the fault, or else out
+/// of memory. A line whose fields are wrong is wrong, whatever file it names.
+pub fn arrivals_of<F: FileSource>(
     alloc: Global,
     text: &[u8],
+    dash: Dash,
     files: &F,
-) -> Result<Vec<(Team, Command)>, ScriptFault>
-    ensures asked { IfOk result (λ requests. AreCommandsOf (F.held files.now) (lines_of text.now) requests.items) }
-    ensures fault { IfErr result (IsScriptFault (F.held files.now) text.now) }
+) -> Result<Vec<Arrival>, ScriptFault>
+    ensures asked { IfOk result (λ arrivals. AreArrivalsOf (F.held files.now) dash (lines_of text.now) arrivals.items) }
+    ensures fault { IfErr result (IsScriptFault (F.held files.now) dash text.now) }
 {
-    let mut requests = Vec::new(alloc);
+    let mut arrivals = Vec::new(alloc);
     let mut rest = text;
     let mut number = 0usize;
     while let Some(first) = first_line(rest) {
         number += 1;
-        match add_commands(alloc, first.line, files, &mut requests) {
+        match add_arrivals(alloc, dash, number, first.line, files, &mut arrivals) {
             Ok(()) => {}
             Err(LineFault::Wrong) => return Err(ScriptFault::BadLine(number)),
             Err(LineFault::Unreadable(path)) => return Err(ScriptFault::Unreadable(path)),
@@ -49,5 +52,5 @@ pub fn requests_of<F: FileSource>(
         }
         rest = first.rest;
     }
-    Ok(requests)
+    Ok(arrivals)
 }

@@ -1,6 +1,7 @@
 //! A file that is cut at each of its bytes.
 use crate::dbc_files::FILE;
-use canoffice_cli::{FileFault, FileSource, Status, perform};
+use crate::row::run_on;
+use canoffice_cli::{FileFault, FileSource, MemoryDatabase, Status};
 use std::alloc::Global;
 
 /// Files of which each has these bytes. Contracts see nothing of them.
@@ -25,11 +26,10 @@ impl FileSource for Cut<'_> {
 /// Whether a check of the bytes ends with a verdict or a fault. That the offset of a fault is inside them or at their end is
 /// proved.
 fn is_answered(alloc: Global, command: &str, cut: Cut) -> bool {
-    let mut output = Vec::new(alloc);
-    let mut errors = Vec::new(alloc);
     let words = ["canoffice", command, "file"];
-    let status = perform(alloc, &words, &cut, &mut output, &mut errors);
-    errors.is_empty() && (status == Status::Success || status == Status::FaultFound)
+    let printed = run_on(alloc, &words, &cut, &mut MemoryDatabase { conn: None });
+    printed.errors.is_empty()
+        && (printed.status == Status::Success || printed.status == Status::FaultFound)
 }
 
 #[test]

@@ -1,5 +1,6 @@
 //! Writers that fail, and memory that runs out.
-use canoffice_cli::{FileFault, FileSource, Report, Status, deliver, perform};
+use crate::row::run_on;
+use canoffice_cli::{FileFault, FileSource, MemoryDatabase, Report, Status, deliver};
 use std::alloc::{AllocError, Global};
 use std::io::{self, ErrorKind, Write};
 
@@ -126,11 +127,16 @@ impl FileSource for Exhausted {
 
 /// Whether a run of the command reports that it ran out of memory.
 fn is_lost(alloc: Global, command: &str) -> bool {
-    let mut output = Vec::new(alloc);
-    let mut errors = Vec::new(alloc);
     let words = ["canoffice", command, "file"];
-    let status = perform(alloc, &words, &Exhausted, &mut output, &mut errors);
-    output.is_empty() && errors.as_slice() == b"lost 71\n".as_slice() && status == Status::Failed
+    let printed = run_on(
+        alloc,
+        &words,
+        &Exhausted,
+        &mut MemoryDatabase { conn: None },
+    );
+    printed.output.is_empty()
+        && printed.errors.as_slice() == b"lost 71\n".as_slice()
+        && printed.status == Status::Failed
 }
 
 #[test]

@@ -1,5 +1,7 @@
 //! Runs of the program, as rows of a table.
-use canoffice_cli::{ListedFiles, NamedFile, Status, perform};
+use canoffice_cli::{
+    FileSource, ListedFiles, MemoryDatabase, NamedFile, Progress, Status, perform,
+};
 use std::alloc::Global;
 
 /// A run, and all that it prints.
@@ -14,15 +16,70 @@ pub(crate) struct Row {
     pub(crate) status: Status,
 }
 
+/// What a run printed, and how it ended.
+pub(crate) struct Printed {
+    pub(crate) output: Vec<u8>,
+    pub(crate) errors: Vec<u8>,
+    pub(crate) status: Status,
+}
+
+/// Runs the program on the words, the files and the database, without a terminal.
+pub(crate) fn run_on<F: FileSource>(
+    alloc: Global,
+    words: &[&str],
+    files: &F,
+    database: &mut MemoryDatabase,
+) -> Printed {
+    let mut output = Vec::new(alloc);
+    let mut errors = Vec::new(alloc);
+    let mut nowhere: Progress<Vec<u8>> = Progress { to: None };
+    let status = perform(
+        alloc,
+        words,
+        files,
+        database,
+        &mut output,
+        &mut errors,
+        &mut nowhere,
+    );
+    Printed {
+        output,
+        errors,
+        status,
+    }
+}
+
+/// Whether a run on the words, the files and the database prints this, and nothing else.
+pub(crate) fn prints(
+    alloc: Global,
+    words: &[&str],
+    files: &[NamedFile<'_>],
+    database: &mut MemoryDatabase,
+    wanted: (&[u8], &[u8], Status),
+) -> bool {
+    let printed = run_on(alloc, words, &ListedFiles { files }, database);
+    printed.output.as_slice() == wanted.0
+        && printed.errors.as_slice() == wanted.1
+        && printed.status == wanted.2
+}
+
 /// Whether a run on the row's words and file prints what the row has, and nothing else.
 pub(crate) fn is_printed(alloc: Global, row: &Row) -> bool {
     let files = [NamedFile {
         path: "file",
         bytes: row.file,
     }];
-    let listed = ListedFiles { files: &files };
-    let mut output = Vec::new(alloc);
-    let mut errors = Vec::new(alloc);
-    let status = perform(alloc, row.words, &listed, &mut output, &mut errors);
-    output.as_slice() == row.output && errors.as_slice() == row.errors && status == row.status
+    let mut none = MemoryDatabase { conn: None };
+    let printed = (row.output, row.errors, row.status);
+    prints(alloc, row.words, &files, &mut none, printed)
+}
+
+impl Drop for Printed {
+    fn drop(self) {
+        let Printed {
+            output: _output,
+            errors: _errors,
+            status: _status,
+        } = self;
+    }
 }

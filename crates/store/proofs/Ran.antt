@@ -15,7 +15,8 @@ use Rattle.store.specs.declared.lost.Lost.TheVariants.{Memory, NewerProfile, Sto
 use Rattle.store.specs.Holding.{Holding, Keeps, Leaves}
 use Rattle.store.specs.Office.{StoredOffice}
 use Rattle.store.specs.Headline.{HasRun}
-use Rattle.store.specs.Running.{KeepsWithOne, answered_of, lost_of, told}
+use Rattle.office_history.specs.Answering.{told}
+use Rattle.store.specs.Running.{KeepsWithOne, answered_of, lost_of}
 
 -- ---- one more arrival
 

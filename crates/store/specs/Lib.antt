@@ -3,7 +3,6 @@ pub mod Lost
 pub mod Holds
 pub mod Holding
 pub mod Opening
-pub mod Arriving
 pub mod Running
 pub mod Headline
 pub mod Looking

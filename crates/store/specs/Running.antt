@@ -5,11 +5,8 @@ use Rattle.office_history.specs.declared.arrival.Answer.{Answer}
 use Rattle.office_history.specs.declared.arrival.Arrival.{Arrival}
 use Rattle.office_history.specs.History.{Answered}
 use Rattle.store.specs.declared.lost.Lost.{Lost}
-use Rattle.store.specs.Arriving.{answered}
+use Rattle.office_history.specs.Answering.{told}
 use Rattle.store.specs.Holding.{Keeps}
-
-abbrev pub told : Arrival → Answer → Answered
-told a answer = answered a.team a.key a.request answer
 
 -- the arrivals that were answered, in order, with their answers
 abbrev pub answered_of : List Arrival → List (Result Answer Lost) → List Answered

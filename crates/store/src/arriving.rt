@@ -6,7 +6,7 @@ ghost use Rattle.sqlite_trees.specs.View.{doubt};
 ghost use Rattle.office_tables.specs.Tables.{IsOffice, tables_of};
 ghost use Rattle.office_history.specs.declared.arrival.Answer.{Answer as Told};
 ghost use Rattle.office_history.specs.History.{Answered, first_of};
-ghost use Rattle.store.specs.Arriving.{answered};
+ghost use Rattle.office_history.specs.Answering.{answered};
 ghost use Rattle.store.specs.Holding.{Holding, Keeps, Leaves};
 ghost use Rattle.store.specs.Holds.{Holds};
 

@@ -11,7 +11,7 @@
 //! says what then holds of each network.
 //!
 //! The other definitions are in `specs/`: `Holding.antt` (connections, and what a crash leaves, that hold a history),
-//! `Opening.antt`, `Arriving.antt`, `Running.antt`, `Looking.antt` and `Laws.antt` by the names of the modules,
+//! `Opening.antt`, `Running.antt`, `Looking.antt` and `Laws.antt` by the names of the modules,
 //! `Office.antt` (an office as contracts see it) and `Lost.antt`.
 #![tactic(auto)]
 
@@ -27,5 +27,6 @@ mod stored_office;
 
 pub use laws::held_networks_are_clear;
 pub use lost::Lost;
+pub use office_history::{Answer, Arrival, Key, Request};
 pub use question::Question;
 pub use stored_office::Office;

@@ -37,7 +37,7 @@ fn answers_each<S: Alter>(
             return Ok(false);
         }
     }
-    is_seen(rt, office, expected)
+    Ok(is_seen(rt, office, expected)? && !office.is_failed())
 }
 
 /// Whether `arrive` answers the list as expected in memory.

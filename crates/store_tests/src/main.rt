@@ -1,30 +1,35 @@
 //! Answers lists of arrivals by the office in tables, and compares each answer with that of a legal history, which is
 //! made of an office in memory and of what came first under each key.
 //!
-//! The words are folders of cases, whose scripts are the lists; each line arrives twice, under a key of its own. One
-//! more list is made by a generator. Each list goes to three offices: by `arrive` in memory and in a file, and by `run`
-//! in memory. After it, every network's live sheet and every release are looked at.
+//! The words are folders of cases, whose scripts are the lists; each line arrives twice, under a key of its own. Each list
+//! goes to three offices: by `arrive` in memory and in a file, and by `run` in memory. After it, every network's live sheet
+//! and every release are looked at. A line is printed for each list: how many arrivals there were, and whether all of them
+//! were answered so.
 //!
-//! It prints a line for each list: how many arrivals there were, and whether all of them were answered so. With the
-//! words `measure DATABASE FOLDER` it tells instead how long the folder's script takes on a database file, or in memory
-//! for `-`.
+//! Without words it tries each text of `office_rows` on real tables (`rows`), tables of something else, and a list that a
+//! generator makes. The words `rows DATABASE` ask for the first alone. With the words `measure DATABASE FOLDER` it tells how
+//! long the folder's script takes on a database file, or in memory for `-`.
 #![tactic(auto)]
 
 mod comparing;
 mod expecting;
 mod folder;
+mod foreign;
 mod generating;
 mod looking;
 mod measuring;
 mod reading;
+mod rows;
 
 use comparing::{is_answered, is_answered_in_file, is_run};
 use expecting::Expected;
 use folder::Folder;
+use foreign::try_foreign;
 use generating::generated_text;
 use measuring::measure;
 use office_history::Arrival;
 use reading::{arrivals_of, arrivals_of_case};
+use rows::try_rows;
 use std::{env, io};
 
 /// Whether every way of answering the list gives what is expected.
@@ -47,13 +52,8 @@ fn try_list(rt: &HostRuntime, name: &str, arrivals: &[Arrival]) -> io::Result<()
     }
 }
 
-/// Tries each folder's script, each line twice, and then the generated list, whose file is in `office_import_twice`.
-fn try_lists(rt: &HostRuntime, folders: &[String]) -> io::Result<()> {
-    for name in folders {
-        let folder = Folder { rt, name };
-        let path = folder.path_of(rt.alloc(), "store.db")?;
-        try_list(rt, path.as_str(), &arrivals_of_case(&folder, 2)?)?;
-    }
+/// Tries the generated list, whose file is in the folder `office_import_twice`.
+fn try_generated(rt: &HostRuntime) -> io::Result<()> {
     let text = generated_text(rt.alloc(), 500)?;
     let folder = Folder {
         rt,
@@ -62,11 +62,27 @@ fn try_lists(rt: &HostRuntime, folders: &[String]) -> io::Result<()> {
     try_list(rt, "generated.db", &arrivals_of(&folder, &text, 1)?)
 }
 
+/// Tries each folder's script, each line twice.
+fn try_folders(rt: &HostRuntime, folders: &[String]) -> io::Result<()> {
+    for name in folders {
+        let folder = Folder { rt, name };
+        let path = folder.path_of(rt.alloc(), "store.db")?;
+        try_list(rt, path.as_str(), &arrivals_of_case(&folder, 2)?)?;
+    }
+    Ok(())
+}
+
 fn main(rt: HostRuntime) -> io::Result<()> {
     let words: Vec<String> = env::args(&rt)?.collect(rt.alloc())?;
     match words.as_slice() {
+        [_] => {
+            try_rows(&rt, "tables.db")?;
+            try_foreign(&rt)?;
+            try_generated(&rt)
+        }
+        [_, word, path] if word.as_str() == "rows" => try_rows(&rt, path),
         [_, word, path, folder] if word.as_str() == "measure" => measure(&rt, path, folder),
-        [_, folders @ ..] => try_lists(&rt, folders),
+        [_, folders @ ..] => try_folders(&rt, folders),
         [] => Ok(()),
     }
 }

@@ -1,9 +1,8 @@
 //! Scripts as lists of arrivals. A line is that of a script, but that its first word may be a key.
 use crate::folder::Folder;
 use catalogue::split_once;
-use office_history::{Arrival, Key, Request};
-use office_script::{first_line, requests_of, says_nothing};
-use office_types::{Command, Team};
+use office_history::{Arrival, Key};
+use office_script::{Dash, arrivals_of as arrivals_of_script, first_line, says_nothing};
 use std::alloc::{AllocError, Global};
 use std::fs;
 use std::io::{self, ErrorKind};
@@ -40,34 +39,29 @@ fn key_of(alloc: Global, word: &[u8], number: usize) -> io::Result<Key> {
     }
 }
 
-/// The one request of a line.
-fn request_of(folder: &Folder<'_>, words: &[u8]) -> io::Result<(Team, Command)> {
+/// The arrival of the words after a line's key.
+fn arrival_of_words(folder: &Folder<'_>, words: &[u8]) -> io::Result<Arrival> {
     let alloc = folder.rt.alloc();
     let mut line = Vec::from_slice(alloc, b"- ")?;
     line.extend_from_slice(words)?;
-    match requests_of(alloc, &line, folder) {
-        Ok(requests) => match requests.into_iter().next() {
-            Some(request) => Ok(request),
+    match arrivals_of_script(alloc, &line, Dash::LineNumber, folder) {
+        Ok(arrivals) => match arrivals.into_iter().next() {
+            Some(arrival) => Ok(arrival),
             None => Err(ErrorKind::InvalidData)?,
         },
         Err(_) => Err(ErrorKind::InvalidData)?,
     }
 }
 
-/// The arrival of a line; its content is what follows the key.
+/// The arrival of a line.
 fn arrival_of(folder: &Folder<'_>, line: &[u8], number: usize) -> io::Result<Arrival> {
     let Some((word, words)) = split_once(line, b' ') else {
         return Err(ErrorKind::InvalidData)?;
     };
-    let alloc = folder.rt.alloc();
-    let key = key_of(alloc, word, number)?;
-    let content = Vec::from_slice(alloc, words)?;
-    let (team, command) = request_of(folder, words)?;
-    Ok(Arrival {
-        team,
-        key,
-        request: Request { content, command },
-    })
+    let key = key_of(folder.rt.alloc(), word, number)?;
+    let mut arrival = arrival_of_words(folder, words)?;
+    arrival.key = key;
+    Ok(arrival)
 }
 
 /// Adds the arrival of a line as often as `times` says.

@@ -10,4 +10,5 @@ returns-clause-app c =
     let with_apply = one_more _ _ _ _ _ c.in_ok-with_apply.ensures c.in_ok-apply_command.ensures.local wanting c.in_ok-apply_command.ensures.app in
     let with_chart = one_more _ _ _ _ _ c.in_ok-with_chart.ensures c.in_ok-chart_command.ensures.local with_apply c.in_ok-chart_command.ensures.app in
     let with_check = one_more _ _ _ _ _ c.in_ok-with_check.ensures c.in_ok-check_command.ensures.local with_chart c.in_ok-check_command.ensures.app in
-    one_more _ _ _ _ _ c.in_ok-with_format.ensures c.in_ok-format_command.ensures.local with_check c.in_ok-format_command.ensures.app
+    let with_export = one_more _ _ _ _ _ c.in_ok-with_export.ensures c.in_ok-export_command.ensures.local with_check c.in_ok-export_command.ensures.app in
+    one_more _ _ _ _ _ c.in_ok-with_format.ensures c.in_ok-format_command.ensures.local with_export c.in_ok-format_command.ensures.app

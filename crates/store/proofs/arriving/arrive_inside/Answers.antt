@@ -3,7 +3,7 @@ use Rattle.sqlite.specs.Effect.{Database}
 use Rattle.sqlite.specs.Held.{state}
 use Rattle.office_tables.specs.Tables.{tables_of}
 use Rattle.office_history.specs.History.{answer_again, first_of}
-use Rattle.store.specs.Arriving.{answered}
+use Rattle.office_history.specs.Answering.{answered}
 use Rattle.store.specs.Holds.{Holds}
 use Rattle.store.proofs.Arrived.{again_holds, some_of}
 use Rattle.store.proofs.arriving.arrive_inside.Goals as goal

@@ -12,7 +12,7 @@ use Rattle.office_history.specs.declared.arrival.Answer.TheVariants as answer
 use Rattle.store_net.specs.Kept.{kept_row}
 use Rattle.store_rows.specs.Follows.{Follows}
 use Rattle.store_rows.specs.Rows.{IsBookIn}
-use Rattle.store.specs.Arriving.{answered}
+use Rattle.office_history.specs.Answering.{answered}
 use Rattle.store.proofs.Arrived.{AreFollowed, before_of, first_holds}
 use Rattle.store.proofs.arriving.first_arrival.Goals as goal
 

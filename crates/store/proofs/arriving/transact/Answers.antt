@@ -6,7 +6,7 @@ use Rattle.sqlite.specs.Tree.{Trees}
 use Rattle.sqlite.proofs.Callers.{survives_begin}
 use Rattle.office_tables.specs.Tables.{IsOffice}
 use Rattle.office_history.specs.declared.arrival.Answer.{Answer}
-use Rattle.store.specs.Arriving.{answered}
+use Rattle.office_history.specs.Answering.{answered}
 use Rattle.store.specs.Holding.{Keeps, Leaves}
 use Rattle.store.proofs.Left.{either_left, on_err}
 use Rattle.store.proofs.arriving.transact.Goals as goal

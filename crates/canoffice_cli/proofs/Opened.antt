@@ -1,0 +1,115 @@
+-- A database that was opened, used and closed.
+use Rattle.std.proofs.Common.{◌≡◌, ◌⊎◌, ◌≤◌, inl, inr, List, ℕ, [], ◌++◌, Option, Result, Ok, Err, refl, sym, ap, subst, ◌∙◌, arith, append-nil}
+use Rattle.std.specs.Prelude.{IfOk, IsSome, IsTrue, OnErr, OnOk}
+use Rattle.std.specs.Result.{result_map_both}
+use Rattle.sqlite.specs.State.{HasCleanDisk, State}
+use Rattle.sqlite_trees.specs.View.{doubt}
+use Rattle.office_types.specs.declared.state.Office.{Office}
+use Rattle.office_history.specs.History.{Answered, IsLegal}
+use Rattle.store.specs.declared.lost.Lost.{Lost}
+use Rattle.store.specs.declared.question.Question.{Question}
+use Rattle.store.specs.Holding.{Holding}
+use Rattle.store.specs.Looking.{IsShown}
+use Rattle.store.specs.Opening.{HasNone}
+use Rattle.canoffice_cli.specs.Answered.{InDatabase}
+use Rattle.canoffice_cli.specs.Databases.{AreKept, Begins, Databases, nothing_known}
+use Rattle.canoffice_cli.specs.Exported.{IsLookedUp}
+
+-- what is known stays known where nothing is done
+pub kept_same : (known : Databases) → AreKept known known
+kept_same known = record { holds = λ path h holds. holds; is_new = λ path new. new }
+
+pub ok_of : {A E : Type 0} (P : A → Type 0) (r : Result A E) (x : A) → r ≡ Ok x → IfOk r P → P x
+ok_of P r x is h = subst (λ q. IfOk q P) is h
+
+pub on_ok : {A E : Type 0} (X : Type 0) (r : Result A E) (x : A) → r ≡ Ok x → OnOk r X → X
+on_ok X r x is h = subst (λ q. OnOk q X) is h
+
+-- what holds of each value that a result may have
+pub if_ok : {A E : Type 0} (P : A → Type 0) (r : Result A E) → ((x : A) → r ≡ Ok x → P x) → IfOk r P
+if_ok P (Ok x) each = each x refl
+if_ok P (Err e) each = tt
+
+-- whatever the result
+pub either_way : {A E : Type 0} (X : Type 0) (r : Result A E) → OnOk r X → OnErr r X → X
+either_way X (Ok x) ok err = ok
+either_way X (Err e) ok err = err
+
+-- one of two that hold of what was answered
+pub held_or_none : {A E : Type 0} (P Q : A → Type 0) (r : Result A E) → IfOk r P → IfOk r (λ x. P x ⊎ Q x)
+held_or_none P Q (Ok x) h = inl h
+held_or_none P Q (Err e) h = tt
+
+-- nothing was answered, since the database was not opened
+pub none_told : (known : Databases) (path : List ℕ) (told : List Answered) (lost : Option Lost) → told ≡ [] → IsSome lost → InDatabase known known path told lost
+none_told known path told lost none some = record {
+  held = λ h holds sound. subst (known.holds path) (sym (ap (λ t. h ++ t) none ∙ append-nil h)) holds;
+  made = λ new sound. inr (some, none);
+}
+
+-- the connection as it was opened and as it was closed
+module _ (before after : Databases) (path : List ℕ) (begin end : State) (opened_held : HasCleanDisk begin → (h : List Answered) → before.holds path h → Holding h begin)
+    (opened_none : HasCleanDisk begin → before.is_new path → HasNone begin) (doubts : doubt begin.is_clean ≤ doubt end.is_clean)
+    (closed_sound : after.is_sound → HasCleanDisk end × IsTrue end.is_open) (closed_held : after.is_sound → (h : List Answered) → Holding h end → after.holds path h) where
+  early : after.is_sound → HasCleanDisk begin
+  early sound = let clean = (closed_sound sound).0 in omega (arith, doubts, clean)
+
+  -- the history that was held goes on
+  pub told_in : (told : List Answered) (lost : Option Lost) → (HasCleanDisk end → IsTrue end.is_open → (h : List Answered) → Holding h begin → Holding (h ++ told) end)
+      → (HasCleanDisk end → IsTrue end.is_open → (h : List Answered) → Begins h begin → Holding (h ++ told) end ⊎ (IsSome lost × (told ≡ []))) → InDatabase before after path told lost
+  told_in told lost held begun = record {
+    held = λ h holds sound. let s = closed_sound sound in closed_held sound (h ++ told) (held s.0 s.1 h (opened_held (early sound) h holds));
+    made = λ new sound. let s = closed_sound sound in elim (begun s.0 s.1 [] (inr (refl, opened_none (early sound) new))) [
+      | inl holding ↦ inl (closed_held sound told holding)
+      | inr none ↦ inr none
+    ];
+  }
+
+  -- nothing was shown, and what was held is
+  pub looked_lost : (question : Question) (lost : Lost) → (HasCleanDisk end → IsTrue end.is_open → (h : List Answered) → Holding h begin → Holding h end) → IsLookedUp before after path question (Err lost)
+  looked_lost question lost held = record {
+    of_held = λ h office holds legal sound. tt;
+    of_new = λ office new legal sound. tt;
+    held = λ h holds sound. let s = closed_sound sound in closed_held sound h (held s.0 s.1 h (opened_held (early sound) h holds));
+    made = λ new sound. tt;
+  }
+
+  -- this was shown
+  pub looked_up : (question : Question) (shown : Option (List ℕ)) → (HasCleanDisk end → (h : List Answered) (office : Office) → Begins h begin → IsLegal h office → IsShown office question shown)
+      → (HasCleanDisk end → (h : List Answered) → Begins h begin → Holding h end) → IsLookedUp before after path question (Ok shown)
+  looked_up question shown shows begun = record {
+    of_held = λ h office holds legal sound. shows (closed_sound sound).0 h office (inl (opened_held (early sound) h holds)) legal;
+    of_new = λ office new legal sound. shows (closed_sound sound).0 [] office (inr (refl, opened_none (early sound) new)) legal;
+    held = λ h holds sound. closed_held sound h (begun (closed_sound sound).0 h (inl (opened_held (early sound) h holds)));
+    made = λ new sound. closed_held sound [] (begun (closed_sound sound).0 [] (inr (refl, opened_none (early sound) new)));
+  }
+
+  -- this was shown, or the call was lost
+  pub looked : {A : Type 0} (text_of : A → Option (List ℕ)) (question : Question) (shown : Result A Lost)
+      → (HasCleanDisk end → (h : List Answered) (office : Office) → Begins h begin → IsLegal h office → IfOk shown (λ x. IsShown office question (text_of x)))
+      → (HasCleanDisk end → IsTrue end.is_open → (h : List Answered) → Holding h begin → Holding h end) → (HasCleanDisk end → (h : List Answered) → Begins h begin → OnOk shown (Holding h end))
+      → IsLookedUp before after path question (result_map_both text_of (λ lost. lost) shown)
+  looked text_of question (Ok x) shows held begun = looked_up question (text_of x) shows begun
+  looked text_of question (Err lost) shows held begun = looked_lost question lost held
+
+-- a database that was not opened
+pub not_opened : (known : Databases) (path : List ℕ) (question : Question) (lost : Lost) → IsLookedUp known known path question (Err lost)
+not_opened known path question lost = record {
+  of_held = λ h office holds legal sound. tt;
+  of_new = λ office new legal sound. tt;
+  held = λ h holds sound. holds;
+  made = λ new sound. tt;
+}
+
+-- databases of which nothing is known
+
+pub nothing_told : (path : List ℕ) (told : List Answered) (lost : Option Lost) → InDatabase nothing_known nothing_known path told lost
+nothing_told path told lost = record { held = λ h holds sound. absurd holds; made = λ new sound. absurd new }
+
+pub nothing_looked_up : (path : List ℕ) (question : Question) (shown : Result (Option (List ℕ)) Lost) → IsLookedUp nothing_known nothing_known path question shown
+nothing_looked_up path question shown = record {
+  of_held = λ h office holds legal sound. absurd holds;
+  of_new = λ office new legal sound. absurd new;
+  held = λ h holds sound. absurd holds;
+  made = λ new sound. absurd new;
+}

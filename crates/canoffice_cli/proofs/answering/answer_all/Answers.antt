@@ -1,0 +1,70 @@
+use Rattle.std.proofs.Common.{◌≡◌, ◌+◌, ◌<◌, ◌++◌, ◌∷◌, [], length, take, sym, ap, ◌∙◌, subst, arith, length-append}
+use Rattle.std.proofs.lemmas.List.{take_more}
+use Rattle.sqlite.specs.Held.{state}
+use Rattle.sqlite.specs.State.{HasCleanDisk}
+use Rattle.store.specs.Holding.{Holding}
+use Rattle.canoffice_cli.specs.Databases.{IsLegalHistory}
+use Rattle.canoffice_cli.proofs.Told.{held_is_legal, history_at_first, history_so_far, told_next}
+use Rattle.canoffice_cli.proofs.answering.answer_all.Goals as goal
+
+pub loop-arrival-init : goal.loop-arrival-init
+loop-arrival-init g c =
+    let old = state g.S.Store c.args.office.now.conn in
+    record {
+      within = omega arith;
+      len = c.in_ok-answers.ensures.len;
+      room = let room = c.in_ok-answers.ensures.capacity in omega (arith, room);
+      each = ap length c.in_ok-answers.ensures.items;
+      clean = omega arith;
+      held = λ clean h holding. subst (λ k. Holding k old) (history_at_first h (take 0 c.args.arrivals.now) c.in_ok-answers.answers.items c.in_ok-answers.ensures.items) holding;
+    }
+
+pub push_reserved-requires : goal.push_reserved-requires
+push_reserved-requires g c =
+    let len = c.loop-arrival.invariant.len in let room = c.loop-arrival.invariant.room in let within = c.loop-arrival-test.true in omega (arith, len, room, within)
+
+pub loop-arrival-preserved : goal.loop-arrival-preserved
+loop-arrival-preserved g c =
+    let i = c.loop-arrival.invariant in
+    let at = c.loop-arrival.arrival-index in
+    let arrivals = c.args.arrivals.now in
+    let item = c.arrival-item.result in
+    let items = c.loop-arrival.answers.items in
+    let mid = state g.S.Store c.loop-arrival.office.conn in
+    let now = state g.S.Store c.arrive.new.self.conn in
+    let arrive = c.in-Ok.ensures in
+    let within : at < length arrivals = c.loop-arrival-test.true in
+    let next : take (at + 1) arrivals ≡ take at arrivals ++ item ∷ [] = rw (take_more arrivals at item within, ← c.arrival-item.is) in
+    record {
+      within = omega (arith, within);
+      len = let len = i.len in let more = c.push_reserved.ensures.len in omega (arith, len, more);
+      room = let room = i.room in let same = c.push_reserved.ensures.capacity in omega (arith, room, same);
+      each = let each = i.each in let one = length-append items (c.in-Ok.answer ∷ []) in ap length c.push_reserved.ensures.items ∙ omega (arith, each, one);
+      clean = let early = i.clean in omega (arith, early, arrive.clean);
+      held = λ clean h holding.
+          let early : HasCleanDisk mid = omega (arith, arrive.clean, clean) in
+          told_next (λ k. Holding k now) h arrivals at items _ item c.in-Ok.answer within next i.each c.push_reserved.ensures.items (arrive.answered clean _ (i.held early h holding)).0;
+    }
+
+pub returns-in-Err-clause-held : goal.returns-in-Err-clause-held
+returns-in-Err-clause-held g c clean opened h holding =
+    let i = c.loop-arrival.invariant in
+    let arrive = c.in-Err.ensures in
+    let early : HasCleanDisk (state g.S.Store c.loop-arrival.office.conn) = omega (arith, arrive.clean, clean) in
+    subst (λ k. Holding k (state g.S.Store c.arrive.new.self.conn)) (history_so_far h c.args.arrivals.now _ _ i.each) (arrive.lost clean _ (i.held early h holding) opened)
+
+pub returns-in-Err-clause-legal : goal.returns-in-Err-clause-legal
+returns-in-Err-clause-legal g c clean h holding =
+    let i = c.loop-arrival.invariant in
+    let early : HasCleanDisk (state g.S.Store c.loop-arrival.office.conn) = omega (arith, c.in-Err.ensures.clean, clean) in
+    subst IsLegalHistory (history_so_far h c.args.arrivals.now _ _ i.each) (held_is_legal _ _ (i.held early h holding))
+
+pub returns-clause-held : goal.returns-clause-held
+returns-clause-held g c clean opened h holding =
+    let i = c.loop-arrival.invariant in
+    subst (λ k. Holding k (state g.S.Store c.loop-arrival.office.conn)) (history_so_far h c.args.arrivals.now _ _ i.each) (i.held clean h holding)
+
+pub returns-clause-legal : goal.returns-clause-legal
+returns-clause-legal g c clean h holding =
+    let i = c.loop-arrival.invariant in
+    subst IsLegalHistory (history_so_far h c.args.arrivals.now _ _ i.each) (held_is_legal _ _ (i.held clean h holding))

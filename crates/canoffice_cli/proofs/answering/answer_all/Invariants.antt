@@ -1,0 +1,23 @@
+use Rattle.std.proofs.Common.{◌≡◌, ◌≤◌, ◌++◌, List, length, take}
+use Rattle.std.specs.Vec.{vec_capacity, vec_len}
+use Rattle.sqlite.specs.Held.{state}
+use Rattle.sqlite.specs.State.{HasCleanDisk}
+use Rattle.sqlite_trees.specs.View.{doubt}
+use Rattle.office_history.specs.History.{Answered}
+use Rattle.store.specs.Holding.{Holding}
+use Rattle.canoffice_cli.specs.Answered.{answered_with}
+use Rattle.canoffice_cli.proofs.answering.answer_all.Given as goal
+
+-- the arrivals so far have answers, and the tables hold the history with them
+abbrev pub invariant-loop-arrival : goal.invariant-loop-arrival
+invariant-loop-arrival g l =
+    let old = state g.S.Store l.fn.office.conn in
+    let now = state g.S.Store l.office.conn in
+    record {
+      within : l.arrival-index ≤ length l.arrivals;
+      len : vec_len l.answers ≡ l.arrival-index;
+      room : length l.arrivals ≤ vec_capacity l.answers;
+      each : length l.answers.items ≡ l.arrival-index;
+      clean : doubt old.is_clean ≤ doubt now.is_clean;
+      held : HasCleanDisk now → (h : List Answered) → Holding h old → Holding (h ++ answered_with (take l.arrival-index l.arrivals) l.answers.items) now;
+    }

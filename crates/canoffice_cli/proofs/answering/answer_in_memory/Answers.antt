@@ -1,0 +1,47 @@
+use Rattle.std.proofs.Common.{◌≡◌, ◌+◌, ◌<◌, ◌++◌, ◌∷◌, [], length, take, ap, ◌∙◌, subst, arith, length-append}
+use Rattle.std.proofs.lemmas.List.{take_more}
+use Rattle.office_keyed.specs.Keyed.{Holds}
+use Rattle.canoffice_cli.specs.Databases.{IsLegalHistory}
+use Rattle.canoffice_cli.proofs.Told.{history_at_first, history_so_far, told_next}
+use Rattle.canoffice_cli.proofs.answering.answer_in_memory.Goals as goal
+
+pub loop-arrival-init : goal.loop-arrival-init
+loop-arrival-init g c = record {
+  within = omega arith;
+  len = c.in_ok-answers.ensures.len;
+  room = let room = c.in_ok-answers.ensures.capacity in omega (arith, room);
+  each = ap length c.in_ok-answers.ensures.items;
+  held = subst (λ k. Holds k c.new-office.result) (history_at_first [] (take 0 c.args.arrivals.now) c.in_ok-answers.answers.items c.in_ok-answers.ensures.items) c.new-office.ensures;
+}
+
+pub push_reserved-requires : goal.push_reserved-requires
+push_reserved-requires g c =
+    let len = c.loop-arrival.invariant.len in let room = c.loop-arrival.invariant.room in let within = c.loop-arrival-test.true in omega (arith, len, room, within)
+
+pub loop-arrival-preserved : goal.loop-arrival-preserved
+loop-arrival-preserved g c =
+    let i = c.loop-arrival.invariant in
+    let at = c.loop-arrival.arrival-index in
+    let arrivals = c.args.arrivals.now in
+    let item = c.arrival-item.result in
+    let items = c.loop-arrival.answers.items in
+    let now = c.arrive.new.self in
+    let within : at < length arrivals = c.loop-arrival-test.true in
+    let next : take (at + 1) arrivals ≡ take at arrivals ++ item ∷ [] = rw (take_more arrivals at item within, ← c.arrival-item.is) in
+    record {
+      within = omega (arith, within);
+      len = let len = i.len in let more = c.push_reserved.ensures.len in omega (arith, len, more);
+      room = let room = i.room in let same = c.push_reserved.ensures.capacity in omega (arith, room, same);
+      each = let each = i.each in let one = length-append items (c.in-Ok.answer ∷ []) in ap length c.push_reserved.ensures.items ∙ omega (arith, each, one);
+      held = told_next (λ k. Holds k now) [] arrivals at items _ item c.in-Ok.answer within next i.each c.push_reserved.ensures.items (c.in-Ok.ensures.held _ i.held);
+    }
+
+pub returns-in-Err-clause-goes_on : goal.returns-in-Err-clause-goes_on
+returns-in-Err-clause-goes_on g c =
+    let i = c.loop-arrival.invariant in
+    subst IsLegalHistory (history_so_far [] c.args.arrivals.now _ _ i.each) (c.loop-arrival.office.office, i.held.legal)
+
+pub returns-clause-goes_on : goal.returns-clause-goes_on
+returns-clause-goes_on g c =
+    let i = c.loop-arrival.invariant in
+    subst IsLegalHistory (history_so_far [] c.args.arrivals.now _ _ i.each) (c.loop-arrival.office.office, i.held.legal)

@@ -1,0 +1,32 @@
+use Rattle.std.proofs.Common.{◌≡◌, ◌≤◌, inl, sym, subst, arith}
+use Rattle.std.specs.Prelude.{OnOk}
+use Rattle.sqlite.specs.Held.{state}
+use Rattle.sqlite.specs.State.{HasCleanDisk}
+use Rattle.store.specs.Holding.{Holding}
+use Rattle.canoffice_cli.proofs.Opened.{either_way}
+use Rattle.canoffice_cli.proofs.exporting.look_on.Goals as goal
+
+pub returns-in-Ok-clause-shown : goal.returns-in-Ok-clause-shown
+returns-in-Ok-clause-shown g c clean h office begins legal =
+    let look = c.look-shown.ensures in
+    let same : c.close.result ≡ c.look-shown.new.self.conn = c.close.ensures.same in
+    let clean_now : HasCleanDisk (state g.S.Store c.look-shown.new.self.conn) = rw (← same) clean in
+    let early : HasCleanDisk (state g.S.Store c.in-Ok.office.conn) = omega (arith, look.clean, clean_now) in
+    look.shown clean_now h office (c.in-Ok.ensures.begun early h begins) legal
+
+pub returns-in-Ok-clause-held : goal.returns-in-Ok-clause-held
+returns-in-Ok-clause-held g c clean opened h holding =
+    let look = c.look-shown.ensures in
+    let same : c.close.result ≡ c.look-shown.new.self.conn = c.close.ensures.same in
+    let clean_now : HasCleanDisk (state g.S.Store c.look-shown.new.self.conn) = rw (← same) clean in
+    let early : HasCleanDisk (state g.S.Store c.in-Ok.office.conn) = omega (arith, look.clean, clean_now) in
+    let begun : Holding h (state g.S.Store c.in-Ok.office.conn) = c.in-Ok.ensures.begun early h (inl holding) in
+    rw same (either_way _ c.look-shown.result (look.held clean_now h begun) (look.lost clean_now h begun (rw (← same) opened)))
+
+pub returns-in-Ok-clause-begun : goal.returns-in-Ok-clause-begun
+returns-in-Ok-clause-begun g c clean h begins =
+    let look = c.look-shown.ensures in
+    let same : c.close.result ≡ c.look-shown.new.self.conn = c.close.ensures.same in
+    let clean_now : HasCleanDisk (state g.S.Store c.look-shown.new.self.conn) = rw (← same) clean in
+    let early : HasCleanDisk (state g.S.Store c.in-Ok.office.conn) = omega (arith, look.clean, clean_now) in
+    rw same (look.held clean_now h (c.in-Ok.ensures.begun early h begins))

@@ -1,0 +1,43 @@
+-- What is known of databases, by their paths, and of the history with which an office begins.
+use Rattle.std.specs.Prelude.{◌≡◌, ◌⊎◌, ℕ, List, [], Option, Some, None, ⊤}
+use Rattle.sqlite.specs.Held.{Held, state}
+use Rattle.sqlite.specs.State.{State}
+use Rattle.sqlite.specs.Steps.{over_memory}
+use Rattle.sqlite_trees.specs.declared.memory.MemStore.{MemStore}
+use Rattle.office_types.specs.declared.state.Office.{Office}
+use Rattle.office_history.specs.History.{Answered, IsLegal}
+use Rattle.store.specs.Holding.{Holding}
+use Rattle.store.specs.Opening.{HasNone}
+
+-- at one moment: the history that the tables of a path hold, that a path has no table, and that no disk has failed and
+-- nobody else has written
+pub record Databases : Type 1 where
+  pub holds : List ℕ → List Answered → Type 0
+  pub is_new : List ℕ → Type 0
+  pub is_sound : Type 0
+
+-- an office is opened with the history: the connection shows tables that hold it, or none, and then it is empty
+abbrev pub Begins : List Answered → State → Type 0
+Begins h s = Holding h s ⊎ ((h ≡ []) × HasNone s)
+
+-- what was known is known still
+pub record AreKept (before after : Databases) : Type 0 where
+  pub holds : (path : List ℕ) (h : List Answered) → before.holds path h → after.holds path h
+  pub is_new : (path : List ℕ) → before.is_new path → after.is_new path
+
+-- the history is a legal one
+abbrev pub IsLegalHistory : List Answered → Type 0
+IsLegalHistory h = (office : Office) × IsLegal h office
+
+-- nothing is known of any database, and none is known to be sound
+abbrev pub nothing_known : Databases
+nothing_known = record { holds = λ path h. ⊥; is_new = λ path. ⊥; is_sound = ⊥ }
+
+-- a database in memory shows the same under every path
+abbrev pub known_of : Option (Held MemStore) → Databases
+known_of None = nothing_known
+known_of (Some conn) = record {
+  holds = λ path h. Holding h (state over_memory conn);
+  is_new = λ path. HasNone (state over_memory conn);
+  is_sound = ⊤;
+}

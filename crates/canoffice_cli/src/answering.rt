@@ -1,0 +1,211 @@
+//! Answering arrivals, up to the first that is lost.
+ghost use Rattle.std.specs.Prelude.{◌≡◌, ◌⊎◌, ◌≤◌, ◌++◌, [], List, length, None, Some, false, IsTrue, IsSome, IfOk, IfErr, IsOkAnd, MatchResult, OnErr};
+ghost use Rattle.sqlite.specs.Held.{state};
+ghost use Rattle.sqlite.specs.State.{HasCleanDisk};
+ghost use Rattle.sqlite_trees.specs.View.{doubt};
+ghost use Rattle.office_history.specs.History.{Answered};
+ghost use Rattle.store.specs.Holding.{Holding};
+ghost use Rattle.canoffice_cli.specs.Answered.{InMemory, answered_with, answers_outcome, lost_line};
+ghost use Rattle.canoffice_cli.specs.Databases.{Begins, IsLegalHistory};
+ghost use Rattle.canoffice_cli.specs.Outcome.{outcome_of};
+
+use crate::lines::{Line, lines_of};
+use crate::progress::{AskingLines, Progress};
+use crate::report::{Report, Status};
+use office_history::{Answer, Arrival, histories_grow};
+use office_keyed::KeyedOffice;
+use sqlite::{Alter, Connection};
+use std::alloc::{AllocError, Global};
+use std::io::Write;
+use store::{Lost, Office};
+
+/// The answers to the first arrivals, and why the next one was lost, if one was.
+#[derive(Drop)]
+pub struct Answers {
+    answers: Vec<Answer>,
+    lost: Option<Lost>,
+}
+
+/// No answer, since already the first call was lost.
+pub fn lost_at_once(alloc: Global, lost: Lost) -> Answers
+    ensures answers { result.answers.items ≡ [] }
+    ensures lost { result.lost ≡ Some lost }
+{
+    Answers {
+        answers: Vec::new(alloc),
+        lost: Some(lost),
+    }
+}
+
+/// An office on the connection, as it is there, or a new one. If opening it is lost, the connection is given back.
+pub(crate) fn office_on<S: Alter>(conn: Connection<S>) -> Result<Office<S>, (Lost, Connection<S>)>
+    requires { (state S.Store conn).in_transaction ≡ false }
+    ensures clean { MatchResult result (λ office. doubt (state S.Store conn).is_clean ≤ doubt (state S.Store office.conn).is_clean) (λ lost. doubt (state S.Store conn).is_clean ≤ doubt (state S.Store lost.1).is_clean) }
+    ensures begun { IfOk result (λ office. HasCleanDisk (state S.Store office.conn) → (h : List Answered) → Begins h (state S.Store conn) → Holding h (state S.Store office.conn)) }
+    ensures held { IfErr result (λ lost. HasCleanDisk (state S.Store lost.1) → IsTrue (state S.Store lost.1).is_open → (h : List Answered) → Holding h (state S.Store conn) → Holding h (state S.Store lost.1)) }
+{
+    let _settled_before = conn.is_autocommit();
+    match Office::open(conn) {
+        Ok(office) => Ok(office),
+        Err((lost, conn)) => {
+            let _settled = conn.is_autocommit();
+            Err((lost, conn))
+        }
+    }
+}
+
+/// Answers the arrivals in turn, up to the first that is lost. The error is out of memory for the answers: then nothing
+/// arrived.
+fn answer_all<S: Alter, W: Write>(
+    alloc: Global,
+    office: &mut Office<S>,
+    script: &[u8],
+    arrivals: &[Arrival],
+    progress: &mut Progress<W>,
+) -> Result<Answers, AllocError>
+    ensures clean { doubt (state S.Store office.old.conn).is_clean ≤ doubt (state S.Store office.new.conn).is_clean }
+    ensures some { IfOk result (λ told. length told.answers.items ≤ length arrivals.now) }
+    ensures all { IfOk result (λ told. told.lost ≡ None → length told.answers.items ≡ length arrivals.now) }
+    ensures held { HasCleanDisk (state S.Store office.new.conn) → IsTrue (state S.Store office.new.conn).is_open → (h : List Answered) → Holding h (state S.Store office.old.conn)
+        → IfOk result (λ told. Holding (h ++ answered_with arrivals.now told.answers.items) (state S.Store office.new.conn)) }
+    ensures legal { HasCleanDisk (state S.Store office.new.conn) → (h : List Answered) → Holding h (state S.Store office.old.conn)
+        → IfOk result (λ told. IsLegalHistory (h ++ answered_with arrivals.now told.answers.items)) }
+    ensures err { OnErr result (office.new ≡ office.old) }
+{
+    let mut answers = Vec::with_capacity(alloc, arrivals.len())?;
+    let mut lines = AskingLines::of(script);
+    for arrival in arrivals {
+        progress.shows(lines.next_number());
+        match office.arrive(alloc, &arrival.team, &arrival.key, &arrival.request) {
+            Ok(answer) => answers.push_reserved(answer),
+            Err(lost) => {
+                return Ok(Answers {
+                    answers,
+                    lost: Some(lost),
+                });
+            }
+        }
+    }
+    Ok(Answers {
+        answers,
+        lost: None,
+    })
+}
+
+/// Answers the arrivals in turn by the office on the connection, up to the first that is lost, and gives the connection back.
+/// A new office is made where the connection has no table. It is shown how far the script of the arrivals is. The error is out
+/// of memory for the answers: then nothing arrived.
+pub fn answer_on<S: Alter + Drop, W: Write>(
+    alloc: Global,
+    conn: Connection<S>,
+    script: &[u8],
+    arrivals: &[Arrival],
+    progress: &mut Progress<W>,
+) -> (Result<Answers, AllocError>, Connection<S>)
+    requires { (state S.Store conn).in_transaction ≡ false }
+    ensures clean { doubt (state S.Store conn).is_clean ≤ doubt (state S.Store result.1).is_clean }
+    ensures some { IfOk result.0 (λ told. length told.answers.items ≤ length arrivals.now) }
+    ensures all { IfOk result.0 (λ told. told.lost ≡ None → length told.answers.items ≡ length arrivals.now) }
+    ensures held { HasCleanDisk (state S.Store result.1) → IsTrue (state S.Store result.1).is_open → (h : List Answered) → Holding h (state S.Store conn)
+        → IfOk result.0 (λ told. Holding (h ++ answered_with arrivals.now told.answers.items) (state S.Store result.1)) }
+    ensures begun { HasCleanDisk (state S.Store result.1) → IsTrue (state S.Store result.1).is_open → (h : List Answered) → Begins h (state S.Store conn)
+        → IfOk result.0 (λ told. Holding (h ++ answered_with arrivals.now told.answers.items) (state S.Store result.1) ⊎ (IsSome told.lost × (told.answers.items ≡ []))) }
+    ensures legal { HasCleanDisk (state S.Store result.1) → (h : List Answered) → Begins h (state S.Store conn)
+        → IfOk result.0 (λ told. IsLegalHistory (h ++ answered_with arrivals.now told.answers.items)) }
+{
+    histories_grow();
+    match office_on(conn) {
+        Ok(mut office) => {
+            let told = answer_all(alloc, &mut office, script, arrivals, progress);
+            (told, office.close())
+        }
+        Err((lost, conn)) => (Ok(lost_at_once(alloc, lost)), conn),
+    }
+}
+
+/// Answers the arrivals in turn by a new office in memory, up to one for which memory runs out, which is lost. The error is out
+/// of memory for the answers.
+pub(crate) fn answer_in_memory<W: Write>(
+    alloc: Global,
+    script: &[u8],
+    arrivals: &[Arrival],
+    progress: &mut Progress<W>,
+) -> Result<Answers, AllocError>
+    ensures some { IfOk result (λ told. length told.answers.items ≤ length arrivals.now) }
+    ensures all { IfOk result (λ told. told.lost ≡ None → length told.answers.items ≡ length arrivals.now) }
+    ensures goes_on { IfOk result (λ told. InMemory (answered_with arrivals.now told.answers.items) told.lost) }
+{
+    let mut answers = Vec::with_capacity(alloc, arrivals.len())?;
+    let mut office = KeyedOffice::new(alloc);
+    let mut lines = AskingLines::of(script);
+    for arrival in arrivals {
+        progress.shows(lines.next_number());
+        match office.arrive(alloc, &arrival.team, &arrival.key, &arrival.request) {
+            Ok(answer) => answers.push_reserved(answer),
+            Err(AllocError) => {
+                return Ok(Answers {
+                    answers,
+                    lost: Some(Lost::Memory),
+                });
+            }
+        }
+    }
+    Ok(Answers {
+        answers,
+        lost: None,
+    })
+}
+
+/// What was told, and why closing the database after it was lost, if that was and nothing before.
+pub fn told_and_closed(told: Answers, closed: Result<(), Lost>) -> Answers
+    ensures answers { result.answers ≡ told.answers }
+    ensures lost { IsSome told.lost → result.lost ≡ told.lost }
+    ensures none { result.lost ≡ None → told.lost ≡ None }
+{
+    let Answers { answers, lost } = told;
+    match (lost, closed) {
+        (None, Err(closing)) => Answers {
+            answers,
+            lost: Some(closing),
+        },
+        (lost, _) => Answers { answers, lost },
+    }
+}
+
+impl Line for Answer {
+    ghost use Rattle.canoffice_cli.specs.Answered.{answer_line};
+
+    ghost line = { answer_line };
+
+    fn line(&self, alloc: Global) -> Result<String, AllocError> {
+        match self {
+            Answer::Reply(reply) => format!(in alloc; "{reply}\n"),
+            Answer::KeyReused => format!(in alloc; "refused 70 KeyReused\n"),
+        }
+    }
+}
+
+/// The report that a call was lost, after this output.
+pub(crate) fn lost_report(alloc: Global, output: Vec<u8>, lost: Lost) -> Result<Report, AllocError>
+    ensures { IfOk result (λ report. outcome_of report ≡ record { output = output.items; errors = lost_line lost; status = Status.Failed }) }
+{
+    let text = format!(in alloc; "{lost}\n")?;
+    Ok(Report {
+        output,
+        errors: text.into_bytes(),
+        status: Status::Failed,
+    })
+}
+
+impl Answers {
+    /// The line of each answer, and then why the next arrival was lost, if it was.
+    pub(crate) fn report(&self, alloc: Global) -> Result<Report, AllocError>
+        ensures { IfOk result (λ report. outcome_of report ≡ answers_outcome self.now.answers.items self.now.lost) }
+    {
+        let output = lines_of(alloc, &self.answers)?;
+        match self.lost {
+            None => Ok(Report::of_output(alloc, output, Status::Success)),
+            Some(lost) => lost_report(alloc, output, lost),
+        }
+    }
+}

@@ -1,0 +1,47 @@
+//! Databases by their paths.
+ghost use Rattle.std.specs.Prelude.{◌≡◌, ◌≤◌, length, None, IfOk};
+ghost use Rattle.std.specs.Option.{option_map};
+ghost use Rattle.std.specs.Result.{result_map_both};
+ghost use Rattle.canoffice_cli.specs.Answered.{InDatabase, answered_with};
+ghost use Rattle.canoffice_cli.specs.Databases.{Databases as Known};
+ghost use Rattle.canoffice_cli.specs.Exported.{IsLookedUp};
+
+mod memory;
+
+use crate::answering::Answers;
+use crate::progress::Progress;
+pub use memory::MemoryDatabase;
+use office_history::Arrival;
+use std::alloc::{AllocError, Global};
+use std::io::Write;
+use store::{Lost, Question};
+
+/// Databases that are found by their paths, each with the tables of an office. One is made where there is none.
+pub trait Databases {
+    /// What is known of them.
+    ghost known: { Self → Known };
+
+    /// Answers the arrivals in turn by the office in the database at the path, up to the first that is lost. It is shown how
+    /// far the script of the arrivals is. Opening the database, or closing it after the last answer, may be lost too. The error
+    /// is out of memory for the answers: then nothing arrived.
+    fn answer<W: Write>(
+        &mut self,
+        alloc: Global,
+        path: &str,
+        script: &[u8],
+        arrivals: &[Arrival],
+        progress: &mut Progress<W>,
+    ) -> Result<Answers, AllocError>
+        ensures some { IfOk result (λ told. length told.answers.items ≤ length arrivals.now) }
+        ensures all { IfOk result (λ told. told.lost ≡ None → length told.answers.items ≡ length arrivals.now) }
+        ensures goes_on { IfOk result (λ told. InDatabase (known self.old) (known self.new) path.now (answered_with arrivals.now told.answers.items) told.lost) };
+
+    /// What the office in the database at the path shows when it is asked the question. The error is why that was lost.
+    fn look(
+        &mut self,
+        alloc: Global,
+        path: &str,
+        question: &Question,
+    ) -> Result<Option<Vec<u8>>, Lost>
+        ensures { IsLookedUp (known self.old) (known self.new) path.now question.now (result_map_both (option_map (λ text. text.items)) (λ lost. lost) result) };
+}

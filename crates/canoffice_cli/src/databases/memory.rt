@@ -1,0 +1,80 @@
+//! A database in memory.
+ghost use Rattle.std.specs.Prelude.{◌≡◌, ℕ, List, IfOk, OnErr, false};
+ghost use Rattle.sqlite.specs.Held.{state};
+ghost use Rattle.sqlite.specs.Steps.{over_memory};
+ghost use Rattle.office_history.specs.History.{Answered};
+ghost use Rattle.store.specs.Holding.{Holding};
+ghost use Rattle.store.specs.Opening.{HasNone};
+ghost use Rattle.canoffice_cli.specs.Databases.{known_of};
+
+use super::Databases;
+use crate::answering::{Answers, answer_on, lost_at_once};
+use crate::exporting::look_on;
+use crate::progress::Progress;
+use office_history::Arrival;
+use sqlite::{Connection, MemStore};
+use std::alloc::{AllocError, Global};
+use std::io::Write;
+use store::{Lost, Question};
+
+/// One database in memory, which is found under any path.
+#[derive(Drop)]
+pub struct MemoryDatabase {
+    /// The connection that shows it. Where there is none, or a transaction has begun on it, each call is lost.
+    pub conn: Option<Connection<MemStore>>,
+}
+
+impl MemoryDatabase {
+    /// The connection, which is taken out.
+    fn taken(&mut self) -> Result<Connection<MemStore>, Lost>
+        ensures settled { IfOk result (λ conn. (state over_memory conn).in_transaction ≡ false) }
+        ensures held { IfOk result (λ conn. (path : List ℕ) (h : List Answered) → (known_of self.old.conn).holds path h → Holding h (state over_memory conn)) }
+        ensures none { IfOk result (λ conn. (path : List ℕ) → (known_of self.old.conn).is_new path → HasNone (state over_memory conn)) }
+        ensures err { OnErr result (self.new ≡ self.old) }
+    {
+        match &self.conn {
+            Some(conn) if conn.is_autocommit() => {}
+            _ => return Err(Lost::Store),
+        }
+        match self.conn.take() {
+            Some(conn) => Ok(conn),
+            None => Err(Lost::Store),
+        }
+    }
+}
+
+impl Databases for MemoryDatabase {
+    ghost use Rattle.canoffice_cli.specs.Databases.{known_of};
+
+    ghost known = { λ database. known_of database.conn };
+
+    fn answer<W: Write>(
+        &mut self,
+        alloc: Global,
+        _path: &str,
+        script: &[u8],
+        arrivals: &[Arrival],
+        progress: &mut Progress<W>,
+    ) -> Result<Answers, AllocError> {
+        match self.taken() {
+            Ok(conn) => {
+                let (told, conn) = answer_on(alloc, conn, script, arrivals, progress);
+                self.conn = Some(conn);
+                told
+            }
+            Err(lost) => Ok(lost_at_once(alloc, lost)),
+        }
+    }
+
+    fn look(
+        &mut self,
+        alloc: Global,
+        _path: &str,
+        question: &Question,
+    ) -> Result<Option<Vec<u8>>, Lost> {
+        let conn = self.taken()?;
+        let (shown, conn) = look_on(alloc, conn, question);
+        self.conn = Some(conn);
+        shown
+    }
+}

@@ -1,0 +1,113 @@
+//! Exporting a sheet.
+ghost use Rattle.std.specs.Prelude.{◌≡◌, ◌≤◌, [], List, false, IsTrue, IfOk, OnOk};
+ghost use Rattle.std.specs.Option.{option_map};
+ghost use Rattle.std.specs.Result.{result_map_both};
+ghost use Rattle.sqlite.specs.Held.{state};
+ghost use Rattle.sqlite.specs.State.{HasCleanDisk};
+ghost use Rattle.sqlite_trees.specs.View.{doubt};
+ghost use Rattle.office_types.specs.declared.state.Office.{Office as Whole};
+ghost use Rattle.office_history.specs.History.{Answered, IsLegal};
+ghost use Rattle.store.specs.Holding.{Holding};
+ghost use Rattle.store.specs.Looking.{IsShown};
+ghost use Rattle.canoffice_cli.specs.Databases.{Begins};
+ghost use Rattle.canoffice_cli.specs.Exported.{IsExportOutcome, release_number, sheet_asked, not_found, shown_outcome};
+ghost use Rattle.canoffice_cli.specs.Outcome.{outcome_of};
+
+use crate::answering::{lost_report, office_on};
+use crate::databases::Databases;
+use crate::report::{Report, Status, bad_word};
+use catalogue::whole_number;
+use office_types::NetName;
+use sqlite::{Alter, Connection};
+use std::alloc::{AllocError, Global};
+use store::{Lost, Question};
+
+/// The greatest number of a release.
+const RELEASE_LIMIT: u32 = 65_535;
+
+/// The number of a release, or 0 for the live sheet, that the word gives: digits, up to 65535.
+fn release_number(word: &[u8]) -> Option<u32>
+    ensures { result ≡ release_number word.now }
+{
+    let number = whole_number(word)?;
+    if number <= RELEASE_LIMIT {
+        Some(number)
+    } else {
+        None
+    }
+}
+
+fn sheet_asked(net: NetName, number: u32) -> Question
+    ensures { result ≡ sheet_asked net number }
+{
+    if number == 0 {
+        Question::Live(net)
+    } else {
+        Question::Release(net, number)
+    }
+}
+
+fn not_found(alloc: Global) -> Result<Report, AllocError>
+    ensures { IfOk result (λ report. outcome_of report ≡ not_found) }
+{
+    let text = b"not found\n".to_vec(alloc)?;
+    Ok(Report::of_errors(alloc, text, Status::FaultFound))
+}
+
+/// The report on what was shown.
+fn shown_report(alloc: Global, shown: Result<Option<Vec<u8>>, Lost>) -> Result<Report, AllocError>
+    ensures { IfOk result (λ report. outcome_of report ≡ shown_outcome (result_map_both (option_map (λ text. text.items)) (λ lost. lost) shown)) }
+{
+    match shown {
+        Ok(Some(text)) => Ok(Report::of_output(alloc, text, Status::Success)),
+        Ok(None) => not_found(alloc),
+        Err(lost) => lost_report(alloc, Vec::new(alloc), lost),
+    }
+}
+
+/// What the office on the connection, which is given back, shows when it is asked the question. A new office is made where
+/// the connection has no table.
+pub fn look_on<S: Alter + Drop>(
+    alloc: Global,
+    conn: Connection<S>,
+    question: &Question,
+) -> (Result<Option<Vec<u8>>, Lost>, Connection<S>)
+    requires { (state S.Store conn).in_transaction ≡ false }
+    ensures clean { doubt (state S.Store conn).is_clean ≤ doubt (state S.Store result.1).is_clean }
+    ensures shown { HasCleanDisk (state S.Store result.1) → (h : List Answered) → (office : Whole) → Begins h (state S.Store conn) → IsLegal h office
+        → IfOk result.0 (λ text. IsShown office question.now (option_map (λ bytes. bytes.items) text)) }
+    ensures held { HasCleanDisk (state S.Store result.1) → IsTrue (state S.Store result.1).is_open → (h : List Answered) → Holding h (state S.Store conn) → Holding h (state S.Store result.1) }
+    ensures begun { HasCleanDisk (state S.Store result.1) → (h : List Answered) → Begins h (state S.Store conn) → OnOk result.0 (Holding h (state S.Store result.1)) }
+{
+    match office_on(conn) {
+        Ok(mut office) => {
+            let shown = office.look(alloc, question);
+            (shown, office.close())
+        }
+        Err((lost, conn)) => (Err(lost), conn),
+    }
+}
+
+/// Prints the release of the network with the number that the word gives, or for 0 its live sheet, as the office in the
+/// database of the path has it. A word that is no number of 0 to 65535 is reported, and that there is no such sheet; there is
+/// none where NET has no network name's form, and the database isn't opened then. The error is out of memory for the report.
+pub fn export_report<D: Databases>(
+    alloc: Global,
+    databases: &mut D,
+    path: &str,
+    net: &str,
+    word: &str,
+) -> Result<Report, AllocError>
+    ensures { IfOk result (λ report. IsExportOutcome (D.known databases.old) (D.known databases.new) path.now net.now word.now (outcome_of report)) }
+{
+    let Some(number) = release_number(word.as_bytes()) else {
+        return bad_word(alloc, word);
+    };
+    match NetName::of(alloc, net.as_bytes())? {
+        None => not_found(alloc),
+        Some(net) => {
+            let question = sheet_asked(net, number);
+            shown_report(alloc, databases.look(alloc, path, &question))
+        }
+    }
+}

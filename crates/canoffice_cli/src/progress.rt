@@ -1,0 +1,63 @@
+//! How far a script is, for whoever waits for it.
+ghost use Rattle.std.specs.Prelude.{◌≤◌, length};
+
+use office_script::{first_line, says_nothing};
+use std::io::Write;
+
+/// Where it is shown how far a script is: on a terminal, or nowhere.
+pub struct Progress<W> {
+    /// The terminal, if there is one.
+    pub to: Option<W>,
+}
+
+/// The lines of a script that ask for something, one after the other.
+#[derive(Clone, Copy)]
+pub(crate) struct AskingLines<'a> {
+    rest: &'a [u8],
+    number: usize,
+}
+
+impl<'a> AskingLines<'a> {
+    /// Before the first one.
+    pub(crate) fn of(script: &'a [u8]) -> AskingLines<'a> {
+        AskingLines {
+            rest: script,
+            number: 0,
+        }
+    }
+
+    /// The number of the next one, from 1.
+    pub(crate) fn next_number(&mut self) -> usize {
+        while let Some(first) = first_line(self.rest) {
+            self.number = self.number.saturating_add(1);
+            self.rest = first.rest;
+            if !says_nothing(first.line) {
+                return self.number;
+            }
+        }
+        self.number
+    }
+}
+
+impl<W: Write> Progress<W> {
+    /// Shows that the line of this number is next, in the place of what was shown before.
+    pub(crate) fn shows(&mut self, line: usize) {
+        if let Some(to) = &mut self.to {
+            // Whether it is shown changes nothing of what is done.
+            let _shown = write!(to, "\rline {line}");
+        }
+    }
+
+    /// Takes back what was shown.
+    pub(crate) fn ends(&mut self) {
+        if let Some(to) = &mut self.to {
+            let _shown = write!(to, "\r\x1b[K");
+        }
+    }
+}
+
+impl<W: Drop> Drop for Progress<W> {
+    fn drop(self) {
+        let Progress { to: _to } = self;
+    }
+}

@@ -1,0 +1,119 @@
+-- The releases of a legal history that goes on.
+use Rattle.std.proofs.Common.{◌≡◌, ◌∙◌, ℕ, List, [], ◌∷◌, ◌++◌, append-nil, Option, Some, map, filter, refl, sym, ap, subst, inl, inr}
+use Rattle.std.specs.Str.{bytes_eq}
+use Rattle.std.proofs.lemmas.Bool.{cases_Bool}
+use Rattle.std.proofs.lemmas.List.{append_assoc, map-append}
+use Rattle.std.proofs.lemmas.List.Elements.{filter-append}
+use Rattle.catalogue.specs.declared.sheet.Sheet.{Sheet}
+use Rattle.office_types.specs.State.{sheet_of}
+use Rattle.office_types.specs.declared.book.SpnBook.{SpnBook}
+use Rattle.office_types.specs.declared.command.Command.{Command}
+use Rattle.office_types.specs.declared.reply.Reply.{Reply}
+use Rattle.office_types.specs.declared.state.Net.{Net}
+use Rattle.office_types.specs.declared.state.Office.{Office}
+use Rattle.office_rules.specs.Commands.{outcome}
+use Rattle.office_rules.specs.Importing.{FileReading}
+use Rattle.office_rules.specs.Outcome.{Outcome, Refusing, Changing}
+use Rattle.office_rules.specs.Step.{Run, Step, net_named, opening, step_outcome}
+use Rattle.office_law.specs.Agree.{StepsAgree}
+use Rattle.office_law.specs.Histories.{AreInOrder, net_after}
+use Rattle.office_law.proofs.Apart.{networks_are_apart}
+use Rattle.office_law.proofs.KeptOffice.{offices_are_kept}
+use Rattle.office_law.proofs.NetsApart.{outcomes_are_left}
+use Rattle.office_law.proofs.OrderedNets.{equal_texts, sorted_after}
+use Rattle.office_history.specs.History.{Answered, first_arrivals, request_of}
+use Rattle.office_history.specs.Laws.{ReleasesStay}
+use Rattle.office_history.proofs.Histories.{others}
+use Rattle.office_history.proofs.Offices.{one_run}
+
+-- ---- a history and a run that go on
+
+-- the first arrivals of the whole begin with those of its first part
+firsts_go_on : (h more : List Answered) → (rest : List Answered) × (first_arrivals (h ++ more) ≡ first_arrivals h ++ rest)
+firsts_go_on [] more = (first_arrivals more, refl)
+firsts_go_on (a ∷ h) more =
+    let below = firsts_go_on h more in
+    (filter (others a) below.0, ap (λ firsts. a ∷ filter (others a) firsts) below.1 ∙ ap (λ rest. a ∷ rest) (filter-append (others a) (first_arrivals h) below.0))
+
+-- a run comes by the office that its first requests leave
+record ComesBy (o : Office) (qs ps : List (List ℕ × Command)) (after : Office) : Type 0 where
+  mid : Office
+  told : List Reply
+  later : List Reply
+  to_there : Run o qs told mid
+  from_there : Run mid ps later after
+
+comes_by : (qs ps : List (List ℕ × Command)) (rs : List Reply) (o after : Office) → Run o (qs ++ ps) rs after → ComesBy o qs ps after
+comes_by [] ps rs o after run = record { mid = o; told = []; later = rs; to_there = refl; from_there = run }
+comes_by (q ∷ qs) ps [] o after run = absurd run
+comes_by (q ∷ qs) ps (r ∷ rs) o after run =
+    let below = comes_by qs ps rs run.0 after run.2 in
+    record { mid = below.mid; told = r ∷ below.told; later = below.later; to_there = (run.0, run.1, below.to_there); from_there = below.from_there }
+
+-- ---- networks stay in order
+
+step_in_order : (o after : Office) (team : List ℕ) (c : Command) (r : Reply) → AreInOrder o → Step o team c r after → AreInOrder after
+step_in_order o after team c r sorted step = subst AreInOrder (sym step.left) (sorted_after o (step_outcome o team step.reading c) sorted)
+
+run_in_order : (qs : List (List ℕ × Command)) (rs : List Reply) (o after : Office) → AreInOrder o → Run o qs rs after → AreInOrder after
+run_in_order [] [] o after sorted run = subst AreInOrder (sym run) sorted
+run_in_order [] (r ∷ rs) o after sorted run = absurd run
+run_in_order (q ∷ qs) [] o after sorted run = absurd run
+run_in_order (q ∷ qs) (r ∷ rs) o after sorted run = run_in_order qs rs run.0 after (step_in_order o run.0 q.0 q.1 r sorted run.1) run.2
+
+-- ---- releases
+
+-- it is there, and its releases are those of the network, and then newer ones
+abbrev IsThereStill : Net → Option Net → Type 0
+IsThereStill net found = (then : Net) × (found ≡ Some then) × (new : List Sheet) × (then.releases ≡ net.releases ++ new)
+
+as_it_was : (net : Net) → IsThereStill net (Some net)
+as_it_was net = (net, refl, [], sym (append-nil net.releases))
+
+and_then : (net : Net) (mid last : Option Net) → IsThereStill net mid → ((n : Net) → mid ≡ Some n → IsThereStill n last) → IsThereStill net last
+and_then net mid last first next =
+    let second = next first.0 first.1 in
+    (second.0, second.1, first.2 ++ second.2, second.3 ∙ ap (λ sheets. sheets ++ second.2) first.3 ∙ append_assoc net.releases first.2 second.2)
+
+after_outcome : (team : List ℕ) (reading : FileReading) (net : Net) (book : SpnBook) (c : Command) (out : Outcome) → outcome team reading (Some net) book c ≡ out
+    → IsThereStill net (net_after (Some net) out)
+after_outcome team reading net book c (Refusing r) is = as_it_was net
+after_outcome team reading net book c (Changing r n e) is = elim (networks_are_apart.releases team reading net n book c r e is).1 [
+  | inl same ↦ (n, refl, [], same ∙ sym (append-nil net.releases))
+  | inr more ↦ (n, refl, sheet_of net ∷ [], more.1)
+]
+
+module _ (name : List ℕ) where
+  after_step : (o after : Office) (team : List ℕ) (c : Command) (r : Reply) (net : Net) → AreInOrder o → Step o team c r after → net_named o name ≡ Some net
+      → IsThereStill net (net_named after name)
+  after_step o after team c r net sorted step is = elim (cases_Bool (bytes_eq c.net name)) [
+    | inl own ↦
+        let named : c.net ≡ name = equal_texts c.net name own in
+        let found : net_named o c.net ≡ Some net = ap (net_named o) named ∙ is in
+        let left : net_named after c.net ≡ net_after (Some net) (outcome team step.reading (Some net) o.book c) =
+        ap (λ x. net_named x c.net) step.left
+        ∙ outcomes_are_left o team step.reading c sorted
+        ∙ ap (λ n. net_after n (outcome team step.reading n o.book c)) found in
+        subst (IsThereStill net) (sym left ∙ ap (net_named after) named) (after_outcome team step.reading net o.book c (outcome team step.reading (Some net) o.book c) refl)
+    | inr apart ↦ subst (IsThereStill net) (sym (networks_are_apart.others o after team c r name step apart ∙ is)) (as_it_was net)
+  ]
+
+  after_run : (qs : List (List ℕ × Command)) (rs : List Reply) (o after : Office) (net : Net) → AreInOrder o → Run o qs rs after → net_named o name ≡ Some net
+      → IsThereStill net (net_named after name)
+  after_run [] [] o after net sorted run is = subst (IsThereStill net) (sym (ap (λ x. net_named x name) run ∙ is)) (as_it_was net)
+  after_run [] (r ∷ rs) o after net sorted run is = absurd run
+  after_run (q ∷ qs) [] o after net sorted run is = absurd run
+  after_run (q ∷ qs) (r ∷ rs) o after net sorted run is =
+      and_then net (net_named run.0 name) (net_named after name) (after_step o run.0 q.0 q.1 r net sorted run.1 is)
+      (λ n there. after_run qs rs run.0 after n (step_in_order o run.0 q.0 q.1 r sorted run.1) run.2 there)
+
+pub releases_stay : StepsAgree → ReleasesStay
+releases_stay agree h more before after name net legal goes_on is =
+    let firsts = map request_of (first_arrivals h) in
+    let rest = firsts_go_on h more in
+    let whole : Run opening (firsts ++ map request_of rest.0) goes_on.replies after =
+    subst (λ requests. Run opening requests goes_on.replies after) (ap (map request_of) rest.1 ∙ map-append request_of (first_arrivals h) rest.0) goes_on.run in
+    let way = comes_by firsts (map request_of rest.0) goes_on.replies opening after whole in
+    let same : way.mid ≡ before = one_run agree firsts way.told legal.replies opening way.mid before way.to_there legal.run in
+    after_run name (map request_of rest.0) way.later before after net (run_in_order firsts legal.replies opening before offices_are_kept.opening_is.rising legal.run)
+    (subst (λ o. Run o (map request_of rest.0) way.later after) same way.from_there) is

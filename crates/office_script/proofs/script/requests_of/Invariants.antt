@@ -1,9 +1,0 @@
-use Rattle.std.proofs.Common.{length}
-use Rattle.office_script.proofs.Scripts.{IsReadSoFar}
-use Rattle.office_script.proofs.script.requests_of.Given as goal
-
-abbrev pub invariant-loop-first : goal.invariant-loop-first
-invariant-loop-first g l = IsReadSoFar (g.F.FileSource.held l.files) l.text l.rest l.number l.requests.items
-
-abbrev pub decreases-loop-first : goal.decreases-loop-first
-decreases-loop-first g l = length l.rest

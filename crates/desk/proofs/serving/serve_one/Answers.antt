@@ -1,0 +1,34 @@
+use Rattle.std.proofs.Common.{ℕ, List, inr, sym, subst}
+use Rattle.std.specs.Io.KnownBytes.{Appends}
+use Rattle.sqlite.specs.Held.{state}
+use Rattle.desk_types.specs.Moved.{AppendsFront}
+use Rattle.desk_types.specs.declared.fault.DeskFault.TheVariants.{Write}
+use Rattle.desk_call.specs.Call.{seen}
+use Rattle.desk.specs.Serving.{HasServed, Responds}
+use Rattle.desk.proofs.Responses.{err_of, on_ok}
+use Rattle.desk.proofs.serving.serve_one.Goals as goal
+
+pub returns-in_default-clause-memory : goal.returns-in_default-clause-memory
+returns-in_default-clause-memory g c clean h holds is_memory =
+    inr (seen c.in_ok-call.call, c.in_ok-call.ensures.ok, c.in_default.ensures.err clean h holds)
+
+pub returns-clause-served : goal.returns-clause-served
+returns-clause-served g c clean h holds =
+    let told = g.W.Sink.told in
+    let text = c.deref.result.now in
+    let s = state g.S.Store c.response_to.new.office.conn in
+    let asked = seen c.in_ok-call.call in
+    let responds : Responds h asked text s = subst (λ (l : List ℕ). Responds h asked l s) (sym c.deref.ensures.value) (c.in-Ok.ensures.ok clean h holds) in
+    on_ok c.put_all.result (Appends (told c.args.sink.now) (told c.put_all.new.sink) text)
+    (HasServed h (g.R.Source.left c.args.source.now) (told c.args.sink.now) (told c.put_all.new.sink) s) c.put_all.ensures.ok
+    (λ appended. (asked, text, c.in_ok-call.ensures.ok, responds, appended))
+
+pub returns-clause-write : goal.returns-clause-write
+returns-clause-write g c clean h holds is_write =
+    let told = g.W.Sink.told in
+    let text = c.deref.result.now in
+    let s = state g.S.Store c.response_to.new.office.conn in
+    let asked = seen c.in_ok-call.call in
+    let responds : Responds h asked text s = subst (λ (l : List ℕ). Responds h asked l s) (sym c.deref.ensures.value) (c.in-Ok.ensures.ok clean h holds) in
+    (asked, text, c.in_ok-call.ensures.ok, responds,
+    err_of c.put_all.result Write (AppendsFront (told c.args.sink.now) (told c.put_all.new.sink) text) is_write c.put_all.ensures.front)

@@ -1,0 +1,81 @@
+-- The responses to what requests ask, on tables that hold a history.
+use Rattle.std.specs.Prelude.{◌≡◌, ◌⊎◌, ℕ, List, [], ◌∷◌, ◌++◌, Option, None, Some, IfSome, IsTrue}
+use Rattle.std.specs.Io.KnownBytes.{Appends}
+use Rattle.sqlite.specs.State.{State}
+use Rattle.office_types.specs.declared.state.Office.{Office}
+use Rattle.office_history.specs.History.{Answered, IsLegal}
+use Rattle.office_history.specs.declared.arrival.Answer.{Answer}
+use Rattle.store.specs.Holding.{Holding}
+use Rattle.store.specs.Looking.{IsShown}
+use Rattle.store.specs.declared.question.Question.{Question}
+use Rattle.store.specs.declared.question.Question.TheVariants as question
+use Rattle.desk_types.specs.Moved.{AppendsFront}
+use Rattle.desk_types.specs.declared.problem.Problem.TheVariants.{NotFound, TryAgain}
+use Rattle.desk_call.specs.Call.{Asked, Asking, arrives, fails, shows}
+use Rattle.desk_call.specs.Read.{Asks}
+use Rattle.desk_call.specs.declared.call.Look.{Look}
+use Rattle.desk_call.specs.declared.call.Look.TheVariants as look
+use Rattle.desk_reply.specs.Response.{answer_response, problem_response, text_response}
+use Rattle.desk_reply.specs.declared.responses.Content.TheVariants.{Bytes}
+
+-- what the store can be asked
+abbrev pub question_of : Look → Option Question
+question_of look.Nets = None
+question_of (look.Table net) = None
+question_of (look.Live net) = Some (question.Live net)
+question_of (look.Release net number) = Some (question.Release net number)
+question_of (look.Chart net message) = None
+
+-- the response that shows a text, or says that there is none
+abbrev pub shown_response : Option (List ℕ) → List ℕ
+shown_response None = problem_response NotFound
+shown_response (Some text) = text_response Bytes text
+
+-- the text is the response that shows this of the office
+abbrev pub IsLookResponse : Office → Look → List ℕ → Type 0
+IsLookResponse office l text =
+    (q : Question) × (question_of l ≡ Some q) × ((found : Option (List ℕ)) × IsShown office q found × (text ≡ shown_response found))
+
+-- the arrival with its answer
+abbrev pub answered_as : Asking → Answer → Answered
+answered_as a answer = record { team = a.team; key = a.key; content = a.content; command = a.command; answer = answer }
+
+-- The text is the response to what is asked, on the history h, and h2 is the history after it: with the arrival and
+-- the answer that the text tells, or the same. Where the tables hold h2, it is legal: so the answer is the office's.
+abbrev pub IsResponse : List Answered → Asked → List ℕ → List Answered → Type 0
+IsResponse h (fails problem) text h2 = (h2 ≡ h) × (text ≡ problem_response problem)
+IsResponse h (shows l) text h2 = (h2 ≡ h) × ((office : Office) → IsLegal h office → IsLookResponse office l text)
+IsResponse h (arrives a) text h2 = (answer : Answer) × (h2 ≡ h ++ answered_as a answer ∷ []) × (text ≡ answer_response answer)
+
+-- The text is the response, and the tables hold the history after it; or it says to try again, and the tables, if
+-- they are still open, hold the history as before.
+abbrev pub Responds : List Answered → Asked → List ℕ → State → Type 0
+Responds h asked text s =
+    ((h2 : List Answered) × IsResponse h asked text h2 × Holding h2 s)
+    ⊎ ((text ≡ problem_response TryAgain) × (IsTrue s.is_open → Holding h s))
+
+-- without a response: the tables, if they are open, hold the history as before, or with the arrival that was asked
+abbrev pub MayHaveTaken : List Answered → Asked → State → Type 0
+MayHaveTaken h asked s =
+    IsTrue s.is_open
+    → Holding h s ⊎ ((a : Asking) × (asked ≡ arrives a) × ((answer : Answer) × Holding (h ++ answered_as a answer ∷ []) s))
+
+-- ---- one connection
+
+-- this is what the first request asks, if the source tells its bytes
+abbrev pub IsAsked : Option (List ℕ) → Asked → Type 0
+IsAsked left asked = IfSome left (λ input. Asks input asked)
+
+-- the whole response was written
+abbrev pub HasServed : List Answered → Option (List ℕ) → Option (List ℕ) → Option (List ℕ) → State → Type 0
+HasServed h left told_old told_new s =
+    (asked : Asked) × (text : List ℕ) × IsAsked left asked × Responds h asked text s × Appends told_old told_new text
+
+-- a beginning of the response was written, and the tables are as if it had all been
+abbrev pub HasBegun : List Answered → Option (List ℕ) → Option (List ℕ) → Option (List ℕ) → State → Type 0
+HasBegun h left told_old told_new s =
+    (asked : Asked) × (text : List ℕ) × IsAsked left asked × Responds h asked text s × AppendsFront told_old told_new text
+
+-- nothing was written, for want of memory
+abbrev pub HasGivenUp : List Answered → Option (List ℕ) → State → Type 0
+HasGivenUp h left s = Holding h s ⊎ ((asked : Asked) × IsAsked left asked × MayHaveTaken h asked s)

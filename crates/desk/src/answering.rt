@@ -1,0 +1,90 @@
+//! What the office is asked, and the responses to it.
+ghost use Rattle.std.specs.Prelude.{◌≡◌, ◌≤◌, List, IfOk, OnErr};
+ghost use Rattle.sqlite.specs.Held.{state};
+ghost use Rattle.sqlite.specs.State.{HasCleanDisk};
+ghost use Rattle.sqlite_trees.specs.View.{doubt};
+ghost use Rattle.office_history.specs.History.{Answered};
+ghost use Rattle.store.specs.Holding.{Holding};
+ghost use Rattle.desk_call.specs.Call.{arrives, asking_seen, seen, shows};
+ghost use Rattle.desk.specs.Serving.{MayHaveTaken, Responds, question_of};
+
+use desk_call::{Call, Look};
+use desk_reply::{Content, answer_response, problem_response, text_response};
+use desk_types::Problem;
+use office_history::Arrival;
+use sqlite::Alter;
+use std::alloc::{AllocError, Global};
+use store::{Office, Question};
+
+/// What the store can be asked. Networks, tables and charts it can't tell yet.
+fn question_of(look: Look) -> Option<Question>
+    ensures { result ≡ question_of look }
+{
+    match look {
+        Look::Nets => None,
+        Look::Table(_net) => None,
+        Look::Live(net) => Some(Question::Live(net)),
+        Look::Release(net, number) => Some(Question::Release(net, number)),
+        Look::Chart(_net, _message) => None,
+    }
+}
+
+/// Looks something up, and gives the response that shows it.
+fn shown<S: Alter>(
+    alloc: Global,
+    office: &mut Office<S>,
+    look: Look,
+) -> Result<Vec<u8>, AllocError>
+    ensures clean { doubt (state S.Store office.old.conn).is_clean ≤ doubt (state S.Store office.new.conn).is_clean }
+    ensures ok { HasCleanDisk (state S.Store office.new.conn) → (h : List Answered) → Holding h (state S.Store office.old.conn)
+        → IfOk result (λ text. Responds h (shows look) text.items (state S.Store office.new.conn)) }
+    ensures err { HasCleanDisk (state S.Store office.new.conn) → (h : List Answered) → Holding h (state S.Store office.old.conn)
+        → OnErr result (MayHaveTaken h (shows look) (state S.Store office.new.conn)) }
+{
+    let Some(question) = question_of(look) else {
+        return problem_response(alloc, Problem::TryAgain);
+    };
+    match office.look(alloc, &question) {
+        Ok(Some(text)) => text_response(alloc, Content::Bytes, &text),
+        Ok(None) => problem_response(alloc, Problem::NotFound),
+        Err(_) => problem_response(alloc, Problem::TryAgain),
+    }
+}
+
+/// Has an arrival answered, and gives the response that tells the answer.
+fn arrived<S: Alter>(
+    alloc: Global,
+    office: &mut Office<S>,
+    arrival: &Arrival,
+) -> Result<Vec<u8>, AllocError>
+    ensures clean { doubt (state S.Store office.old.conn).is_clean ≤ doubt (state S.Store office.new.conn).is_clean }
+    ensures ok { HasCleanDisk (state S.Store office.new.conn) → (h : List Answered) → Holding h (state S.Store office.old.conn)
+        → IfOk result (λ text. Responds h (arrives (asking_seen arrival.now)) text.items (state S.Store office.new.conn)) }
+    ensures err { HasCleanDisk (state S.Store office.new.conn) → (h : List Answered) → Holding h (state S.Store office.old.conn)
+        → OnErr result (MayHaveTaken h (arrives (asking_seen arrival.now)) (state S.Store office.new.conn)) }
+{
+    match office.arrive(alloc, &arrival.team, &arrival.key, &arrival.request) {
+        Ok(answer) => answer_response(alloc, &answer),
+        Err(_) => problem_response(alloc, Problem::TryAgain),
+    }
+}
+
+/// Carries out what a request asks, and gives its response. The only error is out of memory: then an arrival may have
+/// been taken.
+pub(crate) fn response_to<S: Alter>(
+    alloc: Global,
+    office: &mut Office<S>,
+    call: Call,
+) -> Result<Vec<u8>, AllocError>
+    ensures clean { doubt (state S.Store office.old.conn).is_clean ≤ doubt (state S.Store office.new.conn).is_clean }
+    ensures ok { HasCleanDisk (state S.Store office.new.conn) → (h : List Answered) → Holding h (state S.Store office.old.conn)
+        → IfOk result (λ text. Responds h (seen call) text.items (state S.Store office.new.conn)) }
+    ensures err { HasCleanDisk (state S.Store office.new.conn) → (h : List Answered) → Holding h (state S.Store office.old.conn)
+        → OnErr result (MayHaveTaken h (seen call) (state S.Store office.new.conn)) }
+{
+    match call {
+        Call::Fails(problem) => problem_response(alloc, problem),
+        Call::Shows(look) => shown(alloc, office, look),
+        Call::Arrives(arrival) => arrived(alloc, office, &arrival),
+    }
+}

@@ -1,0 +1,53 @@
+//! One request and one response.
+ghost use Rattle.std.specs.Prelude.{◌≡◌, ◌+◌, ◌-◌, ◌<◌, ◌≤◌, ◌^◌, ℕ, List, OnOk, IsErrOf};
+ghost use Rattle.std.specs.Io.KnownBytes.{Consumes};
+ghost use Rattle.sqlite.specs.Held.{state};
+ghost use Rattle.sqlite.specs.State.{HasCleanDisk};
+ghost use Rattle.sqlite_trees.specs.View.{doubt};
+ghost use Rattle.office_history.specs.History.{Answered};
+ghost use Rattle.store.specs.Holding.{Holding};
+ghost use Rattle.desk_call.specs.Read.{IsNotWhole};
+ghost use Rattle.desk.specs.Serving.{HasBegun, HasGivenUp, HasServed};
+
+use crate::answering::response_to;
+use desk_call::read_call;
+use desk_types::{DeskFault, Sink, Source, put_all};
+use sqlite::Alter;
+use std::alloc::Global;
+use store::Office;
+
+/// Reads the first request of the source, carries it out, and writes its response to the sink. No call of a device
+/// follows one that failed.
+///
+/// `Read` if the source failed before the request was whole: nothing was written, and the office is as before.
+/// `Write` if the sink failed: a beginning of the response was written, and what was asked is done as if it had all
+/// been. `Memory` if memory ran out: nothing was written, and an arrival may have been taken. A request that is sent
+/// again under its key is answered as it would have been.
+pub fn serve_one<S: Alter, R: Source, W: Sink>(
+    alloc: Global,
+    office: &mut Office<S>,
+    source: &mut R,
+    sink: &mut W,
+) -> Result<(), DeskFault>
+    requires reads { R.failure_count source.old < 2 ^ 64 - 1 }
+    requires writes { W.failure_count sink.old < 2 ^ 64 - 1 }
+    ensures served { HasCleanDisk (state S.Store office.new.conn) → (h : List Answered) → Holding h (state S.Store office.old.conn)
+        → OnOk result (HasServed h (R.left source.old) (W.told sink.old) (W.told sink.new) (state S.Store office.new.conn)) }
+    ensures healthy { OnOk result ((R.failure_count source.new ≡ R.failure_count source.old) × (W.failure_count sink.new ≡ W.failure_count sink.old)) }
+    ensures clean { doubt (state S.Store office.old.conn).is_clean ≤ doubt (state S.Store office.new.conn).is_clean }
+    ensures read { IsErrOf result DeskFault.Read → (bytes : List ℕ) × Consumes (R.left source.old) (R.left source.new) bytes × IsNotWhole bytes }
+    ensures read_failed { IsErrOf result DeskFault.Read → R.failure_count source.new ≡ R.failure_count source.old + 1 }
+    ensures read_kept { IsErrOf result DeskFault.Read → (office.new ≡ office.old) × (sink.new ≡ sink.old) }
+    ensures write { HasCleanDisk (state S.Store office.new.conn) → (h : List Answered) → Holding h (state S.Store office.old.conn)
+        → IsErrOf result DeskFault.Write → HasBegun h (R.left source.old) (W.told sink.old) (W.told sink.new) (state S.Store office.new.conn) }
+    ensures write_failed { IsErrOf result DeskFault.Write → W.failure_count sink.new ≡ W.failure_count sink.old + 1 }
+    ensures memory { HasCleanDisk (state S.Store office.new.conn) → (h : List Answered) → Holding h (state S.Store office.old.conn)
+        → IsErrOf result DeskFault.Memory → HasGivenUp h (R.left source.old) (state S.Store office.new.conn) }
+    ensures memory_kept { IsErrOf result DeskFault.Memory → sink.new ≡ sink.old }
+{
+    let call = read_call(alloc, source)?;
+    let Ok(text) = response_to(alloc, office, call) else {
+        return Err(DeskFault::Memory);
+    };
+    put_all(sink, &text)
+}

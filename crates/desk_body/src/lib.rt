@@ -1,0 +1,15 @@
+//! Bodies of requests: the command that a JSON object gives.
+//!
+//! [`command_in`] reads a body as the command of a kind. The body is an object with a member for each field of the
+//! command, by `office_fields`' one table: its names, kinds and how often each may be given. Only how JSON writes a
+//! value is known here. The values go to `office_fields` as bytes, as they would from a script, so that each range is
+//! tested in one place.
+//!
+//! `specs/Body.antt` has the definitions.
+#![tactic(auto)]
+
+mod body;
+mod members;
+mod values;
+
+pub use body::command_in;

@@ -1,0 +1,3 @@
+pub mod One
+pub mod Rows
+pub mod Whole

@@ -1,0 +1,65 @@
+-- Worked examples, computed from the definitions.
+use Rattle.std.proofs.Common.{◌≡◌, ℕ, List, [], ◌∷◌, ◌++◌, map, Some, None, codes, refl}
+use Rattle.catalogue.specs.Name.{is_name}
+use Rattle.office_types.specs.declared.command.Task.TheVariants as task
+use Rattle.desk_types.specs.declared.problem.Problem.TheVariants.{BadRequest}
+use Rattle.desk_head.specs.Fields.{Headers, named}
+use Rattle.desk_head.specs.declared.ahead.Ahead.TheVariants as ahead
+use Rattle.desk_head.specs.declared.endpoint.Posting.TheVariants.{Import}
+use Rattle.desk_head.specs.declared.endpoint.Showing.TheVariants as showing
+use Rattle.desk_call.specs.Call.{arrives, asking_of, call_by, fails, look_of}
+use Rattle.desk_call.specs.declared.call.Look.TheVariants as look
+
+abbrev headers : List ℕ → List ℕ → Headers
+headers team key = (codes "Team", team) ∷ (codes "Request-Key", key) ∷ []
+
+-- bytes after the request don't count
+taken : call_by (ahead.Does Import 4) (codes "/import/truck") (headers (codes "engine") (codes "i1")) (codes "BU_:GET")
+    ≡ arrives (record {
+      team = codes "engine";
+      key = codes "i1";
+      content = codes "/import/truck BU_:";
+      command = record { net = codes "truck"; task = task.Import (codes "BU_:") };
+    })
+unfolding asking_of named
+taken = refl
+
+-- a body that ends too early
+cut_off : call_by (ahead.Does Import 5) (codes "/import/truck") (headers (codes "engine") (codes "i1")) (codes "BU_:")
+    ≡ fails BadRequest
+cut_off = refl
+
+-- ---- headers
+
+not_imported : asking_of Import (codes "/import/Truck") (headers (codes "engine") (codes "i1")) []
+    ∷ asking_of Import (codes "/import/truck") (headers (codes "Engine") (codes "i1")) []
+    ∷ asking_of Import (codes "/import/truck") (headers (codes "engine") (codes "-")) []
+    ∷ asking_of Import (codes "/import/truck") (headers (codes "engine") (codes "i 1")) []
+    ∷ asking_of Import (codes "/import/truck") ((codes "Team", codes "engine") ∷ []) []
+    ∷ asking_of Import (codes "/import/truck")
+    (headers (codes "engine") (codes "i1") ++ headers (codes "engine") (codes "i1")) []
+    ∷ []
+    ≡ None ∷ None ∷ None ∷ None ∷ None ∷ None ∷ []
+unfolding asking_of named
+not_imported = refl
+
+-- ---- what is shown
+
+looks : look_of showing.Nets (codes "/nets")
+    ∷ look_of showing.Table (codes "/nets/truck")
+    ∷ look_of showing.Live (codes "/nets/truck/live")
+    ∷ look_of showing.Chart (codes "/nets/truck/messages/E1")
+    ∷ look_of showing.Table (codes "/nets/Truck")
+    ∷ look_of showing.Chart (codes "/nets/truck/messages/1E")
+    ∷ []
+    ≡ Some look.Nets ∷ Some (look.Table (codes "truck")) ∷ Some (look.Live (codes "truck"))
+    ∷ Some (look.Chart (codes "truck") (codes "E1")) ∷ None ∷ None ∷ []
+unfolding is_name
+looks = refl
+
+releases : map (look_of showing.Release) (codes "/nets/truck/releases/1" ∷ codes "/nets/truck/releases/0065535"
+    ∷ codes "/nets/truck/releases/65536" ∷ codes "/nets/truck/releases/0" ∷ codes "/nets/truck/releases/+1"
+    ∷ codes "/nets/truck/releases/1.0" ∷ [])
+    ≡ Some (look.Release (codes "truck") 1) ∷ Some (look.Release (codes "truck") 65535) ∷ None ∷ None ∷ None ∷ None
+    ∷ []
+releases = refl

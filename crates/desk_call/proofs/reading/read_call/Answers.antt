@@ -1,0 +1,52 @@
+use Rattle.std.proofs.Common.{◌≡◌, ◌≤◌, ◌<◌, ◌⊎◌, drop, length, inl, inr, arith, ap, Err}
+use Rattle.std.proofs.lemmas.List.{take_rest}
+use Rattle.std.specs.Io.KnownBytes.{IsAtEnd}
+use Rattle.desk_types.specs.Moved.{Moves}
+use Rattle.desk_types.specs.declared.fault.DeskFault.TheVariants.{Read}
+use Rattle.desk_head.specs.Ahead.{ahead_of, body_size}
+use Rattle.desk_head.specs.Head.{IsHeadAt}
+use Rattle.desk_call.specs.Call.{call_of, seen}
+use Rattle.desk_call.proofs.Whole.{asks, either, not_whole}
+use Rattle.desk_call.proofs.reading.read_call.Goals as goal
+
+pub returns-in-Err-read_until-clause-read : goal.returns-in-Err-read_until-clause-read
+returns-in-Err-read_until-clause-read g c is_read =
+    let left = g.R.Source.left in
+    let got = c.read_head.new.got.items in
+    let rest = c.read_until.new.got.items in
+    let spans = c.in-Ok-Some.spans in
+    let head : IsHeadAt got c.read_head.new.headers spans = rw c.in-Ok-Some.field-0-is at c.in-Ok-Some.ensures.head in
+    let tail : c.in-Ok-from_slice.rest.items ≡ drop spans.len got =
+    rw (c.deref-2.ensures.value, take_rest got spans.len) at c.in-Ok-from_slice.ensures.items in
+    let fault : c.in-Err-read_until.e ≡ Read = cc is_read in
+    let read = c.in-Err-read_until.ensures.read (ap Err fault) in
+    let second : Moves (left c.read_head.new.source) (left c.read_until.new.source) (drop spans.len got) rest =
+    rw tail at read.0 in
+    let ahead : c.in-Ok.ahead ≡ ahead_of head.1.0 = c.in-Ok.ensures head.1.0 (rw c.deref.ensures.value head.1.2) in
+    let short : length rest < body_size (ahead_of head.1.0) =
+    rw (← ahead) (omega (arith, read.1, c.body_size.ensures, c.read_until.new.got.ok.0)) in
+    not_whole _ _ _ got (drop spans.len got) rest head.1.0 c.in-Ok-Some.ensures.moves second head.1.1 short
+
+pub returns-in-Ok-call_read-clause-ok : goal.returns-in-Ok-call_read-clause-ok
+returns-in-Ok-call_read-clause-ok g c =
+    let left = g.R.Source.left in
+    let got = c.read_head.new.got.items in
+    let rest = c.read_until.new.got.items in
+    let spans = c.in-Ok-Some.spans in
+    let head : IsHeadAt got c.read_head.new.headers spans = rw c.in-Ok-Some.field-0-is at c.in-Ok-Some.ensures.head in
+    let tail : c.in-Ok-from_slice.rest.items ≡ drop spans.len got =
+    rw (c.deref-2.ensures.value, take_rest got spans.len) at c.in-Ok-from_slice.ensures.items in
+    let second : Moves (left c.read_head.new.source) (left c.read_until.new.source) (drop spans.len got) rest =
+    rw tail at c.in-Ok-read_until.ensures.moves in
+    let ahead : c.in-Ok.ahead ≡ ahead_of head.1.0 = c.in-Ok.ensures head.1.0 (rw c.deref.ensures.value head.1.2) in
+    let end : (body_size (ahead_of head.1.0) ≤ length rest) ⊎ IsAtEnd (left c.read_until.new.source) =
+    elim (either c.read_until.result c.in-Ok-read_until.field-0 c.in-Ok-read_until.is
+    c.read_until.ensures.whole c.read_until.ensures.end) [
+      | inl a ↦ inl (rw (← ahead) (omega (arith, a, c.body_size.ensures, c.read_until.new.got.ok.0)))
+      | inr e ↦ inr e.0
+    ] in
+    let is : seen c.in-Ok-call_read.call ≡ call_of head.1.0 rest =
+    rw c.deref-4.ensures.value at
+    (c.in-Ok-call_read.ensures head.1.0 (rw c.deref-3.ensures.value head.1.2) ahead) in
+    asks (left c.args.source.now) _ _ got (drop spans.len got) rest head.1.0 _
+    c.in-Ok-Some.ensures.moves second head.1.1 is end

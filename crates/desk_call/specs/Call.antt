@@ -1,0 +1,120 @@
+-- What a request asks of the office: the ordered tests, on its head and on what follows the head.
+use Rattle.std.specs.Prelude.{ℕ, nat_le, ◌&&◌, List, ◌∷◌, ◌++◌, length, map, take, codes, cond, Option, Some, None}
+use Rattle.std.specs.Option.{option_map}
+use Rattle.httparse.specs.Grammar.{RequestHead}
+use Rattle.httparse.specs.Spans.{name_and_value}
+use Rattle.catalogue.specs.WholeNumber.{whole_of}
+use Rattle.office_types.specs.declared.command.Command.{Command}
+use Rattle.office_types.specs.declared.command.Task.TheVariants as task
+use Rattle.office_types.specs.declared.release.TheConstants.{RELEASE_LIMIT}
+use Rattle.office_fields.specs.Given.{read_once}
+use Rattle.office_fields.specs.Value.{◌>>=◌, name_of, plain_name_of, where_true}
+use Rattle.office_history.specs.Key.{is_key}
+use Rattle.office_history.specs.declared.arrival.Arrival.{Arrival}
+use Rattle.desk_types.specs.declared.problem.Problem.{Problem}
+use Rattle.desk_types.specs.declared.problem.Problem.TheVariants.{BadRequest, NotFound}
+use Rattle.desk_head.specs.Ahead.{ahead_of}
+use Rattle.desk_head.specs.Fields.{Headers, named}
+use Rattle.desk_head.specs.Target.{first_parameter, second_parameter}
+use Rattle.desk_head.specs.declared.ahead.Ahead.{Ahead}
+use Rattle.desk_head.specs.declared.ahead.Ahead.TheVariants as ahead
+use Rattle.desk_head.specs.declared.endpoint.Posting.{Posting}
+use Rattle.desk_head.specs.declared.endpoint.Posting.TheVariants.{Act, Import}
+use Rattle.desk_head.specs.declared.endpoint.Showing.{Showing}
+use Rattle.desk_head.specs.declared.endpoint.Showing.TheVariants as showing
+use Rattle.desk_body.specs.Body.{command_in}
+use Rattle.desk_call.specs.declared.call.Call as declared
+use Rattle.desk_call.specs.declared.call.Call.TheVariants as call
+use Rattle.desk_call.specs.declared.call.Look.{Look}
+use Rattle.desk_call.specs.declared.call.Look.TheVariants as look
+
+-- an arrival, as contracts see it
+pub record Asking : Type 0 where
+  pub team : List ℕ
+  pub key : List ℕ
+  pub content : List ℕ
+  pub command : Command
+
+pub data Asked : Type 0 where
+  fails : Problem → Asked
+  shows : Look → Asked
+  arrives : Asking → Asked
+
+abbrev pub asking_seen : Arrival → Asking
+asking_seen a = record { team = a.team; key = a.key; content = a.request.content.items; command = a.request.command }
+
+abbrev pub seen : declared.Call → Asked
+seen (call.Fails problem) = fails problem
+seen (call.Shows l) = shows l
+seen (call.Arrives a) = arrives (asking_seen a)
+
+-- ---- what is to be shown
+
+-- the number of a release
+abbrev pub release_number : List ℕ → Option ℕ
+release_number bytes = whole_of bytes >>= λ n. where_true (nat_le 1 n && nat_le n RELEASE_LIMIT) (Some n)
+
+abbrev pub net_in : List ℕ → Option (List ℕ)
+net_in target = plain_name_of (first_parameter target)
+
+abbrev pub release_in : List ℕ → Option Look
+release_in target = net_in target >>= λ net. release_number (second_parameter target)
+    >>= λ n. Some (look.Release net n)
+
+abbrev pub chart_in : List ℕ → Option Look
+chart_in target = net_in target >>= λ net. name_of (second_parameter target)
+    >>= λ message. Some (look.Chart net message)
+
+-- what a target shows, where its parameters have their forms: else there can be nothing there
+abbrev pub look_of : Showing → List ℕ → Option Look
+look_of showing.Nets target = Some look.Nets
+look_of showing.Table target = option_map look.Table (net_in target)
+look_of showing.Live target = option_map look.Live (net_in target)
+look_of showing.Release target = release_in target
+look_of showing.Chart target = chart_in target
+
+abbrev pub show_by : Option Look → Asked
+show_by None = fails NotFound
+show_by (Some l) = shows l
+
+-- ---- what arrives
+
+abbrev pub key_of : List ℕ → Option (List ℕ)
+key_of bytes = where_true (is_key bytes) (Some bytes)
+
+abbrev pub import_of : List ℕ → List ℕ → Option Command
+import_of target body = option_map (λ net. record { net = net; task = task.Import body }) (net_in target)
+
+abbrev pub command_of : Posting → List ℕ → List ℕ → Option Command
+command_of (Act k) target body = command_in k body
+command_of Import target body = import_of target body
+
+-- the bytes by which a repeat is told: the target, a space and the body
+abbrev pub content_of : List ℕ → List ℕ → List ℕ
+content_of target body = target ++ 32 ∷ body
+
+-- an arrival, where the headers `Team` and `Request-Key` are there once and have their forms, and the body gives a
+-- command
+unfoldable pub asking_of : Posting → List ℕ → Headers → List ℕ → Option Asking
+asking_of p target headers body = do
+  team ← read_once plain_name_of (named (codes "team") headers)
+  key ← read_once key_of (named (codes "request-key") headers)
+  command ← command_of p target body
+  Some (record { team = team; key = key; content = content_of target body; command = command })
+
+abbrev pub arrive_by : Option Asking → Asked
+arrive_by None = fails BadRequest
+arrive_by (Some a) = arrives a
+
+-- ---- all of it
+
+abbrev pub call_by : Ahead → List ℕ → Headers → List ℕ → Asked
+call_by (ahead.Fails problem) target headers rest = fails problem
+call_by (ahead.Shows s) target headers rest = show_by (look_of s target)
+call_by (ahead.Does p n) target headers rest =
+    cond (nat_le n (length rest)) (arrive_by (asking_of p target headers (take n rest))) (fails BadRequest)
+
+-- What a request asks that has this head, in bytes that go on with the rest. In order: what the head alone answers; a
+-- body that ends too early; headers or a body that aren't of their forms; targets with nothing there.
+unfoldable pub call_of : RequestHead → List ℕ → Asked
+call_of h rest = call_by (ahead_of h) h.target (map name_and_value h.fields) rest

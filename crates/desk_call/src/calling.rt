@@ -1,0 +1,57 @@
+//! The call of a request that was read.
+ghost use Rattle.std.specs.Prelude.{◌≡◌, ◌≤◌, All, IfOk, length, map};
+ghost use Rattle.httparse.specs.Spans.{IsHeaderWithin, header_bytes};
+ghost use Rattle.desk_call.specs.Call.{call_by, look_of, seen, show_by};
+
+use crate::asking::asking_of;
+use crate::call::Call;
+use crate::looks::look_of;
+use desk_head::{Ahead, Showing};
+use desk_types::Problem;
+use httparse::spans::HeaderSpan;
+use office_fields::Unread;
+use std::alloc::{AllocError, Global};
+
+fn show_at(alloc: Global, showing: Showing, target: &[u8]) -> Result<Call, AllocError>
+    ensures { IfOk result (λ call. seen call ≡ show_by (look_of showing target.now)) }
+{
+    match look_of(alloc, showing, target) {
+        Ok(look) => Ok(Call::Shows(look)),
+        Err(Unread::Wrong) => Ok(Call::Fails(Problem::NotFound)),
+        Err(Unread::Memory) => Err(AllocError),
+    }
+}
+
+/// The call of a request whose head asks for this, with this target and these headers in the first `len` bytes of the
+/// buffer, and with what was read after the head.
+pub(crate) fn call_by(
+    alloc: Global,
+    ahead: Ahead,
+    target: &[u8],
+    buf: &[u8],
+    headers: &[HeaderSpan],
+    len: usize,
+    rest: &[u8],
+) -> Result<Call, AllocError>
+    requires fits { len ≤ length buf.now }
+    requires within { All (IsHeaderWithin len) headers.now }
+    ensures { IfOk result (λ call. seen call
+        ≡ call_by ahead target.now (map (header_bytes buf.now) headers.now) rest.now) }
+{
+    match ahead {
+        Ahead::Fails(problem) => Ok(Call::Fails(problem)),
+        Ahead::Shows(showing) => show_at(alloc, showing, target),
+        Ahead::Does(posting, length) => {
+            let length = length as usize;
+            if length <= rest.len() {
+                match asking_of(alloc, posting, target, buf, headers, len, &rest[..length]) {
+                    Ok(arrival) => Ok(Call::Arrives(arrival)),
+                    Err(Unread::Wrong) => Ok(Call::Fails(Problem::BadRequest)),
+                    Err(Unread::Memory) => Err(AllocError),
+                }
+            } else {
+                Ok(Call::Fails(Problem::BadRequest))
+            }
+        }
+    }
+}

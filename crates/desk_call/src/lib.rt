@@ -1,0 +1,19 @@
+//! What a request asks of the office: the ordered tests of the desk, and the reading of one request.
+//!
+//! [`read_call`] reads the first request of a source, and no further than to its end, as a [`Call`]: a problem that
+//! answers it, something to look up, or an arrival. The tests are one function of the head and of what follows it
+//! (`call_of`, `specs/Call.antt`), whose first part is `ahead_of` of `desk_head`. `specs/Read.antt` says which call
+//! the bytes of a source come to; by [`bytes_ask_one_thing`] it is one.
+#![tactic(auto)]
+
+mod asking;
+mod call;
+mod calling;
+mod laws;
+mod looks;
+mod reading;
+mod values;
+
+pub use call::{Call, Look};
+pub use laws::bytes_ask_one_thing;
+pub use reading::read_call;

@@ -1,0 +1,95 @@
+//! Reading one request.
+ghost use Rattle.std.specs.Prelude.{◌≡◌, ◌+◌, ◌-◌, ◌<◌, ◌≤◌, ◌^◌, ℕ, List, true, false, IfOk, OnOk, IsErrOf, IfSome, vec_len, drop};
+ghost use Rattle.std.specs.Io.KnownBytes.{Consumes, IsAtEnd};
+ghost use Rattle.httparse.specs.Grammar.{RequestHead};
+ghost use Rattle.httparse.specs.Spans.{IsRequestAt};
+ghost use Rattle.desk_types.specs.Moved.{Moves};
+ghost use Rattle.desk_head.specs.Head.{IsHeadAt};
+ghost use Rattle.desk_head.specs.Ahead.{ahead_of};
+ghost use Rattle.desk_call.specs.Call.{call_of, seen};
+ghost use Rattle.desk_call.specs.Read.{Asks, IsNotWhole};
+
+use crate::call::Call;
+use crate::calling::call_by;
+use desk_head::{Ahead, HEADER_LIMIT, body_size, empty_headers, read_head, what_is_ahead};
+use desk_types::{DeskFault, Problem, Source, take_more};
+use httparse::spans::{HeaderSpan, RequestSpans};
+use std::alloc::{AllocError, Global};
+
+/// Reads until so many bytes are there, and says whether they are: else the source is at its end.
+fn read_until<R: Source>(source: &mut R, got: &mut Vec<u8>, until: usize) -> Result<bool, DeskFault>
+    requires { R.failure_count source.old < 2 ^ 64 - 1 }
+    ensures moves { OnOk result (Moves (R.left source.old) (R.left source.new) got.old.items got.new.items) }
+    ensures whole { result ≡ Ok true → until ≤ vec_len got.new }
+    ensures end { result ≡ Ok false → IsAtEnd (R.left source.new) × (vec_len got.new < until) }
+    ensures kept { OnOk result (R.failure_count source.new ≡ R.failure_count source.old) }
+    ensures read { IsErrOf result DeskFault.Read
+        → Moves (R.left source.old) (R.left source.new) got.old.items got.new.items × (vec_len got.new < until) }
+    ensures failed { IsErrOf result DeskFault.Read → R.failure_count source.new ≡ R.failure_count source.old + 1 }
+    ensures memory { IsErrOf result DeskFault.Memory → R.failure_count source.new ≡ R.failure_count source.old }
+    ensures never { IsErrOf result DeskFault.Write → ⊥ }
+{
+    while got.len() < until {
+        let room = until - got.len();
+        match take_more(source, got, room) {
+            Err(e) => return Err(e),
+            Ok(true) => {}
+            Ok(false) => return Ok(false),
+        }
+    }
+    Ok(true)
+}
+
+/// The call of a request whose head is at the front of the bytes, and that goes on with the rest.
+#[tactic(auto, unfolding(crate::specs::Call::call_of))]
+fn call_read(
+    alloc: Global,
+    ahead: Ahead,
+    got: &[u8],
+    headers: &[HeaderSpan; HEADER_LIMIT],
+    spans: RequestSpans,
+    rest: &[u8],
+) -> Result<Call, AllocError>
+    requires { IsHeadAt got.now headers.now spans }
+    ensures { IfOk result (λ call. (h : RequestHead) → IsRequestAt got.now headers.now spans h → ahead ≡ ahead_of h
+        → seen call ≡ call_of h rest.now) }
+{
+    let target = spans.path.of(got);
+    let headers = &headers[..spans.headers];
+    call_by(alloc, ahead, target, got, headers, spans.len, rest)
+}
+
+/// Reads the first request of a source, as what it asks. Nothing is read once the request is whole, or known to be
+/// wrong by its head. `Read` if a call of the source fails before that, `Memory` if memory runs out.
+pub fn read_call<R: Source>(alloc: Global, source: &mut R) -> Result<Call, DeskFault>
+    requires { R.failure_count source.old < 2 ^ 64 - 1 }
+    ensures ok { IfOk result (λ call. IfSome (R.left source.old) (λ input. Asks input (seen call))) }
+    ensures kept { OnOk result (R.failure_count source.new ≡ R.failure_count source.old) }
+    ensures read { IsErrOf result DeskFault.Read → (bytes : List ℕ)
+        × Consumes (R.left source.old) (R.left source.new) bytes × IsNotWhole bytes }
+    ensures failed { IsErrOf result DeskFault.Read → R.failure_count source.new ≡ R.failure_count source.old + 1 }
+    ensures memory { IsErrOf result DeskFault.Memory → R.failure_count source.new ≡ R.failure_count source.old }
+    ensures never { IsErrOf result DeskFault.Write → ⊥ }
+{
+    let mut got = Vec::new(alloc);
+    let mut headers = empty_headers();
+    let spans = match read_head(source, &mut got, &mut headers) {
+        Err(e) => return Err(e),
+        Ok(Some(spans)) => spans,
+        Ok(None) => return Ok(Call::Fails(Problem::BadRequest)),
+    };
+    let Ok(ahead) = what_is_ahead(alloc, &got, &headers, spans) else {
+        return Err(DeskFault::Memory);
+    };
+    let Ok(mut rest) = Vec::from_slice(alloc, &got[spans.len..]) else {
+        return Err(DeskFault::Memory);
+    };
+    match read_until(source, &mut rest, body_size(ahead) as usize) {
+        Err(e) => return Err(e),
+        Ok(_) => {}
+    }
+    match call_read(alloc, ahead, &got, &headers, spans, &rest) {
+        Ok(call) => Ok(call),
+        Err(_) => Err(DeskFault::Memory),
+    }
+}

@@ -1,0 +1,145 @@
+-- Worked examples, computed from the definitions.
+use Rattle.std.proofs.Common.{◌≡◌, ℕ, List, [], ◌∷◌, ◌++◌, map, Some, None, Ok, Err, codes, refl}
+use Rattle.httparse.specs.Grammar.{RequestHead, Field, crlf, lf, print_request, trim_ows}
+use Rattle.matchit.proofs.OnLiterals.{matchit_on_literals}
+use Rattle.office_fields.specs.declared.kind.ActionKind.TheVariants as act
+use Rattle.desk_types.specs.declared.problem.Problem.TheVariants.{BadRequest, NotFound, WrongMethod, NoLength, TooLarge}
+use Rattle.desk_head.specs.Ahead.{ahead_of}
+use Rattle.desk_head.specs.Fields.{Headers, body_length, named}
+use Rattle.desk_head.specs.Target.{endpoint_of, first_parameter, second_parameter, the_routes, with_route}
+use Rattle.desk_head.specs.declared.ahead.Ahead.TheVariants as ahead
+use Rattle.desk_head.specs.declared.endpoint.Endpoint.TheVariants.{Shows, Does}
+use Rattle.desk_head.specs.declared.endpoint.Posting.TheVariants.{Act, Import}
+use Rattle.desk_head.specs.declared.endpoint.Showing.TheVariants as showing
+
+-- ---- targets
+
+shown : map endpoint_of (codes "/nets" ∷ codes "/nets/truck" ∷ codes "/nets/truck/live"
+    ∷ codes "/nets/truck/releases/1" ∷ codes "/nets/truck/messages/E1" ∷ [])
+    ≡ Some (Shows showing.Nets) ∷ Some (Shows showing.Table) ∷ Some (Shows showing.Live)
+    ∷ Some (Shows showing.Release) ∷ Some (Shows showing.Chart) ∷ []
+unfolding endpoint_of the_routes with_route matchit_on_literals
+shown = refl
+
+-- the names of routes are names of networks too
+awkward : map endpoint_of (codes "/nets/live" ∷ codes "/nets/releases" ∷ codes "/nets/live/live"
+    ∷ codes "/import/nets" ∷ [])
+    ≡ Some (Shows showing.Table) ∷ Some (Shows showing.Table) ∷ Some (Shows showing.Live) ∷ Some (Does Import) ∷ []
+unfolding endpoint_of the_routes with_route matchit_on_literals
+awkward = refl
+
+commands : map endpoint_of (codes "/do/take_ident" ∷ codes "/do/release" ∷ codes "/do/import" ∷ codes "/do/fly"
+    ∷ codes "/do/Release" ∷ [])
+    ≡ Some (Does (Act act.TakeIdent)) ∷ Some (Does (Act act.Release)) ∷ None ∷ None ∷ None ∷ []
+unfolding endpoint_of the_routes with_route matchit_on_literals
+commands = refl
+
+nothing : map endpoint_of (codes "/" ∷ codes "*" ∷ codes "nets" ∷ codes "/Nets" ∷ codes "/nets?a=1" ∷ codes "/do/"
+    ∷ codes "/do/take_ident/" ∷ [])
+    ≡ None ∷ None ∷ None ∷ None ∷ None ∷ None ∷ None ∷ []
+unfolding endpoint_of the_routes with_route matchit_on_literals
+nothing = refl
+
+empty_parts : map endpoint_of (codes "/nets/" ∷ codes "/nets//live" ∷ codes "/nets/truck/"
+    ∷ codes "/nets/truck/live/" ∷ [])
+    ≡ None ∷ None ∷ None ∷ None ∷ []
+unfolding endpoint_of the_routes with_route matchit_on_literals
+empty_parts = refl
+
+shorter : endpoint_of (codes "/nets/truck/releases") ≡ None
+unfolding endpoint_of the_routes with_route matchit_on_literals
+shorter = refl
+
+-- no parameter has a slash
+longer : map endpoint_of (codes "/import/a/b" ∷ codes "/nets/a/b" ∷ []) ≡ None ∷ None ∷ []
+unfolding endpoint_of the_routes with_route matchit_on_literals
+longer = refl
+
+parameters : first_parameter (codes "/do/take_ident") ∷ first_parameter (codes "/nets/truck/releases/1")
+    ∷ second_parameter (codes "/nets/truck/releases/1") ∷ first_parameter (codes "/nets") ∷ []
+    ≡ codes "take_ident" ∷ codes "truck" ∷ codes "1" ∷ [] ∷ []
+parameters = refl
+
+-- ---- header fields
+
+abbrev two : Headers
+two = (codes "Team", codes "engine") ∷ (codes "content-LENGTH", codes "51") ∷ (codes "TEAM", codes "brake") ∷ []
+
+under_a_name : map (λ name. named name two) (codes "team" ∷ codes "Content-Length" ∷ codes "Content" ∷ [])
+    ≡ (codes "engine" ∷ codes "brake" ∷ []) ∷ (codes "51" ∷ []) ∷ [] ∷ []
+unfolding named
+under_a_name = refl
+
+abbrev of_length : List ℕ → Headers
+of_length text = (codes "Content-Length", text) ∷ []
+
+lengths : map (λ text. body_length (of_length text)) (codes "51" ∷ codes "0" ∷ codes "4194304"
+    ∷ codes "0000000000000000051" ∷ [])
+    ≡ Ok 51 ∷ Ok 0 ∷ Ok 4194304 ∷ Ok 51 ∷ []
+unfolding body_length named
+lengths = refl
+
+too_large : map (λ text. body_length (of_length text)) (codes "4194305" ∷ codes "4294967296"
+    ∷ codes "9999999999999999999" ∷ [])
+    ≡ Err TooLarge ∷ Err TooLarge ∷ Err TooLarge ∷ []
+unfolding body_length named
+too_large = refl
+
+no_length : map (λ text. body_length (of_length text)) ([] ∷ codes "+51" ∷ codes "-1" ∷ codes "5 1" ∷ codes "0x33"
+    ∷ codes "51,51" ∷ codes "00000000000000000051" ∷ [])
+    ≡ Err BadRequest ∷ Err BadRequest ∷ Err BadRequest ∷ Err BadRequest ∷ Err BadRequest ∷ Err BadRequest
+    ∷ Err BadRequest ∷ []
+unfolding body_length named
+no_length = refl
+
+without_length : body_length two ∷ body_length [] ∷ body_length (of_length (codes "51") ++ of_length (codes "51"))
+    ∷ body_length ((codes "Transfer-Encoding", codes "chunked") ∷ [])
+    ∷ body_length ((codes "transfer-encoding", []) ∷ of_length (codes "51")) ∷ []
+    ≡ Ok 51 ∷ Err NoLength ∷ Err BadRequest ∷ Err BadRequest ∷ Err BadRequest ∷ []
+unfolding body_length named
+without_length = refl
+
+-- ---- heads
+
+abbrev field : List ℕ → List ℕ → Field
+field name raw = record { name = name; raw = raw; end = crlf }
+
+abbrev taking : List ℕ → RequestHead
+taking method = record {
+  blank = [];
+  method = method;
+  target = codes "/do/take_ident";
+  minor = 1;
+  line_end = crlf;
+  fields = field (codes "Team") (codes " engine") ∷ field (codes "Request-Key") (codes " a1")
+      ∷ field (codes "Content-Length") (codes " 51\t") ∷ [];
+  last = crlf;
+}
+
+text_of_taking : print_request (taking (codes "POST"))
+    ≡ codes "POST /do/take_ident HTTP/1.1\r\nTeam: engine\r\nRequest-Key: a1\r\nContent-Length: 51\t\r\n\r\n"
+unfolding print_request
+text_of_taking = refl
+
+methods : map (λ method. ahead_of (taking method)) (codes "POST" ∷ codes "GET" ∷ codes "post" ∷ codes "HEAD" ∷ [])
+    ≡ ahead.Does (Act act.TakeIdent) 51 ∷ ahead.Fails WrongMethod ∷ ahead.Fails WrongMethod
+    ∷ ahead.Fails WrongMethod ∷ []
+unfolding ahead_of endpoint_of the_routes with_route matchit_on_literals body_length named trim_ows
+methods = refl
+
+-- on a `GET` no header of a body is looked at, and where there is nothing the method doesn't matter
+abbrev coded_get : List ℕ → RequestHead
+coded_get target = record {
+  blank = crlf ∷ [];
+  method = codes "GET";
+  target = target;
+  minor = 0;
+  line_end = lf;
+  fields = field (codes "Transfer-Encoding") (codes "chunked") ∷ [];
+  last = lf;
+}
+
+gets : map (λ target. ahead_of (coded_get target)) (codes "/nets" ∷ codes "/net" ∷ codes "/import/truck" ∷ [])
+    ≡ ahead.Shows showing.Nets ∷ ahead.Fails NotFound ∷ ahead.Fails WrongMethod ∷ []
+unfolding ahead_of endpoint_of the_routes with_route matchit_on_literals
+gets = refl

@@ -1,0 +1,6 @@
+pub mod Limits
+pub mod Head
+pub mod Sight
+pub mod Fields
+pub mod Target
+pub mod Ahead

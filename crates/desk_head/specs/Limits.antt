@@ -1,0 +1,15 @@
+-- The limits of requests.
+use Rattle.std.specs.Prelude.{ℕ}
+use Rattle.desk_head.specs.declared.limits.TheConstants.{BODY_LIMIT, HEADER_LIMIT, HEAD_LIMIT}
+
+-- the greatest length of a head, in bytes
+abbrev pub head_limit : ℕ
+head_limit = HEAD_LIMIT
+
+-- the greatest number of headers
+abbrev pub header_limit : ℕ
+header_limit = HEADER_LIMIT
+
+-- the greatest length of a body, in bytes
+abbrev pub body_limit : ℕ
+body_limit = BODY_LIMIT

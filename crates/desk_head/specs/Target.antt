@@ -1,0 +1,86 @@
+-- What is at a target: the routes, and the parts of a target.
+use Rattle.std.specs.Prelude.{ℕ, List, [], Option, Some, None, Result, Ok, Err, codes}
+use Rattle.std.specs.Option.{option_and_then, option_map}
+use Rattle.matchit.specs.Order.{placed}
+use Rattle.matchit.specs.Route.{Scan, parse_route}
+use Rattle.matchit.specs.Router.{RouteOf, route_from}
+use Rattle.matchit.specs.Rows.{RowsOf}
+use Rattle.matchit.specs.Seek.{first}
+use Rattle.matchit.specs.declared.error.InsertError.{InsertError}
+use Rattle.catalogue.specs.Split.{split_once}
+use Rattle.office_fields.specs.Kind.{kind_of_word}
+use Rattle.office_fields.specs.declared.kind.CommandKind.{CommandKind}
+use Rattle.office_fields.specs.declared.kind.CommandKind.TheVariants as command
+use Rattle.desk_head.specs.declared.endpoint.Endpoint.{Endpoint}
+use Rattle.desk_head.specs.declared.endpoint.Endpoint.TheVariants.{Shows, Does}
+use Rattle.desk_head.specs.declared.endpoint.Posting.TheVariants.{Act, Import}
+use Rattle.desk_head.specs.declared.endpoint.Showing.TheVariants as shown
+use Rattle.desk_head.specs.declared.routes.Route.{Route}
+use Rattle.desk_head.specs.declared.routes.Route.TheVariants as route
+
+-- ---- parts
+
+abbrev pub front_by : Option (List ℕ × List ℕ) → List ℕ → List ℕ
+front_by None target = target
+front_by (Some parts) target = parts.0
+
+abbrev pub rest_by : Option (List ℕ × List ℕ) → List ℕ
+rest_by None = []
+rest_by (Some parts) = parts.1
+
+-- what comes before the first slash, and what after it
+abbrev pub front_part : List ℕ → List ℕ
+front_part target = front_by (split_once 47 target) target
+
+abbrev pub later_parts : List ℕ → List ℕ
+later_parts target = rest_by (split_once 47 target)
+
+-- the first parameter comes after two slashes, the second one after four
+abbrev pub first_parameter : List ℕ → List ℕ
+first_parameter target = front_part (later_parts (later_parts target))
+
+abbrev pub second_parameter : List ℕ → List ℕ
+second_parameter target = first_parameter (later_parts (later_parts target))
+
+-- ---- routes
+
+-- the routes with one more
+abbrev pub added : Route → Result Scan InsertError → RowsOf (RouteOf Route) → RowsOf (RouteOf Route)
+added value (Ok s) rows = placed (s.pattern, route_from s value) rows
+added value (Err e) rows = rows
+
+unfoldable pub with_route : List ℕ → Route → RowsOf (RouteOf Route) → RowsOf (RouteOf Route)
+with_route text value rows = added value (parse_route text) rows
+
+-- the seven routes; a parameter is one or more bytes other than a slash
+unfoldable pub the_routes : RowsOf (RouteOf Route)
+the_routes =
+    with_route (codes "/nets/{net}/messages/{message}") route.Message
+    (with_route (codes "/nets/{net}/releases/{n}") route.Release
+    (with_route (codes "/nets/{net}/live") route.Live
+    (with_route (codes "/nets/{net}") route.Net
+    (with_route (codes "/nets") route.Nets
+    (with_route (codes "/import/{net}") route.Import
+    (with_route (codes "/do/{command}") route.Do []))))))
+
+-- the route that the whole target matches
+abbrev pub route_of : List ℕ → Option Route
+route_of target = option_map (λ r. r.value) (first the_routes target)
+
+-- a command has the route of commands, but `import` a route of its own
+abbrev pub done_by : CommandKind → Option Endpoint
+done_by (command.Act kind) = Some (Does (Act kind))
+done_by command.Import = None
+
+abbrev pub endpoint_at : Route → List ℕ → Option Endpoint
+endpoint_at route.Do target = option_and_then done_by (kind_of_word (first_parameter target))
+endpoint_at route.Import target = Some (Does Import)
+endpoint_at route.Nets target = Some (Shows shown.Nets)
+endpoint_at route.Net target = Some (Shows shown.Table)
+endpoint_at route.Live target = Some (Shows shown.Live)
+endpoint_at route.Release target = Some (Shows shown.Release)
+endpoint_at route.Message target = Some (Shows shown.Chart)
+
+-- what is at the target, if anything
+unfoldable pub endpoint_of : List ℕ → Option Endpoint
+endpoint_of target = option_and_then (λ r. endpoint_at r target) (route_of target)

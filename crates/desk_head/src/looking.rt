@@ -1,0 +1,41 @@
+//! The head at the front of bytes.
+ghost use Rattle.std.specs.Prelude.{◌≤◌, length};
+ghost use Rattle.desk_head.specs.Sight.{Sees};
+
+use crate::limits::{HEAD_LIMIT, HEADER_LIMIT};
+use httparse::Status;
+use httparse::spans::{EMPTY_HEADER_SPAN, HeaderSpan, RequestSpans, parse_request};
+
+/// What bytes say of the head of a request.
+#[derive(Clone, Copy, Debug)]
+pub enum Sight {
+    /// They begin with the whole head. Its headers are at the front of the array.
+    Whole(RequestSpans),
+    /// Not yet, and bytes may follow that complete it.
+    Partial,
+    /// No bytes can follow that make it a head within the limits.
+    Never,
+}
+
+/// Room for the headers of one head.
+pub fn empty_headers() -> [HeaderSpan; HEADER_LIMIT] {
+    [EMPTY_HEADER_SPAN; HEADER_LIMIT]
+}
+
+/// Looks for the head of a request at the front of the bytes. Takes no memory.
+pub fn look(bytes: &[u8], headers: &mut [HeaderSpan; HEADER_LIMIT]) -> Sight
+    requires { length bytes.now ≤ HEAD_LIMIT }
+    ensures { Sees bytes.now headers.new result }
+{
+    match parse_request(bytes, headers) {
+        Ok(Status::Complete(spans)) => Sight::Whole(spans),
+        Ok(Status::Partial) => {
+            if bytes.len() < HEAD_LIMIT {
+                Sight::Partial
+            } else {
+                Sight::Never
+            }
+        }
+        Err(_) => Sight::Never,
+    }
+}

@@ -1,0 +1,56 @@
+//! The text of a response.
+ghost use Rattle.std.specs.Prelude.{◌≡◌, IfOk, string_bytes};
+ghost use Rattle.desk_reply.specs.Response.{content_type, header_lines, phrase_of, response, status_line};
+
+use crate::responses::Content;
+use http::StatusCode;
+use std::alloc::{AllocError, Global};
+
+fn phrase_of(status: StatusCode) -> &'static str
+    ensures { result.now ≡ phrase_of status }
+{
+    match status.canonical_reason() {
+        Some(text) => text,
+        None => "",
+    }
+}
+
+fn content_type(content: Content) -> &'static str
+    ensures { result.now ≡ content_type content }
+{
+    match content {
+        Content::Json => "application/json",
+        Content::Plain => "text/plain",
+        Content::Bytes => "application/octet-stream",
+    }
+}
+
+#[tactic(auto, unfolding(crate::specs::Response::status_line))]
+fn status_line(alloc: Global, code: u16, phrase: &str) -> Result<String, AllocError>
+    ensures { IfOk result (λ line. string_bytes line ≡ status_line code phrase.now) }
+{
+    format!(in alloc; "HTTP/1.1 {code} {phrase}\r\n")
+}
+
+#[tactic(auto, unfolding(crate::specs::Response::header_lines))]
+fn header_lines(alloc: Global, kind: &str, size: usize) -> Result<String, AllocError>
+    ensures { IfOk result (λ lines. string_bytes lines ≡ header_lines kind.now size) }
+{
+    format!(in alloc; "Content-Type: {kind}\r\nContent-Length: {size}\r\nConnection: close\r\n\r\n")
+}
+
+/// The response of a status with a body.
+pub(crate) fn response(
+    alloc: Global,
+    status: StatusCode,
+    content: Content,
+    body: &[u8],
+) -> Result<Vec<u8>, AllocError>
+    ensures { IfOk result (λ text. text.items ≡ response status content body.now) }
+{
+    let mut text = status_line(alloc, status.as_u16(), phrase_of(status))?.into_bytes();
+    let lines = header_lines(alloc, content_type(content), body.len())?;
+    text.extend_from_slice(lines.as_bytes())?;
+    text.extend_from_slice(body)?;
+    Ok(text)
+}

@@ -1,0 +1,12 @@
+-- What moved from a source or to a sink. `None` is a device that doesn't tell its bytes: then nothing is said.
+use Rattle.std.specs.Prelude.{◌≡◌, ℕ, List, ◌++◌, Option}
+use Rattle.std.specs.Io.KnownBytes.{Appends, Consumes}
+
+-- a beginning of the text was written
+abbrev pub AppendsFront : Option (List ℕ) → Option (List ℕ) → List ℕ → Type 0
+AppendsFront old new text = (front : List ℕ) × (rest : List ℕ) × (text ≡ front ++ rest) × Appends old new front
+
+-- bytes were read, and added to a list
+abbrev pub Moves : Option (List ℕ) → Option (List ℕ) → List ℕ → List ℕ → Type 0
+Moves left_old left_new got_old got_new =
+    (bytes : List ℕ) × (got_new ≡ got_old ++ bytes) × Consumes left_old left_new bytes

@@ -1,0 +1,117 @@
+//! Devices that count their failures.
+ghost use Rattle.std.specs.Prelude.{◌≡◌, ℕ, ◌+◌, ◌<◌, ◌≤◌, ◌^◌, ◌-◌, List, Option, length, IfOk, OnOk, OnErr};
+ghost use Rattle.std.specs.Io.KnownBytes.{ReadConsumes, WriteAppends};
+
+use std::io::{Read, Write};
+
+/// A call of a device failed.
+#[derive(Clone, Copy, Debug, PartialEq, Eq)]
+pub struct Failed;
+
+/// Where requests come from.
+pub trait Source {
+    /// The bytes that it will give from here on, if it tells them.
+    ghost left: { Self → Option (List ℕ) };
+
+    /// How many of its calls failed.
+    ghost failure_count: { Self → ℕ };
+
+    /// Takes bytes into the front of the buffer, and answers how many; 0 is the end. A call that fails takes none.
+    fn take(&mut self, buf: &mut [u8]) -> Result<usize, Failed>
+        requires { failure_count self.old < 2 ^ 64 - 1 }
+        ensures within { IfOk result (λ n. n ≤ length buf.new) }
+        ensures bytes { ReadConsumes (left self.old) (left self.new) result buf.new }
+        ensures taken { OnOk result (failure_count self.new ≡ failure_count self.old) }
+        ensures failed { OnErr result (failure_count self.new ≡ failure_count self.old + 1) };
+
+    /// How many of its calls failed.
+    fn failures(&self) -> u64
+        ensures { result ≡ failure_count self.now };
+}
+
+/// Where answers go.
+pub trait Sink {
+    /// The bytes that it was given so far, if it tells them.
+    ghost told: { Self → Option (List ℕ) };
+
+    /// How many of its calls failed.
+    ghost failure_count: { Self → ℕ };
+
+    /// Puts the front of the bytes, and answers how many: at least one if there are any. A call that fails puts none.
+    fn put(&mut self, bytes: &[u8]) -> Result<usize, Failed>
+        requires { failure_count self.old < 2 ^ 64 - 1 }
+        ensures within { IfOk result (λ n. n ≤ length bytes.now) }
+        ensures some { 0 < length bytes.now → IfOk result (λ n. 0 < n) }
+        ensures bytes { WriteAppends (told self.old) (told self.new) result bytes.now }
+        ensures taken { OnOk result (failure_count self.new ≡ failure_count self.old) }
+        ensures failed { OnErr result (failure_count self.new ≡ failure_count self.old + 1) };
+
+    /// How many of its calls failed.
+    fn failures(&self) -> u64
+        ensures { result ≡ failure_count self.now };
+}
+
+/// A reader or a writer with the count of its failures: each error, and each write that takes nothing.
+#[derive(Drop)]
+pub struct Counted<T> {
+    device: T,
+    count: u64,
+}
+
+impl<T> Counted<T> {
+    /// The device, none of whose calls failed yet.
+    pub fn new(device: T) -> Counted<T>
+        ensures device { result.device ≡ device }
+        ensures count { result.count ≡ 0 }
+    {
+        Counted { device, count: 0 }
+    }
+
+    /// The device.
+    pub fn into_inner(self) -> T
+        ensures { result ≡ self.device }
+    {
+        let Counted { device, count: _ } = self;
+        device
+    }
+}
+
+impl<T: Read> Source for Counted<T> {
+    ghost left = { λ s. T.remaining s.device };
+
+    ghost failure_count = { λ s. s.count };
+
+    fn take(&mut self, buf: &mut [u8]) -> Result<usize, Failed> {
+        match self.device.read(buf) {
+            Ok(n) => Ok(n),
+            Err(_) => {
+                self.count += 1;
+                Err(Failed)
+            }
+        }
+    }
+
+    fn failures(&self) -> u64 {
+        self.count
+    }
+}
+
+impl<T: Write> Sink for Counted<T> {
+    ghost told = { λ s. T.contents s.device };
+
+    ghost failure_count = { λ s. s.count };
+
+    fn put(&mut self, bytes: &[u8]) -> Result<usize, Failed> {
+        match self.device.write(bytes) {
+            Ok(n) if n > 0 => Ok(n),
+            _ => {
+                self.count += 1;
+                Err(Failed)
+            }
+        }
+    }
+
+    fn failures(&self) -> u64 {
+        self.count
+    }
+}

@@ -161,6 +161,7 @@ pub fn told_and_closed(told: Answers, closed: Result<(), Lost>) -> Answers
     ensures answers { result.answers ≡ told.answers }
     ensures lost { IsSome told.lost → result.lost ≡ told.lost }
     ensures none { result.lost ≡ None → told.lost ≡ None }
+    ensures closing { IfErr closed (λ closing. told.lost ≡ None → result.lost ≡ Some closing) }
 {
     let Answers { answers, lost } = told;
     match (lost, closed) {

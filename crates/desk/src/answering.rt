@@ -30,11 +30,7 @@ fn question_of(look: Look) -> Option<Question>
 }
 
 /// Looks something up, and gives the response that shows it.
-fn shown<S: Alter>(
-    alloc: Global,
-    office: &mut Office<S>,
-    look: Look,
-) -> Result<Vec<u8>, AllocError>
+fn shown<S: Alter>(alloc: Global, office: &mut Office<S>, look: Look) -> Result<Vec<u8>, AllocError>
     ensures clean { doubt (state S.Store office.old.conn).is_clean ≤ doubt (state S.Store office.new.conn).is_clean }
     ensures ok { HasCleanDisk (state S.Store office.new.conn) → (h : List Answered) → Holding h (state S.Store office.old.conn)
         → IfOk result (λ text. Responds h (shows look) text.items (state S.Store office.new.conn)) }

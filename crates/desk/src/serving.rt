@@ -6,6 +6,8 @@ ghost use Rattle.sqlite.specs.State.{HasCleanDisk};
 ghost use Rattle.sqlite_trees.specs.View.{doubt};
 ghost use Rattle.office_history.specs.History.{Answered};
 ghost use Rattle.store.specs.Holding.{Holding};
+ghost use Rattle.desk_types.specs.Moved.{GivesAtMost};
+ghost use Rattle.desk_head.specs.Limits.{request_limit};
 ghost use Rattle.desk_call.specs.Read.{IsNotWhole};
 ghost use Rattle.desk.specs.Serving.{HasBegun, HasGivenUp, HasServed};
 
@@ -17,7 +19,7 @@ use std::alloc::Global;
 use store::Office;
 
 /// Reads the first request of the source, carries it out, and writes its response to the sink. No call of a device
-/// follows one that failed.
+/// follows one that failed. Whatever the source has, no more is read of it than a greatest head and a greatest body.
 ///
 /// `Read` if the source failed before the request was whole: nothing was written, and the office is as before.
 /// `Write` if the sink failed: a beginning of the response was written, and what was asked is done as if it had all
@@ -31,6 +33,7 @@ pub fn serve_one<S: Alter, R: Source, W: Sink>(
 ) -> Result<(), DeskFault>
     requires reads { R.failure_count source.old < 2 ^ 64 - 1 }
     requires writes { W.failure_count sink.old < 2 ^ 64 - 1 }
+    ensures most { GivesAtMost (R.left source.old) (R.left source.new) request_limit }
     ensures served { HasCleanDisk (state S.Store office.new.conn) → (h : List Answered) → Holding h (state S.Store office.old.conn)
         → OnOk result (HasServed h (R.left source.old) (W.told sink.old) (W.told sink.new) (state S.Store office.new.conn)) }
     ensures healthy { OnOk result ((R.failure_count source.new ≡ R.failure_count source.old) × (W.failure_count sink.new ≡ W.failure_count sink.old)) }

@@ -1,3 +1,4 @@
+pub mod Gives
 pub mod One
 pub mod Rows
 pub mod Whole

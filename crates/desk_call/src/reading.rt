@@ -3,8 +3,9 @@ ghost use Rattle.std.specs.Prelude.{◌≡◌, ◌+◌, ◌-◌, ◌<◌, ◌≤
 ghost use Rattle.std.specs.Io.KnownBytes.{Consumes, IsAtEnd};
 ghost use Rattle.httparse.specs.Grammar.{RequestHead};
 ghost use Rattle.httparse.specs.Spans.{IsRequestAt};
-ghost use Rattle.desk_types.specs.Moved.{Moves};
+ghost use Rattle.desk_types.specs.Moved.{GivesAtMost, Moves};
 ghost use Rattle.desk_head.specs.Head.{IsHeadAt};
+ghost use Rattle.desk_head.specs.Limits.{request_limit};
 ghost use Rattle.desk_head.specs.Ahead.{ahead_of};
 ghost use Rattle.desk_call.specs.Call.{call_of, seen};
 ghost use Rattle.desk_call.specs.Read.{Asks, IsNotWhole};
@@ -19,6 +20,7 @@ use std::alloc::{AllocError, Global};
 /// Reads until so many bytes are there, and says whether they are: else the source is at its end.
 fn read_until<R: Source>(source: &mut R, got: &mut Vec<u8>, until: usize) -> Result<bool, DeskFault>
     requires { R.failure_count source.old < 2 ^ 64 - 1 }
+    ensures most { GivesAtMost (R.left source.old) (R.left source.new) (until - vec_len got.old) }
     ensures moves { OnOk result (Moves (R.left source.old) (R.left source.new) got.old.items got.new.items) }
     ensures whole { result ≡ Ok true → until ≤ vec_len got.new }
     ensures end { result ≡ Ok false → IsAtEnd (R.left source.new) × (vec_len got.new < until) }
@@ -60,9 +62,11 @@ fn call_read(
 }
 
 /// Reads the first request of a source, as what it asks. Nothing is read once the request is whole, or known to be
-/// wrong by its head. `Read` if a call of the source fails before that, `Memory` if memory runs out.
+/// wrong by its head, and never more than a greatest head and a greatest body. `Read` if a call of the source fails
+/// before that, `Memory` if memory runs out.
 pub fn read_call<R: Source>(alloc: Global, source: &mut R) -> Result<Call, DeskFault>
     requires { R.failure_count source.old < 2 ^ 64 - 1 }
+    ensures most { GivesAtMost (R.left source.old) (R.left source.new) request_limit }
     ensures ok { IfOk result (λ call. IfSome (R.left source.old) (λ input. Asks input (seen call))) }
     ensures kept { OnOk result (R.failure_count source.new ≡ R.failure_count source.old) }
     ensures read { IsErrOf result DeskFault.Read → (bytes : List ℕ)

@@ -1,3 +1,4 @@
 pub mod Added
+pub mod BodySizes
 pub mod Fronts
 pub mod Rows

@@ -1,7 +1,9 @@
 //! The head of the first request of a source.
 ghost use Rattle.std.specs.Prelude.{◌≡◌, ◌+◌, ◌-◌, ◌<◌, ◌^◌, [], IfOk, OnOk, IfSome, IsErrOf};
 ghost use Rattle.std.specs.Io.KnownBytes.{Consumes};
+ghost use Rattle.desk_types.specs.Moved.{GivesAtMost};
 ghost use Rattle.desk_head.specs.Head.{HasNoHead, IsHeadAt};
+ghost use Rattle.desk_head.specs.Limits.{head_limit};
 
 use crate::limits::{HEAD_LIMIT, HEADER_LIMIT};
 use crate::looking::{Sight, look};
@@ -9,7 +11,7 @@ use desk_types::{DeskFault, Source, take_more};
 use httparse::spans::{HeaderSpan, RequestSpans};
 
 /// Reads until the whole head is there, or it is known that there is none within the limits: then `None`. The bytes
-/// that were read are added to `got`. `Read` if a call of the source fails before that, and `Memory` if memory runs
+/// that were read are added to `got`; they are never more than the greatest length of a head. `Read` if a call of the source fails before that, and `Memory` if memory runs
 /// out.
 pub fn read_head<R: Source>(
     source: &mut R,
@@ -18,6 +20,7 @@ pub fn read_head<R: Source>(
 ) -> Result<Option<RequestSpans>, DeskFault>
     requires count { R.failure_count source.old < 2 ^ 64 - 1 }
     requires empty { got.old.items ≡ [] }
+    ensures most { GivesAtMost (R.left source.old) (R.left source.new) head_limit }
     ensures moves { OnOk result (Consumes (R.left source.old) (R.left source.new) got.new.items) }
     ensures head { IfOk result (λ o. IfSome o (λ spans. IsHeadAt got.new.items headers.new spans)) }
     ensures none { result ≡ Ok None → IfSome (R.left source.old) HasNoHead }

@@ -22,7 +22,11 @@ use std::io::{self, Write};
 use store::Office;
 
 /// Serves one request of the file, and prints what came of it.
-fn serve<S: Alter>(rt: &HostRuntime, office: &mut Office<S>, titled: &Titled<'_>) -> io::Result<()> {
+fn serve<S: Alter>(
+    rt: &HostRuntime,
+    office: &mut Office<S>,
+    titled: &Titled<'_>,
+) -> io::Result<()> {
     let alloc = rt.alloc();
     let request = titled.request.as_slice();
     let whole = request.len();

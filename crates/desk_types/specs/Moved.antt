@@ -1,5 +1,5 @@
 -- What moved from a source or to a sink. `None` is a device that doesn't tell its bytes: then nothing is said.
-use Rattle.std.specs.Prelude.{◌≡◌, ℕ, List, ◌++◌, Option}
+use Rattle.std.specs.Prelude.{◌≡◌, ℕ, ◌≤◌, List, ◌++◌, length, Option}
 use Rattle.std.specs.Io.KnownBytes.{Appends, Consumes}
 
 -- a beginning of the text was written
@@ -10,3 +10,7 @@ AppendsFront old new text = (front : List ℕ) × (rest : List ℕ) × (text ≡
 abbrev pub Moves : Option (List ℕ) → Option (List ℕ) → List ℕ → List ℕ → Type 0
 Moves left_old left_new got_old got_new =
     (bytes : List ℕ) × (got_new ≡ got_old ++ bytes) × Consumes left_old left_new bytes
+
+-- a source gave at most so many bytes
+abbrev pub GivesAtMost : Option (List ℕ) → Option (List ℕ) → ℕ → Type 0
+GivesAtMost left_old left_new most = (bytes : List ℕ) × Consumes left_old left_new bytes × (length bytes ≤ most)

@@ -1,7 +1,7 @@
 //! Bytes from a source, and to a sink.
 ghost use Rattle.std.specs.Prelude.{◌≡◌, ◌+◌, ◌<◌, ◌≤◌, ◌^◌, ◌-◌, length, true, false, OnOk, OnErr, IsErrOf, vec_len};
 ghost use Rattle.std.specs.Io.KnownBytes.{Keeps, Appends, IsAtEnd};
-ghost use Rattle.desk_types.specs.Moved.{AppendsFront, Moves};
+ghost use Rattle.desk_types.specs.Moved.{AppendsFront, GivesAtMost, Moves};
 
 use crate::device::{Sink, Source};
 use crate::fault::DeskFault;
@@ -26,7 +26,7 @@ pub fn put_all<W: Sink>(sink: &mut W, text: &[u8]) -> Result<(), DeskFault>
     Ok(())
 }
 
-/// Reads up to `room` more bytes by one call, adds them to what was got, and says whether any came: if not, the
+/// Reads up to `room` more bytes by one call, and no more even where it fails, adds them to what was got, and says whether any came: if not, the
 /// source is at its end. `Read` if the call fails, `Memory` if there is no memory for the bytes.
 pub fn take_more<R: Source>(
     source: &mut R,
@@ -35,6 +35,7 @@ pub fn take_more<R: Source>(
 ) -> Result<bool, DeskFault>
     requires count { R.failure_count source.old < 2 ^ 64 - 1 }
     requires some { 0 < room }
+    ensures most { GivesAtMost (R.left source.old) (R.left source.new) room }
     ensures moves { OnOk result (Moves (R.left source.old) (R.left source.new) got.old.items got.new.items) }
     ensures more { result ≡ Ok true → vec_len got.old < vec_len got.new }
     ensures room { OnOk result (vec_len got.new ≤ vec_len got.old + room) }

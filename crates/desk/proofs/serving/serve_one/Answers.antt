@@ -29,6 +29,10 @@ returns-clause-write g c clean h holds is_write =
     let text = c.deref.result.now in
     let s = state g.S.Store c.response_to.new.office.conn in
     let asked = seen c.in_ok-call.call in
-    let responds : Responds h asked text s = subst (λ (l : List ℕ). Responds h asked l s) (sym c.deref.ensures.value) (c.in-Ok.ensures.ok clean h holds) in
-    (asked, text, c.in_ok-call.ensures.ok, responds,
-    err_of c.put_all.result Write (AppendsFront (told c.args.sink.now) (told c.put_all.new.sink) text) is_write c.put_all.ensures.front)
+    let responds : Responds h asked text s = subst (λ (l : List ℕ). Responds h asked l s) (sym c.deref.ensures.value) (c.in-Ok.ensures.ok clean h holds) in (
+      asked,
+      text,
+      c.in_ok-call.ensures.ok,
+      responds,
+      err_of c.put_all.result Write (AppendsFront (told c.args.sink.now) (told c.put_all.new.sink) text) is_write c.put_all.ensures.front,
+    )

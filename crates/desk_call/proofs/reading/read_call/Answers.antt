@@ -6,6 +6,7 @@ use Rattle.desk_types.specs.declared.fault.DeskFault.TheVariants.{Read}
 use Rattle.desk_head.specs.Ahead.{ahead_of, body_size}
 use Rattle.desk_head.specs.Head.{IsHeadAt}
 use Rattle.desk_call.specs.Call.{call_of, seen}
+use Rattle.desk_call.proofs.Gives.{gives_request}
 use Rattle.desk_call.proofs.Whole.{asks, either, not_whole}
 use Rattle.desk_call.proofs.reading.read_call.Goals as goal
 
@@ -50,3 +51,27 @@ returns-in-Ok-call_read-clause-ok g c =
     (c.in-Ok-call_read.ensures head.1.0 (rw c.deref-3.ensures.value head.1.2) ahead) in
     asks (left c.args.source.now) _ _ got (drop spans.len got) rest head.1.0 _
     c.in-Ok-Some.ensures.moves second head.1.1 is end
+
+pub returns-in-Err-read_until-clause-most : goal.returns-in-Err-read_until-clause-most
+returns-in-Err-read_until-clause-most g c =
+    let got = c.read_head.new.got.items in
+    let head : IsHeadAt got c.read_head.new.headers c.in-Ok-Some.spans =
+    rw c.in-Ok-Some.field-0-is at c.in-Ok-Some.ensures.head in
+    gives_request _ _ _ c.in-Ok.ahead head.1.0 _ _ c.read_head.ensures.most c.read_until.ensures.most c.body_size.ensures
+    (c.in-Ok.ensures head.1.0 (rw c.deref.ensures.value head.1.2))
+
+pub returns-in-Ok-call_read-clause-most : goal.returns-in-Ok-call_read-clause-most
+returns-in-Ok-call_read-clause-most g c =
+    let got = c.read_head.new.got.items in
+    let head : IsHeadAt got c.read_head.new.headers c.in-Ok-Some.spans =
+    rw c.in-Ok-Some.field-0-is at c.in-Ok-Some.ensures.head in
+    gives_request _ _ _ c.in-Ok.ahead head.1.0 _ _ c.read_head.ensures.most c.read_until.ensures.most c.body_size.ensures
+    (c.in-Ok.ensures head.1.0 (rw c.deref.ensures.value head.1.2))
+
+pub returns-clause-most : goal.returns-clause-most
+returns-clause-most g c =
+    let got = c.read_head.new.got.items in
+    let head : IsHeadAt got c.read_head.new.headers c.in-Ok-Some.spans =
+    rw c.in-Ok-Some.field-0-is at c.in-Ok-Some.ensures.head in
+    gives_request _ _ _ c.in-Ok.ahead head.1.0 _ _ c.read_head.ensures.most c.read_until.ensures.most c.body_size.ensures
+    (c.in-Ok.ensures head.1.0 (rw c.deref.ensures.value head.1.2))

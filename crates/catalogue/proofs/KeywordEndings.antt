@@ -1,5 +1,5 @@
 -- Words that are keywords, and words that are none by their last byte.
-use Rattle.std.proofs.Common.{◌≡◌, ◌∙◌, ℕ, true, false, List, [], ◌∷◌, Some, None, refl, sym, ap}
+use Rattle.std.proofs.Common.{◌≡◌, ◌∙◌, ℕ, true, false, List, [], ◌∷◌, None, refl, sym, ap}
 use Rattle.std.specs.List.{find, list_all}
 use Rattle.std.specs.Str.{bytes_eq}
 use Rattle.std.proofs.lemmas.Bool.{and_parts, false≢true, false_from_ne_true}
@@ -21,7 +21,3 @@ none_found word (k ∷ ks) all fails =
 
 pub no_keyword : (word : List ℕ) → ends_keyword word ≡ false → keyword_of word ≡ None
 no_keyword word fails = none_found word keywords refl fails
-
--- the word that is spelled as a keyword is that keyword
-pub keyword_of_spelling : (word : List ℕ) (k : Keyword) → keyword_of (keyword_text k) ≡ Some k → bytes_eq word (keyword_text k) ≡ true → keyword_of word ≡ Some k
-keyword_of_spelling word k found same = ap keyword_of ((bytes_eq-Decides word (keyword_text k)).0 same) ∙ found

@@ -1,5 +1,5 @@
 -- Things with names, such as the nodes of a sheet or the signals of a message.
-use Rattle.std.specs.Prelude.{◌≡◌, ◌≤◌, ℕ, Bool, not, nat_le, List, [], ◌∷◌, length, find, filter, map, Option, if◌then◌else◌}
+use Rattle.std.specs.Prelude.{◌≡◌, ◌≤◌, ℕ, Bool, not, nat_le, List, [], ◌∷◌, length, find, filter, map, Option, Some, None, ⊤, if◌then◌else◌}
 use Rattle.std.specs.List.{IsDistinct, list_any}
 use Rattle.std.specs.Str.{bytes_eq}
 use Rattle.std.specs.BTreeSet.{contains}
@@ -39,9 +39,24 @@ roster_tests name things n = record { holds = nat_le roster_limit (length things
 abbrev pub holds_name : NameSet → List ℕ → Bool
 holds_name set n = contains text_cmp set.names n
 
--- what a roster keeps: no two of its things have the same name, they are at most as many as the limit, and the set has
--- their names
-pub record IsRoster {A : Type 0} (name : A → List ℕ) (things : List A) (names : NameSet) : Type 0 where
+-- the set has the names of the things
+abbrev pub HasNamesOf : {A : Type 0} → (A → List ℕ) → List A → NameSet → Type 0
+HasNamesOf name things names = (n : List ℕ) → holds_name names n ≡ has_name name things n
+
+-- an index of the things: their names, or nothing
+abbrev pub IsNameIndex : {A : Type 0} → (A → List ℕ) → List A → Option NameSet → Type 0
+IsNameIndex name things None = ⊤
+IsNameIndex name things (Some names) = HasNamesOf name things names
+
+-- what an index is after a change: whether it has a name is a function of the name and of whether it had it
+abbrev pub IsIndexBy : (List ℕ → Bool → Bool) → Option NameSet → Option NameSet → Type 0
+IsIndexBy change None new = new ≡ None
+IsIndexBy change (Some old) None = ⊥
+IsIndexBy change (Some old) (Some new) = (n : List ℕ) → holds_name new n ≡ change n (holds_name old n)
+
+-- what a roster keeps: no two of its things have the same name, they are at most as many as the limit, and the index is
+-- one of them
+pub record IsRoster {A : Type 0} (name : A → List ℕ) (things : List A) (names : Option NameSet) : Type 0 where
   pub apart : AreNamedApart name things
   pub few : length things ≤ roster_limit
-  pub index : (n : List ℕ) → holds_name names n ≡ has_name name things n
+  pub index : IsNameIndex name things names

@@ -3,6 +3,7 @@ ghost use Rattle.std.specs.Prelude.{◌≡◌, ◌↔◌, ℕ, Bool, List, [], I
 
 use crate::copying::Copying;
 use crate::keyed::Keyed;
+use smallvec::SmallVec;
 use std::alloc::{AllocError, Global};
 use std::cmp::Ordering;
 use std::marker::{Model, PhantomData};
@@ -21,9 +22,10 @@ pub trait Rule {
         ensures keeps { IsTrue result ↔ Keeps bytes.now };
 }
 
-/// Bytes that keep the rule. Contracts see them as a list.
+/// Bytes that keep the rule. Contracts see them as a list. Up to 24 of them, as most names and texts have, take no block of
+/// memory of their own.
 pub struct Checked<R: Rule> {
-    bytes: Vec<u8>,
+    bytes: SmallVec<u8, 24>,
     rule: PhantomData<R>,
 }
 
@@ -45,10 +47,19 @@ impl<R: Rule> Checked<R> {
         if !R::accepts(bytes) {
             return Ok(None);
         }
-        Ok(Some(Checked {
-            bytes: Vec::from_slice(alloc, bytes)?,
+        Ok(Some(Checked::of_kept(alloc, bytes)?))
+    }
+
+    /// A copy of bytes that keep the rule, without another test.
+    pub fn of_kept(alloc: Global, bytes: &[u8]) -> Result<Self, AllocError>
+        requires keeps { R.Keeps bytes.now }
+        requires computed { IsTrue (R.accepts bytes.now) }
+        ensures { IfOk result (λ checked. checked ≡ bytes.now) }
+    {
+        Ok(Checked {
+            bytes: SmallVec::from_slice(alloc, bytes)?,
             rule: PhantomData,
-        }))
+        })
     }
 
     /// No bytes, which keep the rule. Takes no memory.
@@ -58,7 +69,7 @@ impl<R: Rule> Checked<R> {
         ensures { result ≡ [] }
     {
         Checked {
-            bytes: Vec::new(alloc),
+            bytes: SmallVec::new(alloc),
             rule: PhantomData,
         }
     }
@@ -69,7 +80,7 @@ impl<R: Rule> Checked<R> {
         ensures keeps { R.Keeps self.now }
         ensures computed { IsTrue (R.accepts self.now) }
     {
-        &self.bytes
+        self.bytes.as_slice()
     }
 }
 
@@ -148,7 +159,7 @@ impl<R: Rule> Clone for Checked<R> {
 
     fn clone(&self) -> Result<Self, AllocError> {
         Ok(Checked {
-            bytes: self.bytes.clone()?,
+            bytes: SmallVec::from_slice(*self.bytes.allocator(), self.as_bytes())?,
             rule: PhantomData,
         })
     }
@@ -157,7 +168,7 @@ impl<R: Rule> Clone for Checked<R> {
 impl<R: Rule> Copying for Checked<R> {
     fn duplicate(&self, alloc: Global) -> Result<Self, AllocError> {
         Ok(Checked {
-            bytes: Vec::from_slice(alloc, self.as_bytes())?,
+            bytes: SmallVec::from_slice(alloc, self.as_bytes())?,
             rule: PhantomData,
         })
     }

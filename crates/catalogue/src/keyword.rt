@@ -129,16 +129,12 @@ fn ends_keyword(word: &[u8]) -> bool
 fn frequent_keyword(word: &[u8]) -> Option<Keyword>
     ensures { IfSome result (λ keyword. keyword_of word.now ≡ Some keyword) }
 {
-    if word == b"SG_".as_slice() {
-        Some(Keyword::Signal)
-    } else if word == b"CM_".as_slice() {
-        Some(Keyword::Comment)
-    } else if word == b"BO_".as_slice() {
-        Some(Keyword::Message)
-    } else if word == b"VAL_".as_slice() {
-        Some(Keyword::ValueTexts)
-    } else {
-        None
+    match word {
+        b"SG_" => Some(Keyword::Signal),
+        b"CM_" => Some(Keyword::Comment),
+        b"BO_" => Some(Keyword::Message),
+        b"VAL_" => Some(Keyword::ValueTexts),
+        _ => None,
     }
 }
 

@@ -28,6 +28,7 @@ mod limits;
 mod message;
 mod messages;
 mod name;
+mod name_index;
 mod name_set;
 mod node;
 mod numbers;

@@ -11,7 +11,7 @@ use crate::copying::{Copying, duplicates};
 use crate::fault::SheetCode;
 use crate::limits::ROSTER_LIMIT;
 use crate::name::Name;
-use crate::name_set::NameSet;
+use crate::name_index::{NameIndex, add_name, copy_index, make_index, remove_name};
 use std::alloc::{AllocError, Global};
 use std::marker::Model;
 
@@ -26,10 +26,10 @@ pub trait Named {
 }
 
 /// At most [`ROSTER_LIMIT`] things in the order in which they were added, no two with the same name. Contracts see it as the
-/// list of them. A set of the names shows whether a name is there without a walk over the list.
+/// list of them. Unless there are few, an index of the names shows whether a name is there without a walk over the list.
 pub struct Roster<T: Named> {
     things: Vec<T>,
-    names: NameSet,
+    names: NameIndex,
 }
 
 impl<T: Named> Model for Roster<T> {
@@ -50,7 +50,7 @@ impl<T: Named> Roster<T> {
     {
         Roster {
             things: Vec::new(alloc),
-            names: NameSet::new(alloc),
+            names: None,
         }
     }
 
@@ -67,7 +67,10 @@ impl<T: Named> Roster<T> {
     pub fn has_name(&self, name: &Name) -> bool
         ensures { result ≡ has_name T.name_of self.now name.now }
     {
-        self.names.has(name)
+        match &self.names {
+            Some(names) => names.has(name),
+            None => self.things.iter().any(|thing| thing.name() == name),
+        }
     }
 
     /// The index of the thing of the name.
@@ -125,7 +128,7 @@ impl<T: Named> Roster<T> {
         match self.index_of(name) {
             Some(at) => {
                 let thing = self.things.remove(at);
-                self.names.remove(name);
+                remove_name(name, &mut self.names);
                 Some(thing)
             }
             None => None,
@@ -141,9 +144,9 @@ impl<T: Named + Drop> Roster<T> {
         ensures ok { OnOk result (self.new ≡ self.old ++ thing ∷ []) }
         ensures err { OnErr result (self.new ≡ self.old) }
     {
-        let name = thing.name().duplicate(alloc)?;
+        make_index(alloc, &self.things, &mut self.names)?;
         self.things.reserve(1)?;
-        self.names.insert(name)?;
+        add_name(alloc, thing.name(), &mut self.names)?;
         self.things.push_reserved(thing);
         Ok(())
     }
@@ -168,7 +171,7 @@ impl<T: Named + Copying + Drop> Copying for Roster<T> {
     fn duplicate(&self, alloc: Global) -> Result<Self, AllocError> {
         Ok(Roster {
             things: duplicates(alloc, &self.things)?,
-            names: self.names.duplicate()?,
+            names: copy_index(&self.names)?,
         })
     }
 }

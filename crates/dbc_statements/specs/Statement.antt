@@ -14,16 +14,16 @@ names_of nodes = map (λ (n : NodeName). n.name) nodes
 
 abbrev pub signal_of : SignalLine → says.SignalLine
 signal_of s = record {
-  name = s.name;
-  layout = s.layout;
-  signed = s.signed;
-  mux = s.mux;
-  factor = s.factor;
-  offset = s.offset;
-  minimum = s.minimum;
-  maximum = s.maximum;
-  unit = s.unit;
-  receivers = s.receivers;
+  name = s.signal.name;
+  layout = s.signal.layout;
+  signed = s.signal.signed;
+  mux = s.signal.mux;
+  factor = s.signal.factor;
+  offset = s.signal.offset;
+  minimum = s.signal.minimum;
+  maximum = s.signal.maximum;
+  unit = s.signal.unit;
+  receivers = s.signal.receivers;
 }
 
 abbrev pub signals_of : List SignalLine → List says.SignalLine
@@ -41,15 +41,15 @@ message_of m = record {
 abbrev pub content_of : Content → says.Content
 content_of (content.Version text) = says.VersionIs text
 content_of (content.Nodes nodes) = says.NodesAre (names_of nodes.items)
-content_of (content.Table t) = says.TableIs t.name t.entries
-content_of (content.Message m) = says.MessageIs (message_of m)
+content_of (content.Table t) = says.TableIs t.value.name t.value.entries
+content_of (content.Message m) = says.MessageIs (message_of m.value)
 content_of (content.Comment text) = says.CommentIs text
-content_of (content.NodeComment name text) = says.NodeCommentIs name text
+content_of (content.NodeComment name text) = says.NodeCommentIs name.items text
 content_of (content.MessageComment number text) = says.MessageCommentIs number text
-content_of (content.SignalComment cited text) = says.SignalCommentIs cited.number cited.name text
-content_of (content.ValueTexts cited entries) = says.ValueTextsAre cited.number cited.name entries
-content_of (content.ValueType cited value_type) = says.ValueTypeIs cited.number cited.name value_type
-content_of (content.Spn cited spn) = says.SpnIs cited.number cited.name spn
+content_of (content.SignalComment cited text) = says.SignalCommentIs cited.number cited.name.items text
+content_of (content.ValueTexts cited entries) = says.ValueTextsAre cited.number cited.name.items entries
+content_of (content.ValueType cited value_type) = says.ValueTypeIs cited.number cited.name.items value_type
+content_of (content.Spn cited spn) = says.SpnIs cited.number cited.name.items spn
 content_of content.Dropped = says.Dropped
 content_of content.PassedOver = says.PassedOver
 

@@ -8,6 +8,7 @@ ghost use Rattle.catalogue.specs.Rules.{begins, starts};
 ghost use Rattle.catalogue.specs.declared.token.TokenKind.TheVariants.{Number};
 ghost use Rattle.dbc_statements.specs.Reading.{Reads, itself};
 
+use crate::statement::CitedName;
 use crate::tokens::Tokens;
 use crate::words::{
     cited_number_of, independent_number_of, inside, is_key, is_mark, is_number, is_spn_name,
@@ -16,9 +17,10 @@ use crate::words::{
 };
 use bitlayout::{Layout, Order, Size};
 use can_id::Ident;
-use catalogue::{Items, Keyword, Name, PayloadLength, Spn, Text, ValueType};
+use catalogue::{Keyword, Name, PayloadLength, Spn, Text, ValueType};
 use dbc_lex::{ReadCode, ReadFault, Token};
 use decimal::Decimal;
+use smallvec::SmallVec;
 use std::alloc::Global;
 
 /// The fault of this code at the token.
@@ -97,16 +99,17 @@ pub(crate) fn text(alloc: Global, tokens: &mut Tokens) -> Result<Text, ReadFault
     if !is_text(&token) {
         return Err(unexpected(&token));
     }
-    let text = Text::of(alloc, inside(token.text))?;
-    tokens.accept(text, unexpected(&token))
+    let text = Text::of_kept(alloc, inside(token.text))?;
+    tokens.skip();
+    Ok(text)
 }
 
 /// A name that is only cited: any name, a keyword too.
-pub(crate) fn cited_name(alloc: Global, tokens: &mut Tokens) -> Result<Items<u8>, ReadFault>
-    ensures { Reads itself result (token_at fields.cited_name tokens.old) tokens.new }
+pub(crate) fn cited_name(alloc: Global, tokens: &mut Tokens) -> Result<CitedName, ReadFault>
+    ensures { Reads (λ name. name.items) result (token_at fields.cited_name tokens.old) tokens.new }
 {
     let name = any_name(tokens)?;
-    Ok(Items::from_vec(Vec::from_slice(alloc, name)?))
+    Ok(SmallVec::from_slice(alloc, name)?)
 }
 
 /// The name of something that the statement defines. Code 37 at a name that isn't allowed for it.

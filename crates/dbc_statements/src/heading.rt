@@ -153,5 +153,6 @@ pub(crate) fn value_table(alloc: Global, tokens: &mut Tokens) -> Result<Content,
     let name = made_name(alloc, tokens)?;
     let entries = entry_list(alloc, tokens)?;
     mark(tokens, b';')?;
-    Ok(Content::Table(TableLine { at, name, entries }))
+    let line = Box::new(alloc, TableLine { at, name, entries })?;
+    Ok(Content::Table(line))
 }

@@ -31,5 +31,5 @@ mod words;
 pub use entries::Entries;
 pub use reading::statements_of;
 pub use statement::{
-    CitedSignal, Content, MessageLine, NodeName, SignalLine, Statement, TableLine,
+    CitedName, CitedSignal, Content, MessageLine, NodeName, SignalLine, Statement, TableLine,
 };

@@ -28,7 +28,7 @@ fn message(alloc: Global, tokens: &mut Tokens) -> Result<Line, ReadFault>
     let length = length(tokens)?;
     let transmitter = transmitter(alloc, tokens)?;
     let (signals, ended) = signals(alloc, tokens)?;
-    let content = Content::Message(MessageLine {
+    let line = MessageLine {
         at,
         name_at,
         ident,
@@ -36,7 +36,8 @@ fn message(alloc: Global, tokens: &mut Tokens) -> Result<Line, ReadFault>
         length,
         transmitter,
         signals,
-    });
+    };
+    let content = Content::Message(Box::new(alloc, line)?);
     Ok(Line { content, ended })
 }
 

@@ -3,7 +3,7 @@ ghost use Rattle.std.specs.Prelude.{◌≡◌, [], ◌∷◌, Some, codes};
 ghost use Rattle.catalogue.specs.Fields as fields;
 ghost use Rattle.catalogue.specs.Parsing.{token_at, optional_at, mark_at, signal_at, signals_at};
 ghost use Rattle.catalogue.specs.Rules.{begins, starts};
-ghost use Rattle.catalogue.specs.declared.keyword.Keyword.TheVariants.{Signal};
+ghost use Rattle.catalogue.specs.declared.keyword.Keyword.TheVariants.{Signal as SignalWord};
 ghost use Rattle.dbc_statements.specs.Reading.{Reads, itself};
 ghost use Rattle.dbc_statements.specs.Statement.{signal_of, signals_of};
 
@@ -13,7 +13,7 @@ use crate::statement::SignalLine;
 use crate::tokens::Tokens;
 use crate::words::{is_key, is_numeral, is_word, mux_of};
 use bitlayout::Mux;
-use catalogue::Keyword;
+use catalogue::{Keyword, Signal, Spn, Text, ValueTexts, ValueType};
 use dbc_lex::{ReadCode, ReadFault};
 use std::alloc::Global;
 
@@ -67,9 +67,7 @@ fn signal(alloc: Global, tokens: &mut Tokens) -> Result<(SignalLine, Ended), Rea
     let (minimum, maximum) = pair(tokens, b'[', b'|', b']')?;
     let unit = text(alloc, tokens)?;
     let (receivers, ended) = receivers(alloc, tokens)?;
-    let line = SignalLine {
-        at,
-        mux_at,
+    let signal = Signal {
         name,
         layout,
         signed,
@@ -80,13 +78,18 @@ fn signal(alloc: Global, tokens: &mut Tokens) -> Result<(SignalLine, Ended), Rea
         maximum,
         unit,
         receivers,
+        comment: Text::empty(alloc),
+        spn: Spn::NONE,
+        values: ValueTexts::empty(alloc),
+        value_type: ValueType::Integer,
     };
+    let line = SignalLine { at, mux_at, signal };
     Ok((line, ended))
 }
 
 /// Whether a signal comes next.
 fn is_signal(tokens: &Tokens) -> bool
-    ensures { result ≡ starts (fields.is_key Signal) tokens.now }
+    ensures { result ≡ starts (fields.is_key SignalWord) tokens.now }
 {
     match tokens.first() {
         Some(token) => is_key(&token, Keyword::Signal),

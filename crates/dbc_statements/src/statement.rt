@@ -5,13 +5,12 @@ ghost use Rattle.dbc_statements.specs.Parts.{message_with, signal_with, table_of
 ghost use Rattle.dbc_statements.specs.Statement.{message_of, signal_of};
 
 use crate::entries::Entries;
-use bitlayout::{Layout, Mux};
 use can_id::Ident;
 use catalogue::{
-    Items, Keyword, Message, Name, PayloadLength, Signal, Signals, Spn, Text, ValueTable,
-    ValueTexts, ValueType,
+    Keyword, Message, Name, PayloadLength, Signal, Signals, Spn, Text, ValueTable, ValueTexts,
+    ValueType,
 };
-use decimal::Decimal;
+use smallvec::SmallVec;
 use std::alloc::Global;
 
 /// A node of a list, and where its name is.
@@ -54,26 +53,8 @@ pub struct SignalLine {
     pub at: usize,
     /// The offset of its multiplexer indicator, or of the colon if it has none.
     pub mux_at: usize,
-    /// Its name.
-    pub name: Name,
-    /// Its start bit, its size in bits, and its byte order.
-    pub layout: Layout,
-    /// Whether its values have a sign.
-    pub signed: bool,
-    /// When it is present.
-    pub mux: Mux,
-    /// What a raw value is multiplied by.
-    pub factor: Decimal,
-    /// What is added to the product.
-    pub offset: Decimal,
-    /// The least value.
-    pub minimum: Decimal,
-    /// The greatest value.
-    pub maximum: Decimal,
-    /// Its unit.
-    pub unit: Text,
-    /// The nodes that receive it, without the names that mean no node.
-    pub receivers: Items<Name>,
+    /// The signal, without what other statements attach to it.
+    pub signal: Signal,
 }
 
 impl SignalLine {
@@ -90,33 +71,14 @@ impl SignalLine {
         let SignalLine {
             at: _at,
             mux_at: _mux_at,
-            name,
-            layout,
-            signed,
-            mux,
-            factor,
-            offset,
-            minimum,
-            maximum,
-            unit,
-            receivers,
+            signal,
         } = self;
-        Signal {
-            name,
-            layout,
-            signed,
-            mux,
-            factor,
-            offset,
-            minimum,
-            maximum,
-            unit,
-            receivers,
-            comment,
-            spn,
-            values,
-            value_type,
-        }
+        let mut signal = signal;
+        signal.comment = comment;
+        signal.spn = spn;
+        signal.values = values;
+        signal.value_type = value_type;
+        signal
     }
 }
 
@@ -165,13 +127,16 @@ impl MessageLine {
     }
 }
 
+/// A name that a statement cites: any name, also a keyword. A short one takes no block of memory of its own.
+pub type CitedName = SmallVec<u8, 24>;
+
 /// The signal that a statement cites.
 #[derive(Drop)]
 pub struct CitedSignal {
     /// The DBC number of its message; `None` above 4294967295, since no message has such a number.
     pub number: Option<u32>,
-    /// Its name, which may be any name, also a keyword.
-    pub name: Items<u8>,
+    /// Its name.
+    pub name: CitedName,
 }
 
 /// The content of one statement.
@@ -181,14 +146,14 @@ pub enum Content {
     Version(Text),
     /// `BU_`: the nodes, without the names that mean no node.
     Nodes(Vec<NodeName>),
-    /// `VAL_TABLE_`.
-    Table(TableLine),
-    /// `BO_` with its `SG_`.
-    Message(MessageLine),
+    /// `VAL_TABLE_`, in a block of its own, so that statements stay small.
+    Table(Box<TableLine>),
+    /// `BO_` with its `SG_`, in a block of its own, so that statements stay small.
+    Message(Box<MessageLine>),
     /// `CM_`: the comment of the file.
     Comment(Text),
     /// `CM_ BU_`: the node's name, which may be any name, and its comment.
-    NodeComment(Items<u8>, Text),
+    NodeComment(CitedName, Text),
     /// `CM_ BO_`: the message's DBC number, as in [`CitedSignal`], and its comment.
     MessageComment(Option<u32>, Text),
     /// `CM_ SG_`: the signal and its comment.
@@ -244,16 +209,7 @@ impl Drop for SignalLine {
         let SignalLine {
             at: _at,
             mux_at: _mux_at,
-            name: _name,
-            layout: _layout,
-            signed: _signed,
-            mux: _mux,
-            factor: _factor,
-            offset: _offset,
-            minimum: _minimum,
-            maximum: _maximum,
-            unit: _unit,
-            receivers: _receivers,
+            signal: _signal,
         } = self;
     }
 }

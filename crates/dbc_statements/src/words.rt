@@ -6,6 +6,7 @@ ghost use Rattle.std.specs.Str.{bytes_eq};
 ghost use Rattle.catalogue.specs.Fields as fields;
 ghost use Rattle.catalogue.specs.Grammar as grammar;
 ghost use Rattle.catalogue.specs.Inside.{inside_of};
+ghost use Rattle.catalogue.specs.Keyword.{keyword_text};
 ghost use Rattle.catalogue.specs.Name.{no_node};
 ghost use Rattle.catalogue.specs.Spelling.{Spells};
 ghost use Rattle.catalogue.specs.WholeNumber.{is_numeral};
@@ -39,18 +40,40 @@ pub(crate) fn is_number(token: &Token) -> bool
     matches!(token.kind, TokenKind::Number)
 }
 
+/// Whether the bytes are this one.
+fn is_byte(bytes: &[u8], byte: u8) -> bool
+    ensures { result ≡ bytes_eq bytes.now (byte ∷ []) }
+{
+    match bytes {
+        [only] => *only == byte,
+        _ => false,
+    }
+}
+
 /// Whether the token is this mark.
 pub(crate) fn is_mark(token: &Token, mark: u8) -> bool
     ensures { result ≡ fields.is_mark (mark ∷ []) (token_of token.now) }
 {
-    matches!(token.kind, TokenKind::Mark) && token.text == [mark].as_slice()
+    matches!(token.kind, TokenKind::Mark) && is_byte(token.text, mark)
+}
+
+/// Whether the bytes spell the keyword. The most frequent ones of those that are asked for are compared as patterns.
+fn spells(bytes: &[u8], keyword: Keyword) -> bool
+    ensures { result ≡ bytes_eq bytes.now (keyword_text keyword) }
+{
+    match keyword {
+        Keyword::Signal => matches!(bytes, b"SG_"),
+        Keyword::Message => matches!(bytes, b"BO_"),
+        Keyword::Nodes => matches!(bytes, b"BU_"),
+        _ => bytes == keyword.text().as_bytes(),
+    }
 }
 
 /// Whether the token is this keyword.
 pub(crate) fn is_key(token: &Token, keyword: Keyword) -> bool
     ensures { result ≡ fields.is_key keyword (token_of token.now) }
 {
-    is_word(token) && token.text == keyword.text().as_bytes()
+    is_word(token) && spells(token.text, keyword)
 }
 
 /// The keyword that the token is.

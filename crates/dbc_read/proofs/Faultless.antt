@@ -54,13 +54,13 @@ table_keys : (tables : List TableLine) → map table_name (map table_of tables) 
 table_keys [] = refl
 table_keys (t ∷ tables) = ap (λ l. t.name ∷ l) (table_keys tables)
 
-signal_keys : (lines : List SignalLine) (f : Feeds) → map signal_name (signals_from (signals_of lines) f) ≡ map (λ (s : SignalLine). s.name) lines
+signal_keys : (lines : List SignalLine) (f : Feeds) → map signal_name (signals_from (signals_of lines) f) ≡ map (λ (s : SignalLine). s.signal.name) lines
 signal_keys [] f = refl
-signal_keys (s ∷ lines) f = ap (λ l. s.name ∷ l) (signal_keys lines (rest_of f))
+signal_keys (s ∷ lines) f = ap (λ l. s.signal.name ∷ l) (signal_keys lines (rest_of f))
 
-signal_marks : (lines : List SignalLine) (f : Feeds) → map (λ (s : Signal). s.mux) (signals_from (signals_of lines) f) ≡ map (λ (s : SignalLine). s.mux) lines
+signal_marks : (lines : List SignalLine) (f : Feeds) → map (λ (s : Signal). s.mux) (signals_from (signals_of lines) f) ≡ map (λ (s : SignalLine). s.signal.mux) lines
 signal_marks [] f = refl
-signal_marks (s ∷ lines) f = ap (λ l. s.mux ∷ l) (signal_marks lines (rest_of f))
+signal_marks (s ∷ lines) f = ap (λ l. s.signal.mux ∷ l) (signal_marks lines (rest_of f))
 
 message_keys : (lines : List MessageLine) (comments : List (List ℕ)) (f : Feeds) → map message_name (messages_from (map message_of lines) comments f) ≡ map (λ (m : MessageLine). m.name) lines
 message_keys [] comments f = refl
@@ -102,9 +102,9 @@ messages_fit (m ∷ lines) comments f h few =
     let made = signals_from (signals_of signals) f in (
       record {
         together = record {
-          apart = distinct_too bytes_eq (λ (s : SignalLine). s.name) signal_name signals made (signal_keys signals f) h.0.names.apart;
-          one_multiplexor = distinct_too (λ (a b : Mux). is_multiplexor a && is_multiplexor b) (λ (s : SignalLine). s.mux) (λ (s : Signal). s.mux) signals made (signal_marks signals f) h.0.one_multiplexor;
-          few = subst (λ n. n ≤ roster_limit) (sym (as_many bytes_eq (λ (s : SignalLine). s.name) signal_name signals made (signal_keys signals f))) h.0.names.few;
+          apart = distinct_too bytes_eq (λ (s : SignalLine). s.signal.name) signal_name signals made (signal_keys signals f) h.0.names.apart;
+          one_multiplexor = distinct_too (λ (a b : Mux). is_multiplexor a && is_multiplexor b) (λ (s : SignalLine). s.signal.mux) (λ (s : Signal). s.mux) signals made (signal_marks signals f) h.0.one_multiplexor;
+          few = subst (λ n. n ≤ roster_limit) (sym (as_many bytes_eq (λ (s : SignalLine). s.signal.name) signal_name signals made (signal_keys signals f))) h.0.names.few;
         };
         values = signals_few signals f few;
       },

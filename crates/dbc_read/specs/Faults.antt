@@ -35,10 +35,10 @@ pub record AreNumbered (messages : List MessageLine) : Type 0 where
 
 -- no two of the signals are the multiplexor
 abbrev pub HaveOneMultiplexor : List SignalLine → Type 0
-HaveOneMultiplexor signals = IsDistinct (λ (a b : SignalLine). is_multiplexor a.mux && is_multiplexor b.mux) signals
+HaveOneMultiplexor signals = IsDistinct (λ (a b : SignalLine). is_multiplexor a.signal.mux && is_multiplexor b.signal.mux) signals
 
 pub record AreSignalLines (signals : List SignalLine) : Type 0 where
-  pub names : AreNamedWithin (λ (s : SignalLine). s.name) roster_limit signals
+  pub names : AreNamedWithin (λ (s : SignalLine). s.signal.name) roster_limit signals
   pub one_multiplexor : HaveOneMultiplexor signals
 
 -- the signals of each message
@@ -63,7 +63,7 @@ IsNumberRefused before line DoubleNumber = AreNumberedApart before × (length be
 IsNumberRefused before line code = ⊥
 
 abbrev pub IsMultiplexorRefused : List SignalLine → SignalLine → ReadCode → Type 0
-IsMultiplexorRefused before signal TwoMultiplexors = HaveOneMultiplexor before × (is_multiplexor signal.mux ≡ true) × (list_any (λ s. is_multiplexor s.mux) before ≡ true)
+IsMultiplexorRefused before signal TwoMultiplexors = HaveOneMultiplexor before × (is_multiplexor signal.signal.mux ≡ true) × (list_any (λ s. is_multiplexor s.signal.mux) before ≡ true)
 IsMultiplexorRefused before signal code = ⊥
 
 -- the fault is that of an item, at its offset, which is refused after those before it
@@ -99,7 +99,7 @@ abbrev pub IsMessageFault : List MessageLine → ReadFault → Type 0
 IsMessageFault messages fault = IsFaultAt (λ (m : MessageLine). m.name_at) (IsNameRefused (λ (m : MessageLine). m.name) message_limit) messages fault
 
 abbrev pub IsSignalFault : List SignalLine → ReadFault → Type 0
-IsSignalFault signals fault = IsFaultAt (λ (s : SignalLine). s.at) (IsNameRefused (λ (s : SignalLine). s.name) roster_limit) signals fault
+IsSignalFault signals fault = IsFaultAt (λ (s : SignalLine). s.at) (IsNameRefused (λ (s : SignalLine). s.signal.name) roster_limit) signals fault
 
 abbrev pub IsMultiplexorFault : List SignalLine → ReadFault → Type 0
 IsMultiplexorFault signals fault = IsFaultAt (λ (s : SignalLine). s.mux_at) IsMultiplexorRefused signals fault

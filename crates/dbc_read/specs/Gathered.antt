@@ -30,8 +30,8 @@ abbrev pub gathered_after : Option ℕ → Passed → Content → Gathered → G
 gathered_after index p (content.Version text) g = record g { version = Some text }
 gathered_after index p (content.Comment text) g = record g { comment = Some text }
 gathered_after index p (content.Nodes nodes) g = record g { nodes = g.nodes ++ nodes.items }
-gathered_after index p (content.Table line) g = record g { tables = g.tables ++ line ∷ [] }
-gathered_after index p (content.Message line) g = record g { messages = g.messages ++ line ∷ [] }
+gathered_after index p (content.Table line) g = record g { tables = g.tables ++ line.value ∷ [] }
+gathered_after index p (content.Message line) g = record g { messages = g.messages ++ line.value ∷ [] }
 gathered_after index p (content.NodeComment name text) g = record g { node_comments = set_at index text g.node_comments; passed = passed_after index p g.passed }
 gathered_after index p (content.MessageComment cited text) g = record g { message_comments = set_at index text g.message_comments; passed = passed_after index p g.passed }
 gathered_after index p (content.SignalComment cited text) g = record g { signal_comments = set_at index text g.signal_comments; passed = passed_after index p g.passed }

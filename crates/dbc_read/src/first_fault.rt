@@ -108,7 +108,7 @@ fn multiplexor_fault(signals: &[SignalLine]) -> Option<ReadFault>
 {
     let mut has_multiplexor = false;
     for signal in signals {
-        if signal.mux.is_multiplexor() {
+        if signal.signal.mux.is_multiplexor() {
             if has_multiplexor {
                 return Some(ReadFault {
                     code: ReadCode::TwoMultiplexors,

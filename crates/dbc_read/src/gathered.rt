@@ -161,8 +161,8 @@ fn gather(from: Citing, content: Content, all: &mut Gathered) -> Result<(), Allo
             Ok(())
         }
         Content::Nodes(nodes) => gather_nodes(nodes, &mut all.nodes),
-        Content::Table(line) => all.tables.push(line),
-        Content::Message(line) => all.messages.push(line),
+        Content::Table(line) => all.tables.push(Box::into_inner(line)),
+        Content::Message(line) => all.messages.push(Box::into_inner(line)),
         Content::NodeComment(_, text) => {
             attach(from, text, &mut all.node_comments, &mut all.passed)
         }

@@ -63,12 +63,12 @@ impl NamedItem for MessageLine {
 }
 
 impl NamedItem for SignalLine {
-    ghost name_of = { λ signal. signal.name };
+    ghost name_of = { λ line. line.signal.name };
 
-    ghost offset_of = { λ signal. signal.at };
+    ghost offset_of = { λ line. line.at };
 
     fn name(&self) -> &Name {
-        &self.name
+        &self.signal.name
     }
 
     fn name_at(&self) -> usize {

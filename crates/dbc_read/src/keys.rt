@@ -37,7 +37,7 @@ fn add_keys<'s>(line: &'s MessageLine, found: &mut Vec<Key<'s>>) -> Result<(), A
 {
     let number = line.ident.to_dbc();
     for signal in &line.signals {
-        found.push((number, signal.name.as_bytes()))?;
+        found.push((number, signal.signal.name.as_bytes()))?;
     }
     Ok(())
 }
@@ -54,7 +54,7 @@ pub(crate) fn keys_of(alloc: Global, statements: &[Statement]) -> Result<Keys<'_
             Content::Nodes(names) => add_names(names, &mut nodes)?,
             Content::Message(line) => {
                 messages.push(line.ident.to_dbc())?;
-                add_keys(line, &mut signals)?;
+                add_keys(&**line, &mut signals)?;
             }
             _ => {}
         }

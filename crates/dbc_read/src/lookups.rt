@@ -47,7 +47,7 @@ fn message_index(lookups: &Lookups, cited: Option<u32>, last: &mut usize) -> Opt
 
 /// The index of the signal that is cited, if the file has it.
 fn signal_index(lookups: &Lookups, cited: &CitedSignal, last: &mut usize) -> Option<usize>
-    ensures { (statements : List says.Statement) → AreLookups lookups.now statements → IsSignalIndex statements cited.now.number cited.now.name result }
+    ensures { (statements : List says.Statement) → AreLookups lookups.now statements → IsSignalIndex statements cited.now.number cited.now.name.items result }
 {
     match cited.number {
         Some(number) => lookups.signals.find(&(number, cited.name.as_slice()), last),

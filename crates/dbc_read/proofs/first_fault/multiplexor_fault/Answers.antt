@@ -11,7 +11,7 @@ use Rattle.dbc_read.proofs.first_fault.multiplexor_fault.Goals as goal
 use Rattle.dbc_read.proofs.first_fault.multiplexor_fault.Goals.{then-is_multiplexor+else-has_multiplexor, else-is_multiplexor}
 
 abbrev is_multiplexor_line : SignalLine → Bool
-is_multiplexor_line s = is_multiplexor s.mux
+is_multiplexor_line s = is_multiplexor s.signal.mux
 
 pub loop-signal-init : goal.loop-signal-init
 loop-signal-init c = none_yet is_multiplexor_line

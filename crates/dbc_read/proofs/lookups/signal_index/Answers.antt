@@ -9,7 +9,7 @@ use Rattle.dbc_read.proofs.lookups.signal_index.Goals as goal
 pub returns-in-Some : goal.returns-in-Some
 returns-in-Some c = λ statements are.
     let number = c.in-Some.number in
-    let name = c.args.cited.now.name in
+    let name = c.args.cited.now.name.items in
     let here = rw c.as_slice.ensures at c.find.ensures are.signal_keys are.signals in
     rw c.in-Some.is
     (subst (λ keys. IsIndexIn (λ key. same_signal key (number, name)) keys c.find.result) are.keys

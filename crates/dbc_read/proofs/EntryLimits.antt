@@ -1,5 +1,5 @@
 -- Lists of entries, of which some may be too many, as a loop goes through them.
-use Rattle.std.proofs.Common.{◌≡◌, ◌∙◌, ◌⊎◌, ◌≤◌, ◌<◌, ◌++◌, ◌∷◌, Bool, true, false, List, [], Option, Some, None, is_some, length, nat_lt, inl, inr, refl, sym, ap, append_assoc, arith, true≢false}
+use Rattle.std.proofs.Common.{◌≡◌, ◌∙◌, ◌⊎◌, ◌<◌, ◌++◌, ◌∷◌, true, false, List, [], Option, Some, None, is_some, length, nat_lt, inl, inr, refl, sym, ap, append_assoc, arith}
 use Rattle.std.specs.Prelude.{IfNone, IfSome}
 use Rattle.std.specs.List.{AllByRecursion}
 use Rattle.std.proofs.lemmas.Bool.Decides.{nat_tests}

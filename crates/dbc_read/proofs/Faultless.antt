@@ -10,7 +10,6 @@ use Rattle.catalogue.specs.Messages.{message_name, number_of}
 use Rattle.catalogue.specs.Sheet.{node_name, table_name}
 use Rattle.catalogue.specs.Signals.{signal_name}
 use Rattle.catalogue.specs.WellFormed.{AreFewTexts}
-use Rattle.catalogue.specs.declared.message.Message.{Message}
 use Rattle.catalogue.specs.declared.signal.Signal.{Signal}
 use Rattle.catalogue.specs.declared.value_table.ValueTable.{ValueTable}
 use Rattle.catalogue.specs.declared.value_texts.ValueText.{ValueText}

@@ -1,5 +1,5 @@
 -- The fault at an item of a list.
-use Rattle.std.proofs.Common.{◌≡◌, ◌<◌, ◌+◌, ℕ, List, Option, Some, None, length, take, drop, get_or, refl}
+use Rattle.std.proofs.Common.{◌≡◌, ◌<◌, ◌+◌, ℕ, List, Option, Some, None, length, take, drop, get_or}
 use Rattle.std.specs.Prelude.{IfNone, IfSome}
 use Rattle.dbc_lex.specs.declared.fault.ReadCode.{ReadCode}
 use Rattle.dbc_lex.specs.declared.fault.ReadFault.{ReadFault}

@@ -1,4 +1,4 @@
-use Rattle.std.proofs.Common.{◌≡◌, ◌∙◌, ◌&&◌, Bool, List, refl, subst, sym, take}
+use Rattle.std.proofs.Common.{◌∙◌, ◌&&◌, Bool, List, refl, subst, sym, take}
 use Rattle.std.specs.List.{IsDistinct}
 use Rattle.std.proofs.lemmas.List.{take_all}
 use Rattle.bitlayout.specs.Mux.{is_multiplexor}

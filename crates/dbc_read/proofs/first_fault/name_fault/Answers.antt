@@ -1,5 +1,4 @@
-use Rattle.std.proofs.Common.{◌≡◌, ◌∙◌, ◌<◌, ◌≤◌, ◌+◌, ◌++◌, ◌∷◌, ℕ, List, [], true, false, not, length, take, ap, arith, subst, sym}
-use Rattle.std.specs.BTreeSet.{BTreeSet, contains}
+use Rattle.std.proofs.Common.{◌≡◌, ◌∙◌, List, take, arith, subst, sym}
 use Rattle.std.specs.Cmp.Lexicographic.{texts_ties}
 use Rattle.std.specs.Str.{bytes_eq}
 use Rattle.std.proofs.lemmas.List.{take_all}
@@ -7,7 +6,7 @@ use Rattle.catalogue.specs.Keyed.{text_cmp}
 use Rattle.dbc_read.specs.Faults.{AreNamedWithin, IsNameRefused}
 use Rattle.dbc_read.proofs.FaultsAt.{fault_at}
 use Rattle.dbc_read.proofs.IteratorItems.{item_taken}
-use Rattle.dbc_read.proofs.FirstRefused.{ArePassed, none_passed, one_passed, was_there}
+use Rattle.dbc_read.proofs.FirstRefused.{none_passed, one_passed, was_there}
 use Rattle.dbc_read.proofs.first_fault.name_fault.Goals as goal
 
 pub loop-item-init : goal.loop-item-init

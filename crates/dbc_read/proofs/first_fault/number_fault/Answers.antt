@@ -1,4 +1,4 @@
-use Rattle.std.proofs.Common.{◌≡◌, ◌∙◌, ◌<◌, ◌≤◌, List, nat_cmp, nat_eq, refl, take, arith, subst, sym}
+use Rattle.std.proofs.Common.{◌∙◌, nat_cmp, nat_eq, refl, take, arith, subst, sym}
 use Rattle.std.specs.Cmp.{unsigned_ties}
 use Rattle.std.proofs.lemmas.List.{take_all}
 use Rattle.catalogue.specs.Limits.{message_limit}

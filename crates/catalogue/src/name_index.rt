@@ -1,5 +1,5 @@
-//! The index of the names of a list. A short list has none: its names are compared one by one, which takes neither a copy of
-//! each name nor more time than a look-up.
+//! The index of the names of a list. A short list has none: its names are compared one by one, which takes neither a copy
+//! of each name nor more time than a look-up.
 ghost use Rattle.std.specs.Prelude.{◌≡◌, ◌&&◌, ◌||◌, ℕ, List, Bool, None, not, IfOk, OnOk, OnErr};
 ghost use Rattle.std.specs.Str.{bytes_eq};
 ghost use Rattle.catalogue.specs.Named.{HasNamesOf, IsIndexBy, IsNameIndex};

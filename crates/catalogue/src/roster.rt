@@ -26,7 +26,7 @@ pub trait Named {
 }
 
 /// At most [`ROSTER_LIMIT`] things in the order in which they were added, no two with the same name. Contracts see it as the
-/// list of them. Unless there are few, an index of the names shows whether a name is there without a walk over the list.
+/// list of them. Unless they are few, an index of the names shows whether a name is there without a walk over them.
 pub struct Roster<T: Named> {
     things: Vec<T>,
     names: NameIndex,

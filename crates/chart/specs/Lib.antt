@@ -1,2 +1,4 @@
+pub mod Columns
 pub mod Text
+pub mod Table
 pub mod Word

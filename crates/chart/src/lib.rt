@@ -9,11 +9,14 @@
 //! `bitlayout` and the numbers and names of clashes of `catalogue`; `Word.antt` is the form of the arguments.
 #![tactic(auto)]
 
+mod columns;
 mod number;
 mod signal;
+mod table;
 mod text;
 mod word;
 
 pub use signal::{ChartSignal, first_clash_of};
+pub use table::{signal_count, table_of};
 pub use text::chart_text;
 pub use word::{length_of, signal_of};

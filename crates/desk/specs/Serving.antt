@@ -21,10 +21,10 @@ use Rattle.desk_reply.specs.declared.responses.Content.TheVariants.{Bytes}
 -- what the store can be asked
 abbrev pub question_of : Look → Option Question
 question_of look.Nets = None
-question_of (look.Table net) = None
+question_of (look.Table net) = Some (question.Table net)
 question_of (look.Live net) = Some (question.Live net)
 question_of (look.Release net number) = Some (question.Release net number)
-question_of (look.Chart net message) = None
+question_of (look.Chart net message) = Some (question.Chart net message)
 
 -- the response that shows a text, or says that there is none
 abbrev pub shown_response : Option (List ℕ) → List ℕ

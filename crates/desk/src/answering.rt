@@ -16,16 +16,16 @@ use sqlite::Alter;
 use std::alloc::{AllocError, Global};
 use store::{Office, Question};
 
-/// What the store can be asked. Networks, tables and charts it can't tell yet.
+/// What the store can be asked. The list of networks it can't tell yet.
 fn question_of(look: Look) -> Option<Question>
     ensures { result ≡ question_of look }
 {
     match look {
         Look::Nets => None,
-        Look::Table(_net) => None,
+        Look::Table(net) => Some(Question::Table(net)),
         Look::Live(net) => Some(Question::Live(net)),
         Look::Release(net, number) => Some(Question::Release(net, number)),
-        Look::Chart(_net, _message) => None,
+        Look::Chart(net, message) => Some(Question::Chart(net, message)),
     }
 }
 

@@ -3,8 +3,9 @@
 //! Reading: [`net_at`] reads the network of a name, and [`book_of`] the book of suspect parameter numbers. If the
 //! tables have a network under the name (`IsNetAt` of `store_rows`), that is the one that `net_at` gives, and so it is
 //! with the book; nothing is asked of the rows of other networks. Each part is one SELECT, and one function (`parts`).
-//! [`live_text`] gives the canonical text of a network's live sheet, and [`release_text`] that of a release, which reads
-//! as the release and as no other sheet.
+//! [`live_text`] gives the canonical text of a network's live sheet, [`live_table`] the table of its messages and
+//! [`live_chart`] the chart of one of them; [`release_text`] gives the canonical text of a release, which reads as the
+//! release and as no other sheet.
 //!
 //! Writing: [`write_changes`] writes the rows of a list of changes (`writing`, `change_rows`, `setting`): each removes
 //! the rows of its key and adds its own, so that the tables follow what the changes do at the network and in the book.
@@ -30,7 +31,7 @@ mod replies;
 mod setting;
 mod writing;
 
-pub use live::live_text;
+pub use live::{live_chart, live_table, live_text};
 pub use reading::{book_of, net_at};
 pub use release::release_text;
 pub use replies::{answer_at, keep_reply};

@@ -10,7 +10,7 @@ use Rattle.store.specs.declared.question.Question.{Question}
 use Rattle.desk_call.specs.Call.{Asking, arrives, shows}
 use Rattle.desk_call.specs.declared.call.Look.{Look}
 use Rattle.desk_reply.specs.Response.{answer_response}
-use Rattle.desk.specs.Serving.{Responds, answered_as, question_of, shown_response}
+use Rattle.desk.specs.Serving.{Responds, answered_as, content_of, question_of, shown_response}
 
 -- what holds of a text holds of the value that has it
 pub on_text : {V E : Type 0} (items : V → List ℕ) (r : Result V E) (text : List ℕ) (Q : List ℕ → Type 0) → IfOk r (λ v. items v ≡ text) → Q text → IfOk r (λ v. Q (items v))
@@ -26,7 +26,7 @@ on_ok (Ok v) P Q p f = f p
 on_ok (Err x) P Q p f = tt
 
 pub looked : (h : List Answered) (l : Look) (q : Question) (found : Option (List ℕ)) (s : State)
-    → question_of l ≡ Some q → ((office : Office) → IsLegal h office → IsShown office q found) → Holding h s → Responds h (shows l) (shown_response found) s
+    → question_of l ≡ Some q → ((office : Office) → IsLegal h office → IsShown office q found) → Holding h s → Responds h (shows l) (shown_response (content_of l) found) s
 looked h l q found s asks shown held = inl (h, (refl, λ office legal. (q, asks, (found, shown office legal, refl))), held)
 
 pub arrived : (h : List Answered) (a : Asking) (answer : Answer) (s : State)

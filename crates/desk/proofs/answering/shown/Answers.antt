@@ -6,8 +6,8 @@ use Rattle.store.specs.Looking.{IsShown}
 use Rattle.desk_types.specs.declared.problem.Problem.TheVariants.{NotFound}
 use Rattle.desk_call.specs.Call.{shows}
 use Rattle.desk_reply.specs.Response.{problem_response, text_response}
-use Rattle.desk_reply.specs.declared.responses.Content.TheVariants.{Bytes}
-use Rattle.desk.specs.Serving.{Responds, question_of}
+use Rattle.desk_reply.specs.declared.responses.Content.{Content}
+use Rattle.desk.specs.Serving.{Responds, content_of, question_of}
 use Rattle.desk.proofs.Responses.{looked, on_text}
 use Rattle.desk.proofs.answering.shown.Goals as goal
 
@@ -17,9 +17,10 @@ returns-in-Ok-Some-clause-ok g c clean h holds =
     let asks : question_of c.args.look ≡ Some c.in-Some.question = sym c.in-Some.ensures in
     let shown : (office : Office) → IsLegal h office → IsShown office c.in-Some.question (Some c.in-Ok-Some.text.items) =
     λ office legal. rw c.in-Ok-Some.field-0-is at (c.in-Ok-Some.ensures.shown clean h office holds legal) in
-    on_text (λ (v : Vec ℕ Global). v.items) c.text_response.result (text_response Bytes c.deref.result.now) (λ t. Responds h (shows c.args.look) t s) c.text_response.ensures
-    (subst (λ (l : List ℕ). Responds h (shows c.args.look) (text_response Bytes l) s) (sym c.deref.ensures.value)
-    (looked h c.args.look c.in-Some.question (Some c.in-Ok-Some.text.items) s asks shown (c.in-Ok-Some.ensures.held clean h holds)))
+    on_text (λ (v : Vec ℕ Global). v.items) c.text_response.result (text_response c.content_of-content.result c.deref.result.now) (λ t. Responds h (shows c.args.look) t s) c.text_response.ensures
+    (subst (λ (k : Content). Responds h (shows c.args.look) (text_response k c.deref.result.now) s) (sym c.content_of-content.ensures)
+    (subst (λ (l : List ℕ). Responds h (shows c.args.look) (text_response (content_of c.args.look) l) s) (sym c.deref.ensures.value)
+    (looked h c.args.look c.in-Some.question (Some c.in-Ok-Some.text.items) s asks shown (c.in-Ok-Some.ensures.held clean h holds))))
 
 pub returns-in-Ok-None-clause-ok : goal.returns-in-Ok-None-clause-ok
 returns-in-Ok-None-clause-ok g c clean h holds =

@@ -16,16 +16,16 @@ use sqlite::Alter;
 use std::alloc::{AllocError, Global};
 use store::{Office, Question};
 
-/// What the store can be asked. The list of networks it can't tell yet.
-fn question_of(look: Look) -> Option<Question>
+/// What the store is asked.
+fn question_of(look: Look) -> Question
     ensures { result ≡ question_of look }
 {
     match look {
-        Look::Nets => None,
-        Look::Table(net) => Some(Question::Table(net)),
-        Look::Live(net) => Some(Question::Live(net)),
-        Look::Release(net, number) => Some(Question::Release(net, number)),
-        Look::Chart(net, message) => Some(Question::Chart(net, message)),
+        Look::Nets => Question::Nets,
+        Look::Table(net) => Question::Table(net),
+        Look::Live(net) => Question::Live(net),
+        Look::Release(net, number) => Question::Release(net, number),
+        Look::Chart(net, message) => Question::Chart(net, message),
     }
 }
 
@@ -48,9 +48,7 @@ fn shown<S: Alter>(alloc: Global, office: &mut Office<S>, look: Look) -> Result<
         → OnErr result (MayHaveTaken h (shows look) (state S.Store office.new.conn)) }
 {
     let content = content_of(&look);
-    let Some(question) = question_of(look) else {
-        return problem_response(alloc, Problem::TryAgain);
-    };
+    let question = question_of(look);
     match office.look(alloc, &question) {
         Ok(Some(text)) => text_response(alloc, content, &text),
         Ok(None) => problem_response(alloc, Problem::NotFound),

@@ -1,8 +1,8 @@
-//! The lines of networks.
+//! The line of a network.
 ghost use Rattle.std.specs.Prelude.{◌≡◌, IfOk};
-ghost use Rattle.net_list.specs.Text.{kind_word, line_of, nets_text, phase_word};
+ghost use Rattle.net_list.specs.Text.{kind_word, line_of, phase_word};
 
-use office_types::{Head, Net, NetKind, NetName, Phase};
+use office_types::{Head, NetKind, NetName, Phase};
 use std::alloc::{AllocError, Global};
 
 /// The word for a network's kind.
@@ -45,16 +45,4 @@ pub fn net_line(
     line.extend_from_slice(count.as_bytes())?;
     line.push(b'\n')?;
     Ok(line)
-}
-
-/// The lines of the networks, in order. The error is out of memory.
-pub fn nets_text(alloc: Global, nets: &[Net]) -> Result<Vec<u8>, AllocError>
-    ensures { IfOk result (λ text. text.items ≡ nets_text nets.now) }
-{
-    let mut text = Vec::new(alloc);
-    for net in nets {
-        let line = net_line(alloc, &net.name, &net.head, net.releases.as_slice().len())?;
-        text.extend_from_slice(&line)?;
-    }
-    Ok(text)
 }

@@ -4,6 +4,8 @@ use office_types::NetName;
 
 /// What can be looked up in an office.
 pub enum Question {
+    /// The list of networks.
+    Nets,
     /// The table of the messages of the network's live sheet.
     Table(NetName),
     /// The live sheet of the network, as canonical DBC text.
@@ -17,6 +19,7 @@ pub enum Question {
 impl Drop for Question {
     fn drop(self) {
         match self {
+            Question::Nets => {}
             Question::Table(_net) => {}
             Question::Live(_net) => {}
             Question::Release(_net, _number) => {}

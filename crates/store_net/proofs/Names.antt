@@ -24,12 +24,12 @@ use Rattle.office_types.specs.declared.state.Net.{Net}
 use Rattle.office_law.proofs.OrderedNets.{order_tells}
 use Rattle.office_tables.specs.Tables.{Tables}
 use Rattle.office_tables.specs.Selected.{IsSelected}
-use Rattle.office_rows.specs.Rows.{frozen_row, is_any, is_of_net}
+use Rattle.office_rows.specs.Rows.{frozen_row, is_any, is_of_net, net_row}
 use Rattle.office_rows.specs.Shown.{net_names_order, net_names_shown, net_order, release_numbers_order, release_numbers_shown}
 use Rattle.chart.proofs.Pieces.{items_more}
 use Rattle.net_list.specs.Text.{line_of, net_line, nets_text}
 use Rattle.store_rows.specs.Listed.{AreListed, AreShown}
-use Rattle.store_rows.specs.Rows.{IsFrozenRow, IsNetAt, IsRowOf, NetRows, numbered}
+use Rattle.store_rows.specs.Rows.{IsFrozenRow, IsNetAt, IsNetRow, IsRowOf, NetRows, numbered}
 use Rattle.store_rows.proofs.Keys.{net_total, other_net, own_text, releases_total, text_order}
 use Rattle.store_rows.proofs.Listing.{found_listed, none_listed}
 use Rattle.store_rows.proofs.Reading.{both_tests, selected_shown}
@@ -149,7 +149,7 @@ alone_at name t (net ∷ nets) at = by_test (bytes_eq net.name name) at
     by_test false at = alone_at name t nets at
     by_test true at = one_row at.head.found at.head.same at.head.each
       where
-        one_row : (found : List Row) → IsPermutation (filter (is_of_net name) t.net) found → AreShown _ (net.head ∷ []) found → Alone name true (filter (is_of_net name) t.net)
+        one_row : (found : List Row) → IsPermutation (filter (is_of_net name) t.net) found → AreShown (IsRowOf net_row (IsNetRow name)) (net.head ∷ []) found → Alone name true (filter (is_of_net name) t.net)
         one_row [] same all = absurd all
         one_row (x ∷ []) same all =
             (x, one_permutation x (filter (is_of_net name) t.net) (IsPermutation-sym (filter (is_of_net name) t.net) (x ∷ []) same), ap (λ r. column r 0) all.0.2 ∙ ap Text all.0.1.net)
@@ -221,14 +221,14 @@ unfolding IsStrictlySortedBy
 each_from t [] ascending at = tt
 each_from t (net ∷ nets) ascending at =
     let here = at net.name net (ap (λ b. cond b (Some net) (find (λ (n : Net). bytes_eq n.name net.name) nets)) ((bytes_eq-Decides net.name net.name).1 refl)) in
-    (here, each_from t nets ascending.1 (λ name one found. at name one (by_test name one found (bytes_eq net.name name) refl)))
+    (here, each_from t nets ascending.1 (λ name one found. at name one (by_test name one ascending.0 found (bytes_eq net.name name) refl)))
   where
-    by_test : (name : List ℕ) (one : Net) → find (λ (n : Net). bytes_eq n.name name) nets ≡ Some one → (b : Bool) → bytes_eq net.name name ≡ b
-        → find (λ (n : Net). bytes_eq n.name name) (net ∷ nets) ≡ Some one
-    by_test name one found false e = ap (λ b. cond b (Some net) (find (λ (n : Net). bytes_eq n.name name) nets)) e ∙ found
-    by_test name one found true e =
+    by_test : (name : List ℕ) (one : Net) → AllByRecursion (λ other. by_name net other ≡ Less) nets → find (λ (n : Net). bytes_eq n.name name) nets ≡ Some one
+        → (b : Bool) → bytes_eq net.name name ≡ b → find (λ (n : Net). bytes_eq n.name name) (net ∷ nets) ≡ Some one
+    by_test name one less found false e = ap (λ b. cond b (Some net) (find (λ (n : Net). bytes_eq n.name name) nets)) e ∙ found
+    by_test name one less found true e =
         let same : net.name ≡ name = (bytes_eq-Decides net.name name).0 e in
-        let none = none_found name nets (subst (λ n. among nets n ≡ false) same (not_among net nets ascending.0)) in
+        let none = none_found name nets (subst (λ n. among nets n ≡ false) same (not_among net nets less)) in
         let both : None ≡ Some one = sym none ∙ found in
         absurd (cc)
 

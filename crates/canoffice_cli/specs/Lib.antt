@@ -9,5 +9,6 @@ pub mod Charted
 pub mod WordFault
 pub mod Checked
 pub mod Formatted
+pub mod Tabled
 pub mod Delivery
 pub mod Performance

@@ -2,7 +2,7 @@
 ghost use Rattle.std.specs.Prelude.{◌≡◌, IfOk, false};
 ghost use Rattle.clap.specs.Words.{app_of, rule_of};
 ghost use Rattle.clap.specs.declared.builder.command.Command.TheViews.{out-Command as fields_of};
-ghost use Rattle.canoffice_cli.specs.CommandLine.{apply_app, canoffice_app, chart_app, check_app, export_app, format_app, option_word, required_option, required_word, required_words};
+ghost use Rattle.canoffice_cli.specs.CommandLine.{apply_app, canoffice_app, chart_app, check_app, export_app, format_app, option_word, required_option, required_word, required_words, table_app};
 
 use clap::{Arg, Command};
 use std::alloc::{AllocError, Global};
@@ -101,6 +101,16 @@ fn format_command<'a>(alloc: Global) -> Result<Command<'a>, AllocError>
     Ok(format)
 }
 
+/// `table FILE`
+fn table_command<'a>(alloc: Global) -> Result<Command<'a>, AllocError>
+    ensures app { IfOk result (λ c. app_of c ≡ table_app) }
+    ensures local { IfOk result (λ c. (fields_of c).has_globals ≡ false) }
+{
+    let named = Command::new(alloc, "table").about("Prints a table of the messages of a DBC file");
+    let table = named.arg(required_argument(alloc, "FILE", "The DBC file"))?;
+    Ok(table)
+}
+
 /// The program's command line with all its subcommands, one of which is required.
 pub fn canoffice_command<'a>(alloc: Global) -> Result<Command<'a>, AllocError>
     ensures app { IfOk result (λ c. app_of c ≡ canoffice_app) }
@@ -115,5 +125,6 @@ pub fn canoffice_command<'a>(alloc: Global) -> Result<Command<'a>, AllocError>
     let with_check = with_chart.subcommand(check_command(alloc)?)?;
     let with_export = with_check.subcommand(export_command(alloc)?)?;
     let with_format = with_export.subcommand(format_command(alloc)?)?;
-    Ok(with_format)
+    let with_table = with_format.subcommand(table_command(alloc)?)?;
+    Ok(with_table)
 }

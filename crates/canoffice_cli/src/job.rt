@@ -44,6 +44,11 @@ pub enum Job<'a> {
         /// The path of the file.
         file: &'a str,
     },
+    /// Print the table of the messages of the DBC text in the file of this name.
+    Table {
+        /// The path of the file.
+        file: &'a str,
+    },
 }
 
 /// Why the words of the command line ask for no job.
@@ -131,6 +136,9 @@ fn job_in<'a>(alloc: Global, matches: &ArgMatches<'a>) -> Result<Job<'a>, AllocE
     if name == "format" {
         return Ok(format_job(found));
     }
+    if name == "table" {
+        return Ok(table_job(found));
+    }
     unreachable!("clap knows no other subcommand")
 }
 
@@ -194,4 +202,14 @@ fn format_job<'a>(found: &ArgMatches<'a>) -> Job<'a>
 {
     let file = found.get_str("FILE").unwrap();
     Job::Format { file }
+}
+
+/// `table FILE`
+#[tactic(auto, using(crate::proofs::CommandLine::value_in_rows, crate::proofs::CommandLine::text_is_given))]
+fn table_job<'a>(found: &ArgMatches<'a>) -> Job<'a>
+    requires { HasSome (rows_of (found_of found.now)) (codes "FILE") }
+    ensures { IsJobOf result (codes "table") (rows_of (found_of found.now)) }
+{
+    let file = found.get_str("FILE").unwrap();
+    Job::Table { file }
 }

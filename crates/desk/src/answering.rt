@@ -1,5 +1,5 @@
 //! What the office is asked, and the responses to it.
-ghost use Rattle.std.specs.Prelude.{◌≡◌, ◌≤◌, List, IfOk, OnErr};
+ghost use Rattle.std.specs.Prelude.{◌≡◌, ◌≤◌, List, IfOk, IsFalse, IsTrue, OnErr};
 ghost use Rattle.sqlite.specs.Held.{state};
 ghost use Rattle.sqlite.specs.State.{HasCleanDisk};
 ghost use Rattle.sqlite_trees.specs.View.{doubt};
@@ -32,6 +32,9 @@ fn question_of(look: Look) -> Option<Question>
 /// Looks something up, and gives the response that shows it.
 fn shown<S: Alter>(alloc: Global, office: &mut Office<S>, look: Look) -> Result<Vec<u8>, AllocError>
     ensures clean { doubt (state S.Store office.old.conn).is_clean ≤ doubt (state S.Store office.new.conn).is_clean }
+    ensures refused { IsTrue office.old.failed → office.new ≡ office.old }
+    ensures open { HasCleanDisk (state S.Store office.new.conn) → (h : List Answered) → Holding h (state S.Store office.old.conn)
+        → IsFalse office.new.failed → IsTrue (state S.Store office.new.conn).is_open }
     ensures ok { HasCleanDisk (state S.Store office.new.conn) → (h : List Answered) → Holding h (state S.Store office.old.conn)
         → IfOk result (λ text. Responds h (shows look) text.items (state S.Store office.new.conn)) }
     ensures err { HasCleanDisk (state S.Store office.new.conn) → (h : List Answered) → Holding h (state S.Store office.old.conn)
@@ -54,6 +57,9 @@ fn arrived<S: Alter>(
     arrival: &Arrival,
 ) -> Result<Vec<u8>, AllocError>
     ensures clean { doubt (state S.Store office.old.conn).is_clean ≤ doubt (state S.Store office.new.conn).is_clean }
+    ensures refused { IsTrue office.old.failed → office.new ≡ office.old }
+    ensures open { HasCleanDisk (state S.Store office.new.conn) → (h : List Answered) → Holding h (state S.Store office.old.conn)
+        → IsFalse office.new.failed → IsTrue (state S.Store office.new.conn).is_open }
     ensures ok { HasCleanDisk (state S.Store office.new.conn) → (h : List Answered) → Holding h (state S.Store office.old.conn)
         → IfOk result (λ text. Responds h (arrives (asking_seen arrival.now)) text.items (state S.Store office.new.conn)) }
     ensures err { HasCleanDisk (state S.Store office.new.conn) → (h : List Answered) → Holding h (state S.Store office.old.conn)
@@ -73,6 +79,9 @@ pub(crate) fn response_to<S: Alter>(
     call: Call,
 ) -> Result<Vec<u8>, AllocError>
     ensures clean { doubt (state S.Store office.old.conn).is_clean ≤ doubt (state S.Store office.new.conn).is_clean }
+    ensures refused { IsTrue office.old.failed → office.new ≡ office.old }
+    ensures open { HasCleanDisk (state S.Store office.new.conn) → (h : List Answered) → Holding h (state S.Store office.old.conn)
+        → IsFalse office.new.failed → IsTrue (state S.Store office.new.conn).is_open }
     ensures ok { HasCleanDisk (state S.Store office.new.conn) → (h : List Answered) → Holding h (state S.Store office.old.conn)
         → IfOk result (λ text. Responds h (seen call) text.items (state S.Store office.new.conn)) }
     ensures err { HasCleanDisk (state S.Store office.new.conn) → (h : List Answered) → Holding h (state S.Store office.old.conn)

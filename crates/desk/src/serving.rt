@@ -1,5 +1,5 @@
 //! One request and one response.
-ghost use Rattle.std.specs.Prelude.{◌≡◌, ◌+◌, ◌-◌, ◌<◌, ◌≤◌, ◌^◌, ℕ, List, OnOk, IsErrOf};
+ghost use Rattle.std.specs.Prelude.{◌≡◌, ◌+◌, ◌-◌, ◌<◌, ◌≤◌, ◌^◌, ℕ, List, OnOk, IsErrOf, IsFalse, IsTrue};
 ghost use Rattle.std.specs.Io.KnownBytes.{Consumes};
 ghost use Rattle.sqlite.specs.Held.{state};
 ghost use Rattle.sqlite.specs.State.{HasCleanDisk};
@@ -38,6 +38,9 @@ pub fn serve_one<S: Alter, R: Source, W: Sink>(
         → OnOk result (HasServed h (R.left source.old) (W.told sink.old) (W.told sink.new) (state S.Store office.new.conn)) }
     ensures healthy { OnOk result ((R.failure_count source.new ≡ R.failure_count source.old) × (W.failure_count sink.new ≡ W.failure_count sink.old)) }
     ensures clean { doubt (state S.Store office.old.conn).is_clean ≤ doubt (state S.Store office.new.conn).is_clean }
+    ensures refused { IsTrue office.old.failed → office.new ≡ office.old }
+    ensures open { HasCleanDisk (state S.Store office.new.conn) → (h : List Answered) → Holding h (state S.Store office.old.conn)
+        → IsFalse office.new.failed → IsTrue (state S.Store office.new.conn).is_open }
     ensures read { IsErrOf result DeskFault.Read → (bytes : List ℕ) × Consumes (R.left source.old) (R.left source.new) bytes × IsNotWhole bytes }
     ensures read_failed { IsErrOf result DeskFault.Read → R.failure_count source.new ≡ R.failure_count source.old + 1 }
     ensures read_kept { IsErrOf result DeskFault.Read → (office.new ≡ office.old) × (sink.new ≡ sink.old) }

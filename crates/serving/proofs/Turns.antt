@@ -64,11 +64,15 @@ came_then (Some coming) b c vs v x y =
     (x.0 ++ z.0, z.1, x.2 ∙ ap (λ (l : List (List ℕ)). x.0 ++ l) z.2 ∙ sym (append_assoc x.0 z.0 z.1), z.3, told_then (λ w. w.sent) vs v x.0 z.0 x.4 z.4)
 
 pub ended_none : (old : Option (List (List ℕ))) → Ended old old []
-ended_none None = tt
-ended_none (Some ended) = ([], ap Some (sym (append-nil ended)), refl)
+ended_none None = refl
+ended_none (Some ended) = ([], sym (append-nil ended), refl)
 
 pub ended_then : (a b c : Option (List (List ℕ))) (vs : List Visit) (v : Visit) → Ended a b vs → Ended b c (v ∷ []) → Ended a c (vs ++ v ∷ [])
-ended_then None b c vs v x y = tt
-ended_then (Some ended) b c vs v x y =
-    let z = subst (λ (o : Option (List (List ℕ))). Ended o c (v ∷ [])) x.1 y in
-    (x.0 ++ z.0, z.1 ∙ ap Some (append_assoc ended x.0 z.0), told_then (λ w. w.written) vs v x.0 z.0 x.2 z.2)
+ended_then None b c vs v x y = subst (λ (o : Option (List (List ℕ))). Ended o c (v ∷ [])) x y
+ended_then (Some ended) None c vs v x y = subst (λ (o : Option (List (List ℕ))). Ended (Some ended) o (vs ++ v ∷ [])) (sym y) tt
+ended_then (Some ended) (Some more) None vs v x y = tt
+ended_then (Some ended) (Some more) (Some most) vs v x y = (
+  x.0 ++ y.0,
+  y.1 ∙ ap (λ (l : List (List ℕ)). l ++ y.0) x.1 ∙ append_assoc ended x.0 y.0,
+  told_then (λ w. w.written) vs v x.0 y.0 x.2 y.2,
+)

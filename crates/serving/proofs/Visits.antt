@@ -117,5 +117,6 @@ one_came (Some coming) new v comes = (comes.0 ∷ [], comes.1, comes.2, comes.3,
 
 pub one_ended : (old new : Option (List (List ℕ))) (told sent : Option (List ℕ)) (fault : Option DeskFault)
     → Ends old new told → Ended old new (record { sent = sent; written = written_of old told; fault = fault } ∷ [])
-one_ended None new told sent fault ends = tt
-one_ended (Some ended) new told sent fault ends = (ends.0 ∷ [], ends.2, ap (λ (o : Option (List ℕ)). o ∷ []) ends.1)
+one_ended None new told sent fault ends = ends
+one_ended (Some ended) None told sent fault ends = tt
+one_ended (Some ended) (Some more) told sent fault ends = (ends.0 ∷ [], ends.2, ap (λ (o : Option (List ℕ)). o ∷ []) ends.1)

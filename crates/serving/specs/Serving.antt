@@ -66,11 +66,12 @@ Came None new visits = ⊤
 Came (Some coming) new visits =
     (sent : List (List ℕ)) × (left : List (List ℕ)) × (coming ≡ sent ++ left) × (new ≡ Some left) × (map (λ v. v.sent) visits ≡ map Some sent)
 
--- these connections ended, in order, if the listener tells what was written
+-- These connections ended, in order, if the listener tells what was written. It may cease to tell, and never tells again.
 abbrev pub Ended : Option (List (List ℕ)) → Option (List (List ℕ)) → List Visit → Type 0
-Ended None new visits = ⊤
-Ended (Some ended) new visits =
-    (written : List (List ℕ)) × (new ≡ Some (ended ++ written)) × (map (λ v. v.written) visits ≡ map Some written)
+Ended None new visits = new ≡ None
+Ended (Some ended) None visits = ⊤
+Ended (Some ended) (Some more) visits =
+    (written : List (List ℕ)) × (more ≡ ended ++ written) × (map (λ v. v.written) visits ≡ map Some written)
 
 -- the first connection that comes sends these bytes
 abbrev pub Comes : Option (List (List ℕ)) → Option (List (List ℕ)) → Option (List ℕ) → Type 0
@@ -85,5 +86,6 @@ Starts (Some ended) written = written ≡ Some []
 
 -- a connection ends, on which this was written
 abbrev pub Ends : Option (List (List ℕ)) → Option (List (List ℕ)) → Option (List ℕ) → Type 0
-Ends None new written = ⊤
-Ends (Some ended) new written = (bytes : List ℕ) × (written ≡ Some bytes) × (new ≡ Some (ended ++ bytes ∷ []))
+Ends None new written = new ≡ None
+Ends (Some ended) None written = ⊤
+Ends (Some ended) (Some more) written = (bytes : List ℕ) × (written ≡ Some bytes) × (more ≡ ended ++ bytes ∷ [])

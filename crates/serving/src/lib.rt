@@ -9,9 +9,15 @@
 #![tactic(auto)]
 
 mod fault;
+mod line;
 mod listener;
+mod local_port;
 mod serving;
+mod waiting;
 
 pub use fault::ServeFault;
+pub use line::Line;
 pub use listener::Listener;
+pub use local_port::{LocalPort, listen};
 pub use serving::serve;
+pub use waiting::Waiting;

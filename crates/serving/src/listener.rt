@@ -15,7 +15,7 @@ pub trait Listener {
     /// What the peers of the connections to come send, if it tells.
     ghost coming: { Self → Option (List (List ℕ)) };
 
-    /// What was written on each of the connections that have ended, if it tells.
+    /// What was written on each of the connections that have ended, if it tells. It may cease to tell.
     ghost ended: { Self → Option (List (List ℕ)) };
 
     /// The next connection, none of whose calls has failed yet. It may wait for one for ever.

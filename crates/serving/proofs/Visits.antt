@@ -11,7 +11,7 @@ use Rattle.desk_types.specs.declared.fault.DeskFault.TheVariants.{Read, Write, M
 use Rattle.desk_call.specs.Call.{Asked, Asking, arrives}
 use Rattle.office_history.specs.declared.arrival.Answer.{Answer}
 use Rattle.desk.specs.Serving.{HasBegun, HasGivenUp, HasServed, IsAsked, MayHaveTaken, Responds, answered_as}
-use Rattle.serving.specs.Serving.{Came, Comes, Ended, Ends, IsReply, LeadsBy, MayGoOn, Starts, Visit, Wrote, WroteFront}
+use Rattle.serving.specs.Serving.{Came, Comes, Ended, Ends, IsReply, LeadsBy, MayGoOn, Starts, Visit, Wrote, WroteFront, fault_of}
 
 -- ---- what was written
 
@@ -79,11 +79,6 @@ given_up h sent s (inr g) = may_have h sent g.0 s g.1 g.2 (decides s.is_open)
 -- a history to which a connection leads, and that the tables hold if they are open
 abbrev pub LedTo : List Answered → Option DeskFault → Option (List ℕ) → Option (List ℕ) → State → Type 0
 LedTo h fault sent written s = (h2 : List Answered) × LeadsBy fault h sent written h2 × (IsTrue s.is_open → Holding h2 s)
-
--- how a connection ended
-abbrev pub fault_of : {T : Type 0} → Result T DeskFault → Option DeskFault
-fault_of (Ok v) = None
-fault_of (Err fault) = Some fault
 
 -- what is known of a connection that was served
 pub record Service {T : Type 0} (r : Result T DeskFault) (h : List Answered) (sent old new : Option (List ℕ)) (s : State) : Type 0 where

@@ -1,5 +1,5 @@
 -- Connections that are served one after the other.
-use Rattle.std.specs.Prelude.{◌≡◌, ◌⊎◌, ℕ, List, [], ◌∷◌, ◌++◌, map, Bool, Option, None, Some, IfSome, IsTrue, ⊤}
+use Rattle.std.specs.Prelude.{◌≡◌, ◌⊎◌, ℕ, List, [], ◌∷◌, ◌++◌, map, Bool, Option, None, Some, IfSome, IsTrue, Result, Ok, Err, ⊤}
 use Rattle.sqlite.specs.State.{State}
 use Rattle.office_history.specs.History.{Answered}
 use Rattle.office_history.specs.declared.arrival.Answer.{Answer}
@@ -16,6 +16,11 @@ pub record Visit : Type 0 where
   pub sent : Option (List ℕ)
   pub written : Option (List ℕ)
   pub fault : Option DeskFault
+
+-- the fault that ended a connection
+abbrev pub fault_of : {T : Type 0} → Result T DeskFault → Option DeskFault
+fault_of (Ok v) = None
+fault_of (Err fault) = Some fault
 
 -- this was written, if that is told
 abbrev pub Wrote : Option (List ℕ) → List ℕ → Type 0

@@ -1,39 +1,41 @@
 //! Serving connections in turn.
-ghost use Rattle.std.specs.Prelude.{◌≡◌, ◌<◌, ◌≤◌, List, [], ◌∷◌, length, MatchResult, OnErr, OnOk, IsFalse, IsTrue};
+ghost use Rattle.std.specs.Prelude.{◌≡◌, ◌<◌, ◌≤◌, List, [], ◌∷◌, length, IfOk, MatchResult, OnErr, IsFalse, IsTrue};
 ghost use Rattle.sqlite.specs.Held.{state};
 ghost use Rattle.sqlite.specs.State.{HasCleanDisk};
 ghost use Rattle.sqlite_trees.specs.View.{doubt};
 ghost use Rattle.office_history.specs.History.{Answered};
 ghost use Rattle.store.specs.Holding.{Holding};
-ghost use Rattle.serving.specs.Serving.{Came, Ended, Leads, Ran, Visit};
+ghost use Rattle.serving.specs.Serving.{Came, Ended, Leads, Ran, Visit, fault_of};
 
 use crate::fault::ServeFault;
 use crate::listener::Listener;
-use desk::{Failed, serve_one};
+use desk::{DeskFault, Failed, serve_one};
 use sqlite::Alter;
 use std::alloc::Global;
 use store::Office;
 
-/// Serves the next connection, whatever fault may end it. The error is that none can be accepted: then nothing is done.
+/// Serves the next connection, and tells whether a fault ended it. The error is that none can be accepted: then nothing
+/// is done.
 fn attend<S: Alter, L: Listener>(
     alloc: Global,
     office: &mut Office<S>,
     listener: &mut L,
-) -> Result<(), Failed>
+) -> Result<Result<(), DeskFault>, Failed>
     ensures clean { doubt (state S.Store office.old.conn).is_clean ≤ doubt (state S.Store office.new.conn).is_clean }
     ensures refused { IsTrue office.old.failed → office.new ≡ office.old }
     ensures open { HasCleanDisk (state S.Store office.new.conn) → (h : List Answered) → Holding h (state S.Store office.old.conn)
         → IsFalse office.new.failed → IsTrue (state S.Store office.new.conn).is_open }
-    ensures served { OnOk result ((v : Visit) × Came (L.coming listener.old) (L.coming listener.new) (v ∷ []) × Ended (L.ended listener.old) (L.ended listener.new) (v ∷ [])
+    ensures served { IfOk result (λ ended. (v : Visit) × (v.fault ≡ fault_of ended)
+        × Came (L.coming listener.old) (L.coming listener.new) (v ∷ []) × Ended (L.ended listener.old) (L.ended listener.new) (v ∷ [])
         × (HasCleanDisk (state S.Store office.new.conn) → (h : List Answered) → Holding h (state S.Store office.old.conn)
             → (h2 : List Answered) × Leads h v h2 × (IsTrue (state S.Store office.new.conn).is_open → Holding h2 (state S.Store office.new.conn)))) }
     ensures kept { OnErr result (office.new ≡ office.old) }
     ensures none { OnErr result ((L.coming listener.new ≡ L.coming listener.old) × (L.ended listener.new ≡ L.ended listener.old)) }
 {
     let (mut request, mut response) = listener.accept()?;
-    let _fault = serve_one(alloc, office, &mut request, &mut response);
+    let ended = serve_one(alloc, office, &mut request, &mut response);
     listener.finish(request, response);
-    Ok(())
+    Ok(ended)
 }
 
 /// Serves `count` connections of the listener, one after the other. A fault of the desk ends its connection alone. Once

@@ -55,8 +55,9 @@ pub fn serve<S: Alter, L: Listener>(
             → Ran h visits office.new.failed (state S.Store office.new.conn)) }
 {
     for _served in 0..count {
-        if attend(alloc, office, listener).is_err() {
-            return Err(ServeFault::Accept);
+        match attend(alloc, office, listener) {
+            Ok(_ended) => {}
+            Err(Failed) => return Err(ServeFault::Accept),
         }
     }
     Ok(())

@@ -6,8 +6,8 @@ use std::io::{Read, Write};
 use std::net::TcpStream;
 use std::time::{Clock, Duration, Instant};
 
-/// How long a connection may take from when it is accepted: no read or write begins later.
-pub(crate) const CONNECTION_TIME: Duration = Duration::from_secs(60);
+/// For how many seconds from when it is accepted a connection is read and written: no read or write begins later.
+const CONNECTION_SECONDS: u64 = 60;
 
 /// A handle of a TCP connection that counts its failures, and fails once the connection has taken too long. No contract
 /// tells the bytes of a socket.
@@ -20,10 +20,10 @@ pub struct Line<'r, C> {
 }
 
 impl<C: Clock> Line<'_, C> {
-    /// Whether the connection has been there for less than this time. It hasn't where the clock can't be read.
-    pub(crate) fn is_within(&self, time: Duration) -> bool {
+    /// Whether the connection still has time. It has none if the clock can't be read.
+    pub(crate) fn has_time(&self) -> bool {
         match self.accepted.elapsed(self.clock) {
-            Ok(taken) => taken < time,
+            Ok(taken) => taken < Duration::from_secs(CONNECTION_SECONDS),
             Err(_) => false,
         }
     }
@@ -35,7 +35,7 @@ impl<C: Clock> Source for Line<'_, C> {
     ghost failure_count = { λ s. s.count };
 
     fn take(&mut self, buf: &mut [u8]) -> Result<usize, Failed> {
-        if self.is_within(CONNECTION_TIME) {
+        if self.has_time() {
             if let Ok(n) = self.stream.read(buf) {
                 return Ok(n);
             }
@@ -55,7 +55,7 @@ impl<C: Clock> Sink for Line<'_, C> {
     ghost failure_count = { λ s. s.count };
 
     fn put(&mut self, bytes: &[u8]) -> Result<usize, Failed> {
-        if self.is_within(CONNECTION_TIME) {
+        if self.has_time() {
             if let Ok(n) = self.stream.write(bytes) {
                 if n > 0 || bytes.is_empty() {
                     return Ok(n);

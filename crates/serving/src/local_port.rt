@@ -2,18 +2,18 @@
 ghost use Rattle.std.specs.Prelude.{◌≡◌, None, IfErr};
 
 use crate::fault::ServeFault;
-use crate::line::{CONNECTION_TIME, Line};
+use crate::line::Line;
 use crate::listener::Listener;
 use desk::Failed;
 use std::io::{self, Read};
 use std::net::{Ipv4Addr, Net, Shutdown, SocketAddr, TcpListener, TcpStream};
 use std::time::{Clock, Duration, Instant};
 
-/// How long one read or write of a connection may wait for the peer.
-const TURN_TIME: Duration = Duration::from_secs(10);
+/// For how many seconds one read or write of a connection may wait for the peer.
+const TURN_SECONDS: u64 = 10;
 
-/// How long a read may wait for what a peer still sends after its response.
-const DRAIN_TURN_TIME: Duration = Duration::from_secs(1);
+/// For how many seconds a read may wait for what a peer still sends after its response.
+const DRAIN_SECONDS: u64 = 1;
 
 /// How many reads there are at most of what a peer still sends, each of at most 4096 bytes.
 const DRAIN_TURNS: u32 = 4096;
@@ -54,8 +54,9 @@ fn lines_of<'r, C: Clock>(
     clock: &'r C,
 ) -> io::Result<(Line<'r, C>, Line<'r, C>)> {
     let (stream, _) = listener.accept()?;
-    stream.set_read_timeout(Some(TURN_TIME))?;
-    stream.set_write_timeout(Some(TURN_TIME))?;
+    let turn = Duration::from_secs(TURN_SECONDS);
+    stream.set_read_timeout(Some(turn))?;
+    stream.set_write_timeout(Some(turn))?;
     let other = stream.try_clone()?;
     let accepted = Instant::now(clock)?;
     let request = Line {
@@ -74,11 +75,11 @@ fn lines_of<'r, C: Clock>(
 }
 
 /// Reads what the peer still sends, so that it gets its response instead of a reset: at most 16 MiB, by at most
-/// `DRAIN_TURNS` reads, as long as the connection may take.
+/// `DRAIN_TURNS` reads, as long as the connection has time.
 fn drain<C: Clock>(request: &mut Line<'_, C>) {
     let mut unread = [0u8; 4096];
     for _turn in 0..DRAIN_TURNS {
-        if !request.is_within(CONNECTION_TIME) {
+        if !request.has_time() {
             return;
         }
         match request.stream.read(&mut unread) {
@@ -108,7 +109,8 @@ impl<'r, C: Clock> Listener for LocalPort<'r, C> {
     fn finish(&mut self, request: Line<'r, C>, response: Line<'r, C>) {
         let mut request = request;
         let told = response.stream.shutdown(Shutdown::Write);
-        let timed = request.stream.set_read_timeout(Some(DRAIN_TURN_TIME));
+        let turn = Duration::from_secs(DRAIN_SECONDS);
+        let timed = request.stream.set_read_timeout(Some(turn));
         if told.is_ok() && timed.is_ok() {
             drain(&mut request);
         }

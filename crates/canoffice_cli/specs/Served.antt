@@ -1,6 +1,6 @@
 -- The outcome of serving.
-use Rattle.std.specs.Prelude.{◌≡◌, ◌⊎◌, ◌≤◌, ◌++◌, ◌>>=◌, ℕ, List, [], codes, length, Option, Some, None, Result, Ok, Err, ⊤}
-use Rattle.office_fields.specs.Value.{at_least, whole_up_to}
+use Rattle.std.specs.Prelude.{◌≡◌, ◌⊎◌, ◌≤◌, ◌++◌, ℕ, List, [], codes, length, Option, Some, None, Result, Ok, Err, ⊤}
+use Rattle.office_fields.specs.Value.{◌>>=◌, at_least, whole_up_to}
 use Rattle.office_history.specs.History.{Answered}
 use Rattle.canoffice_cli.specs.Answered.{answers_outcome}
 use Rattle.canoffice_cli.specs.Databases.{AreKept, Databases}

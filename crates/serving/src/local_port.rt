@@ -2,10 +2,10 @@
 ghost use Rattle.std.specs.Prelude.{◌≡◌, None, IfErr};
 
 use crate::fault::ServeFault;
-use crate::line::Line;
+use crate::line::{Line, Timed};
 use crate::listener::Listener;
 use desk::Failed;
-use std::io::{self, Read};
+use std::io;
 use std::net::{Ipv4Addr, Net, Shutdown, SocketAddr, TcpListener, TcpStream};
 use std::time::{Clock, Duration, Instant};
 
@@ -48,42 +48,32 @@ impl<C: Clock> LocalPort<'_, C> {
     }
 }
 
-/// The next connection, by two handles that share its time.
-fn lines_of<'r, C: Clock>(
-    listener: &TcpListener,
-    clock: &'r C,
-) -> io::Result<(Line<'r, C>, Line<'r, C>)> {
-    let (stream, _) = listener.accept()?;
+/// Two handles of the connection, whose reads and writes have time limits.
+fn timed_handles<C: Clock>(stream: TcpStream, clock: &C) -> io::Result<(Timed, Timed)> {
     let turn = Duration::from_secs(TURN_SECONDS);
     stream.set_read_timeout(Some(turn))?;
     stream.set_write_timeout(Some(turn))?;
     let other = stream.try_clone()?;
     let accepted = Instant::now(clock)?;
-    let request = Line {
-        stream,
-        clock,
-        accepted,
-        count: 0,
-    };
-    let response = Line {
+    let reading = Timed { stream, accepted };
+    let writing = Timed {
         stream: other,
-        clock,
         accepted,
-        count: 0,
     };
-    Ok((request, response))
+    Ok((reading, writing))
 }
 
 /// Reads what the peer still sends, so that it gets its response instead of a reset: at most 16 MiB, by at most
 /// `DRAIN_TURNS` reads, as long as the connection has time.
-fn drain<C: Clock>(request: &mut Line<'_, C>) {
+fn drain<C: Clock>(reading: &mut Timed, clock: &C) {
+    let turn = Duration::from_secs(DRAIN_SECONDS);
+    if reading.stream.set_read_timeout(Some(turn)).is_err() {
+        return;
+    }
     let mut unread = [0u8; 4096];
     for _turn in 0..DRAIN_TURNS {
-        if !request.has_time() {
-            return;
-        }
-        match request.stream.read(&mut unread) {
-            Ok(0) | Err(_) => return,
+        match reading.read(clock, &mut unread) {
+            Ok(0) | Err(Failed) => return,
             Ok(_) => {}
         }
     }
@@ -98,21 +88,28 @@ impl<'r, C: Clock> Listener for LocalPort<'r, C> {
 
     ghost ended = { λ _. None };
 
+    /// A connection that can't be made ready fails at its first read, and so ends alone.
     fn accept(&mut self) -> Result<(Line<'r, C>, Line<'r, C>), Failed> {
-        match lines_of(&self.listener, self.clock) {
-            Ok(lines) => Ok(lines),
-            Err(_) => Err(Failed),
-        }
+        let Ok((stream, _)) = self.listener.accept() else {
+            return Err(Failed);
+        };
+        let (reading, writing) = match timed_handles(stream, self.clock) {
+            Ok((reading, writing)) => (Some(reading), Some(writing)),
+            Err(_) => (None, None),
+        };
+        Ok((
+            Line::new(reading, self.clock),
+            Line::new(writing, self.clock),
+        ))
     }
 
     /// Tells the peer that nothing more comes, and reads what it still sends.
-    fn finish(&mut self, request: Line<'r, C>, response: Line<'r, C>) {
-        let mut request = request;
-        let told = response.stream.shutdown(Shutdown::Write);
-        let turn = Duration::from_secs(DRAIN_SECONDS);
-        let timed = request.stream.set_read_timeout(Some(turn));
-        if told.is_ok() && timed.is_ok() {
-            drain(&mut request);
+    fn finish(&mut self, mut request: Line<'r, C>, response: Line<'r, C>) {
+        let (Some(reading), Some(writing)) = (&mut request.timed, &response.timed) else {
+            return;
+        };
+        if writing.stream.shutdown(Shutdown::Write).is_ok() {
+            drain(reading, self.clock);
         }
     }
 }

@@ -39,22 +39,14 @@ fn closed(conn: Connection<FileStore<File>>) -> Result<(), Lost> {
     }
 }
 
-/// The greatest port.
-const PORT_LIMIT: u32 = 65_535;
-
 /// Serves connections of the port by the office.
 fn serve_at(
     rt: &HostRuntime,
     office: &mut Office<FileStore<File>>,
-    port: u32,
+    port: u16,
     count: u32,
 ) -> Result<(), ServeFault> {
-    let number = if port <= PORT_LIMIT {
-        port as u16
-    } else {
-        return Err(ServeFault::Listen);
-    };
-    let mut listener = listen(rt, number)?;
+    let mut listener = listen(rt, port)?;
     if let Ok(address) = listener.address() {
         let mut errors = rt.stderr();
         let _told = writeln!(errors, "listening on {address}");
@@ -66,7 +58,7 @@ fn serve_at(
 fn serve_on(
     rt: &HostRuntime,
     conn: Connection<FileStore<File>>,
-    port: u32,
+    port: u16,
     count: u32,
 ) -> (Result<(), ServeEnd>, Connection<FileStore<File>>)
     requires { (file_state conn).in_transaction ≡ false }
@@ -120,11 +112,12 @@ impl Databases for HostDatabases<'_> {
         closed?;
         Ok(text)
     }
+
     fn serve(
         &mut self,
         _alloc: Global,
         path: &str,
-        port: u32,
+        port: u16,
         count: u32,
     ) -> Result<(), ServeEnd> {
         let conn = match opened(self.rt, path) {

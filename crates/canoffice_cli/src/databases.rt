@@ -53,7 +53,7 @@ pub trait Databases {
         &mut self,
         alloc: Global,
         path: &str,
-        port: u32,
+        port: u16,
         count: u32,
     ) -> Result<(), ServeEnd>
         ensures { IsServed (known self.old) (known self.new) path.now count };

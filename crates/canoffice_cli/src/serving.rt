@@ -1,5 +1,6 @@
 //! Serving the office over HTTP.
-ghost use Rattle.std.specs.Prelude.{◌≡◌, List, Ok, Err, Some, None, IfOk, IfErr, option_map, ℕ};
+ghost use Rattle.std.specs.Prelude.{◌≡◌, ◌≤◌, List, Ok, Err, Some, None, IfOk, IfErr, ℕ};
+ghost use Rattle.std.specs.Option.{option_map};
 ghost use Rattle.canoffice_cli.specs.Outcome.{outcome_of};
 ghost use Rattle.canoffice_cli.specs.Served.{IsServeOutcome, end_outcome, number_given};
 
@@ -33,6 +34,8 @@ pub enum ServeEnd {
 /// The number from 1 to the limit that the word gives; the other one where there is no word. The error is a word that
 /// gives none.
 fn number_given<'a>(word: Option<&'a str>, absent: u32, limit: u32) -> Result<u32, &'a str>
+    requires { absent ≤ limit }
+    ensures within { IfOk result (λ number. number ≤ limit) }
     ensures given { IfOk result (λ number. number_given absent limit (option_map (λ w. w.now) word.entry) ≡ Some number) }
     ensures wrong { IfErr result (λ wrong. (option_map (λ w. w.now) word.entry ≡ Some wrong.now) × (number_given absent limit (option_map (λ w. w.now) word.entry) ≡ None)) }
 {
@@ -82,5 +85,5 @@ pub fn serve_report<D: Databases>(
         Ok(count) => count,
         Err(word) => return bad_word(alloc, word),
     };
-    end_report(alloc, databases.serve(alloc, path, port, count))
+    end_report(alloc, databases.serve(alloc, path, port as u16, count))
 }

@@ -78,12 +78,13 @@ impl Databases for MemoryDatabase {
         self.conn = Some(conn);
         shown
     }
+
     /// Nobody can connect to it, so it can't be listened on.
     fn serve(
         &mut self,
         _alloc: Global,
         _path: &str,
-        _port: u32,
+        _port: u16,
         _count: u32,
     ) -> Result<(), ServeEnd> {
         Err(ServeEnd::CannotListen)

@@ -6,7 +6,7 @@ ghost use Rattle.sqlite_trees.specs.View.{doubt};
 ghost use Rattle.office_history.specs.History.{Answered};
 ghost use Rattle.store.specs.Holding.{Holding};
 ghost use Rattle.desk_call.specs.Call.{arrives, asking_seen, seen, shows};
-ghost use Rattle.desk.specs.Serving.{MayHaveTaken, Responds, question_of};
+ghost use Rattle.desk.specs.Serving.{MayHaveTaken, Responds, failed_response, question_of};
 
 use desk_call::{Call, Look};
 use desk_reply::{Content, answer_response, problem_response, text_response};
@@ -33,6 +33,7 @@ fn question_of(look: Look) -> Option<Question>
 fn shown<S: Alter>(alloc: Global, office: &mut Office<S>, look: Look) -> Result<Vec<u8>, AllocError>
     ensures clean { doubt (state S.Store office.old.conn).is_clean ≤ doubt (state S.Store office.new.conn).is_clean }
     ensures refused { IsTrue office.old.failed → office.new ≡ office.old }
+    ensures failed { IsTrue office.old.failed → IfOk result (λ text. text.items ≡ failed_response (shows look)) }
     ensures open { HasCleanDisk (state S.Store office.new.conn) → (h : List Answered) → Holding h (state S.Store office.old.conn)
         → IsFalse office.new.failed → IsTrue (state S.Store office.new.conn).is_open }
     ensures ok { HasCleanDisk (state S.Store office.new.conn) → (h : List Answered) → Holding h (state S.Store office.old.conn)
@@ -58,6 +59,7 @@ fn arrived<S: Alter>(
 ) -> Result<Vec<u8>, AllocError>
     ensures clean { doubt (state S.Store office.old.conn).is_clean ≤ doubt (state S.Store office.new.conn).is_clean }
     ensures refused { IsTrue office.old.failed → office.new ≡ office.old }
+    ensures failed { IsTrue office.old.failed → IfOk result (λ text. text.items ≡ failed_response (arrives (asking_seen arrival.now))) }
     ensures open { HasCleanDisk (state S.Store office.new.conn) → (h : List Answered) → Holding h (state S.Store office.old.conn)
         → IsFalse office.new.failed → IsTrue (state S.Store office.new.conn).is_open }
     ensures ok { HasCleanDisk (state S.Store office.new.conn) → (h : List Answered) → Holding h (state S.Store office.old.conn)
@@ -80,6 +82,7 @@ pub(crate) fn response_to<S: Alter>(
 ) -> Result<Vec<u8>, AllocError>
     ensures clean { doubt (state S.Store office.old.conn).is_clean ≤ doubt (state S.Store office.new.conn).is_clean }
     ensures refused { IsTrue office.old.failed → office.new ≡ office.old }
+    ensures failed { IsTrue office.old.failed → IfOk result (λ text. text.items ≡ failed_response (seen call)) }
     ensures open { HasCleanDisk (state S.Store office.new.conn) → (h : List Answered) → Holding h (state S.Store office.old.conn)
         → IsFalse office.new.failed → IsTrue (state S.Store office.new.conn).is_open }
     ensures ok { HasCleanDisk (state S.Store office.new.conn) → (h : List Answered) → Holding h (state S.Store office.old.conn)

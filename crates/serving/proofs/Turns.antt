@@ -1,11 +1,12 @@
 -- One connection after others.
 use Rattle.std.proofs.Common.{◌≡◌, ◌∙◌, ◌⊎◌, ℕ, List, [], ◌∷◌, ◌++◌, map, Bool, Option, None, Some, inl, inr, refl, sym, ap, subst, append_assoc, append-nil}
 use Rattle.std.proofs.lemmas.List.{map-append}
-use Rattle.std.specs.Prelude.{IsTrue, IsFalse}
+use Rattle.std.proofs.lemmas.List.Elements.{All-nil, All-push}
+use Rattle.std.specs.Prelude.{All, IsTrue, IsFalse}
 use Rattle.sqlite.specs.State.{State}
 use Rattle.office_history.specs.History.{Answered}
 use Rattle.store.specs.Holding.{Holding}
-use Rattle.serving.specs.Serving.{Came, Ended, Follows, Leads, Ran, Visit}
+use Rattle.serving.specs.Serving.{Came, Declines, Ended, Follows, Leads, Ran, Visit}
 use Rattle.serving.proofs.Visits.{decides}
 
 follows_then : (h : List Answered) (vs : List Visit) (v : Visit) (h1 h2 : List Answered) → Follows h vs h1 → Leads h1 v h2 → Follows h (vs ++ v ∷ []) h2
@@ -21,18 +22,19 @@ turned : (h : List Answered) (vs : List Visit) (v : Visit) (failed : Bool) (s : 
     → IsTrue failed ⊎ IsFalse failed → Ran h (vs ++ v ∷ []) failed s
 turned h vs v failed s h1 follows l open (inr sound) = (l.0, inl (follows_then h vs v h1 l.0 follows l.1, l.2 (open sound)))
 turned h vs v failed s h1 follows l open (inl fails) =
-    (l.0, inr (fails, (vs ++ v ∷ [], [], sym (append-nil (vs ++ v ∷ [])), follows_then h vs v h1 l.0 follows l.1, l.2)))
+    (l.0, inr (fails, (vs ++ v ∷ [], [], sym (append-nil (vs ++ v ∷ [])), follows_then h vs v h1 l.0 follows l.1, All-nil Declines, l.2)))
 
 -- what a connection is served on, and what becomes of it
 pub record Turn (failed_old : Bool) (old : State) (v : Visit) (failed_new : Bool) (new : State) : Type 0 where
   pub refused : IsTrue failed_old → (failed_new ≡ failed_old) × (new ≡ old)
+  pub declines : IsTrue failed_old → Declines v
   pub leads : (h : List Answered) → Holding h old → (h2 : List Answered) × Leads h v h2 × (IsTrue new.is_open → Holding h2 new)
   pub open : (h : List Answered) → Holding h old → IsFalse failed_new → IsTrue new.is_open
 
 ran_on : (h : List Answered) (vs : List Visit) (v : Visit) (failed_old : Bool) (old : State) (failed_new : Bool) (new : State) → Turn failed_old old v failed_new new
     → (h1 : List Answered)
     → ((Follows h vs h1 × Holding h1 old)
-      ⊎ (IsTrue failed_old × ((early : List Visit) × (later : List Visit) × (vs ≡ early ++ later) × Follows h early h1 × (IsTrue old.is_open → Holding h1 old))))
+      ⊎ (IsTrue failed_old × ((early : List Visit) × (later : List Visit) × (vs ≡ early ++ later) × Follows h early h1 × All Declines later × (IsTrue old.is_open → Holding h1 old))))
     → Ran h (vs ++ v ∷ []) failed_new new
 ran_on h vs v failed_old old failed_new new turn h1 (inl r) =
     turned h vs v failed_new new h1 r.0 (turn.leads h1 r.1) (turn.open h1 r.1) (decides failed_new)
@@ -40,7 +42,8 @@ ran_on h vs v failed_old old failed_new new turn h1 (inr r) =
     let e = r.1 in
     let same = turn.refused r.0 in
     let all : vs ++ v ∷ [] ≡ e.0 ++ (e.1 ++ v ∷ []) = ap (λ (l : List Visit). l ++ v ∷ []) e.2 ∙ append_assoc e.0 e.1 (v ∷ []) in
-    (h1, inr (same.0 ∙ r.0, (e.0, e.1 ++ v ∷ [], all, e.3, subst (λ (t : State). IsTrue t.is_open → Holding h1 t) (sym same.1) e.4)))
+    let declined = All-push Declines e.1 v e.4 (turn.declines r.0) in
+    (h1, inr (same.0 ∙ r.0, (e.0, e.1 ++ v ∷ [], all, e.3, declined, subst (λ (t : State). IsTrue t.is_open → Holding h1 t) (sym same.1) e.5)))
 
 -- one more connection was served
 pub ran_then : (h : List Answered) (vs : List Visit) (v : Visit) (failed_old : Bool) (old : State) (failed_new : Bool) (new : State)

@@ -10,8 +10,8 @@ use Rattle.desk_types.specs.declared.fault.DeskFault.{DeskFault}
 use Rattle.desk_types.specs.declared.fault.DeskFault.TheVariants.{Read, Write, Memory}
 use Rattle.desk_call.specs.Call.{Asked, Asking, arrives}
 use Rattle.office_history.specs.declared.arrival.Answer.{Answer}
-use Rattle.desk.specs.Serving.{HasBegun, HasGivenUp, HasServed, IsAsked, MayHaveTaken, Responds, answered_as}
-use Rattle.serving.specs.Serving.{Came, Comes, Ended, Ends, IsReply, LeadsBy, MayGoOn, Starts, Visit, Wrote, WroteFront, fault_of}
+use Rattle.desk.specs.Serving.{HasBegun, HasBegunRefusal, HasGivenUp, HasRefused, HasServed, IsAsked, MayHaveTaken, Responds, answered_as}
+use Rattle.serving.specs.Serving.{Came, Comes, DeclinesBy, Ended, Ends, IsReply, LeadsBy, MayGoOn, Starts, Visit, Wrote, WroteFront, fault_of}
 
 -- ---- what was written
 
@@ -103,6 +103,20 @@ led (Err Memory) h ended sent old new s starts known =
     let k = known.lacking refl in
     let g = given_up h sent s k.0 in
     (g.0, (g.1, wrote_nothing ended old new starts k.1), g.2)
+
+-- what is known of a connection to an office that has failed
+pub record Refusal {T : Type 0} (r : Result T DeskFault) (sent old new : Option (List ℕ)) : Type 0 where
+  pub whole : OnOk r (HasRefused sent old new)
+  pub begun : IsErrOf r Write → HasBegunRefusal sent old new
+  pub unread : IsErrOf r Read → new ≡ old
+  pub lacking : IsErrOf r Memory → new ≡ old
+
+pub declined : {T : Type 0} (r : Result T DeskFault) (ended : Option (List (List ℕ))) (sent old new : Option (List ℕ))
+    → Starts ended old → Refusal r sent old new → DeclinesBy (fault_of r) sent (written_of ended new)
+declined (Ok v) ended sent old new starts known = let w = known.whole in (w.0, w.1, wrote ended old new _ starts w.2)
+declined (Err Read) ended sent old new starts known = wrote_nothing ended old new starts (known.unread refl)
+declined (Err Write) ended sent old new starts known = let w = known.begun refl in (w.0, w.1, wrote_front ended old new _ starts w.2)
+declined (Err Memory) ended sent old new starts known = wrote_nothing ended old new starts (known.lacking refl)
 
 -- ---- the listener
 

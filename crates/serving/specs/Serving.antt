@@ -1,5 +1,5 @@
 -- Connections that are served one after the other.
-use Rattle.std.specs.Prelude.{◌≡◌, ◌⊎◌, ℕ, List, [], ◌∷◌, ◌++◌, map, Bool, Option, None, Some, IfSome, IsTrue, Result, Ok, Err, ⊤}
+use Rattle.std.specs.Prelude.{◌≡◌, ◌⊎◌, ℕ, List, [], ◌∷◌, ◌++◌, map, All, Bool, Option, None, Some, IfSome, IsTrue, Result, Ok, Err, ⊤}
 use Rattle.sqlite.specs.State.{State}
 use Rattle.office_history.specs.History.{Answered}
 use Rattle.office_history.specs.declared.arrival.Answer.{Answer}
@@ -9,7 +9,7 @@ use Rattle.desk_types.specs.declared.fault.DeskFault.TheVariants.{Read, Write, M
 use Rattle.desk_types.specs.declared.problem.Problem.TheVariants.{TryAgain}
 use Rattle.desk_call.specs.Call.{Asked, Asking, arrives}
 use Rattle.desk_reply.specs.Response.{problem_response}
-use Rattle.desk.specs.Serving.{IsAsked, IsResponse, answered_as}
+use Rattle.desk.specs.Serving.{IsAsked, IsResponse, answered_as, failed_response}
 
 -- a connection: what its peer sends and what was written to it, if these are told, and the fault that ended it, if any
 pub record Visit : Type 0 where
@@ -55,13 +55,23 @@ abbrev pub Follows : List Answered → List Visit → List Answered → Type 0
 Follows h [] h2 = h2 ≡ h
 Follows h (v ∷ later) h2 = (h1 : List Answered) × Leads h v h1 × Follows h1 later h2
 
+-- from a connection to an office that has failed, which ended so: what comes to that office is told to try again
+abbrev pub DeclinesBy : Option DeskFault → Option (List ℕ) → Option (List ℕ) → Type 0
+DeclinesBy None sent written = (asked : Asked) × IsAsked sent asked × Wrote written (failed_response asked)
+DeclinesBy (Some Read) sent written = Wrote written []
+DeclinesBy (Some Write) sent written = (asked : Asked) × IsAsked sent asked × WroteFront written (failed_response asked)
+DeclinesBy (Some Memory) sent written = Wrote written []
+
+abbrev pub Declines : Visit → Type 0
+Declines v = DeclinesBy v.fault v.sent v.written
+
 -- The connections lead to the history that the tables hold. If the office has failed, that is so of the connections up
--- to then, and no later one has changed the tables; these may be closed.
+-- to then, and each later one was told to try again, and has changed no table; these may be closed.
 abbrev pub Ran : List Answered → List Visit → Bool → State → Type 0
 Ran h visits failed s =
     (h2 : List Answered)
     × ((Follows h visits h2 × Holding h2 s)
-      ⊎ (IsTrue failed × ((early : List Visit) × (later : List Visit) × (visits ≡ early ++ later) × Follows h early h2 × (IsTrue s.is_open → Holding h2 s))))
+      ⊎ (IsTrue failed × ((early : List Visit) × (later : List Visit) × (visits ≡ early ++ later) × Follows h early h2 × All Declines later × (IsTrue s.is_open → Holding h2 s))))
 
 -- ---- the connections of a listener
 

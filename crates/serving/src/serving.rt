@@ -5,7 +5,7 @@ ghost use Rattle.sqlite.specs.State.{HasCleanDisk};
 ghost use Rattle.sqlite_trees.specs.View.{doubt};
 ghost use Rattle.office_history.specs.History.{Answered};
 ghost use Rattle.store.specs.Holding.{Holding};
-ghost use Rattle.serving.specs.Serving.{Came, Ended, Leads, Ran, Visit, fault_of};
+ghost use Rattle.serving.specs.Serving.{Came, Declines, Ended, Leads, Ran, Visit, fault_of};
 
 use crate::fault::ServeFault;
 use crate::listener::Listener;
@@ -27,6 +27,7 @@ fn attend<S: Alter, L: Listener>(
         → IsFalse office.new.failed → IsTrue (state S.Store office.new.conn).is_open }
     ensures served { IfOk result (λ ended. (v : Visit) × (v.fault ≡ fault_of ended)
         × Came (L.coming listener.old) (L.coming listener.new) (v ∷ []) × Ended (L.ended listener.old) (L.ended listener.new) (v ∷ [])
+        × (IsTrue office.old.failed → Declines v)
         × (HasCleanDisk (state S.Store office.new.conn) → (h : List Answered) → Holding h (state S.Store office.old.conn)
             → (h2 : List Answered) × Leads h v h2 × (IsTrue (state S.Store office.new.conn).is_open → Holding h2 (state S.Store office.new.conn)))) }
     ensures kept { OnErr result (office.new ≡ office.old) }

@@ -2,7 +2,7 @@ use Rattle.std.proofs.Common.{◌≡◌, ℕ, List, [], ◌∷◌, Option, refl,
 use Rattle.sqlite.specs.Held.{state}
 use Rattle.store.specs.Holding.{Holding}
 use Rattle.serving.specs.Serving.{Came, Ends, Visit, fault_of}
-use Rattle.serving.proofs.Visits.{led, one_came, one_ended, written_of}
+use Rattle.serving.proofs.Visits.{declined, led, one_came, one_ended, written_of}
 use Rattle.serving.proofs.serving.attend.Goals as goal
 
 pub returns-clause-served : goal.returns-clause-served
@@ -25,6 +25,12 @@ returns-clause-served g c =
       refl,
       subst (λ (o : Option (List (List ℕ))). Came (coming c.args.listener.now) o (v ∷ [])) (sym c.finish.ensures.kept) came,
       one_ended before (ended c.finish.new.self) last sent fault ends,
+      λ failed. declined c.serve_one-ended.result before sent first last accepted.starts (record {
+        whole = one.failed failed;
+        begun = one.failed_write failed;
+        unread = λ is. ap told (one.read_kept is).1;
+        lacking = λ is. ap told (one.memory_kept is);
+      }),
       λ clean h holding. led c.serve_one-ended.result h before sent first last s accepted.starts (record {
         whole = one.served clean h holding;
         unread = λ is. (subst (λ o. Holding h (state g.S.Store o.conn)) (sym (one.read_kept is).0) holding, ap told (one.read_kept is).1);

@@ -30,7 +30,8 @@ loop-served-preserved g c =
             let early : HasCleanDisk mid = omega (arith, a.clean, clean) in
             ran_then h w.0 one.0 c.loop-served.office.failed mid c.attend.new.office.failed now (record {
               refused = λ is. (ap (λ o. o.failed) (a.refused is), ap (λ o. state g.S.Store o.conn) (a.refused is));
-              leads = one.4 clean;
+              declines = one.4;
+              leads = one.5 clean;
               open = a.open clean;
             }) (w.4 early h holding),
       );

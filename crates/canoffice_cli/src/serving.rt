@@ -1,7 +1,7 @@
 //! Serving the office over HTTP.
 ghost use Rattle.std.specs.Prelude.{◌≡◌, ◌≤◌, List, Ok, Err, Some, None, IfOk, IfErr, ℕ};
 ghost use Rattle.std.specs.Option.{option_map};
-ghost use Rattle.canoffice_cli.specs.Outcome.{outcome_of};
+ghost use Rattle.canoffice_cli.specs.Outcome.{failure, outcome_of};
 ghost use Rattle.canoffice_cli.specs.Served.{IsServeOutcome, end_outcome, number_given};
 
 use crate::answering::lost_report;
@@ -48,20 +48,22 @@ fn number_given<'a>(word: Option<&'a str>, absent: u32, limit: u32) -> Result<u3
     }
 }
 
+/// The report that a port or a connection can't be had.
+fn failed_report(alloc: Global, text: &[u8]) -> Result<Report, AllocError>
+    ensures { IfOk result (λ report. outcome_of report ≡ failure text.now) }
+{
+    let text = text.to_vec(alloc)?;
+    Ok(Report::of_errors(alloc, text, Status::Failed))
+}
+
 /// The report on how serving ended.
 fn end_report(alloc: Global, end: Result<(), ServeEnd>) -> Result<Report, AllocError>
     ensures { IfOk result (λ report. outcome_of report ≡ end_outcome end) }
 {
     match end {
         Ok(()) => Ok(Report::of_output(alloc, Vec::new(alloc), Status::Success)),
-        Err(ServeEnd::CannotListen) => {
-            let text = b"cannot listen\n".to_vec(alloc)?;
-            Ok(Report::of_errors(alloc, text, Status::Failed))
-        }
-        Err(ServeEnd::CannotAccept) => {
-            let text = b"cannot accept\n".to_vec(alloc)?;
-            Ok(Report::of_errors(alloc, text, Status::Failed))
-        }
+        Err(ServeEnd::CannotListen) => failed_report(alloc, b"cannot listen\n"),
+        Err(ServeEnd::CannotAccept) => failed_report(alloc, b"cannot accept\n"),
         Err(ServeEnd::IsLost(lost)) => lost_report(alloc, Vec::new(alloc), lost),
     }
 }

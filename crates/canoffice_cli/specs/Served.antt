@@ -26,9 +26,11 @@ end_outcome (Err CannotListen) = failure (codes "cannot listen\n")
 end_outcome (Err CannotAccept) = failure (codes "cannot accept\n")
 end_outcome (Err (IsLost lost)) = answers_outcome [] (Some lost)
 
--- each connection adds at most one answer to the history that the database of the path holds
+-- Each connection adds at most one answer to the history that the database of the path holds; new tables hold those answers
+-- alone, unless none were made.
 pub record IsServed (before after : Databases) (path : List ℕ) (count : ℕ) : Type 0 where
   pub goes_on : (h : List Answered) → before.holds path h → after.is_sound → (more : List Answered) × (length more ≤ count) × after.holds path (h ++ more)
+  pub made : before.is_new path → after.is_sound → ((more : List Answered) × (length more ≤ count) × after.holds path more) ⊎ after.is_new path
 
 -- the word for the port is wrong; or the word for the count is; or the office is served
 abbrev pub IsServeOutcome : Databases → Databases → List ℕ → Option (List ℕ) → Option (List ℕ) → Outcome → Type 0

@@ -113,13 +113,7 @@ impl Databases for HostDatabases<'_> {
         Ok(text)
     }
 
-    fn serve(
-        &mut self,
-        _alloc: Global,
-        path: &str,
-        port: u16,
-        count: u32,
-    ) -> Result<(), ServeEnd> {
+    fn serve(&mut self, _alloc: Global, path: &str, port: u16, count: u32) -> Result<(), ServeEnd> {
         let conn = match opened(self.rt, path) {
             Ok(conn) => conn,
             Err(lost) => return Err(ServeEnd::IsLost(lost)),

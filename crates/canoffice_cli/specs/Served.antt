@@ -38,4 +38,4 @@ IsServeOutcome before after path port count o =
     ((word : List ℕ) × (port ≡ Some word) × (port_given port ≡ None) × (o ≡ wrong_word word) × AreKept before after)
     ⊎ ((word : List ℕ) × (count ≡ Some word) × (count_given count ≡ None) × (o ≡ wrong_word word) × AreKept before after)
     ⊎ ((at : ℕ) × (number : ℕ) × (end : Result ⊤ ServeEnd) × (port_given port ≡ Some at) × (count_given count ≡ Some number)
-      × IsServed before after path number × (o ≡ end_outcome end))
+    × IsServed before after path number × (o ≡ end_outcome end))

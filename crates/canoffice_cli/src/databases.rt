@@ -49,12 +49,6 @@ pub trait Databases {
 
     /// Serves `count` connections of the port of this machine by the office in the database at the path, and tells on the
     /// machine's standard error when it listens. The error is why it ended before that.
-    fn serve(
-        &mut self,
-        alloc: Global,
-        path: &str,
-        port: u16,
-        count: u32,
-    ) -> Result<(), ServeEnd>
+    fn serve(&mut self, alloc: Global, path: &str, port: u16, count: u32) -> Result<(), ServeEnd>
         ensures { IsServed (known self.old) (known self.new) path.now count };
 }

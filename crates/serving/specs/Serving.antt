@@ -71,7 +71,7 @@ abbrev pub Ran : List Answered → List Visit → Bool → State → Type 0
 Ran h visits failed s =
     (h2 : List Answered)
     × ((Follows h visits h2 × Holding h2 s)
-      ⊎ (IsTrue failed × ((early : List Visit) × (later : List Visit) × (visits ≡ early ++ later) × Follows h early h2 × All Declines later × (IsTrue s.is_open → Holding h2 s))))
+    ⊎ (IsTrue failed × ((early : List Visit) × (later : List Visit) × (visits ≡ early ++ later) × Follows h early h2 × All Declines later × (IsTrue s.is_open → Holding h2 s))))
 
 -- ---- the connections of a listener
 

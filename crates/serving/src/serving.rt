@@ -29,7 +29,7 @@ fn attend<S: Alter, L: Listener>(
         × Came (L.coming listener.old) (L.coming listener.new) (v ∷ []) × Ended (L.ended listener.old) (L.ended listener.new) (v ∷ [])
         × (IsTrue office.old.failed → Declines v)
         × (HasCleanDisk (state S.Store office.new.conn) → (h : List Answered) → Holding h (state S.Store office.old.conn)
-            → (h2 : List Answered) × Leads h v h2 × (IsTrue (state S.Store office.new.conn).is_open → Holding h2 (state S.Store office.new.conn)))) }
+        → (h2 : List Answered) × Leads h v h2 × (IsTrue (state S.Store office.new.conn).is_open → Holding h2 (state S.Store office.new.conn)))) }
     ensures kept { OnErr result (office.new ≡ office.old) }
     ensures none { OnErr result ((L.coming listener.new ≡ L.coming listener.old) × (L.ended listener.new ≡ L.ended listener.old)) }
 {
@@ -53,7 +53,7 @@ pub fn serve<S: Alter, L: Listener>(
     ensures served { (visits : List Visit) × Came (L.coming listener.old) (L.coming listener.new) visits × Ended (L.ended listener.old) (L.ended listener.new) visits
         × MatchResult result (λ done. length visits ≡ count) (λ fault. (fault ≡ ServeFault.Accept) × (length visits < count))
         × (HasCleanDisk (state S.Store office.new.conn) → (h : List Answered) → Holding h (state S.Store office.old.conn)
-            → Ran h visits office.new.failed (state S.Store office.new.conn)) }
+        → Ran h visits office.new.failed (state S.Store office.new.conn)) }
 {
     for _served in 0..count {
         match attend(alloc, office, listener) {

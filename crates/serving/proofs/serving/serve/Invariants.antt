@@ -17,6 +17,6 @@ invariant-loop-served g l =
     record {
       clean : doubt old.is_clean ≤ doubt now.is_clean;
       so_far : (visits : List Visit) × (length visits ≡ l._served) × Came (coming l.fn.listener) (coming l.listener) visits
-        × Ended (ended l.fn.listener) (ended l.listener) visits
-        × (HasCleanDisk now → (h : List Answered) → Holding h old → Ran h visits l.office.failed now);
+          × Ended (ended l.fn.listener) (ended l.listener) visits
+          × (HasCleanDisk now → (h : List Answered) → Holding h old → Ran h visits l.office.failed now);
     }

@@ -5,6 +5,7 @@ pub mod Outcome
 pub mod Answered
 pub mod Applied
 pub mod Exported
+pub mod Served
 pub mod Charted
 pub mod WordFault
 pub mod Checked

@@ -9,13 +9,14 @@ use Rattle.canoffice_cli.specs.Charted.{IsChartOutcome}
 use Rattle.canoffice_cli.specs.Checked.{IsCheckOutcome}
 use Rattle.canoffice_cli.specs.Exported.{IsExportOutcome}
 use Rattle.canoffice_cli.specs.Formatted.{IsFormatOutcome}
+use Rattle.canoffice_cli.specs.Served.{IsServeOutcome}
 use Rattle.canoffice_cli.specs.Tabled.{IsTableOutcome}
 use Rattle.canoffice_cli.specs.Delivery.{IsDelivered, Writing}
 use Rattle.canoffice_cli.specs.declared.report.Status.{Status}
 use Rattle.canoffice_cli.specs.declared.program.FileTask.{FileTask}
 use Rattle.canoffice_cli.specs.declared.program.FileTask.TheVariants as task
 use Rattle.canoffice_cli.specs.declared.job.Job.{Job}
-use Rattle.canoffice_cli.specs.declared.job.Job.TheVariants.{Apply, Chart, Check, Export, Format, Table}
+use Rattle.canoffice_cli.specs.declared.job.Job.TheVariants.{Apply, Chart, Check, Export, Format, Serve, Table}
 use Rattle.canoffice_cli.specs.declared.job.LineFault.{LineFault}
 use Rattle.canoffice_cli.specs.declared.job.LineFault.TheVariants.{Help, Usage, Memory}
 
@@ -42,6 +43,8 @@ IsDone files before after (Chart length signals) o = IsChartOutcome length.now (
 IsDone files before after (Check file) o = IsFileOutcome files before after task.Check file.now o
 IsDone files before after (Export database net number) o = IsExportOutcome before after database.now net.now number.now o
 IsDone files before after (Format file) o = IsFileOutcome files before after task.Format file.now o
+IsDone files before after (Serve database port count) o =
+    IsServeOutcome before after database.now (option_map (λ word. word.now) port) (option_map (λ word. word.now) count) o
 IsDone files before after (Table file) o = IsFileOutcome files before after task.Table file.now o
 
 -- the outcome of words that ask for no job: the text of their fault

@@ -2,7 +2,7 @@
 ghost use Rattle.std.specs.Prelude.{◌≡◌, IfOk, false};
 ghost use Rattle.clap.specs.Words.{app_of, rule_of};
 ghost use Rattle.clap.specs.declared.builder.command.Command.TheViews.{out-Command as fields_of};
-ghost use Rattle.canoffice_cli.specs.CommandLine.{apply_app, canoffice_app, chart_app, check_app, export_app, format_app, option_word, required_option, required_word, required_words, table_app};
+ghost use Rattle.canoffice_cli.specs.CommandLine.{apply_app, canoffice_app, chart_app, check_app, export_app, format_app, option_word, required_option, required_word, required_words, serve_app, table_app};
 
 use clap::{Arg, Command};
 use std::alloc::{AllocError, Global};
@@ -101,6 +101,20 @@ fn format_command<'a>(alloc: Global) -> Result<Command<'a>, AllocError>
     Ok(format)
 }
 
+/// `serve --db FILE [--port N] [--count N]`
+fn serve_command<'a>(alloc: Global) -> Result<Command<'a>, AllocError>
+    ensures app { IfOk result (λ c. app_of c ≡ serve_app) }
+    ensures local { IfOk result (λ c. (fields_of c).has_globals ≡ false) }
+{
+    let named = Command::new(alloc, "serve").about("Serves the office over HTTP on 127.0.0.1");
+    let port = "The port, 1 to 65535; 8089 where none is given";
+    let count = "After how many connections it ends, 1 to 1000000, which it is where none is given";
+    let with_database = named.arg(required_option(alloc, "db", "FILE", "The office's database"))?;
+    let with_port = with_database.arg(option(alloc, "port", "N", port))?;
+    let serve = with_port.arg(option(alloc, "count", "N", count))?;
+    Ok(serve)
+}
+
 /// `table FILE`
 fn table_command<'a>(alloc: Global) -> Result<Command<'a>, AllocError>
     ensures app { IfOk result (λ c. app_of c ≡ table_app) }
@@ -125,6 +139,7 @@ pub fn canoffice_command<'a>(alloc: Global) -> Result<Command<'a>, AllocError>
     let with_check = with_chart.subcommand(check_command(alloc)?)?;
     let with_export = with_check.subcommand(export_command(alloc)?)?;
     let with_format = with_export.subcommand(format_command(alloc)?)?;
-    let with_table = with_format.subcommand(table_command(alloc)?)?;
+    let with_serve = with_format.subcommand(serve_command(alloc)?)?;
+    let with_table = with_serve.subcommand(table_command(alloc)?)?;
     Ok(with_table)
 }

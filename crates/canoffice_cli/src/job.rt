@@ -44,6 +44,15 @@ pub enum Job<'a> {
         /// The path of the file.
         file: &'a str,
     },
+    /// Serve the office over HTTP.
+    Serve {
+        /// The path of the office's database.
+        database: &'a str,
+        /// The word that gives the port, if there is one.
+        port: Option<&'a str>,
+        /// The word that gives the count of connections, if there is one.
+        count: Option<&'a str>,
+    },
     /// Print the table of the messages of the DBC text in the file of this name.
     Table {
         /// The path of the file.
@@ -136,6 +145,9 @@ fn job_in<'a>(alloc: Global, matches: &ArgMatches<'a>) -> Result<Job<'a>, AllocE
     if name == "format" {
         return Ok(format_job(found));
     }
+    if name == "serve" {
+        return Ok(serve_job(found));
+    }
     if name == "table" {
         return Ok(table_job(found));
     }
@@ -202,6 +214,22 @@ fn format_job<'a>(found: &ArgMatches<'a>) -> Job<'a>
 {
     let file = found.get_str("FILE").unwrap();
     Job::Format { file }
+}
+
+/// `serve --db FILE [--port N] [--count N]`
+#[tactic(auto, using(crate::proofs::CommandLine::value_in_rows, crate::proofs::CommandLine::optional_in_rows, crate::proofs::CommandLine::text_is_given))]
+fn serve_job<'a>(found: &ArgMatches<'a>) -> Job<'a>
+    requires { HasSome (rows_of (found_of found.now)) (codes "db") }
+    ensures { IsJobOf result (codes "serve") (rows_of (found_of found.now)) }
+{
+    let database = found.get_str("db").unwrap();
+    let port = found.get_str("port");
+    let count = found.get_str("count");
+    Job::Serve {
+        database,
+        port,
+        count,
+    }
 }
 
 /// `table FILE`

@@ -16,6 +16,7 @@ use crate::formatting::format_report;
 use crate::job::{Job, LineFault, job_of};
 use crate::progress::Progress;
 use crate::report::{Report, Status, cannot_read, help, usage};
+use crate::serving::serve_report;
 use crate::tabling::table_report;
 use std::alloc::{AllocError, Global};
 use std::io::Write;
@@ -155,6 +156,11 @@ pub fn report_of<F: FileSource, D: Databases, W: Write>(
         Job::Format { file } => {
             file_report(alloc, FileTask::Format, file, files, databases, progress)
         }
+        Job::Serve {
+            database,
+            port,
+            count,
+        } => serve_report(alloc, databases, database, *port, *count),
         Job::Table { file } => {
             file_report(alloc, FileTask::Table, file, files, databases, progress)
         }

@@ -85,3 +85,18 @@ HasBegun h left told_old told_new s =
 -- nothing was written, for want of memory
 abbrev pub HasGivenUp : List Answered → Option (List ℕ) → State → Type 0
 HasGivenUp h left s = Holding h s ⊎ ((asked : Asked) × IsAsked left asked × MayHaveTaken h asked s)
+
+-- ---- one connection to an office that has failed
+
+-- the response to what is asked: whatever comes to the office is told to try again
+abbrev pub failed_response : Asked → List ℕ
+failed_response (fails problem) = problem_response problem
+failed_response asked = problem_response TryAgain
+
+-- the whole of that response was written
+abbrev pub HasRefused : Option (List ℕ) → Option (List ℕ) → Option (List ℕ) → Type 0
+HasRefused left told_old told_new = (asked : Asked) × IsAsked left asked × Appends told_old told_new (failed_response asked)
+
+-- a beginning of it was written
+abbrev pub HasBegunRefusal : Option (List ℕ) → Option (List ℕ) → Option (List ℕ) → Type 0
+HasBegunRefusal left told_old told_new = (asked : Asked) × IsAsked left asked × AppendsFront told_old told_new (failed_response asked)

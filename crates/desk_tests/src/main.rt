@@ -6,13 +6,18 @@
 //! a request that is sent again is answered as it was. Once the source fails at every call after the last byte: a
 //! request that is whole is answered all the same.
 //!
+//! Requests whose title begins with `#@` are served after the others, over a port of the machine: the clients write whole
+//! requests, then all are served, then the clients read.
+//!
 //! `stdout` is what it must print, worked out from the rules of the desk.
 #![tactic(auto)]
 
+mod loopback;
 mod pieces;
 mod requests;
 mod serving;
 
+use loopback::serve_over_port;
 use pieces::Ending;
 use requests::{Titled, titled_requests};
 use serving::{agree_in_pieces, agree_in_two, opened, response};
@@ -53,8 +58,16 @@ fn main(rt: HostRuntime) -> io::Result<()> {
     let file = fs::read(&rt, "requests")?;
     let requests = titled_requests(rt.alloc(), &file)?;
     let mut office = opened(Connection::open_in_memory(rt.alloc())?)?;
+    let mut over_port: Vec<&Titled<'_>> = Vec::new(rt.alloc());
     for titled in requests.iter() {
-        serve(&rt, &mut office, titled)?;
+        if titled.title.starts_with(b"#@") {
+            over_port.push(titled)?;
+        } else {
+            serve(&rt, &mut office, titled)?;
+        }
     }
-    Ok(())
+    if over_port.is_empty() {
+        return Ok(());
+    }
+    serve_over_port(&rt, &mut office, &over_port)
 }

@@ -31,3 +31,9 @@ returns-in-Ok-None-clause-ok g c clean h holds =
     (rw c.in-Ok-None.field-0-is at (c.in-Ok-None.ensures.shown clean h office holds legal)) in
     on_text (λ (v : Vec ℕ Global). v.items) c.problem_response-in-Ok-None.result (problem_response NotFound) (λ t. Responds h (shows c.args.look) t s) c.problem_response-in-Ok-None.ensures
     (looked h c.args.look None s shown (c.in-Ok-None.ensures.held clean h holds))
+
+pub returns-in-Ok-Some-clause-open : goal.returns-in-Ok-Some-clause-open
+returns-in-Ok-Some-clause-open g c clean h holds sound = (c.in-Ok-Some.ensures.held clean h holds).is_open
+
+pub returns-in-Ok-None-clause-open : goal.returns-in-Ok-None-clause-open
+returns-in-Ok-None-clause-open g c clean h holds sound = (c.in-Ok-None.ensures.held clean h holds).is_open

@@ -1,8 +1,8 @@
 -- The list of networks: the names that a query of all networks shows are those of the networks, in order, and so are the
 -- lines that are written of them.
 use Rattle.std.proofs.Common.{◌≡◌, ◌<◌, ◌≤◌, ◌+◌, ℕ, suc, List, [], ◌∷◌, ◌++◌, map, length, take, take_all, get_or, Bool, true, false, cond, not, ◌||◌, Some, None, refl, sym, ap, subst, ◌∙◌, arith}
-use Rattle.std.specs.Prelude.{IsPermutation, filter, find, list_any}
-use Rattle.std.specs.List.{AllByRecursion}
+use Rattle.std.specs.Prelude.{IsPermutation, filter, find}
+use Rattle.std.specs.List.{AllByRecursion, list_any}
 use Rattle.std.specs.List.Sorted.{IsStrictlySortedBy}
 use Rattle.std.specs.Ordering.{is_eq}
 use Rattle.std.specs.Str.{bytes_eq}
@@ -143,11 +143,12 @@ nets_listed (net ∷ nets) rows ascending named alone =
 
 alone_at : (name : List ℕ) (t : Tables) (nets : List Net) → IsNetAt name t (find (λ (net : Net). bytes_eq net.name name) nets) → Alone name (among nets name) (filter (is_of_net name) t.net)
 alone_at name t [] at = ap (λ (r : NetRows). r.head) at
-alone_at name t (net ∷ nets) at = by_test (bytes_eq net.name name) at
+alone_at name t (net ∷ nets) at = by_test (bytes_eq net.name name) (alone_at name t nets) at
   where
-    by_test : (b : Bool) → IsNetAt name t (cond b (Some net) (find (λ (n : Net). bytes_eq n.name name) nets)) → Alone name (b || among nets name) (filter (is_of_net name) t.net)
-    by_test false at = alone_at name t nets at
-    by_test true at = one_row at.head.found at.head.same at.head.each
+    by_test : (b : Bool) → (IsNetAt name t (find (λ (n : Net). bytes_eq n.name name) nets) → Alone name (among nets name) (filter (is_of_net name) t.net))
+        → IsNetAt name t (cond b (Some net) (find (λ (n : Net). bytes_eq n.name name) nets)) → Alone name (b || among nets name) (filter (is_of_net name) t.net)
+    by_test false rest at = rest at
+    by_test true rest at = one_row at.head.found at.head.same at.head.each
       where
         one_row : (found : List Row) → IsPermutation (filter (is_of_net name) t.net) found → AreShown (IsRowOf net_row (IsNetRow name)) (net.head ∷ []) found → Alone name true (filter (is_of_net name) t.net)
         one_row [] same all = absurd all
@@ -209,11 +210,12 @@ line_is name net head releases named same count =
 
 none_found : (name : List ℕ) (nets : List Net) → among nets name ≡ false → find (λ (net : Net). bytes_eq net.name name) nets ≡ None
 none_found name [] none = refl
-none_found name (net ∷ nets) none = by_test (bytes_eq net.name name) none
+none_found name (net ∷ nets) none = by_test (bytes_eq net.name name) (none_found name nets) none
   where
-    by_test : (b : Bool) → (b || among nets name) ≡ false → cond b (Some net) (find (λ (n : Net). bytes_eq n.name name) nets) ≡ None
-    by_test true none = absurd (false≢true (sym none))
-    by_test false none = none_found name nets none
+    by_test : (b : Bool) → (among nets name ≡ false → find (λ (n : Net). bytes_eq n.name name) nets ≡ None) → (b || among nets name) ≡ false
+        → cond b (Some net) (find (λ (n : Net). bytes_eq n.name name) nets) ≡ None
+    by_test true rest none = absurd (false≢true (sym none))
+    by_test false rest none = rest none
 
 each_from : (t : Tables) (nets : List Net) → IsStrictlySortedBy by_name nets
     → ((name : List ℕ) (net : Net) → find (λ (n : Net). bytes_eq n.name name) nets ≡ Some net → IsNetAt name t (Some net)) → AllByRecursion (λ (net : Net). IsNetAt net.name t (Some net)) nets

@@ -67,7 +67,7 @@ fn release_count<S: Alter>(tx: &mut Transaction<'_, S>, name: &NetName) -> Resul
     ensures survives { Survives (state S.Store tx.old.conn.now) (state S.Store tx.new.conn.now) (λ _. ⊥) }
 {
     let rows = select_release_numbers(tx, name.as_bytes())?;
-    Ok(rows.len())
+    Ok(rows.as_slice().len())
 }
 
 /// The line of the network of the name. An error is out of memory, what `sqlite` answers, or `InvalidQuery` where the

@@ -20,16 +20,16 @@ ran_none h failed s holding = (h, inl (refl, holding))
 turned : (h : List Answered) (vs : List Visit) (v : Visit) (failed : Bool) (s : State) (h1 : List Answered) → Follows h vs h1
     → ((k : List Answered) × Leads h1 v k × (IsTrue s.is_open → Holding k s)) → (IsFalse failed → IsTrue s.is_open)
     → IsTrue failed ⊎ IsFalse failed → Ran h (vs ++ v ∷ []) failed s
-turned h vs v failed s h1 follows l open (inr sound) = (l.0, inl (follows_then h vs v h1 l.0 follows l.1, l.2 (open sound)))
-turned h vs v failed s h1 follows l open (inl fails) =
+turned h vs v failed s h1 follows l opened (inr sound) = (l.0, inl (follows_then h vs v h1 l.0 follows l.1, l.2 (opened sound)))
+turned h vs v failed s h1 follows l opened (inl fails) =
     (l.0, inr (fails, (vs ++ v ∷ [], [], sym (append-nil (vs ++ v ∷ [])), follows_then h vs v h1 l.0 follows l.1, All-nil Declines, l.2)))
 
 -- what a connection is served on, and what becomes of it
-pub record Turn (failed_old : Bool) (old : State) (v : Visit) (failed_new : Bool) (new : State) : Type 0 where
+pub record Turn (failed_old : Bool) (old : State) (v : Visit) (failed_new : Bool) (new : State) : Type 1 where
   pub refused : IsTrue failed_old → (failed_new ≡ failed_old) × (new ≡ old)
   pub declines : IsTrue failed_old → Declines v
   pub leads : (h : List Answered) → Holding h old → (h2 : List Answered) × Leads h v h2 × (IsTrue new.is_open → Holding h2 new)
-  pub open : (h : List Answered) → Holding h old → IsFalse failed_new → IsTrue new.is_open
+  pub opened : (h : List Answered) → Holding h old → IsFalse failed_new → IsTrue new.is_open
 
 ran_on : (h : List Answered) (vs : List Visit) (v : Visit) (failed_old : Bool) (old : State) (failed_new : Bool) (new : State) → Turn failed_old old v failed_new new
     → (h1 : List Answered)
@@ -37,7 +37,7 @@ ran_on : (h : List Answered) (vs : List Visit) (v : Visit) (failed_old : Bool) (
       ⊎ (IsTrue failed_old × ((early : List Visit) × (later : List Visit) × (vs ≡ early ++ later) × Follows h early h1 × All Declines later × (IsTrue old.is_open → Holding h1 old))))
     → Ran h (vs ++ v ∷ []) failed_new new
 ran_on h vs v failed_old old failed_new new turn h1 (inl r) =
-    turned h vs v failed_new new h1 r.0 (turn.leads h1 r.1) (turn.open h1 r.1) (decides failed_new)
+    turned h vs v failed_new new h1 r.0 (turn.leads h1 r.1) (turn.opened h1 r.1) (decides failed_new)
 ran_on h vs v failed_old old failed_new new turn h1 (inr r) =
     let e = r.1 in
     let same = turn.refused r.0 in

@@ -50,28 +50,28 @@ decides true = inl refl
 decides false = inr refl
 
 not_both : (b : Bool) → IsTrue b → IsFalse b → ⊥
-not_both b yes no = cc
+not_both b holds fails = cc
 
 replied : (h : List Answered) (sent : Option (List ℕ)) (asked : Asked) (text : List ℕ) (s : State) → IsAsked sent asked → Responds h asked text s
     → (h2 : List Answered) × IsReply h sent text h2 × (IsTrue s.is_open → Holding h2 s)
-replied h sent asked text s is_asked (inl r) = (r.0, (asked, is_asked, inl r.1), λ open. r.2)
+replied h sent asked text s is_asked (inl r) = (r.0, (asked, is_asked, inl r.1), λ opened. r.2)
 replied h sent asked text s is_asked (inr r) = (h, (asked, is_asked, inr (refl, r.0)), r.1)
 
 gone_on : (h : List Answered) (sent : Option (List ℕ)) (asked : Asked) (s : State) → IsAsked sent asked
     → Holding h s ⊎ ((a : Asking) × (asked ≡ arrives a) × ((answer : Answer) × Holding (h ++ answered_as a answer ∷ []) s))
     → (h2 : List Answered) × MayGoOn h sent h2 × (IsTrue s.is_open → Holding h2 s)
-gone_on h sent asked s is_asked (inl holding) = (h, inl refl, λ open. holding)
+gone_on h sent asked s is_asked (inl holding) = (h, inl refl, λ opened. holding)
 gone_on h sent asked s is_asked (inr t) =
-    (h ++ answered_as t.0 t.2.0 ∷ [], inr (t.0, t.2.0, subst (λ (k : Asked). IsAsked sent k) t.1 is_asked, refl), λ open. t.2.1)
+    (h ++ answered_as t.0 t.2.0 ∷ [], inr (t.0, t.2.0, subst (λ (k : Asked). IsAsked sent k) t.1 is_asked, refl), λ opened. t.2.1)
 
 may_have : (h : List Answered) (sent : Option (List ℕ)) (asked : Asked) (s : State) → IsAsked sent asked → MayHaveTaken h asked s
     → IsTrue s.is_open ⊎ IsFalse s.is_open → (h2 : List Answered) × MayGoOn h sent h2 × (IsTrue s.is_open → Holding h2 s)
-may_have h sent asked s is_asked taken (inl open) = gone_on h sent asked s is_asked (taken open)
-may_have h sent asked s is_asked taken (inr shut) = (h, inl refl, λ open. absurd (not_both s.is_open open shut))
+may_have h sent asked s is_asked taken (inl opened) = gone_on h sent asked s is_asked (taken opened)
+may_have h sent asked s is_asked taken (inr shut) = (h, inl refl, λ opened. absurd (not_both s.is_open opened shut))
 
 given_up : (h : List Answered) (sent : Option (List ℕ)) (s : State) → HasGivenUp h sent s
     → (h2 : List Answered) × MayGoOn h sent h2 × (IsTrue s.is_open → Holding h2 s)
-given_up h sent s (inl holding) = (h, inl refl, λ open. holding)
+given_up h sent s (inl holding) = (h, inl refl, λ opened. holding)
 given_up h sent s (inr g) = may_have h sent g.0 s g.1 g.2 (decides s.is_open)
 
 -- ---- a connection
@@ -94,7 +94,7 @@ led (Ok v) h ended sent old new s starts known =
     let r = replied h sent w.0 w.1 s w.2 w.3 in
     (r.0, (w.1, r.1, wrote ended old new w.1 starts w.4), r.2)
 led (Err Read) h ended sent old new s starts known =
-    let k = known.unread refl in (h, (refl, wrote_nothing ended old new starts k.1), λ open. k.0)
+    let k = known.unread refl in (h, (refl, wrote_nothing ended old new starts k.1), λ opened. k.0)
 led (Err Write) h ended sent old new s starts known =
     let w = known.unwritten refl in
     let r = replied h sent w.0 w.1 s w.2 w.3 in

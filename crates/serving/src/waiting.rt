@@ -29,7 +29,7 @@ impl<'a> Waiting<'a> {
 
     /// What was written on each connection that has ended, in order; `None` if there was no memory to keep it.
     pub fn into_ended(self) -> Option<Vec<Vec<u8>>>
-        ensures { result ≡ self.ended }
+        ensures { result ≡ self.entry.ended }
     {
         let Waiting {
             alloc: _,

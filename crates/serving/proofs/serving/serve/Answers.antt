@@ -32,7 +32,7 @@ loop-served-preserved g c =
               refused = λ is. (ap (λ o. o.failed) (a.refused is), ap (λ o. state g.S.Store o.conn) (a.refused is));
               declines = one.4;
               leads = one.5 clean;
-              open = a.open clean;
+              opened = a.opened clean;
             }) (w.4 early h holding),
       );
     }

@@ -1,5 +1,5 @@
 -- Small runs, computed.
-use Rattle.std.specs.Prelude.{◌≡◌, ℕ, List, [], ◌∷◌, None, Some, codes}
+use Rattle.std.specs.Prelude.{◌≡◌, ℕ, List, [], ◌∷◌, Some, codes}
 use Rattle.std.proofs.Common.{refl}
 use Rattle.office_history.specs.History.{Answered}
 use Rattle.desk_types.specs.declared.fault.DeskFault.TheVariants.{Read}

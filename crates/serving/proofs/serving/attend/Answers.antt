@@ -1,4 +1,4 @@
-use Rattle.std.proofs.Common.{◌≡◌, ℕ, List, [], ◌∷◌, Option, refl, sym, ap, subst}
+use Rattle.std.proofs.Common.{ℕ, List, [], ◌∷◌, Option, refl, sym, ap, subst}
 use Rattle.sqlite.specs.Held.{state}
 use Rattle.store.specs.Holding.{Holding}
 use Rattle.serving.specs.Serving.{Came, Ends, Visit, fault_of}

@@ -29,5 +29,5 @@ returns-in-Ok-None-clause-ok g c clean h holds =
     let shown : (office : Office) → IsLegal h office → IsShown office (question_of c.args.look) None =
     λ office legal. subst (λ (q : Question). IsShown office q None) c.question_of-question.ensures
     (rw c.in-Ok-None.field-0-is at (c.in-Ok-None.ensures.shown clean h office holds legal)) in
-    on_text (λ (v : Vec ℕ Global). v.items) c.problem_response-in-Ok-None.result (problem_response NotFound) (λ t. Responds h (shows c.args.look) t s) c.problem_response-in-Ok-None.ensures
+    on_text (λ (v : Vec ℕ Global). v.items) c.problem_response.result (problem_response NotFound) (λ t. Responds h (shows c.args.look) t s) c.problem_response.ensures
     (looked h c.args.look None s shown (c.in-Ok-None.ensures.held clean h holds))

@@ -34,7 +34,7 @@ pub record Turn (failed_old : Bool) (old : State) (v : Visit) (failed_new : Bool
 ran_on : (h : List Answered) (vs : List Visit) (v : Visit) (failed_old : Bool) (old : State) (failed_new : Bool) (new : State) → Turn failed_old old v failed_new new
     → (h1 : List Answered)
     → ((Follows h vs h1 × Holding h1 old)
-      ⊎ (IsTrue failed_old × ((early : List Visit) × (later : List Visit) × (vs ≡ early ++ later) × Follows h early h1 × All Declines later × (IsTrue old.is_open → Holding h1 old))))
+    ⊎ (IsTrue failed_old × ((early : List Visit) × (later : List Visit) × (vs ≡ early ++ later) × Follows h early h1 × All Declines later × (IsTrue old.is_open → Holding h1 old))))
     → Ran h (vs ++ v ∷ []) failed_new new
 ran_on h vs v failed_old old failed_new new turn h1 (inl r) =
     turned h vs v failed_new new h1 r.0 (turn.leads h1 r.1) (turn.opened h1 r.1) (decides failed_new)

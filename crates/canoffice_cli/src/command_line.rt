@@ -1,8 +1,8 @@
 //! The command line, described for clap. Each subcommand has a function here, and so has each kind of argument.
-ghost use Rattle.std.specs.Prelude.{◌≡◌, IfOk, false};
-ghost use Rattle.clap.specs.Words.{app_of, rule_of};
+ghost use Rattle.std.specs.Prelude.{◌≡◌, IfOk, codes, false};
+ghost use Rattle.clap.specs.Words.{app_of, new_app, rule_of};
 ghost use Rattle.clap.specs.declared.builder.command.Command.TheViews.{out-Command as fields_of};
-ghost use Rattle.canoffice_cli.specs.CommandLine.{apply_app, canoffice_app, chart_app, check_app, export_app, format_app, option_word, required_option, required_word, required_words, table_app};
+ghost use Rattle.canoffice_cli.specs.CommandLine.{apply_app, canoffice_app, chart_app, check_app, export_app, format_app, option_word, required_option, required_word, required_words, table_app, wants_subcommand};
 
 use clap::{Arg, Command};
 use std::alloc::{AllocError, Global};
@@ -111,15 +111,23 @@ fn table_command<'a>(alloc: Global) -> Result<Command<'a>, AllocError>
     Ok(table)
 }
 
+/// `canoffice`, without its subcommands, one of which is required.
+fn wanting_command<'a>(alloc: Global) -> Command<'a>
+    ensures app { app_of result ≡ wants_subcommand (new_app (codes "canoffice")) }
+    ensures local { (fields_of result).has_globals ≡ false }
+{
+    let named = Command::new(alloc, "canoffice").about(
+        "Checks, formats and charts DBC files, and gives out CAN identifiers",
+    );
+    named.subcommand_required(true).arg_required_else_help(true)
+}
+
 /// The program's command line with all its subcommands, one of which is required.
 pub fn canoffice_command<'a>(alloc: Global) -> Result<Command<'a>, AllocError>
     ensures app { IfOk result (λ c. app_of c ≡ canoffice_app) }
     ensures local { IfOk result (λ c. (fields_of c).has_globals ≡ false) }
 {
-    let named = Command::new(alloc, "canoffice").about(
-        "Checks, formats and charts DBC files, and gives out CAN identifiers",
-    );
-    let wanting = named.subcommand_required(true).arg_required_else_help(true);
+    let wanting = wanting_command(alloc);
     let with_apply = wanting.subcommand(apply_command(alloc)?)?;
     let with_chart = with_apply.subcommand(chart_command(alloc)?)?;
     let with_check = with_chart.subcommand(check_command(alloc)?)?;

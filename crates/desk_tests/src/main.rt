@@ -15,12 +15,12 @@
 mod loopback;
 mod pieces;
 mod requests;
-mod serving;
+mod responses;
 
 use loopback::serve_over_port;
 use pieces::Ending;
 use requests::{Titled, titled_requests};
-use serving::{agree_in_pieces, agree_in_two, opened, response};
+use responses::{agree_in_pieces, agree_in_two, opened, response};
 use sqlite::{Alter, Connection};
 use std::fs;
 use std::io::{self, Write};

@@ -17,7 +17,7 @@ mod pieces;
 mod requests;
 mod responses;
 
-use loopback::serve_over_port;
+use loopback::{goes_over_port, serve_over_port};
 use pieces::Ending;
 use requests::{Titled, titled_requests};
 use responses::{agree_in_pieces, agree_in_two, opened, response};
@@ -58,16 +58,10 @@ fn main(rt: HostRuntime) -> io::Result<()> {
     let file = fs::read(&rt, "requests")?;
     let requests = titled_requests(rt.alloc(), &file)?;
     let mut office = opened(Connection::open_in_memory(rt.alloc())?)?;
-    let mut over_port: Vec<&Titled<'_>> = Vec::new(rt.alloc());
     for titled in requests.iter() {
-        if titled.title.starts_with(b"#@") {
-            over_port.push(titled)?;
-        } else {
+        if !goes_over_port(titled) {
             serve(&rt, &mut office, titled)?;
         }
     }
-    if over_port.is_empty() {
-        return Ok(());
-    }
-    serve_over_port(&rt, &mut office, &over_port)
+    serve_over_port(&rt, &mut office, &requests)
 }

@@ -47,7 +47,9 @@ pub(crate) fn serve_over_port<S: Alter>(
             clients.push(asking_client(rt, address, &titled.request)?)?;
         }
     }
-    let count = clients.len() as u32;
+    let Ok(count) = u32::try_from(clients.len()) else {
+        return Err(ErrorKind::InvalidData)?;
+    };
     if serve(alloc, office, &mut port, count).is_err() {
         return Err(ErrorKind::ConnectionAborted)?;
     }

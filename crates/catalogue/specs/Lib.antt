@@ -1,4 +1,5 @@
 pub mod Ascending
+pub mod Bytes
 pub mod Canon
 pub mod Changing
 pub mod Division

@@ -1,9 +1,9 @@
 //! Bytes that follow a rule.
 ghost use Rattle.std.specs.Prelude.{◌≡◌, ◌↔◌, ℕ, Bool, List, [], IfOk, IsTrue, SomeIff};
 
+use crate::bytes::Bytes;
 use crate::copying::Copying;
 use crate::keyed::Keyed;
-use smallvec::SmallVec;
 use std::alloc::{AllocError, Global};
 use std::cmp::Ordering;
 use std::marker::{Model, PhantomData};
@@ -22,10 +22,10 @@ pub trait Rule {
         ensures keeps { IsTrue result ↔ Keeps bytes.now };
 }
 
-/// Bytes that keep the rule. Contracts see them as a list. Up to 24 of them, as most names and texts have, take no block
+/// Bytes that keep the rule. Contracts see them as a list. Up to 22 of them, as most names and texts have, take no block
 /// of memory of their own.
 pub struct Checked<R: Rule> {
-    bytes: SmallVec<u8, 24>,
+    bytes: Bytes,
     rule: PhantomData<R>,
 }
 
@@ -34,9 +34,9 @@ impl<R: Rule> Model for Checked<R> {
 
     ghost Value = { List ℕ };
 
-    ghost view = { λ checked. checked.bytes.items };
+    ghost view = { λ checked. checked.bytes };
 
-    ghost invariant = { λ checked. R.Keeps checked.bytes.items × IsTrue (R.accepts checked.bytes.items) };
+    ghost invariant = { λ checked. R.Keeps checked.bytes × IsTrue (R.accepts checked.bytes) };
 }
 
 impl<R: Rule> Checked<R> {
@@ -57,7 +57,7 @@ impl<R: Rule> Checked<R> {
         ensures { IfOk result (λ checked. checked ≡ bytes.now) }
     {
         Ok(Checked {
-            bytes: SmallVec::from_slice(alloc, bytes)?,
+            bytes: Bytes::from_slice(alloc, bytes)?,
             rule: PhantomData,
         })
     }
@@ -69,7 +69,7 @@ impl<R: Rule> Checked<R> {
         ensures { result ≡ [] }
     {
         Checked {
-            bytes: SmallVec::new(alloc),
+            bytes: Bytes::none(),
             rule: PhantomData,
         }
     }
@@ -159,7 +159,7 @@ impl<R: Rule> Clone for Checked<R> {
 
     fn clone(&self) -> Result<Self, AllocError> {
         Ok(Checked {
-            bytes: SmallVec::from_slice(*self.bytes.allocator(), self.as_bytes())?,
+            bytes: self.bytes.duplicate()?,
             rule: PhantomData,
         })
     }
@@ -168,7 +168,7 @@ impl<R: Rule> Clone for Checked<R> {
 impl<R: Rule> Copying for Checked<R> {
     fn duplicate(&self, alloc: Global) -> Result<Self, AllocError> {
         Ok(Checked {
-            bytes: SmallVec::from_slice(alloc, self.as_bytes())?,
+            bytes: self.bytes.duplicate()?,
             rule: PhantomData,
         })
     }

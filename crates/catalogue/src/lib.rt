@@ -16,6 +16,7 @@
 //! constants, such as [`MESSAGE_LIMIT`].
 #![tactic(auto)]
 
+mod bytes;
 mod checked;
 mod copying;
 mod fault;

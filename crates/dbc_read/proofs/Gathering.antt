@@ -16,6 +16,7 @@ use Rattle.catalogue.specs.declared.value_type.ValueType.{ValueType}
 use Rattle.catalogue.specs.declared.value_type.ValueType.TheVariants.{Integer}
 use Rattle.dbc_read.specs.Built.{first_or}
 use Rattle.dbc_read.specs.Lookup.{IsIndexIn}
+use Rattle.dbc_read.specs.Gathering.{Gathers, finished, passed_in, passed_pair}
 use Rattle.dbc_read.specs.Gathered.{AreGathered, IsNothing, gathered_after, passed_after, passed_of, set_at}
 use Rattle.dbc_read.specs.Passed.{start_and_keyword}
 use Rattle.dbc_read.specs.Lookups.{AreCitedIndices, IsCitedIndex, IsMessageIndex, IsSignalIndex}
@@ -44,13 +45,7 @@ or_true false = refl
 
 -- Values of keys, each the last one of the pairs so far, and the pairs that are left.
 module _ {K V : Type 0} (same : K → K → Bool) (d : V) where
-  -- the values, once the pairs that are left are added
-  abbrev pub finished : List (K × V) → List K → List V → List V
-  finished ps [] vs = vs
-  finished ps (k ∷ ks) [] = []
-  finished ps (k ∷ ks) (v ∷ vs) = unwrap_or (last_at same k (Some v) ps) d ∷ finished ps ks vs
-
-  pub none_left : (ks : List K) (vs : List V) → finished [] ks vs ≡ vs
+  pub none_left : (ks : List K) (vs : List V) → finished same d [] ks vs ≡ vs
   none_left [] vs = refl
   none_left (k ∷ ks) [] = refl
   none_left (k ∷ ks) (v ∷ vs) = ap (λ l. v ∷ l) (none_left ks vs)
@@ -63,7 +58,7 @@ module _ {K V : Type 0} (same : K → K → Bool) (d : V) where
       by true = refl
       by false = e
 
-  pub all_left : (ps : List (K × V)) (ks : List K) → finished ps ks (replicate (length ks) d) ≡ map (λ k. unwrap_or (last_at same k None ps) d) ks
+  pub all_left : (ps : List (K × V)) (ks : List K) → finished same d ps ks (replicate (length ks) d) ≡ map (λ k. unwrap_or (last_at same k None ps) d) ks
   all_left ps [] = refl
   all_left ps (k ∷ ks) = λ i. from_none k (Some d) None ps refl i ∷ all_left ps ks i
 
@@ -71,7 +66,7 @@ module _ {K V : Type 0} (same : K → K → Bool) (d : V) where
     one_value : (k : K) (v : V) (b : Bool) → same k k₀ ≡ b → unwrap_or (last_at same k (Some v) ((k₀, v₀) ∷ ps)) d ≡ unwrap_or (last_at same k (if b then Some v₀ else Some v) ps) d
     one_value k v b e = ap (λ t. unwrap_or (last_at same k (if t then Some v₀ else Some v) ps) d) (laws.symm k₀ k ∙ e)
 
-    others : (ks : List K) (vs : List V) → list_any (λ k. same k k₀) ks ≡ false → finished ((k₀, v₀) ∷ ps) ks vs ≡ finished ps ks vs
+    others : (ks : List K) (vs : List V) → list_any (λ k. same k k₀) ks ≡ false → finished same d ((k₀, v₀) ∷ ps) ks vs ≡ finished same d ps ks vs
     others [] vs h = refl
     others (k ∷ ks) [] h = refl
     others (k ∷ ks) (v ∷ vs) h =
@@ -89,7 +84,7 @@ module _ {K V : Type 0} (same : K → K → Bool) (d : V) where
 
     -- the next pair is added by its value's going to the index of its key
     pub settled : (ks : List K) (vs : List V) (index : Option ℕ) → IsDistinct same ks → IsIndexIn (λ k. same k k₀) ks index
-        → finished ((k₀, v₀) ∷ ps) ks vs ≡ finished ps ks (set_at index v₀ vs)
+        → finished same d ((k₀, v₀) ∷ ps) ks vs ≡ finished same d ps ks (set_at index v₀ vs)
     unfolding IsDistinct
     settled ks vs None distinct h = others ks vs h
     settled [] vs (Some i) distinct h = none_true h
@@ -145,33 +140,6 @@ has_message_index all (Some n) index is = has_index (λ m. m == n) (numbers_of a
 has_signal_index : (all : List says.Statement) (cited : Cited) (name : List ℕ) (index : Option ℕ) → IsSignalIndex all cited name index → has_signal all cited name ≡ is_some index
 has_signal_index all None name index is = ap is_some (sym is)
 has_signal_index all (Some n) name index is = has_index (λ key. same_signal key (n, name)) (signal_keys_of all) index is
-
-abbrev passed_pair : says.Statement → ℕ × Keyword
-passed_pair s = (s.start, s.keyword)
-
-abbrev passed_in : List says.Statement → List says.Statement → List (ℕ × Keyword)
-passed_in all rest = map passed_pair (filter (λ (s : says.Statement). is_passed all s.content) rest)
-
--- What is gathered, and what is left to say, are all that the statements say.
-pub record Gathers (all : List says.Statement) (g : Gathered) (rest : List says.Statement) : Type 0 where
-  pub version : last_or g.version (each_in version_in rest) ≡ last_or None (each_in version_in all)
-  pub comment : last_or g.comment (each_in comment_in rest) ≡ last_or None (each_in comment_in all)
-  pub nodes : names_of g.nodes ++ node_names_of rest ≡ node_names_of all
-  pub tables : map table_of g.tables ++ each_in table_in rest ≡ each_in table_in all
-  pub messages : map message_of g.messages ++ messages_of rest ≡ messages_of all
-  pub node_comments : IsDistinct bytes_eq (node_names_of all) → finished bytes_eq [] (each_in node_comment_in rest) (node_names_of all) g.node_comments
-      ≡ map (λ name. last_value_of bytes_eq name [] node_comment_in all) (node_names_of all)
-  pub message_comments : IsDistinct nat_eq (numbers_of all) → finished nat_eq [] (each_in message_comment_in rest) (numbers_of all) g.message_comments
-      ≡ map (λ number. last_value_of nat_eq number [] message_comment_in all) (numbers_of all)
-  pub signal_comments : IsDistinct same_signal (signal_keys_of all) → finished same_signal [] (each_in signal_comment_in rest) (signal_keys_of all) g.signal_comments
-      ≡ map (λ key. last_value_of same_signal key [] signal_comment_in all) (signal_keys_of all)
-  pub signal_values : IsDistinct same_signal (signal_keys_of all) → finished same_signal [] (each_in value_texts_in rest) (signal_keys_of all) g.signal_values
-      ≡ map (λ key. last_value_of same_signal key [] value_texts_in all) (signal_keys_of all)
-  pub signal_types : IsDistinct same_signal (signal_keys_of all) → finished same_signal Integer (each_in value_type_in rest) (signal_keys_of all) g.signal_types
-      ≡ map (λ key. last_value_of same_signal key Integer value_type_in all) (signal_keys_of all)
-  pub signal_spns : IsDistinct same_signal (signal_keys_of all) → finished same_signal 0 (each_in spn_in rest) (signal_keys_of all) g.signal_spns
-      ≡ map (λ key. last_value_of same_signal key 0 spn_in all) (signal_keys_of all)
-  pub passed : map start_and_keyword g.passed ++ passed_in all rest ≡ passed_by all
 
 -- One statement more, of the content c, which cites what has this index.
 module _ (all : List says.Statement) (start : ℕ) (keyword : Keyword) (index : Option ℕ) (g : Gathered) (rest : List says.Statement) where

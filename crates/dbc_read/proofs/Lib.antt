@@ -1,6 +1,7 @@
 pub mod IteratorItems
 pub mod Finding
 pub mod Gathering
+pub mod OneByOne
 pub mod Refused
 pub mod SignalsFit
 pub mod Bytes

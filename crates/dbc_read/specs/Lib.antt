@@ -4,6 +4,7 @@ pub mod Lookup
 pub mod Lookups
 pub mod Passed
 pub mod Gathered
+pub mod Gathering
 pub mod Fit
 pub mod Built
 pub mod Faults

@@ -2,12 +2,14 @@
 ghost use Rattle.std.specs.Prelude.{◌≡◌, ◌++◌, IfErr, IfOk, OnOk, List, [], replicate};
 ghost use Rattle.catalogue.specs.Statement as says;
 ghost use Rattle.dbc_read.specs.Built.{CanBeSheet, IsBuilt};
-ghost use Rattle.dbc_read.specs.Gathered.{AreGathered, IsBeginning, IsNothing, gathered_after, passed_after, passed_of, set_at};
+ghost use Rattle.dbc_read.specs.Gathering.{IsEmpty, with_nothing_attached};
+ghost use Rattle.dbc_read.specs.Gathered.{AreGathered, IsBeginning, gathered_after, passed_after, passed_of, set_at};
 ghost use Rattle.dbc_read.specs.Lookups.{AreLookups};
 ghost use Rattle.dbc_read.specs.Refusal.{Unless};
 ghost use Rattle.dbc_statements.specs.Statement.{statements_of};
 
 use crate::feed::{Feed, Feeds};
+use crate::keys::keys_of;
 use crate::lookups::{Lookups, cited_indices, lookups_of};
 use crate::passed::Passed;
 use crate::reading::Reading;
@@ -79,27 +81,24 @@ fn copies<T: Copy + Drop>(alloc: Global, count: usize, value: T) -> Result<Items
     Ok(Items::from_vec(items))
 }
 
-/// What is gathered before any statement.
-fn empty_gathered(alloc: Global, lookups: &Lookups) -> Result<Gathered, AllocError>
-    ensures { IfOk result (λ gathered. (statements : List says.Statement) → AreLookups lookups.now statements → IsNothing statements gathered) }
+/// Nothing is attached yet to each of the nodes, the messages and the signals.
+pub(crate) fn attach_nothing(
+    alloc: Global,
+    lookups: &Lookups,
+    gathered: &mut Gathered,
+) -> Result<(), AllocError>
+    ensures { OnOk result ((statements : List says.Statement) → AreLookups lookups.now statements → gathered.new ≡ with_nothing_attached statements gathered.old) }
 {
     let nodes = lookups.nodes.len();
     let messages = lookups.messages.len();
     let signals = lookups.signals.len();
-    Ok(Gathered {
-        version: None,
-        comment: None,
-        nodes: Items::new(alloc),
-        tables: Items::new(alloc),
-        messages: Items::new(alloc),
-        node_comments: no_texts(alloc, nodes)?,
-        message_comments: no_texts(alloc, messages)?,
-        signal_comments: no_texts(alloc, signals)?,
-        signal_values: no_entries(alloc, signals)?,
-        signal_types: copies(alloc, signals, ValueType::Integer)?,
-        signal_spns: copies(alloc, signals, Spn::NONE)?,
-        passed: Items::new(alloc),
-    })
+    gathered.node_comments = no_texts(alloc, nodes)?;
+    gathered.message_comments = no_texts(alloc, messages)?;
+    gathered.signal_comments = no_texts(alloc, signals)?;
+    gathered.signal_values = no_entries(alloc, signals)?;
+    gathered.signal_types = copies(alloc, signals, ValueType::Integer)?;
+    gathered.signal_spns = copies(alloc, signals, Spn::NONE)?;
+    Ok(())
 }
 
 /// Puts the value at the index, if there is one.
@@ -185,7 +184,7 @@ fn gather(from: Citing, content: Content, all: &mut Gathered) -> Result<(), Allo
 }
 
 /// Adds a statement to what is gathered; `index` is that of what it cites.
-fn gather_statement(
+pub(crate) fn gather_statement(
     index: Option<usize>,
     statement: Statement,
     gathered: &mut Gathered,
@@ -204,9 +203,11 @@ fn start_gathering(
 ) -> Result<(Gathered, Vec<Option<usize>>), AllocError>
     ensures { IfOk result (λ begun. IsBeginning (statements_of statements.now) begun.0 begun.1.items) }
 {
-    let lookups = lookups_of(alloc, statements)?;
+    let keys = keys_of(alloc, statements)?;
+    let lookups = lookups_of(alloc, keys)?;
     let cited = cited_indices(alloc, &lookups, statements)?;
-    let gathered = empty_gathered(alloc, &lookups)?;
+    let mut gathered = Gathered::empty(alloc);
+    attach_nothing(alloc, &lookups, &mut gathered)?;
     Ok((gathered, cited))
 }
 
@@ -224,6 +225,26 @@ pub(crate) fn gathered_of(alloc: Global, statements: Vec<Statement>) -> Result<G
 }
 
 impl Gathered {
+    /// What is gathered before any statement.
+    pub(crate) fn empty(alloc: Global) -> Gathered
+        ensures { IsEmpty result }
+    {
+        Gathered {
+            version: None,
+            comment: None,
+            nodes: Items::new(alloc),
+            tables: Items::new(alloc),
+            messages: Items::new(alloc),
+            node_comments: Items::new(alloc),
+            message_comments: Items::new(alloc),
+            signal_comments: Items::new(alloc),
+            signal_values: Items::new(alloc),
+            signal_types: Items::new(alloc),
+            signal_spns: Items::new(alloc),
+            passed: Items::new(alloc),
+        }
+    }
+
     /// The sheet of all that is gathered, and what is skipped; or a refusal if that can't be in one sheet.
     pub(crate) fn into_reading(self, alloc: Global) -> Result<Reading, Refusal>
         ensures built { IfOk result (λ reading. IsBuilt self reading.sheet) }

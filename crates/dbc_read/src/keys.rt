@@ -1,6 +1,7 @@
 //! The keys of the nodes, messages and signals of the statements, by kind and in their order.
-ghost use Rattle.std.specs.Prelude.{◌≡◌, ◌++◌, IfOk, OnOk, map};
-ghost use Rattle.catalogue.specs.Saying.{keys_of};
+ghost use Rattle.std.specs.Prelude.{◌≡◌, ◌++◌, List, IfOk, OnOk, map};
+ghost use Rattle.catalogue.specs.Saying.{keys_of, messages_of, node_names_of};
+ghost use Rattle.catalogue.specs.Statement as says;
 ghost use Rattle.dbc_read.specs.Keys.{AreKeys, key_of, text_of};
 ghost use Rattle.dbc_statements.specs.Statement.{message_of, names_of, statements_of};
 
@@ -62,6 +63,29 @@ pub(crate) fn keys_of(alloc: Global, statements: &[Statement]) -> Result<Keys<'_
     Ok(Keys {
         nodes,
         messages,
+        signals,
+    })
+}
+
+/// The keys of these nodes, of these messages, and of their signals.
+pub(crate) fn defined_keys<'s>(
+    alloc: Global,
+    nodes: &'s [NodeName],
+    messages: &'s [MessageLine],
+) -> Result<Keys<'s>, AllocError>
+    ensures { IfOk result (λ keys. (statements : List says.Statement) → names_of nodes.now ≡ node_names_of statements → map message_of messages.now ≡ messages_of statements → AreKeys keys statements) }
+{
+    let mut names = Vec::new(alloc);
+    add_names(nodes, &mut names)?;
+    let mut numbers = Vec::new(alloc);
+    let mut signals = Vec::new(alloc);
+    for line in messages {
+        numbers.push(line.ident.to_dbc())?;
+        add_keys(line, &mut signals)?;
+    }
+    Ok(Keys {
+        nodes: names,
+        messages: numbers,
         signals,
     })
 }

@@ -1,10 +1,11 @@
 //! Which node, message or signal of the file each statement cites.
 ghost use Rattle.std.specs.Prelude.{List, IfOk};
 ghost use Rattle.catalogue.specs.Statement as says;
+ghost use Rattle.dbc_read.specs.Keys.{AreKeys};
 ghost use Rattle.dbc_read.specs.Lookups.{AreCitedIndices, AreLookups, IsCitedIndex, IsMessageIndex, IsSignalIndex};
 ghost use Rattle.dbc_statements.specs.Statement.{content_of, statements_of};
 
-use crate::keys::{Key, Keys, keys_of};
+use crate::keys::{Key, Keys};
 use crate::lookup::{Lookup, lookup_of};
 use dbc_statements::{CitedSignal, Content, Statement};
 use std::alloc::{AllocError, Global};
@@ -19,15 +20,15 @@ pub(crate) struct Lookups<'s> {
     pub signals: Lookup<Key<'s>>,
 }
 
-/// The nodes, the messages and the signals of the statements.
-pub(crate) fn lookups_of(alloc: Global, statements: &[Statement]) -> Result<Lookups<'_>, AllocError>
-    ensures { IfOk result (λ lookups. AreLookups lookups (statements_of statements.now)) }
+/// The nodes, the messages and the signals that have these keys.
+pub(crate) fn lookups_of(alloc: Global, keys: Keys<'_>) -> Result<Lookups<'_>, AllocError>
+    ensures { IfOk result (λ lookups. (statements : List says.Statement) → AreKeys keys.entry statements → AreLookups lookups statements) }
 {
     let Keys {
         nodes,
         messages,
         signals,
-    } = keys_of(alloc, statements)?;
+    } = keys;
     Ok(Lookups {
         nodes: lookup_of(alloc, nodes)?,
         messages: lookup_of(alloc, messages)?,
@@ -57,7 +58,11 @@ fn signal_index(lookups: &Lookups, cited: &CitedSignal, last: &mut usize) -> Opt
 
 /// The index of what the statement cites, if it cites something that the file has. The index that was found last is
 /// tried first.
-fn cited_index(lookups: &Lookups, content: &Content, last: &mut usize) -> Option<usize>
+pub(crate) fn cited_index(
+    lookups: &Lookups,
+    content: &Content,
+    last: &mut usize,
+) -> Option<usize>
     ensures { (statements : List says.Statement) → AreLookups lookups.now statements → IsCitedIndex statements (content_of content.now) result }
 {
     match content {

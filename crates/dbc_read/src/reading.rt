@@ -2,17 +2,19 @@
 ghost use Rattle.std.specs.Prelude.{◌≤◌, IfErr, IfOk, length, map};
 ghost use Rattle.catalogue.specs.Reads.{ReadsAs, ReadsOnlyAs};
 ghost use Rattle.dbc_lex.specs.Fault.{UnlessMemory};
+ghost use Rattle.dbc_read.specs.Gathering.{IsOfText};
 ghost use Rattle.dbc_read.specs.Passed.{start_and_keyword};
 ghost use Rattle.dbc_read.specs.Reading.{ReadsAsNothing};
-ghost use Rattle.dbc_statements.specs.Division.{TokensComeFirst};
+ghost use Rattle.dbc_statements.specs.Division.{HasNoDivision, TokensComeFirst};
 
 use crate::first_fault::first_fault;
-use crate::gathered::gathered_of;
+use crate::gathered::{Gathered, gathered_of};
+use crate::one_by_one::gathered_one_by_one;
 use crate::passed::Passed;
 use crate::refusal::Refusal;
 use catalogue::{Items, Sheet, texts_read_as_one_sheet};
 use dbc_lex::ReadFault;
-use dbc_statements::statements_of;
+use dbc_statements::{Statements, statements_of};
 use std::alloc::Global;
 
 /// What a DBC text reads as.
@@ -23,6 +25,28 @@ pub struct Reading {
     pub passed: Items<Passed>,
 }
 
+/// What the statements of the text say, by kind.
+fn gathered_text(alloc: Global, source: &[u8]) -> Result<Gathered, ReadFault>
+    ensures ok { IfOk result (IsOfText source.now) }
+    ensures err { IfErr result (λ fault. UnlessMemory fault.code (HasNoDivision source.now)) }
+    ensures tokens { TokensComeFirst source.now result }
+{
+    let mut statements = Statements::of(source);
+    let read = gathered_one_by_one(alloc, &mut statements);
+    statements.token_fault()?;
+    let found = read?;
+    match found {
+        Some(gathered) => Ok(gathered),
+        None => {
+            // Something is cited before all that could be cited is there, so all statements are read before any is
+            // gathered.
+            let statements = statements_of(alloc, source)?;
+            let gathered = gathered_of(alloc, statements)?;
+            Ok(gathered)
+        }
+    }
+}
+
 /// What the text reads as, or its fault.
 fn read_text(alloc: Global, source: &[u8]) -> Result<Reading, ReadFault>
     ensures reads { IfOk result (λ reading. ReadsAs source.now reading.sheet (map start_and_keyword reading.passed)) }
@@ -31,15 +55,13 @@ fn read_text(alloc: Global, source: &[u8]) -> Result<Reading, ReadFault>
     ensures tokens { TokensComeFirst source.now result }
 {
     texts_read_as_one_sheet();
-    let statements = statements_of(alloc, source)?;
-    let gathered = gathered_of(alloc, statements)?;
+    let gathered = gathered_text(alloc, source)?;
     match gathered.into_reading(alloc) {
         Ok(reading) => Ok(reading),
         Err(Refusal::Memory) => Err(ReadFault::MEMORY),
         Err(Refusal::NoSheet) => {
             // What was gathered is consumed, so the text is read once more.
-            let statements = statements_of(alloc, source)?;
-            let gathered = gathered_of(alloc, statements)?;
+            let gathered = gathered_text(alloc, source)?;
             Err(first_fault(alloc, &gathered)?)
         }
     }

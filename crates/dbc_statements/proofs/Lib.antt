@@ -4,3 +4,4 @@ pub mod NameLists
 pub mod Skip
 pub mod Offsets
 pub mod WholeText
+pub mod OneStatement

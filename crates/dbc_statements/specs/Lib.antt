@@ -5,3 +5,4 @@ pub mod Names
 pub mod Reading
 pub mod Skipping
 pub mod Division
+pub mod Left

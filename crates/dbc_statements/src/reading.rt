@@ -112,7 +112,7 @@ fn line(
 
 /// A statement, and how it ends, after a statement that ended as `before` says.
 #[tactic(auto, unfolding(catalogue::specs::Parsing::statement_at))]
-fn statement(
+pub(crate) fn statement(
     alloc: Global,
     tokens: &mut Tokens,
     before: Ended,

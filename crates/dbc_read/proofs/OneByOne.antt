@@ -1,0 +1,211 @@
+-- Statements that are gathered as they come: first those that cite nothing, and then those that define nothing that could
+-- be cited.
+use Rattle.std.proofs.Common.{◌≡◌, ◌∙◌, ◌++◌, ℕ, true, false, List, [], ◌∷◌, length, map, Option, Some, None, refl, sym, ap, append_assoc, append-nil, subst, true≢false}
+use Rattle.std.specs.List.{cons_option, flat_map}
+use Rattle.std.specs.Option.{option_map}
+use Rattle.std.specs.Ordering.{nat_cmp}
+use Rattle.std.proofs.lemmas.List.Elements.{filter_map-append}
+use Rattle.can_id.specs.Ident.{dbc_number}
+use Rattle.catalogue.specs.Parsing.{statements_at}
+use Rattle.catalogue.specs.Saying.{each_in, keys_of, message_in, messages_of, node_names_of, nodes_in}
+use Rattle.catalogue.specs.Statement as says
+use Rattle.catalogue.specs.Token.{Token}
+use Rattle.dbc_read.specs.Gathered.{AreGathered, IsNothing, gathered_after, passed_of}
+use Rattle.dbc_read.specs.Gathering.{BeginWith, DefineNothing, Gathers, IsDefining, IsEmpty, IsSettling, Settles, cites, defines, with_definitions, with_empty, with_nothing_attached}
+use Rattle.dbc_read.specs.Lookup.{IsLookupOf}
+use Rattle.dbc_read.specs.Lookups.{AreLookups, IsCitedIndex}
+use Rattle.dbc_read.specs.declared.gathered.Gathered.{Gathered}
+use Rattle.dbc_read.specs.declared.lookups.Lookups.{Lookups}
+use Rattle.dbc_read.specs.declared.passed.Passed.{Passed}
+use Rattle.dbc_read.proofs.Gathering.{all_gathered, nothing_gathered, one_gathered}
+use Rattle.dbc_statements.specs.Left.{BeginsWith}
+use Rattle.dbc_statements.specs.Statement.{content_of, message_of, names_of, statement_of}
+use Rattle.dbc_statements.specs.declared.statement.Content.{Content}
+use Rattle.dbc_statements.specs.declared.statement.Content.TheVariants as content
+use Rattle.dbc_statements.specs.declared.statement.MessageLine.{MessageLine}
+use Rattle.dbc_statements.specs.declared.statement.NodeName.{NodeName}
+use Rattle.dbc_statements.specs.declared.statement.Statement.{Statement}
+
+-- Tokens that begin with statements.
+
+plain_map : {A : Type 0} (o : Option (List A)) → o ≡ option_map (λ (l : List A). l) o
+plain_map None = refl
+plain_map (Some l) = refl
+
+pub begin_with_none : (tokens : List Token) → BeginWith [] tokens tokens
+begin_with_none tokens = plain_map (statements_at tokens)
+
+regroup : (said : List says.Statement) (s : says.Statement) (o : Option (List says.Statement))
+    → option_map (λ others. said ++ others) (option_map (λ others. s ∷ others) o) ≡ option_map (λ others. (said ++ s ∷ []) ++ others) o
+regroup said s None = refl
+regroup said s (Some l) = ap (λ (x : List says.Statement). Some x) (sym (append_assoc said (s ∷ []) l))
+
+pub begin_with_more : (said : List says.Statement) (s : says.Statement) (a b c : List Token) → BeginWith said a b → BeginsWith s b c → BeginWith (said ++ s ∷ []) a c
+begin_with_more said s a b c h k = h ∙ ap (option_map (λ others. said ++ others)) k.statements ∙ regroup said s (statements_at c)
+
+pub begin_with_all : (said : List says.Statement) (a b : List Token) → BeginWith said a b → statements_at b ≡ Some [] → statements_at a ≡ Some said
+begin_with_all said a b h e = h ∙ ap (option_map (λ others. said ++ others)) e ∙ ap (λ (x : List says.Statement). Some x) (append-nil said)
+
+pub begin_with_rest : (said more : List says.Statement) (a b : List Token) → BeginWith said a b → statements_at b ≡ Some more → statements_at a ≡ Some (said ++ more)
+begin_with_rest said more a b h e = h ∙ ap (option_map (λ others. said ++ others)) e
+
+pub begin_without : (said : List says.Statement) (a b : List Token) → BeginWith said a b → statements_at b ≡ None → statements_at a ≡ None
+begin_without said a b h e = h ∙ ap (option_map (λ others. said ++ others)) e
+
+-- the statements that are read so far, of which something holds
+pub record ReadSoFar (holds : List says.Statement → Type 0) (tokens rest : List Token) : Type 0 where
+  pub said : List says.Statement
+  pub read : BeginWith said tokens rest
+  pub is : holds said
+
+pub none_read : (holds : List says.Statement → Type 0) (tokens : List Token) → holds [] → ReadSoFar holds tokens tokens
+none_read holds tokens h = record { said = []; read = begin_with_none tokens; is = h }
+
+pub one_read : (old now : List says.Statement → Type 0) (s : says.Statement) (a b c : List Token) → BeginsWith s b c
+    → ((said : List says.Statement) → old said → now (said ++ s ∷ [])) → ReadSoFar old a b → ReadSoFar now a c
+one_read old now s a b c begins step h = record { said = h.said ++ s ∷ []; read = begin_with_more h.said s a b c h.read begins; is = step h.said h.is }
+
+-- Statements that define nothing leave the names, the messages and the keys as they are.
+
+no_names : (c : says.Content) (l : List (List (List ℕ))) → defines c ≡ false → cons_option (nodes_in c) l ≡ l
+no_names (says.NodesAre names) l h = absurd (true≢false h)
+no_names c l h = refl
+
+no_message : (c : says.Content) (l : List says.MessageLine) → defines c ≡ false → cons_option (message_in c) l ≡ l
+no_message (says.MessageIs line) l h = absurd (true≢false h)
+no_message c l h = refl
+
+none_named : (rest : List says.Statement) → DefineNothing rest → each_in nodes_in rest ≡ []
+none_named [] h = refl
+none_named (s ∷ rest) h = no_names s.content (each_in nodes_in rest) h.0 ∙ none_named rest h.1
+
+no_messages : (rest : List says.Statement) → DefineNothing rest → messages_of rest ≡ []
+no_messages [] h = refl
+no_messages (s ∷ rest) h = no_message s.content (messages_of rest) h.0 ∙ no_messages rest h.1
+
+module _ (said rest : List says.Statement) (none : DefineNothing rest) where
+  same_names : node_names_of (said ++ rest) ≡ node_names_of said
+  same_names =
+      ap (flat_map (λ (names : List (List ℕ)). names))
+      (filter_map-append (λ (s : says.Statement). nodes_in s.content) said rest ∙ ap (λ l. each_in nodes_in said ++ l) (none_named rest none) ∙ append-nil (each_in nodes_in said))
+
+  same_messages : messages_of (said ++ rest) ≡ messages_of said
+  same_messages = filter_map-append (λ (s : says.Statement). message_in s.content) said rest ∙ ap (λ l. messages_of said ++ l) (no_messages rest none) ∙ append-nil (messages_of said)
+
+  pub lookups_stay : (l : Lookups) → AreLookups l said → AreLookups l (said ++ rest)
+  lookups_stay l are = record {
+    node_names = are.node_names;
+    nodes = are.nodes;
+    names = are.names ∙ sym same_names;
+    messages = subst (λ (ms : List says.MessageLine). IsLookupOf nat_cmp l.messages (map (λ (m : says.MessageLine). dbc_number m.ident) ms)) (sym same_messages) are.messages;
+    signal_keys = are.signal_keys;
+    signals = are.signals;
+    keys = are.keys ∙ sym (ap (flat_map keys_of) same_messages);
+  }
+
+  same_empty : (g : Gathered) → with_nothing_attached (said ++ rest) g ≡ with_nothing_attached said g
+  same_empty g = λ i. with_empty (length (same_names i)) (length (map (λ (m : says.MessageLine). dbc_number m.ident) (same_messages i))) (length (flat_map keys_of (same_messages i))) g
+
+-- Statements that cite nothing.
+
+pub is_nothing : (all : List says.Statement) (g : Gathered) → IsEmpty g → IsNothing all (with_nothing_attached all g)
+is_nothing all g is = record {
+  version = is.version;
+  comment = is.comment;
+  nodes = is.nodes;
+  tables = is.tables;
+  messages = is.messages;
+  node_comments = refl;
+  message_comments = refl;
+  signal_comments = refl;
+  signal_values = refl;
+  signal_types = refl;
+  signal_spns = refl;
+  passed = is.passed;
+}
+
+pub nothing_defined : (g : Gathered) → IsEmpty g → IsDefining [] g
+nothing_defined g is = λ rest. nothing_gathered rest (with_nothing_attached rest g) (is_nothing rest g is)
+
+no_index : (all : List says.Statement) (c : Content) → cites (content_of c) ≡ false → IsCitedIndex all (content_of c) None
+no_index all (content.NodeComment name text) h = absurd (true≢false h)
+no_index all (content.MessageComment cited text) h = absurd (true≢false h)
+no_index all (content.SignalComment cited text) h = absurd (true≢false h)
+no_index all (content.ValueTexts cited entries) h = absurd (true≢false h)
+no_index all (content.ValueType cited value_type) h = absurd (true≢false h)
+no_index all (content.Spn cited spn) h = absurd (true≢false h)
+no_index all c h = tt
+
+empty_either_way : (nodes messages signals : ℕ) (p : Passed) (c : Content) (g : Gathered) → cites (content_of c) ≡ false
+    → with_empty nodes messages signals (gathered_after None p c g) ≡ gathered_after None p c (with_empty nodes messages signals g)
+empty_either_way nodes messages signals p (content.NodeComment name text) g h = absurd (true≢false h)
+empty_either_way nodes messages signals p (content.MessageComment cited text) g h = absurd (true≢false h)
+empty_either_way nodes messages signals p (content.SignalComment cited text) g h = absurd (true≢false h)
+empty_either_way nodes messages signals p (content.ValueTexts cited entries) g h = absurd (true≢false h)
+empty_either_way nodes messages signals p (content.ValueType cited value_type) g h = absurd (true≢false h)
+empty_either_way nodes messages signals p (content.Spn cited spn) g h = absurd (true≢false h)
+empty_either_way nodes messages signals p c g h = refl
+
+pub one_defined : (said : List says.Statement) (s : Statement) (old now : Gathered) → cites (content_of s.content) ≡ false → now ≡ gathered_after None (passed_of s) s.content old
+    → IsDefining said old → IsDefining (said ++ statement_of s ∷ []) now
+one_defined said s old now no is h = λ rest.
+    let all : List says.Statement = said ++ statement_of s ∷ rest in
+    let either = empty_either_way _ _ _ (passed_of s) s.content old no in
+    let here : Gathers all (with_nothing_attached all now) rest = one_gathered all s rest None (with_nothing_attached all old) (with_nothing_attached all now) (no_index all s.content no) (ap (with_nothing_attached all) is ∙ either) (h (statement_of s ∷ rest)) in
+    subst (λ (x : List says.Statement). Gathers x (with_nothing_attached x now) rest) (sym (append_assoc said (statement_of s ∷ []) rest)) here
+
+-- Statements that define nothing.
+
+pub definitions_over : (said : List says.Statement) (g : Gathered) (nodes : List NodeName) (messages : List MessageLine) → IsDefining said g
+    → IsSettling said g.nodes g.messages (with_nothing_attached said (with_definitions nodes messages g))
+definitions_over said g nodes messages h = λ rest none. subst (λ (x : Gathered). Gathers (said ++ rest) x rest) (same_empty said rest none g) (h rest)
+
+defined_either_way : (nodes : List NodeName) (messages : List MessageLine) (index : Option ℕ) (p : Passed) (c : Content) (g : Gathered) → defines (content_of c) ≡ false
+    → with_definitions nodes messages (gathered_after index p c g) ≡ gathered_after index p c (with_definitions nodes messages g)
+defined_either_way nodes messages index p (content.Nodes names) g h = absurd (true≢false h)
+defined_either_way nodes messages index p (content.Message line) g h = absurd (true≢false h)
+defined_either_way nodes messages index p c g h = refl
+
+pub one_settled : (l : Lookups) (s : Statement) (index : Option ℕ) (old now : Gathered) → defines (content_of s.content) ≡ false
+    → ((all : List says.Statement) → AreLookups l all → IsCitedIndex all (content_of s.content) index) → now ≡ gathered_after index (passed_of s) s.content old
+    → Settles l (statement_of s ∷ []) old now
+one_settled l s index old now no found is = λ said nodes messages are h. (
+  lookups_stay said (statement_of s ∷ []) (no, tt) l are,
+  λ rest none.
+      let all : List says.Statement = said ++ statement_of s ∷ rest in
+      let more : DefineNothing (statement_of s ∷ rest) = (no, none) in
+      let here : Gathers all (with_definitions nodes messages now) rest = one_gathered all s rest index (with_definitions nodes messages old) (with_definitions nodes messages now) (found all (lookups_stay said (statement_of s ∷ rest) more l are)) (ap (with_definitions nodes messages) is ∙ defined_either_way nodes messages index (passed_of s) s.content old no) (h (statement_of s ∷ rest) more) in
+      subst (λ (x : List says.Statement). Gathers x (with_definitions nodes messages now) rest) (sym (append_assoc said (statement_of s ∷ []) rest)) here,
+)
+
+pub none_settled : (l : Lookups) (g : Gathered) → Settles l [] g g
+none_settled l g = λ said nodes messages are h. (
+  subst (AreLookups l) (sym (append-nil said)) are,
+  subst (λ (x : List says.Statement). IsSettling x nodes messages g) (sym (append-nil said)) h,
+)
+
+pub settled_both : (l : Lookups) (first second : List says.Statement) (a b c : Gathered) → Settles l first a b → Settles l second b c → Settles l (first ++ second) a c
+settled_both l first second a b c h k = λ said nodes messages are is.
+    let (are_first, is_first) = h said nodes messages are is in
+    let (are_both, is_both) = k (said ++ first) nodes messages are_first is_first in (
+      subst (AreLookups l) (append_assoc said first second) are_both,
+      subst (λ (x : List says.Statement). IsSettling x nodes messages c) (append_assoc said first second) is_both,
+    )
+
+-- where nothing is left, all are gathered
+pub all_settled : (said : List says.Statement) (nodes : List NodeName) (messages : List MessageLine) (g : Gathered) → IsSettling said nodes messages g → AreGathered said (with_definitions nodes messages g)
+all_settled said nodes messages g h =
+    all_gathered said (with_definitions nodes messages g) (subst (λ (x : List says.Statement). Gathers x (with_definitions nodes messages g) []) (append-nil said) (h [] tt))
+
+pub cited_defines_nothing : (c : says.Content) → cites c ≡ true → defines c ≡ false
+cited_defines_nothing (says.NodesAre names) h = absurd (true≢false (sym h))
+cited_defines_nothing (says.MessageIs line) h = absurd (true≢false (sym h))
+cited_defines_nothing c h = refl
+
+-- the names and the messages of what is gathered are all that are defined
+module _ (said : List says.Statement) (g : Gathered) (h : IsDefining said g) where
+  pub defined_names : names_of g.nodes ≡ node_names_of said
+  defined_names = sym (append-nil (names_of g.nodes)) ∙ (h []).nodes ∙ ap node_names_of (append-nil said)
+
+  pub defined_messages : map message_of g.messages ≡ messages_of said
+  defined_messages = sym (append-nil (map message_of g.messages)) ∙ (h []).messages ∙ ap messages_of (append-nil said)

@@ -1,0 +1,13 @@
+use Rattle.std.proofs.Common.{◌≡◌, [], length}
+use Rattle.dbc_read.specs.Gathering.{IsDefining}
+use Rattle.dbc_read.proofs.OneByOne.{ReadSoFar}
+use Rattle.dbc_read.proofs.one_by_one.gather_definitions.Given as goal
+
+abbrev pub invariant-statements : goal.invariant-statements
+invariant-statements l = record {
+  source : l.statements.source ≡ l.initial.statements.source;
+  read : ReadSoFar (λ said. IsDefining [] l.initial.gathered → IsDefining said l.gathered) l.initial.statements.tokens l.statements.tokens;
+}
+
+abbrev pub decreases-statements : goal.decreases-statements
+decreases-statements l = length l.statements.tokens

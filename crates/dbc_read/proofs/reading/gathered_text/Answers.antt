@@ -1,0 +1,31 @@
+use Rattle.std.proofs.Common.{◌≡◌, ◌∙◌, ℕ, List, None, subst}
+use Rattle.std.proofs.lemmas.Result.{err_from_is_err_and}
+use Rattle.catalogue.specs.Lexing.{lexed}
+use Rattle.catalogue.specs.TokenLaw.{tokens_without_fault}
+use Rattle.dbc_statements.specs.Statement.{statements_of}
+use Rattle.dbc_statements.specs.Tokens.{EndsWith}
+use Rattle.dbc_statements.proofs.WholeText.{is_divided, no_division, no_tokens, whole}
+use Rattle.dbc_read.proofs.reading.gathered_text.Goals as goal
+
+pub returns-in_err-token_fault-clause-err : goal.returns-in_err-token_fault-clause-err
+returns-in_err-token_fault-clause-err c =
+    let p = err_from_is_err_and c.from_residual.result c.from_residual.ensures.1 in
+    let source : c.gathered_one_by_one-read.new.statements.source ≡ c.args.source.now = c.gathered_one_by_one-read.ensures.source ∙ c.of-statements.ensures.source in
+    rw (p.1, p.2) (λ memory. no_tokens c.args.source.now _ (subst (λ (bytes : List ℕ). EndsWith (lexed 0 bytes) c.in_err-token_fault.fault) source c.in_err-token_fault.ensures.err))
+
+pub returns-in_err-found-clause-err : goal.returns-in_err-found-clause-err
+returns-in_err-found-clause-err c =
+    let p = err_from_is_err_and c.from_residual-in_err-found.result c.from_residual-in_err-found.ensures.1 in
+    let source : c.gathered_one_by_one-read.new.statements.source ≡ c.args.source.now = c.gathered_one_by_one-read.ensures.source ∙ c.of-statements.ensures.source in
+    let read : lexed 0 c.args.source.now ≡ tokens_without_fault c.of-statements.result.tokens = whole c.args.source.now c.of-statements.result.tokens c.of-statements.ensures.tokens (subst (λ (bytes : List ℕ). (lexed 0 bytes).fault ≡ None) source c.in_ok-token_fault.ensures.ok) in
+    rw (p.1, p.2) (λ memory. no_division c.args.source.now c.of-statements.result.tokens read (c.in_err-found.ensures.err memory))
+
+pub returns-in-Some-clause-ok : goal.returns-in-Some-clause-ok
+returns-in-Some-clause-ok c =
+    let source : c.gathered_one_by_one-read.new.statements.source ≡ c.args.source.now = c.gathered_one_by_one-read.ensures.source ∙ c.of-statements.ensures.source in
+    let read : lexed 0 c.args.source.now ≡ tokens_without_fault c.of-statements.result.tokens = whole c.args.source.now c.of-statements.result.tokens c.of-statements.ensures.tokens (subst (λ (bytes : List ℕ). (lexed 0 bytes).fault ≡ None) source c.in_ok-token_fault.ensures.ok) in
+    let of = c.in-Some.ensures in
+    record { said = of.said; divided = is_divided c.args.source.now c.of-statements.result.tokens read of.said of.read; gathered = of.gathered }
+
+pub returns-in-None-clause-ok : goal.returns-in-None-clause-ok
+returns-in-None-clause-ok c = record { said = statements_of c.in_ok-statements.statements.items; divided = c.in_ok-statements.ensures.ok; gathered = c.in_ok-gathered.ensures }

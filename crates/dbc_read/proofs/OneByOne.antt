@@ -7,7 +7,7 @@ use Rattle.std.specs.Ordering.{nat_cmp}
 use Rattle.std.proofs.lemmas.List.Elements.{filter_map-append}
 use Rattle.can_id.specs.Ident.{dbc_number}
 use Rattle.catalogue.specs.Parsing.{statements_at}
-use Rattle.catalogue.specs.Saying.{each_in, keys_of, message_in, messages_of, node_names_of, nodes_in}
+use Rattle.catalogue.specs.Saying.{each_in, keys_of, message_in, messages_of, node_names_of, nodes_in, numbers_of, signal_keys_of}
 use Rattle.catalogue.specs.Statement as says
 use Rattle.catalogue.specs.Token.{Token}
 use Rattle.dbc_read.specs.Gathered.{AreGathered, IsNothing, gathered_after, passed_of}
@@ -150,7 +150,7 @@ pub one_defined : (said : List says.Statement) (s : Statement) (old now : Gather
     → IsDefining said old → IsDefining (said ++ statement_of s ∷ []) now
 one_defined said s old now no is h = λ rest.
     let all : List says.Statement = said ++ statement_of s ∷ rest in
-    let either = empty_either_way _ _ _ (passed_of s) s.content old no in
+    let either = empty_either_way (length (node_names_of all)) (length (numbers_of all)) (length (signal_keys_of all)) (passed_of s) s.content old no in
     let here : Gathers all (with_nothing_attached all now) rest = one_gathered all s rest None (with_nothing_attached all old) (with_nothing_attached all now) (no_index all s.content no) (ap (with_nothing_attached all) is ∙ either) (h (statement_of s ∷ rest)) in
     subst (λ (x : List says.Statement). Gathers x (with_nothing_attached x now) rest) (sym (append_assoc said (statement_of s ∷ []) rest)) here
 

@@ -1,0 +1,51 @@
+use Rattle.std.proofs.Common.{◌≡◌, ◌∙◌, ◌++◌, List, [], ◌∷◌, Some, append-nil, refl, sym, subst}
+use Rattle.std.proofs.lemmas.Result.{err_from_is_err_and}
+use Rattle.catalogue.specs.Statement as says
+use Rattle.dbc_read.specs.Gathering.{BeginWith}
+use Rattle.dbc_read.proofs.OneByOne.{begin_with_more, begin_without, none_read, one_defined, one_read}
+use Rattle.dbc_statements.specs.Statement.{statement_of}
+use Rattle.dbc_read.proofs.one_by_one.gather_definitions.Goals as goal
+
+pub statements-init : goal.statements-init
+statements-init c = record { source = refl; read = none_read _ c.args.statements.now.tokens (λ h. h) }
+
+pub statements-smaller : goal.statements-smaller
+statements-smaller c = c.in-Some.ensures.next.fewer
+
+pub statements-preserved : goal.statements-preserved
+statements-preserved c =
+    let at = c.statements in
+    let next = c.in-Some.next in
+    record {
+      source = c.read_next.ensures.source ∙ at.invariant.source;
+      read = one_read _ _ (statement_of next) c.args.statements.now.tokens at.statements.tokens c.read_next.new.self.tokens c.in-Some.ensures.next
+          (λ said h begun. one_defined said next at.gathered c.gather_statement.new.gathered (sym c.cites.ensures ∙ c.if-cites.false) c.in_ok-gather_statement.ensures (h begun)) at.invariant.read;
+    }
+
+pub returns-in_err-read_next-clause-err : goal.returns-in_err-read_next-clause-err
+returns-in_err-read_next-clause-err c =
+    let at = c.statements in
+    let p = err_from_is_err_and c.from_residual.result c.from_residual.ensures.1 in
+    rw (p.1, p.2) (λ memory. begin_without at.invariant.read.said c.args.statements.now.tokens at.statements.tokens at.invariant.read.read (c.in_err-read_next.ensures.err memory))
+
+pub returns-then-cites-clause-ok : goal.returns-then-cites-clause-ok
+returns-then-cites-clause-ok c =
+    let at = c.statements in
+    let begun = at.invariant.read in
+    record {
+      said = begun.said;
+      read = begin_with_more begun.said (statement_of c.in-Some.next) c.args.statements.now.tokens at.statements.tokens c.read_next.new.self.tokens begun.read c.in-Some.ensures.next;
+      cites = sym c.cites.ensures ∙ c.if-cites.true;
+      gathered = begun.is;
+    }
+
+pub returns-clause-ok : goal.returns-clause-ok
+returns-clause-ok c =
+    let at = c.statements in
+    let begun = at.invariant.read in
+    record {
+      said = begun.said;
+      read = subst (λ (x : List says.Statement). BeginWith x c.args.statements.now.tokens at.statements.tokens) (sym (append-nil begun.said)) begun.read;
+      cites = tt;
+      gathered = begun.is;
+    }

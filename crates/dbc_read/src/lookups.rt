@@ -58,11 +58,7 @@ fn signal_index(lookups: &Lookups, cited: &CitedSignal, last: &mut usize) -> Opt
 
 /// The index of what the statement cites, if it cites something that the file has. The index that was found last is
 /// tried first.
-pub(crate) fn cited_index(
-    lookups: &Lookups,
-    content: &Content,
-    last: &mut usize,
-) -> Option<usize>
+pub(crate) fn cited_index(lookups: &Lookups, content: &Content, last: &mut usize) -> Option<usize>
     ensures { (statements : List says.Statement) → AreLookups lookups.now statements → IsCitedIndex statements (content_of content.now) result }
 {
     match content {

@@ -11,7 +11,7 @@ pub returns-in_err-token_fault-clause-err : goal.returns-in_err-token_fault-clau
 returns-in_err-token_fault-clause-err c =
     let p = err_from_is_err_and c.from_residual.result c.from_residual.ensures.1 in
     let source : c.gathered_one_by_one-read.new.statements.source ≡ c.args.source.now = c.gathered_one_by_one-read.ensures.source ∙ c.of-statements.ensures.source in
-    rw (p.1, p.2) (λ memory. no_tokens c.args.source.now _ (subst (λ (bytes : List ℕ). EndsWith (lexed 0 bytes) c.in_err-token_fault.fault) source c.in_err-token_fault.ensures.err))
+    rw (p.1, p.2) (λ memory. no_tokens c.args.source.now _ (subst (λ (bytes : List ℕ). EndsWith (lexed 0 bytes) c.in_err-token_fault.field-0) source c.in_err-token_fault.ensures.err))
 
 pub returns-in_err-found-clause-err : goal.returns-in_err-found-clause-err
 returns-in_err-found-clause-err c =

@@ -2,7 +2,7 @@
 //!
 //! Most files define all nodes and messages before anything cites one. Then what a statement cites is known when the
 //! statement comes, so none of them is kept.
-ghost use Rattle.std.specs.Prelude.{◌≡◌, None, Some, IfErr, IfOk, IfSome, IsTrue, OnOk, false};
+ghost use Rattle.std.specs.Prelude.{◌≡◌, None, Some, IfErr, IfOk, IfSome, IsTrue, OnOk, false, true};
 ghost use Rattle.catalogue.specs.Parsing.{statements_at};
 ghost use Rattle.dbc_lex.specs.Fault.{UnlessMemory};
 ghost use Rattle.dbc_read.specs.Gathering.{Defines, FollowAll, IsOfTokens, Settles, SettlesAll, cites, defines, one_or_none};

@@ -10,7 +10,7 @@ pub statements-init : goal.statements-init
 statements-init c = record { source = refl; read = none_read _ c.args.statements.now.tokens (λ h. h) }
 
 pub statements-smaller : goal.statements-smaller
-statements-smaller c = c.in-Some.ensures.next.fewer
+statements-smaller c = (rw c.in-Some.is at c.in_ok-next.ensures.next).fewer
 
 pub statements-preserved : goal.statements-preserved
 statements-preserved c =
@@ -18,15 +18,15 @@ statements-preserved c =
     let next = c.in-Some.next in
     record {
       source = c.read_next.ensures.source ∙ at.invariant.source;
-      read = one_read _ _ (statement_of next) c.args.statements.now.tokens at.statements.tokens c.read_next.new.self.tokens c.in-Some.ensures.next
+      read = one_read _ _ (statement_of next) c.args.statements.now.tokens at.statements.tokens c.read_next.new.self.tokens (rw c.in-Some.is at c.in_ok-next.ensures.next)
           (λ said h begun. one_defined said next at.gathered c.gather_statement.new.gathered (sym c.cites.ensures ∙ c.if-cites.false) c.in_ok-gather_statement.ensures (h begun)) at.invariant.read;
     }
 
-pub returns-in_err-read_next-clause-err : goal.returns-in_err-read_next-clause-err
-returns-in_err-read_next-clause-err c =
+pub returns-in_err-next-clause-err : goal.returns-in_err-next-clause-err
+returns-in_err-next-clause-err c =
     let at = c.statements in
     let p = err_from_is_err_and c.from_residual.result c.from_residual.ensures.1 in
-    rw (p.1, p.2) (λ memory. begin_without at.invariant.read.said c.args.statements.now.tokens at.statements.tokens at.invariant.read.read (c.in_err-read_next.ensures.err memory))
+    rw (p.1, p.2) (λ memory. begin_without at.invariant.read.said c.args.statements.now.tokens at.statements.tokens at.invariant.read.read (c.in_err-next.ensures.err memory))
 
 pub returns-then-cites-clause-ok : goal.returns-then-cites-clause-ok
 returns-then-cites-clause-ok c =
@@ -34,7 +34,7 @@ returns-then-cites-clause-ok c =
     let begun = at.invariant.read in
     record {
       said = begun.said;
-      read = begin_with_more begun.said (statement_of c.in-Some.next) c.args.statements.now.tokens at.statements.tokens c.read_next.new.self.tokens begun.read c.in-Some.ensures.next;
+      read = begin_with_more begun.said (statement_of c.in-Some.next) c.args.statements.now.tokens at.statements.tokens c.read_next.new.self.tokens begun.read (rw c.in-Some.is at c.in_ok-next.ensures.next);
       cites = sym c.cites.ensures ∙ c.if-cites.true;
       gathered = begun.is;
     }

@@ -8,7 +8,7 @@ pub statements-init : goal.statements-init
 statements-init c = record { source = refl; read = none_read _ c.args.statements.now.tokens (none_settled c.args.lookups.now c.args.gathered.now) }
 
 pub statements-smaller : goal.statements-smaller
-statements-smaller c = c.in-Some.ensures.next.fewer
+statements-smaller c = (rw c.in-Some.is at c.in_ok-next.ensures.next).fewer
 
 pub settle-requires : goal.settle-requires
 settle-requires c = sym c.defines.ensures ∙ c.if-defines.false
@@ -19,18 +19,18 @@ statements-preserved c =
     let s = statement_of c.in-Some.next in
     record {
       source = c.read_next.ensures.source ∙ at.invariant.source;
-      read = one_read _ _ s c.args.statements.now.tokens at.statements.tokens c.read_next.new.self.tokens c.in-Some.ensures.next
+      read = one_read _ _ s c.args.statements.now.tokens at.statements.tokens c.read_next.new.self.tokens (rw c.in-Some.is at c.in_ok-next.ensures.next)
           (λ said h. settled_both c.args.lookups.now said (s ∷ []) c.args.gathered.now at.gathered c.settle.new.gathered h c.in_ok-settle.ensures) at.invariant.read;
     }
 
-pub returns-in_err-read_next-clause-err : goal.returns-in_err-read_next-clause-err
-returns-in_err-read_next-clause-err c =
+pub returns-in_err-next-clause-err : goal.returns-in_err-next-clause-err
+returns-in_err-next-clause-err c =
     let at = c.statements in
     let p = err_from_is_err_and c.from_residual.result c.from_residual.ensures.1 in
-    rw (p.1, p.2) (λ memory. begin_without at.invariant.read.said c.args.statements.now.tokens at.statements.tokens at.invariant.read.read (c.in_err-read_next.ensures.err memory))
+    rw (p.1, p.2) (λ memory. begin_without at.invariant.read.said c.args.statements.now.tokens at.statements.tokens at.invariant.read.read (c.in_err-next.ensures.err memory))
 
 pub returns-clause-ok : goal.returns-clause-ok
 returns-clause-ok c = λ yes.
     let at = c.statements in
     let all = at.invariant.read in
-    record { said = all.said; read = begin_with_all all.said c.args.statements.now.tokens at.statements.tokens all.read c.in_default.ensures.end; gathered = all.is }
+    record { said = all.said; read = begin_with_all all.said c.args.statements.now.tokens at.statements.tokens all.read (rw c.in_default.is at c.in_ok-next.ensures.end); gathered = all.is }

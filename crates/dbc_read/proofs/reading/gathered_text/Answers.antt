@@ -24,8 +24,8 @@ pub returns-in-Some-clause-ok : goal.returns-in-Some-clause-ok
 returns-in-Some-clause-ok c =
     let source : c.gathered_one_by_one-read.new.statements.source ≡ c.args.source.now = c.gathered_one_by_one-read.ensures.source ∙ c.of-statements.ensures.source in
     let read : lexed 0 c.args.source.now ≡ tokens_without_fault c.of-statements.result.tokens = whole c.args.source.now c.of-statements.result.tokens c.of-statements.ensures.tokens (subst (λ (bytes : List ℕ). (lexed 0 bytes).fault ≡ None) source c.in_ok-token_fault.ensures.ok) in
-    let of = c.in-Some.ensures in
+    let of = rw c.in-Some.is at c.in_ok-found.ensures.ok in
     record { said = of.said; divided = is_divided c.args.source.now c.of-statements.result.tokens read of.said of.read; gathered = of.gathered }
 
-pub returns-in-None-clause-ok : goal.returns-in-None-clause-ok
-returns-in-None-clause-ok c = record { said = statements_of c.in_ok-statements.statements.items; divided = c.in_ok-statements.ensures.ok; gathered = c.in_ok-gathered.ensures }
+pub returns-in_ok-gathered-in-None-clause-ok : goal.returns-in_ok-gathered-in-None-clause-ok
+returns-in_ok-gathered-in-None-clause-ok c = record { said = statements_of c.in_ok-statements-in-None.statements.items; divided = c.in_ok-statements-in-None.ensures.ok; gathered = c.in_ok-gathered-in-None.ensures }

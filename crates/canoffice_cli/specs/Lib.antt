@@ -1,7 +1,8 @@
+pub mod Numbers
+pub mod Outcome
 pub mod CommandLine
 pub mod Holding
 pub mod Databases
-pub mod Outcome
 pub mod Answered
 pub mod Applied
 pub mod Exported

@@ -39,12 +39,11 @@ IsFileOutcome files before after task path o = IsOfFile (AreKept before after) (
 -- the outcome of the job, and what is known of databases before and after
 abbrev pub IsDone : Files → Databases → Databases → Job → Outcome → Type 0
 IsDone files before after (Apply database script) o = IsFileOutcome files before after (task.Apply database) script.now o
-IsDone files before after (Chart length signals) o = IsChartOutcome length.now (map (λ s. s.now) signals.items) o × AreKept before after
+IsDone files before after (Chart length signals) o = IsChartOutcome length (map (λ s. s.now) signals.items) o × AreKept before after
 IsDone files before after (Check file) o = IsFileOutcome files before after task.Check file.now o
-IsDone files before after (Export database net number) o = IsExportOutcome before after database.now net.now number.now o
+IsDone files before after (Export database net number) o = IsExportOutcome before after database.now net.now number o
 IsDone files before after (Format file) o = IsFileOutcome files before after task.Format file.now o
-IsDone files before after (Serve database port count) o =
-    IsServeOutcome before after database.now (option_map (λ word. word.now) port) (option_map (λ word. word.now) count) o
+IsDone files before after (Serve database port count) o = IsServeOutcome before after database.now count o
 IsDone files before after (Table file) o = IsFileOutcome files before after task.Table file.now o
 
 -- the outcome of words that ask for no job: the text of their fault

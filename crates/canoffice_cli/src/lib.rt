@@ -1,11 +1,11 @@
 //! The library of the program `canoffice`: from the words of its command line to its exit status.
 //!
 //! - `command_line` describes the subcommands and their arguments for clap; with it `job` turns the words into a `Job`
-//!   or a `LineFault`.
+//!   or a `LineFault`. `numbers` has the ranges of the numbers that words give.
 //! - `files` reads files: those of the machine, or those of a list in memory. `databases` has the offices in databases, of
 //!   which one in memory is here; those of the machine are in the program itself.
-//! - `apply`, `exporting`, `serving`, `charting`, `checking`, `formatting` and `tabling` do the jobs. `answering` answers the
-//!   arrivals of a script, by an office in memory or on a connection to a database, and `progress` shows how far it is.
+//! - `apply`, `exporting`, `serving`, `charting`, `checking`, `formatting` and `tabling` do the jobs. `answering` answers
+//!   the arrivals of a script, by an office in memory or on a connection to a database, and `progress` shows how far it is.
 //! - `report` is the result of a run: bytes for standard output and standard error, and a `Status`.
 //! - `delivery` writes a report to the two streams.
 //! - `program` joins them: `perform` is a whole run.
@@ -26,6 +26,7 @@ mod files;
 mod formatting;
 mod job;
 mod lines;
+mod numbers;
 mod program;
 mod progress;
 mod report;

@@ -144,7 +144,7 @@ pub fn report_of<F: FileSource, D: Databases, W: Write>(
             let task = FileTask::Apply(*database);
             file_report(alloc, task, script, files, databases, progress)
         }
-        Job::Chart { length, signals } => chart_report(alloc, length, signals),
+        Job::Chart { length, signals } => chart_report(alloc, *length, signals),
         Job::Check { file } => {
             file_report(alloc, FileTask::Check, file, files, databases, progress)
         }
@@ -152,7 +152,7 @@ pub fn report_of<F: FileSource, D: Databases, W: Write>(
             database,
             net,
             number,
-        } => export_report(alloc, databases, database, net, number),
+        } => export_report(alloc, databases, database, net, *number),
         Job::Format { file } => {
             file_report(alloc, FileTask::Format, file, files, databases, progress)
         }

@@ -3,7 +3,7 @@ use Rattle.std.proofs.Common.{◌≡◌, ◌∙◌, ◌⊎◌, ℕ, List, [], �
 use Rattle.std.specs.Prelude.{IsTrue, IsFalse}
 use Rattle.std.specs.Io.KnownBytes.{Appends}
 use Rattle.sqlite.specs.State.{State}
-use Rattle.office_history.specs.History.{Answered}
+use Rattle.office_history.specs.History.{Answered, IsLegalHistory}
 use Rattle.store.specs.Holding.{Holding}
 use Rattle.desk_types.specs.Moved.{AppendsFront}
 use Rattle.desk_types.specs.declared.fault.DeskFault.{DeskFault}
@@ -52,33 +52,38 @@ decides false = inr refl
 not_both : (b : Bool) → IsTrue b → IsFalse b → ⊥
 not_both b holds fails = cc
 
-replied : (h : List Answered) (sent : Option (List ℕ)) (asked : Asked) (text : List ℕ) (s : State) → IsAsked sent asked → Responds h asked text s
-    → (h2 : List Answered) × IsReply h sent text h2 × (IsTrue s.is_open → Holding h2 s)
-replied h sent asked text s is_asked (inl r) = (r.0, (asked, is_asked, inl r.1), λ opened. r.2)
-replied h sent asked text s is_asked (inr r) = (h, (asked, is_asked, inr (refl, r.0)), r.1)
+pub legal_of : (h : List Answered) (s : State) → Holding h s → IsLegalHistory h
+legal_of h s holding = (holding.keeps.holds.office, holding.keeps.holds.legal)
+
+replied : (h : List Answered) (sent : Option (List ℕ)) (asked : Asked) (text : List ℕ) (s : State) → IsLegalHistory h → IsAsked sent asked → Responds h asked text s
+    → (h2 : List Answered) × IsReply h sent text h2 × IsLegalHistory h2 × (IsTrue s.is_open → Holding h2 s)
+replied h sent asked text s legal is_asked (inl r) = (r.0, (asked, is_asked, inl r.1), legal_of r.0 s r.2, λ opened. r.2)
+replied h sent asked text s legal is_asked (inr r) = (h, (asked, is_asked, inr (refl, r.0)), legal, r.1)
 
 gone_on : (h : List Answered) (sent : Option (List ℕ)) (asked : Asked) (s : State) → IsAsked sent asked
     → Holding h s ⊎ ((a : Asking) × (asked ≡ arrives a) × ((answer : Answer) × Holding (h ++ answered_as a answer ∷ []) s))
-    → (h2 : List Answered) × MayGoOn h sent h2 × (IsTrue s.is_open → Holding h2 s)
-gone_on h sent asked s is_asked (inl holding) = (h, inl refl, λ opened. holding)
+    → (h2 : List Answered) × MayGoOn h sent h2 × IsLegalHistory h2 × (IsTrue s.is_open → Holding h2 s)
+gone_on h sent asked s is_asked (inl holding) = (h, inl refl, legal_of h s holding, λ opened. holding)
 gone_on h sent asked s is_asked (inr t) =
-    (h ++ answered_as t.0 t.2.0 ∷ [], inr (t.0, t.2.0, subst (λ (k : Asked). IsAsked sent k) t.1 is_asked, refl), λ opened. t.2.1)
+    let h2 = h ++ answered_as t.0 t.2.0 ∷ [] in
+    (h2, inr (t.0, t.2.0, subst (λ (k : Asked). IsAsked sent k) t.1 is_asked, refl), legal_of h2 s t.2.1, λ opened. t.2.1)
 
-may_have : (h : List Answered) (sent : Option (List ℕ)) (asked : Asked) (s : State) → IsAsked sent asked → MayHaveTaken h asked s
-    → IsTrue s.is_open ⊎ IsFalse s.is_open → (h2 : List Answered) × MayGoOn h sent h2 × (IsTrue s.is_open → Holding h2 s)
-may_have h sent asked s is_asked taken (inl opened) = gone_on h sent asked s is_asked (taken opened)
-may_have h sent asked s is_asked taken (inr shut) = (h, inl refl, λ opened. absurd (not_both s.is_open opened shut))
+may_have : (h : List Answered) (sent : Option (List ℕ)) (asked : Asked) (s : State) → IsLegalHistory h → IsAsked sent asked → MayHaveTaken h asked s
+    → IsTrue s.is_open ⊎ IsFalse s.is_open → (h2 : List Answered) × MayGoOn h sent h2 × IsLegalHistory h2 × (IsTrue s.is_open → Holding h2 s)
+may_have h sent asked s legal is_asked taken (inl opened) = gone_on h sent asked s is_asked (taken opened)
+may_have h sent asked s legal is_asked taken (inr shut) = (h, inl refl, legal, λ opened. absurd (not_both s.is_open opened shut))
 
-given_up : (h : List Answered) (sent : Option (List ℕ)) (s : State) → HasGivenUp h sent s
-    → (h2 : List Answered) × MayGoOn h sent h2 × (IsTrue s.is_open → Holding h2 s)
-given_up h sent s (inl holding) = (h, inl refl, λ opened. holding)
-given_up h sent s (inr g) = may_have h sent g.0 s g.1 g.2 (decides s.is_open)
+given_up : (h : List Answered) (sent : Option (List ℕ)) (s : State) → IsLegalHistory h → HasGivenUp h sent s
+    → (h2 : List Answered) × MayGoOn h sent h2 × IsLegalHistory h2 × (IsTrue s.is_open → Holding h2 s)
+given_up h sent s legal (inl holding) = (h, inl refl, legal, λ opened. holding)
+given_up h sent s legal (inr g) = may_have h sent g.0 s legal g.1 g.2 (decides s.is_open)
 
 -- ---- a connection
 
--- a history to which a connection leads, and that the tables hold if they are open
+-- a legal history to which a connection leads, and that the tables hold if they are open
 abbrev pub LedTo : List Answered → Option DeskFault → Option (List ℕ) → Option (List ℕ) → State → Type 0
-LedTo h fault sent written s = (h2 : List Answered) × LeadsBy fault h sent written h2 × (IsTrue s.is_open → Holding h2 s)
+LedTo h fault sent written s =
+    (h2 : List Answered) × LeadsBy fault h sent written h2 × IsLegalHistory h2 × (IsTrue s.is_open → Holding h2 s)
 
 -- what is known of a connection that was served
 pub record Service {T : Type 0} (r : Result T DeskFault) (h : List Answered) (sent old new : Option (List ℕ)) (s : State) : Type 0 where
@@ -88,21 +93,21 @@ pub record Service {T : Type 0} (r : Result T DeskFault) (h : List Answered) (se
   pub lacking : IsErrOf r Memory → HasGivenUp h sent s × (new ≡ old)
 
 pub led : {T : Type 0} (r : Result T DeskFault) (h : List Answered) (ended : Option (List (List ℕ))) (sent old new : Option (List ℕ)) (s : State)
-    → Starts ended old → Service r h sent old new s → LedTo h (fault_of r) sent (written_of ended new) s
-led (Ok v) h ended sent old new s starts known =
+    → Starts ended old → IsLegalHistory h → Service r h sent old new s → LedTo h (fault_of r) sent (written_of ended new) s
+led (Ok v) h ended sent old new s starts legal known =
     let w = known.whole in
-    let r = replied h sent w.0 w.1 s w.2 w.3 in
-    (r.0, (w.1, r.1, wrote ended old new w.1 starts w.4), r.2)
-led (Err Read) h ended sent old new s starts known =
-    let k = known.unread refl in (h, (refl, wrote_nothing ended old new starts k.1), λ opened. k.0)
-led (Err Write) h ended sent old new s starts known =
+    let r = replied h sent w.0 w.1 s legal w.2 w.3 in
+    (r.0, (w.1, r.1, wrote ended old new w.1 starts w.4), r.2, r.3)
+led (Err Read) h ended sent old new s starts legal known =
+    let k = known.unread refl in (h, (refl, wrote_nothing ended old new starts k.1), legal, λ opened. k.0)
+led (Err Write) h ended sent old new s starts legal known =
     let w = known.unwritten refl in
-    let r = replied h sent w.0 w.1 s w.2 w.3 in
-    (r.0, (w.1, r.1, wrote_front ended old new w.1 starts w.4), r.2)
-led (Err Memory) h ended sent old new s starts known =
+    let r = replied h sent w.0 w.1 s legal w.2 w.3 in
+    (r.0, (w.1, r.1, wrote_front ended old new w.1 starts w.4), r.2, r.3)
+led (Err Memory) h ended sent old new s starts legal known =
     let k = known.lacking refl in
-    let g = given_up h sent s k.0 in
-    (g.0, (g.1, wrote_nothing ended old new starts k.1), g.2)
+    let g = given_up h sent s legal k.0 in
+    (g.0, (g.1, wrote_nothing ended old new starts k.1), g.2, g.3)
 
 -- what is known of a connection to an office that has failed
 pub record Refusal {T : Type 0} (r : Result T DeskFault) (sent old new : Option (List ℕ)) : Type 0 where
@@ -124,8 +129,8 @@ pub one_came : (old new : Option (List (List ℕ))) (v : Visit) → Comes old ne
 one_came None new v comes = tt
 one_came (Some coming) new v comes = (comes.0 ∷ [], comes.1, comes.2, comes.3, ap (λ (o : Option (List ℕ)). o ∷ []) comes.4)
 
-pub one_ended : (old new : Option (List (List ℕ))) (told sent : Option (List ℕ)) (fault : Option DeskFault)
-    → Ends old new told → Ended old new (record { sent = sent; written = written_of old told; fault = fault } ∷ [])
-one_ended None new told sent fault ends = ends
-one_ended (Some ended) None told sent fault ends = tt
-one_ended (Some ended) (Some more) told sent fault ends = (ends.0 ∷ [], ends.2, ap (λ (o : Option (List ℕ)). o ∷ []) ends.1)
+pub one_ended : (old new : Option (List (List ℕ))) (failed : Bool) (told sent : Option (List ℕ)) (fault : Option DeskFault)
+    → Ends old new told → Ended old new (record { office_failed = failed; sent = sent; written = written_of old told; fault = fault } ∷ [])
+one_ended None new failed told sent fault ends = ends
+one_ended (Some ended) None failed told sent fault ends = tt
+one_ended (Some ended) (Some more) failed told sent fault ends = (ends.0 ∷ [], ends.2, ap (λ (o : Option (List ℕ)). o ∷ []) ends.1)

@@ -1,6 +1,6 @@
 -- Small runs, computed.
-use Rattle.std.specs.Prelude.{◌≡◌, ℕ, List, [], ◌∷◌, Some, codes}
-use Rattle.std.proofs.Common.{refl}
+use Rattle.std.specs.Prelude.{◌≡◌, ℕ, List, [], ◌∷◌, Bool, true, false, Some, codes, ⊥}
+use Rattle.std.proofs.Common.{inr, refl}
 use Rattle.office_history.specs.History.{Answered}
 use Rattle.desk_types.specs.declared.fault.DeskFault.TheVariants.{Read}
 use Rattle.desk_types.specs.declared.problem.Problem.TheVariants.{NotFound, TryAgain}
@@ -8,15 +8,23 @@ use Rattle.desk_call.specs.Call.{fails, shows}
 use Rattle.desk_call.specs.declared.call.Look.TheVariants.{Release}
 use Rattle.desk_reply.specs.Response.{problem_response}
 use Rattle.desk.specs.Serving.{failed_response}
-use Rattle.serving.specs.Serving.{Came, Ended, Follows, Visit}
+use Rattle.serving.specs.Serving.{Came, Ended, FailsOnce, Follows, Visit}
 
 -- a peer that sends the beginning of a request, and fails
 abbrev broken : Visit
-broken = record { sent = Some (codes "GET /n"); written = Some []; fault = Some Read }
+broken = record { office_failed = false; sent = Some (codes "GET /n"); written = Some []; fault = Some Read }
 
 -- two such connections leave the history as it was
 two_broken : (h : List Answered) → Follows h (broken ∷ broken ∷ []) h
-two_broken h = (h, (refl, refl), (h, (refl, refl), refl))
+two_broken h = (h, inr (refl, (refl, refl)), (h, inr (refl, (refl, refl)), refl))
+
+-- the same two, between which the office fails
+fails_between : FailsOnce false (broken ∷ (record broken { office_failed = true }) ∷ []) true
+fails_between = (refl, true, λ failed. refl, (refl, true, λ failed. refl, refl))
+
+-- an office that has failed isn't sound for any later connection
+stays_failed : (next : Bool) → FailsOnce true (broken ∷ []) next → ⊥
+stays_failed next fails = let sound = fails.0 in cc
 
 -- one of two connections came, and nothing was written on it
 one_came : Came (Some (codes "GET /n" ∷ codes "GET" ∷ [])) (Some (codes "GET" ∷ [])) (broken ∷ [])

@@ -1,7 +1,7 @@
 -- Connections that are served one after the other.
-use Rattle.std.specs.Prelude.{◌≡◌, ◌⊎◌, ℕ, List, [], ◌∷◌, ◌++◌, map, All, Bool, Option, None, Some, IfSome, IsTrue, Result, Ok, Err, ⊤}
+use Rattle.std.specs.Prelude.{◌≡◌, ◌⊎◌, ℕ, List, [], ◌∷◌, ◌++◌, map, Bool, Option, None, Some, IfSome, IsTrue, IsFalse, Result, Ok, Err, ⊤}
 use Rattle.sqlite.specs.State.{State}
-use Rattle.office_history.specs.History.{Answered}
+use Rattle.office_history.specs.History.{Answered, IsLegalHistory}
 use Rattle.office_history.specs.declared.arrival.Answer.{Answer}
 use Rattle.store.specs.Holding.{Holding}
 use Rattle.desk_types.specs.declared.fault.DeskFault.{DeskFault}
@@ -11,8 +11,10 @@ use Rattle.desk_call.specs.Call.{Asked, Asking, arrives}
 use Rattle.desk_reply.specs.Response.{problem_response}
 use Rattle.desk.specs.Serving.{IsAsked, IsResponse, answered_as, failed_response}
 
--- a connection: what its peer sends and what was written to it, if these are told, and the fault that ended it, if any
+-- a connection: whether the office had failed when it came, what its peer sends and what was written to it, if these are
+-- told, and the fault that ended it, if any
 pub record Visit : Type 0 where
+  pub office_failed : Bool
   pub sent : Option (List ℕ)
   pub written : Option (List ℕ)
   pub fault : Option DeskFault
@@ -47,13 +49,22 @@ LeadsBy (Some Read) h sent written h2 = (h2 ≡ h) × Wrote written []
 LeadsBy (Some Write) h sent written h2 = (text : List ℕ) × IsReply h sent text h2 × WroteFront written text
 LeadsBy (Some Memory) h sent written h2 = MayGoOn h sent h2 × Wrote written []
 
+-- the same by a connection; one that comes when the office has failed leaves the history as it is
 abbrev pub Leads : List Answered → Visit → List Answered → Type 0
-Leads h v h2 = LeadsBy v.fault h v.sent v.written h2
+Leads h v h2 = (IsTrue v.office_failed × (h2 ≡ h)) ⊎ (IsFalse v.office_failed × LeadsBy v.fault h v.sent v.written h2)
 
 -- each connection leads from the history after the one before it
 abbrev pub Follows : List Answered → List Visit → List Answered → Type 0
 Follows h [] h2 = h2 ≡ h
 Follows h (v ∷ later) h2 = (h1 : List Answered) × Leads h v h1 × Follows h1 later h2
+
+-- The connections lead to a legal history, which the tables hold as long as they are open. They are, unless the office has
+-- failed.
+abbrev pub Ran : List Answered → List Visit → Bool → State → Type 0
+Ran h visits failed s =
+    (h2 : List Answered) × Follows h visits h2 × IsLegalHistory h2 × (IsFalse failed → IsTrue s.is_open) × (IsTrue s.is_open → Holding h2 s)
+
+-- ---- an office that has failed
 
 -- from a connection to an office that has failed, which ended so: what comes to that office is told to try again
 abbrev pub DeclinesBy : Option DeskFault → Option (List ℕ) → Option (List ℕ) → Type 0
@@ -62,16 +73,15 @@ DeclinesBy (Some Read) sent written = Wrote written []
 DeclinesBy (Some Write) sent written = (asked : Asked) × IsAsked sent asked × WroteFront written (failed_response asked)
 DeclinesBy (Some Memory) sent written = Wrote written []
 
-abbrev pub Declines : Visit → Type 0
-Declines v = DeclinesBy v.fault v.sent v.written
+-- if the office had failed when the connection came, it is declined so
+abbrev pub IsDeclined : Visit → Type 0
+IsDeclined v = IsTrue v.office_failed → DeclinesBy v.fault v.sent v.written
 
--- The connections lead to the history that the tables hold. If the office has failed, that is so of the connections up
--- to then, and each later one was told to try again, and has changed no table; these may be closed.
-abbrev pub Ran : List Answered → List Visit → Bool → State → Type 0
-Ran h visits failed s =
-    (h2 : List Answered)
-    × ((Follows h visits h2 × Holding h2 s)
-    ⊎ (IsTrue failed × ((early : List Visit) × (later : List Visit) × (visits ≡ early ++ later) × Follows h early h2 × All Declines later × (IsTrue s.is_open → Holding h2 s))))
+-- Whether the office has failed goes from each connection to the next one: so before the first of them, and so after the
+-- last. Once it has, it has for all that come later.
+abbrev pub FailsOnce : Bool → List Visit → Bool → Type 0
+FailsOnce before [] after = after ≡ before
+FailsOnce before (v ∷ later) after = (v.office_failed ≡ before) × (next : Bool) × (IsTrue before → IsTrue next) × FailsOnce next later after
 
 -- ---- the connections of a listener
 

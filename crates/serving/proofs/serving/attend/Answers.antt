@@ -2,7 +2,7 @@ use Rattle.std.proofs.Common.{ℕ, List, [], ◌∷◌, Option, refl, sym, ap, s
 use Rattle.sqlite.specs.Held.{state}
 use Rattle.store.specs.Holding.{Holding}
 use Rattle.serving.specs.Serving.{Came, Ends, Visit, fault_of}
-use Rattle.serving.proofs.Visits.{declined, led, one_came, one_ended, written_of}
+use Rattle.serving.proofs.Visits.{declined, led, legal_of, one_came, one_ended, written_of}
 use Rattle.serving.proofs.serving.attend.Goals as goal
 
 pub returns-clause-served : goal.returns-clause-served
@@ -18,20 +18,22 @@ returns-clause-served g c =
     let last = told c.serve_one-ended.new.sink in
     let s = state g.S.Store c.serve_one-ended.new.office.conn in
     let fault = fault_of c.serve_one-ended.result in
-    let v : Visit = record { sent = sent; written = written_of before last; fault = fault } in
+    let failed = c.args.office.now.failed in
+    let v : Visit = record { office_failed = failed; sent = sent; written = written_of before last; fault = fault } in
     let came = one_came (coming c.args.listener.now) (coming c.accept.new.self) v accepted.comes in
     let ends = subst (λ (o : Option (List (List ℕ))). Ends o (ended c.finish.new.self) last) accepted.kept c.finish.ensures.ends in (
       v,
       refl,
+      refl,
       subst (λ (o : Option (List (List ℕ))). Came (coming c.args.listener.now) o (v ∷ [])) (sym c.finish.ensures.kept) came,
-      one_ended before (ended c.finish.new.self) last sent fault ends,
-      λ failed. declined c.serve_one-ended.result before sent first last accepted.starts (record {
-        whole = one.failed failed;
-        begun = one.failed_write failed;
+      one_ended before (ended c.finish.new.self) failed last sent fault ends,
+      λ is. declined c.serve_one-ended.result before sent first last accepted.starts (record {
+        whole = one.failed is;
+        begun = one.failed_write is;
         unread = λ is. ap told (one.read_kept is).1;
         lacking = λ is. ap told (one.memory_kept is);
       }),
-      λ clean h holding. led c.serve_one-ended.result h before sent first last s accepted.starts (record {
+      λ clean h holding. led c.serve_one-ended.result h before sent first last s accepted.starts (legal_of h _ holding) (record {
         whole = one.served clean h holding;
         unread = λ is. (subst (λ o. Holding h (state g.S.Store o.conn)) (sym (one.read_kept is).0) holding, ap told (one.read_kept is).1);
         unwritten = one.write clean h holding;

@@ -49,7 +49,7 @@ pub decides : (b : Bool) → IsTrue b ⊎ IsFalse b
 decides true = inl refl
 decides false = inr refl
 
-not_both : (b : Bool) → IsTrue b → IsFalse b → ⊥
+pub not_both : (b : Bool) → IsTrue b → IsFalse b → ⊥
 not_both b holds fails = cc
 
 pub legal_of : (h : List Answered) (s : State) → Holding h s → IsLegalHistory h

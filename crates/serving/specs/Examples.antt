@@ -1,5 +1,5 @@
 -- Small runs, computed.
-use Rattle.std.specs.Prelude.{◌≡◌, ℕ, List, [], ◌∷◌, Bool, true, false, Some, codes, ⊥}
+use Rattle.std.specs.Prelude.{◌≡◌, ℕ, List, [], ◌∷◌, Bool, true, false, Some, codes}
 use Rattle.std.proofs.Common.{inr, refl}
 use Rattle.office_history.specs.History.{Answered}
 use Rattle.desk_types.specs.declared.fault.DeskFault.TheVariants.{Read}
@@ -24,7 +24,7 @@ fails_between = (refl, true, λ failed. refl, (refl, true, λ failed. refl, refl
 
 -- an office that has failed isn't sound for any later connection
 stays_failed : (next : Bool) → FailsOnce true (broken ∷ []) next → ⊥
-stays_failed next fails = let sound = fails.0 in cc
+stays_failed next it = let sound = it.0 in cc
 
 -- one of two connections came, and nothing was written on it
 one_came : Came (Some (codes "GET /n" ∷ codes "GET" ∷ [])) (Some (codes "GET" ∷ [])) (broken ∷ [])

@@ -49,7 +49,7 @@ returns-in-Err-clause-served g c =
       subst (λ (o : Option (List (List ℕ))). Came (g.L.Listener.coming c.args.listener.now) o w.0) (sym a.none.0) w.2,
       subst (λ (o : Option (List (List ℕ))). Ended (g.L.Listener.ended c.args.listener.now) o w.0) (sym a.none.1) w.3,
       (refl, fewer),
-      subst (λ o. FailsOnce _ w.0 o.failed) (sym a.kept) w.4,
+      subst (λ o. FailsOnce c.args.office.now.failed w.0 o.failed) (sym a.kept) w.4,
       w.5,
       λ clean h holding.
           let early = subst (λ o. HasCleanDisk (state g.S.Store o.conn)) a.kept clean in

@@ -1,5 +1,6 @@
 -- The command line of the program, which job its words ask for, and which fault they have.
-use Rattle.std.specs.Prelude.{◌≡◌, ◌≢◌, ◌⊎◌, List, [], ◌∷◌, find, map, codes, Option, Some, None, option_map, string_bytes, true, Result, Ok, Err, ⊥}
+use Rattle.std.specs.Prelude.{◌≡◌, ◌≢◌, ◌⊎◌, List, [], ◌∷◌, find, map, codes, Option, Some, None, option_map, string_bytes, true, Result, Ok, Err}
+use Rattle.std.specs.Option.{option_and_then}
 use Rattle.std.specs.Str.{bytes_eq}
 use Rattle.clap.specs.Lexer.{usize_max}
 use Rattle.clap.specs.Words.{App, Shape, IsAmong, Kinds, Row, Rule, Text, all_of, fault_of, first_of, new_app, new_rule, subcommand_of, with_rule, with_subcommand}
@@ -96,11 +97,11 @@ abbrev pub IsJobOf : Job → Text → List Row → Type 0
 IsJobOf (Apply database script) name rows =
     (name ≡ codes "apply") × (first_of (codes "db") rows ≡ option_map (λ path. path.now) database) × HasValue rows (codes "SCRIPT") script.now
 IsJobOf (Chart length signals) name rows =
-    (name ≡ codes "chart") × (word : Text) × HasValue rows (codes "LENGTH") word × (length_of word ≡ Some length) × HasValues rows (codes "SIGNAL") (map (λ s. s.now) signals.items)
+    (name ≡ codes "chart") × (option_and_then length_of (first_of (codes "LENGTH") rows) ≡ Some length) × HasValues rows (codes "SIGNAL") (map (λ s. s.now) signals.items)
 IsJobOf (Check file) name rows = (name ≡ codes "check") × HasValue rows (codes "FILE") file.now
 IsJobOf (Export database net number) name rows =
     (name ≡ codes "export") × HasValue rows (codes "db") database.now × HasValue rows (codes "NET") net.now
-    × (word : Text) × HasValue rows (codes "N") word × (release_number word ≡ Some number)
+    × (option_and_then release_number (first_of (codes "N") rows) ≡ Some number)
 IsJobOf (Format file) name rows = (name ≡ codes "format") × HasValue rows (codes "FILE") file.now
 IsJobOf (Serve database port count) name rows =
     (name ≡ codes "serve") × HasValue rows (codes "db") database.now

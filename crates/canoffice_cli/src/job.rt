@@ -4,9 +4,8 @@ ghost use Rattle.clap.specs.Words.{found_of, kind_of, rows_of, subcommand_rows_o
 ghost use Rattle.canoffice_cli.specs.CommandLine.{HasSome, IsEntered, IsJob, IsJobIn, IsJobOf, IsFaultOfKind, IsLineFault, IsValueFault, IsValueFaultIn, IsWrongWordFault};
 
 use crate::command_line::canoffice_command;
-use crate::numbers::{count_given, port_given, release_number};
+use crate::numbers::{count_given, length_given, port_given, release_number};
 use crate::report::bad_word_text;
-use chart::length_of;
 use clap::error::ErrorKind;
 use clap::{ArgMatches, Error};
 use std::alloc::{AllocError, Global};
@@ -191,16 +190,16 @@ fn apply_job<'a>(found: &ArgMatches<'a>) -> Job<'a>
 }
 
 /// `chart LENGTH SIGNAL..`
-#[tactic(auto, using(crate::proofs::CommandLine::value_in_rows, crate::proofs::CommandLine::values_in_rows, crate::proofs::CommandLine::text_is_given, crate::proofs::CommandLine::texts_are_given))]
+#[tactic(auto, using(crate::proofs::CommandLine::optional_in_rows, crate::proofs::CommandLine::values_in_rows, crate::proofs::CommandLine::text_is_given, crate::proofs::CommandLine::texts_are_given))]
 fn chart_job<'a>(alloc: Global, found: &ArgMatches<'a>) -> Result<Job<'a>, ValueFault<'a>>
     requires length { HasSome (rows_of (found_of found.now)) (codes "LENGTH") }
     requires signals { HasSome (rows_of (found_of found.now)) (codes "SIGNAL") }
     ensures job { IfOk result (λ job. IsJobOf job (codes "chart") (rows_of (found_of found.now))) }
     ensures fault { IfErr result (IsValueFault (codes "chart") (rows_of (found_of found.now))) }
 {
-    let word = found.get_str("LENGTH").unwrap();
     let words = found.get_strs("SIGNAL").unwrap();
-    let Some(length) = length_of(word.as_bytes()) else {
+    let word = found.get_str("LENGTH").unwrap();
+    let Some(length) = length_given(word) else {
         return Err(ValueFault::WrongNumber(word));
     };
     match Vec::from_slice(alloc, words) {
@@ -220,7 +219,7 @@ fn check_job<'a>(found: &ArgMatches<'a>) -> Job<'a>
 }
 
 /// `export --db FILE NET N`
-#[tactic(auto, using(crate::proofs::CommandLine::value_in_rows, crate::proofs::CommandLine::text_is_given))]
+#[tactic(auto, using(crate::proofs::CommandLine::value_in_rows, crate::proofs::CommandLine::optional_in_rows, crate::proofs::CommandLine::text_is_given))]
 fn export_job<'a>(found: &ArgMatches<'a>) -> Result<Job<'a>, ValueFault<'a>>
     requires database { HasSome (rows_of (found_of found.now)) (codes "db") }
     requires net { HasSome (rows_of (found_of found.now)) (codes "NET") }

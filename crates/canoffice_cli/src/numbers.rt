@@ -1,9 +1,10 @@
 //! The numbers that words of the command line give.
 ghost use Rattle.std.specs.Prelude.{◌≡◌, ◌≤◌, Some, None, IfOk, IfErr};
 ghost use Rattle.std.specs.Option.{option_map};
+ghost use Rattle.chart.specs.Word.{length_of};
 ghost use Rattle.canoffice_cli.specs.Numbers.{count_given, number_given, port_given, release_number};
 
-use chart::whole_between;
+use chart::{length_of, whole_between};
 
 /// The port where none is given.
 const PORT: u32 = 8089;
@@ -16,6 +17,13 @@ const COUNT_LIMIT: u32 = 1_000_000;
 
 /// The greatest number of a release.
 const RELEASE_LIMIT: u32 = 65_535;
+
+/// The length of a message that the word gives: 0 to 8192 bytes, as [`length_of`] of the crate `chart` reads it.
+pub(crate) fn length_given(word: &str) -> Option<u16>
+    ensures { result ≡ length_of word.now }
+{
+    length_of(word.as_bytes())
+}
 
 /// The number of a release, or 0 for the live sheet, that the word gives: digits, up to 65535.
 pub(crate) fn release_number(word: &str) -> Option<u32>

@@ -1,0 +1,122 @@
+//! What is said of messages that aren't clear.
+ghost use Rattle.std.specs.Prelude.{◌≡◌, ◌++◌, IfOk, codes, string_bytes};
+ghost use Rattle.dbc_advice.specs.Unclear.{bit_text, clash_text, message_text, name_at, reason_text};
+
+use crate::reasons::Reason;
+use bitlayout::Clash;
+use catalogue::{Message, Signal};
+use std::alloc::{AllocError, Global};
+
+/// The name of the signal at an index.
+fn name_at(signals: &[Signal], index: usize) -> &[u8]
+    ensures { result.now ≡ name_at signals.now index }
+{
+    match signals.get(index) {
+        Some(signal) => signal.name.as_bytes(),
+        None => &[],
+    }
+}
+
+/// The message's name, and its identifier in hexadecimal digits.
+fn message_text(alloc: Global, message: &Message) -> Result<Vec<u8>, AllocError>
+    ensures { IfOk result (λ text. text.items ≡ message_text message.now) }
+{
+    let number = message.ident.number();
+    let identifier = format!(in alloc; " (0x{number:X})")?;
+    let mut text = Vec::from_slice(alloc, b"message ")?;
+    text.extend_from_slice(message.name.as_bytes())?;
+    text.extend_from_slice(identifier.as_bytes())?;
+    Ok(text)
+}
+
+/// `bit N`, or bits past the payload.
+fn bit_text(alloc: Global, bit: Option<u32>) -> Result<String, AllocError>
+    ensures { IfOk result (λ text. string_bytes text ≡ bit_text bit) }
+{
+    match bit {
+        None => format!(in alloc; "bits past the payload"),
+        Some(bit) => format!(in alloc; "bit {bit}"),
+    }
+}
+
+/// What is said of a signal that leaves the payload.
+fn outside_text(
+    alloc: Global,
+    message: &Message,
+    bit: Option<u32>,
+    index: usize,
+) -> Result<Vec<u8>, AllocError>
+    ensures { IfOk result (λ text. text.items ≡ clash_text message.now bit (Clash.Outside index)) }
+{
+    let bytes = format!(in alloc; " is outside the {} bytes of ", message.length.bytes())?;
+    let mut text = bit_text(alloc, bit)?.into_bytes();
+    text.extend_from_slice(b" of signal ")?;
+    text.extend_from_slice(name_at(message.signals.as_slice(), index))?;
+    text.extend_from_slice(bytes.as_bytes())?;
+    text.extend_from_slice(&message_text(alloc, message)?)?;
+    Ok(text)
+}
+
+/// `signal`, the name of the signal at the index, these words, and the message.
+fn signal_text(
+    alloc: Global,
+    message: &Message,
+    index: usize,
+    words: &[u8],
+) -> Result<Vec<u8>, AllocError>
+    ensures { IfOk result (λ text. text.items ≡ codes "signal " ++ (name_at message.now.signals index ++ (words.now ++ message_text message.now))) }
+{
+    let mut text = Vec::from_slice(alloc, b"signal ")?;
+    text.extend_from_slice(name_at(message.signals.as_slice(), index))?;
+    text.extend_from_slice(words)?;
+    text.extend_from_slice(&message_text(alloc, message)?)?;
+    Ok(text)
+}
+
+/// What is said of two signals that share a bit.
+fn overlap_text(
+    alloc: Global,
+    message: &Message,
+    bit: Option<u32>,
+    earlier: usize,
+    later: usize,
+) -> Result<Vec<u8>, AllocError>
+    ensures { IfOk result (λ text. text.items ≡ clash_text message.now bit (Clash.Overlap earlier later)) }
+{
+    let signals = message.signals.as_slice();
+    let mut text = Vec::from_slice(alloc, b"signals ")?;
+    text.extend_from_slice(name_at(signals, earlier))?;
+    text.extend_from_slice(b" and ")?;
+    text.extend_from_slice(name_at(signals, later))?;
+    text.extend_from_slice(b" share ")?;
+    text.extend_from_slice(bit_text(alloc, bit)?.as_bytes())?;
+    text.extend_from_slice(b" in ")?;
+    text.extend_from_slice(&message_text(alloc, message)?)?;
+    Ok(text)
+}
+
+/// What is said of a reason why the message isn't clear: both signals' names and the first shared bit, or the first bit
+/// outside the payload; and the message's name and identifier, in hexadecimal digits. The error is out of memory.
+pub fn reason_text(
+    alloc: Global,
+    message: &Message,
+    reason: Reason,
+) -> Result<Vec<u8>, AllocError>
+    ensures { IfOk result (λ text. text.items ≡ reason_text message.now reason) }
+{
+    match reason.clash {
+        Clash::Outside(index) => outside_text(alloc, message, reason.bit, index),
+        Clash::TwoMultiplexors(index) => {
+            signal_text(alloc, message, index, b" is a second multiplexor of ")
+        }
+        Clash::NoMultiplexor(index) => signal_text(
+            alloc,
+            message,
+            index,
+            b" depends on a multiplexor, and no signal is marked M in ",
+        ),
+        Clash::Overlap { earlier, later } => {
+            overlap_text(alloc, message, reason.bit, earlier, later)
+        }
+    }
+}

@@ -25,7 +25,7 @@ abbrev pub shown_limit : ℕ
 shown_limit = 40
 
 abbrev pub shown : List ℕ → List ℕ
-shown bytes = map visible (take shown_limit bytes) ++ (if nat_lt shown_limit (length bytes) then codes ".." else [])
+shown bytes = if nat_lt shown_limit (length bytes) then map visible (take shown_limit bytes) ++ codes ".." else map visible bytes
 
 abbrev pub quoted : List ℕ → List ℕ
 quoted bytes = codes "'" ++ (shown bytes ++ codes "'")
@@ -34,7 +34,7 @@ abbrev pub found_text : Found → List ℕ
 found_text found.End = codes "the end of the file"
 found_text found.Quote = codes "a quote"
 found_text (found.Token bytes) = quoted bytes.now
-found_text (found.Byte b) = codes "the byte " ++ decimal b
+found_text (found.Byte b) = if nat_le 33 b && nat_le b 126 then quoted (b ∷ []) else codes "the byte " ++ decimal b
 
 -- ---- what may be there
 

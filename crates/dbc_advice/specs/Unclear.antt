@@ -22,14 +22,24 @@ abbrev pub bit_text : Option ℕ → List ℕ
 bit_text None = codes "bits past the payload"
 bit_text (Some bit) = codes "bit " ++ decimal bit
 
+abbrev pub outside_text : Message → List ℕ
+outside_text m = codes " is outside the " ++ (decimal m.length ++ (codes " bytes of " ++ message_text m))
+
+-- the names of two signals
+abbrev pub pair_text : List Signal → ℕ → ℕ → List ℕ
+pair_text signals j i = name_at signals j ++ (codes " and " ++ name_at signals i)
+
+abbrev pub share_text : Option ℕ → List ℕ
+share_text bit = codes " share " ++ (bit_text bit ++ codes " in ")
+
 abbrev pub clash_text : Message → Option ℕ → Clash → List ℕ
 clash_text m bit (Outside i) =
-    bit_text bit ++ (codes " of signal " ++ (name_at m.signals i ++ (codes " is outside the " ++ (decimal m.length ++ (codes " bytes of " ++ message_text m)))))
+    bit_text bit ++ (codes " of signal " ++ (name_at m.signals i ++ outside_text m))
 clash_text m bit (TwoMultiplexors i) = codes "signal " ++ (name_at m.signals i ++ (codes " is a second multiplexor of " ++ message_text m))
 clash_text m bit (NoMultiplexor i) =
     codes "signal " ++ (name_at m.signals i ++ (codes " depends on a multiplexor, and no signal is marked M in " ++ message_text m))
 clash_text m bit (Overlap j i) =
-    codes "signals " ++ (name_at m.signals j ++ (codes " and " ++ (name_at m.signals i ++ (codes " share " ++ (bit_text bit ++ (codes " in " ++ message_text m))))))
+    codes "signals " ++ (pair_text m.signals j i ++ (share_text bit ++ message_text m))
 
 abbrev pub reason_text : Message → Reason → List ℕ
 reason_text m reason = clash_text m reason.bit reason.clash

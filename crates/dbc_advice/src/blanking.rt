@@ -1,5 +1,5 @@
 //! Blanking lines of a text.
-ghost use Rattle.std.specs.Prelude.{◌≡◌, ◌≤◌, IfOk, length};
+ghost use Rattle.std.specs.Prelude.{◌≡◌, ◌≤◌, IfOk, length, map};
 ghost use Rattle.dbc_advice.specs.Blanked.{blank, blanked, blanked_between};
 
 use crate::lines::{line_end, line_start};
@@ -16,6 +16,13 @@ fn blank(byte: u8) -> u8
     }
 }
 
+/// The bytes, each of them blank.
+fn blanks(alloc: Global, bytes: &[u8]) -> Result<Vec<u8>, AllocError>
+    ensures { IfOk result (λ rest. rest.items ≡ map blank bytes.now) }
+{
+    bytes.iter().map(|byte| blank(*byte)).collect(alloc)
+}
+
 /// The text, where each byte from `start` up to `end` is blank.
 fn blanked_between(
     alloc: Global,
@@ -25,17 +32,16 @@ fn blanked_between(
 ) -> Result<Vec<u8>, AllocError>
     requires ordered { start ≤ end }
     requires within { end ≤ length text.now }
-    ensures { IfOk result (λ blanked. blanked.items ≡ blanked_between start end text.now) }
+    ensures { IfOk result (λ rest. rest.items ≡ blanked_between start end text.now) }
 {
-    let mut blanked = Vec::with_capacity(alloc, text.len())?;
-    blanked.extend_from_slice(&text[..start])?;
-    let spaces: Vec<u8> = text[start..end]
-        .iter()
-        .map(|byte| blank(*byte))
-        .collect(alloc)?;
-    blanked.extend_from_slice(&spaces)?;
-    blanked.extend_from_slice(&text[end..])?;
-    Ok(blanked)
+    let (before, _) = text.split_at(start);
+    let (front, after) = text.split_at(end);
+    let (_, lines) = front.split_at(start);
+    let spaces = blanks(alloc, lines)?;
+    let mut rest = Vec::from_slice(alloc, before)?;
+    rest.extend_from_slice(&spaces)?;
+    rest.extend_from_slice(after)?;
+    Ok(rest)
 }
 
 /// The text, where each byte of the lines from that of the offset `first` to that of the offset `last`, other than CR
@@ -48,7 +54,7 @@ pub fn blanked(
 ) -> Result<Vec<u8>, AllocError>
     requires ordered { first ≤ last }
     requires within { last ≤ length text.now }
-    ensures { IfOk result (λ blanked. blanked.items ≡ blanked first last text.now) }
+    ensures { IfOk result (λ rest. rest.items ≡ blanked first last text.now) }
 {
     let start = line_start(text, first);
     let end = line_end(text, last);

@@ -1,10 +1,10 @@
 //! What skipped statements cite.
-ghost use Rattle.std.specs.Prelude.{◌≡◌, ◌≤◌, IfOk, length};
+ghost use Rattle.std.specs.Prelude.{◌≡◌, ◌++◌, IfOk};
 ghost use Rattle.catalogue.specs.Named.{has_name};
 ghost use Rattle.catalogue.specs.Sheet.{node_name};
 ghost use Rattle.catalogue.specs.Signals.{signal_name};
 ghost use Rattle.std.specs.Option.{option_copied};
-ghost use Rattle.dbc_advice.specs.Citation.{cited_message, citation_text, has_signal, is_missing};
+ghost use Rattle.dbc_advice.specs.Citation.{cited_message, cited_text, citation_text, has_signal, is_missing};
 
 use catalogue::{Keyword, Message, Node, Sheet, Signal, TokenKind, whole_number};
 use dbc_lex::{Lexer, Token};
@@ -108,7 +108,7 @@ fn has_signal(sheet: &Sheet, number: &[u8], name: &[u8]) -> bool
 
 /// Whether the sheet has nothing that is cited so.
 pub fn is_missing(sheet: &Sheet, citation: Citation) -> bool
-    ensures { result ≡ is_missing sheet.now citation }
+    ensures { result ≡ is_missing sheet.now citation.entry }
 {
     match citation {
         Citation::Node(name) => !has_node(sheet.nodes(), name),
@@ -117,27 +117,36 @@ pub fn is_missing(sheet: &Sheet, citation: Citation) -> bool
     }
 }
 
-/// What is said of a citation of what isn't in the file. The error is out of memory.
-pub fn citation_text(alloc: Global, citation: Citation) -> Result<Vec<u8>, AllocError>
-    ensures { IfOk result (λ text. text.items ≡ citation_text citation) }
+/// A thing after the word for it.
+fn about(alloc: Global, word: &[u8], thing: &[u8]) -> Result<Vec<u8>, AllocError>
+    ensures { IfOk result (λ text. text.items ≡ word.now ++ thing.now) }
 {
-    let mut text = Vec::new(alloc);
+    let mut text = Vec::from_slice(alloc, word)?;
+    text.extend_from_slice(thing)?;
+    Ok(text)
+}
+
+/// What the statement is about.
+fn cited_text(alloc: Global, citation: Citation) -> Result<Vec<u8>, AllocError>
+    ensures { IfOk result (λ text. text.items ≡ cited_text citation.entry) }
+{
     match citation {
-        Citation::Node(name) => {
-            text.extend_from_slice(b"it is about node ")?;
-            text.extend_from_slice(name)?;
-        }
-        Citation::Message(number) => {
-            text.extend_from_slice(b"it is about message ")?;
-            text.extend_from_slice(number)?;
-        }
+        Citation::Node(name) => about(alloc, b"it is about node ", name),
+        Citation::Message(number) => about(alloc, b"it is about message ", number),
         Citation::Signal(number, name) => {
-            text.extend_from_slice(b"it is about signal ")?;
-            text.extend_from_slice(name)?;
+            let mut text = about(alloc, b"it is about signal ", name)?;
             text.extend_from_slice(b" of message ")?;
             text.extend_from_slice(number)?;
+            Ok(text)
         }
     }
+}
+
+/// What is said of a citation of what isn't in the file. The error is out of memory.
+pub fn citation_text(alloc: Global, citation: Citation) -> Result<Vec<u8>, AllocError>
+    ensures { IfOk result (λ text. text.items ≡ citation_text citation.entry) }
+{
+    let mut text = cited_text(alloc, citation)?;
     text.extend_from_slice(b", which isn't in the file")?;
     Ok(text)
 }

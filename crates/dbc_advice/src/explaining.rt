@@ -2,13 +2,13 @@
 ghost use Rattle.std.specs.Prelude.{◌≡◌, ◌≤◌, IfOk, length};
 
 use crate::found::found_at;
-use crate::left_out::left_out;
+use crate::leaving::left_out;
 use crate::notes::{Source, add_line};
 use crate::pieces::line_keyword;
 use crate::lines::{line_end, line_start};
 use crate::places::{Heading, headings, message_place, signal_place};
 use crate::reasons::{Reason, reasons_of};
-use crate::sentence::{code_label, sentence};
+use crate::sentences::{code_label, sentence};
 use crate::telling::{Ending, Told, told_faults};
 use crate::unclear::reason_text;
 use bitlayout::Clash;

@@ -79,7 +79,7 @@ fn keyword_line_between(text: &[u8], start: usize, end: usize) -> Option<usize>
 }
 
 /// A text in quotes that goes on over a line that begins with a keyword: its closing quote is likely missing.
-#[derive(Clone, Copy, Debug, PartialEq, Eq)]
+#[derive(Clone, Copy)]
 struct Runaway {
     /// The offset of its opening quote.
     quote: usize,

@@ -1,5 +1,5 @@
 //! What is found at the offset of a fault.
-ghost use Rattle.std.specs.Prelude.{◌≡◌, ◌≤◌, IfOk, length};
+ghost use Rattle.std.specs.Prelude.{◌≡◌, ◌≤◌, IfOk, length, map};
 ghost use Rattle.dbc_advice.specs.Sentence.{found_text, quoted, shown, visible};
 
 use dbc_lex::{Lexer, ReadCode};
@@ -12,9 +12,9 @@ pub enum Found<'a> {
     End,
     /// The opening quote of a text that isn't closed.
     Quote,
-    /// A token, or a byte that can be shown.
+    /// A token.
     Token(&'a [u8]),
-    /// Another byte with which no token begins.
+    /// A byte with which no token begins.
     Byte(u8),
 }
 
@@ -32,16 +32,25 @@ fn visible(byte: u8) -> u8
     }
 }
 
-/// The first bytes, as they are shown.
+/// The bytes, as they are shown.
+fn all_shown(alloc: Global, bytes: &[u8]) -> Result<Vec<u8>, AllocError>
+    ensures { IfOk result (λ text. text.items ≡ map visible bytes.now) }
+{
+    bytes.iter().map(|byte| visible(*byte)).collect(alloc)
+}
+
+/// The bytes, as they are shown, or the first of them.
 fn shown(alloc: Global, bytes: &[u8]) -> Result<Vec<u8>, AllocError>
     ensures { IfOk result (λ text. text.items ≡ shown bytes.now) }
 {
-    let first = &bytes[..bytes.len().min(SHOWN)];
-    let mut text: Vec<u8> = first.iter().map(|byte| visible(*byte)).collect(alloc)?;
     if bytes.len() > SHOWN {
+        let (first, _) = bytes.split_at(SHOWN);
+        let mut text = all_shown(alloc, first)?;
         text.extend_from_slice(b"..")?;
+        Ok(text)
+    } else {
+        all_shown(alloc, bytes)
     }
-    Ok(text)
 }
 
 /// The bytes in single quotes.
@@ -56,12 +65,13 @@ pub(crate) fn quoted(alloc: Global, bytes: &[u8]) -> Result<Vec<u8>, AllocError>
 
 /// How a sentence says it.
 pub(crate) fn found_text(alloc: Global, found: Found) -> Result<Vec<u8>, AllocError>
-    ensures { IfOk result (λ text. text.items ≡ found_text found) }
+    ensures { IfOk result (λ text. text.items ≡ found_text found.entry) }
 {
     match found {
         Found::End => Vec::from_slice(alloc, b"the end of the file"),
         Found::Quote => Vec::from_slice(alloc, b"a quote"),
         Found::Token(bytes) => quoted(alloc, bytes),
+        Found::Byte(byte @ 33..=126) => quoted(alloc, &[byte]),
         Found::Byte(byte) => {
             let text = format!(in alloc; "the byte {byte}")?;
             Ok(text.into_bytes())
@@ -77,17 +87,8 @@ pub fn found_at(text: &[u8], at: usize) -> Found<'_>
         Ok(Some(token)) => Found::Token(token.text),
         Ok(None) => Found::End,
         Err(fault) => match fault.code {
-            ReadCode::StrayByte => stray(&text[at..]),
+            ReadCode::StrayByte => Found::Byte(text.get(at).copied().unwrap_or(0)),
             _ => Found::Quote,
         },
-    }
-}
-
-/// The first byte of the bytes.
-fn stray(bytes: &[u8]) -> Found<'_> {
-    match bytes {
-        [byte @ 33..=126, ..] => Found::Token(&bytes[..1]),
-        [byte, ..] => Found::Byte(*byte),
-        [] => Found::End,
     }
 }

@@ -1,5 +1,5 @@
 //! Lines of a text. A line ends before its LF, or at the text's end.
-ghost use Rattle.std.specs.Prelude.{◌≡◌, ◌≤◌, length, take, drop};
+ghost use Rattle.std.specs.Prelude.{◌≡◌, ◌+◌, ◌≤◌, length, take, drop};
 ghost use Rattle.std.specs.List.{prefix_len, suffix_len};
 ghost use Rattle.dbc_advice.specs.Lines.{in_line, line_end, line_start};
 
@@ -29,10 +29,8 @@ fn bytes_after(text: &[u8], at: usize) -> usize
     ensures is { result ≡ prefix_len in_line (drop at text.now) }
     ensures within { at + result ≤ length text.now }
 {
-    text[at..]
-        .iter()
-        .take_while(|byte| in_line(**byte))
-        .count()
+    let (_, rest) = text.split_at(at);
+    rest.iter().take_while(|byte| in_line(**byte)).count()
 }
 
 /// The offset of the first byte of the line.

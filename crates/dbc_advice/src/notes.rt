@@ -4,11 +4,11 @@ ghost use Rattle.dbc_advice.specs.Position.{position_at};
 ghost use Rattle.dbc_advice.specs.ToldLine.{told_line};
 
 use crate::position::position_of;
-use crate::sentence::told_line;
+use crate::sentences::told_line;
 use std::alloc::{AllocError, Global};
 
 /// A file, by its name and its bytes.
-#[derive(Clone, Copy, Debug, PartialEq, Eq)]
+#[derive(Clone, Copy)]
 pub struct Source<'a> {
     /// How the lines name it.
     pub name: &'a [u8],
@@ -26,7 +26,7 @@ pub(crate) fn add_line(
     sentence: &[u8],
 ) -> Result<(), AllocError>
     requires { at ≤ length source.text.now }
-    ensures { OnOk result (lines.new.items ≡ lines.old.items ++ told_line source.name.now (position_at source.text.now at) label.now sentence.now) }
+    ensures { OnOk result (lines.new.items ≡ lines.old.items ++ told_line source.entry.name.now (position_at source.entry.text.now at) label.now sentence.now) }
 {
     let position = position_of(source.text, at);
     let line = told_line(alloc, source.name, position, label, sentence)?;

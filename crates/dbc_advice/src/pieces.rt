@@ -20,10 +20,16 @@ pub(crate) fn goes_on(alloc: Global, text: &[u8]) -> Result<bool, AllocError>
     ensures { IfOk result (IsGoingOn text.now) }
 {
     match read(alloc, text) {
-        Ok(_) => Ok(true),
+        Ok(_reading) => Ok(true),
         Err(fault) => match fault.code {
             ReadCode::Memory => Err(AllocError),
-            _ => Ok(fault.at >= text.len()),
+            _ => {
+                if fault.at < text.len() {
+                    Ok(false)
+                } else {
+                    Ok(true)
+                }
+            }
         },
     }
 }

@@ -6,7 +6,7 @@ use dbc_lex::{Lexer, Token};
 use std::alloc::{AllocError, Global};
 
 /// Where a message is.
-#[derive(Clone, Copy, Debug, PartialEq, Eq)]
+#[derive(Clone, Copy)]
 pub(crate) struct Heading {
     /// Its DBC number.
     pub number: u32,
@@ -15,7 +15,7 @@ pub(crate) struct Heading {
 }
 
 /// What of a heading has come so far.
-#[derive(Clone, Copy, Debug, PartialEq, Eq)]
+#[derive(Clone, Copy)]
 enum Seen {
     /// Nothing.
     Nothing,

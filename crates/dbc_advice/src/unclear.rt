@@ -1,6 +1,6 @@
 //! What is said of messages that aren't clear.
 ghost use Rattle.std.specs.Prelude.{◌≡◌, ◌++◌, IfOk, codes, string_bytes};
-ghost use Rattle.dbc_advice.specs.Unclear.{bit_text, clash_text, message_text, name_at, reason_text};
+ghost use Rattle.dbc_advice.specs.Unclear.{bit_text, clash_text, message_text, name_at, outside_text, pair_text, reason_text, share_text};
 
 use crate::reasons::Reason;
 use bitlayout::Clash;
@@ -39,8 +39,19 @@ fn bit_text(alloc: Global, bit: Option<u32>) -> Result<String, AllocError>
     }
 }
 
+/// That something is outside the payload of the message.
+fn outside_text(alloc: Global, message: &Message) -> Result<Vec<u8>, AllocError>
+    ensures { IfOk result (λ text. text.items ≡ outside_text message.now) }
+{
+    let bytes = message.length.bytes();
+    let words = format!(in alloc; " is outside the {bytes} bytes of ")?;
+    let mut text = words.into_bytes();
+    text.extend_from_slice(&message_text(alloc, message)?)?;
+    Ok(text)
+}
+
 /// What is said of a signal that leaves the payload.
-fn outside_text(
+fn leaving_text(
     alloc: Global,
     message: &Message,
     bit: Option<u32>,
@@ -48,12 +59,10 @@ fn outside_text(
 ) -> Result<Vec<u8>, AllocError>
     ensures { IfOk result (λ text. text.items ≡ clash_text message.now bit (Clash.Outside index)) }
 {
-    let bytes = format!(in alloc; " is outside the {} bytes of ", message.length.bytes())?;
     let mut text = bit_text(alloc, bit)?.into_bytes();
     text.extend_from_slice(b" of signal ")?;
     text.extend_from_slice(name_at(message.signals.as_slice(), index))?;
-    text.extend_from_slice(bytes.as_bytes())?;
-    text.extend_from_slice(&message_text(alloc, message)?)?;
+    text.extend_from_slice(&outside_text(alloc, message)?)?;
     Ok(text)
 }
 
@@ -73,6 +82,31 @@ fn signal_text(
     Ok(text)
 }
 
+/// The names of two signals.
+fn pair_text(
+    alloc: Global,
+    signals: &[Signal],
+    earlier: usize,
+    later: usize,
+) -> Result<Vec<u8>, AllocError>
+    ensures { IfOk result (λ text. text.items ≡ pair_text signals.now earlier later) }
+{
+    let mut text = Vec::from_slice(alloc, name_at(signals, earlier))?;
+    text.extend_from_slice(b" and ")?;
+    text.extend_from_slice(name_at(signals, later))?;
+    Ok(text)
+}
+
+/// That a bit is shared in a message.
+fn share_text(alloc: Global, bit: Option<u32>) -> Result<Vec<u8>, AllocError>
+    ensures { IfOk result (λ text. text.items ≡ share_text bit) }
+{
+    let mut text = Vec::from_slice(alloc, b" share ")?;
+    text.extend_from_slice(bit_text(alloc, bit)?.as_bytes())?;
+    text.extend_from_slice(b" in ")?;
+    Ok(text)
+}
+
 /// What is said of two signals that share a bit.
 fn overlap_text(
     alloc: Global,
@@ -83,14 +117,10 @@ fn overlap_text(
 ) -> Result<Vec<u8>, AllocError>
     ensures { IfOk result (λ text. text.items ≡ clash_text message.now bit (Clash.Overlap earlier later)) }
 {
-    let signals = message.signals.as_slice();
+    let pair = pair_text(alloc, message.signals.as_slice(), earlier, later)?;
     let mut text = Vec::from_slice(alloc, b"signals ")?;
-    text.extend_from_slice(name_at(signals, earlier))?;
-    text.extend_from_slice(b" and ")?;
-    text.extend_from_slice(name_at(signals, later))?;
-    text.extend_from_slice(b" share ")?;
-    text.extend_from_slice(bit_text(alloc, bit)?.as_bytes())?;
-    text.extend_from_slice(b" in ")?;
+    text.extend_from_slice(&pair)?;
+    text.extend_from_slice(&share_text(alloc, bit)?)?;
     text.extend_from_slice(&message_text(alloc, message)?)?;
     Ok(text)
 }
@@ -105,7 +135,7 @@ pub fn reason_text(
     ensures { IfOk result (λ text. text.items ≡ reason_text message.now reason) }
 {
     match reason.clash {
-        Clash::Outside(index) => outside_text(alloc, message, reason.bit, index),
+        Clash::Outside(index) => leaving_text(alloc, message, reason.bit, index),
         Clash::TwoMultiplexors(index) => {
             signal_text(alloc, message, index, b" is a second multiplexor of ")
         }

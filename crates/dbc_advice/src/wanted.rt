@@ -1,19 +1,45 @@
 //! What may be where a fault is.
-ghost use Rattle.std.specs.Prelude.{◌≡◌, ◌++◌, All, IfOk, IsTrue, codes};
-ghost use Rattle.dbc_advice.specs.MayBeThere.{MayBeThere};
+ghost use Rattle.std.specs.Prelude.{◌≡◌, All, IfOk};
+ghost use Rattle.std.specs.Bool.{OnTrue};
+ghost use Rattle.dbc_advice.specs.GoesOn.{IsGoingOn};
+ghost use Rattle.dbc_advice.specs.MayBeThere.{MayBeThere, continued};
 
 use crate::candidate::{CANDIDATES, Candidate};
 use crate::pieces::goes_on;
 use std::alloc::{AllocError, Global};
 
-/// Whether a token of the kind may come after the text.
-fn may_be_there(alloc: Global, before: &[u8], candidate: Candidate) -> Result<bool, AllocError>
-    ensures { IfOk result (λ may. IsTrue may → MayBeThere before.now candidate) }
+/// The text with a space and a token of the kind after it.
+fn continued(alloc: Global, before: &[u8], candidate: Candidate) -> Result<Vec<u8>, AllocError>
+    ensures { IfOk result (λ text. text.items ≡ continued before.now candidate) }
 {
     let mut text = Vec::from_slice(alloc, before)?;
-    text.push(b' ')?;
+    text.extend_from_slice(b" ")?;
     text.extend_from_slice(candidate.sample().as_bytes())?;
+    Ok(text)
+}
+
+/// Whether a token of the kind may come after the text.
+fn may_be_there(alloc: Global, before: &[u8], candidate: Candidate) -> Result<bool, AllocError>
+    ensures { IfOk result (IsGoingOn (continued before.now candidate)) }
+{
+    let text = continued(alloc, before, candidate)?;
     goes_on(alloc, &text)
+}
+
+/// Whether a token of the kind may come after the text, and none of these kinds tells that already.
+fn is_wanted(
+    alloc: Global,
+    before: &[u8],
+    candidate: Candidate,
+    wanted: &[Candidate],
+) -> Result<bool, AllocError>
+    ensures { IfOk result (λ is. OnTrue is (MayBeThere before.now candidate)) }
+{
+    if is_told(candidate, wanted) {
+        Ok(false)
+    } else {
+        may_be_there(alloc, before, candidate)
+    }
 }
 
 /// Whether one of these tells the kind too.
@@ -28,7 +54,8 @@ pub fn wanted_after(alloc: Global, before: &[u8]) -> Result<Vec<Candidate>, Allo
 {
     let mut wanted = Vec::new(alloc);
     for candidate in CANDIDATES.iter() {
-        if !is_told(*candidate, &wanted) && may_be_there(alloc, before, *candidate)? {
+        let is = is_wanted(alloc, before, *candidate, &wanted)?;
+        if is {
             wanted.push(*candidate)?;
         }
     }

@@ -129,7 +129,7 @@ pub fn sentence(
     statement: Option<Keyword>,
     hint: Option<Hint>,
 ) -> Result<Vec<u8>, AllocError>
-    ensures { IfOk result (λ text. text.items ≡ sentence_of code found wanted.now statement hint) }
+    ensures { IfOk result (λ text. text.items ≡ sentence_of code found.entry wanted.now statement hint) }
 {
     let mut text = Vec::from_slice(alloc, b"found ")?;
     text.extend_from_slice(&found_text(alloc, found)?)?;

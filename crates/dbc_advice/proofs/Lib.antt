@@ -1,1 +1,2 @@
 pub mod ToldMore
+pub mod FaultLines

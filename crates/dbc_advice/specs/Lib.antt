@@ -13,3 +13,4 @@ pub mod Reasons
 pub mod Unclear
 pub mod Citation
 pub mod LeftOut
+pub mod Explained

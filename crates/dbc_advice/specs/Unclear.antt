@@ -23,7 +23,7 @@ bit_text None = codes "bits past the payload"
 bit_text (Some bit) = codes "bit " ++ decimal bit
 
 abbrev pub outside_text : Message → List ℕ
-outside_text m = codes " is outside the " ++ (decimal m.length ++ (codes " bytes of " ++ message_text m))
+outside_text m = (codes " is outside the " ++ (decimal m.length ++ codes " bytes of ")) ++ message_text m
 
 -- the names of two signals
 abbrev pub pair_text : List Signal → ℕ → ℕ → List ℕ

@@ -1,11 +1,12 @@
 //! What skipped statements cite.
-ghost use Rattle.std.specs.Prelude.{◌≡◌, ◌++◌, IfOk};
+ghost use Rattle.std.specs.Prelude.{◌≡◌, IfOk};
 ghost use Rattle.catalogue.specs.Named.{has_name};
 ghost use Rattle.catalogue.specs.Sheet.{node_name};
 ghost use Rattle.catalogue.specs.Signals.{signal_name};
 ghost use Rattle.std.specs.Option.{option_copied};
 ghost use Rattle.dbc_advice.specs.Citation.{cited_message, cited_text, citation_text, has_signal, is_missing};
 
+use crate::joined::{three, two};
 use catalogue::{Keyword, Message, Node, Sheet, Signal, TokenKind, whole_number};
 use dbc_lex::{Lexer, Token};
 use std::alloc::{AllocError, Global};
@@ -117,27 +118,16 @@ pub fn is_missing(sheet: &Sheet, citation: Citation) -> bool
     }
 }
 
-/// A thing after the word for it.
-fn about(alloc: Global, word: &[u8], thing: &[u8]) -> Result<Vec<u8>, AllocError>
-    ensures { IfOk result (λ text. text.items ≡ word.now ++ thing.now) }
-{
-    let mut text = Vec::from_slice(alloc, word)?;
-    text.extend_from_slice(thing)?;
-    Ok(text)
-}
-
 /// What the statement is about.
 fn cited_text(alloc: Global, citation: Citation) -> Result<Vec<u8>, AllocError>
     ensures { IfOk result (λ text. text.items ≡ cited_text citation.entry) }
 {
     match citation {
-        Citation::Node(name) => about(alloc, b"it is about node ", name),
-        Citation::Message(number) => about(alloc, b"it is about message ", number),
+        Citation::Node(name) => two(alloc, b"it is about node ", name),
+        Citation::Message(number) => two(alloc, b"it is about message ", number),
         Citation::Signal(number, name) => {
-            let mut text = about(alloc, b"it is about signal ", name)?;
-            text.extend_from_slice(b" of message ")?;
-            text.extend_from_slice(number)?;
-            Ok(text)
+            let message = two(alloc, b" of message ", number)?;
+            three(alloc, b"it is about signal ", name, &message)
         }
     }
 }

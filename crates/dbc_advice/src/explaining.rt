@@ -1,5 +1,6 @@
 //! All that is told of a file.
 ghost use Rattle.std.specs.Prelude.{◌≡◌, ◌≤◌, IfOk, length};
+ghost use Rattle.dbc_advice.specs.Explained.{AreFaultLines, IsExplained, IsFaultLine, count_line, ending_text};
 
 use crate::found::found_at;
 use crate::leaving::left_out;
@@ -8,8 +9,9 @@ use crate::pieces::line_keyword;
 use crate::lines::{line_end, line_start};
 use crate::places::{Heading, headings, message_place, signal_place};
 use crate::reasons::{Reason, reasons_of};
-use crate::sentences::{code_label, sentence};
-use crate::telling::{Ending, Told, told_faults};
+use crate::position::position_of;
+use crate::sentences::{code_label, sentence, told_line};
+use crate::telling::{Ending, Telling, Told, told_faults};
 use crate::unclear::reason_text;
 use bitlayout::Clash;
 use catalogue::{Keyword, Message, Sheet, SheetCode};
@@ -26,13 +28,10 @@ fn statement_of(text: &[u8], at: usize) -> Option<Keyword>
     line_keyword(&text[line_start(text, at)..line_end(text, at)])
 }
 
-/// Adds the line of a fault.
-fn add_fault(
-    alloc: Global,
-    lines: &mut Vec<u8>,
-    source: Source,
-    told: &Told,
-) -> Result<(), AllocError> {
+/// The line of a fault.
+fn fault_line(alloc: Global, source: Source, told: &Told) -> Result<Vec<u8>, AllocError>
+    ensures { IfOk result (λ line. IsFaultLine source.entry.name.now source.entry.text.now told.now line.items) }
+{
     let at = told.fault.at.min(source.text.len());
     let first = told.lines.first.min(source.text.len());
     let code = told.fault.code;
@@ -40,26 +39,47 @@ fn add_fault(
     let found = found_at(source.text, at);
     let statement = statement_of(source.text, first);
     let words = sentence(alloc, code, found, &told.wanted, statement, told.hint)?;
-    add_line(alloc, lines, source, at, &label, &words)
+    told_line(alloc, source.name, position_of(source.text, at), &label, &words)
 }
 
-/// The last line: how many faults are told, and why no more.
-fn add_count(
-    alloc: Global,
-    lines: &mut Vec<u8>,
-    source: Source,
-    count: usize,
-    ending: &Ending,
-) -> Result<(), AllocError> {
-    let rest = match ending {
+/// The lines of the faults, in order.
+fn fault_lines(alloc: Global, source: Source, told: &[Told]) -> Result<Vec<u8>, AllocError>
+    ensures { IfOk result (λ lines. AreFaultLines source.entry.name.now source.entry.text.now told.now lines.items) }
+{
+    let mut lines = Vec::new(alloc);
+    for one in told {
+        let line = fault_line(alloc, source, one)?;
+        lines.extend_from_slice(&line)?;
+    }
+    Ok(lines)
+}
+
+/// Why no more faults are told.
+fn ending_text(ending: &Ending) -> &'static str
+    ensures { result.now ≡ ending_text ending.now }
+{
+    match ending {
         Ending::Reads(_) => "the rest reads",
         Ending::Many => "there may be more",
         Ending::Long => "the file is too long to look for more",
         Ending::Unchanged => "no more can be looked for",
-    };
-    let text = format!(in alloc; ": {count} told, {rest}\n")?;
-    lines.extend_from_slice(source.name)?;
-    lines.extend_from_slice(text.as_bytes())
+    }
+}
+
+/// The last line: how many faults are told, and why no more.
+fn count_line(
+    alloc: Global,
+    file: &[u8],
+    count: usize,
+    ending: &Ending,
+) -> Result<Vec<u8>, AllocError>
+    ensures { IfOk result (λ line. line.items ≡ count_line file.now count ending.now) }
+{
+    let rest = ending_text(ending);
+    let words = format!(in alloc; ": {count} told, {rest}\n")?;
+    let mut line = Vec::from_slice(alloc, file)?;
+    line.extend_from_slice(words.as_bytes())?;
+    Ok(line)
 }
 
 /// The index of the signal that the clash is told at.
@@ -134,22 +154,26 @@ fn said_of_sheet(alloc: Global, source: Source, reading: &Reading) -> Result<Vec
     Ok(lines)
 }
 
+/// What is said after the faults: of a file that reads what is said of its sheet, and else how many faults are told.
+fn rest_of(alloc: Global, source: Source, telling: &Telling) -> Result<Vec<u8>, AllocError> {
+    let count = telling.told.len();
+    match &telling.ending {
+        Ending::Reads(reading) if count == 0 => said_of_sheet(alloc, source, reading),
+        ending => count_line(alloc, source.name, count, ending),
+    }
+}
+
 /// All that is told of a DBC file beside what is answered. The error is out of memory.
 ///
 /// Of one that can't be read, a line for each fault of [`told_faults`], and a last one with their count. Of one that
-/// reads, a line for each reason why a message isn't clear, at most [`CLASHES_TOLD`], and what [`left_out`] says.
-pub fn explained(alloc: Global, source: Source) -> Result<Vec<u8>, AllocError> {
+/// reads, a line for each reason why a message isn't clear, at most [`CLASHES_TOLD`], and what
+/// [`left_out`](crate::left_out) says.
+pub fn explained(alloc: Global, source: Source) -> Result<Vec<u8>, AllocError>
+    ensures { IfOk result (λ out. IsExplained source.entry.name.now source.entry.text.now out.items) }
+{
     let telling = told_faults(alloc, source.text)?;
-    if telling.told.is_empty() {
-        match &telling.ending {
-            Ending::Reads(reading) => return said_of_sheet(alloc, source, reading),
-            _ => {}
-        }
-    }
-    let mut lines = Vec::new(alloc);
-    for told in telling.told.iter() {
-        add_fault(alloc, &mut lines, source, told)?;
-    }
-    add_count(alloc, &mut lines, source, telling.told.len(), &telling.ending)?;
+    let mut lines = fault_lines(alloc, source, &telling.told)?;
+    let rest = rest_of(alloc, source, &telling)?;
+    lines.extend_from_slice(&rest)?;
     Ok(lines)
 }

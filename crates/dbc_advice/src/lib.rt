@@ -9,6 +9,7 @@ mod explaining;
 mod faulty_lines;
 mod found;
 mod hint;
+mod joined;
 mod leaving;
 mod lines;
 mod notes;

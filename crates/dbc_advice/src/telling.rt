@@ -1,5 +1,5 @@
 //! The faults of a text, one after the other.
-ghost use Rattle.std.specs.Prelude.{◌<◌, ◌≤◌, ◌*◌, ◌↔◌, All, IfOk, IsTrue, length};
+ghost use Rattle.std.specs.Prelude.{◌≡◌, ◌<◌, ◌≤◌, ◌*◌, ◌↔◌, All, IfOk, IsTrue, length};
 ghost use Rattle.dbc_advice.specs.FaultyLines.{AreLines};
 ghost use Rattle.dbc_advice.specs.MayBeThere.{MayBeThere};
 ghost use Rattle.dbc_advice.specs.Pieces.{statement_before};
@@ -67,6 +67,20 @@ enum Next {
 /// Above this many bytes of a statement, nothing is asked of what may come after them.
 const LONG_STATEMENT: usize = 65_536;
 
+/// The text from the line of the offset `first` up to the offset `at`, as a text of its own.
+fn statement_before(
+    alloc: Global,
+    text: &[u8],
+    first: usize,
+    at: usize,
+) -> Result<Vec<u8>, AllocError>
+    requires ordered { first ≤ at }
+    requires within { at ≤ length text.now }
+    ensures { IfOk result (λ before. before.items ≡ statement_before text.now first at) }
+{
+    alone(alloc, &text[line_start(text, first)..at])
+}
+
 /// What may be at the fault's offset, after the beginning of these lines.
 fn wanted_at(
     alloc: Global,
@@ -78,10 +92,10 @@ fn wanted_at(
     requires at { fault.at ≤ length text.now }
     ensures { IfOk result (λ wanted. All (MayBeThere (statement_before text.now lines.first fault.at)) wanted.items) }
 {
-    let piece = &text[line_start(text, lines.first)..fault.at];
     match fault.code {
-        ReadCode::Unexpected if piece.len() <= LONG_STATEMENT => {
-            wanted_after(alloc, &alone(alloc, piece)?)
+        ReadCode::Unexpected if fault.at - lines.first <= LONG_STATEMENT => {
+            let before = statement_before(alloc, text, lines.first, fault.at)?;
+            wanted_after(alloc, &before)
         }
         _ => Ok(Vec::new(alloc)),
     }
@@ -145,7 +159,8 @@ pub fn told_faults(alloc: Global, source: &[u8]) -> Result<Telling, AllocError>
                 let Lines { first, last } = fault.lines;
                 let rest = blanked(alloc, &text, first, last)?;
                 told.push(fault)?;
-                if rest == text {
+                let same = rest == text;
+                if same {
                     let ending = Ending::Unchanged;
                     return Ok(Telling { told, ending });
                 }

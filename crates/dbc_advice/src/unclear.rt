@@ -2,6 +2,7 @@
 ghost use Rattle.std.specs.Prelude.{◌≡◌, ◌++◌, IfOk, codes, string_bytes};
 ghost use Rattle.dbc_advice.specs.Unclear.{bit_text, clash_text, message_text, name_at, outside_text, pair_text, reason_text, share_text};
 
+use crate::joined::{three, two};
 use crate::reasons::Reason;
 use bitlayout::Clash;
 use catalogue::{Message, Signal};
@@ -45,7 +46,7 @@ fn outside_text(alloc: Global, message: &Message) -> Result<Vec<u8>, AllocError>
 {
     let bytes = message.length.bytes();
     let words = format!(in alloc; " is outside the {bytes} bytes of ")?;
-    let mut text = words.into_bytes();
+    let mut text = Vec::from_slice(alloc, words.as_bytes())?;
     text.extend_from_slice(&message_text(alloc, message)?)?;
     Ok(text)
 }
@@ -59,11 +60,11 @@ fn leaving_text(
 ) -> Result<Vec<u8>, AllocError>
     ensures { IfOk result (λ text. text.items ≡ clash_text message.now bit (Clash.Outside index)) }
 {
-    let mut text = bit_text(alloc, bit)?.into_bytes();
-    text.extend_from_slice(b" of signal ")?;
-    text.extend_from_slice(name_at(message.signals.as_slice(), index))?;
-    text.extend_from_slice(&outside_text(alloc, message)?)?;
-    Ok(text)
+    let bit = bit_text(alloc, bit)?;
+    let outside = outside_text(alloc, message)?;
+    let name = name_at(message.signals.as_slice(), index);
+    let rest = three(alloc, b" of signal ", name, &outside)?;
+    two(alloc, bit.as_bytes(), &rest)
 }
 
 /// `signal`, the name of the signal at the index, these words, and the message.

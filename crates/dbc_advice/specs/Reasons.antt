@@ -1,10 +1,9 @@
 -- Why the signals of a message do not fit together: all reasons, each with a bit.
-use Rattle.std.specs.Prelude.{◌≡◌, ◌≤◌, ◌⊎◌, ◌==◌, ◌&&◌, ℕ, ◌+◌, ◌*◌, ◌-◌, Bool, not, List, [], ◌∷◌, ◌++◌, length, take, drop, find, Option, Some, None, if◌then◌else◌}
+use Rattle.std.specs.Prelude.{◌≡◌, ◌≤◌, ◌⊎◌, ◌&&◌, ℕ, ◌*◌, ◌-◌, Bool, not, List, [], ◌∷◌, ◌++◌, length, take, drop, find, Option, None, if◌then◌else◌}
 use Rattle.std.specs.List.{enumerate_from, flat_map, range_with_len}
 use Rattle.bitlayout.specs.Bits.{is_bit, is_inside}
 use Rattle.bitlayout.specs.Clash.{collide, has_multiplexor}
 use Rattle.bitlayout.specs.Mux.{is_under}
-use Rattle.bitlayout.specs.declared.clash.Clash.{Clash}
 use Rattle.bitlayout.specs.declared.clash.Clash.TheVariants.{NoMultiplexor, Outside, Overlap}
 use Rattle.bitlayout.specs.declared.layout.Layout.{Layout}
 use Rattle.bitlayout.specs.declared.place.Place.{Place}

@@ -4,12 +4,12 @@ ghost use Rattle.dbc_advice.specs.Explained.{AreFaultLines, IsExplained, IsFault
 
 use crate::found::found_at;
 use crate::leaving::left_out;
+use crate::lines::{line_end, line_start};
 use crate::notes::{Source, add_line};
 use crate::pieces::line_keyword;
-use crate::lines::{line_end, line_start};
 use crate::places::{Heading, headings, message_place, signal_place};
-use crate::reasons::{Reason, reasons_of};
 use crate::position::position_of;
+use crate::reasons::{Reason, reasons_of};
 use crate::sentences::{code_label, sentence, told_line};
 use crate::telling::{Ending, Telling, Told, told_faults};
 use crate::unclear::reason_text;
@@ -39,7 +39,13 @@ fn fault_line(alloc: Global, source: Source, told: &Told) -> Result<Vec<u8>, All
     let found = found_at(source.text, at);
     let statement = statement_of(source.text, first);
     let words = sentence(alloc, code, found, &told.wanted, statement, told.hint)?;
-    told_line(alloc, source.name, position_of(source.text, at), &label, &words)
+    told_line(
+        alloc,
+        source.name,
+        position_of(source.text, at),
+        &label,
+        &words,
+    )
 }
 
 /// The lines of the faults, in order.
@@ -93,12 +99,7 @@ fn signal_index(clash: Clash) -> usize {
 }
 
 /// The offset of the signal that the reason is told at.
-fn reason_place(
-    text: &[u8],
-    headings: &[Heading],
-    message: &Message,
-    reason: Reason,
-) -> usize
+fn reason_place(text: &[u8], headings: &[Heading], message: &Message, reason: Reason) -> usize
     ensures { result ≤ length text.now }
 {
     let from = message_place(headings, message.number()).min(text.len());

@@ -133,12 +133,7 @@ fn runaway_before(text: &[u8], fault: ReadFault) -> Option<Runaway>
 
 /// Whether the lines from `start` up to the line of the offset `at` read by themselves, and nothing of that line comes
 /// before it.
-fn begins_anew(
-    alloc: Global,
-    text: &[u8],
-    start: usize,
-    at: usize,
-) -> Result<bool, AllocError>
+fn begins_anew(alloc: Global, text: &[u8], start: usize, at: usize) -> Result<bool, AllocError>
     requires { at ≤ length text.now }
 {
     let line = line_start(text, at);

@@ -95,8 +95,7 @@ pub(crate) fn hint_for(text: &[u8], fault: ReadFault, lines: Lines) -> Option<Hi
             Some(Hint::Hexadecimal)
         }
         ReadCode::Unexpected
-            if lines.first <= fault.at && is_signal_alone(text, lines.first, fault.at) =>
-        {
+            if lines.first <= fault.at && is_signal_alone(text, lines.first, fault.at) => {
             Some(Hint::SignalAlone)
         }
         _ => None,
@@ -109,7 +108,9 @@ pub(crate) fn hint_text(alloc: Global, hint: Hint) -> Result<String, AllocError>
 {
     match hint {
         Hint::ByteOrderMark => {
-            format!(in alloc; "; the file begins with a byte order mark: save it as UTF-8 without one")
+            format!(in alloc;
+                "; the file begins with a byte order mark: save it as UTF-8 without one"
+            )
         }
         Hint::Utf16 => {
             format!(in alloc; "; the file is UTF-16: save it as UTF-8 without a byte order mark")
@@ -117,12 +118,8 @@ pub(crate) fn hint_text(alloc: Global, hint: Hint) -> Result<String, AllocError>
         Hint::Comment => {
             format!(in alloc; "; a DBC file has no such comments: take it out, or write CM_")
         }
-        Hint::Hexadecimal => {
-            format!(in alloc; "; numbers are decimal, so write no 0x")
-        }
-        Hint::PointFirst => {
-            format!(in alloc; "; write a digit before the point")
-        }
+        Hint::Hexadecimal => { format!(in alloc; "; numbers are decimal, so write no 0x") }
+        Hint::PointFirst => { format!(in alloc; "; write a digit before the point") }
         Hint::SignalAlone => {
             format!(in alloc; "; a signal comes after its message (BO_) or another signal of it")
         }

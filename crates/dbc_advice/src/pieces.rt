@@ -51,8 +51,7 @@ fn begins_signal(text: &[u8]) -> bool
 {
     match Lexer::of(text).next_token() {
         Ok(Some(token)) => {
-            matches!(token.kind, TokenKind::Name)
-                && token.text == Keyword::Signal.text().as_bytes()
+            matches!(token.kind, TokenKind::Name) && token.text == Keyword::Signal.text().as_bytes()
         }
         _ => false,
     }

@@ -80,11 +80,7 @@ fn plain_meaning(code: ReadCode) -> &'static str
 }
 
 /// What the code means, with what may be there where a token is unexpected.
-fn meaning_of(
-    alloc: Global,
-    wanted: &[Candidate],
-    code: ReadCode,
-) -> Result<Vec<u8>, AllocError>
+fn meaning_of(alloc: Global, wanted: &[Candidate], code: ReadCode) -> Result<Vec<u8>, AllocError>
     ensures { IfOk result (λ text. text.items ≡ meaning_of wanted.now code) }
 {
     match code {

@@ -1,4 +1,3 @@
-use Rattle.std.proofs.Common.{All, sym}
 use Rattle.std.proofs.lemmas.List.Elements.{All-push}
 use Rattle.dbc_advice.specs.MayBeThere.{MayBeThere}
 use Rattle.dbc_advice.proofs.wanted.wanted_after.Goals as goal

@@ -1,11 +1,12 @@
 -- What may come in a statement, kind by kind: the table of all that is asked for.
 use Rattle.std.specs.Prelude.{ℕ, List, [], ◌∷◌, codes}
 use Rattle.dbc_advice.specs.declared.candidate.Candidate.{Candidate}
-use Rattle.dbc_advice.specs.declared.candidate.Candidate.TheVariants.{Number, Name, Text, Indicator, Semicolon, Colon, Comma, Bar, At, LeftParenthesis, RightParenthesis, LeftBracket, RightBracket, Plus, Minus, Statement, Signal, Nodes, Message, EnvironmentVariable, BitTiming}
+use Rattle.dbc_advice.specs.declared.candidate.Candidate.TheVariants.{Number, AnyName, Name, Text, Indicator, Semicolon, Colon, Comma, Bar, At, LeftParenthesis, RightParenthesis, LeftBracket, RightBracket, Plus, Minus, Statement, Signal, Nodes, Message, EnvironmentVariable, BitTiming}
 
 -- a token of the kind
 abbrev pub sample_of : Candidate → List ℕ
 sample_of Number = codes "1"
+sample_of AnyName = codes "SG_MUL_VAL_"
 sample_of Name = codes "Name"
 sample_of Text = 34 ∷ 34 ∷ []
 sample_of Indicator = codes "M"
@@ -30,6 +31,7 @@ sample_of BitTiming = codes "BS_"
 -- how a sentence names the kind
 abbrev pub phrase_of : Candidate → List ℕ
 phrase_of Number = codes "a number"
+phrase_of AnyName = codes "a name"
 phrase_of Name = codes "a name"
 phrase_of Text = codes "a text in quotes"
 phrase_of Indicator = codes "an indicator (M or m0)"

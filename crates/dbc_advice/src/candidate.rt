@@ -7,7 +7,9 @@ ghost use Rattle.dbc_advice.specs.Candidate.{phrase_of, sample_of};
 pub enum Candidate {
     /// A number.
     Number,
-    /// A name.
+    /// Any name, also a keyword.
+    AnyName,
+    /// A name that is no keyword.
     Name,
     /// A text in quotes.
     Text,
@@ -50,8 +52,9 @@ pub enum Candidate {
 }
 
 /// All of them, in the order in which they are told.
-pub(crate) const CANDIDATES: [Candidate; 21] = [
+pub(crate) const CANDIDATES: [Candidate; 22] = [
     Candidate::Number,
+    Candidate::AnyName,
     Candidate::Name,
     Candidate::Text,
     Candidate::Indicator,
@@ -81,6 +84,7 @@ impl Candidate {
     {
         match self {
             Candidate::Number => "1",
+            Candidate::AnyName => "SG_MUL_VAL_",
             Candidate::Name => "Name",
             Candidate::Text => "\"\"",
             Candidate::Indicator => "M",
@@ -110,6 +114,7 @@ impl Candidate {
     {
         match self {
             Candidate::Number => "a number",
+            Candidate::AnyName => "a name",
             Candidate::Name => "a name",
             Candidate::Text => "a text in quotes",
             Candidate::Indicator => "an indicator (M or m0)",
@@ -133,14 +138,16 @@ impl Candidate {
         }
     }
 
-    /// Whether this kind is told by another one, so that it need not be told too: a sign by a number, an indicator and
-    /// any keyword by a name, and most keywords by that of a statement.
+    /// Whether this kind is told by another one, so that it need not be told too: a sign by a number, an indicator by a
+    /// name, most keywords by that of a statement, and all of these by any name.
     pub(crate) fn is_told_by(self, other: Candidate) -> bool {
         match other {
             Candidate::Number => matches!(self, Candidate::Plus | Candidate::Minus),
-            Candidate::Name => matches!(
+            Candidate::Name => matches!(self, Candidate::Indicator),
+            Candidate::AnyName => matches!(
                 self,
-                Candidate::Indicator
+                Candidate::Name
+                    | Candidate::Indicator
                     | Candidate::Statement
                     | Candidate::Signal
                     | Candidate::Nodes

@@ -2,11 +2,10 @@
 ghost use Rattle.std.specs.Prelude.{◌≡◌, ◌≤◌, IfOk, length};
 ghost use Rattle.dbc_advice.specs.Explained.{AreFaultLines, IsExplained, IsFaultLine, count_line, ending_text};
 
+use crate::faulty_lines::keyword_at;
 use crate::found::found_at;
 use crate::leaving::left_out;
-use crate::lines::{line_end, line_start};
 use crate::notes::{Source, add_line};
-use crate::pieces::line_keyword;
 use crate::places::{Heading, headings, message_place, signal_place};
 use crate::position::position_of;
 use crate::reasons::{Reason, reasons_of};
@@ -21,13 +20,6 @@ use std::alloc::{AllocError, Global};
 /// How many reasons are told why messages aren't clear.
 pub const CLASHES_TOLD: usize = 100;
 
-/// The keyword with which the line of the offset begins.
-fn statement_of(text: &[u8], at: usize) -> Option<Keyword>
-    requires { at ≤ length text.now }
-{
-    line_keyword(&text[line_start(text, at)..line_end(text, at)])
-}
-
 /// The line of a fault.
 fn fault_line(alloc: Global, source: Source, told: &Told) -> Result<Vec<u8>, AllocError>
     ensures { IfOk result (λ line. IsFaultLine source.entry.name.now source.entry.text.now told.now line.items) }
@@ -37,7 +29,7 @@ fn fault_line(alloc: Global, source: Source, told: &Told) -> Result<Vec<u8>, All
     let code = told.fault.code;
     let label = code_label(alloc, code.number(), code.name())?;
     let found = found_at(source.text, at);
-    let statement = statement_of(source.text, first);
+    let statement = keyword_at(source.text, first);
     let words = sentence(alloc, code, found, &told.wanted, statement, told.hint)?;
     told_line(
         alloc,

@@ -21,8 +21,8 @@ pub struct Lines {
     pub last: usize,
 }
 
-/// The keyword that begins the line of the offset.
-fn keyword_at(text: &[u8], at: usize) -> Option<Keyword>
+/// The keyword that begins the line of the offset, where more follows on it.
+pub(crate) fn keyword_at(text: &[u8], at: usize) -> Option<Keyword>
     requires { at ≤ length text.now }
 {
     line_keyword(&text[line_start(text, at)..line_end(text, at)])

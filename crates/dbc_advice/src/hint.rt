@@ -2,7 +2,7 @@
 ghost use Rattle.std.specs.Prelude.{◌≤◌, ◌≡◌, IfOk, length, string_bytes};
 ghost use Rattle.dbc_advice.specs.Sentence.{hint_text};
 
-use crate::faulty_lines::Lines;
+use crate::faulty_lines::{Lines, keyword_at};
 use crate::lines::line_end;
 use crate::pieces::is_gap;
 use crate::position::position_of;
@@ -80,13 +80,25 @@ fn is_signal_alone(text: &[u8], start: usize, at: usize) -> bool
     }
 }
 
+/// Whether the fault is only where a further line shows that the first of these lines begins a statement which isn't
+/// finished: past them, or at the end of the text, or on a line that begins with a keyword.
+fn is_unfinished(text: &[u8], at: usize, lines: Lines) -> bool
+    requires ordered { lines.first ≤ lines.last }
+    requires within { lines.last ≤ length text.now }
+    requires at { at ≤ length text.now }
+{
+    line_end(text, lines.last) < at
+        || line_end(text, lines.first) < at
+            && (at == text.len() || keyword_at(text, at).is_some())
+}
+
 /// What is plain to do about the fault of the text, of which these lines are told.
 pub(crate) fn hint_for(text: &[u8], fault: ReadFault, lines: Lines) -> Option<Hint>
     requires ordered { lines.first ≤ lines.last }
     requires within { lines.last ≤ length text.now }
     requires at { fault.at ≤ length text.now }
 {
-    if line_end(text, lines.last) < fault.at {
+    if is_unfinished(text, fault.at, lines) {
         return Some(Hint::Unfinished(position_of(text, lines.first).line));
     }
     match fault.code {

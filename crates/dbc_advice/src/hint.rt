@@ -88,8 +88,7 @@ fn is_unfinished(text: &[u8], at: usize, lines: Lines) -> bool
     requires at { at ≤ length text.now }
 {
     line_end(text, lines.last) < at
-        || line_end(text, lines.first) < at
-            && (at == text.len() || keyword_at(text, at).is_some())
+        || line_end(text, lines.first) < at && (at == text.len() || keyword_at(text, at).is_some())
 }
 
 /// What is plain to do about the fault of the text, of which these lines are told.

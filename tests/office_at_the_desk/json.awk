@@ -1,5 +1,6 @@
 # Reads a script and its replies, and writes the same as HTTP requests with JSON bodies (`requests`) and the responses that
-# are due (`stdout`). Called as `awk -f json.awk script.txt replies`. A byte that is written %XX is sent as \u00XX.
+# are due (`stdout`). Called as `awk -f json.awk script.txt replies`. What is written %XX is sent as \u00XX: the same byte up to
+# 7F, and above it the character of that number, in two bytes, since JSON has no other text. The replies tell no text.
 
 function is_number(name) {
     return name ~ /^(reviews|first|last|length|want|destination|priority|source|size|start|same)$/

@@ -7,7 +7,7 @@ use Rattle.clap.specs.Simple.{on_top}
 use Rattle.clap.specs.declared.error.kind.ErrorKind.{ErrorKind}
 use Rattle.clap.specs.declared.error.kind.ErrorKind.TheVariants.{DisplayHelp, OutOfMemory}
 use Rattle.canoffice_cli.specs.declared.job.Job.{Job}
-use Rattle.canoffice_cli.specs.declared.job.Job.TheVariants.{Apply, Chart, Check, Export, Format}
+use Rattle.canoffice_cli.specs.declared.job.Job.TheVariants.{Apply, Chart, Check, Export, Format, Serve, Table}
 use Rattle.canoffice_cli.specs.declared.job.LineFault.{LineFault}
 use Rattle.canoffice_cli.specs.declared.job.LineFault.TheVariants.{Help, Usage, Memory}
 
@@ -49,18 +49,28 @@ export_app = with_rule (with_rule (with_rule (new_app (codes "export")) (require
 abbrev pub format_app : App
 format_app = with_rule (new_app (codes "format")) (required_word (codes "FILE"))
 
+-- serve --db FILE [--port N] [--count N]
+abbrev pub serve_app : App
+serve_app = with_rule (with_rule (with_rule (new_app (codes "serve")) (required_option (codes "db"))) (option_word (codes "port"))) (option_word (codes "count"))
+
+-- table FILE
+abbrev pub table_app : App
+table_app = with_rule (new_app (codes "table")) (required_word (codes "FILE"))
+
 -- a subcommand is required, and without any argument the help is printed
 abbrev pub wants_subcommand : App → App
 wants_subcommand = on_top (λ s. record s { subcommand_required = true; arg_required_else_help = true })
 
--- canoffice apply .., chart .., check .., export .., format ..
+-- canoffice apply .., chart .., check .., export .., format .., serve .., table ..
 abbrev pub canoffice_app : App
 canoffice_app =
     let to_apply = with_subcommand (wants_subcommand (new_app (codes "canoffice"))) apply_app.top in
     let to_chart = with_subcommand to_apply chart_app.top in
     let to_check = with_subcommand to_chart check_app.top in
     let to_export = with_subcommand to_check export_app.top in
-    with_subcommand to_export format_app.top
+    let to_format = with_subcommand to_export format_app.top in
+    let to_serve = with_subcommand to_format serve_app.top in
+    with_subcommand to_serve table_app.top
 
 -- the kinds of fault that clap finds in the words
 abbrev pub line_faults : List Text → Kinds
@@ -86,6 +96,10 @@ IsJobOf (Check file) name rows = (name ≡ codes "check") × HasValue rows (code
 IsJobOf (Export database net number) name rows =
     (name ≡ codes "export") × HasValue rows (codes "db") database.now × HasValue rows (codes "NET") net.now × HasValue rows (codes "N") number.now
 IsJobOf (Format file) name rows = (name ≡ codes "format") × HasValue rows (codes "FILE") file.now
+IsJobOf (Serve database port count) name rows =
+    (name ≡ codes "serve") × HasValue rows (codes "db") database.now
+    × (first_of (codes "port") rows ≡ option_map (λ word. word.now) port) × (first_of (codes "count") rows ≡ option_map (λ word. word.now) count)
+IsJobOf (Table file) name rows = (name ≡ codes "table") × HasValue rows (codes "FILE") file.now
 
 -- the job of the subcommand that was found, with its values
 abbrev pub IsJobIn : Option (Text × List Row) → Job → Type 0

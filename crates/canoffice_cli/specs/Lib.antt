@@ -5,9 +5,11 @@ pub mod Outcome
 pub mod Answered
 pub mod Applied
 pub mod Exported
+pub mod Served
 pub mod Charted
 pub mod WordFault
 pub mod Checked
 pub mod Formatted
+pub mod Tabled
 pub mod Delivery
 pub mod Performance

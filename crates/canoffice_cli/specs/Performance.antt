@@ -9,12 +9,14 @@ use Rattle.canoffice_cli.specs.Charted.{IsChartOutcome}
 use Rattle.canoffice_cli.specs.Checked.{IsCheckOutcome}
 use Rattle.canoffice_cli.specs.Exported.{IsExportOutcome}
 use Rattle.canoffice_cli.specs.Formatted.{IsFormatOutcome}
+use Rattle.canoffice_cli.specs.Served.{IsServeOutcome}
+use Rattle.canoffice_cli.specs.Tabled.{IsTableOutcome}
 use Rattle.canoffice_cli.specs.Delivery.{IsDelivered, Writing}
 use Rattle.canoffice_cli.specs.declared.report.Status.{Status}
 use Rattle.canoffice_cli.specs.declared.program.FileTask.{FileTask}
 use Rattle.canoffice_cli.specs.declared.program.FileTask.TheVariants as task
 use Rattle.canoffice_cli.specs.declared.job.Job.{Job}
-use Rattle.canoffice_cli.specs.declared.job.Job.TheVariants.{Apply, Chart, Check, Export, Format}
+use Rattle.canoffice_cli.specs.declared.job.Job.TheVariants.{Apply, Chart, Check, Export, Format, Serve, Table}
 use Rattle.canoffice_cli.specs.declared.job.LineFault.{LineFault}
 use Rattle.canoffice_cli.specs.declared.job.LineFault.TheVariants.{Help, Usage, Memory}
 
@@ -29,6 +31,7 @@ abbrev pub ComesTo : Files → Databases → Databases → FileTask → List ℕ
 ComesTo files before after (task.Apply database) bytes o = IsApplyOutcome files (option_map (λ path. path.now) database) before after bytes o
 ComesTo files before after task.Check bytes o = IsCheckOutcome bytes o × AreKept before after
 ComesTo files before after task.Format bytes o = IsFormatOutcome bytes o × AreKept before after
+ComesTo files before after task.Table bytes o = IsTableOutcome bytes o × AreKept before after
 
 abbrev pub IsFileOutcome : Files → Databases → Databases → FileTask → List ℕ → Outcome → Type 0
 IsFileOutcome files before after task path o = IsOfFile (AreKept before after) (ComesTo files before after task) path (files path) o
@@ -40,6 +43,9 @@ IsDone files before after (Chart length signals) o = IsChartOutcome length.now (
 IsDone files before after (Check file) o = IsFileOutcome files before after task.Check file.now o
 IsDone files before after (Export database net number) o = IsExportOutcome before after database.now net.now number.now o
 IsDone files before after (Format file) o = IsFileOutcome files before after task.Format file.now o
+IsDone files before after (Serve database port count) o =
+    IsServeOutcome before after database.now (option_map (λ word. word.now) port) (option_map (λ word. word.now) count) o
+IsDone files before after (Table file) o = IsFileOutcome files before after task.Table file.now o
 
 -- the outcome of words that ask for no job: the text of their fault
 abbrev pub IsFaultAnswer : LineFault → Outcome → Type 0

@@ -44,6 +44,20 @@ pub enum Job<'a> {
         /// The path of the file.
         file: &'a str,
     },
+    /// Serve the office over HTTP.
+    Serve {
+        /// The path of the office's database.
+        database: &'a str,
+        /// The word that gives the port, if there is one.
+        port: Option<&'a str>,
+        /// The word that gives the count of connections, if there is one.
+        count: Option<&'a str>,
+    },
+    /// Print the table of the messages of the DBC text in the file of this name.
+    Table {
+        /// The path of the file.
+        file: &'a str,
+    },
 }
 
 /// Why the words of the command line ask for no job.
@@ -131,6 +145,12 @@ fn job_in<'a>(alloc: Global, matches: &ArgMatches<'a>) -> Result<Job<'a>, AllocE
     if name == "format" {
         return Ok(format_job(found));
     }
+    if name == "serve" {
+        return Ok(serve_job(found));
+    }
+    if name == "table" {
+        return Ok(table_job(found));
+    }
     unreachable!("clap knows no other subcommand")
 }
 
@@ -194,4 +214,30 @@ fn format_job<'a>(found: &ArgMatches<'a>) -> Job<'a>
 {
     let file = found.get_str("FILE").unwrap();
     Job::Format { file }
+}
+
+/// `serve --db FILE [--port N] [--count N]`
+#[tactic(auto, using(crate::proofs::CommandLine::value_in_rows, crate::proofs::CommandLine::optional_in_rows, crate::proofs::CommandLine::text_is_given))]
+fn serve_job<'a>(found: &ArgMatches<'a>) -> Job<'a>
+    requires { HasSome (rows_of (found_of found.now)) (codes "db") }
+    ensures { IsJobOf result (codes "serve") (rows_of (found_of found.now)) }
+{
+    let database = found.get_str("db").unwrap();
+    let port = found.get_str("port");
+    let count = found.get_str("count");
+    Job::Serve {
+        database,
+        port,
+        count,
+    }
+}
+
+/// `table FILE`
+#[tactic(auto, using(crate::proofs::CommandLine::value_in_rows, crate::proofs::CommandLine::text_is_given))]
+fn table_job<'a>(found: &ArgMatches<'a>) -> Job<'a>
+    requires { HasSome (rows_of (found_of found.now)) (codes "FILE") }
+    ensures { IsJobOf result (codes "table") (rows_of (found_of found.now)) }
+{
+    let file = found.get_str("FILE").unwrap();
+    Job::Table { file }
 }

@@ -1,7 +1,7 @@
 use Rattle.std.proofs.Common.{◌≡◌, ◌+◌, ◌*◌, ◌≤◌, ℕ, List, drop}
 use Rattle.catalogue.specs.declared.message.Message.{Message}
-use Rattle.canoffice_cli.specs.Checked.{signal_count}
-use Rattle.canoffice_cli.proofs.checking.signal_count.Given as goal
+use Rattle.chart.specs.Table.{signal_count}
+use Rattle.chart.proofs.table.signal_count.Given as goal
 
 -- the later ones are still to be counted, and each message has 4,096 at most
 pub record Counted (count index : ℕ) (messages : List Message) : Type 0 where

@@ -1,0 +1,2 @@
+pub mod Serving
+mod Examples

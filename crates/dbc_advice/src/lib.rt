@@ -27,7 +27,7 @@ pub use candidate::Candidate;
 pub use citation::{Citation, citation_at, citation_text, is_missing};
 pub use explaining::{CLASHES_TOLD, explained};
 pub use faulty_lines::Lines;
-pub use found::{Found, found_at};
+pub use found::{Found, found_at, quoted};
 pub use hint::Hint;
 pub use leaving::{CITATIONS_TOLD, left_out};
 pub use notes::Source;

@@ -1,12 +1,14 @@
 -- How sentences name the values of a kind.
-use Rattle.std.specs.Prelude.{ℕ, ◌&&◌, nat_le, Bool, false, List, ◌++◌, Option, Some, None, codes, decimal}
+use Rattle.std.specs.Prelude.{◌≡◌, ℕ, ◌&&◌, nat_le, Bool, false, List, ◌++◌, Option, Some, None, is_some, codes, decimal}
 use Rattle.std.specs.Option.{option_map_or}
 use Rattle.catalogue.specs.Limits.{length_limit, size_limit, start_limit}
+use Rattle.catalogue.specs.WholeNumber.{whole_of}
+use Rattle.office_fields.specs.Value.{value_from}
 use Rattle.office_fields.specs.declared.field.FieldKind.{FieldKind}
 use Rattle.office_fields.specs.declared.field.FieldKind.TheVariants as kind
 use Rattle.script_advice.specs.declared.phrases.NumberRange.{NumberRange}
 
-abbrev from_to : ℕ → ℕ → Option NumberRange
+abbrev pub from_to : ℕ → ℕ → Option NumberRange
 from_to least greatest = Some (record { least = least; greatest = greatest })
 
 -- the range of a kind whose values are whole numbers
@@ -24,6 +26,10 @@ range_of k = None
 abbrev pub is_within : NumberRange → Option ℕ → Bool
 is_within range None = false
 is_within range (Some n) = nat_le range.least n && nat_le n range.greatest
+
+-- the values of the kind are written by the bytes that write a whole number of the range, and by no others
+abbrev pub IsRangeOf : FieldKind → NumberRange → Type 0
+IsRangeOf k range = (bytes : List ℕ) → is_some (value_from k bytes) ≡ is_within range (whole_of bytes)
 
 abbrev pub range_text : NumberRange → List ℕ
 range_text range = codes "a whole number from " ++ (decimal range.least ++ (codes " to " ++ decimal range.greatest))

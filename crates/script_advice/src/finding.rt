@@ -63,7 +63,10 @@ fn fields_wrong(
 {
     match read_fields(alloc, rest)? {
         Some(values) => asked_wrong(alloc, kind, &values),
-        None => form_wrong(alloc, rest),
+        None => match rest {
+            Some(words) => form_wrong(alloc, words),
+            None => Ok(None),
+        },
     }
 }
 

@@ -1,6 +1,6 @@
 //! Words that are no fields.
 ghost use Rattle.std.specs.Prelude.{◌≡◌, IfOk};
-ghost use Rattle.office_script.specs.Words.{words_after};
+ghost use Rattle.office_script.specs.Words.{words_of};
 ghost use Rattle.script_advice.specs.Cause.{first_field, form_cause, form_wrong};
 
 use crate::cause::{Cause, Wrong};
@@ -27,14 +27,14 @@ fn form_cause(alloc: Global, word: &[u8]) -> Result<Option<Cause>, AllocError>
     }
 }
 
-/// The first word of `rest`, the rest of a line after its command, that is no field.
-pub(crate) fn form_wrong(alloc: Global, rest: Option<&[u8]>) -> Result<Option<Wrong>, AllocError>
-    ensures { IfOk result (λ found. found ≡ form_wrong first_field (words_after rest.entry)) }
+/// The first of the words of a line after its command that is no field.
+pub(crate) fn form_wrong(alloc: Global, words: &[u8]) -> Result<Option<Wrong>, AllocError>
+    ensures { IfOk result (λ found. found ≡ form_wrong first_field (words_of words.now)) }
 {
     let mut index = FIRST_FIELD;
-    let mut left = rest;
-    while let Some(words) = left {
-        let first = first_word(words);
+    let mut left = Some(words);
+    while let Some(rest) = left {
+        let first = first_word(rest);
         if let Some(cause) = form_cause(alloc, first.word)? {
             return Ok(Some(Wrong { word: index, cause }));
         }

@@ -1,8 +1,6 @@
 //! How sentences name the values of a kind.
-ghost use Rattle.std.specs.Prelude.{◌≡◌, IfOk, IfSome, ℕ, List, is_some};
-ghost use Rattle.catalogue.specs.WholeNumber.{whole_of};
-ghost use Rattle.office_fields.specs.Value.{value_from};
-ghost use Rattle.script_advice.specs.Phrase.{is_within, phrase_of, plain_phrase, range_of};
+ghost use Rattle.std.specs.Prelude.{◌≡◌, IfOk, IfSome};
+ghost use Rattle.script_advice.specs.Phrase.{IsRangeOf, from_to, phrase_of, plain_phrase, range_of};
 
 use bitlayout::{GREATEST_START, SIZE_LIMIT};
 use catalogue::LENGTH_LIMIT;
@@ -18,22 +16,35 @@ pub struct NumberRange {
     pub greatest: u32,
 }
 
+/// A range.
+fn from_to(least: u32, greatest: u32) -> Option<NumberRange>
+    ensures { result ≡ from_to least greatest }
+{
+    Some(NumberRange { least, greatest })
+}
+
+/// The range of the kind, if its values are whole numbers.
+fn kind_range(kind: FieldKind) -> Option<NumberRange>
+    ensures { result ≡ range_of kind }
+{
+    match kind {
+        FieldKind::Number => from_to(0, u32::MAX),
+        FieldKind::Reviews => from_to(0, 9),
+        FieldKind::Length => from_to(0, u32::from(LENGTH_LIMIT)),
+        FieldKind::Priority => from_to(0, 7),
+        FieldKind::Address => from_to(0, u32::from(u8::MAX)),
+        FieldKind::Size => from_to(1, u32::from(SIZE_LIMIT)),
+        FieldKind::Start => from_to(0, u32::from(GREATEST_START)),
+        _ => None,
+    }
+}
+
 /// The range of the kind, if its values are whole numbers. They are just the bytes that write a number of the range.
 pub fn range_of(kind: FieldKind) -> Option<NumberRange>
     ensures range { result ≡ range_of kind }
-    ensures exact { IfSome result (λ range. (bytes : List ℕ) → is_some (value_from kind bytes) ≡ is_within range (whole_of bytes)) }
+    ensures exact { IfSome result (IsRangeOf kind) }
 {
-    let (least, greatest) = match kind {
-        FieldKind::Number => (0, u32::MAX),
-        FieldKind::Reviews => (0, 9),
-        FieldKind::Length => (0, u32::from(LENGTH_LIMIT)),
-        FieldKind::Priority => (0, 7),
-        FieldKind::Address => (0, u32::from(u8::MAX)),
-        FieldKind::Size => (1, u32::from(SIZE_LIMIT)),
-        FieldKind::Start => (0, u32::from(GREATEST_START)),
-        _ => return None,
-    };
-    Some(NumberRange { least, greatest })
+    kind_range(kind)
 }
 
 /// How a sentence names the values of a kind that has no range.

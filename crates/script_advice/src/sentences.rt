@@ -1,6 +1,6 @@
 //! What is said of a wrong line: one sentence.
 ghost use Rattle.std.specs.Prelude.{◌≡◌, ◌++◌, IfOk, OnOk};
-ghost use Rattle.script_advice.specs.declared.cause.Cause.TheVariants as cause;
+ghost use Rattle.script_advice.specs.declared.cause.Cause.TheVariants as why;
 ghost use Rattle.script_advice.specs.Sentence.{apart_text, block_range, block_text, field_name, has_carriage_return, hint_of, is_text, key_meaning, meaning_of, sentence_of};
 
 use crate::cause::Cause;
@@ -74,7 +74,7 @@ fn apart_text(alloc: Global, field: Field) -> Result<Vec<u8>, AllocError>
 
 /// The commands, after what was found.
 fn commands_text(alloc: Global) -> Result<Vec<u8>, AllocError>
-    ensures { IfOk result (λ text. text.items ≡ meaning_of cause.Command) }
+    ensures { IfOk result (λ text. text.items ≡ meaning_of why.Command) }
 {
     let mut text = Vec::from_slice(alloc, b", but the commands are ")?;
     text.extend_from_slice(&command_words(alloc, CommandKind::all())?)?;
@@ -83,7 +83,7 @@ fn commands_text(alloc: Global) -> Result<Vec<u8>, AllocError>
 
 /// The fields of the command, after what was found.
 fn fields_text(alloc: Global, kind: CommandKind) -> Result<Vec<u8>, AllocError>
-    ensures { IfOk result (λ text. text.items ≡ meaning_of (cause.Unknown kind)) }
+    ensures { IfOk result (λ text. text.items ≡ meaning_of (why.Unknown kind)) }
 {
     let mut text = Vec::from_slice(alloc, b", but the fields of ")?;
     text.extend_from_slice(kind.word().as_bytes())?;
@@ -94,7 +94,7 @@ fn fields_text(alloc: Global, kind: CommandKind) -> Result<Vec<u8>, AllocError>
 
 /// That the field is given before, after what was found.
 fn doubled_text(alloc: Global, field: Field) -> Result<Vec<u8>, AllocError>
-    ensures { IfOk result (λ text. text.items ≡ meaning_of (cause.Doubled field)) }
+    ensures { IfOk result (λ text. text.items ≡ meaning_of (why.Doubled field)) }
 {
     let mut text = Vec::from_slice(alloc, b", but ")?;
     text.extend_from_slice(field.name().as_bytes())?;
@@ -104,7 +104,7 @@ fn doubled_text(alloc: Global, field: Field) -> Result<Vec<u8>, AllocError>
 
 /// What the field's values are, after what was found.
 fn value_text(alloc: Global, field: Field) -> Result<Vec<u8>, AllocError>
-    ensures { IfOk result (λ text. text.items ≡ meaning_of (cause.WrongValue field)) }
+    ensures { IfOk result (λ text. text.items ≡ meaning_of (why.WrongValue field)) }
 {
     let mut text = Vec::from_slice(alloc, b", but ")?;
     text.extend_from_slice(&is_text(alloc, field)?)?;
@@ -113,7 +113,7 @@ fn value_text(alloc: Global, field: Field) -> Result<Vec<u8>, AllocError>
 
 /// That the field is missing, after what was found.
 fn missing_text(alloc: Global, field: Field) -> Result<Vec<u8>, AllocError>
-    ensures { IfOk result (λ text. text.items ≡ meaning_of (cause.Missing field)) }
+    ensures { IfOk result (λ text. text.items ≡ meaning_of (why.Missing field)) }
 {
     let mut text = Vec::from_slice(alloc, b", but ")?;
     text.extend_from_slice(field.name().as_bytes())?;

@@ -1,0 +1,5 @@
+pub mod Placing
+pub mod Values
+pub mod WrongLaw
+pub mod Ranges
+mod Rows

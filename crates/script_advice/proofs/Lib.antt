@@ -1,6 +1,6 @@
 pub mod Placing
-pub mod Values
-pub mod Forms
+pub mod GivenAfter
+pub mod WordForms
 pub mod WrongLaw
 pub mod Ranges
 mod Rows

@@ -36,6 +36,27 @@ fn wrong_line(
     told_line(alloc, name, position, LABEL, &sentence)
 }
 
+/// What is told of the first wrong line of the script, or nothing if no line is wrong.
+fn first_wrong_line(
+    alloc: Global,
+    name: &[u8],
+    text: &[u8],
+    dash: Dash,
+) -> Result<Vec<u8>, AllocError>
+    ensures { IfOk result (λ told. told.items ≡ told_of name.now dash 1 (lines_of text.now)) }
+{
+    let mut number = 0usize;
+    let mut rest = text;
+    while let Some(first) = first_line(rest) {
+        number += 1;
+        if let Some(wrong) = wrong_of(alloc, dash, number, first.line)? {
+            return wrong_line(alloc, name, number, first.line, wrong);
+        }
+        rest = first.rest;
+    }
+    Ok(Vec::new(alloc))
+}
+
 /// What is told of a script under its name, beside what is answered: the line `NAME:LINE:COLUMN: bad line: sentence` of its
 /// first wrong line, at the word that is to blame, or nothing if no line is wrong. `dash` is what `-` means as a key. Files
 /// that lines name aren't looked at. The error is out of memory.
@@ -50,14 +71,5 @@ pub fn explained(
     // A line is told to be wrong exactly if it is.
     ensures wrong { (number : ℕ) → (line : List ℕ) → is_none (wrong_of dash number line) ≡ is_some (requests_of_line dash number line) }
 {
-    let mut number = 0usize;
-    let mut rest = text;
-    while let Some(first) = first_line(rest) {
-        number += 1;
-        if let Some(wrong) = wrong_of(alloc, dash, number, first.line)? {
-            return wrong_line(alloc, name, number, first.line, wrong);
-        }
-        rest = first.rest;
-    }
-    Ok(Vec::new(alloc))
+    first_wrong_line(alloc, name, text, dash)
 }

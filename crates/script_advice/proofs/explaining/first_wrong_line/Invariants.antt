@@ -1,7 +1,7 @@
 use Rattle.std.proofs.Common.{◌≡◌, ◌+◌, ◌≤◌, length}
 use Rattle.office_script.specs.Lines.{lines_of}
 use Rattle.script_advice.specs.Explained.{told_of}
-use Rattle.script_advice.proofs.explaining.explained.Given as goal
+use Rattle.script_advice.proofs.explaining.first_wrong_line.Given as goal
 
 -- the lines before are right
 abbrev pub invariant-loop-first : goal.invariant-loop-first

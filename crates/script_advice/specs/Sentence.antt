@@ -1,5 +1,5 @@
 -- What is said of a wrong line: one sentence.
-use Rattle.std.specs.Prelude.{ℕ, ◌==◌, Bool, List, [], ◌∷◌, ◌++◌, map, if◌then◌else◌, codes, decimal}
+use Rattle.std.specs.Prelude.{ℕ, ◌==◌, Bool, List, [], ◌∷◌, ◌++◌, length, map, if◌then◌else◌, codes, decimal}
 use Rattle.std.specs.List.{list_any}
 use Rattle.dbc_advice.specs.Sentence.{quoted}
 use Rattle.office_fields.specs.Field.{fields_of, row_of}
@@ -71,8 +71,10 @@ has_carriage_return word = list_any (λ b. b == 13) word
 
 -- of an empty word, or one with a carriage return
 abbrev pub hint_of : List ℕ → List ℕ
-hint_of [] = codes "; there is exactly one space between words, and none at the ends of a line"
-hint_of (b ∷ word) = if has_carriage_return (b ∷ word) then codes "; end lines with a line feed alone, without a carriage return" else []
+hint_of word =
+    if length word == 0 then codes "; there is exactly one space between words, and none at the ends of a line"
+    else if has_carriage_return word then codes "; end lines with a line feed alone, without a carriage return"
+    else []
 
 -- what was found, what that means, and what to do
 abbrev pub sentence_of : Cause → List ℕ → List ℕ

@@ -22,15 +22,22 @@ pub(crate) fn field_names(alloc: Global, fields: &[Field]) -> Result<Vec<u8>, Al
     }
 }
 
+/// The word of the command.
+fn command_word(kind: CommandKind) -> &'static str
+    ensures { result.now ≡ word_of kind }
+{
+    kind.word()
+}
+
 /// The words of the commands: `a, b, c`.
 pub(crate) fn command_words(alloc: Global, kinds: &[CommandKind]) -> Result<Vec<u8>, AllocError>
     ensures { IfOk result (λ text. text.items ≡ listed (map word_of kinds.now)) }
 {
     match kinds {
         [] => Ok(Vec::new(alloc)),
-        [only] => Vec::from_slice(alloc, only.word().as_bytes()),
+        [only] => Vec::from_slice(alloc, command_word(*only).as_bytes()),
         [first, rest @ ..] => {
-            let mut text = Vec::from_slice(alloc, first.word().as_bytes())?;
+            let mut text = Vec::from_slice(alloc, command_word(*first).as_bytes())?;
             text.extend_from_slice(b", ")?;
             text.extend_from_slice(&command_words(alloc, rest)?)?;
             Ok(text)

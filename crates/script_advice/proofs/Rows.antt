@@ -35,7 +35,7 @@ wrongs lines = map (wrong_of dash.LineNumber 7) lines
 
 right : wrongs ([] ∷ codes "# k1" ∷ codes "- engine submit net=truck" ∷ codes "- engine retire message=E1 net=truck" ∷ [])
     ≡ None ∷ None ∷ None ∷ None ∷ []
-unfolding is_name
+unfolding digits is_name
 right = refl
 
 first_words : wrongs (codes "k1" ∷ codes "k1 engine" ∷ codes " engine submit net=truck" ∷ codes "k1 Engine submit net=truck" ∷ codes "k1 engine fly net=truck" ∷ [])
@@ -100,4 +100,5 @@ unfolding digits
 first_wrong_line = refl
 
 no_wrong_line : told_of (codes "a.txt") dash.LineNumber 1 (lines_of (codes "# nothing\n- engine submit net=truck")) ≡ []
+unfolding digits
 no_wrong_line = refl

@@ -1,0 +1,3 @@
+pub mod ToldMore
+pub mod FaultLines
+pub mod Rows

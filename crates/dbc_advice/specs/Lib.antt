@@ -1,0 +1,16 @@
+pub mod Lines
+pub mod Position
+pub mod Blanked
+pub mod GoesOn
+pub mod Pieces
+pub mod FaultyLines
+pub mod Candidate
+pub mod MayBeThere
+pub mod Sentence
+pub mod ToldLine
+pub mod Telling
+pub mod Reasons
+pub mod Unclear
+pub mod Citation
+pub mod LeftOut
+pub mod Explained

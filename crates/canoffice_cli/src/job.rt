@@ -1,7 +1,7 @@
 //! The job that the words of the command line ask for.
 ghost use Rattle.std.specs.Prelude.{◌≡◌, IfOk, IfErr, map, codes};
 ghost use Rattle.clap.specs.Words.{found_of, kind_of, rows_of, subcommand_rows_of};
-ghost use Rattle.canoffice_cli.specs.CommandLine.{HasSome, IsEntered, IsJob, IsJobIn, IsJobOf, IsFaultOfKind, IsLineFault, IsNamed};
+ghost use Rattle.canoffice_cli.specs.CommandLine.{HasSome, IsEntered, IsJob, IsJobIn, IsJobOf, IsFaultOfKind, IsLineFault, IsNamed, is_set};
 
 use crate::command_line::canoffice_command;
 use clap::error::ErrorKind;
@@ -15,8 +15,10 @@ pub enum Job<'a> {
     Apply {
         /// The path of the office's database; without one the office is in memory.
         database: Option<&'a str>,
-        /// The path of the script.
+        /// The path of the script, or `-`.
         script: &'a str,
+        /// Whether a wrong line is explained.
+        explain: bool,
     },
     /// Print the chart of the signals that the words describe, in a message of the length that a word gives.
     Chart {
@@ -27,8 +29,10 @@ pub enum Job<'a> {
     },
     /// Check the DBC text in the file of this name.
     Check {
-        /// The path of the file.
+        /// The path of the file, or `-`.
         file: &'a str,
+        /// Whether faults and clashes are explained.
+        explain: bool,
     },
     /// Print a release of a network, or its live sheet.
     Export {
@@ -41,8 +45,10 @@ pub enum Job<'a> {
     },
     /// Print the canonical text of the DBC text in the file of this name.
     Format {
-        /// The path of the file.
+        /// The path of the file, or `-`.
         file: &'a str,
+        /// Whether faults are explained, and told what is left out.
+        explain: bool,
     },
     /// Serve the office over HTTP.
     Serve {
@@ -55,7 +61,7 @@ pub enum Job<'a> {
     },
     /// Print the table of the messages of the DBC text in the file of this name.
     Table {
-        /// The path of the file.
+        /// The path of the file, or `-`.
         file: &'a str,
     },
 }
@@ -65,6 +71,8 @@ pub enum Job<'a> {
 pub enum LineFault {
     /// They ask for help, and this is its text.
     Help(String),
+    /// They ask for the version, and this is its text.
+    Version(String),
     /// They are wrong; this text explains the error and the usage.
     Usage(String),
     /// Memory ran out.
@@ -74,7 +82,7 @@ pub enum LineFault {
 /// The job that the program's words ask for. The first word is the program's own name.
 ///
 /// The result is a job exactly if clap finds no fault in the words, unless memory runs out: it is `Help` only if they
-/// ask for help, and `Usage` only if they have another fault.
+/// ask for help, `Version` only if they ask for the version, and `Usage` only if they have another fault.
 pub fn job_of<'a>(alloc: Global, words: &'a [&'a str]) -> Result<Job<'a>, LineFault>
     ensures job { IfOk result (IsJob (map (λ s. s.now) words.entry.now)) }
     ensures fault { IfErr result (IsLineFault (map (λ s. s.now) words.entry.now)) }
@@ -115,6 +123,7 @@ fn line_fault(alloc: Global, error: &Error) -> LineFault
     match error.kind() {
         ErrorKind::OutOfMemory => LineFault::Memory,
         ErrorKind::DisplayHelp => LineFault::Help(text),
+        ErrorKind::DisplayVersion => LineFault::Version(text),
         _ => LineFault::Usage(text),
     }
 }
@@ -154,7 +163,17 @@ fn job_in<'a>(alloc: Global, matches: &ArgMatches<'a>) -> Result<Job<'a>, AllocE
     unreachable!("clap knows no other subcommand")
 }
 
-/// `apply [--db FILE] SCRIPT`
+/// Whether the flag was given.
+fn is_set(found: &ArgMatches, id: &str) -> bool
+    ensures { result ≡ is_set (rows_of (found_of found.now)) id.now }
+{
+    match found.get_str(id) {
+        Some(value) => value == "true",
+        None => false,
+    }
+}
+
+/// `apply [--db FILE] [--explain] SCRIPT`
 #[tactic(auto, using(crate::proofs::CommandLine::value_in_rows, crate::proofs::CommandLine::optional_in_rows, crate::proofs::CommandLine::text_is_given))]
 fn apply_job<'a>(found: &ArgMatches<'a>) -> Job<'a>
     requires { HasSome (rows_of (found_of found.now)) (codes "SCRIPT") }
@@ -162,7 +181,12 @@ fn apply_job<'a>(found: &ArgMatches<'a>) -> Job<'a>
 {
     let database = found.get_str("db");
     let script = found.get_str("SCRIPT").unwrap();
-    Job::Apply { database, script }
+    let explain = is_set(found, "explain");
+    Job::Apply {
+        database,
+        script,
+        explain,
+    }
 }
 
 /// `chart LENGTH SIGNAL..`
@@ -178,14 +202,15 @@ fn chart_job<'a>(alloc: Global, found: &ArgMatches<'a>) -> Result<Job<'a>, Alloc
     Ok(Job::Chart { length, signals })
 }
 
-/// `check FILE`
+/// `check [--explain] FILE`
 #[tactic(auto, using(crate::proofs::CommandLine::value_in_rows, crate::proofs::CommandLine::text_is_given))]
 fn check_job<'a>(found: &ArgMatches<'a>) -> Job<'a>
     requires { HasSome (rows_of (found_of found.now)) (codes "FILE") }
     ensures { IsJobOf result (codes "check") (rows_of (found_of found.now)) }
 {
     let file = found.get_str("FILE").unwrap();
-    Job::Check { file }
+    let explain = is_set(found, "explain");
+    Job::Check { file, explain }
 }
 
 /// `export --db FILE NET N`
@@ -206,14 +231,15 @@ fn export_job<'a>(found: &ArgMatches<'a>) -> Job<'a>
     }
 }
 
-/// `format FILE`
+/// `format [--explain] FILE`
 #[tactic(auto, using(crate::proofs::CommandLine::value_in_rows, crate::proofs::CommandLine::text_is_given))]
 fn format_job<'a>(found: &ArgMatches<'a>) -> Job<'a>
     requires { HasSome (rows_of (found_of found.now)) (codes "FILE") }
     ensures { IsJobOf result (codes "format") (rows_of (found_of found.now)) }
 {
     let file = found.get_str("FILE").unwrap();
-    Job::Format { file }
+    let explain = is_set(found, "explain");
+    Job::Format { file, explain }
 }
 
 /// `serve --db FILE [--port N] [--count N]`

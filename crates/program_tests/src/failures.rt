@@ -125,6 +125,16 @@ impl FileSource for Exhausted {
     }
 }
 
+impl StandardInput for Exhausted {
+    ghost use Rattle.office_script.specs.Files.{unknown};
+
+    ghost given = { λ _. unknown };
+
+    fn read_input(&self, _alloc: Global) -> Result<Vec<u8>, FileFault> {
+        Err(FileFault::Memory)
+    }
+}
+
 /// Whether a run of the command reports that it ran out of memory.
 fn is_lost(alloc: Global, command: &str) -> bool {
     let words = ["canoffice", command, "file"];

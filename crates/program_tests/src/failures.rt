@@ -1,6 +1,8 @@
 //! Writers that fail, and memory that runs out.
 use crate::row::run_on;
-use canoffice_cli::{FileFault, FileSource, MemoryDatabase, Report, Status, deliver};
+use canoffice_cli::{
+    FileFault, FileSource, MemoryDatabase, Report, StandardInput, Status, deliver,
+};
 use std::alloc::{AllocError, Global};
 use std::io::{self, ErrorKind, Write};
 

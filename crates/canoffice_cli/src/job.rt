@@ -164,6 +164,7 @@ fn job_in<'a>(alloc: Global, matches: &ArgMatches<'a>) -> Result<Job<'a>, AllocE
 }
 
 /// Whether the flag was given.
+#[tactic(auto, using(crate::proofs::CommandLine::flag_in_rows))]
 fn is_set(found: &ArgMatches, id: &str) -> bool
     ensures { result ≡ is_set (rows_of (found_of found.now)) id.now }
 {

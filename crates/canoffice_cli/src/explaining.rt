@@ -41,7 +41,7 @@ pub(crate) fn explained_report(
     source: Source,
     report: Report,
 ) -> Result<Report, AllocError>
-    ensures { IfOk result (λ more. Explains (IsSaid task.entry source.entry.name.now source.entry.text.now) (outcome_of report.entry) (outcome_of more)) }
+    ensures { IfOk result (λ more. Explains (IsSaid task.entry source.entry.name.now source.entry.text.now) (outcome_of report) (outcome_of more)) }
 {
     let said = said(alloc, task, source)?;
     report.and_errors(&said)

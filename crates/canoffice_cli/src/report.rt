@@ -66,11 +66,12 @@ impl Report {
     }
 
     /// The report with these bytes after its own for standard error. The error is out of memory.
-    pub fn and_errors(mut self, more: &[u8]) -> Result<Report, AllocError>
-        ensures { IfOk result (λ report. outcome_of report ≡ and_errors (outcome_of self.entry) more.now) }
+    pub fn and_errors(self, more: &[u8]) -> Result<Report, AllocError>
+        ensures { IfOk result (λ report. outcome_of report ≡ and_errors (outcome_of self) more.now) }
     {
-        self.errors.extend_from_slice(more)?;
-        Ok(self)
+        let mut report = self;
+        report.errors.extend_from_slice(more)?;
+        Ok(report)
     }
 }
 

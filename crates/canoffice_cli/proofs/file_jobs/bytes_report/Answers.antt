@@ -1,6 +1,6 @@
 use Rattle.canoffice_cli.specs.Explaining.{IsSaid}
 use Rattle.canoffice_cli.specs.Performance.{ComesTo}
-use Rattle.canoffice_cli.proofs.Explaining.{with_more, without_more}
+use Rattle.canoffice_cli.proofs.SaidMore.{with_more, without_more}
 use Rattle.canoffice_cli.proofs.file_jobs.bytes_report.Goals as goal
 
 pub returns-then-job : goal.returns-then-job

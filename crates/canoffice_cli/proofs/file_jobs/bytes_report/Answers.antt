@@ -10,7 +10,7 @@ returns-then-job g c =
     let after = g.D.Databases.known c.task_report.new.databases in
     let job = c.args.job in
     with_more job.explain (ComesTo files before after job.task c.args.bytes.now) (IsSaid job.task job.path.now c.args.bytes.now) c.in_ok-report.report c.in_ok-report.ensures
-    c.explained_report.result c.if-job.true c.explained_report.ensures
+    c.explained_report.result c.if-job.true (rw c.as_bytes.ensures.value at c.explained_report.ensures)
 
 pub returns-else-job : goal.returns-else-job
 returns-else-job g c =

@@ -33,7 +33,7 @@ own_entered : (s : Shape) (called : Text) (rest : List Text) → Among s (built 
 own_entered s called rest (inl same) answers no_help passes =
     let name : s.name ≡ codes "apply" = ap (λ x. x.name) same in
     let script = needed s rest (codes "SCRIPT") passes (ap (λ x. needs_value x.rules (codes "SCRIPT")) same) in
-    subst (λ n. IsEntered (Some (n, rows_after s.rules [] rest))) (sym name) ((λ never. absurd (true≢false (sym never))), ((λ _. script), tt))
+    subst (λ n. IsEntered (Some (n, rows_after s.rules [] rest))) (sym name) ((λ never. absurd (true≢false (sym never))), ((λ never. absurd (true≢false (sym never))), ((λ _. script), tt)))
 own_entered s called rest (inr (inl same)) answers no_help passes =
     let name : s.name ≡ codes "chart" = ap (λ x. x.name) same in
     let length = needed s rest (codes "LENGTH") passes (ap (λ x. needs_value x.rules (codes "LENGTH")) same) in
@@ -42,7 +42,7 @@ own_entered s called rest (inr (inl same)) answers no_help passes =
 own_entered s called rest (inr (inr (inl same))) answers no_help passes =
     let name : s.name ≡ codes "check" = ap (λ x. x.name) same in
     let file = needed s rest (codes "FILE") passes (ap (λ x. needs_value x.rules (codes "FILE")) same) in
-    subst (λ n. IsEntered (Some (n, rows_after s.rules [] rest))) (sym name) ((λ _. file), tt)
+    subst (λ n. IsEntered (Some (n, rows_after s.rules [] rest))) (sym name) ((λ never. absurd (true≢false (sym never))), ((λ _. file), tt))
 own_entered s called rest (inr (inr (inr (inl same)))) answers no_help passes =
     let name : s.name ≡ codes "export" = ap (λ x. x.name) same in
     let database = needed s rest (codes "db") passes (ap (λ x. needs_value x.rules (codes "db")) same) in
@@ -52,7 +52,7 @@ own_entered s called rest (inr (inr (inr (inl same)))) answers no_help passes =
 own_entered s called rest (inr (inr (inr (inr (inl same))))) answers no_help passes =
     let name : s.name ≡ codes "format" = ap (λ x. x.name) same in
     let file = needed s rest (codes "FILE") passes (ap (λ x. needs_value x.rules (codes "FILE")) same) in
-    subst (λ n. IsEntered (Some (n, rows_after s.rules [] rest))) (sym name) ((λ _. file), tt)
+    subst (λ n. IsEntered (Some (n, rows_after s.rules [] rest))) (sym name) ((λ never. absurd (true≢false (sym never))), ((λ _. file), tt))
 own_entered s called rest (inr (inr (inr (inr (inr (inl same)))))) answers no_help passes =
     let name : s.name ≡ codes "serve" = ap (λ x. x.name) same in
     let database = needed s rest (codes "db") passes (ap (λ x. needs_value x.rules (codes "db")) same) in

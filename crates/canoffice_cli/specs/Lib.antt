@@ -12,5 +12,6 @@ pub mod WordFault
 pub mod Checked
 pub mod Formatted
 pub mod Tabled
+pub mod Explaining
 pub mod Delivery
 pub mod Performance

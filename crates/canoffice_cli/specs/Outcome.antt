@@ -21,6 +21,10 @@ code_of FaultFound = 1
 code_of WrongInput = 2
 code_of Failed = 3
 
+-- the same, with this text after its own on standard error
+abbrev pub and_errors : Outcome → List ℕ → Outcome
+and_errors o more = record o { errors = o.errors ++ more }
+
 -- this text on standard output, and nothing on standard error
 abbrev pub success : List ℕ → Outcome
 success text = record { output = text; errors = []; status = Success }

@@ -1,7 +1,7 @@
 //! The job that the words of the command line ask for.
 ghost use Rattle.std.specs.Prelude.{◌≡◌, IfOk, IfErr, map, codes};
 ghost use Rattle.clap.specs.Words.{found_of, kind_of, rows_of, subcommand_rows_of};
-ghost use Rattle.canoffice_cli.specs.CommandLine.{HasSome, IsEntered, IsJob, IsJobIn, IsJobOf, IsFaultOfKind, IsLineFault, IsValueFault, IsValueFaultIn, IsWrongWordFault};
+ghost use Rattle.canoffice_cli.specs.CommandLine.{HasSome, IsEntered, IsJob, IsJobIn, IsJobOf, IsFaultOfKind, IsLineFault, IsNamed, IsValueFault, IsValueFaultIn, IsWrongWordFault, is_set};
 
 use crate::command_line::canoffice_command;
 use crate::numbers::{count_given, length_given, port_given, release_number};
@@ -17,8 +17,10 @@ pub enum Job<'a> {
     Apply {
         /// The path of the office's database; without one the office is in memory.
         database: Option<&'a str>,
-        /// The path of the script.
+        /// The path of the script, or `-`.
         script: &'a str,
+        /// Whether a wrong line is explained.
+        explain: bool,
     },
     /// Print the chart of the signals that the words describe, in a message of this length.
     Chart {
@@ -29,8 +31,10 @@ pub enum Job<'a> {
     },
     /// Check the DBC text in the file of this name.
     Check {
-        /// The path of the file.
+        /// The path of the file, or `-`.
         file: &'a str,
+        /// Whether faults and clashes are explained.
+        explain: bool,
     },
     /// Print a release of a network, or its live sheet.
     Export {
@@ -43,8 +47,10 @@ pub enum Job<'a> {
     },
     /// Print the canonical text of the DBC text in the file of this name.
     Format {
-        /// The path of the file.
+        /// The path of the file, or `-`.
         file: &'a str,
+        /// Whether faults are explained, and told what is left out.
+        explain: bool,
     },
     /// Serve the office over HTTP.
     Serve {
@@ -57,7 +63,7 @@ pub enum Job<'a> {
     },
     /// Print the table of the messages of the DBC text in the file of this name.
     Table {
-        /// The path of the file.
+        /// The path of the file, or `-`.
         file: &'a str,
     },
 }
@@ -67,6 +73,8 @@ pub enum Job<'a> {
 pub enum LineFault {
     /// They ask for help, and this is its text.
     Help(String),
+    /// They ask for the version, and this is its text.
+    Version(String),
     /// They are wrong; this text explains the error and the usage.
     Usage(String),
     /// Memory ran out.
@@ -85,8 +93,8 @@ enum ValueFault<'a> {
 /// The job that the program's words ask for, each number in its range. The first word is the program's own name.
 ///
 /// The result is a job exactly if clap finds no fault in the words and each word for a number gives one in its range, unless
-/// memory runs out: it is `Help` only if they ask for help, and `Usage` only if they have another fault, or the first wrong
-/// number, as `bad word WORD`.
+/// memory runs out: it is `Help` only if they ask for help, `Version` only if they ask for the version, and `Usage` only if
+/// they have another fault, or the first wrong number, as `bad word WORD`.
 pub fn job_of<'a>(alloc: Global, words: &'a [&'a str]) -> Result<Job<'a>, LineFault>
     ensures job { IfOk result (IsJob (map (λ s. s.now) words.entry.now)) }
     ensures fault { IfErr result (IsLineFault (map (λ s. s.now) words.entry.now)) }
@@ -138,6 +146,7 @@ fn line_fault(alloc: Global, error: &Error) -> LineFault
     match error.kind() {
         ErrorKind::OutOfMemory => LineFault::Memory,
         ErrorKind::DisplayHelp => LineFault::Help(text),
+        ErrorKind::DisplayVersion => LineFault::Version(text),
         _ => LineFault::Usage(text),
     }
 }
@@ -178,7 +187,18 @@ fn job_in<'a>(alloc: Global, matches: &ArgMatches<'a>) -> Result<Job<'a>, ValueF
     unreachable!("clap knows no other subcommand")
 }
 
-/// `apply [--db FILE] SCRIPT`
+/// Whether the flag was given.
+#[tactic(auto, using(crate::proofs::CommandLine::flag_in_rows))]
+fn is_set(found: &ArgMatches, id: &str) -> bool
+    ensures { result ≡ is_set (rows_of (found_of found.now)) id.now }
+{
+    match found.get_str(id) {
+        Some(value) => value == "true",
+        None => false,
+    }
+}
+
+/// `apply [--db FILE] [--explain] SCRIPT`
 #[tactic(auto, using(crate::proofs::CommandLine::value_in_rows, crate::proofs::CommandLine::optional_in_rows, crate::proofs::CommandLine::text_is_given))]
 fn apply_job<'a>(found: &ArgMatches<'a>) -> Job<'a>
     requires { HasSome (rows_of (found_of found.now)) (codes "SCRIPT") }
@@ -186,7 +206,12 @@ fn apply_job<'a>(found: &ArgMatches<'a>) -> Job<'a>
 {
     let database = found.get_str("db");
     let script = found.get_str("SCRIPT").unwrap();
-    Job::Apply { database, script }
+    let explain = is_set(found, "explain");
+    Job::Apply {
+        database,
+        script,
+        explain,
+    }
 }
 
 /// `chart LENGTH SIGNAL..`
@@ -208,14 +233,15 @@ fn chart_job<'a>(alloc: Global, found: &ArgMatches<'a>) -> Result<Job<'a>, Value
     }
 }
 
-/// `check FILE`
+/// `check [--explain] FILE`
 #[tactic(auto, using(crate::proofs::CommandLine::value_in_rows, crate::proofs::CommandLine::text_is_given))]
 fn check_job<'a>(found: &ArgMatches<'a>) -> Job<'a>
     requires { HasSome (rows_of (found_of found.now)) (codes "FILE") }
     ensures { IsJobOf result (codes "check") (rows_of (found_of found.now)) }
 {
     let file = found.get_str("FILE").unwrap();
-    Job::Check { file }
+    let explain = is_set(found, "explain");
+    Job::Check { file, explain }
 }
 
 /// `export --db FILE NET N`
@@ -240,14 +266,15 @@ fn export_job<'a>(found: &ArgMatches<'a>) -> Result<Job<'a>, ValueFault<'a>>
     }
 }
 
-/// `format FILE`
+/// `format [--explain] FILE`
 #[tactic(auto, using(crate::proofs::CommandLine::value_in_rows, crate::proofs::CommandLine::text_is_given))]
 fn format_job<'a>(found: &ArgMatches<'a>) -> Job<'a>
     requires { HasSome (rows_of (found_of found.now)) (codes "FILE") }
     ensures { IsJobOf result (codes "format") (rows_of (found_of found.now)) }
 {
     let file = found.get_str("FILE").unwrap();
-    Job::Format { file }
+    let explain = is_set(found, "explain");
+    Job::Format { file, explain }
 }
 
 /// `serve --db FILE [--port N] [--count N]`

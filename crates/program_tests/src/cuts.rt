@@ -1,7 +1,7 @@
 //! A file that is cut at each of its bytes.
 use crate::dbc_files::FILE;
 use crate::row::run_on;
-use canoffice_cli::{FileFault, FileSource, MemoryDatabase, Status};
+use canoffice_cli::{FileFault, FileSource, MemoryDatabase, StandardInput, Status};
 use std::alloc::Global;
 
 /// Files of which each has these bytes. Contracts see nothing of them.
@@ -20,6 +20,16 @@ impl FileSource for Cut<'_> {
             Ok(bytes) => Ok(bytes),
             Err(_) => Err(FileFault::Memory),
         }
+    }
+}
+
+impl StandardInput for Cut<'_> {
+    ghost use Rattle.office_script.specs.Files.{unknown};
+
+    ghost given = { λ _. unknown };
+
+    fn read_input(&self, alloc: Global) -> Result<Vec<u8>, FileFault> {
+        self.read(alloc, "-")
     }
 }
 

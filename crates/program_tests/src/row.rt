@@ -1,6 +1,6 @@
 //! Runs of the program, as rows of a table.
 use canoffice_cli::{
-    FileSource, ListedFiles, MemoryDatabase, NamedFile, Progress, Status, perform,
+    FileSource, ListedFiles, MemoryDatabase, NamedFile, Progress, StandardInput, Status, perform,
 };
 use std::alloc::Global;
 
@@ -24,7 +24,7 @@ pub(crate) struct Printed {
 }
 
 /// Runs the program on the words, the files and the database, without a terminal.
-pub(crate) fn run_on<F: FileSource>(
+pub(crate) fn run_on<F: FileSource + StandardInput>(
     alloc: Global,
     words: &[&str],
     files: &F,
@@ -57,7 +57,8 @@ pub(crate) fn prints(
     database: &mut MemoryDatabase,
     wanted: (&[u8], &[u8], Status),
 ) -> bool {
-    let printed = run_on(alloc, words, &ListedFiles { files }, database);
+    let listed = ListedFiles { files, input: b"" };
+    let printed = run_on(alloc, words, &listed, database);
     printed.output.as_slice() == wanted.0
         && printed.errors.as_slice() == wanted.1
         && printed.status == wanted.2

@@ -1,0 +1,21 @@
+use Rattle.canoffice_cli.specs.Explaining.{IsSaid}
+use Rattle.canoffice_cli.specs.Performance.{ComesTo}
+use Rattle.canoffice_cli.proofs.SaidMore.{with_more, without_more}
+use Rattle.canoffice_cli.proofs.file_jobs.bytes_report.Goals as goal
+
+pub returns-then-job : goal.returns-then-job
+returns-then-job g c =
+    let files = g.F.FileSource.held c.args.files.now in
+    let before = g.D.Databases.known c.args.databases.now in
+    let after = g.D.Databases.known c.task_report.new.databases in
+    let job = c.args.job in
+    with_more job.explain (ComesTo files before after job.task c.args.bytes.now) (IsSaid job.task job.path.now c.args.bytes.now) c.in_ok-report.report c.in_ok-report.ensures
+    c.explained_report.result c.if-job.true (rw c.as_bytes.ensures.value at c.explained_report.ensures)
+
+pub returns-else-job : goal.returns-else-job
+returns-else-job g c =
+    let files = g.F.FileSource.held c.args.files.now in
+    let before = g.D.Databases.known c.args.databases.now in
+    let after = g.D.Databases.known c.task_report.new.databases in
+    let job = c.args.job in
+    without_more job.explain (ComesTo files before after job.task c.args.bytes.now) (IsSaid job.task job.path.now c.args.bytes.now) c.in_ok-report.report c.in_ok-report.ensures c.if-job.false

@@ -1,0 +1,48 @@
+//! What `--explain` says on standard error, after what is said there without it.
+ghost use Rattle.std.specs.Prelude.{IfOk};
+ghost use Rattle.canoffice_cli.specs.Explaining.{Explains, IsSaid, IsSaidOfFormat};
+ghost use Rattle.canoffice_cli.specs.Outcome.{outcome_of};
+
+use crate::file_jobs::FileTask;
+use crate::report::Report;
+use dbc_advice::{Source, explained, left_out};
+use dbc_read::{ReadCode, read};
+use std::alloc::{AllocError, Global};
+
+/// What is said of a DBC text whose canonical text is printed: what this leaves out, or why it reads as no sheet.
+fn said_of_format(alloc: Global, source: Source) -> Result<Vec<u8>, AllocError>
+    ensures { IfOk result (λ said. IsSaidOfFormat source.entry.name.now source.entry.text.now said.items) }
+{
+    match read(alloc, source.text) {
+        Ok(reading) => left_out(alloc, source, &reading),
+        Err(fault) => match fault.code {
+            ReadCode::Memory => Err(AllocError),
+            _ => explained(alloc, source),
+        },
+    }
+}
+
+/// What is said of a file, by what is done with its bytes.
+fn said(alloc: Global, task: FileTask<'_>, source: Source) -> Result<Vec<u8>, AllocError>
+    ensures { IfOk result (λ said. IsSaid task.entry source.entry.name.now source.entry.text.now said.items) }
+{
+    match task {
+        FileTask::Check => explained(alloc, source),
+        FileTask::Format => said_of_format(alloc, source),
+        FileTask::Apply(_) | FileTask::Table => Ok(Vec::new(alloc)),
+    }
+}
+
+/// The report of a task on a file, with what is said of the file after the report's own bytes for standard error. The
+/// error is out of memory.
+pub(crate) fn explained_report(
+    alloc: Global,
+    task: FileTask<'_>,
+    source: Source,
+    report: Report,
+) -> Result<Report, AllocError>
+    ensures { IfOk result (λ more. Explains (IsSaid task.entry source.entry.name.now source.entry.text.now) (outcome_of report) (outcome_of more)) }
+{
+    let said = said(alloc, task, source)?;
+    report.and_errors(&said)
+}

@@ -1,3 +1,4 @@
 pub mod ToldMore
 pub mod FaultLines
+pub mod PartedMore
 pub mod Rows

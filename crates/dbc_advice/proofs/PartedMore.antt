@@ -1,0 +1,42 @@
+-- One more skipped statement, told by itself or left.
+use Rattle.std.proofs.Common.{◌≡◌, ◌+◌, ◌<◌, ℕ, List, [], ◌∷◌, ◌++◌, All, Option, Some, None, length, map, take, get_or, refl, sym, ap, subst, ◌∙◌, append-nil}
+use Rattle.std.specs.List.{flat_map}
+use Rattle.std.proofs.lemmas.List.{take_more}
+use Rattle.std.proofs.lemmas.List.Concat.{flat_map-append}
+use Rattle.std.proofs.lemmas.List.Elements.{All-push}
+use Rattle.catalogue.specs.declared.sheet.Sheet.{Sheet}
+use Rattle.dbc_read.specs.declared.passed.Passed.{Passed}
+use Rattle.dbc_advice.specs.LeftOut.{ArePartedFrom, IsAbsent, Marked, marked_text, unmarked}
+use Rattle.dbc_advice.specs.declared.citation.Citation.{Citation}
+
+module _ (file text : List ℕ) (s : Sheet) where
+  one_marked : (p : Passed) (o : Option Citation) → flat_map (λ (m : Marked). marked_text file text m.0 m.1) ((p, o) ∷ []) ≡ marked_text file text p o
+  one_marked p o = append-nil (marked_text file text p o)
+
+  one_unmarked : (p : Passed) (o : Option Citation) → flat_map (λ (m : Marked). unmarked m.0 m.1) ((p, o) ∷ []) ≡ unmarked p o
+  one_unmarked p o = append-nil (unmarked p o)
+
+  -- after these, one more
+  pub parted_more : (passed : List Passed) (lines new_lines : List ℕ) (others new_others : List Passed) (p : Passed) (o : Option Citation) → ArePartedFrom file text s passed lines others
+      → IsAbsent s o → new_lines ≡ lines ++ marked_text file text p o → new_others ≡ others ++ unmarked p o → ArePartedFrom file text s (passed ++ p ∷ []) new_lines new_others
+  parted_more passed lines new_lines others new_others p o are absent l u =
+      let more : List Marked = are.marked ++ (p, o) ∷ [] in
+      record {
+        marked = more;
+        all = map_more are.marked ∙ ap (λ xs. xs ++ p ∷ []) are.all;
+        absent = All-push (λ (m : Marked). IsAbsent s m.1) are.marked (p, o) are.absent absent;
+        lines_are = l ∙ ap (λ xs. xs ++ marked_text file text p o) are.lines_are ∙ ap (λ xs. flat_map (λ (m : Marked). marked_text file text m.0 m.1) are.marked ++ xs) (sym (one_marked p o)) ∙ sym (flat_map-append (λ (m : Marked). marked_text file text m.0 m.1) are.marked ((p, o) ∷ []));
+        others_are = u ∙ ap (λ xs. xs ++ unmarked p o) are.others_are ∙ ap (λ xs. flat_map (λ (m : Marked). unmarked m.0 m.1) are.marked ++ xs) (sym (one_unmarked p o)) ∙ sym (flat_map-append (λ (m : Marked). unmarked m.0 m.1) are.marked ((p, o) ∷ []));
+      }
+    where
+      map_more : (ms : List Marked) → map (λ (m : Marked). m.0) (ms ++ (p, o) ∷ []) ≡ map (λ (m : Marked). m.0) ms ++ p ∷ []
+      map_more [] = refl
+      map_more (m ∷ ms) = ap (λ xs. m.0 ∷ xs) (map_more ms)
+
+  -- the same along the equations of the code
+  pub parted_after : (passed : List Passed) (i : ℕ) (lines new_lines : List ℕ) (others new_others : List Passed) (p : Passed) (o : Option Citation) → i < length passed → p ≡ get_or passed i p
+      → ArePartedFrom file text s (take i passed) lines others → IsAbsent s o → new_lines ≡ lines ++ marked_text file text p o → new_others ≡ others ++ unmarked p o
+      → ArePartedFrom file text s (take (i + 1) passed) new_lines new_others
+  parted_after passed i lines new_lines others new_others p o lt item are absent l u =
+      let more : take (i + 1) passed ≡ take i passed ++ p ∷ [] = take_more passed i p lt ∙ ap (λ (q : Passed). take i passed ++ q ∷ []) (sym item) in
+      subst (λ ps. ArePartedFrom file text s ps new_lines new_others) (sym more) (parted_more (take i passed) lines new_lines others new_others p o are absent l u)

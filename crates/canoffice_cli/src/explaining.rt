@@ -1,12 +1,13 @@
 //! What `--explain` says on standard error, after what is said there without it.
-ghost use Rattle.std.specs.Prelude.{IfOk};
-ghost use Rattle.canoffice_cli.specs.Explaining.{Explains, IsSaid, IsSaidOfFormat};
+ghost use Rattle.std.specs.Prelude.{◌≡◌, IfOk};
+ghost use Rattle.canoffice_cli.specs.Explaining.{Explains, IsSaid, IsSaidOfFormat, dash_of};
 ghost use Rattle.canoffice_cli.specs.Outcome.{outcome_of};
 
 use crate::file_jobs::FileTask;
 use crate::report::Report;
 use dbc_advice::{Source, explained, left_out};
 use dbc_read::{ReadCode, read};
+use office_script::Dash;
 use std::alloc::{AllocError, Global};
 
 /// What is said of a DBC text whose canonical text is printed: what this leaves out, or why it reads as no sheet.
@@ -22,6 +23,16 @@ fn said_of_format(alloc: Global, source: Source) -> Result<Vec<u8>, AllocError>
     }
 }
 
+/// What `-` means as a key in a script for the office in this database, or for one in memory.
+fn dash_of(database: Option<&str>) -> Dash
+    ensures { result ≡ dash_of database.entry }
+{
+    match database {
+        None => Dash::LineNumber,
+        Some(_) => Dash::Wrong,
+    }
+}
+
 /// What is said of a file, by what is done with its bytes.
 fn said(alloc: Global, task: FileTask<'_>, source: Source) -> Result<Vec<u8>, AllocError>
     ensures { IfOk result (λ said. IsSaid task.entry source.entry.name.now source.entry.text.now said.items) }
@@ -29,7 +40,10 @@ fn said(alloc: Global, task: FileTask<'_>, source: Source) -> Result<Vec<u8>, Al
     match task {
         FileTask::Check => explained(alloc, source),
         FileTask::Format => said_of_format(alloc, source),
-        FileTask::Apply(_) | FileTask::Table => Ok(Vec::new(alloc)),
+        FileTask::Apply(database) => {
+            script_advice::explained(alloc, source.name, source.text, dash_of(database))
+        }
+        FileTask::Table => Ok(Vec::new(alloc)),
     }
 }
 

@@ -6,6 +6,7 @@ use Rattle.catalogue.specs.declared.sheet.Sheet.{Sheet}
 use Rattle.dbc_advice.specs.Explained.{IsExplained}
 use Rattle.dbc_advice.specs.LeftOut.{IsLeftOut}
 use Rattle.dbc_read.specs.Passed.{start_and_keyword}
+use Rattle.dbc_read.specs.Reading.{ReadsAsNothing}
 use Rattle.dbc_read.specs.declared.passed.Passed.{Passed}
 use Rattle.office_script.specs.Lines.{lines_of}
 use Rattle.office_script.specs.declared.keys.Dash.{Dash}
@@ -15,10 +16,10 @@ use Rattle.canoffice_cli.specs.Outcome.{Outcome, and_errors}
 use Rattle.canoffice_cli.specs.declared.file_jobs.FileTask.{FileTask}
 use Rattle.canoffice_cli.specs.declared.file_jobs.FileTask.TheVariants as task
 
--- what is said of a DBC text whose canonical text is printed: its faults, or what its sheet leaves out
+-- what is said of a DBC text whose canonical text is printed: what its sheet leaves out, or its faults if it reads as none
 abbrev pub IsSaidOfFormat : List ℕ → List ℕ → List ℕ → Type 0
 IsSaidOfFormat name bytes said =
-    IsExplained name bytes said
+    (ReadsAsNothing bytes × IsExplained name bytes said)
     ⊎ ((s : Sheet) × (passed : List Passed) × ReadsAs bytes s (map start_and_keyword passed) × IsLeftOut name bytes s passed said)
 
 -- what `-` means as a key in a script for the office in this database, or for one in memory

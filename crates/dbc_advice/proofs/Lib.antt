@@ -1,4 +1,5 @@
 pub mod ToldMore
 pub mod FaultLines
 pub mod PartedMore
+pub mod KindsMore
 pub mod Rows

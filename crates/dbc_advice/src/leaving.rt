@@ -1,9 +1,8 @@
 //! What is said of statements that are skipped: those that cite what isn't in the file one by one, the others kind by
 //! kind.
-ghost use Rattle.std.specs.Prelude.{◌≡◌, ◌++◌, ◌≤◌, IfOk, IfSome, codes, length, string_bytes, true};
-ghost use Rattle.catalogue.specs.Keyword.{keyword_text};
-ghost use Rattle.dbc_advice.specs.Citation.{citation_text, is_missing};
-ghost use Rattle.dbc_advice.specs.LeftOut.{ArePartedFrom, IsLeftOut, count_text, has_keyword, kind_count, kind_text, kinds_text, passed_label, passed_line};
+ghost use Rattle.std.specs.Prelude.{◌≡◌, ◌≤◌, IfOk, length, string_bytes};
+ghost use Rattle.dbc_advice.specs.Citation.{citation_text};
+ghost use Rattle.dbc_advice.specs.LeftOut.{ArePartedFrom, IsAbsent, IsLeftOut, count_text, has_keyword, kind_count, kind_text, kinds_text, passed_label, passed_line};
 
 use crate::citation::{Citation, citation_at, citation_text, is_missing};
 use crate::notes::Source;
@@ -41,11 +40,27 @@ fn passed_line(
 
 /// What the skipped statement cites, if the sheet doesn't have it.
 fn missing<'a>(sheet: &Sheet, text: &'a [u8], passed: Passed) -> Option<Citation<'a>>
-    ensures { IfSome result (λ citation. is_missing sheet.now citation ≡ true) }
+    ensures { IsAbsent sheet.now result }
 {
     let citation = citation_at(text, passed.at)?;
     if is_missing(sheet, citation) {
         Some(citation)
+    } else {
+        None
+    }
+}
+
+/// The same after so many that are told: nothing, if enough are.
+fn missing_after<'a>(
+    told: usize,
+    sheet: &Sheet,
+    text: &'a [u8],
+    passed: Passed,
+) -> Option<Citation<'a>>
+    ensures { IsAbsent sheet.now result }
+{
+    if told < CITATIONS_TOLD {
+        missing(sheet, text, passed)
     } else {
         None
     }
@@ -106,12 +121,7 @@ fn parted(alloc: Global, source: Source, reading: &Reading) -> Result<Parted, Al
     let mut others = Vec::new(alloc);
     let mut told = 0usize;
     for passed in reading.passed.as_slice() {
-        let citation = if told < CITATIONS_TOLD {
-            missing(&reading.sheet, source.text, *passed)
-        } else {
-            None
-        };
-        match citation {
+        match missing_after(told, &reading.sheet, source.text, *passed) {
             Some(citation) => {
                 let line = missing_line(alloc, source, *passed, citation)?;
                 lines.extend_from_slice(&line)?;

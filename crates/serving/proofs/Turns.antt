@@ -39,9 +39,13 @@ ran_on : (h : List Answered) (vs : List Visit) (v : Visit) (failed_old : Bool) (
     → Ran h vs failed_old old → IsTrue failed_old ⊎ IsFalse failed_old → Ran h (vs ++ v ∷ []) failed_new new
 ran_on h vs v failed_old old failed_new new turn r (inl failed) =
     let same = turn.refused failed in
-    let not_sound : IsFalse failed_new → ⊥ = λ sound. not_both failed_old failed (subst IsFalse same.0 sound) in
-    (r.0, follows_then h vs v r.0 r.0 r.1 (inl (subst IsTrue (sym turn.came) failed, refl)), r.2, λ sound. absurd (not_sound sound),
-    subst (λ (t : State). IsTrue t.is_open → Holding r.0 t) (sym same.1) r.4)
+    let not_sound : IsFalse failed_new → ⊥ = λ sound. not_both failed_old failed (subst IsFalse same.0 sound) in (
+      r.0,
+      follows_then h vs v r.0 r.0 r.1 (inl (subst IsTrue (sym turn.came) failed, refl)),
+      r.2,
+      λ sound. absurd (not_sound sound),
+      subst (λ (t : State). IsTrue t.is_open → Holding r.0 t) (sym same.1) r.4,
+    )
 ran_on h vs v failed_old old failed_new new turn r (inr sound) =
     let holding = r.4 (r.3 sound) in
     let led = turn.leads r.0 holding in

@@ -1,5 +1,4 @@
 pub mod ToldMore
 pub mod FaultLines
 pub mod PartedMore
-pub mod KindsMore
 pub mod Rows

@@ -106,7 +106,7 @@ fn count_text(alloc: Global, count: usize) -> Result<String, AllocError>
 }
 
 /// What is told one by one, and the statements that are left.
-struct Parted {
+struct Parts {
     /// A line for each of those that cite what isn't in the file.
     lines: Vec<u8>,
     /// The other ones.
@@ -114,7 +114,7 @@ struct Parted {
 }
 
 /// Tells each of the statements that cite what isn't in the file, up to [`CITATIONS_TOLD`].
-fn parted(alloc: Global, source: Source, reading: &Reading) -> Result<Parted, AllocError>
+fn parted(alloc: Global, source: Source, reading: &Reading) -> Result<Parts, AllocError>
     ensures { IfOk result (λ p. ArePartedFrom source.entry.name.now source.entry.text.now reading.now.sheet reading.now.passed p.lines.items p.others.items) }
 {
     let mut lines = Vec::new(alloc);
@@ -130,7 +130,7 @@ fn parted(alloc: Global, source: Source, reading: &Reading) -> Result<Parted, Al
             None => others.push(*passed)?,
         }
     }
-    Ok(Parted { lines, others })
+    Ok(Parts { lines, others })
 }
 
 /// The line of the statement at the index, if no earlier one has its keyword, with how many have it.
@@ -176,9 +176,9 @@ pub fn left_out(alloc: Global, source: Source, reading: &Reading) -> Result<Vec<
     Ok(lines)
 }
 
-impl Drop for Parted {
+impl Drop for Parts {
     fn drop(self) {
-        let Parted {
+        let Parts {
             lines: _lines,
             others: _others,
         } = self;

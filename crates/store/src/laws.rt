@@ -1,9 +1,7 @@
 //! Laws of tables that hold a history. Each is the contract of a function that does nothing.
 ghost use Rattle.store.specs.Laws.{HeldNetworksAreClear, HeldNumbersMeanOneThing};
 
-use office_history::{
-    histories_leave_offices, numbers_keep_their_names, spns_are_given_once,
-};
+use office_history::{histories_leave_offices, numbers_keep_their_names, spns_are_given_once};
 
 /// After every history that tables hold, no two live messages of a network have one identifier, no message has two
 /// signals that share a bit, and `message` has one row for each live message and no other.

@@ -1,5 +1,5 @@
 //! Writers that fail, and memory that runs out.
-use crate::row::run_on;
+use crate::run::run_on;
 use canoffice_cli::{
     FileFault, FileSource, MemoryDatabase, Report, StandardInput, Status, deliver,
 };

@@ -6,7 +6,7 @@ use Rattle.std.specs.Prelude.{All, IsTrue, IsFalse}
 use Rattle.sqlite.specs.State.{State}
 use Rattle.office_history.specs.History.{Answered}
 use Rattle.store.specs.Holding.{Holding}
-use Rattle.serving.specs.Serving.{Came, Ended, FailsOnce, Follows, IsDeclined, Leads, Ran, Visit}
+use Rattle.serving.specs.Serving.{Came, Ended, Ending, FailsOnce, Follows, IsDeclined, Leads, Ran, Visit, written_to}
 use Rattle.serving.proofs.Visits.{LedTo, decides, legal_of, not_both}
 
 follows_then : (h : List Answered) (vs : List Visit) (v : Visit) (h1 h2 : List Answered) → Follows h vs h1 → Leads h1 v h2 → Follows h (vs ++ v ∷ []) h2
@@ -32,7 +32,7 @@ ran_none h failed s holding = (h, refl, legal_of h s holding, λ sound. holding.
 pub record Turn (failed_old : Bool) (old : State) (v : Visit) (failed_new : Bool) (new : State) : Type 1 where
   pub came : v.office_failed ≡ failed_old
   pub refused : IsTrue failed_old → (failed_new ≡ failed_old) × (new ≡ old)
-  pub leads : (h : List Answered) → Holding h old → LedTo h v.fault v.sent v.written new
+  pub leads : (h : List Answered) → Holding h old → LedTo h v.fault v.sent (written_to v) new
   pub opened : (h : List Answered) → Holding h old → IsFalse failed_new → IsTrue new.is_open
 
 ran_on : (h : List Answered) (vs : List Visit) (v : Visit) (failed_old : Bool) (old : State) (failed_new : Bool) (new : State) → Turn failed_old old v failed_new new
@@ -56,11 +56,11 @@ pub ran_then : (h : List Answered) (vs : List Visit) (v : Visit) (failed_old : B
     → Turn failed_old old v failed_new new → Ran h vs failed_old old → Ran h (vs ++ v ∷ []) failed_new new
 ran_then h vs v failed_old old failed_new new turn ran = ran_on h vs v failed_old old failed_new new turn ran (decides failed_old)
 
-told_then : (f : Visit → Option (List ℕ)) (vs : List Visit) (v : Visit) (xs ys : List (List ℕ)) → map f vs ≡ map Some xs → map f (v ∷ []) ≡ map Some ys
+told_then : {T : Type 0} (f : Visit → Option T) (vs : List Visit) (v : Visit) (xs ys : List T) → map f vs ≡ map Some xs → map f (v ∷ []) ≡ map Some ys
     → map f (vs ++ v ∷ []) ≡ map Some (xs ++ ys)
-told_then f vs v xs ys first last =
-    map-append f vs (v ∷ []) ∙ ap (λ (l : List (Option (List ℕ))). l ++ map f (v ∷ [])) first
-    ∙ ap (λ (l : List (Option (List ℕ))). map Some xs ++ l) last ∙ sym (map-append Some xs ys)
+told_then {T} f vs v xs ys first last =
+    map-append f vs (v ∷ []) ∙ ap (λ (l : List (Option T)). l ++ map f (v ∷ [])) first
+    ∙ ap (λ (l : List (Option T)). map Some xs ++ l) last ∙ sym (map-append Some xs ys)
 
 pub came_none : (old : Option (List (List ℕ))) → Came old old []
 came_none None = tt
@@ -72,16 +72,16 @@ came_then (Some coming) b c vs v x y =
     let z = subst (λ (o : Option (List (List ℕ))). Came o c (v ∷ [])) x.3 y in
     (x.0 ++ z.0, z.1, x.2 ∙ ap (λ (l : List (List ℕ)). x.0 ++ l) z.2 ∙ sym (append_assoc x.0 z.0 z.1), z.3, told_then (λ w. w.sent) vs v x.0 z.0 x.4 z.4)
 
-pub ended_none : (old : Option (List (List ℕ))) → Ended old old []
+pub ended_none : (old : Option (List Ending)) → Ended old old []
 ended_none None = refl
 ended_none (Some ended) = ([], sym (append-nil ended), refl)
 
-pub ended_then : (a b c : Option (List (List ℕ))) (vs : List Visit) (v : Visit) → Ended a b vs → Ended b c (v ∷ []) → Ended a c (vs ++ v ∷ [])
-ended_then None b c vs v x y = subst (λ (o : Option (List (List ℕ))). Ended o c (v ∷ [])) x y
-ended_then (Some ended) None c vs v x y = subst (λ (o : Option (List (List ℕ))). Ended (Some ended) o (vs ++ v ∷ [])) (sym y) tt
+pub ended_then : (a b c : Option (List Ending)) (vs : List Visit) (v : Visit) → Ended a b vs → Ended b c (v ∷ []) → Ended a c (vs ++ v ∷ [])
+ended_then None b c vs v x y = subst (λ (o : Option (List Ending)). Ended o c (v ∷ [])) x y
+ended_then (Some ended) None c vs v x y = subst (λ (o : Option (List Ending)). Ended (Some ended) o (vs ++ v ∷ [])) (sym y) tt
 ended_then (Some ended) (Some more) None vs v x y = tt
 ended_then (Some ended) (Some more) (Some most) vs v x y = (
   x.0 ++ y.0,
-  y.1 ∙ ap (λ (l : List (List ℕ)). l ++ y.0) x.1 ∙ append_assoc ended x.0 y.0,
-  told_then (λ w. w.written) vs v x.0 y.0 x.2 y.2,
+  y.1 ∙ ap (λ (l : List Ending). l ++ y.0) x.1 ∙ append_assoc ended x.0 y.0,
+  told_then (λ w. w.ending) vs v x.0 y.0 x.2 y.2,
 )

@@ -1,7 +1,7 @@
 -- What comes of one connection, from what is known of the desk.
 use Rattle.std.proofs.Common.{◌≡◌, ◌∙◌, ◌⊎◌, ℕ, List, [], ◌∷◌, ◌++◌, Bool, true, false, Option, None, Some, Result, Ok, Err, OnOk, IsErrOf, inl, inr, refl, sym, ap, subst}
-use Rattle.std.specs.Prelude.{IsTrue, IsFalse}
-use Rattle.std.specs.Io.KnownBytes.{Appends}
+use Rattle.std.specs.Prelude.{◌+◌, IfSome, IsTrue, IsFalse, option_map}
+use Rattle.std.specs.Io.KnownBytes.{Appends, Consumes}
 use Rattle.sqlite.specs.State.{State}
 use Rattle.office_history.specs.History.{Answered, IsLegalHistory}
 use Rattle.store.specs.Holding.{Holding}
@@ -9,16 +9,32 @@ use Rattle.desk_types.specs.Moved.{AppendsFront}
 use Rattle.desk_types.specs.declared.fault.DeskFault.{DeskFault}
 use Rattle.desk_types.specs.declared.fault.DeskFault.TheVariants.{Read, Write, Memory}
 use Rattle.desk_call.specs.Call.{Asked, Asking, arrives}
+use Rattle.desk_call.specs.Read.{IsNotWhole}
 use Rattle.office_history.specs.declared.arrival.Answer.{Answer}
 use Rattle.desk.specs.Serving.{HasBegun, HasBegunRefusal, HasGivenUp, HasRefused, HasServed, IsAsked, MayHaveTaken, Responds, answered_as}
-use Rattle.serving.specs.Serving.{Came, Comes, DeclinesBy, Ended, Ends, IsReply, LeadsBy, MayGoOn, Starts, Visit, Wrote, WroteFront, fault_of}
+use Rattle.serving.specs.Serving.{Came, Comes, DeclinesBy, Ended, Ending, Ends, IsCause, IsCutShort, IsReply, LeadsBy, MayGoOn, Starts, Visit, Wrote, WroteFront, fault_of}
 
 -- ---- what was written
 
 -- what is told of the bytes that were written, if the listener tells of connections that have ended
-abbrev pub written_of : Option (List (List ℕ)) → Option (List ℕ) → Option (List ℕ)
+abbrev pub written_of : Option (List Ending) → Option (List ℕ) → Option (List ℕ)
 written_of None told = None
 written_of (Some ended) told = told
+
+-- an ending with these bytes, failed reads and failed writes
+abbrev ending_with : ℕ → ℕ → List ℕ → Ending
+ending_with reads writes bytes = record { written = bytes; failed_reads = reads; failed_writes = writes }
+
+-- what is told of the ending, if the listener tells of connections that have ended
+abbrev pub ending_told : Option (List Ending) → Option (List ℕ) → ℕ → ℕ → Option Ending
+ending_told None told reads writes = None
+ending_told (Some ended) told reads writes = option_map (ending_with reads writes) told
+
+pub written_is : (ended : Option (List Ending)) (told : Option (List ℕ)) (reads writes : ℕ)
+    → written_of ended told ≡ option_map (λ (e : Ending). e.written) (ending_told ended told reads writes)
+written_is None told reads writes = refl
+written_is (Some e) None reads writes = refl
+written_is (Some e) (Some bytes) reads writes = refl
 
 fresh : (new : Option (List ℕ)) (text : List ℕ) → Appends (Some []) new text → Wrote new text
 fresh None text appends = absurd appends
@@ -28,18 +44,18 @@ fresh_front : (new : Option (List ℕ)) (text front rest : List ℕ) → text �
 fresh_front None text front rest is appends = absurd appends
 fresh_front (Some bytes) text front rest is appends = (rest, subst (λ (l : List ℕ). text ≡ l ++ rest) (sym appends) is)
 
-wrote : (ended : Option (List (List ℕ))) (old new : Option (List ℕ)) (text : List ℕ)
+wrote : (ended : Option (List Ending)) (old new : Option (List ℕ)) (text : List ℕ)
     → Starts ended old → Appends old new text → Wrote (written_of ended new) text
 wrote None old new text starts appends = tt
 wrote (Some e) old new text starts appends = fresh new text (subst (λ (o : Option (List ℕ)). Appends o new text) starts appends)
 
-wrote_front : (ended : Option (List (List ℕ))) (old new : Option (List ℕ)) (text : List ℕ)
+wrote_front : (ended : Option (List Ending)) (old new : Option (List ℕ)) (text : List ℕ)
     → Starts ended old → AppendsFront old new text → WroteFront (written_of ended new) text
 wrote_front None old new text starts a = tt
 wrote_front (Some e) old new text starts a =
     fresh_front new text a.0 a.1 a.2 (subst (λ (o : Option (List ℕ)). Appends o new a.0) starts a.3)
 
-wrote_nothing : (ended : Option (List (List ℕ))) (old new : Option (List ℕ)) → Starts ended old → new ≡ old → Wrote (written_of ended new) []
+wrote_nothing : (ended : Option (List Ending)) (old new : Option (List ℕ)) → Starts ended old → new ≡ old → Wrote (written_of ended new) []
 wrote_nothing None old new starts same = tt
 wrote_nothing (Some e) old new starts same = subst (λ (o : Option (List ℕ)). Wrote o []) (sym (same ∙ starts)) refl
 
@@ -92,7 +108,7 @@ pub record Service {T : Type 0} (r : Result T DeskFault) (h : List Answered) (se
   pub unwritten : IsErrOf r Write → HasBegun h sent old new s
   pub lacking : IsErrOf r Memory → HasGivenUp h sent s × (new ≡ old)
 
-pub led : {T : Type 0} (r : Result T DeskFault) (h : List Answered) (ended : Option (List (List ℕ))) (sent old new : Option (List ℕ)) (s : State)
+pub led : {T : Type 0} (r : Result T DeskFault) (h : List Answered) (ended : Option (List Ending)) (sent old new : Option (List ℕ)) (s : State)
     → Starts ended old → IsLegalHistory h → Service r h sent old new s → LedTo h (fault_of r) sent (written_of ended new) s
 led (Ok v) h ended sent old new s starts legal known =
     let w = known.whole in
@@ -116,12 +132,43 @@ pub record Refusal {T : Type 0} (r : Result T DeskFault) (sent old new : Option 
   pub unread : IsErrOf r Read → new ≡ old
   pub lacking : IsErrOf r Memory → new ≡ old
 
-pub declined : {T : Type 0} (r : Result T DeskFault) (ended : Option (List (List ℕ))) (sent old new : Option (List ℕ))
+pub declined : {T : Type 0} (r : Result T DeskFault) (ended : Option (List Ending)) (sent old new : Option (List ℕ))
     → Starts ended old → Refusal r sent old new → DeclinesBy (fault_of r) sent (written_of ended new)
 declined (Ok v) ended sent old new starts known = let w = known.whole in (w.0, w.1, wrote ended old new _ starts w.2)
 declined (Err Read) ended sent old new starts known = wrote_nothing ended old new starts (known.unread refl)
 declined (Err Write) ended sent old new starts known = let w = known.begun refl in (w.0, w.1, wrote_front ended old new _ starts w.2)
 declined (Err Memory) ended sent old new starts known = wrote_nothing ended old new starts (known.lacking refl)
+
+-- ---- why it ended
+
+-- what is known of the calls of its two sides
+pub record Calls {T : Type 0} (r : Result T DeskFault) (sent after : Option (List ℕ)) (reads_old reads writes_old writes : ℕ) : Type 0 where
+  pub healthy : OnOk r ((reads ≡ reads_old) × (writes ≡ writes_old))
+  pub unread : IsErrOf r Read → (bytes : List ℕ) × Consumes sent after bytes × IsNotWhole bytes
+  pub read_failed : IsErrOf r Read → reads ≡ reads_old + 1
+  pub write_failed : IsErrOf r Write → writes ≡ writes_old + 1
+
+cut_short : (sent after : Option (List ℕ)) (bytes : List ℕ) → Consumes sent after bytes → IsNotWhole bytes → IsCutShort sent
+cut_short None after bytes consumes is = tt
+cut_short (Some input) None bytes consumes is = absurd consumes
+cut_short (Some input) (Some rest) bytes consumes is = (bytes, rest, consumes, is)
+
+of_ending : (P : Ending → Type 0) (ended : Option (List Ending)) (told : Option (List ℕ)) (reads writes : ℕ)
+    → ((bytes : List ℕ) → P (ending_with reads writes bytes)) → IfSome (ending_told ended told reads writes) P
+of_ending P None told reads writes is = tt
+of_ending P (Some e) None reads writes is = tt
+of_ending P (Some e) (Some bytes) reads writes is = is bytes
+
+pub caused : {T : Type 0} (r : Result T DeskFault) (ended : Option (List Ending)) (told sent after : Option (List ℕ)) (reads_old reads writes_old writes : ℕ)
+    → reads_old ≡ 0 → writes_old ≡ 0 → Calls r sent after reads_old reads writes_old writes → IsCause (fault_of r) sent (ending_told ended told reads writes)
+caused (Ok v) ended told sent after reads_old reads writes_old writes no_read no_write known =
+    of_ending (λ e. (e.failed_reads ≡ 0) × (e.failed_writes ≡ 0)) ended told reads writes (λ bytes. (known.healthy.0 ∙ no_read, known.healthy.1 ∙ no_write))
+caused (Err Read) ended told sent after reads_old reads writes_old writes no_read no_write known =
+    let u = known.unread refl in
+    (cut_short sent after u.0 u.1 u.2, of_ending (λ e. e.failed_reads ≡ 1) ended told reads writes (λ bytes. known.read_failed refl ∙ ap (λ n. n + 1) no_read))
+caused (Err Write) ended told sent after reads_old reads writes_old writes no_read no_write known =
+    of_ending (λ e. e.failed_writes ≡ 1) ended told reads writes (λ bytes. known.write_failed refl ∙ ap (λ n. n + 1) no_write)
+caused (Err Memory) ended told sent after reads_old reads writes_old writes no_read no_write known = tt
 
 -- ---- the listener
 
@@ -129,8 +176,10 @@ pub one_came : (old new : Option (List (List ℕ))) (v : Visit) → Comes old ne
 one_came None new v comes = tt
 one_came (Some coming) new v comes = (comes.0 ∷ [], comes.1, comes.2, comes.3, ap (λ (o : Option (List ℕ)). o ∷ []) comes.4)
 
-pub one_ended : (old new : Option (List (List ℕ))) (failed : Bool) (told sent : Option (List ℕ)) (fault : Option DeskFault)
-    → Ends old new told → Ended old new (record { office_failed = failed; sent = sent; written = written_of old told; fault = fault } ∷ [])
-one_ended None new failed told sent fault ends = ends
-one_ended (Some ended) None failed told sent fault ends = tt
-one_ended (Some ended) (Some more) failed told sent fault ends = (ends.0 ∷ [], ends.2, ap (λ (o : Option (List ℕ)). o ∷ []) ends.1)
+pub one_ended : (old new : Option (List Ending)) (failed : Bool) (told sent : Option (List ℕ)) (fault : Option DeskFault) (reads writes : ℕ)
+    → Ends old new told reads writes
+    → Ended old new (record { office_failed = failed; sent = sent; ending = ending_told old told reads writes; fault = fault } ∷ [])
+one_ended None new failed told sent fault reads writes ends = ends
+one_ended (Some ended) None failed told sent fault reads writes ends = tt
+one_ended (Some ended) (Some more) failed told sent fault reads writes ends =
+    (ending_with reads writes ends.0 ∷ [], ends.2, ap (λ (o : Option (List ℕ)). option_map (ending_with reads writes) o ∷ []) ends.1)

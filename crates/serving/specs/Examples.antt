@@ -8,11 +8,15 @@ use Rattle.desk_call.specs.Call.{fails, shows}
 use Rattle.desk_call.specs.declared.call.Look.TheVariants.{Release}
 use Rattle.desk_reply.specs.Response.{problem_response}
 use Rattle.desk.specs.Serving.{failed_response}
-use Rattle.serving.specs.Serving.{Came, Ended, FailsOnce, Follows, Visit}
+use Rattle.serving.specs.Serving.{Came, Ended, Ending, FailsOnce, Follows, HasCause, Visit}
+
+-- one read failed, and nothing was written
+abbrev unanswered : Ending
+unanswered = record { written = []; failed_reads = 1; failed_writes = 0 }
 
 -- a peer that sends the beginning of a request, and fails
 abbrev broken : Visit
-broken = record { office_failed = false; sent = Some (codes "GET /n"); written = Some []; fault = Some Read }
+broken = record { office_failed = false; sent = Some (codes "GET /n"); ending = Some unanswered; fault = Some Read }
 
 -- two such connections leave the history as it was
 two_broken : (h : List Answered) → Follows h (broken ∷ broken ∷ []) h
@@ -30,8 +34,12 @@ stays_failed next it = let sound = it.0 in cc
 one_came : Came (Some (codes "GET /n" ∷ codes "GET" ∷ [])) (Some (codes "GET" ∷ [])) (broken ∷ [])
 one_came = (codes "GET /n" ∷ [], codes "GET" ∷ [], refl, refl, refl)
 
-one_ended : Ended (Some []) (Some ([] ∷ [])) (broken ∷ [])
-one_ended = ([] ∷ [], refl, refl)
+one_ended : Ended (Some []) (Some (unanswered ∷ [])) (broken ∷ [])
+one_ended = (unanswered ∷ [], refl, refl)
+
+-- a connection of which no read failed doesn't end by `Read`
+not_for_nothing : HasCause (record broken { ending = Some (record unanswered { failed_reads = 0 }) }) → ⊥
+not_for_nothing cause = let failed = cause.1 in cc
 
 -- a request for nothing that is there is answered as ever once the office has failed, and one for a release is told to try again
 answered_still : failed_response (fails NotFound) ≡ problem_response NotFound

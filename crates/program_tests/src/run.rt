@@ -1,20 +1,8 @@
-//! Runs of the program, as rows of a table.
+//! Runs of the program, and what they print.
 use canoffice_cli::{
     FileSource, ListedFiles, MemoryDatabase, NamedFile, Progress, StandardInput, Status, perform,
 };
 use std::alloc::Global;
-
-/// A run, and all that it prints.
-#[derive(Clone, Copy)]
-pub(crate) struct Row {
-    pub(crate) name: &'static str,
-    /// The program's words. They name the file of the row as `file`.
-    pub(crate) words: &'static [&'static str],
-    pub(crate) file: &'static [u8],
-    pub(crate) output: &'static [u8],
-    pub(crate) errors: &'static [u8],
-    pub(crate) status: Status,
-}
 
 /// What a run printed, and how it ended.
 pub(crate) struct Printed {
@@ -62,17 +50,6 @@ pub(crate) fn prints(
     printed.output.as_slice() == wanted.0
         && printed.errors.as_slice() == wanted.1
         && printed.status == wanted.2
-}
-
-/// Whether a run on the row's words and file prints what the row has, and nothing else.
-pub(crate) fn is_printed(alloc: Global, row: &Row) -> bool {
-    let files = [NamedFile {
-        path: "file",
-        bytes: row.file,
-    }];
-    let mut none = MemoryDatabase { conn: None };
-    let printed = (row.output, row.errors, row.status);
-    prints(alloc, row.words, &files, &mut none, printed)
 }
 
 impl Drop for Printed {

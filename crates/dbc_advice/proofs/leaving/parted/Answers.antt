@@ -1,5 +1,4 @@
-use Rattle.std.proofs.Common.{ℕ, List, ◌++◌, Some, None, Vec, ap, sym, ◌∙◌, append-nil, arith}
-use Rattle.dbc_read.specs.declared.passed.Passed.{Passed}
+use Rattle.std.proofs.Common.{ℕ, List, ◌++◌, Some, None, ap, sym, ◌∙◌, append-nil, arith}
 use Rattle.dbc_advice.proofs.PartedMore.{parted_after}
 use Rattle.dbc_advice.proofs.leaving.parted.Goals as goal
 use Rattle.dbc_advice.proofs.leaving.parted.Goals.{in-Some+in_ok-line-in-Some+in_ok-extend_from_slice-in-Some, in-None+in_ok-push-in-None}

@@ -190,7 +190,7 @@ fn apply_job<'a>(found: &ArgMatches<'a>) -> Job<'a>
 }
 
 /// `chart LENGTH SIGNAL..`
-#[tactic(auto, using(crate::proofs::CommandLine::optional_in_rows, crate::proofs::CommandLine::values_in_rows, crate::proofs::CommandLine::text_is_given, crate::proofs::CommandLine::texts_are_given))]
+#[tactic(auto, using(crate::proofs::CommandLine::optional_in_rows, crate::proofs::CommandLine::text_is_given, crate::proofs::CommandLine::texts_are_given))]
 fn chart_job<'a>(alloc: Global, found: &ArgMatches<'a>) -> Result<Job<'a>, ValueFault<'a>>
     requires length { HasSome (rows_of (found_of found.now)) (codes "LENGTH") }
     requires signals { HasSome (rows_of (found_of found.now)) (codes "SIGNAL") }

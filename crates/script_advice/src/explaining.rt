@@ -60,12 +60,7 @@ fn first_wrong_line(
 /// What is told of a script under its name, beside what is answered: the line `NAME:LINE:COLUMN: bad line: sentence` of its
 /// first wrong line, at the word that is to blame, or nothing if no line is wrong. `dash` is what `-` means as a key. Files
 /// that lines name aren't looked at. The error is out of memory.
-pub fn explained(
-    alloc: Global,
-    name: &[u8],
-    text: &[u8],
-    dash: Dash,
-) -> Result<Vec<u8>, AllocError>
+pub fn explained(alloc: Global, name: &[u8], text: &[u8], dash: Dash) -> Result<Vec<u8>, AllocError>
     ensures told { IfOk result (λ told. told.items ≡ told_of name.now dash 1 (lines_of text.now)) }
 
     // A line is told to be wrong exactly if it is.

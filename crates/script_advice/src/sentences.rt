@@ -35,7 +35,12 @@ fn is_text(alloc: Global, field: Field) -> Result<Vec<u8>, AllocError>
 }
 
 /// Adds the range of the numbers of a block.
-fn add_block_range(text: &mut Vec<u8>, alloc: Global, name: &str, form: BlockForm) -> Result<(), AllocError>
+fn add_block_range(
+    text: &mut Vec<u8>,
+    alloc: Global,
+    name: &str,
+    form: BlockForm,
+) -> Result<(), AllocError>
     ensures { OnOk result (text.new.items ≡ text.old.items ++ block_range name.now form) }
 {
     let least = form.least();

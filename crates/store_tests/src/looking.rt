@@ -57,11 +57,7 @@ fn shows<S: Alter>(
 const CHARTS: usize = 8;
 
 /// Whether the charts of the first live messages are seen, and none of a message that isn't there.
-fn charts_are_seen<S: Alter>(
-    alloc: Global,
-    office: &mut Office<S>,
-    net: &Net,
-) -> io::Result<bool> {
+fn charts_are_seen<S: Alter>(alloc: Global, office: &mut Office<S>, net: &Net) -> io::Result<bool> {
     let mut right = true;
     for live in net.live.as_slice().iter().take(CHARTS) {
         let chart = message_chart(alloc, &live.message)?;

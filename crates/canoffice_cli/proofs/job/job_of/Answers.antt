@@ -22,7 +22,7 @@ returns-in-Err-WrongNumber-clause-fault c =
     let read = line_is_read (app_of c.in-Ok.command) words found.matches c.in-Ok.ensures.app found.ensures.kinds found.ensures.matches in
     let word = c.in-Err-WrongNumber.word.now in
     wrong_number_of words word c.wrong_number.result
-        (wrong_number_read words found.matches word read (rw c.in-Err-WrongNumber.field-0-is at c.in-Err-WrongNumber.ensures.fault)) c.wrong_number.ensures
+    (wrong_number_read words found.matches word read (rw c.in-Err-WrongNumber.field-0-is at c.in-Err-WrongNumber.ensures.fault)) c.wrong_number.ensures
 
 pub returns-clause-fault : goal.returns-clause-fault
 returns-clause-fault c =

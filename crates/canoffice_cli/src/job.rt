@@ -24,7 +24,7 @@ pub enum Job<'a> {
     },
     /// Print the chart of the signals that the words describe, in a message of this length.
     Chart {
-        /// The length, 0 to 8192 bytes.
+        /// The length, 0 to 64 bytes.
         length: u16,
         /// The words that describe the signals.
         signals: Vec<&'a str>,
@@ -94,7 +94,7 @@ enum ValueFault<'a> {
 ///
 /// The result is a job exactly if clap finds no fault in the words and each word for a number gives one in its range, unless
 /// memory runs out: it is `Help` only if they ask for help, `Version` only if they ask for the version, and `Usage` only if
-/// they have another fault, or the first wrong number, as `bad word WORD`.
+/// they have another fault, or a word for a number that gives none in its range: the first one, as `bad word WORD`.
 pub fn job_of<'a>(alloc: Global, words: &'a [&'a str]) -> Result<Job<'a>, LineFault>
     ensures job { IfOk result (IsJob (map (λ s. s.now) words.entry.now)) }
     ensures fault { IfErr result (IsLineFault (map (λ s. s.now) words.entry.now)) }

@@ -16,14 +16,14 @@ use Rattle.canoffice_cli.specs.declared.report.Report.{Report}
 module _ (explain : Bool) (IsOf : Outcome → Type 0) (IsSaid : List ℕ → Type 0) where
   pub with_more : (r : Result Report AllocError) (report : Report) (said : List ℕ) → explain ≡ true → IsOf (outcome_of report) → IsSaid said
       → IfOk r (λ more. outcome_of more ≡ and_errors (outcome_of report) said) → IfOk r (λ more. (plain : Outcome) × IsOf plain × MayExplain explain IsSaid plain (outcome_of more))
-  with_more (Err lost) report said yes is is_said whole = tt
-  with_more (Ok more) report said yes is is_said whole =
-      (outcome_of report, is, subst (λ b. MayExplain b IsSaid (outcome_of report) (outcome_of more)) (sym yes) (record { said = said; is = is_said; whole = whole }))
+  with_more (Err lost) report said asked is is_said whole = tt
+  with_more (Ok more) report said asked is is_said whole =
+      (outcome_of report, is, subst (λ b. MayExplain b IsSaid (outcome_of report) (outcome_of more)) (sym asked) (record { said = said; is = is_said; whole = whole }))
 
   pub without_more : (r : Result Report AllocError) → explain ≡ false → IfOk r (λ report. IsOf (outcome_of report))
       → IfOk r (λ report. (plain : Outcome) × IsOf plain × MayExplain explain IsSaid plain (outcome_of report))
-  without_more (Err lost) no is = tt
-  without_more (Ok report) no is = (outcome_of report, is, subst (λ b. MayExplain b IsSaid (outcome_of report) (outcome_of report)) (sym no) refl)
+  without_more (Err lost) unasked is = tt
+  without_more (Ok report) unasked is = (outcome_of report, is, subst (λ b. MayExplain b IsSaid (outcome_of report) (outcome_of report)) (sym unasked) refl)
 
 -- what is said of a text whose canonical text is printed: of one that reads, and of one that reads as no sheet
 module _ {A E : Type 0} (items : A → List ℕ) (name bytes : List ℕ) where

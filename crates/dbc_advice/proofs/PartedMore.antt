@@ -1,5 +1,5 @@
 -- One more skipped statement, told by itself or left.
-use Rattle.std.proofs.Common.{◌≡◌, ◌+◌, ◌<◌, ℕ, List, [], ◌∷◌, ◌++◌, All, Option, Some, None, length, map, take, get_or, refl, sym, ap, subst, ◌∙◌, append-nil}
+use Rattle.std.proofs.Common.{◌≡◌, ◌+◌, ◌<◌, ℕ, List, [], ◌∷◌, ◌++◌, Option, Some, None, length, map, take, get_or, refl, sym, ap, subst, ◌∙◌, append-nil}
 use Rattle.std.specs.List.{flat_map}
 use Rattle.std.proofs.lemmas.List.{take_more}
 use Rattle.std.proofs.lemmas.List.Concat.{flat_map-append}
@@ -33,10 +33,12 @@ module _ (file text : List ℕ) (s : Sheet) where
       map_more [] = refl
       map_more (m ∷ ms) = ap (λ xs. m.0 ∷ xs) (map_more ms)
 
-  -- the same along the equations of the code
-  pub parted_after : (passed : List Passed) (i : ℕ) (lines new_lines : List ℕ) (others new_others : List Passed) (p : Passed) (o : Option Citation) → i < length passed → p ≡ get_or passed i p
-      → ArePartedFrom file text s (take i passed) lines others → IsAbsent s o → new_lines ≡ lines ++ marked_text file text p o → new_others ≡ others ++ unmarked p o
+  -- the same along a list that is shown
+  pub parted_after : (passed shown : List Passed) (i : ℕ) (d : Passed) (lines new_lines : List ℕ) (others new_others : List Passed) (o : Option Citation) → shown ≡ passed → i < length shown
+      → ArePartedFrom file text s (take i passed) lines others → IsAbsent s o → new_lines ≡ lines ++ marked_text file text (get_or shown i d) o → new_others ≡ others ++ unmarked (get_or shown i d) o
       → ArePartedFrom file text s (take (i + 1) passed) new_lines new_others
-  parted_after passed i lines new_lines others new_others p o lt item are absent l u =
-      let more : take (i + 1) passed ≡ take i passed ++ p ∷ [] = take_more passed i p lt ∙ ap (λ (q : Passed). take i passed ++ q ∷ []) (sym item) in
-      subst (λ ps. ArePartedFrom file text s ps new_lines new_others) (sym more) (parted_more (take i passed) lines new_lines others new_others p o are absent l u)
+  parted_after passed shown i d lines new_lines others new_others o same lt are absent l u =
+      let P : List Passed → Type 0 = λ (ps : List Passed). ArePartedFrom file text s (take i ps) lines others → ArePartedFrom file text s (take (i + 1) ps) new_lines new_others in
+      let Q : List Passed → Type 0 = λ (ps : List Passed). ArePartedFrom file text s ps new_lines new_others in
+      let here : P shown = λ before. subst Q (sym (take_more shown i d lt)) (parted_more (take i shown) lines new_lines others new_others (get_or shown i d) o before absent l u) in
+      subst P same here are

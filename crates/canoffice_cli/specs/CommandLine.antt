@@ -1,5 +1,5 @@
 -- The command line of the program, which job its words ask for, and which fault they have.
-use Rattle.std.specs.Prelude.{◌≡◌, ◌≢◌, ◌⊎◌, Bool, List, [], ◌∷◌, find, map, codes, Option, Some, None, option_map, string_bytes, true, false, Result, Ok, Err}
+use Rattle.std.specs.Prelude.{◌≡◌, ◌≢◌, ◌⊎◌, ℕ, Bool, List, [], ◌∷◌, find, map, codes, Option, Some, None, option_map, string_bytes, true, false, Result, Ok, Err}
 use Rattle.std.specs.Option.{option_and_then, option_map_or}
 use Rattle.std.specs.Str.{bytes_eq}
 use Rattle.clap.specs.Lexer.{usize_max}
@@ -160,13 +160,14 @@ IsFaultOfKind kind (Version text) = kind ≡ DisplayVersion
 IsFaultOfKind kind (Usage text) = (kind ≢ DisplayHelp) × (kind ≢ DisplayVersion) × (kind ≢ OutOfMemory)
 IsFaultOfKind kind Memory = Unit {0}
 
--- of the subcommand with these arguments, the word for a number gives none in its range
+-- of the subcommand with these arguments, the word for a number gives none in its range; the port is looked at before the count
 abbrev pub IsWrongNumber : Text → List Row → Text → Type 0
 IsWrongNumber name rows word =
     ((name ≡ codes "chart") × HasValue rows (codes "LENGTH") word × (length_of word ≡ None))
     ⊎ ((name ≡ codes "export") × HasValue rows (codes "N") word × (release_number word ≡ None))
     ⊎ ((name ≡ codes "serve") × HasValue rows (codes "port") word × (port_given (Some word) ≡ None))
-    ⊎ ((name ≡ codes "serve") × HasValue rows (codes "count") word × (count_given (Some word) ≡ None))
+    ⊎ ((name ≡ codes "serve") × HasValue rows (codes "count") word × (count_given (Some word) ≡ None)
+    × (port : ℕ) × (port_given (first_of (codes "port") rows) ≡ Some port))
 
 -- the subcommand with these arguments makes no job: a word is a wrong number, or there was no memory for a chart's signals
 abbrev pub IsValueFault : Text → List Row → ValueFault → Type 0

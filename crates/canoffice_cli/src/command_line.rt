@@ -53,7 +53,10 @@ fn explain<'a>(alloc: Global, help: &'a str) -> Arg<'a>
     ensures rule { rule_of result ≡ explain_flag }
     ensures local { result.global ≡ false }
 {
-    Arg::new(alloc, "explain").long("explain").action(ArgAction::SetTrue).help(help)
+    Arg::new(alloc, "explain")
+        .long("explain")
+        .action(ArgAction::SetTrue)
+        .help(help)
 }
 
 /// `apply [--db FILE] [--explain] SCRIPT`
@@ -156,7 +159,10 @@ fn bare_command<'a>(alloc: Global) -> Command<'a>
     let named = Command::new(alloc, "canoffice").about(
         "Checks, formats and charts DBC files, and gives out CAN identifiers",
     );
-    named.version(VERSION).subcommand_required(true).arg_required_else_help(true)
+    named
+        .version(VERSION)
+        .subcommand_required(true)
+        .arg_required_else_help(true)
 }
 
 /// The program's command line with all its subcommands, one of which is required.

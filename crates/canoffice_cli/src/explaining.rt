@@ -1,10 +1,8 @@
 //! What `--explain` says on standard error, after what is said there without it.
 ghost use Rattle.std.specs.Prelude.{◌≡◌, IfOk};
-ghost use Rattle.canoffice_cli.specs.Explaining.{Explains, IsSaid, IsSaidOfFormat, dash_of};
-ghost use Rattle.canoffice_cli.specs.Outcome.{outcome_of};
+ghost use Rattle.canoffice_cli.specs.Explaining.{IsSaid, IsSaidOfFormat, dash_of};
 
 use crate::file_jobs::FileTask;
-use crate::report::Report;
 use dbc_advice::{Source, explained, left_out};
 use dbc_read::{ReadCode, read};
 use office_script::Dash;
@@ -33,8 +31,8 @@ fn dash_of(database: Option<&str>) -> Dash
     }
 }
 
-/// What is said of a file, by what is done with its bytes.
-fn said(alloc: Global, task: FileTask<'_>, source: Source) -> Result<Vec<u8>, AllocError>
+/// What is said of a file, by what is done with its bytes. The error is out of memory.
+pub(crate) fn said(alloc: Global, task: FileTask<'_>, source: Source) -> Result<Vec<u8>, AllocError>
     ensures { IfOk result (λ said. IsSaid task.entry source.entry.name.now source.entry.text.now said.items) }
 {
     match task {
@@ -45,18 +43,4 @@ fn said(alloc: Global, task: FileTask<'_>, source: Source) -> Result<Vec<u8>, Al
         }
         FileTask::Table => Ok(Vec::new(alloc)),
     }
-}
-
-/// The report of a task on a file, with what is said of the file after the report's own bytes for standard error. The
-/// error is out of memory.
-pub(crate) fn explained_report(
-    alloc: Global,
-    task: FileTask<'_>,
-    source: Source,
-    report: Report,
-) -> Result<Report, AllocError>
-    ensures { IfOk result (λ more. Explains (IsSaid task.entry source.entry.name.now source.entry.text.now) (outcome_of report) (outcome_of more)) }
-{
-    let said = said(alloc, task, source)?;
-    report.and_errors(&said)
 }

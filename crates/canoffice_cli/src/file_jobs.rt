@@ -8,7 +8,7 @@ ghost use Rattle.canoffice_cli.specs.Performance.{ComesTo, IsFileOutcome, IsOfBy
 use crate::apply::apply_script;
 use crate::checking::check_report;
 use crate::databases::Databases;
-use crate::explaining::explained_report;
+use crate::explaining::said;
 use crate::files::{FileFault, FileSource, StandardInput, bytes_at};
 use crate::formatting::format_report;
 use crate::progress::Progress;
@@ -92,15 +92,17 @@ fn bytes_report<F: FileSource, D: Databases, W: Write>(
 ) -> Result<Report, AllocError>
     ensures { IfOk result (λ report. IsOfBytes (F.held files.now) (D.known databases.old) (D.known databases.new) job.entry bytes.now (outcome_of report)) }
 {
-    let report = task_report(alloc, job.task, bytes, files, databases, progress)?;
     if job.explain {
         let source = Source {
             name: job.path.as_bytes(),
             text: bytes,
         };
-        explained_report(alloc, job.task, source, report)
+        // First of all, so that what a database answers can't be lost for want of memory for this.
+        let said = said(alloc, job.task, source)?;
+        let report = task_report(alloc, job.task, bytes, files, databases, progress)?;
+        report.and_errors(&said)
     } else {
-        Ok(report)
+        task_report(alloc, job.task, bytes, files, databases, progress)
     }
 }
 

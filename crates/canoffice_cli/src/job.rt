@@ -1,7 +1,7 @@
 //! The job that the words of the command line ask for.
 ghost use Rattle.std.specs.Prelude.{◌≡◌, IfOk, IfErr, map, codes};
 ghost use Rattle.clap.specs.Words.{found_of, kind_of, rows_of, subcommand_rows_of};
-ghost use Rattle.canoffice_cli.specs.CommandLine.{HasSome, IsEntered, IsJob, IsJobIn, IsJobOf, IsFaultOfKind, IsLineFault, IsNamed, IsValueFault, IsValueFaultIn, IsWrongWordFault, is_set};
+ghost use Rattle.canoffice_cli.specs.CommandLine.{HasSome, IsEntered, IsJob, IsJobIn, IsJobOf, IsFaultOfKind, IsLineFault, IsValueFault, IsValueFaultIn, IsWrongWordFault, is_set};
 
 use crate::command_line::canoffice_command;
 use crate::numbers::{count_given, length_given, port_given, release_number};
@@ -24,7 +24,7 @@ pub enum Job<'a> {
     },
     /// Print the chart of the signals that the words describe, in a message of this length.
     Chart {
-        /// The length, 0 to 8192 bytes.
+        /// The length, 0 to 64 bytes.
         length: u16,
         /// The words that describe the signals.
         signals: Vec<&'a str>,
@@ -94,7 +94,7 @@ enum ValueFault<'a> {
 ///
 /// The result is a job exactly if clap finds no fault in the words and each word for a number gives one in its range, unless
 /// memory runs out: it is `Help` only if they ask for help, `Version` only if they ask for the version, and `Usage` only if
-/// they have another fault, or the first wrong number, as `bad word WORD`.
+/// they have another fault, or a word for a number that gives none in its range: the first one, as `bad word WORD`.
 pub fn job_of<'a>(alloc: Global, words: &'a [&'a str]) -> Result<Job<'a>, LineFault>
     ensures job { IfOk result (IsJob (map (λ s. s.now) words.entry.now)) }
     ensures fault { IfErr result (IsLineFault (map (λ s. s.now) words.entry.now)) }

@@ -43,7 +43,9 @@ pub use checking::check_report;
 pub use databases::{Databases, MemoryDatabase};
 pub use delivery::deliver;
 pub use exporting::{export_report, look_on};
-pub use files::{FileFault, FileSource, HostFiles, ListedFiles, NamedFile, StandardInput, bytes_at};
+pub use files::{
+    FileFault, FileSource, HostFiles, ListedFiles, NamedFile, StandardInput, bytes_at,
+};
 pub use formatting::format_report;
 pub use job::{Job, LineFault, job_of, not_utf8_fault};
 pub use program::{fault_report, perform, report_of};

@@ -18,7 +18,7 @@ const COUNT_LIMIT: u32 = 1_000_000;
 /// The greatest number of a release.
 const RELEASE_LIMIT: u32 = 65_535;
 
-/// The length of a message that the word gives: 0 to 8192 bytes, as [`length_of`] of the crate `chart` reads it.
+/// The length of a message that the word gives: 0 to 64 bytes, as [`length_of`] of the crate `chart` reads it.
 pub(crate) fn length_given(word: &str) -> Option<u16>
     ensures { result ≡ length_of word.now }
 {

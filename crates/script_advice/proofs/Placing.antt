@@ -1,8 +1,7 @@
 -- Words of a line, one after the other.
-use Rattle.std.proofs.Common.{◌≡◌, ◌≢◌, ℕ, zero, suc, ◌+◌, ◌-◌, ◌≤◌, ◌++◌, List, [], ◌∷◌, Option, Some, None, length, refl, ap, ◌∙◌, arith, length-append}
+use Rattle.std.proofs.Common.{◌≡◌, ◌≢◌, ℕ, zero, suc, ◌+◌, ◌-◌, ◌++◌, List, ◌∷◌, Option, Some, None, length, refl, ap, ◌∙◌, arith, length-append}
 use Rattle.std.specs.Borrow.{Bor}
 use Rattle.std.specs.Prelude.{MatchOption}
-use Rattle.office_script.specs.Words.{words_after, words_of}
 use Rattle.script_advice.specs.Places.{offset_of, word_of}
 
 -- how many bytes are left from here on, with the space before them

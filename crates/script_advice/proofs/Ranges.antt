@@ -1,5 +1,5 @@
 -- The ranges are those of the values.
-use Rattle.std.proofs.Common.{◌≡◌, ◌^◌, ℕ, nat_lt, ◌&&◌, Bool, true, false, List, Option, Some, None, refl, sym, ◌∙◌, arith}
+use Rattle.std.proofs.Common.{◌≡◌, ◌^◌, ℕ, nat_lt, ◌&&◌, Bool, true, false, Option, Some, None, refl, sym, ◌∙◌, arith}
 use Rattle.std.proofs.lemmas.Bool.Decides.{nat_tests}
 use Rattle.std.specs.Prelude.{IfSome, if◌then◌else◌, is_some, nat_le}
 use Rattle.std.specs.Str.Parse.{digits_value}

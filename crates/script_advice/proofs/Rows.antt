@@ -2,12 +2,10 @@
 use Rattle.std.proofs.Common.{◌≡◌, ℕ, List, [], ◌∷◌, Option, Some, None, map, codes, refl}
 use Rattle.std.specs.Fmt.{digits}
 use Rattle.catalogue.specs.Name.{is_name}
-use Rattle.decimal.specs.Cutting.{cut}
-use Rattle.decimal.specs.Reading.{reading}
 use Rattle.office_fields.specs.declared.field.Field.TheVariants as field
 use Rattle.office_fields.specs.declared.field.FieldKind.TheVariants as kind
 use Rattle.office_fields.specs.declared.kind.ActionKind.TheVariants as act
-use Rattle.office_fields.specs.declared.kind.CommandKind.TheVariants.{Act, Import}
+use Rattle.office_fields.specs.declared.kind.CommandKind.TheVariants.{Act}
 use Rattle.office_script.specs.Lines.{lines_of}
 use Rattle.office_script.specs.Words.{words_of}
 use Rattle.office_script.specs.declared.keys.Dash.TheVariants as dash

@@ -1,8 +1,7 @@
 -- Words by their first `=`, and lines of few words.
-use Rattle.std.proofs.Common.{◌≡◌, ◌==◌, ◌<◌, ℕ, Bool, true, false, List, [], ◌∷◌, Option, Some, None, length, refl, sym, ap, ◌∙◌, arith}
+use Rattle.std.proofs.Common.{◌≡◌, ◌==◌, ◌<◌, ℕ, Bool, true, false, List, [], ◌∷◌, Option, Some, None, length, refl, ap, ◌∙◌, arith}
 use Rattle.std.specs.Prelude.{if◌then◌else◌, is_some}
 use Rattle.std.specs.List.{after_first, before_first, list_any}
-use Rattle.std.specs.Option.{option_map}
 use Rattle.catalogue.specs.Split.{split_once}
 use Rattle.office_script.specs.Escapes.{unescaped}
 use Rattle.office_script.specs.declared.keys.Dash.{Dash}

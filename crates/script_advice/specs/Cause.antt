@@ -20,7 +20,7 @@ use Rattle.office_fields.specs.declared.field.Occurrence.{Occurrence}
 use Rattle.office_fields.specs.declared.field.Occurrence.TheVariants.{Required, Optional, Repeated}
 use Rattle.office_fields.specs.declared.kind.ActionKind.TheVariants as act
 use Rattle.office_fields.specs.declared.kind.CommandKind.{CommandKind}
-use Rattle.office_fields.specs.declared.kind.CommandKind.TheVariants.{Act, Import}
+use Rattle.office_fields.specs.declared.kind.CommandKind.TheVariants.{Act}
 use Rattle.office_script.specs.Escapes.{unescaped}
 use Rattle.office_script.specs.Fields as script
 use Rattle.office_script.specs.Keys.{key_of}

@@ -7,10 +7,10 @@ pub returns-then-job : goal.returns-then-job
 returns-then-job g c =
     let files = g.F.FileSource.held c.args.files.now in
     let before = g.D.Databases.known c.args.databases.now in
-    let after = g.D.Databases.known c.task_report.new.databases in
+    let after = g.D.Databases.known c.task_report-report.new.databases in
     let job = c.args.job in
-    with_more job.explain (ComesTo files before after job.task c.args.bytes.now) (IsSaid job.task job.path.now c.args.bytes.now) c.in_ok-report.report c.in_ok-report.ensures
-    c.explained_report.result c.if-job.true (rw c.as_bytes.ensures.value at c.explained_report.ensures)
+    with_more job.explain (ComesTo files before after job.task c.args.bytes.now) (IsSaid job.task job.path.now c.args.bytes.now) c.and_errors.result c.in_ok-report.report
+    c.in_ok-said.said.items c.if-job.true c.in_ok-report.ensures (rw c.as_bytes.ensures.value at c.in_ok-said.ensures) c.and_errors.ensures
 
 pub returns-else-job : goal.returns-else-job
 returns-else-job g c =
@@ -18,4 +18,4 @@ returns-else-job g c =
     let before = g.D.Databases.known c.args.databases.now in
     let after = g.D.Databases.known c.task_report.new.databases in
     let job = c.args.job in
-    without_more job.explain (ComesTo files before after job.task c.args.bytes.now) (IsSaid job.task job.path.now c.args.bytes.now) c.in_ok-report.report c.in_ok-report.ensures c.if-job.false
+    without_more job.explain (ComesTo files before after job.task c.args.bytes.now) (IsSaid job.task job.path.now c.args.bytes.now) c.task_report.result c.if-job.false c.task_report.ensures

@@ -2,7 +2,7 @@ use Rattle.std.proofs.Common.{◌≡◌, ℕ, ◌+◌, List, codes, ap, subst, �
 use Rattle.std.specs.Prelude.{IfOk}
 use Rattle.dbc_advice.specs.ToldLine.{told_line}
 use Rattle.office_script.specs.Words.{words_of}
-use Rattle.script_advice.specs.Explained.{place_of, wrong_line}
+use Rattle.script_advice.specs.Explained.{place_of}
 use Rattle.script_advice.specs.Places.{word_of}
 use Rattle.script_advice.specs.Sentence.{sentence_of}
 use Rattle.script_advice.proofs.explaining.wrong_line.Goals as goal

@@ -3,7 +3,7 @@ use Rattle.std.proofs.Common.{◌≡◌, ◌+◌, ℕ, List, [], ◌∷◌, ◌+
 use Rattle.std.specs.Str.{bytes_eq}
 use Rattle.std.proofs.lemmas.Slice.Eq.{bytes_eq-Decides}
 use Rattle.dbc_advice.specs.Blanked.{blanked}
-use Rattle.dbc_advice.specs.Telling.{AreTold, IsNext, IsTold, without}
+use Rattle.dbc_advice.specs.Telling.{AreTold, IsBlankUpTo, IsNext, IsTold, IsUnchanged, without}
 use Rattle.dbc_advice.specs.declared.telling.Next.{Next}
 use Rattle.dbc_advice.specs.declared.telling.Next.TheVariants as next
 use Rattle.dbc_advice.specs.declared.telling.Told.{Told}
@@ -39,9 +39,16 @@ one_longer old new t n e many =
     omega (arith, whole, many)
 
 -- where blanking changes nothing
-pub unchanged : (text shown rest : List ℕ) (t : Told) → IsTold text t → shown ≡ text → rest ≡ blanked t.lines.first t.lines.last shown
-    → bytes_eq rest text ≡ true → (u : Told) × IsTold rest u × (without u.lines rest ≡ rest)
-unchanged text shown rest t is s r tested =
+pub unchanged : (source : List ℕ) (old new : List Told) (text shown rest : List ℕ) (t : Told) → AreTold source old text → IsTold text t
+    → shown ≡ text → rest ≡ blanked t.lines.first t.lines.last shown → new ≡ old ++ t ∷ [] → bytes_eq rest text ≡ true → IsUnchanged source new rest
+unchanged source old new text shown rest t are is s r n tested =
     let same : rest ≡ text = (bytes_eq-Decides rest text).0 tested in
-    let P : List ℕ → Type 0 = λ v. IsTold v t in
-    (t, subst P (sym same) is, ap (blanked t.lines.first t.lines.last) (same ∙ sym s) ∙ sym r)
+    let blank : without t.lines text ≡ text = ap (blanked t.lines.first t.lines.last) (sym s) ∙ sym r ∙ same in
+    record {
+      earlier = old;
+      last = t;
+      told_is = n;
+      before = subst (AreTold source old) (sym same) are;
+      fault = subst (λ v. IsTold v t) (sym same) is;
+      blank = subst (λ v. IsBlankUpTo v t.fault.at) (sym same) (is.blank blank);
+    }

@@ -1,11 +1,14 @@
 -- All that is told of a file.
-use Rattle.std.specs.Prelude.{◌≡◌, ℕ, ◌++◌, List, [], ◌∷◌, Option, length, min, codes, decimal}
+use Rattle.std.specs.Prelude.{◌≡◌, ℕ, ◌++◌, List, [], Option, length, min, codes, decimal}
 use Rattle.catalogue.specs.declared.keyword.Keyword.{Keyword}
 use Rattle.dbc_lex.specs.Fault.{code_name, code_number}
+use Rattle.dbc_read.specs.declared.reading.Reading.{Reading}
+use Rattle.dbc_advice.specs.Clashes.{AreClashLines}
+use Rattle.dbc_advice.specs.LeftOut.{IsLeftOut}
 use Rattle.dbc_advice.specs.Position.{position_at}
 use Rattle.dbc_advice.specs.Sentence.{sentence_of}
 use Rattle.dbc_advice.specs.Telling.{IsTelling}
-use Rattle.dbc_advice.specs.ToldLine.{code_label, told_line}
+use Rattle.dbc_advice.specs.ToldLine.{AreLinesOf, code_label, told_line}
 use Rattle.dbc_advice.specs.declared.found.Found.{Found}
 use Rattle.dbc_advice.specs.declared.telling.Ending.{Ending}
 use Rattle.dbc_advice.specs.declared.telling.Ending.TheVariants.{Reads, Many, Long, Unchanged}
@@ -20,9 +23,7 @@ pub record IsFaultLine (file text : List ℕ) (t : Told) (line : List ℕ) : Typ
 
 -- the lines of faults, in order
 abbrev pub AreFaultLines : List ℕ → List ℕ → List Told → List ℕ → Type 0
-AreFaultLines file text [] lines = [] ≡ lines
-AreFaultLines file text (t ∷ told) lines =
-    (line : List ℕ) × (rest : List ℕ) × IsFaultLine file text t line × AreFaultLines file text told rest × (line ++ rest ≡ lines)
+AreFaultLines file text told lines = AreLinesOf (IsFaultLine file text) told lines
 
 -- why no more faults are told
 abbrev pub ending_text : Ending → List ℕ
@@ -35,6 +36,19 @@ ending_text Unchanged = codes "no more can be looked for"
 abbrev pub count_line : List ℕ → ℕ → Ending → List ℕ
 count_line file told ending = file ++ (codes ": " ++ (decimal told ++ (codes " told, " ++ (ending_text ending ++ codes "\n"))))
 
+-- of a file that reads: why messages aren't clear, and what the sheet leaves out
+pub record IsSaidOfSheet (file text : List ℕ) (reading : Reading) (out : List ℕ) : Type 0 where
+  pub clashes : List ℕ
+  pub are_clashes : AreClashLines file text reading.sheet.messages clashes
+  pub skipped : List ℕ
+  pub is_left_out : IsLeftOut file text reading.sheet reading.passed skipped
+  pub whole : out ≡ clashes ++ skipped
+
+-- what comes after the lines of the faults: of a file that reads what is said of its sheet, and else their count
+abbrev pub IsRest : List ℕ → List ℕ → List Told → Ending → List ℕ → Type 0
+IsRest file text [] (Reads reading) rest = IsSaidOfSheet file text reading rest
+IsRest file text told ending rest = rest ≡ count_line file (length told) ending
+
 -- the lines of the faults of the text, one after the other, and then the rest
 pub record IsExplained (file text out : List ℕ) : Type 0 where
   pub telling : Telling
@@ -42,4 +56,5 @@ pub record IsExplained (file text out : List ℕ) : Type 0 where
   pub faults : List ℕ
   pub lines : AreFaultLines file text telling.told.items faults
   pub rest : List ℕ
+  pub is_rest : IsRest file text telling.told.items telling.ending rest
   pub whole : out ≡ faults ++ rest

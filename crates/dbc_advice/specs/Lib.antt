@@ -11,6 +11,7 @@ pub mod ToldLine
 pub mod Telling
 pub mod Reasons
 pub mod Unclear
+pub mod Clashes
 pub mod Citation
 pub mod LeftOut
 pub mod Explained

@@ -1,5 +1,5 @@
 -- Why the signals of a message do not fit together: all reasons, each with a bit.
-use Rattle.std.specs.Prelude.{◌≡◌, ◌≤◌, ◌⊎◌, ◌&&◌, ℕ, ◌*◌, ◌-◌, Bool, not, List, [], ◌∷◌, ◌++◌, length, take, drop, find, Option, None, if◌then◌else◌}
+use Rattle.std.specs.Prelude.{◌≡◌, ◌<◌, ◌≤◌, ◌⊎◌, ◌&&◌, ℕ, ◌*◌, ◌-◌, Bool, not, List, [], ◌∷◌, ◌++◌, length, take, drop, find, Option, None, if◌then◌else◌}
 use Rattle.std.specs.List.{enumerate_from, flat_map, range_with_len}
 use Rattle.bitlayout.specs.Bits.{is_bit, is_inside}
 use Rattle.bitlayout.specs.Clash.{collide, has_multiplexor}
@@ -51,8 +51,8 @@ abbrev pub reasons_from : ℕ → List Place → ℕ → List Reason
 reasons_from bytes places n = flat_map (reasons_at bytes places) (enumerate_from n (drop n places))
 
 -- With those of the places that weren't looked at they are all reasons; and so many places were looked at that all were,
--- or that enough reasons are told.
+-- or that there are more reasons than are told.
 pub record AreReasons (bytes : ℕ) (places : List Place) (reasons : List Reason) : Type 0 where
   pub looked_at : ℕ
   pub are : reasons ++ reasons_from bytes places looked_at ≡ reasons_from bytes places 0
-  pub enough : (length places ≤ looked_at) ⊎ (REASONS_TOLD ≤ length reasons)
+  pub enough : (length places ≤ looked_at) ⊎ (REASONS_TOLD < length reasons)

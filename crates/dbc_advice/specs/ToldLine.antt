@@ -1,5 +1,5 @@
 -- The line of a fault: `FILE:LINE:COLUMN: CODE NAME: sentence`.
-use Rattle.std.specs.Prelude.{ℕ, List, ◌++◌, codes, decimal}
+use Rattle.std.specs.Prelude.{◌≡◌, ℕ, nat_lt, List, [], ◌∷◌, ◌++◌, if◌then◌else◌, codes, decimal}
 use Rattle.dbc_advice.specs.declared.position.Position.{Position}
 
 -- `CODE NAME`
@@ -13,3 +13,16 @@ place_text position = codes ":" ++ (decimal position.line ++ (codes ":" ++ (deci
 abbrev pub told_line : List ℕ → Position → List ℕ → List ℕ → List ℕ
 told_line file position label sentence =
     file ++ (place_text position ++ (label ++ (codes ": " ++ (sentence ++ codes "\n"))))
+
+-- one line after the other, each of one of these, in order
+abbrev pub AreLinesOf : {A : Type 0} → (A → List ℕ → Type 0) → List A → List ℕ → Type 0
+AreLinesOf Is [] lines = [] ≡ lines
+AreLinesOf Is (x ∷ xs) lines = (line : List ℕ) × (rest : List ℕ) × Is x line × AreLinesOf Is xs rest × (line ++ rest ≡ lines)
+
+-- a last line: only so many are told, and there are more
+abbrev pub more_line : List ℕ → ℕ → List ℕ → List ℕ
+more_line file limit what = file ++ (codes ": " ++ (decimal limit ++ (codes " " ++ (what ++ codes " told, there are more\n"))))
+
+-- that line, if there are more than the limit
+abbrev pub more_text : List ℕ → ℕ → ℕ → List ℕ → List ℕ
+more_text file limit count what = if nat_lt limit count then more_line file limit what else []

@@ -1,24 +1,17 @@
 //! All that is told of a file.
 ghost use Rattle.std.specs.Prelude.{◌≡◌, ◌≤◌, IfOk, length};
-ghost use Rattle.dbc_advice.specs.Explained.{AreFaultLines, IsExplained, IsFaultLine, count_line, ending_text};
+ghost use Rattle.dbc_advice.specs.Explained.{AreFaultLines, IsExplained, IsFaultLine, IsRest, IsSaidOfSheet, count_line, ending_text};
 
+use crate::clashes::unclear;
 use crate::faulty_lines::keyword_at;
 use crate::found::found_at;
 use crate::leaving::left_out;
-use crate::notes::{Source, add_line};
-use crate::places::{Heading, headings, message_place, signal_place};
+use crate::notes::Source;
 use crate::position::position_of;
-use crate::reasons::{Reason, reasons_of};
 use crate::sentences::{code_label, sentence, told_line};
 use crate::telling::{Ending, Telling, Told, told_faults};
-use crate::unclear::reason_text;
-use bitlayout::Clash;
-use catalogue::{Keyword, Message, Sheet, SheetCode};
 use dbc_read::Reading;
 use std::alloc::{AllocError, Global};
-
-/// How many reasons are told why messages aren't clear.
-pub const CLASHES_TOLD: usize = 100;
 
 /// The line of a fault.
 fn fault_line(alloc: Global, source: Source, told: &Told) -> Result<Vec<u8>, AllocError>
@@ -80,75 +73,19 @@ fn count_line(
     Ok(line)
 }
 
-/// The index of the signal that the clash is told at.
-fn signal_index(clash: Clash) -> usize {
-    match clash {
-        Clash::Outside(index) | Clash::TwoMultiplexors(index) | Clash::NoMultiplexor(index) => {
-            index
-        }
-        Clash::Overlap { later, .. } => later,
-    }
-}
-
-/// The offset of the signal that the reason is told at.
-fn reason_place(text: &[u8], headings: &[Heading], message: &Message, reason: Reason) -> usize
-    ensures { result ≤ length text.now }
-{
-    let from = message_place(headings, message.number()).min(text.len());
-    match message.signals.as_slice().get(signal_index(reason.clash)) {
-        Some(signal) => signal_place(text, from, signal.name.as_bytes()),
-        None => from,
-    }
-}
-
-/// Adds a line for each of the first reasons why the message isn't clear, at most `most`, and gives how many.
-fn add_reasons(
-    alloc: Global,
-    lines: &mut Vec<u8>,
-    source: Source,
-    headings: &[Heading],
-    message: &Message,
-    most: usize,
-) -> Result<usize, AllocError>
-    ensures { IfOk result (λ count. count ≤ most) }
-{
-    let places = message.signals.places(alloc)?;
-    let reasons = reasons_of(alloc, &places, message.length.bytes())?;
-    let count = reasons.len().min(most);
-    for reason in &reasons[..count] {
-        let code = SheetCode::from(reason.clash);
-        let label = code_label(alloc, code.number(), code.name())?;
-        let words = reason_text(alloc, message, *reason)?;
-        let at = reason_place(source.text, headings, message, *reason);
-        add_line(alloc, lines, source, at, &label, &words)?;
-    }
-    Ok(count)
-}
-
-/// Why messages of the sheet aren't clear: a line for each reason, up to [`CLASHES_TOLD`]. The error is out of memory.
-fn unclear(alloc: Global, source: Source, sheet: &Sheet) -> Result<Vec<u8>, AllocError> {
-    let mut lines = Vec::new(alloc);
-    let headings = headings(alloc, source.text)?;
-    let mut left = CLASHES_TOLD;
-    for message in sheet.messages() {
-        let count = add_reasons(alloc, &mut lines, source, &headings, message, left)?;
-        left -= count;
-        if left == 0 {
-            return Ok(lines);
-        }
-    }
-    Ok(lines)
-}
-
 /// What is said of a file that reads: each reason why a message isn't clear, and what the sheet leaves out.
-fn said_of_sheet(alloc: Global, source: Source, reading: &Reading) -> Result<Vec<u8>, AllocError> {
+fn said_of_sheet(alloc: Global, source: Source, reading: &Reading) -> Result<Vec<u8>, AllocError>
+    ensures { IfOk result (λ out. IsSaidOfSheet source.entry.name.now source.entry.text.now reading.now out.items) }
+{
     let mut lines = unclear(alloc, source, &reading.sheet)?;
     lines.extend_from_slice(&left_out(alloc, source, reading)?)?;
     Ok(lines)
 }
 
 /// What is said after the faults: of a file that reads what is said of its sheet, and else how many faults are told.
-fn rest_of(alloc: Global, source: Source, telling: &Telling) -> Result<Vec<u8>, AllocError> {
+fn rest_of(alloc: Global, source: Source, telling: &Telling) -> Result<Vec<u8>, AllocError>
+    ensures { IfOk result (λ rest. IsRest source.entry.name.now source.entry.text.now telling.now.told.items telling.now.ending rest.items) }
+{
     let count = telling.told.len();
     match &telling.ending {
         Ending::Reads(reading) if count == 0 => said_of_sheet(alloc, source, reading),
@@ -159,8 +96,8 @@ fn rest_of(alloc: Global, source: Source, telling: &Telling) -> Result<Vec<u8>, 
 /// All that is told of a DBC file beside what is answered. The error is out of memory.
 ///
 /// Of one that can't be read, a line for each fault of [`told_faults`], and a last one with their count. Of one that
-/// reads, a line for each reason why a message isn't clear, at most [`CLASHES_TOLD`], and what
-/// [`left_out`](crate::left_out) says.
+/// reads, a line for each reason why a message isn't clear, at most [`CLASHES_TOLD`](crate::CLASHES_TOLD) and then that
+/// there are more, and what [`left_out`](crate::left_out) says.
 pub fn explained(alloc: Global, source: Source) -> Result<Vec<u8>, AllocError>
     ensures { IfOk result (λ out. IsExplained source.entry.name.now source.entry.text.now out.items) }
 {

@@ -5,6 +5,7 @@
 mod blanking;
 mod candidate;
 mod citation;
+mod clashes;
 mod explaining;
 mod faulty_lines;
 mod found;
@@ -25,7 +26,8 @@ mod wanted;
 pub use blanking::blanked;
 pub use candidate::Candidate;
 pub use citation::{Citation, citation_at, citation_text, is_missing};
-pub use explaining::{CLASHES_TOLD, explained};
+pub use clashes::CLASHES_TOLD;
+pub use explaining::explained;
 pub use faulty_lines::Lines;
 pub use found::{Found, found_at, quoted};
 pub use hint::Hint;

@@ -128,19 +128,19 @@ fn reasons_at(
     Ok(reasons)
 }
 
-/// After how many reasons no further signal of a message is looked at.
+/// Above how many reasons no further signal of a message is looked at.
 pub const REASONS_TOLD: usize = 100;
 
 /// The reasons why the places do not fit together in a message of `bytes` bytes: of each place, in order, that a bit is
-/// outside, that there is no multiplexor, and each earlier place with which it shares a bit. After [`REASONS_TOLD`] or
-/// more no further place is looked at. The error is out of memory.
+/// outside, that there is no multiplexor, and each earlier place with which it shares a bit. After more than
+/// [`REASONS_TOLD`] no further place is looked at. The error is out of memory.
 pub fn reasons_of(alloc: Global, places: &[Place], bytes: u16) -> Result<Vec<Reason>, AllocError>
     requires { bytes ≤ length_limit }
     ensures { IfOk result (λ reasons. AreReasons bytes places.now reasons.items) }
 {
     let mut reasons = Vec::new(alloc);
     for (index, place) in places.iter().enumerate() {
-        if reasons.len() >= REASONS_TOLD {
+        if reasons.len() > REASONS_TOLD {
             return Ok(reasons);
         }
         let more = reasons_at(alloc, places, index, place, bytes)?;

@@ -1,7 +1,7 @@
 //! What is said of a fault: one sentence, and a line with it.
 ghost use Rattle.std.specs.Prelude.{◌≡◌, IfOk};
 ghost use Rattle.dbc_advice.specs.Sentence.{hinted, listed, meaning_of, plain_meaning, sentence_of, statement_text, wanted_text};
-ghost use Rattle.dbc_advice.specs.ToldLine.{code_label, told_line};
+ghost use Rattle.dbc_advice.specs.ToldLine.{code_label, more_line, told_line};
 
 use crate::candidate::Candidate;
 use crate::found::{Found, found_text};
@@ -67,7 +67,7 @@ fn plain_meaning(code: ReadCode) -> &'static str
             ", but extended multiplexing can't be read: use M and m0, not m0M"
         }
         ReadCode::Number => {
-            ", out of range: at most 36 digits, powers of ten -400 to 400; a type is 0 to 2"
+            ", out of range: at most 36 digits, powers of ten -400 to 400; a type is 0 to 2, m is m0 to m4294967295"
         }
         ReadCode::Identifier => ", no message's number: 0 to 2047, or 2147483648 more than 29 bits",
         ReadCode::Name => ", which can't be a name here: a keyword, Vector__XXX or over 128 bytes",
@@ -162,4 +162,19 @@ pub fn told_line(
     text.extend_from_slice(sentence)?;
     text.extend_from_slice(b"\n")?;
     Ok(text)
+}
+
+/// The line `FILE: LIMIT WHAT told, there are more`, with its LF.
+pub(crate) fn more_line(
+    alloc: Global,
+    file: &[u8],
+    limit: usize,
+    what: &str,
+) -> Result<Vec<u8>, AllocError>
+    ensures { IfOk result (λ line. line.items ≡ more_line file.now limit what.now) }
+{
+    let words = format!(in alloc; ": {limit} {what} told, there are more\n")?;
+    let mut line = Vec::from_slice(alloc, file)?;
+    line.extend_from_slice(words.as_bytes())?;
+    Ok(line)
 }

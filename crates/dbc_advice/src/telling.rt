@@ -3,7 +3,7 @@ ghost use Rattle.std.specs.Prelude.{◌≡◌, ◌<◌, ◌≤◌, ◌*◌, ◌�
 ghost use Rattle.dbc_advice.specs.FaultyLines.{AreLines};
 ghost use Rattle.dbc_advice.specs.MayBeThere.{MayBeThere};
 ghost use Rattle.dbc_advice.specs.Pieces.{statement_before};
-ghost use Rattle.dbc_advice.specs.Telling.{IsTelling, IsNext, IsTold};
+ghost use Rattle.dbc_advice.specs.Telling.{IsBlankUpTo, IsTelling, IsNext, IsTold, without};
 ghost use Rattle.dbc_read.specs.Reading.{IsReadFault};
 
 use crate::blanking::blanked;
@@ -43,7 +43,7 @@ pub enum Ending {
     Many,
     /// To read the text once more would be more than [`BYTES_READ_AGAIN`].
     Long,
-    /// The lines of the last fault are blank already.
+    /// The lines of the last fault, and all before them, are blank already.
     Unchanged,
 }
 
@@ -101,12 +101,39 @@ fn wanted_at(
     }
 }
 
+/// Whether the lines are blank already. The error is out of memory.
+fn are_blank(alloc: Global, text: &[u8], lines: Lines) -> Result<bool, AllocError>
+    requires ordered { lines.first ≤ lines.last }
+    requires within { lines.last ≤ length text.now }
+    ensures { IfOk result (λ are. IsTrue are ↔ (without lines text.now ≡ text.now)) }
+{
+    let rest = blanked(alloc, text, lines.first, lines.last)?;
+    Ok(rest.as_slice() == text)
+}
+
+/// The lines to blank for the fault. If those that it is about are blank already, they are all up to its own.
+fn lines_to_blank(alloc: Global, text: &[u8], fault: ReadFault) -> Result<Lines, AllocError>
+    requires { fault.at ≤ length text.now }
+    ensures lines { IfOk result (AreLines text.now fault.at) }
+    ensures blank { IfOk result (λ lines. without lines text.now ≡ text.now → IsBlankUpTo text.now fault.at) }
+{
+    let lines = lines_at_fault(alloc, text, fault)?;
+    if are_blank(alloc, text, lines)? {
+        Ok(Lines {
+            first: 0,
+            last: fault.at,
+        })
+    } else {
+        Ok(lines)
+    }
+}
+
 /// The fault of the text, with what people need to know of it.
 fn told_of(alloc: Global, text: &[u8], fault: ReadFault) -> Result<Told, AllocError>
     requires { IsReadFault text.now fault }
     ensures { IfOk result (IsTold text.now) }
 {
-    let lines = lines_at_fault(alloc, text, fault)?;
+    let lines = lines_to_blank(alloc, text, fault)?;
     let wanted = wanted_at(alloc, text, fault, lines)?;
     let hint = hint_for(text, fault, lines);
     Ok(Told {
@@ -139,7 +166,7 @@ fn is_long(size: usize, told: usize) -> bool
 
 /// The faults of the text: its fault, then that of the text with the lines of this fault blanked, and so on, until what
 /// is left reads as a sheet, or [`FAULTS_TOLD`] are told, or the text would be read again for more than
-/// [`BYTES_READ_AGAIN`], or blanking changes nothing. The error is out of memory.
+/// [`BYTES_READ_AGAIN`], or all up to the last fault is blank already. The error is out of memory.
 pub fn told_faults(alloc: Global, source: &[u8]) -> Result<Telling, AllocError>
     ensures { IfOk result (IsTelling source.now) }
 {

@@ -12,5 +12,6 @@ returns c =
       faults = c.in_ok-lines.lines.items;
       lines = subst P c.deref.ensures.value c.in_ok-lines.ensures;
       rest = c.in_ok-rest.rest.items;
+      is_rest = c.in_ok-rest.ensures;
       whole = c.in_ok-extend_from_slice.ensures.items ∙ ap (λ (v : List ℕ). c.in_ok-lines.lines.items ++ v) c.deref-2.ensures.value;
     }

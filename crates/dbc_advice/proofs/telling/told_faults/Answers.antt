@@ -15,7 +15,7 @@ returns-then-same c =
       left = rest;
       told = told_after c.args.source.now c.loop-count.told.items c.push.new.self.items text shown rest t c.loop-count.invariant.told is c.deref-in-Fault.ensures.value c.in_ok-rest-in-Fault.ensures c.in_ok-push-in-Fault.ensures.items;
       few = omega (arith, many, c.loop-count-test.true);
-      ends = unchanged text shown rest t is c.deref-in-Fault.ensures.value c.in_ok-rest-in-Fault.ensures (sym c.eq-same.ensures ∙ c.if-same.true);
+      ends = unchanged c.args.source.now c.loop-count.told.items c.push.new.self.items text shown rest t c.loop-count.invariant.told is c.deref-in-Fault.ensures.value c.in_ok-rest-in-Fault.ensures c.in_ok-push-in-Fault.ensures.items (sym c.eq-same.ensures ∙ c.if-same.true);
     }
 
 pub loop-count-preserved : goal.loop-count-preserved

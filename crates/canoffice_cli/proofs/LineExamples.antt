@@ -74,6 +74,14 @@ an_export : line_faults (codes "canoffice" ∷ codes "export" ∷ codes "--db" �
 unfolding clap_on_literals
 an_export = refl
 
+serve_no_database : line_faults (codes "canoffice" ∷ codes "serve" ∷ codes "--port" ∷ codes "8080" ∷ []) ≡ MissingRequiredArgument ∷ []
+unfolding clap_on_literals
+serve_no_database = refl
+
+a_serve : line_faults (codes "canoffice" ∷ codes "serve" ∷ codes "--db" ∷ codes "office.db" ∷ codes "--count" ∷ codes "3" ∷ []) ≡ []
+unfolding clap_on_literals
+a_serve = refl
+
 no_length : line_faults (codes "canoffice" ∷ codes "chart" ∷ []) ≡ MissingRequiredArgument ∷ []
 unfolding clap_on_literals
 no_length = refl

@@ -8,8 +8,8 @@ use Rattle.catalogue.specs.Sheet.{IsClearSheet, IsFirstFault}
 use Rattle.catalogue.specs.declared.fault.SheetCode.{SheetCode}
 use Rattle.catalogue.specs.declared.fault.SheetFault.{SheetFault}
 use Rattle.catalogue.specs.declared.keyword.Keyword.{Keyword}
-use Rattle.catalogue.specs.declared.message.Message.{Message}
 use Rattle.catalogue.specs.declared.sheet.Sheet.{Sheet}
+use Rattle.chart.specs.Table.{signal_count}
 use Rattle.dbc_lex.specs.Fault as reading
 use Rattle.dbc_lex.specs.declared.fault.ReadFault.{ReadFault}
 use Rattle.dbc_read.specs.Reading.{IsReadFault}
@@ -26,10 +26,6 @@ passed_line p = codes "passed " ++ (decimal p.0 ++ (codes " " ++ (keyword_text p
 
 abbrev pub passed_lines : List (ℕ × Keyword) → List ℕ
 passed_lines passed = flat_map passed_line passed
-
--- how many signals the messages have altogether
-abbrev pub signal_count : List Message → ℕ
-signal_count messages = length (flat_map (λ (m : Message). m.signals) messages)
 
 -- `ok MESSAGES SIGNALS`: how many there are
 abbrev pub clear_line : Sheet → List ℕ

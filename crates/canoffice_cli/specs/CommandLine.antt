@@ -1,15 +1,21 @@
 -- The command line of the program, which job its words ask for, and which fault they have.
-use Rattle.std.specs.Prelude.{◌≡◌, ◌≢◌, List, [], ◌∷◌, find, map, codes, Option, Some, None, option_map, true, Result, Ok, Err}
+use Rattle.std.specs.Prelude.{◌≡◌, ◌≢◌, ◌⊎◌, List, [], ◌∷◌, find, map, codes, Option, Some, None, option_map, string_bytes, true, Result, Ok, Err}
+use Rattle.std.specs.Option.{option_and_then}
 use Rattle.std.specs.Str.{bytes_eq}
 use Rattle.clap.specs.Lexer.{usize_max}
 use Rattle.clap.specs.Words.{App, Shape, IsAmong, Kinds, Row, Rule, Text, all_of, fault_of, first_of, new_app, new_rule, subcommand_of, with_rule, with_subcommand}
 use Rattle.clap.specs.Simple.{on_top}
 use Rattle.clap.specs.declared.error.kind.ErrorKind.{ErrorKind}
 use Rattle.clap.specs.declared.error.kind.ErrorKind.TheVariants.{DisplayHelp, OutOfMemory}
+use Rattle.chart.specs.Word.{length_of}
 use Rattle.canoffice_cli.specs.declared.job.Job.{Job}
-use Rattle.canoffice_cli.specs.declared.job.Job.TheVariants.{Apply, Chart, Check, Export, Format}
+use Rattle.canoffice_cli.specs.declared.job.Job.TheVariants.{Apply, Chart, Check, Export, Format, Serve, Table}
 use Rattle.canoffice_cli.specs.declared.job.LineFault.{LineFault}
 use Rattle.canoffice_cli.specs.declared.job.LineFault.TheVariants.{Help, Usage, Memory}
+use Rattle.canoffice_cli.specs.declared.job.ValueFault.{ValueFault}
+use Rattle.canoffice_cli.specs.declared.job.ValueFault.TheVariants as value
+use Rattle.canoffice_cli.specs.Numbers.{count_given, port_given, release_number}
+use Rattle.canoffice_cli.specs.Outcome.{wrong_word_text}
 
 -- ---- the description for clap
 
@@ -49,18 +55,28 @@ export_app = with_rule (with_rule (with_rule (new_app (codes "export")) (require
 abbrev pub format_app : App
 format_app = with_rule (new_app (codes "format")) (required_word (codes "FILE"))
 
+-- serve --db FILE [--port N] [--count N]
+abbrev pub serve_app : App
+serve_app = with_rule (with_rule (with_rule (new_app (codes "serve")) (required_option (codes "db"))) (option_word (codes "port"))) (option_word (codes "count"))
+
+-- table FILE
+abbrev pub table_app : App
+table_app = with_rule (new_app (codes "table")) (required_word (codes "FILE"))
+
 -- a subcommand is required, and without any argument the help is printed
 abbrev pub wants_subcommand : App → App
 wants_subcommand = on_top (λ s. record s { subcommand_required = true; arg_required_else_help = true })
 
--- canoffice apply .., chart .., check .., export .., format ..
+-- canoffice apply .., chart .., check .., export .., format .., serve .., table ..
 abbrev pub canoffice_app : App
 canoffice_app =
     let to_apply = with_subcommand (wants_subcommand (new_app (codes "canoffice"))) apply_app.top in
     let to_chart = with_subcommand to_apply chart_app.top in
     let to_check = with_subcommand to_chart check_app.top in
     let to_export = with_subcommand to_check export_app.top in
-    with_subcommand to_export format_app.top
+    let to_format = with_subcommand to_export format_app.top in
+    let to_serve = with_subcommand to_format serve_app.top in
+    with_subcommand to_serve table_app.top
 
 -- the kinds of fault that clap finds in the words
 abbrev pub line_faults : List Text → Kinds
@@ -76,16 +92,21 @@ HasValue rows id text = first_of id rows ≡ Some text
 abbrev pub HasValues : List Row → Text → List Text → Type 0
 HasValues rows id texts = all_of id rows ≡ Some texts
 
--- the job is the subcommand, with the values of its arguments
+-- the job is the subcommand, with the values of its arguments, and the numbers that they give
 abbrev pub IsJobOf : Job → Text → List Row → Type 0
 IsJobOf (Apply database script) name rows =
     (name ≡ codes "apply") × (first_of (codes "db") rows ≡ option_map (λ path. path.now) database) × HasValue rows (codes "SCRIPT") script.now
 IsJobOf (Chart length signals) name rows =
-    (name ≡ codes "chart") × HasValue rows (codes "LENGTH") length.now × HasValues rows (codes "SIGNAL") (map (λ s. s.now) signals.items)
+    (name ≡ codes "chart") × (option_and_then length_of (first_of (codes "LENGTH") rows) ≡ Some length) × HasValues rows (codes "SIGNAL") (map (λ s. s.now) signals.items)
 IsJobOf (Check file) name rows = (name ≡ codes "check") × HasValue rows (codes "FILE") file.now
 IsJobOf (Export database net number) name rows =
-    (name ≡ codes "export") × HasValue rows (codes "db") database.now × HasValue rows (codes "NET") net.now × HasValue rows (codes "N") number.now
+    (name ≡ codes "export") × HasValue rows (codes "db") database.now × HasValue rows (codes "NET") net.now
+    × (option_and_then release_number (first_of (codes "N") rows) ≡ Some number)
 IsJobOf (Format file) name rows = (name ≡ codes "format") × HasValue rows (codes "FILE") file.now
+IsJobOf (Serve database port count) name rows =
+    (name ≡ codes "serve") × HasValue rows (codes "db") database.now
+    × (port_given (first_of (codes "port") rows) ≡ Some port) × (count_given (first_of (codes "count") rows) ≡ Some count)
+IsJobOf (Table file) name rows = (name ≡ codes "table") × HasValue rows (codes "FILE") file.now
 
 -- the job of the subcommand that was found, with its values
 abbrev pub IsJobIn : Option (Text × List Row) → Job → Type 0
@@ -116,10 +137,6 @@ abbrev pub IsEntered : Option (Text × List Row) → Type 0
 IsEntered None = ⊥
 IsEntered (Some found) = IsWhole (find (λ s. bytes_eq found.0 s.name) canoffice_app.subs) found.1
 
--- the subcommand that was entered has this name
-abbrev pub IsNamed : Text → Option (Text × List Row) → Type 0
-IsNamed name found = (rows : List Row) × (found ≡ Some (name, rows))
-
 -- ---- the fault of words that ask for no job
 
 -- the fault for clap's error of this kind
@@ -128,10 +145,39 @@ IsFaultOfKind kind (Help text) = kind ≡ DisplayHelp
 IsFaultOfKind kind (Usage text) = (kind ≢ DisplayHelp) × (kind ≢ OutOfMemory)
 IsFaultOfKind kind Memory = Unit {0}
 
--- the words ask for help; or they have a fault of another kind; or memory ran out
+-- of the subcommand with these arguments, the word for a number gives none in its range
+abbrev pub IsWrongNumber : Text → List Row → Text → Type 0
+IsWrongNumber name rows word =
+    ((name ≡ codes "chart") × HasValue rows (codes "LENGTH") word × (length_of word ≡ None))
+    ⊎ ((name ≡ codes "export") × HasValue rows (codes "N") word × (release_number word ≡ None))
+    ⊎ ((name ≡ codes "serve") × HasValue rows (codes "port") word × (port_given (Some word) ≡ None))
+    ⊎ ((name ≡ codes "serve") × HasValue rows (codes "count") word × (count_given (Some word) ≡ None))
+
+-- the subcommand with these arguments makes no job: a word is a wrong number, or there was no memory for a chart's signals
+abbrev pub IsValueFault : Text → List Row → ValueFault → Type 0
+IsValueFault name rows (value.WrongNumber word) = IsWrongNumber name rows word.now
+IsValueFault name rows value.Memory = name ≡ codes "chart"
+
+abbrev pub IsValueFaultIn : Option (Text × List Row) → ValueFault → Type 0
+IsValueFaultIn found fault = (name : Text) × (rows : List Row) × (found ≡ Some (name, rows)) × IsValueFault name rows fault
+
+-- clap finds no fault in the words, but this word of them is a wrong number
+abbrev pub HasWrongNumber : List Text → Text → Type 0
+HasWrongNumber words word =
+    (line_faults words ≡ []) × (name : Text) × (rows : List Row) × (subcommand_of canoffice_app words ≡ Some (name, rows)) × IsWrongNumber name rows word
+
+-- the fault says that this word is malformed, or that memory ran out
+abbrev pub IsWrongWordFault : Text → LineFault → Type 0
+IsWrongWordFault word (Help text) = ⊥
+IsWrongWordFault word (Usage text) = string_bytes text ≡ wrong_word_text word
+IsWrongWordFault word Memory = Unit {0}
+
+-- the words ask for help; or they have a fault of another kind, or a wrong number, which is told; or memory ran out
 abbrev pub IsLineFault : List Text → LineFault → Type 0
 IsLineFault words (Help text) = IsAmong DisplayHelp (line_faults words)
-IsLineFault words (Usage text) = (kind : ErrorKind) × (kind ≢ DisplayHelp) × IsAmong kind (line_faults words)
+IsLineFault words (Usage text) =
+    ((kind : ErrorKind) × (kind ≢ DisplayHelp) × IsAmong kind (line_faults words))
+    ⊎ ((word : Text) × HasWrongNumber words word × (string_bytes text ≡ wrong_word_text word))
 IsLineFault words Memory = Unit {0}
 
 -- the words ask for a job, or have a fault

@@ -1,13 +1,16 @@
+pub mod Numbers
+pub mod Outcome
 pub mod CommandLine
 pub mod Holding
 pub mod Databases
-pub mod Outcome
 pub mod Answered
 pub mod Applied
 pub mod Exported
+pub mod Served
 pub mod Charted
 pub mod WordFault
 pub mod Checked
 pub mod Formatted
+pub mod Tabled
 pub mod Delivery
 pub mod Performance

@@ -9,12 +9,14 @@ use Rattle.canoffice_cli.specs.Charted.{IsChartOutcome}
 use Rattle.canoffice_cli.specs.Checked.{IsCheckOutcome}
 use Rattle.canoffice_cli.specs.Exported.{IsExportOutcome}
 use Rattle.canoffice_cli.specs.Formatted.{IsFormatOutcome}
+use Rattle.canoffice_cli.specs.Served.{IsServeOutcome}
+use Rattle.canoffice_cli.specs.Tabled.{IsTableOutcome}
 use Rattle.canoffice_cli.specs.Delivery.{IsDelivered, Writing}
 use Rattle.canoffice_cli.specs.declared.report.Status.{Status}
 use Rattle.canoffice_cli.specs.declared.program.FileTask.{FileTask}
 use Rattle.canoffice_cli.specs.declared.program.FileTask.TheVariants as task
 use Rattle.canoffice_cli.specs.declared.job.Job.{Job}
-use Rattle.canoffice_cli.specs.declared.job.Job.TheVariants.{Apply, Chart, Check, Export, Format}
+use Rattle.canoffice_cli.specs.declared.job.Job.TheVariants.{Apply, Chart, Check, Export, Format, Serve, Table}
 use Rattle.canoffice_cli.specs.declared.job.LineFault.{LineFault}
 use Rattle.canoffice_cli.specs.declared.job.LineFault.TheVariants.{Help, Usage, Memory}
 
@@ -29,6 +31,7 @@ abbrev pub ComesTo : Files → Databases → Databases → FileTask → List ℕ
 ComesTo files before after (task.Apply database) bytes o = IsApplyOutcome files (option_map (λ path. path.now) database) before after bytes o
 ComesTo files before after task.Check bytes o = IsCheckOutcome bytes o × AreKept before after
 ComesTo files before after task.Format bytes o = IsFormatOutcome bytes o × AreKept before after
+ComesTo files before after task.Table bytes o = IsTableOutcome bytes o × AreKept before after
 
 abbrev pub IsFileOutcome : Files → Databases → Databases → FileTask → List ℕ → Outcome → Type 0
 IsFileOutcome files before after task path o = IsOfFile (AreKept before after) (ComesTo files before after task) path (files path) o
@@ -36,10 +39,12 @@ IsFileOutcome files before after task path o = IsOfFile (AreKept before after) (
 -- the outcome of the job, and what is known of databases before and after
 abbrev pub IsDone : Files → Databases → Databases → Job → Outcome → Type 0
 IsDone files before after (Apply database script) o = IsFileOutcome files before after (task.Apply database) script.now o
-IsDone files before after (Chart length signals) o = IsChartOutcome length.now (map (λ s. s.now) signals.items) o × AreKept before after
+IsDone files before after (Chart length signals) o = IsChartOutcome length (map (λ s. s.now) signals.items) o × AreKept before after
 IsDone files before after (Check file) o = IsFileOutcome files before after task.Check file.now o
-IsDone files before after (Export database net number) o = IsExportOutcome before after database.now net.now number.now o
+IsDone files before after (Export database net number) o = IsExportOutcome before after database.now net.now number o
 IsDone files before after (Format file) o = IsFileOutcome files before after task.Format file.now o
+IsDone files before after (Serve database port count) o = IsServeOutcome before after database.now count o
+IsDone files before after (Table file) o = IsFileOutcome files before after task.Table file.now o
 
 -- the outcome of words that ask for no job: the text of their fault
 abbrev pub IsFaultAnswer : LineFault → Outcome → Type 0

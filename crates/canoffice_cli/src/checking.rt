@@ -1,12 +1,13 @@
 //! Checking DBC texts.
 ghost use Rattle.std.specs.Prelude.{◌≡◌, IfOk, map, string_bytes};
 ghost use Rattle.canoffice_cli.specs.Outcome.{outcome_of};
-ghost use Rattle.canoffice_cli.specs.Checked.{clear_line, fault_line, fault_output, passed_lines, signal_count, unclear_line, IsCheckOutcome, IsVerdict};
+ghost use Rattle.canoffice_cli.specs.Checked.{clear_line, fault_line, fault_output, passed_lines, unclear_line, IsCheckOutcome, IsVerdict};
 ghost use Rattle.dbc_read.specs.Passed.{start_and_keyword};
 
 use crate::lines::{Line, lines_of};
 use crate::report::{Report, Status};
-use catalogue::{Message, Sheet, SheetCode, SheetFault};
+use catalogue::{Sheet, SheetCode, SheetFault};
+use chart::signal_count;
 use dbc_read::{Passed, ReadCode, ReadFault, Reading, read};
 use std::alloc::{AllocError, Global};
 
@@ -27,17 +28,6 @@ fn passed_lines(alloc: Global, passed: &[Passed]) -> Result<Vec<u8>, AllocError>
     ensures { IfOk result (λ text. text.items ≡ passed_lines (map start_and_keyword passed.now)) }
 {
     lines_of(alloc, passed)
-}
-
-/// How many signals the sheet's messages have altogether.
-fn signal_count(sheet: &Sheet) -> usize
-    ensures { result ≡ signal_count sheet.now.messages }
-{
-    let mut count = 0usize;
-    for message in sheet.messages() {
-        count += message.signals.as_slice().len();
-    }
-    count
 }
 
 /// The line of a sheet that is clear.

@@ -1,8 +1,8 @@
 //! The command line, described for clap. Each subcommand has a function here, and so has each kind of argument.
-ghost use Rattle.std.specs.Prelude.{◌≡◌, IfOk, false};
-ghost use Rattle.clap.specs.Words.{app_of, rule_of};
+ghost use Rattle.std.specs.Prelude.{◌≡◌, IfOk, codes, false};
+ghost use Rattle.clap.specs.Words.{app_of, new_app, rule_of};
 ghost use Rattle.clap.specs.declared.builder.command.Command.TheViews.{out-Command as fields_of};
-ghost use Rattle.canoffice_cli.specs.CommandLine.{apply_app, canoffice_app, chart_app, check_app, export_app, format_app, option_word, required_option, required_word, required_words};
+ghost use Rattle.canoffice_cli.specs.CommandLine.{apply_app, canoffice_app, chart_app, check_app, export_app, format_app, option_word, required_option, required_word, required_words, serve_app, table_app, wants_subcommand};
 
 use clap::{Arg, Command};
 use std::alloc::{AllocError, Global};
@@ -101,19 +101,53 @@ fn format_command<'a>(alloc: Global) -> Result<Command<'a>, AllocError>
     Ok(format)
 }
 
+/// `serve --db FILE [--port N] [--count N]`
+fn serve_command<'a>(alloc: Global) -> Result<Command<'a>, AllocError>
+    ensures app { IfOk result (λ c. app_of c ≡ serve_app) }
+    ensures local { IfOk result (λ c. (fields_of c).has_globals ≡ false) }
+{
+    let named = Command::new(alloc, "serve").about("Serves the office over HTTP on 127.0.0.1");
+    let port = "The port, 1 to 65535; 8089 where none is given";
+    let count = "After how many connections it ends, 1 to 1000000, which it is where none is given";
+    let with_database = named.arg(required_option(alloc, "db", "FILE", "The office's database"))?;
+    let with_port = with_database.arg(option(alloc, "port", "N", port))?;
+    let serve = with_port.arg(option(alloc, "count", "N", count))?;
+    Ok(serve)
+}
+
+/// `table FILE`
+fn table_command<'a>(alloc: Global) -> Result<Command<'a>, AllocError>
+    ensures app { IfOk result (λ c. app_of c ≡ table_app) }
+    ensures local { IfOk result (λ c. (fields_of c).has_globals ≡ false) }
+{
+    let named = Command::new(alloc, "table").about("Prints a table of the messages of a DBC file");
+    let table = named.arg(required_argument(alloc, "FILE", "The DBC file"))?;
+    Ok(table)
+}
+
+/// The program's command line before its subcommands, one of which is required.
+fn bare_command<'a>(alloc: Global) -> Command<'a>
+    ensures app { app_of result ≡ wants_subcommand (new_app (codes "canoffice")) }
+    ensures local { (fields_of result).has_globals ≡ false }
+{
+    let named = Command::new(alloc, "canoffice").about(
+        "Checks, formats and charts DBC files, and gives out CAN identifiers",
+    );
+    named.subcommand_required(true).arg_required_else_help(true)
+}
+
 /// The program's command line with all its subcommands, one of which is required.
 pub fn canoffice_command<'a>(alloc: Global) -> Result<Command<'a>, AllocError>
     ensures app { IfOk result (λ c. app_of c ≡ canoffice_app) }
     ensures local { IfOk result (λ c. (fields_of c).has_globals ≡ false) }
 {
-    let named = Command::new(alloc, "canoffice").about(
-        "Checks, formats and charts DBC files, and gives out CAN identifiers",
-    );
-    let wanting = named.subcommand_required(true).arg_required_else_help(true);
-    let with_apply = wanting.subcommand(apply_command(alloc)?)?;
+    let bare = bare_command(alloc);
+    let with_apply = bare.subcommand(apply_command(alloc)?)?;
     let with_chart = with_apply.subcommand(chart_command(alloc)?)?;
     let with_check = with_chart.subcommand(check_command(alloc)?)?;
     let with_export = with_check.subcommand(export_command(alloc)?)?;
     let with_format = with_export.subcommand(format_command(alloc)?)?;
-    Ok(with_format)
+    let with_serve = with_format.subcommand(serve_command(alloc)?)?;
+    let with_table = with_serve.subcommand(table_command(alloc)?)?;
+    Ok(with_table)
 }

@@ -5,11 +5,13 @@ ghost use Rattle.std.specs.Result.{result_map_both};
 ghost use Rattle.canoffice_cli.specs.Answered.{InDatabase, answered_with};
 ghost use Rattle.canoffice_cli.specs.Databases.{Databases as Known};
 ghost use Rattle.canoffice_cli.specs.Exported.{IsLookedUp};
+ghost use Rattle.canoffice_cli.specs.Served.{IsServed};
 
 mod memory;
 
 use crate::answering::Answers;
 use crate::progress::Progress;
+use crate::serving::ServeEnd;
 pub use memory::MemoryDatabase;
 use office_history::Arrival;
 use std::alloc::{AllocError, Global};
@@ -21,9 +23,9 @@ pub trait Databases {
     /// What is known of them.
     ghost known: { Self → Known };
 
-    /// Answers the arrivals in turn by the office in the database at the path, up to the first that is lost. It is shown how
-    /// far the script of the arrivals is. Opening the database, or closing it after the last answer, may be lost too. The error
-    /// is out of memory for the answers: then nothing arrived.
+    /// Answers the arrivals in turn by the office in the database at the path, up to the first that is lost. It is shown
+    /// how far the script of the arrivals is. Opening the database, or closing it after the last answer, may be lost too.
+    /// The error is out of memory for the answers: then nothing arrived.
     fn answer<W: Write>(
         &mut self,
         alloc: Global,
@@ -44,4 +46,9 @@ pub trait Databases {
         question: &Question,
     ) -> Result<Option<Vec<u8>>, Lost>
         ensures { IsLookedUp (known self.old) (known self.new) path.now question.now (result_map_both (option_map (λ text. text.items)) (λ lost. lost) result) };
+
+    /// Serves `count` connections of the port of this machine by the office in the database at the path, and tells on the
+    /// machine's standard error when it listens. The error is why it ended before that.
+    fn serve(&mut self, alloc: Global, path: &str, port: u16, count: u32) -> Result<(), ServeEnd>
+        ensures { IsServed (known self.old) (known self.new) path.now count result };
 }

@@ -1,9 +1,11 @@
 //! The job that the words of the command line ask for.
 ghost use Rattle.std.specs.Prelude.{◌≡◌, IfOk, IfErr, map, codes};
 ghost use Rattle.clap.specs.Words.{found_of, kind_of, rows_of, subcommand_rows_of};
-ghost use Rattle.canoffice_cli.specs.CommandLine.{HasSome, IsEntered, IsJob, IsJobIn, IsJobOf, IsFaultOfKind, IsLineFault, IsNamed};
+ghost use Rattle.canoffice_cli.specs.CommandLine.{HasSome, IsEntered, IsJob, IsJobIn, IsJobOf, IsFaultOfKind, IsLineFault, IsValueFault, IsValueFaultIn, IsWrongWordFault};
 
 use crate::command_line::canoffice_command;
+use crate::numbers::{count_given, length_given, port_given, release_number};
+use crate::report::bad_word_text;
 use clap::error::ErrorKind;
 use clap::{ArgMatches, Error};
 use std::alloc::{AllocError, Global};
@@ -18,10 +20,10 @@ pub enum Job<'a> {
         /// The path of the script.
         script: &'a str,
     },
-    /// Print the chart of the signals that the words describe, in a message of the length that a word gives.
+    /// Print the chart of the signals that the words describe, in a message of this length.
     Chart {
-        /// The word that gives the length.
-        length: &'a str,
+        /// The length, 0 to 64 bytes.
+        length: u16,
         /// The words that describe the signals.
         signals: Vec<&'a str>,
     },
@@ -36,11 +38,25 @@ pub enum Job<'a> {
         database: &'a str,
         /// The word that names the network.
         net: &'a str,
-        /// The word that gives the number of the release.
-        number: &'a str,
+        /// The number of the release, 1 to 65535, or 0 for the live sheet.
+        number: u32,
     },
     /// Print the canonical text of the DBC text in the file of this name.
     Format {
+        /// The path of the file.
+        file: &'a str,
+    },
+    /// Serve the office over HTTP.
+    Serve {
+        /// The path of the office's database.
+        database: &'a str,
+        /// The port of this machine, from 1.
+        port: u16,
+        /// The count of connections, 1 to 1000000.
+        count: u32,
+    },
+    /// Print the table of the messages of the DBC text in the file of this name.
+    Table {
         /// The path of the file.
         file: &'a str,
     },
@@ -57,10 +73,20 @@ pub enum LineFault {
     Memory,
 }
 
-/// The job that the program's words ask for. The first word is the program's own name.
+/// Why the values of a subcommand make no job.
+#[derive(Clone, Copy, Debug)]
+enum ValueFault<'a> {
+    /// This word gives no number in its range.
+    WrongNumber(&'a str),
+    /// Memory ran out.
+    Memory,
+}
+
+/// The job that the program's words ask for, each number in its range. The first word is the program's own name.
 ///
-/// The result is a job exactly if clap finds no fault in the words, unless memory runs out: it is `Help` only if they
-/// ask for help, and `Usage` only if they have another fault.
+/// The result is a job exactly if clap finds no fault in the words and each word for a number gives one in its range, unless
+/// memory runs out: it is `Help` only if they ask for help, and `Usage` only if they have another fault, or a word for a
+/// number that gives none in its range, as `bad word WORD`.
 pub fn job_of<'a>(alloc: Global, words: &'a [&'a str]) -> Result<Job<'a>, LineFault>
     ensures job { IfOk result (IsJob (map (λ s. s.now) words.entry.now)) }
     ensures fault { IfErr result (IsLineFault (map (λ s. s.now) words.entry.now)) }
@@ -71,7 +97,8 @@ pub fn job_of<'a>(alloc: Global, words: &'a [&'a str]) -> Result<Job<'a>, LineFa
     match command.try_get_matches_from(words) {
         Ok(matches) => match job_in(alloc, &matches) {
             Ok(job) => Ok(job),
-            Err(AllocError) => Err(LineFault::Memory),
+            Err(ValueFault::WrongNumber(word)) => Err(wrong_number(alloc, word)),
+            Err(ValueFault::Memory) => Err(LineFault::Memory),
         },
         Err(error) => Err(line_fault(alloc, &error)),
     }
@@ -91,6 +118,16 @@ pub fn not_utf8_fault(alloc: Global) -> LineFault
     }
 }
 
+/// The fault that the word gives no number in its range.
+fn wrong_number(alloc: Global, word: &str) -> LineFault
+    ensures { IsWrongWordFault word.now result }
+{
+    match bad_word_text(alloc, word) {
+        Ok(text) => LineFault::Usage(text),
+        Err(AllocError) => LineFault::Memory,
+    }
+}
+
 /// The fault for clap's error, with clap's text.
 fn line_fault(alloc: Global, error: &Error) -> LineFault
     ensures { IsFaultOfKind (kind_of error.now) result }
@@ -105,13 +142,14 @@ fn line_fault(alloc: Global, error: &Error) -> LineFault
     }
 }
 
-/// The job of the subcommand that was entered, which is one of the program's, with all its required arguments. Only
-/// the list of a chart's signals takes memory, so no other subcommand can end as out of memory here.
+/// The job of the subcommand that was entered, which is one of the program's, with all its required arguments, or the
+/// first word that gives no number in its range. Only the list of a chart's signals takes memory, so no other subcommand
+/// can end as out of memory here.
 #[tactic(auto, using(crate::proofs::CommandLine::found_pair))]
-fn job_in<'a>(alloc: Global, matches: &ArgMatches<'a>) -> Result<Job<'a>, AllocError>
+fn job_in<'a>(alloc: Global, matches: &ArgMatches<'a>) -> Result<Job<'a>, ValueFault<'a>>
     requires { IsEntered (subcommand_rows_of matches.now) }
     ensures job { IfOk result (IsJobIn (subcommand_rows_of matches.now)) }
-    ensures memory { IfErr result (λ e. IsNamed (codes "chart") (subcommand_rows_of matches.now)) }
+    ensures fault { IfErr result (IsValueFaultIn (subcommand_rows_of matches.now)) }
 {
     let Some((name, found)) = matches.subcommand() else {
         unreachable!("clap wants a subcommand")
@@ -126,10 +164,16 @@ fn job_in<'a>(alloc: Global, matches: &ArgMatches<'a>) -> Result<Job<'a>, AllocE
         return Ok(check_job(found));
     }
     if name == "export" {
-        return Ok(export_job(found));
+        return export_job(found);
     }
     if name == "format" {
         return Ok(format_job(found));
+    }
+    if name == "serve" {
+        return serve_job(found);
+    }
+    if name == "table" {
+        return Ok(table_job(found));
     }
     unreachable!("clap knows no other subcommand")
 }
@@ -146,16 +190,22 @@ fn apply_job<'a>(found: &ArgMatches<'a>) -> Job<'a>
 }
 
 /// `chart LENGTH SIGNAL..`
-#[tactic(auto, using(crate::proofs::CommandLine::value_in_rows, crate::proofs::CommandLine::values_in_rows, crate::proofs::CommandLine::text_is_given, crate::proofs::CommandLine::texts_are_given))]
-fn chart_job<'a>(alloc: Global, found: &ArgMatches<'a>) -> Result<Job<'a>, AllocError>
+#[tactic(auto, using(crate::proofs::CommandLine::optional_in_rows, crate::proofs::CommandLine::text_is_given, crate::proofs::CommandLine::texts_are_given))]
+fn chart_job<'a>(alloc: Global, found: &ArgMatches<'a>) -> Result<Job<'a>, ValueFault<'a>>
     requires length { HasSome (rows_of (found_of found.now)) (codes "LENGTH") }
     requires signals { HasSome (rows_of (found_of found.now)) (codes "SIGNAL") }
-    ensures { IfOk result (λ job. IsJobOf job (codes "chart") (rows_of (found_of found.now))) }
+    ensures job { IfOk result (λ job. IsJobOf job (codes "chart") (rows_of (found_of found.now))) }
+    ensures fault { IfErr result (IsValueFault (codes "chart") (rows_of (found_of found.now))) }
 {
-    let length = found.get_str("LENGTH").unwrap();
     let words = found.get_strs("SIGNAL").unwrap();
-    let signals = Vec::from_slice(alloc, words)?;
-    Ok(Job::Chart { length, signals })
+    let word = found.get_str("LENGTH").unwrap();
+    let Some(length) = length_given(word) else {
+        return Err(ValueFault::WrongNumber(word));
+    };
+    match Vec::from_slice(alloc, words) {
+        Ok(signals) => Ok(Job::Chart { length, signals }),
+        Err(AllocError) => Err(ValueFault::Memory),
+    }
 }
 
 /// `check FILE`
@@ -169,20 +219,24 @@ fn check_job<'a>(found: &ArgMatches<'a>) -> Job<'a>
 }
 
 /// `export --db FILE NET N`
-#[tactic(auto, using(crate::proofs::CommandLine::value_in_rows, crate::proofs::CommandLine::text_is_given))]
-fn export_job<'a>(found: &ArgMatches<'a>) -> Job<'a>
+#[tactic(auto, using(crate::proofs::CommandLine::value_in_rows, crate::proofs::CommandLine::optional_in_rows, crate::proofs::CommandLine::text_is_given))]
+fn export_job<'a>(found: &ArgMatches<'a>) -> Result<Job<'a>, ValueFault<'a>>
     requires database { HasSome (rows_of (found_of found.now)) (codes "db") }
     requires net { HasSome (rows_of (found_of found.now)) (codes "NET") }
     requires number { HasSome (rows_of (found_of found.now)) (codes "N") }
-    ensures { IsJobOf result (codes "export") (rows_of (found_of found.now)) }
+    ensures job { IfOk result (λ job. IsJobOf job (codes "export") (rows_of (found_of found.now))) }
+    ensures fault { IfErr result (IsValueFault (codes "export") (rows_of (found_of found.now))) }
 {
     let database = found.get_str("db").unwrap();
     let net = found.get_str("NET").unwrap();
-    let number = found.get_str("N").unwrap();
-    Job::Export {
-        database,
-        net,
-        number,
+    let word = found.get_str("N").unwrap();
+    match release_number(word) {
+        Some(number) => Ok(Job::Export {
+            database,
+            net,
+            number,
+        }),
+        None => Err(ValueFault::WrongNumber(word)),
     }
 }
 
@@ -194,4 +248,36 @@ fn format_job<'a>(found: &ArgMatches<'a>) -> Job<'a>
 {
     let file = found.get_str("FILE").unwrap();
     Job::Format { file }
+}
+
+/// `serve --db FILE [--port N] [--count N]`
+#[tactic(auto, using(crate::proofs::CommandLine::value_in_rows, crate::proofs::CommandLine::optional_in_rows, crate::proofs::CommandLine::text_is_given))]
+fn serve_job<'a>(found: &ArgMatches<'a>) -> Result<Job<'a>, ValueFault<'a>>
+    requires { HasSome (rows_of (found_of found.now)) (codes "db") }
+    ensures job { IfOk result (λ job. IsJobOf job (codes "serve") (rows_of (found_of found.now))) }
+    ensures fault { IfErr result (IsValueFault (codes "serve") (rows_of (found_of found.now))) }
+{
+    let database = found.get_str("db").unwrap();
+    let port = match port_given(found.get_str("port")) {
+        Ok(port) => port,
+        Err(word) => return Err(ValueFault::WrongNumber(word)),
+    };
+    match count_given(found.get_str("count")) {
+        Ok(count) => Ok(Job::Serve {
+            database,
+            port,
+            count,
+        }),
+        Err(word) => Err(ValueFault::WrongNumber(word)),
+    }
+}
+
+/// `table FILE`
+#[tactic(auto, using(crate::proofs::CommandLine::value_in_rows, crate::proofs::CommandLine::text_is_given))]
+fn table_job<'a>(found: &ArgMatches<'a>) -> Job<'a>
+    requires { HasSome (rows_of (found_of found.now)) (codes "FILE") }
+    ensures { IsJobOf result (codes "table") (rows_of (found_of found.now)) }
+{
+    let file = found.get_str("FILE").unwrap();
+    Job::Table { file }
 }

@@ -1,11 +1,11 @@
 //! The library of the program `canoffice`: from the words of its command line to its exit status.
 //!
 //! - `command_line` describes the subcommands and their arguments for clap; with it `job` turns the words into a `Job`
-//!   or a `LineFault`.
+//!   or a `LineFault`. `numbers` has the ranges of the numbers that words give.
 //! - `files` reads files: those of the machine, or those of a list in memory. `databases` has the offices in databases, of
 //!   which one in memory is here; those of the machine are in the program itself.
-//! - `apply`, `exporting`, `charting`, `checking` and `formatting` do the jobs. `answering` answers the arrivals of a script, by
-//!   an office in memory or on a connection to a database, and `progress` shows how far it is.
+//! - `apply`, `exporting`, `serving`, `charting`, `checking`, `formatting` and `tabling` do the jobs. `answering` answers
+//!   the arrivals of a script, by an office in memory or on a connection to a database, and `progress` shows how far it is.
 //! - `report` is the result of a run: bytes for standard output and standard error, and a `Status`.
 //! - `delivery` writes a report to the two streams.
 //! - `program` joins them: `perform` is a whole run.
@@ -26,9 +26,12 @@ mod files;
 mod formatting;
 mod job;
 mod lines;
+mod numbers;
 mod program;
 mod progress;
 mod report;
+mod serving;
+mod tabling;
 
 pub use answering::{Answers, answer_on, lost_at_once, told_and_closed};
 pub use apply::apply_script;
@@ -43,3 +46,5 @@ pub use job::{Job, LineFault, job_of, not_utf8_fault};
 pub use program::{fault_report, perform, report_of};
 pub use progress::Progress;
 pub use report::{LOST_MEMORY, Report, Status, bad_line, bad_word, cannot_read, help, usage};
+pub use serving::{ServeEnd, serve_report};
+pub use tabling::table_report;

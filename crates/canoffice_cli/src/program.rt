@@ -16,6 +16,8 @@ use crate::formatting::format_report;
 use crate::job::{Job, LineFault, job_of};
 use crate::progress::Progress;
 use crate::report::{Report, Status, cannot_read, help, usage};
+use crate::serving::serve_report;
+use crate::tabling::table_report;
 use std::alloc::{AllocError, Global};
 use std::io::Write;
 
@@ -28,6 +30,8 @@ pub(crate) enum FileTask<'a> {
     Check,
     /// They are DBC text, which is printed in its canonical form.
     Format,
+    /// They are DBC text, the table of whose messages is printed.
+    Table,
 }
 
 /// Does what the program's words ask for, writes the result to `out` and `errors`, and returns how the program ends. It is
@@ -121,6 +125,7 @@ fn task_report<F: FileSource, D: Databases, W: Write>(
         }
         FileTask::Check => check_report(alloc, bytes),
         FileTask::Format => format_report(alloc, bytes),
+        FileTask::Table => table_report(alloc, bytes),
     }
 }
 
@@ -139,7 +144,7 @@ pub fn report_of<F: FileSource, D: Databases, W: Write>(
             let task = FileTask::Apply(*database);
             file_report(alloc, task, script, files, databases, progress)
         }
-        Job::Chart { length, signals } => chart_report(alloc, length, signals),
+        Job::Chart { length, signals } => chart_report(alloc, *length, signals),
         Job::Check { file } => {
             file_report(alloc, FileTask::Check, file, files, databases, progress)
         }
@@ -147,9 +152,17 @@ pub fn report_of<F: FileSource, D: Databases, W: Write>(
             database,
             net,
             number,
-        } => export_report(alloc, databases, database, net, number),
+        } => export_report(alloc, databases, database, net, *number),
         Job::Format { file } => {
             file_report(alloc, FileTask::Format, file, files, databases, progress)
+        }
+        Job::Serve {
+            database,
+            port,
+            count,
+        } => serve_report(alloc, databases, database, *port, *count),
+        Job::Table { file } => {
+            file_report(alloc, FileTask::Table, file, files, databases, progress)
         }
     }
 }

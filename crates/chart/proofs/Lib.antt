@@ -1,2 +1,3 @@
 pub mod Pieces
 mod Rows
+mod TableRows

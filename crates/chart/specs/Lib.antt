@@ -1,2 +1,5 @@
+pub mod Columns
 pub mod Text
+pub mod Message
+pub mod Table
 pub mod Word

@@ -1,5 +1,5 @@
 -- The chart of a message's signals, line by line.
-use Rattle.std.specs.Prelude.{ℕ, ◌+◌, ◌*◌, ◌-◌, nat_lt, Bool, List, [], ◌∷◌, ◌++◌, length, map, Option, Some, None, if◌then◌else◌, position, slice_get, codes, decimal, replicate}
+use Rattle.std.specs.Prelude.{ℕ, ◌+◌, ◌*◌, nat_lt, Bool, List, [], ◌∷◌, ◌++◌, map, Option, Some, None, if◌then◌else◌, position, slice_get, codes, decimal}
 use Rattle.std.specs.List.{count_by, flat_map, range_with_len, enumerate_from}
 use Rattle.std.specs.Option.{option_map_or}
 use Rattle.bitlayout.specs.declared.layout.Layout.{Layout}
@@ -13,6 +13,7 @@ use Rattle.bitlayout.specs.Clash.{first_clash_of}
 use Rattle.bitlayout.specs.Mux.{indicator_of}
 use Rattle.bitlayout.specs.Order.{order_number}
 use Rattle.catalogue.specs.Fault.{clash_code, code_name, code_number}
+use Rattle.chart.specs.Columns.{set_right}
 use Rattle.chart.specs.declared.signal.ChartSignal.{ChartSignal}
 
 -- ---- the lines of the bytes
@@ -52,10 +53,6 @@ bits_of_byte = 7 ∷ 6 ∷ 5 ∷ 4 ∷ 3 ∷ 2 ∷ 1 ∷ 0 ∷ []
 -- the cells of a byte, each after a space
 abbrev pub cells_of : List ChartSignal → ℕ → List ℕ
 cells_of signals byte = flat_map (λ bit. space ∷ cell_of signals (8 * byte + bit) ∷ []) bits_of_byte
-
--- a text, right-aligned in this many columns
-abbrev pub set_right : ℕ → List ℕ → List ℕ
-set_right columns text = replicate (columns - length text) space ++ text
 
 -- the byte's number in 4 columns, and its cells
 abbrev pub byte_line : List ChartSignal → ℕ → List ℕ

@@ -1,8 +1,9 @@
 //! The text of a chart.
 ghost use Rattle.std.specs.Prelude.{◌≡◌, ◌++◌, ℕ, List, ◌<◌, length, IfOk, position, string_bytes, decimal, codes};
 ghost use Rattle.std.specs.List.{count_by, flat_map, range_with_len, enumerate_from};
-ghost use Rattle.chart.specs.Text.{letter_of, holds, cell_of, cells_of, set_right, byte_line, layout_text, mark_text, signal_line, name_at, names_of, verdict_of, chart_of};
+ghost use Rattle.chart.specs.Text.{letter_of, holds, cell_of, cells_of, byte_line, layout_text, mark_text, signal_line, name_at, names_of, verdict_of, chart_of};
 
+use crate::columns::number_right;
 use crate::signal::{ChartSignal, first_clash_of};
 use bitlayout::{Clash, Layout, Mux, has_bit};
 use catalogue::SheetCode;
@@ -69,22 +70,13 @@ fn cells(alloc: Global, signals: &[ChartSignal], byte: u16) -> Result<Vec<u8>, A
     Ok(text)
 }
 
-/// The text, right-aligned in this many columns.
-fn set_right(alloc: Global, columns: usize, text: &[u8]) -> Result<Vec<u8>, AllocError>
-    ensures { IfOk result (λ set. set.items ≡ set_right columns text.now) }
-{
-    let mut set = vec![in alloc; b' '; columns.saturating_sub(text.len())]?;
-    set.extend_from_slice(text)?;
-    Ok(set)
-}
-
 /// The line of a byte.
 fn byte_line(alloc: Global, signals: &[ChartSignal], byte: u16) -> Result<Vec<u8>, AllocError>
     ensures { IfOk result (λ text. text.items ≡ byte_line signals.now byte) }
 {
-    let number = format!(in alloc; "{byte}")?;
-    let mut line = set_right(alloc, 4, number.as_bytes())?;
-    line.extend_from_slice(&cells(alloc, signals, byte)?)?;
+    let cells = cells(alloc, signals, byte)?;
+    let mut line = number_right(alloc, 4, usize::from(byte))?;
+    line.extend_from_slice(&cells)?;
     line.push(b'\n')?;
     Ok(line)
 }

@@ -16,25 +16,31 @@ use Rattle.desk_call.specs.Read.{Asks}
 use Rattle.desk_call.specs.declared.call.Look.{Look}
 use Rattle.desk_call.specs.declared.call.Look.TheVariants as look
 use Rattle.desk_reply.specs.Response.{answer_response, problem_response, text_response}
-use Rattle.desk_reply.specs.declared.responses.Content.TheVariants.{Bytes}
+use Rattle.desk_reply.specs.declared.responses.Content.{Content}
+use Rattle.desk_reply.specs.declared.responses.Content.TheVariants.{Bytes, Plain}
 
--- what the store can be asked
-abbrev pub question_of : Look → Option Question
-question_of look.Nets = None
-question_of (look.Table net) = None
-question_of (look.Live net) = Some (question.Live net)
-question_of (look.Release net number) = Some (question.Release net number)
-question_of (look.Chart net message) = None
+-- what the store is asked
+abbrev pub question_of : Look → Question
+question_of look.Nets = question.Nets
+question_of (look.Table net) = question.Table net
+question_of (look.Live net) = question.Live net
+question_of (look.Release net number) = question.Release net number
+question_of (look.Chart net message) = question.Chart net message
+
+-- what its text is: DBC text, or lines
+abbrev pub content_of : Look → Content
+content_of (look.Live net) = Bytes
+content_of (look.Release net number) = Bytes
+content_of l = Plain
 
 -- the response that shows a text, or says that there is none
-abbrev pub shown_response : Option (List ℕ) → List ℕ
-shown_response None = problem_response NotFound
-shown_response (Some text) = text_response Bytes text
+abbrev pub shown_response : Content → Option (List ℕ) → List ℕ
+shown_response content None = problem_response NotFound
+shown_response content (Some text) = text_response content text
 
 -- the text is the response that shows this of the office
 abbrev pub IsLookResponse : Office → Look → List ℕ → Type 0
-IsLookResponse office l text =
-    (q : Question) × (question_of l ≡ Some q) × ((found : Option (List ℕ)) × IsShown office q found × (text ≡ shown_response found))
+IsLookResponse office l text = (found : Option (List ℕ)) × IsShown office (question_of l) found × (text ≡ shown_response (content_of l) found)
 
 -- the arrival with its answer
 abbrev pub answered_as : Asking → Answer → Answered
@@ -79,3 +85,18 @@ HasBegun h left told_old told_new s =
 -- nothing was written, for want of memory
 abbrev pub HasGivenUp : List Answered → Option (List ℕ) → State → Type 0
 HasGivenUp h left s = Holding h s ⊎ ((asked : Asked) × IsAsked left asked × MayHaveTaken h asked s)
+
+-- ---- one connection to an office that has failed
+
+-- the response to what is asked: whatever comes to the office is told to try again
+abbrev pub failed_response : Asked → List ℕ
+failed_response (fails problem) = problem_response problem
+failed_response asked = problem_response TryAgain
+
+-- the whole of that response was written
+abbrev pub HasRefused : Option (List ℕ) → Option (List ℕ) → Option (List ℕ) → Type 0
+HasRefused left told_old told_new = (asked : Asked) × IsAsked left asked × Appends told_old told_new (failed_response asked)
+
+-- a beginning of it was written
+abbrev pub HasBegunRefusal : Option (List ℕ) → Option (List ℕ) → Option (List ℕ) → Type 0
+HasBegunRefusal left told_old told_new = (asked : Asked) × IsAsked left asked × AppendsFront told_old told_new (failed_response asked)

@@ -1,12 +1,12 @@
 //! What the office is asked, and the responses to it.
-ghost use Rattle.std.specs.Prelude.{◌≡◌, ◌≤◌, List, IfOk, OnErr};
+ghost use Rattle.std.specs.Prelude.{◌≡◌, ◌≤◌, List, IfOk, IsFalse, IsTrue, OnErr};
 ghost use Rattle.sqlite.specs.Held.{state};
 ghost use Rattle.sqlite.specs.State.{HasCleanDisk};
 ghost use Rattle.sqlite_trees.specs.View.{doubt};
 ghost use Rattle.office_history.specs.History.{Answered};
 ghost use Rattle.store.specs.Holding.{Holding};
 ghost use Rattle.desk_call.specs.Call.{arrives, asking_seen, seen, shows};
-ghost use Rattle.desk.specs.Serving.{MayHaveTaken, Responds, question_of};
+ghost use Rattle.desk.specs.Serving.{MayHaveTaken, Responds, content_of, failed_response, question_of};
 
 use desk_call::{Call, Look};
 use desk_reply::{Content, answer_response, problem_response, text_response};
@@ -16,32 +16,45 @@ use sqlite::Alter;
 use std::alloc::{AllocError, Global};
 use store::{Office, Question};
 
-/// What the store can be asked. Networks, tables and charts it can't tell yet.
-fn question_of(look: Look) -> Option<Question>
+/// What the store is asked.
+fn question_of(look: Look) -> Question
     ensures { result ≡ question_of look }
 {
     match look {
-        Look::Nets => None,
-        Look::Table(_net) => None,
-        Look::Live(net) => Some(Question::Live(net)),
-        Look::Release(net, number) => Some(Question::Release(net, number)),
-        Look::Chart(_net, _message) => None,
+        Look::Nets => Question::Nets,
+        Look::Table(net) => Question::Table(net),
+        Look::Live(net) => Question::Live(net),
+        Look::Release(net, number) => Question::Release(net, number),
+        Look::Chart(net, message) => Question::Chart(net, message),
+    }
+}
+
+/// What the text of a look is: DBC text, or lines.
+fn content_of(look: &Look) -> Content
+    ensures { result ≡ content_of look.now }
+{
+    match look {
+        Look::Live(_) | Look::Release(_, _) => Content::Bytes,
+        _ => Content::Plain,
     }
 }
 
 /// Looks something up, and gives the response that shows it.
 fn shown<S: Alter>(alloc: Global, office: &mut Office<S>, look: Look) -> Result<Vec<u8>, AllocError>
     ensures clean { doubt (state S.Store office.old.conn).is_clean ≤ doubt (state S.Store office.new.conn).is_clean }
+    ensures refused { IsTrue office.old.failed → office.new ≡ office.old }
+    ensures failed { IsTrue office.old.failed → IfOk result (λ text. text.items ≡ failed_response (shows look)) }
+    ensures open { HasCleanDisk (state S.Store office.new.conn) → (h : List Answered) → Holding h (state S.Store office.old.conn)
+        → IsFalse office.new.failed → IsTrue (state S.Store office.new.conn).is_open }
     ensures ok { HasCleanDisk (state S.Store office.new.conn) → (h : List Answered) → Holding h (state S.Store office.old.conn)
         → IfOk result (λ text. Responds h (shows look) text.items (state S.Store office.new.conn)) }
     ensures err { HasCleanDisk (state S.Store office.new.conn) → (h : List Answered) → Holding h (state S.Store office.old.conn)
         → OnErr result (MayHaveTaken h (shows look) (state S.Store office.new.conn)) }
 {
-    let Some(question) = question_of(look) else {
-        return problem_response(alloc, Problem::TryAgain);
-    };
+    let content = content_of(&look);
+    let question = question_of(look);
     match office.look(alloc, &question) {
-        Ok(Some(text)) => text_response(alloc, Content::Bytes, &text),
+        Ok(Some(text)) => text_response(alloc, content, &text),
         Ok(None) => problem_response(alloc, Problem::NotFound),
         Err(_) => problem_response(alloc, Problem::TryAgain),
     }
@@ -54,6 +67,10 @@ fn arrived<S: Alter>(
     arrival: &Arrival,
 ) -> Result<Vec<u8>, AllocError>
     ensures clean { doubt (state S.Store office.old.conn).is_clean ≤ doubt (state S.Store office.new.conn).is_clean }
+    ensures refused { IsTrue office.old.failed → office.new ≡ office.old }
+    ensures failed { IsTrue office.old.failed → IfOk result (λ text. text.items ≡ failed_response (arrives (asking_seen arrival.now))) }
+    ensures open { HasCleanDisk (state S.Store office.new.conn) → (h : List Answered) → Holding h (state S.Store office.old.conn)
+        → IsFalse office.new.failed → IsTrue (state S.Store office.new.conn).is_open }
     ensures ok { HasCleanDisk (state S.Store office.new.conn) → (h : List Answered) → Holding h (state S.Store office.old.conn)
         → IfOk result (λ text. Responds h (arrives (asking_seen arrival.now)) text.items (state S.Store office.new.conn)) }
     ensures err { HasCleanDisk (state S.Store office.new.conn) → (h : List Answered) → Holding h (state S.Store office.old.conn)
@@ -73,6 +90,10 @@ pub(crate) fn response_to<S: Alter>(
     call: Call,
 ) -> Result<Vec<u8>, AllocError>
     ensures clean { doubt (state S.Store office.old.conn).is_clean ≤ doubt (state S.Store office.new.conn).is_clean }
+    ensures refused { IsTrue office.old.failed → office.new ≡ office.old }
+    ensures failed { IsTrue office.old.failed → IfOk result (λ text. text.items ≡ failed_response (seen call)) }
+    ensures open { HasCleanDisk (state S.Store office.new.conn) → (h : List Answered) → Holding h (state S.Store office.old.conn)
+        → IsFalse office.new.failed → IsTrue (state S.Store office.new.conn).is_open }
     ensures ok { HasCleanDisk (state S.Store office.new.conn) → (h : List Answered) → Holding h (state S.Store office.old.conn)
         → IfOk result (λ text. Responds h (seen call) text.items (state S.Store office.new.conn)) }
     ensures err { HasCleanDisk (state S.Store office.new.conn) → (h : List Answered) → Holding h (state S.Store office.old.conn)

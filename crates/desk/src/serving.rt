@@ -1,5 +1,5 @@
 //! One request and one response.
-ghost use Rattle.std.specs.Prelude.{◌≡◌, ◌+◌, ◌-◌, ◌<◌, ◌≤◌, ◌^◌, ℕ, List, OnOk, IsErrOf};
+ghost use Rattle.std.specs.Prelude.{◌≡◌, ◌+◌, ◌-◌, ◌<◌, ◌≤◌, ◌^◌, ℕ, List, OnOk, IsErrOf, IsFalse, IsTrue};
 ghost use Rattle.std.specs.Io.KnownBytes.{Consumes};
 ghost use Rattle.sqlite.specs.Held.{state};
 ghost use Rattle.sqlite.specs.State.{HasCleanDisk};
@@ -9,7 +9,7 @@ ghost use Rattle.store.specs.Holding.{Holding};
 ghost use Rattle.desk_types.specs.Moved.{GivesAtMost};
 ghost use Rattle.desk_head.specs.Limits.{request_limit};
 ghost use Rattle.desk_call.specs.Read.{IsNotWhole};
-ghost use Rattle.desk.specs.Serving.{HasBegun, HasGivenUp, HasServed};
+ghost use Rattle.desk.specs.Serving.{HasBegun, HasBegunRefusal, HasGivenUp, HasRefused, HasServed};
 
 use crate::answering::response_to;
 use desk_call::read_call;
@@ -24,7 +24,8 @@ use store::Office;
 /// `Read` if the source failed before the request was whole: nothing was written, and the office is as before.
 /// `Write` if the sink failed: a beginning of the response was written, and what was asked is done as if it had all
 /// been. `Memory` if memory ran out: nothing was written, and an arrival may have been taken. A request that is sent
-/// again under its key is answered as it would have been.
+/// again under its key is answered as it would have been. An office that has failed stays as it is, and what comes to it is
+/// answered by 503.
 pub fn serve_one<S: Alter, R: Source, W: Sink>(
     alloc: Global,
     office: &mut Office<S>,
@@ -38,6 +39,11 @@ pub fn serve_one<S: Alter, R: Source, W: Sink>(
         → OnOk result (HasServed h (R.left source.old) (W.told sink.old) (W.told sink.new) (state S.Store office.new.conn)) }
     ensures healthy { OnOk result ((R.failure_count source.new ≡ R.failure_count source.old) × (W.failure_count sink.new ≡ W.failure_count sink.old)) }
     ensures clean { doubt (state S.Store office.old.conn).is_clean ≤ doubt (state S.Store office.new.conn).is_clean }
+    ensures refused { IsTrue office.old.failed → office.new ≡ office.old }
+    ensures failed { IsTrue office.old.failed → OnOk result (HasRefused (R.left source.old) (W.told sink.old) (W.told sink.new)) }
+    ensures failed_write { IsTrue office.old.failed → IsErrOf result DeskFault.Write → HasBegunRefusal (R.left source.old) (W.told sink.old) (W.told sink.new) }
+    ensures open { HasCleanDisk (state S.Store office.new.conn) → (h : List Answered) → Holding h (state S.Store office.old.conn)
+        → IsFalse office.new.failed → IsTrue (state S.Store office.new.conn).is_open }
     ensures read { IsErrOf result DeskFault.Read → (bytes : List ℕ) × Consumes (R.left source.old) (R.left source.new) bytes × IsNotWhole bytes }
     ensures read_failed { IsErrOf result DeskFault.Read → R.failure_count source.new ≡ R.failure_count source.old + 1 }
     ensures read_kept { IsErrOf result DeskFault.Read → (office.new ≡ office.old) × (sink.new ≡ sink.old) }

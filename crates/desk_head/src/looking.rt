@@ -1,5 +1,5 @@
 //! The head at the front of bytes.
-ghost use Rattle.std.specs.Prelude.{◌≤◌, length};
+ghost use Rattle.std.specs.Prelude.{◌≡◌, ◌≤◌, length, replicate};
 ghost use Rattle.desk_head.specs.Sight.{Sees};
 
 use crate::limits::{HEAD_LIMIT, HEADER_LIMIT};
@@ -18,7 +18,9 @@ pub enum Sight {
 }
 
 /// Room for the headers of one head.
-pub fn empty_headers() -> [HeaderSpan; HEADER_LIMIT] {
+pub fn empty_headers() -> [HeaderSpan; HEADER_LIMIT]
+    ensures { result ≡ replicate HEADER_LIMIT EMPTY_HEADER_SPAN }
+{
     [EMPTY_HEADER_SPAN; HEADER_LIMIT]
 }
 

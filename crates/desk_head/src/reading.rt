@@ -11,8 +11,8 @@ use desk_types::{DeskFault, Source, take_more};
 use httparse::spans::{HeaderSpan, RequestSpans};
 
 /// Reads until the whole head is there, or it is known that there is none within the limits: then `None`. The bytes
-/// that were read are added to `got`; they are never more than the greatest length of a head. `Read` if a call of the source fails before that, and `Memory` if memory runs
-/// out.
+/// that were read are added to `got`; they are never more than the greatest length of a head. `Read` if a call of the
+/// source fails before that, and `Memory` if memory runs out.
 pub fn read_head<R: Source>(
     source: &mut R,
     got: &mut Vec<u8>,

@@ -6,20 +6,30 @@
 //! a request that is sent again is answered as it was. Once the source fails at every call after the last byte: a
 //! request that is whole is answered all the same.
 //!
+//! Then all of them wait in memory and are served by one call, which must answer them so too, and find that no further
+//! connection can be accepted.
+//!
+//! Requests whose title begins with `#@` are served after the others, over a port of the machine: the clients write whole
+//! requests, then all are served, then the clients read.
+//!
 //! `stdout` is what it must print, worked out from the rules of the desk.
 #![tactic(auto)]
 
+mod loopback;
 mod pieces;
 mod requests;
-mod serving;
+mod responses;
+mod waiting;
 
+use loopback::{goes_over_port, serve_over_port};
 use pieces::Ending;
 use requests::{Titled, titled_requests};
-use serving::{agree_in_pieces, agree_in_two, opened, response};
+use responses::{agree_in_pieces, agree_in_two, opened, response};
 use sqlite::{Alter, Connection};
 use std::fs;
 use std::io::{self, Write};
 use store::Office;
+use waiting::agree_in_one_call;
 
 /// Serves one request of the file, and prints what came of it.
 fn serve<S: Alter>(
@@ -54,7 +64,14 @@ fn main(rt: HostRuntime) -> io::Result<()> {
     let requests = titled_requests(rt.alloc(), &file)?;
     let mut office = opened(Connection::open_in_memory(rt.alloc())?)?;
     for titled in requests.iter() {
-        serve(&rt, &mut office, titled)?;
+        if !goes_over_port(titled) {
+            serve(&rt, &mut office, titled)?;
+        }
     }
-    Ok(())
+    if agree_in_one_call(rt.alloc(), &mut office, &requests)? {
+        println!(rt; "in one call: the same")?;
+    } else {
+        println!(rt; "in one call: NOT THE SAME")?;
+    }
+    serve_over_port(&rt, &mut office, &requests)
 }

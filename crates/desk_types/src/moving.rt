@@ -26,8 +26,9 @@ pub fn put_all<W: Sink>(sink: &mut W, text: &[u8]) -> Result<(), DeskFault>
     Ok(())
 }
 
-/// Reads up to `room` more bytes by one call, and no more even where it fails, adds them to what was got, and says whether any came: if not, the
-/// source is at its end. `Read` if the call fails, `Memory` if there is no memory for the bytes.
+/// Reads up to `room` more bytes by one call, and no more even where it fails, adds them to what was got, and says
+/// whether any came: if not, the source is at its end. `Read` if the call fails, `Memory` if there is no memory for the
+/// bytes.
 pub fn take_more<R: Source>(
     source: &mut R,
     got: &mut Vec<u8>,

@@ -1,19 +1,23 @@
--- Worked examples, computed from the definitions: repeats after the office has moved on, and releases that stay.
+-- Worked examples, computed from the definitions: repeats after the office has moved on, releases that stay, and suspect
+-- parameter numbers that are given.
 use Rattle.std.proofs.Common.{◌≡◌, ℕ, List, [], ◌∷◌, ◌++◌, map, take, Some, None, IfSome, refl}
 use Rattle.std.specs.Prelude.{codes}
 use Rattle.std.proofs.lemmas.List.Elements.{All-from_recursion}
+use Rattle.catalogue.specs.Messages.{number_of}
 use Rattle.office_types.specs.declared.block.BlockForm.TheVariants as block
 use Rattle.office_types.specs.declared.command.Action.TheVariants as act
 use Rattle.office_types.specs.declared.command.NetKind.TheVariants.{Can}
-use Rattle.office_types.specs.declared.reply.Reply.TheVariants.{Done, Number}
+use Rattle.office_types.specs.declared.refusal.Refusal.TheVariants.{BlockFull}
+use Rattle.office_types.specs.declared.reply.Reply.TheVariants.{Done, Number, Refused}
 use Rattle.office_types.specs.declared.state.Office.{Office}
 use Rattle.office_rules.specs.Outcome.{reply_of}
 use Rattle.office_rules.specs.Step.{IsRead, Step, file_wanted, net_named, office_after, opening, step_outcome}
-use Rattle.office_rules.proofs.Asking.{Asked, asks, engine, grants, left_by, office, opens, takes, truck}
+use Rattle.office_rules.proofs.Asking.{Asked, asks, engine, grants, left_by, office, opens, takes, takes_spn, truck}
 use Rattle.office_history.specs.declared.arrival.Answer.{Answer}
 use Rattle.office_history.specs.declared.arrival.Answer.TheVariants as answer
 use Rattle.office_history.specs.declared.arrival.Answer.TheVariants.{KeyReused}
 use Rattle.office_history.specs.History.{Answered, IsAnsweredAs, IsLegal, first_arrivals, first_of}
+use Rattle.office_history.specs.Laws.{new_spns}
 
 abbrev answered : Asked → List ℕ → List ℕ → Answer → Answered
 answered q key content answer = record { team = q.team; key = key; content = content; command = q.command; answer = answer }
@@ -81,3 +85,24 @@ names_released qs = elim (net_named (left_by opening qs) truck) [ None ↦ [] | 
 
 it_stays : (names_released released ≡ (codes "E1" ∷ []) ∷ []) × (names_released released_again ≡ (codes "E1" ∷ []) ∷ (codes "E2" ∷ []) ∷ [])
 it_stays = (refl, refl)
+
+-- the number that was released with one name isn't given to a message of another one, though it is retired
+abbrev numbers_released : List Asked → List (List ℕ)
+numbers_released qs = elim (net_named (left_by opening qs) truck) [ None ↦ [] | Some net ↦ map (λ s. map number_of s.messages) net.releases ]
+
+its_number_stays : numbers_released released_again ≡ (256 ∷ []) ∷ (257 ∷ []) ∷ []
+its_number_stays = refl
+
+-- Two numbers are given; what is shared, refused or told again gives none.
+
+abbrev spns_asked : List Answered
+spns_asked =
+    answered (grants engine block.Spn 500 501) (codes "s1") (codes "grant") (answer.Reply Done)
+    ∷ answered (takes_spn (codes "P") None) (codes "s2") (codes "P") (answer.Reply (Number 500))
+    ∷ answered (takes_spn (codes "Q") None) (codes "s3") (codes "Q") (answer.Reply (Number 501))
+    ∷ answered (takes_spn (codes "R") None) (codes "s4") (codes "R") (answer.Reply (Refused BlockFull))
+    ∷ answered (takes_spn (codes "R") (Some 500)) (codes "s5") (codes "R 500") (answer.Reply (Number 500))
+    ∷ answered (takes_spn (codes "P") None) (codes "s2") (codes "P") (answer.Reply (Number 500)) ∷ []
+
+each_number_once : new_spns spns_asked ≡ 500 ∷ 501 ∷ []
+each_number_once = refl

@@ -2,4 +2,6 @@ pub mod Histories
 pub mod Pairs
 pub mod Offices
 pub mod Releases
+pub mod Names
+pub mod Spns
 pub mod Examples

@@ -1,13 +1,20 @@
 -- How legal histories go on, and what they leave.
-use Rattle.std.specs.Prelude.{◌≡◌, ℕ, List, [], ◌∷◌, ◌++◌, map, All, None, Some}
+use Rattle.std.specs.Prelude.{◌≡◌, ◌≢◌, ℕ, Bool, false, if◌then◌else◌, List, [], ◌∷◌, ◌++◌, map, filter_map, All, AllPairs, Contains, Option, None, Some, is_none}
+use Rattle.catalogue.specs.Messages.{number_of}
+use Rattle.catalogue.specs.declared.message.Message.{Message}
 use Rattle.catalogue.specs.declared.sheet.Sheet.{Sheet}
 use Rattle.office_types.specs.Command.{IsCommand}
 use Rattle.office_types.specs.PlainName.{IsPlainName}
+use Rattle.office_types.specs.declared.command.Action.TheVariants as act
+use Rattle.office_types.specs.declared.command.Task.{Task}
+use Rattle.office_types.specs.declared.command.Task.TheVariants.{Act}
 use Rattle.office_types.specs.declared.reply.Reply.{Reply}
+use Rattle.office_types.specs.declared.reply.Reply.TheVariants.{Number}
 use Rattle.office_types.specs.declared.state.Net.{Net}
 use Rattle.office_types.specs.declared.state.Office.{Office}
 use Rattle.office_rules.specs.Kept.{IsOffice}
 use Rattle.office_rules.specs.Step.{Step, net_named, opening}
+use Rattle.office_history.specs.declared.arrival.Answer.{Answer}
 use Rattle.office_history.specs.declared.arrival.Answer.TheVariants as answer
 use Rattle.office_history.specs.History.{Answered, IsAnsweredAs, IsLegal, first_arrivals, first_of, request_of}
 
@@ -32,4 +39,30 @@ pub record HistoriesLeaveOffices : Type 0 where
 -- that they have after: no release changes, and none goes.
 abbrev pub ReleasesStay : Type 0
 ReleasesStay = (h more : List Answered) (before after : Office) (name : List ℕ) (net : Net) → IsLegal h before → IsLegal (h ++ more) after
-    → net_named before name ≡ Some net → (then : Net) × (net_named after name ≡ Some then) × (new : List Sheet) × (then.releases ≡ net.releases ++ new)
+    → net_named before name ≡ Some net → (last : Net) × (net_named after name ≡ Some last) × (new : List Sheet) × (last.releases ≡ net.releases ++ new)
+
+-- Two releases of a network that have one message number give it one name.
+abbrev pub NumbersKeepTheirNames : Type 0
+NumbersKeepTheirNames = (h : List Answered) (office : Office) (net : Net) (s t : Sheet) (m n : Message) → All IsInRange h → IsLegal h office
+    → Contains office.nets net → Contains net.releases s → Contains net.releases t → Contains s.messages m → Contains t.messages n → number_of m ≡ number_of n → m.name ≡ n.name
+
+-- whether a command asks for a suspect parameter number of its own, and not for one to share
+abbrev pub asks_new_spn : Task → Bool
+asks_new_spn (Act (act.TakeSpn c)) = is_none c.same
+asks_new_spn task = false
+
+abbrev pub told_number : Answer → Option ℕ
+told_number (answer.Reply (Number n)) = Some n
+told_number a = None
+
+-- the number that an arrival was given so
+abbrev pub new_spn : Answered → Option ℕ
+new_spn a = if asks_new_spn a.command.task then told_number a.answer else None
+
+-- those that first arrivals were given so, in order
+abbrev pub new_spns : List Answered → List ℕ
+new_spns h = filter_map new_spn (first_arrivals h)
+
+-- No two first arrivals are given one suspect parameter number of their own.
+abbrev pub SpnsAreGivenOnce : Type 0
+SpnsAreGivenOnce = (h : List Answered) (office : Office) → IsLegal h office → AllPairs (λ m n. m ≢ n) (new_spns h)

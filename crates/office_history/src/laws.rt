@@ -1,5 +1,5 @@
 //! Laws of histories. Each is the contract of a function that does nothing.
-ghost use Rattle.office_history.specs.Laws.{HistoriesGrow, HistoriesLeaveOffices, ReleasesStay};
+ghost use Rattle.office_history.specs.Laws.{HistoriesGrow, HistoriesLeaveOffices, NumbersKeepTheirNames, ReleasesStay, SpnsAreGivenOnce};
 
 use catalogue::texts_read_as_one_sheet;
 
@@ -24,3 +24,17 @@ pub fn releases_stay()
 {
     texts_read_as_one_sheet();
 }
+
+/// A released message keeps its name: in two releases of a network, of whatever legal history, one DBC number has one
+/// message name.
+pub fn numbers_keep_their_names()
+    ensures { NumbersKeepTheirNames }
+{
+    texts_read_as_one_sheet();
+}
+
+/// In a legal history, no two first arrivals of `take_spn` that don't ask to share a number are answered the same one, on
+/// whatever networks.
+pub fn spns_are_given_once()
+    ensures { SpnsAreGivenOnce }
+{}

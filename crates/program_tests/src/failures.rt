@@ -1,5 +1,5 @@
 //! Writers that fail, and memory that runs out.
-use crate::row::run_on;
+use crate::run::run_on;
 use canoffice_cli::{FileFault, FileSource, MemoryDatabase, Report, Status, deliver};
 use std::alloc::{AllocError, Global};
 use std::io::{self, ErrorKind, Write};
@@ -141,7 +141,7 @@ fn is_lost(alloc: Global, command: &str) -> bool {
 
 #[test]
 fn lost_memory_is_printed(rt: HostRuntime) {
-    for command in ["apply", "check", "format"] {
+    for command in ["apply", "check", "format", "table"] {
         assert!(rt; is_lost(rt.alloc(), command));
     }
     let mut out = Vec::new(rt.alloc());

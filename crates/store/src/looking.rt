@@ -20,7 +20,7 @@ use office_history::histories_leave_offices;
 use office_tables::knows_schema;
 use sqlite::{Alter, Connection, Error, Transaction};
 use std::alloc::Global;
-use store_net::{live_text, release_text};
+use store_net::{live_chart, live_table, live_text, nets_text, release_text};
 
 /// Answers a question inside a transaction.
 fn look_inside<S: Alter>(
@@ -35,9 +35,13 @@ fn look_inside<S: Alter>(
     ensures kept { HasCleanDisk (state S.Store tx.new.conn.now) → IsOffice (state S.Store tx.old.conn.now).now → KeepsCommit (state S.Store tx.old.conn.now) (state S.Store tx.new.conn.now) }
     ensures survives { Survives (state S.Store tx.old.conn.now) (state S.Store tx.new.conn.now) (λ _. ⊥) }
 {
+    histories_leave_offices();
     match question {
+        Question::Nets => Ok(Some(nets_text(alloc, tx)?)),
+        Question::Table(net) => live_table(alloc, tx, net),
         Question::Live(net) => live_text(alloc, tx, net),
         Question::Release(net, number) => release_text(alloc, tx, net, *number),
+        Question::Chart(net, message) => live_chart(alloc, tx, net, message),
     }
 }
 

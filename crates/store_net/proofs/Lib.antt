@@ -4,5 +4,6 @@ pub mod LiveSheet
 pub mod Released
 pub mod Kept
 pub mod OneByOne
+pub mod Names
 mod ReplyExamples
 mod TextExamples

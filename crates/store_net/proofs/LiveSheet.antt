@@ -1,19 +1,20 @@
 -- A sheet that is built of the live messages is the live sheet.
-use Rattle.std.proofs.Common.{◌≡◌, ℕ, ◌+◌, ◌<◌, List, [], ◌∷◌, ◌++◌, map, length, get_or, drop, false, Option, Some, None, IsPermutation, add-one, sym, ap, subst, ◌∙◌}
+use Rattle.std.proofs.Common.{◌≡◌, ℕ, ◌+◌, ◌<◌, List, [], ◌∷◌, ◌++◌, map, length, get_or, drop, false, Option, Some, None, IsPermutation, add-one, refl, sym, ap, subst, ◌∙◌}
 use Rattle.std.specs.List.{AllByRecursion}
+use Rattle.std.specs.Option.{option_map}
 use Rattle.std.specs.List.Sorted.{IsStrictlySortedBy}
 use Rattle.std.specs.declared.cmp.Ordering.{Ordering}
 use Rattle.std.specs.declared.cmp.Ordering.TheVariants.{Less}
 use Rattle.std.proofs.Math.Seq.{drop-cons}
 use Rattle.can_id.specs.Ident.{dbc_number}
-use Rattle.catalogue.specs.Canon.{canonical_text}
 use Rattle.catalogue.specs.Keyed.{put}
 use Rattle.catalogue.specs.Messages.{AreMessages, by_number, has_number, number_of}
 use Rattle.catalogue.specs.declared.message.Message.{Message}
 use Rattle.catalogue.specs.declared.sheet.Sheet.{Sheet}
 use Rattle.catalogue.proofs.AscendingUnique.{one_ascending}
 use Rattle.dbc_read.proofs.Putting.{one_put}
-use Rattle.office_types.specs.State.{live_messages, sheet_with}
+use Rattle.chart.specs.Message.{message_chart}
+use Rattle.office_types.specs.State.{live_messages, sheet_of, sheet_with}
 use Rattle.office_types.specs.declared.state.Head.{Head}
 use Rattle.office_types.specs.declared.state.LiveMessage.{LiveMessage}
 use Rattle.office_types.specs.declared.state.Net.{Net}
@@ -25,7 +26,7 @@ use Rattle.store_rows.specs.Listed.{AreShown}
 use Rattle.store_rows.specs.Rows.{IsMessageRow, IsNetAt, IsRowOf}
 use Rattle.store_rows.proofs.Keys.{number_order}
 use Rattle.store_net.specs.Parts.{HasLive}
-use Rattle.store_net.specs.Texts.{live_text}
+use Rattle.store_net.specs.Texts.{live_chart, message_named}
 use Rattle.store_net.proofs.Whole.{head_in}
 
 -- ---- live messages ascend, as their rows do
@@ -68,12 +69,35 @@ pub sheet_is : (frame sheet : Sheet) (live : List LiveMessage) → IsStrictlySor
 sheet_is frame sheet live sorted together all rest =
     rest ∙ ap (λ (l : List Message). record frame { messages = l }) (sym (one_ascending number_of (live_messages live) sheet.messages sorted together.ascending all))
 
-pub text_is : (name : List ℕ) (t : Tables) (net : Option Net) (head : Head) (live : List LiveMessage) (sheet : Sheet) (text : List ℕ) → IsNetAt name t net → Some head ≡ head_in net
+pub whole_sheet : (name : List ℕ) (t : Tables) (net : Option Net) (head : Head) (live : List LiveMessage) (sheet : Sheet) → IsNetAt name t net → Some head ≡ head_in net
     → ((others : List LiveMessage) → HasLive name t others → live ≡ others) → (IsStrictlySortedBy by_number (live_messages live) → sheet ≡ sheet_with head.frame live)
-    → text ≡ canonical_text sheet → Some text ≡ live_text net
-text_is name t None head live sheet text there found one made is = absurd (cc)
-text_is name t (Some net) head live sheet text there found one made is =
+    → Some sheet ≡ option_map sheet_of net
+whole_sheet name t None head live sheet there found one made = absurd (cc)
+whole_sheet name t (Some net) head live sheet there found one made =
     let same : head ≡ net.head = cc in
     let live_is : live ≡ net.live = one net.live there.live in
     let sorted = subst (λ (l : List LiveMessage). IsStrictlySortedBy by_number (live_messages l)) (sym live_is) (live_ascends name t net.live there.live) in
-    ap Some (is ∙ ap canonical_text (made sorted ∙ ap (λ (h : Head). sheet_with h.frame live) same ∙ ap (sheet_with net.head.frame) live_is))
+    ap Some (made sorted ∙ ap (λ (h : Head). sheet_with h.frame live) same ∙ ap (sheet_with net.head.frame) live_is)
+
+pub no_sheet : (net : Option Net) → None ≡ head_in net → None ≡ option_map sheet_of net
+no_sheet None none = refl
+no_sheet (Some net) none = absurd (cc)
+
+-- ---- what is told of the live sheet
+
+pub nothing_told : (tell : Sheet → List ℕ) (net : Option Net) → None ≡ option_map sheet_of net → None ≡ option_map (λ (n : Net). tell (sheet_of n)) net
+nothing_told tell None none = refl
+nothing_told tell (Some net) none = absurd (cc)
+
+pub told : (tell : Sheet → List ℕ) (net : Option Net) (sheet : Sheet) (text : List ℕ) → Some sheet ≡ option_map sheet_of net → text ≡ tell sheet
+    → Some text ≡ option_map (λ (n : Net). tell (sheet_of n)) net
+told tell None sheet text found is = absurd (cc)
+told tell (Some net) sheet text found is = let same : sheet ≡ sheet_of net = cc in ap Some (is ∙ ap tell same)
+
+pub no_chart : (net : Option Net) (name : List ℕ) → None ≡ option_map sheet_of net → None ≡ live_chart net name
+no_chart None name none = refl
+no_chart (Some net) name none = absurd (cc)
+
+pub charted : (net : Option Net) (name : List ℕ) (sheet : Sheet) → Some sheet ≡ option_map sheet_of net → option_map message_chart (message_named name sheet) ≡ live_chart net name
+charted None name sheet found = absurd (cc)
+charted (Some net) name sheet found = let same : sheet ≡ sheet_of net = cc in ap (λ (s : Sheet). option_map message_chart (message_named name s)) same

@@ -1,12 +1,16 @@
 -- Worked examples, computed from the definitions.
-use Rattle.std.proofs.Common.{◌≡◌, [], ◌∷◌, Some, None, refl}
+use Rattle.std.proofs.Common.{◌≡◌, [], ◌∷◌, Some, None, codes, refl}
+use Rattle.std.specs.Fmt.{digits}
+use Rattle.bitlayout.specs.First.{first_answer}
+use Rattle.can_id.specs.declared.ident.Ident.TheVariants.{Std}
 use Rattle.catalogue.specs.Canon.{canonical_text}
 use Rattle.catalogue.specs.Sheet.{empty_sheet}
+use Rattle.catalogue.specs.declared.message.Message.{Message}
 use Rattle.catalogue.specs.declared.sheet.Sheet.{Sheet}
 use Rattle.office_types.specs.declared.state.Head.{Head}
 use Rattle.office_types.specs.declared.state.Net.{Net}
 use Rattle.store_net.specs.Parts.{heads}
-use Rattle.store_net.specs.Texts.{IsTextOf, live_text, release_at}
+use Rattle.store_net.specs.Texts.{IsTextOf, live_chart, live_table, live_text, release_at}
 
 -- a network with two releases
 abbrev twice_released : Net → Sheet → Sheet → Net
@@ -38,6 +42,31 @@ live_frame net = refl
 
 no_live : live_text None ≡ None
 no_live = refl
+
+-- its table has the counts alone, and there is no chart of it
+live_counts : (net : Net) → live_table (Some (record net { head = record net.head { frame = empty_sheet }; live = [] })) ≡ Some (codes "messages 0 signals 0\n")
+unfolding digits
+live_counts net = refl
+
+no_table : live_table None ≡ None
+no_table = refl
+
+chart_of_none : (net : Net) → live_chart (Some (record net { live = [] })) (codes "E1") ≡ None
+chart_of_none net = refl
+
+chart_nowhere : live_chart None (codes "E1") ≡ None
+chart_nowhere = refl
+
+-- a message without a signal has free bits alone
+abbrev one_byte : Message
+one_byte = record { ident = Std 256; name = codes "E1"; length = 1; transmitter = None; comment = []; signals = [] }
+
+a_chart : (net : Net) → live_chart (Some (record net { live = record { message = one_byte; owner = codes "engine" } ∷ [] })) (codes "E1") ≡ Some (codes "   0 . . . . . . . .\nclear\n")
+unfolding digits first_answer
+a_chart net = refl
+
+chart_of_another : (net : Net) → live_chart (Some (record net { live = record { message = one_byte; owner = codes "engine" } ∷ [] })) (codes "E2") ≡ None
+chart_of_another net = refl
 
 one_head : (head : Head) → heads (Some head) ≡ head ∷ []
 one_head head = refl

@@ -1,9 +1,13 @@
 -- The texts of a network: of its live sheet, and of its releases.
 use Rattle.std.specs.Prelude.{◌≡◌, ◌==◌, ℕ, List, Option, Some, None, find}
 use Rattle.std.specs.Option.{option_map}
+use Rattle.std.specs.Str.{bytes_eq}
 use Rattle.catalogue.specs.Canon.{canonical_text}
 use Rattle.catalogue.specs.Reads.{ReadsOnlyAs}
+use Rattle.catalogue.specs.declared.message.Message.{Message}
 use Rattle.catalogue.specs.declared.sheet.Sheet.{Sheet}
+use Rattle.chart.specs.Message.{message_chart}
+use Rattle.chart.specs.Table.{table_of}
 use Rattle.office_types.specs.State.{sheet_of}
 use Rattle.office_types.specs.declared.state.Net.{Net}
 use Rattle.store_rows.specs.Rows.{numbered}
@@ -11,6 +15,19 @@ use Rattle.store_rows.specs.Rows.{numbered}
 -- the canonical text of the live sheet, where the network is there
 abbrev pub live_text : Option Net → Option (List ℕ)
 live_text net = option_map (λ (n : Net). canonical_text (sheet_of n)) net
+
+-- the table of the live messages, where the network is there
+abbrev pub live_table : Option Net → Option (List ℕ)
+live_table net = option_map (λ (n : Net). table_of (sheet_of n)) net
+
+-- the message of a name
+abbrev pub message_named : List ℕ → Sheet → Option Message
+message_named name s = find (λ (m : Message). bytes_eq m.name name) s.messages
+
+-- the chart of the live message of a name, where the network and the message are there
+abbrev pub live_chart : Option Net → List ℕ → Option (List ℕ)
+live_chart None name = None
+live_chart (Some net) name = option_map message_chart (message_named name (sheet_of net))
 
 -- the release of the number, from 1
 abbrev pub release_at : Option Net → ℕ → Option Sheet

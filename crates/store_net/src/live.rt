@@ -1,19 +1,21 @@
-//! The live sheet of a network, and its text.
+//! The live sheet of a network, and the texts that show it.
 ghost use Rattle.std.specs.Prelude.{◌≡◌, [], false, Option, IfOk, OnOk};
 ghost use Rattle.std.specs.List.Sorted.{IsStrictlySortedBy};
-ghost use Rattle.std.specs.Option.{option_map};
+ghost use Rattle.std.specs.Option.{option_copied, option_map};
 ghost use Rattle.catalogue.specs.Keyed.{put};
 ghost use Rattle.catalogue.specs.Messages.{by_number, has_number, number_of};
 ghost use Rattle.office_tables.specs.Tables.{tables_of, IsOffice};
-ghost use Rattle.office_types.specs.State.{live_messages, sheet_with};
+ghost use Rattle.chart.specs.Message.{message_chart};
+ghost use Rattle.office_types.specs.State.{live_messages, sheet_of, sheet_with};
 ghost use Rattle.office_types.specs.declared.state.Net.{Net as Network};
 ghost use Rattle.sqlite.specs.Held.{state};
 ghost use Rattle.sqlite.specs.State.{HasCleanDisk, IsUnchanged, KeepsCommit, Survives};
 ghost use Rattle.store_rows.specs.Rows.{IsNetAt};
-ghost use Rattle.store_net.specs.Texts.{live_text};
+ghost use Rattle.store_net.specs.Texts.{live_chart, live_table, live_text, message_named};
 
 use crate::parts::{head_of, live_of};
-use catalogue::{Copying, Message, Sheet, SheetCode};
+use catalogue::{Copying, Message, Name, Sheet, SheetCode};
+use chart::{message_chart, table_of};
 use dbc_write::text_of;
 use office_types::{Head, LiveMessage, NetName};
 use sqlite::{Alter, Error, Transaction};
@@ -59,6 +61,28 @@ fn live_sheet(alloc: Global, head: Head, live: &[LiveMessage]) -> Result<Sheet, 
     Ok(sheet)
 }
 
+/// The network's live sheet, `None` where the network isn't there. An error is out of memory, what `sqlite` answers, or
+/// `InvalidQuery` where the rows are no network's.
+fn sheet_at<S: Alter>(
+    alloc: Global,
+    tx: &mut Transaction<'_, S>,
+    name: &NetName,
+) -> Result<Option<Sheet>, Error>
+    ensures same_reference { tx.new.conn.ghost_name ≡ tx.old.conn.ghost_name }
+    ensures found { HasCleanDisk (state S.Store tx.new.conn.now) → IsOffice (state S.Store tx.old.conn.now).now
+        → IfOk result (λ found. (net : Option Network) → IsNetAt name.now (tables_of (state S.Store tx.old.conn.now).now.trees) net → found ≡ option_map sheet_of net) }
+    ensures same { HasCleanDisk (state S.Store tx.new.conn.now) → IsOffice (state S.Store tx.old.conn.now).now → OnOk result (IsUnchanged (state S.Store tx.old.conn.now) (state S.Store tx.new.conn.now)) }
+    ensures kept { HasCleanDisk (state S.Store tx.new.conn.now) → IsOffice (state S.Store tx.old.conn.now).now → KeepsCommit (state S.Store tx.old.conn.now) (state S.Store tx.new.conn.now) }
+    ensures survives { Survives (state S.Store tx.old.conn.now) (state S.Store tx.new.conn.now) (λ _. ⊥) }
+{
+    let Some(head) = head_of(alloc, tx, name)? else {
+        return Ok(None);
+    };
+    let live = live_of(alloc, tx, name)?;
+    let sheet = live_sheet(alloc, head, live.as_slice())?;
+    Ok(Some(sheet))
+}
+
 /// The canonical text of the network's live sheet, `None` where the network isn't there. An error is out of memory,
 /// what `sqlite` answers, or `InvalidQuery` where the rows are no network's.
 pub fn live_text<S: Alter>(
@@ -73,10 +97,69 @@ pub fn live_text<S: Alter>(
     ensures kept { HasCleanDisk (state S.Store tx.new.conn.now) → IsOffice (state S.Store tx.old.conn.now).now → KeepsCommit (state S.Store tx.old.conn.now) (state S.Store tx.new.conn.now) }
     ensures survives { Survives (state S.Store tx.old.conn.now) (state S.Store tx.new.conn.now) (λ _. ⊥) }
 {
-    let Some(head) = head_of(alloc, tx, name)? else {
+    let Some(sheet) = sheet_at(alloc, tx, name)? else {
         return Ok(None);
     };
-    let live = live_of(alloc, tx, name)?;
-    let sheet = live_sheet(alloc, head, live.as_slice())?;
     Ok(Some(text_of(alloc, &sheet)?))
+}
+
+/// The table of the network's live messages, `None` where the network isn't there. The errors are those of
+/// [`live_text`].
+pub fn live_table<S: Alter>(
+    alloc: Global,
+    tx: &mut Transaction<'_, S>,
+    name: &NetName,
+) -> Result<Option<Vec<u8>>, Error>
+    ensures same_reference { tx.new.conn.ghost_name ≡ tx.old.conn.ghost_name }
+    ensures found { HasCleanDisk (state S.Store tx.new.conn.now) → IsOffice (state S.Store tx.old.conn.now).now
+        → IfOk result (λ found. (net : Option Network) → IsNetAt name.now (tables_of (state S.Store tx.old.conn.now).now.trees) net → option_map (λ text. text.items) found ≡ live_table net) }
+    ensures same { HasCleanDisk (state S.Store tx.new.conn.now) → IsOffice (state S.Store tx.old.conn.now).now → OnOk result (IsUnchanged (state S.Store tx.old.conn.now) (state S.Store tx.new.conn.now)) }
+    ensures kept { HasCleanDisk (state S.Store tx.new.conn.now) → IsOffice (state S.Store tx.old.conn.now).now → KeepsCommit (state S.Store tx.old.conn.now) (state S.Store tx.new.conn.now) }
+    ensures survives { Survives (state S.Store tx.old.conn.now) (state S.Store tx.new.conn.now) (λ _. ⊥) }
+{
+    let Some(sheet) = sheet_at(alloc, tx, name)? else {
+        return Ok(None);
+    };
+    Ok(Some(table_of(alloc, &sheet)?))
+}
+
+/// The message of the name.
+fn message_named<'a>(sheet: &'a Sheet, name: &Name) -> Option<&'a Message>
+    ensures { option_copied result ≡ message_named name.now sheet.now }
+{
+    sheet
+        .messages()
+        .iter()
+        .find(|message| message.name == *name)
+}
+
+/// The chart of the sheet's message of the name, `None` where there is none.
+fn chart_in(alloc: Global, sheet: &Sheet, name: &Name) -> Result<Option<Vec<u8>>, AllocError>
+    ensures { IfOk result (λ found. option_map (λ text. text.items) found ≡ option_map message_chart (message_named name.now sheet.now)) }
+{
+    match message_named(sheet, name) {
+        Some(message) => Ok(Some(message_chart(alloc, message)?)),
+        None => Ok(None),
+    }
+}
+
+/// The chart of the network's live message of the name, `None` where the network or the message isn't there. The errors
+/// are those of [`live_text`].
+pub fn live_chart<S: Alter>(
+    alloc: Global,
+    tx: &mut Transaction<'_, S>,
+    name: &NetName,
+    message: &Name,
+) -> Result<Option<Vec<u8>>, Error>
+    ensures same_reference { tx.new.conn.ghost_name ≡ tx.old.conn.ghost_name }
+    ensures found { HasCleanDisk (state S.Store tx.new.conn.now) → IsOffice (state S.Store tx.old.conn.now).now
+        → IfOk result (λ found. (net : Option Network) → IsNetAt name.now (tables_of (state S.Store tx.old.conn.now).now.trees) net → option_map (λ text. text.items) found ≡ live_chart net message.now) }
+    ensures same { HasCleanDisk (state S.Store tx.new.conn.now) → IsOffice (state S.Store tx.old.conn.now).now → OnOk result (IsUnchanged (state S.Store tx.old.conn.now) (state S.Store tx.new.conn.now)) }
+    ensures kept { HasCleanDisk (state S.Store tx.new.conn.now) → IsOffice (state S.Store tx.old.conn.now).now → KeepsCommit (state S.Store tx.old.conn.now) (state S.Store tx.new.conn.now) }
+    ensures survives { Survives (state S.Store tx.old.conn.now) (state S.Store tx.new.conn.now) (λ _. ⊥) }
+{
+    let Some(sheet) = sheet_at(alloc, tx, name)? else {
+        return Ok(None);
+    };
+    Ok(chart_in(alloc, &sheet, message)?)
 }

@@ -11,6 +11,7 @@ use super::Databases;
 use crate::answering::{Answers, answer_on, lost_at_once};
 use crate::exporting::look_on;
 use crate::progress::Progress;
+use crate::serving::ServeEnd;
 use office_history::Arrival;
 use sqlite::{Connection, MemStore};
 use std::alloc::{AllocError, Global};
@@ -76,5 +77,16 @@ impl Databases for MemoryDatabase {
         let (shown, conn) = look_on(alloc, conn, question);
         self.conn = Some(conn);
         shown
+    }
+
+    /// Nobody can connect to it, so it can't be listened on.
+    fn serve(
+        &mut self,
+        _alloc: Global,
+        _path: &str,
+        _port: u16,
+        _count: u32,
+    ) -> Result<(), ServeEnd> {
+        Err(ServeEnd::CannotListen)
     }
 }

@@ -1,13 +1,14 @@
-use Rattle.std.proofs.Common.{◌++◌, ℕ, List, ap, ◌∙◌, decimal}
-use Rattle.chart.specs.Text.{cells_of, set_right}
+use Rattle.std.proofs.Common.{◌++◌, List, ℕ, ap, ◌∙◌, decimal}
+use Rattle.chart.specs.Columns.{set_right}
+use Rattle.chart.specs.Text.{cells_of}
 use Rattle.chart.proofs.Pieces.{line_of_pieces}
 use Rattle.chart.proofs.text.byte_line.Goals as goal
 
 pub returns : goal.returns
 returns c =
-    line_of_pieces c.in_ok-line.line.items c.in_ok-cells.field-0.items c.extend_from_slice.new.self.items c.push.new.self.items
+    line_of_pieces c.in_ok-line.line.items c.in_ok-cells.cells.items c.extend_from_slice.new.self.items c.push.new.self.items
     (set_right 4 (decimal c.args.byte)) (cells_of c.args.signals.now c.args.byte)
-    (c.in_ok-line.ensures ∙ ap (set_right 4) (c.as_bytes.ensures.value ∙ c.in_ok-number.ensures.ok))
+    (c.in_ok-line.ensures ∙ ap (λ n. set_right 4 (decimal n)) c.from.ensures)
     c.in_ok-cells.ensures
     (c.in_ok-extend_from_slice.ensures.items ∙ ap (λ (v : List ℕ). c.in_ok-line.line.items ++ v) c.deref.ensures.value)
     c.in_ok-push.ensures.items

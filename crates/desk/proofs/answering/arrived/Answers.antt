@@ -12,3 +12,6 @@ returns-in-Ok-clause-ok g c clean h holds =
     let a = asking_seen c.args.arrival.now in
     on_text (λ (v : Vec ℕ Global). v.items) c.answer_response.result (answer_response c.in-Ok.answer) (λ t. Responds h (arrives a) t s) c.answer_response.ensures
     (arrived h a c.in-Ok.answer s (c.in-Ok.ensures.answered clean h holds).0)
+
+pub returns-in-Ok-clause-open : goal.returns-in-Ok-clause-open
+returns-in-Ok-clause-open g c clean h holds sound = (c.in-Ok.ensures.answered clean h holds).0.is_open

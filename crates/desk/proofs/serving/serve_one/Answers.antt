@@ -1,10 +1,10 @@
-use Rattle.std.proofs.Common.{ℕ, List, inr, sym, subst}
+use Rattle.std.proofs.Common.{◌∙◌, ℕ, List, inr, sym, subst}
 use Rattle.std.specs.Io.KnownBytes.{Appends}
 use Rattle.sqlite.specs.Held.{state}
 use Rattle.desk_types.specs.Moved.{AppendsFront}
 use Rattle.desk_types.specs.declared.fault.DeskFault.TheVariants.{Write}
 use Rattle.desk_call.specs.Call.{seen}
-use Rattle.desk.specs.Serving.{HasServed, Responds}
+use Rattle.desk.specs.Serving.{HasRefused, HasServed, Responds}
 use Rattle.desk.proofs.Responses.{err_of, on_ok}
 use Rattle.desk.proofs.serving.serve_one.Goals as goal
 
@@ -36,3 +36,20 @@ returns-clause-write g c clean h holds is_write =
       responds,
       err_of c.put_all.result Write (AppendsFront (told c.args.sink.now) (told c.put_all.new.sink) text) is_write c.put_all.ensures.front,
     )
+
+pub returns-clause-failed : goal.returns-clause-failed
+returns-clause-failed g c failed =
+    let told = g.W.Sink.told in
+    let asked = seen c.in_ok-call.call in
+    let refusal = c.deref.ensures.value ∙ c.in-Ok.ensures.failed failed in
+    on_ok c.put_all.result (Appends (told c.args.sink.now) (told c.put_all.new.sink) c.deref.result.now)
+    (HasRefused (g.R.Source.left c.args.source.now) (told c.args.sink.now) (told c.put_all.new.sink)) c.put_all.ensures.ok
+    (λ appended. (asked, c.in_ok-call.ensures.ok, subst (Appends (told c.args.sink.now) (told c.put_all.new.sink)) refusal appended))
+
+pub returns-clause-failed_write : goal.returns-clause-failed_write
+returns-clause-failed_write g c failed is_write =
+    let told = g.W.Sink.told in
+    let asked = seen c.in_ok-call.call in
+    let refusal = c.deref.ensures.value ∙ c.in-Ok.ensures.failed failed in
+    let front = err_of c.put_all.result Write (AppendsFront (told c.args.sink.now) (told c.put_all.new.sink) c.deref.result.now) is_write c.put_all.ensures.front in
+    (asked, c.in_ok-call.ensures.ok, subst (AppendsFront (told c.args.sink.now) (told c.put_all.new.sink)) refusal front)

@@ -1,0 +1,56 @@
+//! Serving the office over HTTP.
+ghost use Rattle.std.specs.Prelude.{◌≡◌, IfOk};
+ghost use Rattle.canoffice_cli.specs.Outcome.{failure, outcome_of};
+ghost use Rattle.canoffice_cli.specs.Served.{IsServeOutcome, end_outcome};
+
+use crate::answering::lost_report;
+use crate::databases::Databases;
+use crate::report::{Report, Status};
+use std::alloc::{AllocError, Global};
+use store::Lost;
+
+/// Why serving ended before all connections were served.
+#[derive(Clone, Copy, Debug, PartialEq, Eq)]
+pub enum ServeEnd {
+    /// The port can't be listened on.
+    CannotListen,
+    /// A connection can't be accepted.
+    CannotAccept,
+    /// The database can't be opened, or closed.
+    IsLost(Lost),
+}
+
+/// The report that a port or a connection can't be had.
+fn failed_report(alloc: Global, text: &[u8]) -> Result<Report, AllocError>
+    ensures { IfOk result (λ report. outcome_of report ≡ failure text.now) }
+{
+    let text = text.to_vec(alloc)?;
+    Ok(Report::of_errors(alloc, text, Status::Failed))
+}
+
+/// The report on how serving ended.
+fn end_report(alloc: Global, end: Result<(), ServeEnd>) -> Result<Report, AllocError>
+    ensures { IfOk result (λ report. outcome_of report ≡ end_outcome end) }
+{
+    match end {
+        Ok(()) => Ok(Report::of_output(alloc, Vec::new(alloc), Status::Success)),
+        Err(ServeEnd::CannotListen) => failed_report(alloc, b"cannot listen\n"),
+        Err(ServeEnd::CannotAccept) => failed_report(alloc, b"cannot accept\n"),
+        Err(ServeEnd::IsLost(lost)) => lost_report(alloc, Vec::new(alloc), lost),
+    }
+}
+
+/// Serves the office in the database of the path, on the port of this machine and for so many connections. The error is out
+/// of memory for the report.
+pub fn serve_report<D: Databases>(
+    alloc: Global,
+    databases: &mut D,
+    path: &str,
+    port: u16,
+    count: u32,
+) -> Result<Report, AllocError>
+    ensures { IfOk result (λ report. IsServeOutcome (D.known databases.old) (D.known databases.new) path.now count (outcome_of report)) }
+{
+    let end = databases.serve(alloc, path, port, count);
+    end_report(alloc, end)
+}

@@ -1,0 +1,30 @@
+//! Tables of DBC texts.
+ghost use Rattle.std.specs.Prelude.{IfOk};
+ghost use Rattle.canoffice_cli.specs.Outcome.{outcome_of};
+ghost use Rattle.canoffice_cli.specs.Tabled.{IsTableOutcome};
+
+use crate::checking::fault_line;
+use crate::report::{Report, Status};
+use chart::table_of;
+use dbc_read::{ReadCode, read};
+use std::alloc::{AllocError, Global};
+
+/// The table of the messages of the sheet that the DBC text reads as, whether it is clear or not; or, if the text reads as
+/// no sheet, the fault's code and offset on standard error, with the status `FaultFound`.
+pub fn table_report(alloc: Global, source: &[u8]) -> Result<Report, AllocError>
+    ensures { IfOk result (λ report. IsTableOutcome source.now (outcome_of report)) }
+{
+    match read(alloc, source) {
+        Ok(reading) => {
+            let output = table_of(alloc, &reading.sheet)?;
+            Ok(Report::of_output(alloc, output, Status::Success))
+        }
+        Err(fault) => match fault.code {
+            ReadCode::Memory => Err(AllocError),
+            _ => {
+                let line = fault_line(alloc, fault)?;
+                Ok(Report::of_errors(alloc, line, Status::FaultFound))
+            }
+        },
+    }
+}

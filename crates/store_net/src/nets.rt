@@ -1,0 +1,128 @@
+//! The list of all networks, as text.
+ghost use Rattle.std.specs.Prelude.{◌≡◌, List, Some, length, map, IfOk, IsTrue, OnOk};
+ghost use Rattle.std.specs.List.{AllByRecursion};
+ghost use Rattle.office_tables.specs.Tables.{tables_of, IsOffice};
+ghost use Rattle.office_types.specs.declared.state.Net.{Net as Network};
+ghost use Rattle.sqlite.specs.Held.{state};
+ghost use Rattle.sqlite.specs.State.{HasCleanDisk, IsUnchanged, KeepsCommit, Survives};
+ghost use Rattle.net_list.specs.Text.{net_line, nets_text};
+ghost use Rattle.store_rows.specs.Listed.{AreShown};
+ghost use Rattle.store_rows.specs.Rows.{IsNetAt};
+ghost use Rattle.store_net.specs.Nets.{AreNets, IsNamed};
+
+use crate::parts::head_of;
+use net_list::net_line;
+use office_rows::{select_net_names, select_release_numbers};
+use office_types::NetName;
+use sqlite::types::ValueRef;
+use sqlite::{Alter, Error, Row, Transaction};
+use std::alloc::Global;
+
+/// The name that the row shows. An error where it shows none, or memory ran out.
+fn name_in(alloc: Global, row: &Row) -> Result<NetName, Error>
+    ensures { IfOk result (λ name. IsNamed name row.now) }
+{
+    let ValueRef::Text(text) = row.get_ref(0)? else {
+        return Err(Error::InvalidQuery);
+    };
+    match NetName::of(alloc, text)? {
+        Some(name) => Ok(name),
+        None => Err(Error::InvalidQuery),
+    }
+}
+
+/// The names that the rows show, in order. An error where a row shows none, or memory ran out.
+fn names_in(alloc: Global, rows: &[Row]) -> Result<Vec<NetName>, Error>
+    ensures { IfOk result (λ names. AreShown IsNamed names.items rows.now) }
+{
+    let mut names = Vec::new(alloc);
+    for row in rows {
+        let name = name_in(alloc, row)?;
+        names.push(name)?;
+    }
+    Ok(names)
+}
+
+/// The names of all networks, in their order. An error is out of memory, what `sqlite` answers, or `InvalidQuery` where
+/// a row is no network's.
+fn names_of<S: Alter>(alloc: Global, tx: &mut Transaction<'_, S>) -> Result<Vec<NetName>, Error>
+    ensures same_reference { tx.new.conn.ghost_name ≡ tx.old.conn.ghost_name }
+    ensures found { HasCleanDisk (state S.Store tx.new.conn.now) → IsOffice (state S.Store tx.old.conn.now).now
+        → IfOk result (λ names. (nets : List Network) → AreNets (tables_of (state S.Store tx.old.conn.now).now.trees) nets → names.items ≡ map (λ net. net.name) nets) }
+    ensures same { HasCleanDisk (state S.Store tx.new.conn.now) → IsOffice (state S.Store tx.old.conn.now).now → OnOk result (IsUnchanged (state S.Store tx.old.conn.now) (state S.Store tx.new.conn.now)) }
+    ensures kept { HasCleanDisk (state S.Store tx.new.conn.now) → IsOffice (state S.Store tx.old.conn.now).now → KeepsCommit (state S.Store tx.old.conn.now) (state S.Store tx.new.conn.now) }
+    ensures survives { Survives (state S.Store tx.old.conn.now) (state S.Store tx.new.conn.now) (λ _. ⊥) }
+{
+    let rows = select_net_names(tx)?;
+    names_in(alloc, &rows)
+}
+
+/// How many releases the network has. An error is `sqlite`'s.
+fn release_count<S: Alter>(tx: &mut Transaction<'_, S>, name: &NetName) -> Result<usize, Error>
+    ensures same_reference { tx.new.conn.ghost_name ≡ tx.old.conn.ghost_name }
+    ensures found { HasCleanDisk (state S.Store tx.new.conn.now) → IsOffice (state S.Store tx.old.conn.now).now
+        → IfOk result (λ count. (net : Network) → IsNetAt name.now (tables_of (state S.Store tx.old.conn.now).now.trees) (Some net) → count ≡ length net.releases) }
+    ensures same { HasCleanDisk (state S.Store tx.new.conn.now) → IsOffice (state S.Store tx.old.conn.now).now → OnOk result (IsUnchanged (state S.Store tx.old.conn.now) (state S.Store tx.new.conn.now)) }
+    ensures kept { HasCleanDisk (state S.Store tx.new.conn.now) → IsOffice (state S.Store tx.old.conn.now).now → KeepsCommit (state S.Store tx.old.conn.now) (state S.Store tx.new.conn.now) }
+    ensures survives { Survives (state S.Store tx.old.conn.now) (state S.Store tx.new.conn.now) (λ _. ⊥) }
+{
+    let rows = select_release_numbers(tx, name.as_bytes())?;
+    Ok(rows.as_slice().len())
+}
+
+/// The line of the network of the name. An error is out of memory, what `sqlite` answers, or `InvalidQuery` where the
+/// network isn't there.
+fn line_at<S: Alter>(
+    alloc: Global,
+    tx: &mut Transaction<'_, S>,
+    name: &NetName,
+) -> Result<Vec<u8>, Error>
+    ensures same_reference { tx.new.conn.ghost_name ≡ tx.old.conn.ghost_name }
+    ensures found { HasCleanDisk (state S.Store tx.new.conn.now) → IsOffice (state S.Store tx.old.conn.now).now
+        → IfOk result (λ line. (net : Network) → IsNetAt name.now (tables_of (state S.Store tx.old.conn.now).now.trees) (Some net) → line.items ≡ net_line net) }
+    ensures same { HasCleanDisk (state S.Store tx.new.conn.now) → IsOffice (state S.Store tx.old.conn.now).now → OnOk result (IsUnchanged (state S.Store tx.old.conn.now) (state S.Store tx.new.conn.now)) }
+    ensures kept { HasCleanDisk (state S.Store tx.new.conn.now) → IsOffice (state S.Store tx.old.conn.now).now → KeepsCommit (state S.Store tx.old.conn.now) (state S.Store tx.new.conn.now) }
+    ensures survives { Survives (state S.Store tx.old.conn.now) (state S.Store tx.new.conn.now) (λ _. ⊥) }
+{
+    let Some(head) = head_of(alloc, tx, name)? else {
+        return Err(Error::InvalidQuery);
+    };
+    let releases = release_count(tx, name)?;
+    Ok(net_line(alloc, name, &head, releases)?)
+}
+
+/// The lines of the networks of these names, in order. The errors are those of [`line_at`].
+fn lines_at<S: Alter>(
+    alloc: Global,
+    tx: &mut Transaction<'_, S>,
+    names: &[NetName],
+) -> Result<Vec<u8>, Error>
+    ensures same_reference { tx.new.conn.ghost_name ≡ tx.old.conn.ghost_name }
+    ensures found { HasCleanDisk (state S.Store tx.new.conn.now) → IsOffice (state S.Store tx.old.conn.now).now
+        → IfOk result (λ text. (nets : List Network) → AllByRecursion (λ net. IsNetAt net.name (tables_of (state S.Store tx.old.conn.now).now.trees) (Some net)) nets
+        → names.now ≡ map (λ net. net.name) nets → text.items ≡ nets_text nets) }
+    ensures same { HasCleanDisk (state S.Store tx.new.conn.now) → IsOffice (state S.Store tx.old.conn.now).now → IsTrue (state S.Store tx.old.conn.now).is_open → OnOk result (IsUnchanged (state S.Store tx.old.conn.now) (state S.Store tx.new.conn.now)) }
+    ensures kept { HasCleanDisk (state S.Store tx.new.conn.now) → IsOffice (state S.Store tx.old.conn.now).now → KeepsCommit (state S.Store tx.old.conn.now) (state S.Store tx.new.conn.now) }
+    ensures survives { Survives (state S.Store tx.old.conn.now) (state S.Store tx.new.conn.now) (λ _. ⊥) }
+{
+    let mut text = Vec::new(alloc);
+    for name in names {
+        let line = line_at(alloc, tx, name)?;
+        text.extend_from_slice(&line)?;
+    }
+    Ok(text)
+}
+
+/// The lines of all networks, in the order of their names: name, kind, phase and count of releases. An error is out of
+/// memory, what `sqlite` answers, or `InvalidQuery` where rows are no network's.
+pub fn nets_text<S: Alter>(alloc: Global, tx: &mut Transaction<'_, S>) -> Result<Vec<u8>, Error>
+    ensures same_reference { tx.new.conn.ghost_name ≡ tx.old.conn.ghost_name }
+    ensures found { HasCleanDisk (state S.Store tx.new.conn.now) → IsOffice (state S.Store tx.old.conn.now).now
+        → IfOk result (λ text. (nets : List Network) → AreNets (tables_of (state S.Store tx.old.conn.now).now.trees) nets → text.items ≡ nets_text nets) }
+    ensures same { HasCleanDisk (state S.Store tx.new.conn.now) → IsOffice (state S.Store tx.old.conn.now).now → OnOk result (IsUnchanged (state S.Store tx.old.conn.now) (state S.Store tx.new.conn.now)) }
+    ensures kept { HasCleanDisk (state S.Store tx.new.conn.now) → IsOffice (state S.Store tx.old.conn.now).now → KeepsCommit (state S.Store tx.old.conn.now) (state S.Store tx.new.conn.now) }
+    ensures survives { Survives (state S.Store tx.old.conn.now) (state S.Store tx.new.conn.now) (λ _. ⊥) }
+{
+    let names = names_of(alloc, tx)?;
+    lines_at(alloc, tx, &names)
+}

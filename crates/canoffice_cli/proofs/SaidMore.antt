@@ -5,7 +5,7 @@ use Rattle.std.specs.declared.alloc.AllocError.{AllocError}
 use Rattle.catalogue.specs.Reads.{ReadsAs}
 use Rattle.catalogue.specs.declared.sheet.Sheet.{Sheet}
 use Rattle.dbc_advice.specs.Explained.{IsExplained}
-use Rattle.dbc_advice.specs.LeftOut.{IsLeftOut}
+use Rattle.dbc_advice.specs.LeftOut.{left_out}
 use Rattle.dbc_read.specs.Passed.{start_and_keyword}
 use Rattle.dbc_read.specs.Reading.{ReadsAsNothing}
 use Rattle.dbc_read.specs.declared.passed.Passed.{Passed}
@@ -28,7 +28,7 @@ module _ (explain : Bool) (IsOf : Outcome → Type 0) (IsSaid : List ℕ → Typ
 -- what is said of a text whose canonical text is printed: of one that reads, and of one that reads as no sheet
 module _ {A E : Type 0} (items : A → List ℕ) (name bytes : List ℕ) where
   pub left_of_sheet : (r : Result A E) (s : Sheet) (passed : List Passed) → ReadsAs bytes s (map start_and_keyword passed)
-      → IfOk r (λ said. IsLeftOut name bytes s passed (items said)) → IfOk r (λ said. IsSaidOfFormat name bytes (items said))
+      → IfOk r (λ said. items said ≡ left_out name bytes s passed) → IfOk r (λ said. IsSaidOfFormat name bytes (items said))
   left_of_sheet (Ok said) s passed reads left = inr (s, passed, reads, left)
   left_of_sheet (Err lost) s passed reads left = tt
 

@@ -4,7 +4,7 @@ use Rattle.std.specs.Borrow.{Bor}
 use Rattle.catalogue.specs.Reads.{ReadsAs}
 use Rattle.catalogue.specs.declared.sheet.Sheet.{Sheet}
 use Rattle.dbc_advice.specs.Explained.{IsExplained}
-use Rattle.dbc_advice.specs.LeftOut.{IsLeftOut}
+use Rattle.dbc_advice.specs.LeftOut.{left_out}
 use Rattle.dbc_read.specs.Passed.{start_and_keyword}
 use Rattle.dbc_read.specs.Reading.{ReadsAsNothing}
 use Rattle.dbc_read.specs.declared.passed.Passed.{Passed}
@@ -20,7 +20,7 @@ use Rattle.canoffice_cli.specs.declared.file_jobs.FileTask.TheVariants as task
 abbrev pub IsSaidOfFormat : List ℕ → List ℕ → List ℕ → Type 0
 IsSaidOfFormat name bytes said =
     (ReadsAsNothing bytes × IsExplained name bytes said)
-    ⊎ ((s : Sheet) × (passed : List Passed) × ReadsAs bytes s (map start_and_keyword passed) × IsLeftOut name bytes s passed said)
+    ⊎ ((s : Sheet) × (passed : List Passed) × ReadsAs bytes s (map start_and_keyword passed) × (said ≡ left_out name bytes s passed))
 
 -- what `-` means as a key in a script for the office in this database, or for one in memory
 abbrev pub dash_of : Option (Bor (List ℕ)) → Dash

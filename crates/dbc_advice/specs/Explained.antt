@@ -1,13 +1,14 @@
 -- All that is told of a file.
-use Rattle.std.specs.Prelude.{◌≡◌, ℕ, ◌++◌, List, [], Option, length, min, codes, decimal}
-use Rattle.catalogue.specs.declared.keyword.Keyword.{Keyword}
+use Rattle.std.specs.Prelude.{◌≡◌, ℕ, ◌++◌, List, [], drop, length, min, codes, decimal}
+use Rattle.catalogue.specs.Lexing.{lexed}
 use Rattle.dbc_lex.specs.Fault.{code_name, code_number}
 use Rattle.dbc_read.specs.declared.reading.Reading.{Reading}
 use Rattle.dbc_advice.specs.Clashes.{AreClashLines}
-use Rattle.dbc_advice.specs.LeftOut.{IsLeftOut}
+use Rattle.dbc_advice.specs.LeftOut.{left_out}
 use Rattle.dbc_advice.specs.Position.{position_at}
 use Rattle.dbc_advice.specs.Sentence.{sentence_of}
 use Rattle.dbc_advice.specs.Telling.{IsTelling}
+use Rattle.dbc_advice.specs.Tokens.{IsFound, keyword_at}
 use Rattle.dbc_advice.specs.ToldLine.{AreLinesOf, code_label, told_line}
 use Rattle.dbc_advice.specs.declared.found.Found.{Found}
 use Rattle.dbc_advice.specs.declared.telling.Ending.{Ending}
@@ -15,11 +16,12 @@ use Rattle.dbc_advice.specs.declared.telling.Ending.TheVariants.{Reads, Many, Lo
 use Rattle.dbc_advice.specs.declared.telling.Telling.{Telling}
 use Rattle.dbc_advice.specs.declared.telling.Told.{Told}
 
--- the line of a fault: at its offset in the file, with its code, its sentence for what was found, and its statement
+-- The line of a fault: at its offset in the file, with its code, and its sentence: for what is found there, for what may be
+-- there, and for the keyword of the statement that begins with its lines.
 pub record IsFaultLine (file text : List ℕ) (t : Told) (line : List ℕ) : Type 0 where
   pub found : Found
-  pub statement : Option Keyword
-  pub is : line ≡ told_line file (position_at text (min t.fault.at (length text))) (code_label (code_number t.fault.code) (code_name t.fault.code)) (sentence_of t.fault.code found t.wanted.items statement t.hint)
+  pub is_found : IsFound text (lexed (min t.fault.at (length text)) (drop (min t.fault.at (length text)) text)) found
+  pub is : line ≡ told_line file (position_at text (min t.fault.at (length text))) (code_label (code_number t.fault.code) (code_name t.fault.code)) (sentence_of t.fault.code found t.wanted.items (keyword_at text (min t.lines.first (length text))) t.hint)
 
 -- the lines of faults, in order
 abbrev pub AreFaultLines : List ℕ → List ℕ → List Told → List ℕ → Type 0
@@ -40,9 +42,7 @@ count_line file told ending = file ++ (codes ": " ++ (decimal told ++ (codes " t
 pub record IsSaidOfSheet (file text : List ℕ) (reading : Reading) (out : List ℕ) : Type 0 where
   pub clashes : List ℕ
   pub are_clashes : AreClashLines file text reading.sheet.messages clashes
-  pub skipped : List ℕ
-  pub is_left_out : IsLeftOut file text reading.sheet reading.passed skipped
-  pub whole : out ≡ clashes ++ skipped
+  pub whole : out ≡ clashes ++ left_out file text reading.sheet reading.passed
 
 -- what comes after the lines of the faults: of a file that reads what is said of its sheet, and else their count
 abbrev pub IsRest : List ℕ → List ℕ → List Told → Ending → List ℕ → Type 0

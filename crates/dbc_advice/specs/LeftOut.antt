@@ -1,15 +1,16 @@
 -- What is said of statements that are skipped.
-use Rattle.std.specs.Prelude.{◌≡◌, ℕ, Bool, true, List, [], ◌∷◌, ◌++◌, All, Option, Some, None, map, take, drop, length, min, codes, decimal, if◌then◌else◌}
+use Rattle.std.specs.Prelude.{◌≡◌, ℕ, nat_lt, Bool, List, [], ◌∷◌, ◌++◌, Option, Some, None, take, drop, length, min, codes, decimal, if◌then◌else◌}
 use Rattle.std.specs.List.{count_by, enumerate_from, flat_map, list_any}
 use Rattle.std.specs.Str.{bytes_eq}
 use Rattle.catalogue.specs.Keyword.{keyword_text}
 use Rattle.catalogue.specs.declared.keyword.Keyword.{Keyword}
 use Rattle.catalogue.specs.declared.sheet.Sheet.{Sheet}
 use Rattle.dbc_read.specs.declared.passed.Passed.{Passed}
-use Rattle.dbc_advice.specs.Citation.{citation_text, is_missing}
+use Rattle.dbc_advice.specs.Citation.{Cited, citation_at, citation_text, is_missing}
 use Rattle.dbc_advice.specs.Position.{position_at}
-use Rattle.dbc_advice.specs.ToldLine.{told_line}
-use Rattle.dbc_advice.specs.declared.citation.Citation.{Citation}
+use Rattle.dbc_advice.specs.ToldLine.{more_text, told_line}
+use Rattle.dbc_advice.specs.declared.leaving.Parts.{Parts}
+use Rattle.dbc_advice.specs.declared.leaving.TheConstants.{CITATIONS_TOLD}
 
 -- `passed KEYWORD`
 abbrev pub passed_label : Keyword → List ℕ
@@ -28,30 +29,55 @@ passed_line file text p sentence = told_line file (position_at text (min p.at (l
 
 -- ---- one by one
 
--- a skipped statement, and what it cites, if it is told by itself
-abbrev pub Marked : Type 0
-Marked = Passed × Option Citation
+-- what the skipped statement cites, if the sheet doesn't have it
+abbrev pub unless_present : Sheet → Option Cited → Option Cited
+unless_present s None = None
+unless_present s (Some cited) = if is_missing s cited then Some cited else None
 
-abbrev pub marked_text : List ℕ → List ℕ → Passed → Option Citation → List ℕ
-marked_text file text p (Some citation) = passed_line file text p (citation_text citation)
-marked_text file text p None = []
+abbrev pub missing_at : Sheet → List ℕ → Passed → Option Cited
+missing_at s text p = unless_present s (citation_at text p.at)
 
-abbrev pub unmarked : Passed → Option Citation → List Passed
-unmarked p (Some citation) = []
-unmarked p None = p ∷ []
+-- a skipped statement, and what it cites that the sheet doesn't have
+abbrev pub Missing : Type 0
+Missing = Passed × Cited
 
--- the sheet doesn't have what is cited
-abbrev pub IsAbsent : Sheet → Option Citation → Type 0
-IsAbsent s (Some citation) = is_missing s citation ≡ true
-IsAbsent s None = Unit {0}
+abbrev pub with_missing : Passed → Option Cited → List Missing
+with_missing p None = []
+with_missing p (Some cited) = (p, cited) ∷ []
 
--- Some of the skipped statements are told by themselves, each of which cites what the sheet doesn't have; the others are left.
-pub record ArePartedFrom (file text : List ℕ) (s : Sheet) (passed : List Passed) (lines : List ℕ) (others : List Passed) : Type 0 where
-  pub marked : List Marked
-  pub all : map (λ m. m.0) marked ≡ passed
-  pub absent : All (λ m. IsAbsent s m.1) marked
-  pub lines_are : lines ≡ flat_map (λ m. marked_text file text m.0 m.1) marked
-  pub others_are : others ≡ flat_map (λ m. unmarked m.0 m.1) marked
+-- those of these statements that cite what the sheet doesn't have
+abbrev pub all_missing : Sheet → List ℕ → List Passed → List Missing
+all_missing s text passed = flat_map (λ (p : Passed). with_missing p (missing_at s text p)) passed
+
+-- the line of one
+abbrev pub missing_line : List ℕ → List ℕ → Missing → List ℕ
+missing_line file text m = passed_line file text m.0 (citation_text m.1)
+
+-- the same after so many that are told: nothing, if enough are
+abbrev pub line_after : ℕ → List ℕ → List ℕ → Missing → List ℕ
+line_after told file text m = if nat_lt told CITATIONS_TOLD then missing_line file text m else []
+
+-- the lines of the first of them
+abbrev pub missing_lines : List ℕ → List ℕ → List Missing → List ℕ
+missing_lines file text missing = flat_map (missing_line file text) (take CITATIONS_TOLD missing)
+
+abbrev pub without_missing : Passed → Option Cited → List Passed
+without_missing p None = p ∷ []
+without_missing p (Some cited) = []
+
+-- the other statements
+abbrev pub all_others : Sheet → List ℕ → List Passed → List Passed
+all_others s text passed = flat_map (λ (p : Passed). without_missing p (missing_at s text p)) passed
+
+-- that there are more than are told, if so
+abbrev pub more_missing : List ℕ → List Missing → List ℕ
+more_missing file missing = more_text file CITATIONS_TOLD (length missing) (codes "citations")
+
+-- the statements that are told one by one, how many there are, and the others
+pub record ArePartedFrom (file text : List ℕ) (s : Sheet) (passed : List Passed) (p : Parts) : Type 0 where
+  pub lines : p.lines.items ≡ missing_lines file text (all_missing s text passed)
+  pub missing : p.missing ≡ length (all_missing s text passed)
+  pub others : p.others.items ≡ all_others s text passed
 
 -- ---- kind by kind
 
@@ -71,8 +97,7 @@ kinds_text file text passed n = flat_map (kind_text file text passed) (enumerate
 -- ---- all
 
 -- what is told one by one, and then each kind of the others
-pub record IsLeftOut (file text : List ℕ) (s : Sheet) (passed : List Passed) (out : List ℕ) : Type 0 where
-  pub lines : List ℕ
-  pub others : List Passed
-  pub parted : ArePartedFrom file text s passed lines others
-  pub whole : out ≡ lines ++ kinds_text file text others 0
+abbrev pub left_out : List ℕ → List ℕ → Sheet → List Passed → List ℕ
+left_out file text s passed =
+    (missing_lines file text (all_missing s text passed) ++ more_missing file (all_missing s text passed))
+    ++ kinds_text file text (all_others s text passed) 0

@@ -12,6 +12,7 @@ pub mod Telling
 pub mod Reasons
 pub mod Unclear
 pub mod Clashes
+pub mod Tokens
 pub mod Citation
 pub mod LeftOut
 pub mod Explained

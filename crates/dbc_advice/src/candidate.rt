@@ -3,8 +3,8 @@ ghost use Rattle.std.specs.Prelude.{◌≡◌};
 ghost use Rattle.dbc_advice.specs.Candidate.{phrase_of, sample_of};
 
 /// A kind of token that may come in a statement.
-#[derive(Clone, Copy, Debug, PartialEq, Eq)]
-pub enum Candidate {
+#[derive(Clone, Copy)]
+pub(crate) enum Candidate {
     /// A number.
     Number,
     /// Any name, also a keyword.

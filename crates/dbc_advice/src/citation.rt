@@ -1,10 +1,11 @@
 //! What skipped statements cite.
-ghost use Rattle.std.specs.Prelude.{◌≡◌, IfOk};
+ghost use Rattle.std.specs.Prelude.{◌≡◌, IfOk, option_map};
 ghost use Rattle.catalogue.specs.Named.{has_name};
 ghost use Rattle.catalogue.specs.Sheet.{node_name};
 ghost use Rattle.catalogue.specs.Signals.{signal_name};
 ghost use Rattle.std.specs.Option.{option_copied};
-ghost use Rattle.dbc_advice.specs.Citation.{cited_message, cited_text, citation_text, has_signal, is_missing};
+ghost use Rattle.dbc_advice.specs.Citation.{citation_at, citation_text, cited_by_comment, cited_by_spn, cited_message, cited_node, cited_number, cited_of, cited_signal, cited_text, has_signal, is_missing};
+ghost use Rattle.dbc_advice.specs.Tokens.{GivesToken};
 
 use crate::joined::{three, two};
 use catalogue::{Keyword, Message, Node, Sheet, Signal, TokenKind, whole_number};
@@ -12,8 +13,8 @@ use dbc_lex::{Lexer, Token};
 use std::alloc::{AllocError, Global};
 
 /// What a statement cites. A number is the bytes of its token.
-#[derive(Clone, Copy, Debug, PartialEq, Eq)]
-pub enum Citation<'a> {
+#[derive(Clone, Copy)]
+pub(crate) enum Citation<'a> {
     /// A node, by its name.
     Node(&'a [u8]),
     /// A message, by its number.
@@ -23,37 +24,60 @@ pub enum Citation<'a> {
 }
 
 /// The next token, if there is one.
-fn next<'a>(lexer: &mut Lexer<'a>) -> Option<Token<'a>> {
+fn next<'a>(lexer: &mut Lexer<'a>) -> Option<Token<'a>>
+    ensures { GivesToken lexer.old.tokens result lexer.new.tokens }
+{
     match lexer.next_token() {
         Ok(token) => token,
         Err(_) => None,
     }
 }
 
-/// A number and a name.
-fn signal_next<'a>(lexer: &mut Lexer<'a>) -> Option<Citation<'a>> {
+/// A name of a node.
+fn node_next<'a>(lexer: &mut Lexer<'a>) -> Option<Citation<'a>>
+    ensures { option_map cited_of result ≡ cited_node lexer.old.tokens }
+{
+    let name = next(lexer)?;
+    Some(Citation::Node(name.text))
+}
+
+/// A number of a message.
+fn message_next<'a>(lexer: &mut Lexer<'a>) -> Option<Citation<'a>>
+    ensures { option_map cited_of result ≡ cited_number lexer.old.tokens }
+{
+    let number = next(lexer)?;
+    Some(Citation::Message(number.text))
+}
+
+/// A number of a message and the name of a signal.
+fn signal_next<'a>(lexer: &mut Lexer<'a>) -> Option<Citation<'a>>
+    ensures { option_map cited_of result ≡ cited_signal lexer.old.tokens }
+{
     let number = next(lexer)?;
     let name = next(lexer)?;
-    if number.kind == TokenKind::Number {
-        Some(Citation::Signal(number.text, name.text))
-    } else {
-        None
+    match number.kind {
+        TokenKind::Number => Some(Citation::Signal(number.text, name.text)),
+        _ => None,
     }
 }
 
 /// What a comment cites.
-fn comment_next<'a>(lexer: &mut Lexer<'a>) -> Option<Citation<'a>> {
+fn comment_next<'a>(lexer: &mut Lexer<'a>) -> Option<Citation<'a>>
+    ensures { option_map cited_of result ≡ cited_by_comment lexer.old.tokens }
+{
     let kind = next(lexer)?;
-    match Keyword::of(kind.text)? {
-        Keyword::Nodes => Some(Citation::Node(next(lexer)?.text)),
-        Keyword::Message => Some(Citation::Message(next(lexer)?.text)),
-        Keyword::Signal => signal_next(lexer),
+    match Keyword::of(kind.text) {
+        Some(Keyword::Nodes) => node_next(lexer),
+        Some(Keyword::Message) => message_next(lexer),
+        Some(Keyword::Signal) => signal_next(lexer),
         _ => None,
     }
 }
 
 /// What a value of the attribute `SPN` cites.
-fn spn_next<'a>(lexer: &mut Lexer<'a>) -> Option<Citation<'a>> {
+fn spn_next<'a>(lexer: &mut Lexer<'a>) -> Option<Citation<'a>>
+    ensures { option_map cited_of result ≡ cited_by_spn lexer.old.tokens }
+{
     let attribute = next(lexer)?;
     let kind = next(lexer)?;
     if attribute.text == b"\"SPN\"".as_slice() && kind.text == Keyword::Signal.text().as_bytes() {
@@ -65,13 +89,15 @@ fn spn_next<'a>(lexer: &mut Lexer<'a>) -> Option<Citation<'a>> {
 
 /// What the statement cites that begins at the offset: a node, a message or a signal. `None` if it is about nothing of
 /// these.
-pub fn citation_at(text: &[u8], at: usize) -> Option<Citation<'_>> {
+pub(crate) fn citation_at(text: &[u8], at: usize) -> Option<Citation<'_>>
+    ensures { option_map cited_of result ≡ citation_at text.now at }
+{
     let mut lexer = Lexer::at(text, at);
     let keyword = next(&mut lexer)?;
-    match Keyword::of(keyword.text)? {
-        Keyword::Comment => comment_next(&mut lexer),
-        Keyword::ValueTexts | Keyword::SignalValueType => signal_next(&mut lexer),
-        Keyword::AttributeValue => spn_next(&mut lexer),
+    match Keyword::of(keyword.text) {
+        Some(Keyword::Comment) => comment_next(&mut lexer),
+        Some(Keyword::ValueTexts | Keyword::SignalValueType) => signal_next(&mut lexer),
+        Some(Keyword::AttributeValue) => spn_next(&mut lexer),
         _ => None,
     }
 }
@@ -108,8 +134,8 @@ fn has_signal(sheet: &Sheet, number: &[u8], name: &[u8]) -> bool
 }
 
 /// Whether the sheet has nothing that is cited so.
-pub fn is_missing(sheet: &Sheet, citation: Citation) -> bool
-    ensures { result ≡ is_missing sheet.now citation.entry }
+pub(crate) fn is_missing(sheet: &Sheet, citation: Citation) -> bool
+    ensures { result ≡ is_missing sheet.now (cited_of citation.entry) }
 {
     match citation {
         Citation::Node(name) => !has_node(sheet.nodes(), name),
@@ -120,7 +146,7 @@ pub fn is_missing(sheet: &Sheet, citation: Citation) -> bool
 
 /// What the statement is about.
 fn cited_text(alloc: Global, citation: Citation) -> Result<Vec<u8>, AllocError>
-    ensures { IfOk result (λ text. text.items ≡ cited_text citation.entry) }
+    ensures { IfOk result (λ text. text.items ≡ cited_text (cited_of citation.entry)) }
 {
     match citation {
         Citation::Node(name) => two(alloc, b"it is about node ", name),
@@ -133,8 +159,8 @@ fn cited_text(alloc: Global, citation: Citation) -> Result<Vec<u8>, AllocError>
 }
 
 /// What is said of a citation of what isn't in the file. The error is out of memory.
-pub fn citation_text(alloc: Global, citation: Citation) -> Result<Vec<u8>, AllocError>
-    ensures { IfOk result (λ text. text.items ≡ citation_text citation.entry) }
+pub(crate) fn citation_text(alloc: Global, citation: Citation) -> Result<Vec<u8>, AllocError>
+    ensures { IfOk result (λ text. text.items ≡ citation_text (cited_of citation.entry)) }
 {
     let mut text = cited_text(alloc, citation)?;
     text.extend_from_slice(b", which isn't in the file")?;

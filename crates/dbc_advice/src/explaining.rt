@@ -95,9 +95,10 @@ fn rest_of(alloc: Global, source: Source, telling: &Telling) -> Result<Vec<u8>, 
 
 /// All that is told of a DBC file beside what is answered. The error is out of memory.
 ///
-/// Of one that can't be read, a line for each fault of [`told_faults`], and a last one with their count. Of one that
-/// reads, a line for each reason why a message isn't clear, at most [`CLASHES_TOLD`](crate::CLASHES_TOLD) and then that
-/// there are more, and what [`left_out`](crate::left_out) says.
+/// Of one that can't be read, a line for its fault, one for that of the text with the lines of the first blanked, and so on,
+/// at most [`FAULTS_TOLD`](crate::FAULTS_TOLD) and for at most [`BYTES_READ_AGAIN`](crate::BYTES_READ_AGAIN); and a last one
+/// with their count. Of one that reads, a line for each reason why a message isn't clear, at most
+/// [`CLASHES_TOLD`](crate::CLASHES_TOLD) and then that there are more, and what [`left_out`](crate::left_out) says.
 pub fn explained(alloc: Global, source: Source) -> Result<Vec<u8>, AllocError>
     ensures { IfOk result (λ out. IsExplained source.entry.name.now source.entry.text.now out.items) }
 {

@@ -5,6 +5,7 @@
 //! where a text isn't closed.
 ghost use Rattle.std.specs.Prelude.{◌≡◌, ◌≤◌, ◌<◌, IfOk, IfSome, length};
 ghost use Rattle.dbc_advice.specs.FaultyLines.{AreLines};
+ghost use Rattle.dbc_advice.specs.Tokens.{keyword_at};
 
 use crate::lines::{line_end, line_start};
 use crate::pieces::{alone, goes_on, is_gap, line_keyword, reads};
@@ -13,8 +14,8 @@ use dbc_lex::{Lexer, ReadCode, ReadFault};
 use std::alloc::{AllocError, Global};
 
 /// Lines of a text.
-#[derive(Clone, Copy, Debug, PartialEq, Eq)]
-pub struct Lines {
+#[derive(Clone, Copy)]
+pub(crate) struct Lines {
     /// An offset in the first of them.
     pub first: usize,
     /// An offset in the last of them.
@@ -24,6 +25,7 @@ pub struct Lines {
 /// The keyword that begins the line of the offset, where more follows on it.
 pub(crate) fn keyword_at(text: &[u8], at: usize) -> Option<Keyword>
     requires { at ≤ length text.now }
+    ensures { result ≡ keyword_at text.now at }
 {
     line_keyword(&text[line_start(text, at)..line_end(text, at)])
 }

@@ -1,13 +1,15 @@
 //! What is found at the offset of a fault.
-ghost use Rattle.std.specs.Prelude.{◌≡◌, ◌≤◌, IfOk, length, map};
+ghost use Rattle.std.specs.Prelude.{◌≡◌, ◌≤◌, IfOk, drop, length, map};
+ghost use Rattle.catalogue.specs.Lexing.{lexed};
 ghost use Rattle.dbc_advice.specs.Sentence.{found_text, quoted, shown, visible};
+ghost use Rattle.dbc_advice.specs.Tokens.{IsFound};
 
 use dbc_lex::{Lexer, ReadCode};
 use std::alloc::{AllocError, Global};
 
 /// What is at the offset of a fault.
-#[derive(Clone, Copy, Debug, PartialEq, Eq)]
-pub enum Found<'a> {
+#[derive(Clone, Copy)]
+pub(crate) enum Found<'a> {
     /// The text ends there.
     End,
     /// The opening quote of a text that isn't closed.
@@ -81,14 +83,15 @@ pub(crate) fn found_text(alloc: Global, found: Found) -> Result<Vec<u8>, AllocEr
 }
 
 /// What is at the offset of the text: its next token from there on, or why there is none.
-pub fn found_at(text: &[u8], at: usize) -> Found<'_>
+pub(crate) fn found_at(text: &[u8], at: usize) -> Found<'_>
     requires { at ≤ length text.now }
+    ensures { IsFound text.now (lexed at (drop at text.now)) result }
 {
     match Lexer::at(text, at).next_token() {
         Ok(Some(token)) => Found::Token(token.text),
         Ok(None) => Found::End,
         Err(fault) => match fault.code {
-            ReadCode::StrayByte => Found::Byte(text.get(at).copied().unwrap_or(0)),
+            ReadCode::StrayByte => Found::Byte(text.get(fault.at).copied().unwrap_or(0)),
             _ => Found::Quote,
         },
     }

@@ -11,8 +11,8 @@ use dbc_lex::{Lexer, ReadCode, ReadFault, Token};
 use std::alloc::{AllocError, Global};
 
 /// What is plain to do about a fault.
-#[derive(Clone, Copy, Debug, PartialEq, Eq)]
-pub enum Hint {
+#[derive(Clone, Copy)]
+pub(crate) enum Hint {
     /// The file begins with a byte order mark of UTF-8.
     ByteOrderMark,
     /// The file begins with a byte order mark of UTF-16.

@@ -1,13 +1,14 @@
 //! What is said of statements that are skipped: those that cite what isn't in the file one by one, the others kind by
 //! kind.
-ghost use Rattle.std.specs.Prelude.{◌≡◌, ◌≤◌, IfOk, length, string_bytes};
-ghost use Rattle.dbc_advice.specs.Citation.{citation_text};
-ghost use Rattle.dbc_advice.specs.LeftOut.{ArePartedFrom, IsAbsent, IsLeftOut, count_text, has_keyword, kind_count, kind_text, kinds_text, passed_label, passed_line};
+ghost use Rattle.std.specs.Prelude.{◌≡◌, ◌≤◌, IfOk, codes, length, option_map, string_bytes};
+ghost use Rattle.dbc_advice.specs.Citation.{cited_of};
+ghost use Rattle.dbc_advice.specs.LeftOut.{ArePartedFrom, count_text, has_keyword, kind_count, kind_text, kinds_text, left_out, line_after, missing_at, missing_line, passed_label, passed_line};
+ghost use Rattle.dbc_advice.specs.ToldLine.{more_text};
 
 use crate::citation::{Citation, citation_at, citation_text, is_missing};
 use crate::notes::Source;
 use crate::position::position_of;
-use crate::sentences::told_line;
+use crate::sentences::{more_line, told_line};
 use catalogue::{Keyword, Sheet};
 use dbc_read::{Passed, Reading};
 use std::alloc::{AllocError, Global};
@@ -39,28 +40,12 @@ fn passed_line(
 }
 
 /// What the skipped statement cites, if the sheet doesn't have it.
-fn missing<'a>(sheet: &Sheet, text: &'a [u8], passed: Passed) -> Option<Citation<'a>>
-    ensures { IsAbsent sheet.now result }
+fn missing_at<'a>(sheet: &Sheet, text: &'a [u8], passed: Passed) -> Option<Citation<'a>>
+    ensures { option_map cited_of result ≡ missing_at sheet.now text.now passed }
 {
     let citation = citation_at(text, passed.at)?;
     if is_missing(sheet, citation) {
         Some(citation)
-    } else {
-        None
-    }
-}
-
-/// The same after so many that are told: nothing, if enough are.
-fn missing_after<'a>(
-    told: usize,
-    sheet: &Sheet,
-    text: &'a [u8],
-    passed: Passed,
-) -> Option<Citation<'a>>
-    ensures { IsAbsent sheet.now result }
-{
-    if told < CITATIONS_TOLD {
-        missing(sheet, text, passed)
     } else {
         None
     }
@@ -73,10 +58,27 @@ fn missing_line(
     passed: Passed,
     citation: Citation,
 ) -> Result<Vec<u8>, AllocError>
-    ensures { IfOk result (λ line. line.items ≡ passed_line source.entry.name.now source.entry.text.now passed (citation_text citation.entry)) }
+    ensures { IfOk result (λ line. line.items ≡ missing_line source.entry.name.now source.entry.text.now (passed, cited_of citation.entry)) }
 {
     let sentence = citation_text(alloc, citation)?;
     passed_line(alloc, source, passed, &sentence)
+}
+
+/// The same after so many that are told: nothing, if enough are.
+fn line_after(
+    alloc: Global,
+    told: usize,
+    source: Source,
+    passed: Passed,
+    citation: Citation,
+) -> Result<Vec<u8>, AllocError>
+    ensures { IfOk result (λ line. line.items ≡ line_after told source.entry.name.now source.entry.text.now (passed, cited_of citation.entry)) }
+{
+    if told < CITATIONS_TOLD {
+        missing_line(alloc, source, passed, citation)
+    } else {
+        Ok(Vec::new(alloc))
+    }
 }
 
 /// The skipped statements of this keyword that cite nothing, or what the sheet has: how many of them there are.
@@ -107,30 +109,47 @@ fn count_text(alloc: Global, count: usize) -> Result<String, AllocError>
 
 /// What is told one by one, and the statements that are left.
 struct Parts {
-    /// A line for each of those that cite what isn't in the file.
+    /// A line for each of the first of those that cite what isn't in the file.
     lines: Vec<u8>,
+    /// How many cite what isn't in the file.
+    missing: usize,
     /// The other ones.
     others: Vec<Passed>,
 }
 
 /// Tells each of the statements that cite what isn't in the file, up to [`CITATIONS_TOLD`].
 fn parted(alloc: Global, source: Source, reading: &Reading) -> Result<Parts, AllocError>
-    ensures { IfOk result (λ p. ArePartedFrom source.entry.name.now source.entry.text.now reading.now.sheet reading.now.passed p.lines.items p.others.items) }
+    ensures { IfOk result (ArePartedFrom source.entry.name.now source.entry.text.now reading.now.sheet reading.now.passed) }
 {
     let mut lines = Vec::new(alloc);
     let mut others = Vec::new(alloc);
-    let mut told = 0usize;
+    let mut missing = 0usize;
     for passed in reading.passed.as_slice() {
-        match missing_after(told, &reading.sheet, source.text, *passed) {
+        match missing_at(&reading.sheet, source.text, *passed) {
             Some(citation) => {
-                let line = missing_line(alloc, source, *passed, citation)?;
+                let line = line_after(alloc, missing, source, *passed, citation)?;
                 lines.extend_from_slice(&line)?;
-                told += 1;
+                missing += 1;
             }
             None => others.push(*passed)?,
         }
     }
-    Ok(Parts { lines, others })
+    Ok(Parts {
+        lines,
+        missing,
+        others,
+    })
+}
+
+/// The last line of those that are told one by one: there are more, if so.
+fn more_missing(alloc: Global, file: &[u8], missing: usize) -> Result<Vec<u8>, AllocError>
+    ensures { IfOk result (λ line. line.items ≡ more_text file.now CITATIONS_TOLD missing (codes "citations")) }
+{
+    if missing > CITATIONS_TOLD {
+        more_line(alloc, file, CITATIONS_TOLD, "citations")
+    } else {
+        Ok(Vec::new(alloc))
+    }
 }
 
 /// The line of the statement at the index, if no earlier one has its keyword, with how many have it.
@@ -163,15 +182,18 @@ fn kind_lines(alloc: Global, source: Source, passed: &[Passed]) -> Result<Vec<u8
     Ok(lines)
 }
 
-/// What the sheet of a file leaves out: a line for each skipped statement that cites a node, a message or a signal that
-/// isn't in the file, up to [`CITATIONS_TOLD`], and then one for each keyword of the other ones, with their count. The
-/// error is out of memory.
+/// What the sheet of a file leaves out. The error is out of memory.
+///
+/// It is a line for each skipped statement that cites a node, a message or a signal which isn't in the file, at most
+/// [`CITATIONS_TOLD`] and then that there are more, and one for each keyword of the other ones, with their count.
 pub fn left_out(alloc: Global, source: Source, reading: &Reading) -> Result<Vec<u8>, AllocError>
-    ensures { IfOk result (λ out. IsLeftOut source.entry.name.now source.entry.text.now reading.now.sheet reading.now.passed out.items) }
+    ensures { IfOk result (λ out. out.items ≡ left_out source.entry.name.now source.entry.text.now reading.now.sheet reading.now.passed) }
 {
     let parted = parted(alloc, source, reading)?;
+    let more = more_missing(alloc, source.name, parted.missing)?;
     let kinds = kind_lines(alloc, source, &parted.others)?;
     let mut lines = Vec::from_slice(alloc, &parted.lines)?;
+    lines.extend_from_slice(&more)?;
     lines.extend_from_slice(&kinds)?;
     Ok(lines)
 }
@@ -180,6 +202,7 @@ impl Drop for Parts {
     fn drop(self) {
         let Parts {
             lines: _lines,
+            missing: _missing,
             others: _others,
         } = self;
     }

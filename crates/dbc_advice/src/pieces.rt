@@ -1,14 +1,16 @@
 //! Pieces of a text, read by themselves.
 ghost use Rattle.std.specs.Prelude.{◌≡◌, ◌≤◌, IfOk, length};
-ghost use Rattle.catalogue.specs.Fields.{is_key};
+ghost use Rattle.catalogue.specs.Fields.{is_key, key_of};
 ghost use Rattle.catalogue.specs.Lexing.{lexed};
 ghost use Rattle.catalogue.specs.Rules.{starts};
 ghost use Rattle.catalogue.specs.declared.keyword.Keyword.TheVariants.{Signal};
 ghost use Rattle.dbc_advice.specs.GoesOn.{IsGoingOn};
 ghost use Rattle.dbc_advice.specs.Pieces.{alone, heading};
+ghost use Rattle.dbc_advice.specs.Tokens.{line_keyword};
+ghost use Rattle.dbc_lex.specs.Token.{token_of};
 
 use catalogue::{Keyword, TokenKind};
-use dbc_lex::{Lexer, ReadCode};
+use dbc_lex::{Lexer, ReadCode, Token};
 use dbc_read::read;
 use std::alloc::{AllocError, Global};
 
@@ -70,12 +72,24 @@ pub(crate) fn alone(alloc: Global, piece: &[u8]) -> Result<Vec<u8>, AllocError>
     Ok(text)
 }
 
+/// The keyword that the token is.
+fn key_of(token: &Token) -> Option<Keyword>
+    ensures { result ≡ key_of (token_of token.now) }
+{
+    match token.kind {
+        TokenKind::Name => Keyword::of(token.text),
+        _ => None,
+    }
+}
+
 /// The keyword that begins the line, where more follows on it. A statement begins there, or a signal of one; a keyword
 /// that is alone on its line is one of a list of new symbols.
-pub(crate) fn line_keyword(line: &[u8]) -> Option<Keyword> {
+pub(crate) fn line_keyword(line: &[u8]) -> Option<Keyword>
+    ensures { result ≡ line_keyword line.now }
+{
     let mut lexer = Lexer::of(line);
     let keyword = match lexer.next_token() {
-        Ok(Some(token)) if token.kind == TokenKind::Name => Keyword::of(token.text)?,
+        Ok(Some(token)) => key_of(&token)?,
         _ => return None,
     };
     match lexer.next_token() {

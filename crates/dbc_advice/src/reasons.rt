@@ -9,8 +9,8 @@ use bitlayout::{Clash, Layout, Place, has_bit, inside, meet, share_bit};
 use std::alloc::{AllocError, Global};
 
 /// A reason why the signals of a message do not fit together.
-#[derive(Clone, Copy, Debug, PartialEq, Eq)]
-pub struct Reason {
+#[derive(Clone, Copy)]
+pub(crate) struct Reason {
     /// The clash, with the indices of its signals.
     pub clash: Clash,
     /// The position of the least bit of the payload that both signals have, or of the least one past it that the signal
@@ -129,12 +129,12 @@ fn reasons_at(
 }
 
 /// Above how many reasons no further signal of a message is looked at.
-pub const REASONS_TOLD: usize = 100;
+pub(crate) const REASONS_TOLD: usize = 100;
 
 /// The reasons why the places do not fit together in a message of `bytes` bytes: of each place, in order, that a bit is
 /// outside, that there is no multiplexor, and each earlier place with which it shares a bit. After more than
 /// [`REASONS_TOLD`] no further place is looked at. The error is out of memory.
-pub fn reasons_of(alloc: Global, places: &[Place], bytes: u16) -> Result<Vec<Reason>, AllocError>
+pub(crate) fn reasons_of(alloc: Global, places: &[Place], bytes: u16) -> Result<Vec<Reason>, AllocError>
     requires { bytes ≤ length_limit }
     ensures { IfOk result (λ reasons. AreReasons bytes places.now reasons.items) }
 {

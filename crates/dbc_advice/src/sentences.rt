@@ -117,7 +117,7 @@ fn hinted(alloc: Global, hint: Option<Hint>) -> Result<Vec<u8>, AllocError>
 
 /// What is said of a fault of this code: what was found, what that means or what may be there, the statement, and what
 /// is plain to do. The error is out of memory.
-pub fn sentence(
+pub(crate) fn sentence(
     alloc: Global,
     code: ReadCode,
     found: Found,

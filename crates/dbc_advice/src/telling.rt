@@ -23,7 +23,7 @@ pub const FAULTS_TOLD: usize = 100;
 pub const BYTES_READ_AGAIN: usize = 400_000_000;
 
 /// A fault, and what people need to know of it.
-pub struct Told {
+pub(crate) struct Told {
     /// The fault.
     pub fault: ReadFault,
     /// The lines that it is about, which are blanked before the text is read again.
@@ -36,7 +36,7 @@ pub struct Told {
 
 /// Why no more faults are told.
 #[derive(Drop)]
-pub enum Ending {
+pub(crate) enum Ending {
     /// What is left of the text reads as a sheet.
     Reads(Reading),
     /// [`FAULTS_TOLD`] faults are told.
@@ -48,7 +48,7 @@ pub enum Ending {
 }
 
 /// The faults of a text.
-pub struct Telling {
+pub(crate) struct Telling {
     /// The faults, in the order in which they were found.
     pub told: Vec<Told>,
     /// Why no more are told.
@@ -167,7 +167,7 @@ fn is_long(size: usize, told: usize) -> bool
 /// The faults of the text: its fault, then that of the text with the lines of this fault blanked, and so on, until what
 /// is left reads as a sheet, or [`FAULTS_TOLD`] are told, or the text would be read again for more than
 /// [`BYTES_READ_AGAIN`], or all up to the last fault is blank already. The error is out of memory.
-pub fn told_faults(alloc: Global, source: &[u8]) -> Result<Telling, AllocError>
+pub(crate) fn told_faults(alloc: Global, source: &[u8]) -> Result<Telling, AllocError>
     ensures { IfOk result (IsTelling source.now) }
 {
     let mut told = Vec::new(alloc);

@@ -49,7 +49,7 @@ fn is_told(candidate: Candidate, wanted: &[Candidate]) -> bool {
 
 /// The kinds of which a token may come after the text, in the table's order, without those that another one tells too.
 /// The error is out of memory.
-pub fn wanted_after(alloc: Global, before: &[u8]) -> Result<Vec<Candidate>, AllocError>
+pub(crate) fn wanted_after(alloc: Global, before: &[u8]) -> Result<Vec<Candidate>, AllocError>
     ensures { IfOk result (λ wanted. All (MayBeThere before.now) wanted.items) }
 {
     let mut wanted = Vec::new(alloc);

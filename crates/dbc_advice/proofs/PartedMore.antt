@@ -1,5 +1,5 @@
 -- One more skipped statement, told by itself or left.
-use Rattle.std.proofs.Common.{◌≡◌, ◌+◌, ◌<◌, ◌≤◌, ℕ, Bool, true, false, List, [], ◌∷◌, ◌++◌, Option, Some, None, length, take, get_or, refl, sym, ap, ◌∙◌, arith, append-nil, length-append}
+use Rattle.std.proofs.Common.{◌≡◌, ◌+◌, ◌<◌, ◌≤◌, ℕ, Bool, true, false, List, [], ◌∷◌, ◌++◌, Option, Some, None, length, take, get_or, refl, sym, ap, subst, ◌∙◌, arith, append-nil, length-append}
 use Rattle.std.specs.Prelude.{nat_lt, if◌then◌else◌}
 use Rattle.std.specs.List.{flat_map}
 use Rattle.std.proofs.lemmas.Bool.Decides.{nat_tests}
@@ -82,3 +82,20 @@ module _ (file text : List ℕ) (s : Sheet) where
         missing = told.missing ∙ ap (λ (ms : List Missing). length ms) (sym more);
         others = e ∙ ap (λ (xs : List Passed). xs ++ get_or ps i d ∷ []) told.others ∙ sym (others_more ps i d None lt is);
       }
+
+  -- the same along a list that is shown
+  pub cited_after : (passed shown : List Passed) (i : ℕ) (d : Passed) (c : Cited) (lines new : List ℕ) (missing : ℕ) (others : List Passed) → shown ≡ passed → i < length shown
+      → Some c ≡ missing_at s text (get_or shown i d) → Told (take i passed) lines missing others → new ≡ lines ++ line_after missing file text (get_or shown i d, c)
+      → Told (take (i + 1) passed) new (missing + 1) others
+  cited_after passed shown i d c lines new missing others same lt is told e =
+      let P : List Passed → Type 0 = λ (ps : List Passed). Told (take i ps) lines missing others → Told (take (i + 1) ps) new (missing + 1) others in
+      let here : P shown = λ before. told_cited shown i d c lines new missing others lt is before e in
+      subst P same here told
+
+  pub other_after : (passed shown : List Passed) (i : ℕ) (d : Passed) (lines : List ℕ) (missing : ℕ) (others new : List Passed) → shown ≡ passed → i < length shown
+      → None ≡ missing_at s text (get_or shown i d) → Told (take i passed) lines missing others → new ≡ others ++ get_or shown i d ∷ []
+      → Told (take (i + 1) passed) lines missing new
+  other_after passed shown i d lines missing others new same lt is told e =
+      let P : List Passed → Type 0 = λ (ps : List Passed). Told (take i ps) lines missing others → Told (take (i + 1) ps) lines missing new in
+      let here : P shown = λ before. told_other shown i d lines missing others new lt is before e in
+      subst P same here told

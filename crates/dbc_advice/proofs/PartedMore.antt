@@ -54,10 +54,10 @@ module _ (file text : List ℕ) (s : Sheet) where
       ∙ ap (λ (c : Option Cited). all_others s text (take i ps) ++ without_missing (get_or ps i d) c) (sym is)
 
   -- the invariant of telling them: the lines of these, how many cite what is missing, and the others
-  pub record Told (ps : List Passed) (lines : List ℕ) (missing : ℕ) (others : List Passed) : Type 0 where
-    pub lines : lines ≡ missing_lines file text (all_missing s text ps)
-    pub missing : missing ≡ length (all_missing s text ps)
-    pub others : others ≡ all_others s text ps
+  pub record Told (ps : List Passed) (told : List ℕ) (count : ℕ) (left : List Passed) : Type 0 where
+    pub lines : told ≡ missing_lines file text (all_missing s text ps)
+    pub missing : count ≡ length (all_missing s text ps)
+    pub others : left ≡ all_others s text ps
 
   pub told_cited : (ps : List Passed) (i : ℕ) (d : Passed) (c : Cited) (lines new : List ℕ) (missing : ℕ) (others : List Passed) → i < length ps → Some c ≡ missing_at s text (get_or ps i d)
       → Told (take i ps) lines missing others → new ≡ lines ++ line_after missing file text (get_or ps i d, c) → Told (take (i + 1) ps) new (missing + 1) others

@@ -21,30 +21,30 @@ use Rattle.dbc_advice.specs.declared.citation.Citation.TheVariants as citing
 
 -- what is cited: a node by its name, a message by the digits of its number, or a signal by those of its message and its name
 pub data Cited : Type 0 where
-  Node : List ℕ → Cited
-  Message : List ℕ → Cited
-  Signal : List ℕ → List ℕ → Cited
+  OfNode : List ℕ → Cited
+  OfMessage : List ℕ → Cited
+  OfSignal : List ℕ → List ℕ → Cited
 
 abbrev pub cited_of : Citation → Cited
-cited_of (citing.Node name) = Node name.now
-cited_of (citing.Message number) = Message number.now
-cited_of (citing.Signal number name) = Signal number.now name.now
+cited_of (citing.Node name) = OfNode name.now
+cited_of (citing.Message number) = OfMessage number.now
+cited_of (citing.Signal number name) = OfSignal number.now name.now
 
 -- ---- what the tokens of a statement cite
 
 abbrev pub cited_node : List Token → Option Cited
 cited_node [] = None
-cited_node (name ∷ rest) = Some (Node name.text)
+cited_node (name ∷ rest) = Some (OfNode name.text)
 
 abbrev pub cited_number : List Token → Option Cited
 cited_number [] = None
-cited_number (number ∷ rest) = Some (Message number.text)
+cited_number (number ∷ rest) = Some (OfMessage number.text)
 
 -- `NUMBER NAME`
 abbrev pub cited_signal : List Token → Option Cited
 cited_signal [] = None
 cited_signal (number ∷ []) = None
-cited_signal (number ∷ (name ∷ rest)) = if is_a Number number then Some (Signal number.text name.text) else None
+cited_signal (number ∷ (name ∷ rest)) = if is_a Number number then Some (OfSignal number.text name.text) else None
 
 -- of a comment: `BU_ NAME`, `BO_ NUMBER` or `SG_ NUMBER NAME`
 abbrev pub cited_by_kind : Option Keyword → List Token → Option Cited
@@ -90,16 +90,16 @@ abbrev pub has_signal : Sheet → List ℕ → List ℕ → Bool
 has_signal s number name = option_map_or (λ (m : Message). has_name signal_name m.signals name) (cited_message s number) false
 
 abbrev pub is_missing : Sheet → Cited → Bool
-is_missing s (Node name) = not (has_name node_name s.nodes name)
-is_missing s (Message number) = is_none (cited_message s number)
-is_missing s (Signal number name) = not (has_signal s number name)
+is_missing s (OfNode name) = not (has_name node_name s.nodes name)
+is_missing s (OfMessage number) = is_none (cited_message s number)
+is_missing s (OfSignal number name) = not (has_signal s number name)
 
 -- ---- what is said of it
 
 abbrev pub cited_text : Cited → List ℕ
-cited_text (Node name) = codes "it is about node " ++ name
-cited_text (Message number) = codes "it is about message " ++ number
-cited_text (Signal number name) = codes "it is about signal " ++ (name ++ (codes " of message " ++ number))
+cited_text (OfNode name) = codes "it is about node " ++ name
+cited_text (OfMessage number) = codes "it is about message " ++ number
+cited_text (OfSignal number name) = codes "it is about signal " ++ (name ++ (codes " of message " ++ number))
 
 abbrev pub citation_text : Cited → List ℕ
 citation_text cited = cited_text cited ++ codes ", which isn't in the file"

@@ -46,7 +46,12 @@ fn blanked_between(
 
 /// The text, where each byte of the lines from that of the offset `first` to that of the offset `last`, other than CR
 /// and LF, is a space. So offsets and lines stay. The error is out of memory.
-pub(crate) fn blanked(alloc: Global, text: &[u8], first: usize, last: usize) -> Result<Vec<u8>, AllocError>
+pub(crate) fn blanked(
+    alloc: Global,
+    text: &[u8],
+    first: usize,
+    last: usize,
+) -> Result<Vec<u8>, AllocError>
     requires ordered { first ≤ last }
     requires within { last ≤ length text.now }
     ensures { IfOk result (λ rest. rest.items ≡ blanked first last text.now) }

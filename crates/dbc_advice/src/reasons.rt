@@ -134,7 +134,11 @@ pub(crate) const REASONS_TOLD: usize = 100;
 /// The reasons why the places do not fit together in a message of `bytes` bytes: of each place, in order, that a bit is
 /// outside, that there is no multiplexor, and each earlier place with which it shares a bit. After more than
 /// [`REASONS_TOLD`] no further place is looked at. The error is out of memory.
-pub(crate) fn reasons_of(alloc: Global, places: &[Place], bytes: u16) -> Result<Vec<Reason>, AllocError>
+pub(crate) fn reasons_of(
+    alloc: Global,
+    places: &[Place],
+    bytes: u16,
+) -> Result<Vec<Reason>, AllocError>
     requires { bytes ≤ length_limit }
     ensures { IfOk result (λ reasons. AreReasons bytes places.now reasons.items) }
 {

@@ -128,7 +128,11 @@ fn overlap_text(
 
 /// What is said of a reason why the message isn't clear: both signals' names and the first shared bit, or the first bit
 /// outside the payload; and the message's name and identifier, in hexadecimal digits. The error is out of memory.
-pub(crate) fn reason_text(alloc: Global, message: &Message, reason: Reason) -> Result<Vec<u8>, AllocError>
+pub(crate) fn reason_text(
+    alloc: Global,
+    message: &Message,
+    reason: Reason,
+) -> Result<Vec<u8>, AllocError>
     ensures { IfOk result (λ text. text.items ≡ reason_text message.now reason) }
 {
     match reason.clash {

@@ -1,7 +1,6 @@
-use Rattle.std.proofs.Common.{ℕ, List, ◌++◌, ap, subst, ◌∙◌, arith}
-use Rattle.dbc_read.specs.declared.passed.Passed.{Passed}
+use Rattle.std.proofs.Common.{ℕ, List, ◌++◌, ap, ◌∙◌, arith}
 use Rattle.dbc_advice.specs.Citation.{cited_of}
-use Rattle.dbc_advice.proofs.PartedMore.{Told, cited_after, other_after}
+use Rattle.dbc_advice.proofs.PartedMore.{cited_after, other_after}
 use Rattle.dbc_advice.proofs.leaving.parted.Goals as goal
 use Rattle.dbc_advice.proofs.leaving.parted.Goals.{in-Some+in_ok-line-in-Some+in_ok-extend_from_slice-in-Some, in-None+in_ok-push-in-None}
 

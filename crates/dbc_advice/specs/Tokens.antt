@@ -1,5 +1,5 @@
 -- Tokens taken one by one, and what is found where a fault is.
-use Rattle.std.specs.Prelude.{◌≡◌, ℕ, List, [], ◌∷◌, Option, Some, None, drop, slice_get, slice_range}
+use Rattle.std.specs.Prelude.{◌≡◌, ℕ, List, [], ◌∷◌, Option, Some, None, slice_get, slice_range}
 use Rattle.std.specs.Option.{unwrap_or}
 use Rattle.catalogue.specs.Fields.{key_of}
 use Rattle.catalogue.specs.Lexing.{Lexed, LexFault, StrayByte, UnclosedText, lexed}

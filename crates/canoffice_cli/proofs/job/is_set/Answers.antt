@@ -1,4 +1,4 @@
-use Rattle.std.proofs.Common.{◌≡◌, Option, None, Some, List, ℕ, map, option_map, subst, ◌∙◌}
+use Rattle.std.proofs.Common.{◌≡◌, Option, None, Some, List, ℕ, option_map, subst, ◌∙◌}
 use Rattle.std.specs.Borrow.{Bor}
 use Rattle.clap.specs.Words.{first_value, found_of}
 use Rattle.canoffice_cli.proofs.CommandLine.{flag_in_rows}

@@ -1,6 +1,7 @@
 # Reads a script and its replies, and writes the same as HTTP requests with JSON bodies (`requests`) and the responses that
 # are due (`stdout`). Called as `awk -f json.awk script.txt replies`. What is written %XX is sent as \u00XX: the same byte up to
 # 7F, and above it the character of that number, in two bytes, since JSON has no other text. The replies tell no text.
+# After the lines it looks at the list of networks, and of each network at what isn't there.
 
 function is_number(name) {
     return name ~ /^(reviews|first|last|length|want|destination|priority|source|size|start|same)$/
@@ -54,8 +55,19 @@ function send_file(words,    name, file, count, size) {
     system("cat " file " >>requests; echo >>requests")
 }
 
+# What the line asks for of which network, if it is the first one of its team and key.
+function note(count, words,    i) {
+    if (words[1] != "-" && seen[words[2] " " words[1]]++) return
+    asked[lines] = words[3]
+    for (i = 4; i <= count; i++) {
+        if (words[i] ~ /^net=/) asked_net[lines] = substr(words[i], 5)
+        if (words[i] ~ /^kind=/) asked_kind[lines] = substr(words[i], 6)
+    }
+}
+
 function send(count, words,    body) {
     lines++
+    note(count, words)
     if (words[3] == "import") {
         send_file(words)
         return
@@ -76,8 +88,26 @@ function reply_body(words) {
     return "{\"name\":\"" words[3] "\",\"refused\":" words[2] "}"
 }
 
+# What the reply makes of the network: it is opened, or its state changes, or there is one release more.
+function take(words,    net) {
+    net = asked_net[replies]
+    if (net != "") mentioned[net] = 1
+    if (words[1] == "release" && asked[replies] == "release") {
+        releases[net]++
+        state[net] = "draft"
+    }
+    if (words[1] != "done") return
+    if (asked[replies] == "open_net") {
+        kind[net] = asked_kind[replies]
+        releases[net] = 0
+    }
+    if (asked[replies] ~ /^(open_net|reject)$/) state[net] = "draft"
+    if (asked[replies] == "submit") state[net] = "review"
+}
+
 function expect(words,    status, body) {
     replies++
+    take(words)
     status = "200 OK"
     if (words[1] == "refused") status = "409 Conflict"
     if (words[3] == "NoNet") status = "404 Not Found"
@@ -87,8 +117,54 @@ function expect(words,    status, body) {
     printf "Connection: close\r\n\r\n%s\n", body >"stdout"
 }
 
+function look(target) {
+    printf "# %s\nGET %s HTTP/1.1\n\n\n", target, target >>"requests"
+}
+
+function look_for_nothing(target) {
+    look(target)
+    printf "# %s\nHTTP/1.1 404 Not Found\r\nContent-Type: application/json\r\nContent-Length: 21\r\n", target >"stdout"
+    printf "Connection: close\r\n\r\n{\"error\":\"not found\"}\n" >"stdout"
+}
+
+# A line for each network, in the order of their names.
+function net_list(    left, net, least, text) {
+    for (net in kind) left[net] = 1
+    text = ""
+    while (1) {
+        least = ""
+        for (net in left) if (least == "" || net < least) least = net
+        if (least == "") return text
+        delete left[least]
+        text = text least " " kind[least] " " state[least] " " releases[least] "\n"
+    }
+}
+
+function look_at_list(    text) {
+    text = net_list()
+    look("/nets")
+    printf "# /nets\nHTTP/1.1 200 OK\r\nContent-Type: text/plain\r\nContent-Length: %d\r\n", length(text) >"stdout"
+    printf "Connection: close\r\n\r\n%s\n", text >"stdout"
+}
+
+function look_at_all(    net) {
+    look_at_list()
+    for (net in mentioned) {
+        look_for_nothing("/nets/" net "/releases/" (releases[net] + 1))
+        look_for_nothing("/nets/" net "/messages/NoMessageOfThisName")
+        if (net in kind) continue
+        look_for_nothing("/nets/" net)
+        look_for_nothing("/nets/" net "/live")
+    }
+}
+
 BEGIN { printf "" >"requests"; close("requests"); printf "" >"stdout" }
 /^#/ || /^$/ { next }
 { count = split($0, words, " ") }
 FILENAME == "script.txt" { send(count, words) }
 FILENAME != "script.txt" { expect(words) }
+END {
+    look_at_all()
+    # All requests together are answered as each was alone.
+    print "in one call: the same" >"stdout"
+}

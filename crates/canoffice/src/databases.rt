@@ -1,5 +1,5 @@
 //! The databases of the machine that the program runs on.
-ghost use Rattle.std.specs.Prelude.{◌≡◌, IfOk, false};
+ghost use Rattle.std.specs.Prelude.{◌≡◌, ◌⊎◌, IfErr, IfOk, Err, Ok, false};
 ghost use Rattle.sqlite.specs.Files.{file_state};
 
 use canoffice_cli::{
@@ -12,7 +12,8 @@ use std::alloc::{AllocError, Global};
 use std::io::Write;
 use store::{Lost, Office, Question};
 
-/// The machine's database files, as SQLite has them. Nothing is known of them, since no contract speaks of the machine's disk.
+/// The machine's database files, as SQLite has them. Nothing is known of them, since no contract speaks of the machine's
+/// disk.
 #[derive(Clone, Copy)]
 pub struct HostDatabases<'r> {
     /// The runtime.
@@ -47,11 +48,26 @@ fn serve_at(
     count: u32,
 ) -> Result<(), ServeFault> {
     let mut listener = listen(rt, port)?;
-    if let Ok(address) = listener.address() {
-        let mut errors = rt.stderr();
-        let _told = writeln!(errors, "listening on {address}");
-    }
+    let Ok(address) = listener.address() else {
+        return Err(ServeFault::Listen);
+    };
+    let mut errors = rt.stderr();
+    let _told = writeln!(errors, "listening on {address}");
     serve(rt.alloc(), office, &mut listener, count)
+}
+
+/// How serving ended, as the program says it.
+fn end_of(served: Result<(), ServeFault>) -> Result<(), ServeEnd>
+    ensures done { IfOk result (λ done. served ≡ Ok done) }
+    ensures listen { IfErr result (λ end. end ≡ ServeEnd.CannotListen → served ≡ Err ServeFault.Listen) }
+    ensures accept { IfErr result (λ end. end ≡ ServeEnd.CannotAccept → served ≡ Err ServeFault.Accept) }
+    ensures no_other { IfErr result (λ end. (end ≡ ServeEnd.CannotListen) ⊎ (end ≡ ServeEnd.CannotAccept)) }
+{
+    match served {
+        Ok(()) => Ok(()),
+        Err(ServeFault::Listen) => Err(ServeEnd::CannotListen),
+        Err(ServeFault::Accept) => Err(ServeEnd::CannotAccept),
+    }
 }
 
 /// Serves connections of the port by an office on the connection, which is given back.
@@ -65,12 +81,8 @@ fn serve_on(
 {
     match Office::open(conn) {
         Ok(mut office) => {
-            let served = match serve_at(rt, &mut office, port, count) {
-                Ok(()) => Ok(()),
-                Err(ServeFault::Listen) => Err(ServeEnd::CannotListen),
-                Err(ServeFault::Accept) => Err(ServeEnd::CannotAccept),
-            };
-            (served, office.close())
+            let served = serve_at(rt, &mut office, port, count);
+            (end_of(served), office.close())
         }
         Err((lost, conn)) => (Err(ServeEnd::IsLost(lost)), conn),
     }

@@ -1,8 +1,8 @@
 -- What clap's matches and errors say of the job and of the fault.
-use Rattle.std.proofs.Common.{◌≡◌, ◌∷◌, map, ◌⊎◌, inl, inr, List, Option, Some, None, option_map, refl, subst, true, sym, ◌∙◌}
+use Rattle.std.proofs.Common.{◌≡◌, ◌∷◌, map, ◌⊎◌, inl, inr, ap, Bool, List, Option, Some, None, codes, option_map, refl, subst, true, false, sym, ◌∙◌}
 use Rattle.std.specs.Prelude.{find}
 use Rattle.std.specs.Borrow.{Bor}
-use Rattle.std.specs.Option.{IsSome}
+use Rattle.std.specs.Option.{IsSome, option_map_or}
 use Rattle.std.specs.Str.{bytes_eq}
 use Rattle.std.proofs.lemmas.Slice.Eq.{bytes_eq-Decides}
 use Rattle.std.specs.Prelude.{Box}
@@ -14,9 +14,9 @@ use Rattle.clap.specs.declared.parser.matches.SubCommand.{SubCommand}
 use Rattle.clap.specs.Words.{App, subcommand_name_of, subcommand_rows_of, IsAmong, Row, Text, all_of, matched_of, raw_values, first_value, fault_of, first_of, is_simple_and_free, rows_of}
 use Rattle.clap.specs.declared.error.kind.ErrorKind.{ErrorKind}
 use Rattle.clap.specs.declared.error.kind.ErrorKind.TheVariants.{OutOfMemory}
-use Rattle.canoffice_cli.specs.CommandLine.{IsFaultOfKind, IsLineFault, HasSome, IsEntered, IsWhole, canoffice_app, line_faults}
+use Rattle.canoffice_cli.specs.CommandLine.{HasSome, HasWrongNumber, IsEntered, IsFaultOfKind, IsLineFault, IsWhole, IsWrongWordFault, canoffice_app, is_set, line_faults}
 use Rattle.canoffice_cli.specs.declared.job.LineFault.{LineFault}
-use Rattle.canoffice_cli.specs.declared.job.LineFault.TheVariants.{Help, Usage, Memory}
+use Rattle.canoffice_cli.specs.declared.job.LineFault.TheVariants.{Help, Version, Usage, Memory}
 use Rattle.clap.specs.declared.parser.matches.Found.{Found}
 use Rattle.clap.proofs.WalkLemmas.{first_value-rows, raw_values-rows}
 
@@ -27,6 +27,13 @@ value_in_rows f id text e = sym (first_value-rows f id) ∙ e
 -- and of an argument that may be absent, there is one in the rows where the getter gives one
 pub optional_in_rows : (f : Found) (id : Text) (r : Option Text) → r ≡ first_value f id → first_of id (rows_of f) ≡ r
 optional_in_rows f id r e = sym (first_value-rows f id) ∙ sym e
+
+-- a flag is set where the value that a getter gives is `true`
+abbrev means_set : Option Text → Bool
+means_set value = option_map_or (λ v. bytes_eq v (codes "true")) value false
+
+pub flag_in_rows : (f : Found) (id : Text) (r : Option (Bor Text)) → option_map (λ s. s.now) r ≡ first_value f id → means_set (option_map (λ s. s.now) r) ≡ is_set (rows_of f) id
+flag_in_rows f id r e = ap means_set (e ∙ first_value-rows f id)
 
 -- the values that a getter gives are those that are in the rows
 pub values_in_rows : (f : Found) (id : Text) (vs : List Text) → option_map raw_values (matched_of f id) ≡ Some vs → all_of id (rows_of f) ≡ Some vs
@@ -47,9 +54,18 @@ found_pair m name rows a b = pair_of_parts (out-ArgMatches m).subcommand name ro
 pub line_fault_of : (words : List Text) (kind : ErrorKind) (fault : LineFault) → (kind ≡ OutOfMemory) ⊎ IsAmong kind (line_faults words) → IsFaultOfKind kind fault → IsLineFault words fault
 line_fault_of words kind (Help text) (inl memory) is = cc
 line_fault_of words kind (Help text) (inr among) is = subst (λ k. IsAmong k (line_faults words)) is among
-line_fault_of words kind (Usage text) (inl memory) is = absurd (is.1 memory)
-line_fault_of words kind (Usage text) (inr among) is = (kind, is.0, among)
+line_fault_of words kind (Version text) (inl memory) is = cc
+line_fault_of words kind (Version text) (inr among) is = subst (λ k. IsAmong k (line_faults words)) is among
+line_fault_of words kind (Usage text) (inl memory) is = absurd (is.2 memory)
+line_fault_of words kind (Usage text) (inr among) is = inl (kind, is.0, is.1, among)
 line_fault_of words kind Memory has is = tt
+
+-- a wrong number of the subcommand that was entered is one that the words have
+pub wrong_number_of : (words : List Text) (word : Text) (fault : LineFault) → HasWrongNumber words word → IsWrongWordFault word fault → IsLineFault words fault
+wrong_number_of words word (Help text) has is = absurd is
+wrong_number_of words word (Version text) has is = absurd is
+wrong_number_of words word (Usage text) has is = inr (word, has, is)
+wrong_number_of words word Memory has is = tt
 
 is_simple_line : is_simple_and_free canoffice_app ≡ true
 is_simple_line = refl

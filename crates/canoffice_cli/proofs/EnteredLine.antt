@@ -5,8 +5,9 @@ use Rattle.std.proofs.lemmas.Slice.Eq.{bytes_eq-Decides}
 use Rattle.clap.specs.Faults.{fault_of, is_simple_and_free}
 use Rattle.clap.specs.declared.parser.matches.ArgMatches.{ArgMatches}
 use Rattle.clap.specs.Walk.{Text, answers_to, rows_after}
+use Rattle.clap.specs.Words.{Row}
 use Rattle.clap.specs.Simple.{App, HasMatchesOf, Shape, subcommand_rows_of, built, label_of, subcommand_of}
-use Rattle.canoffice_cli.specs.CommandLine.{HasSome, IsEntered, IsJob, IsJobIn, canoffice_app, line_faults}
+use Rattle.canoffice_cli.specs.CommandLine.{HasSome, HasWrongNumber, IsEntered, IsJob, IsJobIn, IsWrongNumber, canoffice_app, line_faults}
 use Rattle.canoffice_cli.specs.declared.job.Job.{Job}
 use Rattle.canoffice_cli.proofs.NoFault.{Among}
 use Rattle.canoffice_cli.proofs.FilledWalk.{IsNoHelp}
@@ -32,7 +33,7 @@ own_entered : (s : Shape) (called : Text) (rest : List Text) → Among s (built 
 own_entered s called rest (inl same) answers no_help passes =
     let name : s.name ≡ codes "apply" = ap (λ x. x.name) same in
     let script = needed s rest (codes "SCRIPT") passes (ap (λ x. needs_value x.rules (codes "SCRIPT")) same) in
-    subst (λ n. IsEntered (Some (n, rows_after s.rules [] rest))) (sym name) ((λ never. absurd (true≢false (sym never))), ((λ _. script), tt))
+    subst (λ n. IsEntered (Some (n, rows_after s.rules [] rest))) (sym name) ((λ never. absurd (true≢false (sym never))), ((λ never. absurd (true≢false (sym never))), ((λ _. script), tt)))
 own_entered s called rest (inr (inl same)) answers no_help passes =
     let name : s.name ≡ codes "chart" = ap (λ x. x.name) same in
     let length = needed s rest (codes "LENGTH") passes (ap (λ x. needs_value x.rules (codes "LENGTH")) same) in
@@ -41,7 +42,7 @@ own_entered s called rest (inr (inl same)) answers no_help passes =
 own_entered s called rest (inr (inr (inl same))) answers no_help passes =
     let name : s.name ≡ codes "check" = ap (λ x. x.name) same in
     let file = needed s rest (codes "FILE") passes (ap (λ x. needs_value x.rules (codes "FILE")) same) in
-    subst (λ n. IsEntered (Some (n, rows_after s.rules [] rest))) (sym name) ((λ _. file), tt)
+    subst (λ n. IsEntered (Some (n, rows_after s.rules [] rest))) (sym name) ((λ never. absurd (true≢false (sym never))), ((λ _. file), tt))
 own_entered s called rest (inr (inr (inr (inl same)))) answers no_help passes =
     let name : s.name ≡ codes "export" = ap (λ x. x.name) same in
     let database = needed s rest (codes "db") passes (ap (λ x. needs_value x.rules (codes "db")) same) in
@@ -51,7 +52,7 @@ own_entered s called rest (inr (inr (inr (inl same)))) answers no_help passes =
 own_entered s called rest (inr (inr (inr (inr (inl same))))) answers no_help passes =
     let name : s.name ≡ codes "format" = ap (λ x. x.name) same in
     let file = needed s rest (codes "FILE") passes (ap (λ x. needs_value x.rules (codes "FILE")) same) in
-    subst (λ n. IsEntered (Some (n, rows_after s.rules [] rest))) (sym name) ((λ _. file), tt)
+    subst (λ n. IsEntered (Some (n, rows_after s.rules [] rest))) (sym name) ((λ never. absurd (true≢false (sym never))), ((λ _. file), tt))
 own_entered s called rest (inr (inr (inr (inr (inr (inl same)))))) answers no_help passes =
     let name : s.name ≡ codes "serve" = ap (λ x. x.name) same in
     let database = needed s rest (codes "db") passes (ap (λ x. needs_value x.rules (codes "db")) same) in
@@ -90,3 +91,8 @@ line_is_read app words m is passes matches =
 -- the job that is in such matches is the job of the words
 pub job_of_read : (words : List Text) (m : ArgMatches) (job : Job) → IsLineRead words m → IsJobIn (subcommand_rows_of m) job → IsJob words job
 job_of_read words m job read is = (read.faultless, subst (λ found. IsJobIn found job) read.same is)
+
+-- a wrong number that is in such matches is one that the words have
+pub wrong_number_read : (words : List Text) (m : ArgMatches) (word : Text) → IsLineRead words m
+    → ((name : Text) × (rows : List Row) × (subcommand_rows_of m ≡ Some (name, rows)) × IsWrongNumber name rows word) → HasWrongNumber words word
+wrong_number_read words m word read w = (read.faultless, w.0, w.1, sym read.same ∙ w.2, w.3)

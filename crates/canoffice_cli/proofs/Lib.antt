@@ -5,6 +5,7 @@ pub mod Performed
 pub mod WrongWords
 pub mod Commands
 pub mod FileJobs
+pub mod SaidMore
 pub mod Canonical
 pub mod PassedLines
 pub mod NoFault

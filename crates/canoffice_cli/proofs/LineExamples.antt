@@ -1,9 +1,9 @@
 -- What the definitions of the command line say of words that are written out.
-use Rattle.std.proofs.Common.{◌≡◌, List, [], ◌∷◌, Option, Some, None, codes, option_map, refl}
+use Rattle.std.proofs.Common.{◌≡◌, Bool, true, false, List, [], ◌∷◌, Option, Some, None, codes, option_map, refl}
 use Rattle.clap.specs.Words.{Row, Text, all_of, first_of, subcommand_of}
-use Rattle.clap.specs.declared.error.kind.ErrorKind.TheVariants.{DisplayHelp, DisplayHelpOnMissingArgumentOrSubcommand, InvalidSubcommand, InvalidValue, MissingRequiredArgument, UnknownArgument}
+use Rattle.clap.specs.declared.error.kind.ErrorKind.TheVariants.{ArgumentConflict, DisplayHelp, DisplayHelpOnMissingArgumentOrSubcommand, DisplayVersion, InvalidSubcommand, InvalidValue, MissingRequiredArgument, TooManyValues, UnknownArgument}
 use Rattle.clap.proofs.OnLiterals.{clap_on_literals}
-use Rattle.canoffice_cli.specs.CommandLine.{canoffice_app, line_faults}
+use Rattle.canoffice_cli.specs.CommandLine.{canoffice_app, is_set, line_faults}
 
 no_word : line_faults (codes "canoffice" ∷ []) ≡ DisplayHelpOnMissingArgumentOrSubcommand ∷ []
 unfolding clap_on_literals
@@ -12,6 +12,15 @@ no_word = refl
 help_flag : line_faults (codes "canoffice" ∷ codes "--help" ∷ []) ≡ DisplayHelp ∷ []
 unfolding clap_on_literals
 help_flag = refl
+
+version_flag : line_faults (codes "canoffice" ∷ codes "--version" ∷ []) ≡ DisplayVersion ∷ []
+unfolding clap_on_literals
+version_flag = refl
+
+-- the version is the program's, and no subcommand has one
+version_of_check : line_faults (codes "canoffice" ∷ codes "check" ∷ codes "--version" ∷ []) ≡ UnknownArgument ∷ []
+unfolding clap_on_literals
+version_of_check = refl
 
 unknown_subcommand : line_faults (codes "canoffice" ∷ codes "frob" ∷ []) ≡ UnknownArgument ∷ InvalidSubcommand ∷ []
 unfolding clap_on_literals
@@ -110,3 +119,67 @@ its_length = refl
 its_signals : signals_in (subcommand_of canoffice_app two_signals) ≡ Some (Some (codes "A=0|1@1" ∷ codes "B=1|1@1" ∷ []))
 unfolding clap_on_literals
 its_signals = refl
+
+-- ---- `--explain` and `-`
+
+abbrev explain_in : Option (Text × List Row) → Option Bool
+explain_in = option_map (λ found. is_set found.1 (codes "explain"))
+
+abbrev file_in : Option (Text × List Row) → Option (Option Text)
+file_in = option_map (λ found. first_of (codes "FILE") found.1)
+
+abbrev a_check : List Text
+a_check = codes "canoffice" ∷ codes "check" ∷ codes "-" ∷ []
+
+check_of_input : line_faults a_check ≡ []
+unfolding clap_on_literals
+check_of_input = refl
+
+-- `-` is a value like any other word
+its_input : file_in (subcommand_of canoffice_app a_check) ≡ Some (Some (codes "-"))
+unfolding clap_on_literals
+its_input = refl
+
+not_explained : explain_in (subcommand_of canoffice_app a_check) ≡ Some false
+unfolding clap_on_literals
+not_explained = refl
+
+abbrev an_explained_check : List Text
+an_explained_check = codes "canoffice" ∷ codes "check" ∷ codes "--explain" ∷ codes "a.dbc" ∷ []
+
+explained_check : line_faults an_explained_check ≡ []
+unfolding clap_on_literals
+explained_check = refl
+
+is_explained : explain_in (subcommand_of canoffice_app an_explained_check) ≡ Some true
+unfolding clap_on_literals
+is_explained = refl
+
+its_file : file_in (subcommand_of canoffice_app an_explained_check) ≡ Some (Some (codes "a.dbc"))
+unfolding clap_on_literals
+its_file = refl
+
+-- the flag may come after the file
+flag_at_the_end : explain_in (subcommand_of canoffice_app (codes "canoffice" ∷ codes "format" ∷ codes "a.dbc" ∷ codes "--explain" ∷ [])) ≡ Some true
+unfolding clap_on_literals
+flag_at_the_end = refl
+
+explained_script : explain_in (subcommand_of canoffice_app (codes "canoffice" ∷ codes "apply" ∷ codes "--explain" ∷ codes "a.txt" ∷ [])) ≡ Some true
+unfolding clap_on_literals
+explained_script = refl
+
+flag_without_a_file : line_faults (codes "canoffice" ∷ codes "check" ∷ codes "--explain" ∷ []) ≡ MissingRequiredArgument ∷ []
+unfolding clap_on_literals
+flag_without_a_file = refl
+
+flag_twice : line_faults (codes "canoffice" ∷ codes "check" ∷ codes "--explain" ∷ codes "--explain" ∷ codes "a.dbc" ∷ []) ≡ ArgumentConflict ∷ []
+unfolding clap_on_literals
+flag_twice = refl
+
+flag_with_a_value : line_faults (codes "canoffice" ∷ codes "check" ∷ codes "--explain=yes" ∷ codes "a.dbc" ∷ []) ≡ TooManyValues ∷ []
+unfolding clap_on_literals
+flag_with_a_value = refl
+
+flag_of_a_table : line_faults (codes "canoffice" ∷ codes "table" ∷ codes "--explain" ∷ codes "a.dbc" ∷ []) ≡ UnknownArgument ∷ []
+unfolding clap_on_literals
+flag_of_a_table = refl

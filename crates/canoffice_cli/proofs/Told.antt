@@ -5,13 +5,13 @@ use Rattle.sqlite.specs.State.{State}
 use Rattle.office_history.specs.Answering.{told}
 use Rattle.office_history.specs.declared.arrival.Answer.{Answer}
 use Rattle.office_history.specs.declared.arrival.Arrival.{Arrival}
-use Rattle.office_history.specs.History.{Answered, IsLegal}
+use Rattle.office_history.specs.History.{Answered, IsLegal, IsLegalHistory}
 use Rattle.office_history.specs.Laws.{HistoriesGrow}
 use Rattle.store.specs.declared.lost.Lost.{Lost}
 use Rattle.store.specs.Holding.{Holding, Keeps}
 use Rattle.store.specs.Opening.{HasNone, HasTables}
 use Rattle.canoffice_cli.specs.Answered.{InDatabase, answered_with}
-use Rattle.canoffice_cli.specs.Databases.{Begins, Databases, IsLegalHistory}
+use Rattle.canoffice_cli.specs.Databases.{Begins, Databases}
 
 -- one more arrival, with its answer
 told_more : (xs : List Arrival) (ys : List Answer) (a : Arrival) (answer : Answer) → length ys ≡ length xs → answered_with (xs ++ a ∷ []) (ys ++ answer ∷ []) ≡ answered_with xs ys ++ told a answer ∷ []

@@ -5,11 +5,11 @@ use Rattle.office_types.specs.Reply.{reply_text}
 use Rattle.office_history.specs.declared.arrival.Answer.{Answer}
 use Rattle.office_history.specs.declared.arrival.Answer.TheVariants.{Reply, KeyReused}
 use Rattle.office_history.specs.declared.arrival.Arrival.{Arrival}
-use Rattle.office_history.specs.History.{Answered}
+use Rattle.office_history.specs.History.{Answered, IsLegalHistory}
 use Rattle.store.specs.declared.lost.Lost.{Lost}
 use Rattle.store.specs.Lost.{lost_text}
 use Rattle.store.specs.Running.{answered_of}
-use Rattle.canoffice_cli.specs.Databases.{Databases, IsLegalHistory}
+use Rattle.canoffice_cli.specs.Databases.{Databases}
 use Rattle.canoffice_cli.specs.Outcome.{Outcome, success}
 use Rattle.canoffice_cli.specs.declared.report.Status.TheVariants.{Failed}
 

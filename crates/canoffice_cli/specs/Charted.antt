@@ -2,7 +2,7 @@
 use Rattle.std.specs.Prelude.{◌≡◌, ◌⊎◌, ℕ, List, [], map, take, Some, None, is_none, if◌then◌else◌, slice_get}
 use Rattle.chart.specs.declared.signal.ChartSignal.{ChartSignal}
 use Rattle.chart.specs.Text.{chart_of, clash_of}
-use Rattle.chart.specs.Word.{length_of, signal_of}
+use Rattle.chart.specs.Word.{signal_of}
 use Rattle.canoffice_cli.specs.Outcome.{Outcome, wrong_word}
 use Rattle.canoffice_cli.specs.declared.report.Status.TheVariants.{Success, FaultFound}
 
@@ -20,9 +20,8 @@ abbrev pub IsFirstWrongWord : List (List ℕ) → List ℕ → Type 0
 IsFirstWrongWord words word =
     (k : ℕ) × (signals : List ChartSignal) × (slice_get words k ≡ Some word) × (signal_of word ≡ None) × AreSignals (take k words) signals
 
--- the signals were charted; or the length, or else the first malformed word, is printed
-abbrev pub IsChartOutcome : List ℕ → List (List ℕ) → Outcome → Type 0
-IsChartOutcome length words o =
-    ((bytes : ℕ) × (signals : List ChartSignal) × (length_of length ≡ Some bytes) × AreSignals words signals × (o ≡ chart_outcome bytes signals))
-    ⊎ (((length_of length ≡ None) × (o ≡ wrong_word length))
-    ⊎ ((bytes : ℕ) × (word : List ℕ) × (length_of length ≡ Some bytes) × IsFirstWrongWord words word × (o ≡ wrong_word word)))
+-- the signals were charted, or the first malformed word is printed
+abbrev pub IsChartOutcome : ℕ → List (List ℕ) → Outcome → Type 0
+IsChartOutcome bytes words o =
+    ((signals : List ChartSignal) × AreSignals words signals × (o ≡ chart_outcome bytes signals))
+    ⊎ ((word : List ℕ) × IsFirstWrongWord words word × (o ≡ wrong_word word))

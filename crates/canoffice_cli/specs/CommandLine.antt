@@ -1,15 +1,22 @@
 -- The command line of the program, which job its words ask for, and which fault they have.
-use Rattle.std.specs.Prelude.{◌≡◌, ◌≢◌, List, [], ◌∷◌, find, map, codes, Option, Some, None, option_map, true, Result, Ok, Err}
+use Rattle.std.specs.Prelude.{◌≡◌, ◌≢◌, ◌⊎◌, ℕ, Bool, List, [], ◌∷◌, find, map, codes, Option, Some, None, option_map, string_bytes, true, false, Result, Ok, Err}
+use Rattle.std.specs.Option.{option_and_then, option_map_or}
 use Rattle.std.specs.Str.{bytes_eq}
 use Rattle.clap.specs.Lexer.{usize_max}
 use Rattle.clap.specs.Words.{App, Shape, IsAmong, Kinds, Row, Rule, Text, all_of, fault_of, first_of, new_app, new_rule, subcommand_of, with_rule, with_subcommand}
 use Rattle.clap.specs.Simple.{on_top}
+use Rattle.clap.specs.declared.builder.action.ArgAction.TheVariants.{SetTrue}
 use Rattle.clap.specs.declared.error.kind.ErrorKind.{ErrorKind}
-use Rattle.clap.specs.declared.error.kind.ErrorKind.TheVariants.{DisplayHelp, OutOfMemory}
+use Rattle.clap.specs.declared.error.kind.ErrorKind.TheVariants.{DisplayHelp, DisplayVersion, OutOfMemory}
+use Rattle.chart.specs.Word.{length_of}
 use Rattle.canoffice_cli.specs.declared.job.Job.{Job}
 use Rattle.canoffice_cli.specs.declared.job.Job.TheVariants.{Apply, Chart, Check, Export, Format, Serve, Table}
 use Rattle.canoffice_cli.specs.declared.job.LineFault.{LineFault}
-use Rattle.canoffice_cli.specs.declared.job.LineFault.TheVariants.{Help, Usage, Memory}
+use Rattle.canoffice_cli.specs.declared.job.LineFault.TheVariants.{Help, Version, Usage, Memory}
+use Rattle.canoffice_cli.specs.declared.job.ValueFault.{ValueFault}
+use Rattle.canoffice_cli.specs.declared.job.ValueFault.TheVariants as value
+use Rattle.canoffice_cli.specs.Numbers.{count_given, port_given, release_number}
+use Rattle.canoffice_cli.specs.Outcome.{wrong_word_text}
 
 -- ---- the description for clap
 
@@ -29,25 +36,29 @@ option_word id = record (new_rule id) { long = Some id; value_names = 1 }
 abbrev pub required_option : Text → Rule
 required_option id = record (option_word id) { required = true }
 
--- apply [--db FILE] SCRIPT
+-- the flag `--explain`
+abbrev pub explain_flag : Rule
+explain_flag = record (new_rule (codes "explain")) { long = Some (codes "explain"); action = Some SetTrue }
+
+-- apply [--db FILE] [--explain] SCRIPT
 abbrev pub apply_app : App
-apply_app = with_rule (with_rule (new_app (codes "apply")) (option_word (codes "db"))) (required_word (codes "SCRIPT"))
+apply_app = with_rule (with_rule (with_rule (new_app (codes "apply")) (option_word (codes "db"))) explain_flag) (required_word (codes "SCRIPT"))
 
 -- chart LENGTH SIGNAL..
 abbrev pub chart_app : App
 chart_app = with_rule (with_rule (new_app (codes "chart")) (required_word (codes "LENGTH"))) (required_words (codes "SIGNAL"))
 
--- check FILE
+-- check [--explain] FILE
 abbrev pub check_app : App
-check_app = with_rule (new_app (codes "check")) (required_word (codes "FILE"))
+check_app = with_rule (with_rule (new_app (codes "check")) explain_flag) (required_word (codes "FILE"))
 
 -- export --db FILE NET N
 abbrev pub export_app : App
 export_app = with_rule (with_rule (with_rule (new_app (codes "export")) (required_option (codes "db"))) (required_word (codes "NET"))) (required_word (codes "N"))
 
--- format FILE
+-- format [--explain] FILE
 abbrev pub format_app : App
-format_app = with_rule (new_app (codes "format")) (required_word (codes "FILE"))
+format_app = with_rule (with_rule (new_app (codes "format")) explain_flag) (required_word (codes "FILE"))
 
 -- serve --db FILE [--port N] [--count N]
 abbrev pub serve_app : App
@@ -57,6 +68,10 @@ serve_app = with_rule (with_rule (with_rule (new_app (codes "serve")) (required_
 abbrev pub table_app : App
 table_app = with_rule (new_app (codes "table")) (required_word (codes "FILE"))
 
+-- `--version` and `-V` ask for the version
+abbrev pub with_version : App → App
+with_version = on_top (λ s. record s { has_version = true })
+
 -- a subcommand is required, and without any argument the help is printed
 abbrev pub wants_subcommand : App → App
 wants_subcommand = on_top (λ s. record s { subcommand_required = true; arg_required_else_help = true })
@@ -64,7 +79,7 @@ wants_subcommand = on_top (λ s. record s { subcommand_required = true; arg_requ
 -- canoffice apply .., chart .., check .., export .., format .., serve .., table ..
 abbrev pub canoffice_app : App
 canoffice_app =
-    let to_apply = with_subcommand (wants_subcommand (new_app (codes "canoffice"))) apply_app.top in
+    let to_apply = with_subcommand (wants_subcommand (with_version (new_app (codes "canoffice")))) apply_app.top in
     let to_chart = with_subcommand to_apply chart_app.top in
     let to_check = with_subcommand to_chart check_app.top in
     let to_export = with_subcommand to_check export_app.top in
@@ -86,19 +101,25 @@ HasValue rows id text = first_of id rows ≡ Some text
 abbrev pub HasValues : List Row → Text → List Text → Type 0
 HasValues rows id texts = all_of id rows ≡ Some texts
 
--- the job is the subcommand, with the values of its arguments
+-- whether a flag was given: its value is `true` then
+abbrev pub is_set : List Row → Text → Bool
+is_set rows id = option_map_or (λ value. bytes_eq value (codes "true")) (first_of id rows) false
+
+-- the job is the subcommand, with the values of its arguments, and the numbers that they give
 abbrev pub IsJobOf : Job → Text → List Row → Type 0
-IsJobOf (Apply database script) name rows =
+IsJobOf (Apply database script explain) name rows =
     (name ≡ codes "apply") × (first_of (codes "db") rows ≡ option_map (λ path. path.now) database) × HasValue rows (codes "SCRIPT") script.now
+    × (explain ≡ is_set rows (codes "explain"))
 IsJobOf (Chart length signals) name rows =
-    (name ≡ codes "chart") × HasValue rows (codes "LENGTH") length.now × HasValues rows (codes "SIGNAL") (map (λ s. s.now) signals.items)
-IsJobOf (Check file) name rows = (name ≡ codes "check") × HasValue rows (codes "FILE") file.now
+    (name ≡ codes "chart") × (option_and_then length_of (first_of (codes "LENGTH") rows) ≡ Some length) × HasValues rows (codes "SIGNAL") (map (λ s. s.now) signals.items)
+IsJobOf (Check file explain) name rows = (name ≡ codes "check") × HasValue rows (codes "FILE") file.now × (explain ≡ is_set rows (codes "explain"))
 IsJobOf (Export database net number) name rows =
-    (name ≡ codes "export") × HasValue rows (codes "db") database.now × HasValue rows (codes "NET") net.now × HasValue rows (codes "N") number.now
-IsJobOf (Format file) name rows = (name ≡ codes "format") × HasValue rows (codes "FILE") file.now
+    (name ≡ codes "export") × HasValue rows (codes "db") database.now × HasValue rows (codes "NET") net.now
+    × (option_and_then release_number (first_of (codes "N") rows) ≡ Some number)
+IsJobOf (Format file explain) name rows = (name ≡ codes "format") × HasValue rows (codes "FILE") file.now × (explain ≡ is_set rows (codes "explain"))
 IsJobOf (Serve database port count) name rows =
     (name ≡ codes "serve") × HasValue rows (codes "db") database.now
-    × (first_of (codes "port") rows ≡ option_map (λ word. word.now) port) × (first_of (codes "count") rows ≡ option_map (λ word. word.now) count)
+    × (port_given (first_of (codes "port") rows) ≡ Some port) × (count_given (first_of (codes "count") rows) ≡ Some count)
 IsJobOf (Table file) name rows = (name ≡ codes "table") × HasValue rows (codes "FILE") file.now
 
 -- the job of the subcommand that was found, with its values
@@ -130,22 +151,52 @@ abbrev pub IsEntered : Option (Text × List Row) → Type 0
 IsEntered None = ⊥
 IsEntered (Some found) = IsWhole (find (λ s. bytes_eq found.0 s.name) canoffice_app.subs) found.1
 
--- the subcommand that was entered has this name
-abbrev pub IsNamed : Text → Option (Text × List Row) → Type 0
-IsNamed name found = (rows : List Row) × (found ≡ Some (name, rows))
-
 -- ---- the fault of words that ask for no job
 
 -- the fault for clap's error of this kind
 abbrev pub IsFaultOfKind : ErrorKind → LineFault → Type 0
 IsFaultOfKind kind (Help text) = kind ≡ DisplayHelp
-IsFaultOfKind kind (Usage text) = (kind ≢ DisplayHelp) × (kind ≢ OutOfMemory)
+IsFaultOfKind kind (Version text) = kind ≡ DisplayVersion
+IsFaultOfKind kind (Usage text) = (kind ≢ DisplayHelp) × (kind ≢ DisplayVersion) × (kind ≢ OutOfMemory)
 IsFaultOfKind kind Memory = Unit {0}
 
--- the words ask for help; or they have a fault of another kind; or memory ran out
+-- of the subcommand with these arguments, the word for a number gives none in its range; the port is looked at before the count
+abbrev pub IsWrongNumber : Text → List Row → Text → Type 0
+IsWrongNumber name rows word =
+    ((name ≡ codes "chart") × HasValue rows (codes "LENGTH") word × (length_of word ≡ None))
+    ⊎ ((name ≡ codes "export") × HasValue rows (codes "N") word × (release_number word ≡ None))
+    ⊎ ((name ≡ codes "serve") × HasValue rows (codes "port") word × (port_given (Some word) ≡ None))
+    ⊎ ((name ≡ codes "serve") × HasValue rows (codes "count") word × (count_given (Some word) ≡ None)
+    × (port : ℕ) × (port_given (first_of (codes "port") rows) ≡ Some port))
+
+-- the subcommand with these arguments makes no job: a word is a wrong number, or there was no memory for a chart's signals
+abbrev pub IsValueFault : Text → List Row → ValueFault → Type 0
+IsValueFault name rows (value.WrongNumber word) = IsWrongNumber name rows word.now
+IsValueFault name rows value.Memory = name ≡ codes "chart"
+
+abbrev pub IsValueFaultIn : Option (Text × List Row) → ValueFault → Type 0
+IsValueFaultIn found fault = (name : Text) × (rows : List Row) × (found ≡ Some (name, rows)) × IsValueFault name rows fault
+
+-- clap finds no fault in the words, but this word of them is a wrong number
+abbrev pub HasWrongNumber : List Text → Text → Type 0
+HasWrongNumber words word =
+    (line_faults words ≡ []) × (name : Text) × (rows : List Row) × (subcommand_of canoffice_app words ≡ Some (name, rows)) × IsWrongNumber name rows word
+
+-- the fault says that this word is malformed, or that memory ran out
+abbrev pub IsWrongWordFault : Text → LineFault → Type 0
+IsWrongWordFault word (Help text) = ⊥
+IsWrongWordFault word (Version text) = ⊥
+IsWrongWordFault word (Usage text) = string_bytes text ≡ wrong_word_text word
+IsWrongWordFault word Memory = Unit {0}
+
+-- the words ask for help, or for the version; or they have a fault of another kind, or a wrong number, which is told; or
+-- memory ran out
 abbrev pub IsLineFault : List Text → LineFault → Type 0
 IsLineFault words (Help text) = IsAmong DisplayHelp (line_faults words)
-IsLineFault words (Usage text) = (kind : ErrorKind) × (kind ≢ DisplayHelp) × IsAmong kind (line_faults words)
+IsLineFault words (Version text) = IsAmong DisplayVersion (line_faults words)
+IsLineFault words (Usage text) =
+    ((kind : ErrorKind) × (kind ≢ DisplayHelp) × (kind ≢ DisplayVersion) × IsAmong kind (line_faults words))
+    ⊎ ((word : Text) × HasWrongNumber words word × (string_bytes text ≡ wrong_word_text word))
 IsLineFault words Memory = Unit {0}
 
 -- the words ask for a job, or have a fault

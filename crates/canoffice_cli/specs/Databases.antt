@@ -4,8 +4,7 @@ use Rattle.sqlite.specs.Held.{Held, state}
 use Rattle.sqlite.specs.State.{State}
 use Rattle.sqlite.specs.Steps.{over_memory}
 use Rattle.sqlite_trees.specs.declared.memory.MemStore.{MemStore}
-use Rattle.office_types.specs.declared.state.Office.{Office}
-use Rattle.office_history.specs.History.{Answered, IsLegal}
+use Rattle.office_history.specs.History.{Answered}
 use Rattle.store.specs.Holding.{Holding}
 use Rattle.store.specs.Opening.{HasNone}
 
@@ -24,10 +23,6 @@ Begins h s = Holding h s ⊎ ((h ≡ []) × HasNone s)
 pub record AreKept (before after : Databases) : Type 0 where
   pub holds : (path : List ℕ) (h : List Answered) → before.holds path h → after.holds path h
   pub is_new : (path : List ℕ) → before.is_new path → after.is_new path
-
--- the history is a legal one
-abbrev pub IsLegalHistory : List Answered → Type 0
-IsLegalHistory h = (office : Office) × IsLegal h office
 
 -- nothing is known of any database, and none is known to be sound
 abbrev pub nothing_known : Databases

@@ -1,6 +1,5 @@
 -- The outcome of an export.
 use Rattle.std.specs.Prelude.{◌≡◌, ◌⊎◌, ◌==◌, ℕ, List, [], codes, Option, Some, None, Result, Ok, Err, IfOk, OnOk, if◌then◌else◌}
-use Rattle.office_fields.specs.Value.{whole_up_to}
 use Rattle.office_types.specs.PlainName.{IsPlainName}
 use Rattle.office_types.specs.declared.state.Office.{Office}
 use Rattle.office_history.specs.History.{Answered, IsLegal}
@@ -10,12 +9,8 @@ use Rattle.store.specs.declared.question.Question.TheVariants.{Live, Release}
 use Rattle.store.specs.Looking.{IsShown}
 use Rattle.canoffice_cli.specs.Answered.{answers_outcome}
 use Rattle.canoffice_cli.specs.Databases.{AreKept, Databases}
-use Rattle.canoffice_cli.specs.Outcome.{Outcome, success, wrong_word}
+use Rattle.canoffice_cli.specs.Outcome.{Outcome, success}
 use Rattle.canoffice_cli.specs.declared.report.Status.TheVariants.{FaultFound}
-
--- the number of a release, or 0, that a word gives: digits, up to 65535
-abbrev pub release_number : List ℕ → Option ℕ
-release_number word = whole_up_to 65535 word
 
 -- release N of a network, or its live sheet for 0
 abbrev pub sheet_asked : List ℕ → ℕ → Question
@@ -38,10 +33,8 @@ pub record IsLookedUp (before after : Databases) (path : List ℕ) (question : Q
   pub held : (h : List Answered) → before.holds path h → after.is_sound → after.holds path h
   pub made : before.is_new path → after.is_sound → OnOk shown (after.holds path [])
 
--- The word for the number is wrong; or the word for the network is no name of one, so that there is none; or the office is
--- asked, and what it shows is printed.
-abbrev pub IsExportOutcome : Databases → Databases → List ℕ → List ℕ → List ℕ → Outcome → Type 0
-IsExportOutcome before after path net word o =
-    ((release_number word ≡ None) × (o ≡ wrong_word word) × AreKept before after)
-    ⊎ ((number : ℕ) × (release_number word ≡ Some number)
-    × (((¬ IsPlainName net) × (o ≡ not_found) × AreKept before after) ⊎ (IsPlainName net × (shown : Result (Option (List ℕ)) Lost) × IsLookedUp before after path (sheet_asked net number) shown × (o ≡ shown_outcome shown))))
+-- The word for the network is no name of one, so that there is none; or the office is asked, and what it shows is printed.
+abbrev pub IsExportOutcome : Databases → Databases → List ℕ → List ℕ → ℕ → Outcome → Type 0
+IsExportOutcome before after path net number o =
+    ((¬ IsPlainName net) × (o ≡ not_found) × AreKept before after)
+    ⊎ (IsPlainName net × (shown : Result (Option (List ℕ)) Lost) × IsLookedUp before after path (sheet_asked net number) shown × (o ≡ shown_outcome shown))

@@ -1,7 +1,8 @@
+pub mod Numbers
+pub mod Outcome
 pub mod CommandLine
 pub mod Holding
 pub mod Databases
-pub mod Outcome
 pub mod Answered
 pub mod Applied
 pub mod Exported
@@ -11,5 +12,6 @@ pub mod WordFault
 pub mod Checked
 pub mod Formatted
 pub mod Tabled
+pub mod Explaining
 pub mod Delivery
 pub mod Performance

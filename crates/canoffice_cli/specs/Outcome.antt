@@ -21,6 +21,10 @@ code_of FaultFound = 1
 code_of WrongInput = 2
 code_of Failed = 3
 
+-- the same, with this text after its own on standard error
+abbrev pub and_errors : Outcome → List ℕ → Outcome
+and_errors o more = record o { errors = o.errors ++ more }
+
 -- this text on standard output, and nothing on standard error
 abbrev pub success : List ℕ → Outcome
 success text = record { output = text; errors = []; status = Success }
@@ -42,8 +46,11 @@ abbrev pub wrong_line : ℕ → Outcome
 wrong_line number = wrong_input (codes "bad line " ++ (decimal number ++ codes "\n"))
 
 -- this word of the command line is malformed
+abbrev pub wrong_word_text : List ℕ → List ℕ
+wrong_word_text word = codes "bad word " ++ (word ++ codes "\n")
+
 abbrev pub wrong_word : List ℕ → Outcome
-wrong_word word = wrong_input (codes "bad word " ++ (word ++ codes "\n"))
+wrong_word word = wrong_input (wrong_word_text word)
 
 -- memory ran out
 abbrev pub memory_lost : Outcome

@@ -1,7 +1,9 @@
--- The outcome of the program, from its words and from what is known of files and databases.
-use Rattle.std.specs.Prelude.{◌≡◌, ◌⊎◌, ℕ, List, map, option_map, Result, Ok, Err, string_bytes}
+-- The outcome of the program, from its words and from what is known of files, standard input and databases.
+use Rattle.std.specs.Prelude.{◌≡◌, ◌⊎◌, ℕ, false, List, map, option_map, Result, Ok, Err, string_bytes}
 use Rattle.office_script.specs.Files.{Files, Holding, unknown, absent, holding}
 use Rattle.canoffice_cli.specs.CommandLine.{IsLine}
+use Rattle.canoffice_cli.specs.Explaining.{IsSaid, MayExplain}
+use Rattle.canoffice_cli.specs.Holding.{source_at}
 use Rattle.canoffice_cli.specs.Outcome.{Outcome, memory_lost, success, wrong_input, unreadable}
 use Rattle.canoffice_cli.specs.Databases.{AreKept, Databases}
 use Rattle.canoffice_cli.specs.Applied.{IsApplyOutcome}
@@ -13,12 +15,13 @@ use Rattle.canoffice_cli.specs.Served.{IsServeOutcome}
 use Rattle.canoffice_cli.specs.Tabled.{IsTableOutcome}
 use Rattle.canoffice_cli.specs.Delivery.{IsDelivered, Writing}
 use Rattle.canoffice_cli.specs.declared.report.Status.{Status}
-use Rattle.canoffice_cli.specs.declared.program.FileTask.{FileTask}
-use Rattle.canoffice_cli.specs.declared.program.FileTask.TheVariants as task
+use Rattle.canoffice_cli.specs.declared.file_jobs.FileJob.{FileJob}
+use Rattle.canoffice_cli.specs.declared.file_jobs.FileTask.{FileTask}
+use Rattle.canoffice_cli.specs.declared.file_jobs.FileTask.TheVariants as task
 use Rattle.canoffice_cli.specs.declared.job.Job.{Job}
 use Rattle.canoffice_cli.specs.declared.job.Job.TheVariants.{Apply, Chart, Check, Export, Format, Serve, Table}
 use Rattle.canoffice_cli.specs.declared.job.LineFault.{LineFault}
-use Rattle.canoffice_cli.specs.declared.job.LineFault.TheVariants.{Help, Usage, Memory}
+use Rattle.canoffice_cli.specs.declared.job.LineFault.TheVariants.{Help, Version, Usage, Memory}
 
 -- the outcome of a job whose file is at the path: that of its bytes, or that it can't be read; nothing is done then
 abbrev pub IsOfFile : Type 0 → (List ℕ → Outcome → Type 0) → List ℕ → Holding → Outcome → Type 0
@@ -33,36 +36,43 @@ ComesTo files before after task.Check bytes o = IsCheckOutcome bytes o × AreKep
 ComesTo files before after task.Format bytes o = IsFormatOutcome bytes o × AreKept before after
 ComesTo files before after task.Table bytes o = IsTableOutcome bytes o × AreKept before after
 
-abbrev pub IsFileOutcome : Files → Databases → Databases → FileTask → List ℕ → Outcome → Type 0
-IsFileOutcome files before after task path o = IsOfFile (AreKept before after) (ComesTo files before after task) path (files path) o
+-- the same for a job, which may explain
+abbrev pub IsOfBytes : Files → Databases → Databases → FileJob → List ℕ → Outcome → Type 0
+IsOfBytes files before after job bytes o =
+    (plain : Outcome) × ComesTo files before after job.task bytes plain × MayExplain job.explain (IsSaid job.task job.path.now bytes) plain o
+
+abbrev pub IsFileOutcome : Files → Holding → Databases → Databases → FileJob → Outcome → Type 0
+IsFileOutcome files input before after job o =
+    IsOfFile (AreKept before after) (IsOfBytes files before after job) job.path.now (source_at files input job.path.now) o
 
 -- the outcome of the job, and what is known of databases before and after
-abbrev pub IsDone : Files → Databases → Databases → Job → Outcome → Type 0
-IsDone files before after (Apply database script) o = IsFileOutcome files before after (task.Apply database) script.now o
-IsDone files before after (Chart length signals) o = IsChartOutcome length.now (map (λ s. s.now) signals.items) o × AreKept before after
-IsDone files before after (Check file) o = IsFileOutcome files before after task.Check file.now o
-IsDone files before after (Export database net number) o = IsExportOutcome before after database.now net.now number.now o
-IsDone files before after (Format file) o = IsFileOutcome files before after task.Format file.now o
-IsDone files before after (Serve database port count) o =
-    IsServeOutcome before after database.now (option_map (λ word. word.now) port) (option_map (λ word. word.now) count) o
-IsDone files before after (Table file) o = IsFileOutcome files before after task.Table file.now o
+abbrev pub IsDone : Files → Holding → Databases → Databases → Job → Outcome → Type 0
+IsDone files input before after (Apply database script explain) o =
+    IsFileOutcome files input before after (record { task = task.Apply database; path = script; explain = explain }) o
+IsDone files input before after (Chart length signals) o = IsChartOutcome length (map (λ s. s.now) signals.items) o × AreKept before after
+IsDone files input before after (Check file explain) o = IsFileOutcome files input before after (record { task = task.Check; path = file; explain = explain }) o
+IsDone files input before after (Export database net number) o = IsExportOutcome before after database.now net.now number o
+IsDone files input before after (Format file explain) o = IsFileOutcome files input before after (record { task = task.Format; path = file; explain = explain }) o
+IsDone files input before after (Serve database port count) o = IsServeOutcome before after database.now count o
+IsDone files input before after (Table file) o = IsFileOutcome files input before after (record { task = task.Table; path = file; explain = false }) o
 
 -- the outcome of words that ask for no job: the text of their fault
 abbrev pub IsFaultAnswer : LineFault → Outcome → Type 0
 IsFaultAnswer (Help text) o = o ≡ success (string_bytes text)
+IsFaultAnswer (Version text) o = o ≡ success (string_bytes text)
 IsFaultAnswer (Usage text) o = o ≡ wrong_input (string_bytes text)
 IsFaultAnswer Memory o = o ≡ memory_lost
 
 -- the outcome of a command line
-abbrev pub IsAnswer : Files → Databases → Databases → Result Job LineFault → Outcome → Type 0
-IsAnswer files before after (Ok job) o = IsDone files before after job o
-IsAnswer files before after (Err fault) o = IsFaultAnswer fault o × AreKept before after
+abbrev pub IsAnswer : Files → Holding → Databases → Databases → Result Job LineFault → Outcome → Type 0
+IsAnswer files input before after (Ok job) o = IsDone files input before after job o
+IsAnswer files input before after (Err fault) o = IsFaultAnswer fault o × AreKept before after
 
 -- the outcome of the program's words, unless memory runs out before there is one
-abbrev pub IsAnswered : List (List ℕ) → Files → Databases → Databases → Outcome → Type 0
-IsAnswered words files before after o = (line : Result Job LineFault) × IsLine words line × IsAnswer files before after line o
+abbrev pub IsAnswered : List (List ℕ) → Files → Holding → Databases → Databases → Outcome → Type 0
+IsAnswered words files input before after o = (line : Result Job LineFault) × IsLine words line × IsAnswer files input before after line o
 
 -- a run of the program: the outcome of its words is delivered, or that memory ran out
-abbrev pub IsPerformed : List (List ℕ) → Files → Databases → Databases → Writing → Writing → Status → Type 0
-IsPerformed words files before after output errors status =
-    (o : Outcome) × ((o ≡ memory_lost) ⊎ IsAnswered words files before after o) × IsDelivered o output errors status
+abbrev pub IsPerformed : List (List ℕ) → Files → Holding → Databases → Databases → Writing → Writing → Status → Type 0
+IsPerformed words files input before after output errors status =
+    (o : Outcome) × ((o ≡ memory_lost) ⊎ IsAnswered words files input before after o) × IsDelivered o output errors status

@@ -3,10 +3,10 @@ ghost use Rattle.std.specs.Prelude.{◌≡◌, ◌⊎◌, ◌≤◌, ◌++◌, [
 ghost use Rattle.sqlite.specs.Held.{state};
 ghost use Rattle.sqlite.specs.State.{HasCleanDisk};
 ghost use Rattle.sqlite_trees.specs.View.{doubt};
-ghost use Rattle.office_history.specs.History.{Answered};
+ghost use Rattle.office_history.specs.History.{Answered, IsLegalHistory};
 ghost use Rattle.store.specs.Holding.{Holding};
 ghost use Rattle.canoffice_cli.specs.Answered.{InMemory, answered_with, answers_outcome, lost_line};
-ghost use Rattle.canoffice_cli.specs.Databases.{Begins, IsLegalHistory};
+ghost use Rattle.canoffice_cli.specs.Databases.{Begins};
 ghost use Rattle.canoffice_cli.specs.Outcome.{outcome_of};
 
 use crate::lines::{Line, lines_of};

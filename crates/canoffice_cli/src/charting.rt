@@ -5,7 +5,7 @@ ghost use Rattle.canoffice_cli.specs.Charted.{chart_outcome, AreSignals, IsChart
 ghost use Rattle.canoffice_cli.specs.WordFault.{IsWordFault};
 
 use crate::report::{Report, Status, bad_word};
-use chart::{ChartSignal, chart_text, first_clash_of, length_of, signal_of};
+use chart::{ChartSignal, chart_text, first_clash_of, signal_of};
 use std::alloc::{AllocError, AllocFailed, Global};
 
 /// Why the words describe no signals.
@@ -68,19 +68,16 @@ fn signals_report(alloc: Global, length: u16, signals: &[ChartSignal]) -> Result
     Ok(Report::of_output(alloc, output, status))
 }
 
-/// The chart of the signals that the words describe, in a message of the length that `length` gives: `Success` if
-/// they are clear, `FaultFound` if they clash.
+/// The chart of the signals that the words describe, in a message of so many bytes: `Success` if they are clear,
+/// `FaultFound` if they clash.
 ///
-/// If a word is malformed, the first one is reported and nothing is charted: the length comes first, then the
-/// signals in order. `length_of` and `signal_of` of the crate `chart` have their forms.
-pub fn chart_report(alloc: Global, length: &str, words: &[&str]) -> Result<Report, AllocError>
-    ensures { IfOk result (λ report. IsChartOutcome length.now (map (λ s. s.now) words.now) (outcome_of report)) }
+/// If a word is malformed, the first one is reported and nothing is charted. `signal_of` of the crate `chart` has their
+/// form.
+pub fn chart_report(alloc: Global, length: u16, words: &[&str]) -> Result<Report, AllocError>
+    ensures { IfOk result (λ report. IsChartOutcome length (map (λ s. s.now) words.now) (outcome_of report)) }
 {
-    let Some(bytes) = length_of(length.as_bytes()) else {
-        return bad_word(alloc, length);
-    };
     match signals_of(alloc, words) {
-        Ok(signals) => signals_report(alloc, bytes, &signals),
+        Ok(signals) => signals_report(alloc, length, &signals),
         Err(WordFault::Wrong(word)) => bad_word(alloc, word),
         Err(WordFault::Memory) => Err(AllocError),
     }

@@ -2,10 +2,19 @@
 ghost use Rattle.std.specs.Prelude.{◌≡◌, IfOk, codes, false};
 ghost use Rattle.clap.specs.Words.{app_of, new_app, rule_of};
 ghost use Rattle.clap.specs.declared.builder.command.Command.TheViews.{out-Command as fields_of};
-ghost use Rattle.canoffice_cli.specs.CommandLine.{apply_app, canoffice_app, chart_app, check_app, export_app, format_app, option_word, required_option, required_word, required_words, serve_app, table_app, wants_subcommand};
+ghost use Rattle.canoffice_cli.specs.CommandLine.{apply_app, canoffice_app, chart_app, check_app, explain_flag, export_app, format_app, option_word, required_option, required_word, required_words, serve_app, table_app, wants_subcommand, with_version};
 
-use clap::{Arg, Command};
+use clap::{Arg, ArgAction, Command};
 use std::alloc::{AllocError, Global};
+
+/// The program's version, which `--version` prints. A crate has no manifest here, so it is kept in this line.
+const VERSION: &str = "0.1.0";
+
+/// What the help says of the argument of `check`, `format` and `table`.
+const DBC_FILE: &str = "The DBC file, or - for standard input";
+
+/// What the help says of the argument of `apply`.
+const SCRIPT: &str = "The script's file, or - for standard input";
 
 /// A required positional argument.
 fn required_argument<'a>(alloc: Global, id: &'a str, help: &'a str) -> Arg<'a>
@@ -39,7 +48,18 @@ fn required_option<'a>(alloc: Global, id: &'a str, value: &'a str, help: &'a str
     option(alloc, id, value, help).required(true)
 }
 
-/// `apply [--db FILE] SCRIPT`
+/// The flag `--explain`.
+fn explain<'a>(alloc: Global, help: &'a str) -> Arg<'a>
+    ensures rule { rule_of result ≡ explain_flag }
+    ensures local { result.global ≡ false }
+{
+    Arg::new(alloc, "explain")
+        .long("explain")
+        .action(ArgAction::SetTrue)
+        .help(help)
+}
+
+/// `apply [--db FILE] [--explain] SCRIPT`
 fn apply_command<'a>(alloc: Global) -> Result<Command<'a>, AllocError>
     ensures app { IfOk result (λ c. app_of c ≡ apply_app) }
     ensures local { IfOk result (λ c. (fields_of c).has_globals ≡ false) }
@@ -47,7 +67,9 @@ fn apply_command<'a>(alloc: Global) -> Result<Command<'a>, AllocError>
     let named = Command::new(alloc, "apply").about("Runs a script and prints each reply");
     let database = "The office's database, which is made where there is none; else it is in memory";
     let with_database = named.arg(option(alloc, "db", "FILE", database))?;
-    let apply = with_database.arg(required_argument(alloc, "SCRIPT", "The script's file"))?;
+    let wrong = "Says of a wrong line also which field is wrong, and how";
+    let with_explain = with_database.arg(explain(alloc, wrong))?;
+    let apply = with_explain.arg(required_argument(alloc, "SCRIPT", SCRIPT))?;
     Ok(apply)
 }
 
@@ -66,7 +88,7 @@ fn chart_command<'a>(alloc: Global) -> Result<Command<'a>, AllocError>
     Ok(chart)
 }
 
-/// `check FILE`
+/// `check [--explain] FILE`
 fn check_command<'a>(alloc: Global) -> Result<Command<'a>, AllocError>
     ensures app { IfOk result (λ c. app_of c ≡ check_app) }
     ensures local { IfOk result (λ c. (fields_of c).has_globals ≡ false) }
@@ -74,7 +96,9 @@ fn check_command<'a>(alloc: Global) -> Result<Command<'a>, AllocError>
     let named = Command::new(alloc, "check").about(
         "Lists the skipped statements of a DBC file, and checks that its signals fit",
     );
-    let check = named.arg(required_argument(alloc, "FILE", "The DBC file"))?;
+    let more = "Says also where each fault and each clash is, and what to do";
+    let with_explain = named.arg(explain(alloc, more))?;
+    let check = with_explain.arg(required_argument(alloc, "FILE", DBC_FILE))?;
     Ok(check)
 }
 
@@ -91,13 +115,15 @@ fn export_command<'a>(alloc: Global) -> Result<Command<'a>, AllocError>
     Ok(export)
 }
 
-/// `format FILE`
+/// `format [--explain] FILE`
 fn format_command<'a>(alloc: Global) -> Result<Command<'a>, AllocError>
     ensures app { IfOk result (λ c. app_of c ≡ format_app) }
     ensures local { IfOk result (λ c. (fields_of c).has_globals ≡ false) }
 {
     let named = Command::new(alloc, "format").about("Prints a DBC file in its canonical form");
-    let format = named.arg(required_argument(alloc, "FILE", "The DBC file"))?;
+    let more = "Says also where each fault is, or what the text leaves out";
+    let with_explain = named.arg(explain(alloc, more))?;
+    let format = with_explain.arg(required_argument(alloc, "FILE", DBC_FILE))?;
     Ok(format)
 }
 
@@ -121,19 +147,22 @@ fn table_command<'a>(alloc: Global) -> Result<Command<'a>, AllocError>
     ensures local { IfOk result (λ c. (fields_of c).has_globals ≡ false) }
 {
     let named = Command::new(alloc, "table").about("Prints a table of the messages of a DBC file");
-    let table = named.arg(required_argument(alloc, "FILE", "The DBC file"))?;
+    let table = named.arg(required_argument(alloc, "FILE", DBC_FILE))?;
     Ok(table)
 }
 
-/// The program's command line before its subcommands, one of which is required.
+/// The program's command line before its subcommands, one of which is required, unless the version is asked for.
 fn bare_command<'a>(alloc: Global) -> Command<'a>
-    ensures app { app_of result ≡ wants_subcommand (new_app (codes "canoffice")) }
+    ensures app { app_of result ≡ wants_subcommand (with_version (new_app (codes "canoffice"))) }
     ensures local { (fields_of result).has_globals ≡ false }
 {
     let named = Command::new(alloc, "canoffice").about(
         "Checks, formats and charts DBC files, and gives out CAN identifiers",
     );
-    named.subcommand_required(true).arg_required_else_help(true)
+    named
+        .version(VERSION)
+        .subcommand_required(true)
+        .arg_required_else_help(true)
 }
 
 /// The program's command line with all its subcommands, one of which is required.

@@ -23,9 +23,9 @@ pub trait Databases {
     /// What is known of them.
     ghost known: { Self → Known };
 
-    /// Answers the arrivals in turn by the office in the database at the path, up to the first that is lost. It is shown how
-    /// far the script of the arrivals is. Opening the database, or closing it after the last answer, may be lost too. The error
-    /// is out of memory for the answers: then nothing arrived.
+    /// Answers the arrivals in turn by the office in the database at the path, up to the first that is lost. It is shown
+    /// how far the script of the arrivals is. Opening the database, or closing it after the last answer, may be lost too.
+    /// The error is out of memory for the answers: then nothing arrived.
     fn answer<W: Write>(
         &mut self,
         alloc: Global,
@@ -50,5 +50,5 @@ pub trait Databases {
     /// Serves `count` connections of the port of this machine by the office in the database at the path, and tells on the
     /// machine's standard error when it listens. The error is why it ended before that.
     fn serve(&mut self, alloc: Global, path: &str, port: u16, count: u32) -> Result<(), ServeEnd>
-        ensures { IsServed (known self.old) (known self.new) path.now count };
+        ensures { IsServed (known self.old) (known self.new) path.now count result };
 }

@@ -10,32 +10,16 @@ ghost use Rattle.office_history.specs.History.{Answered, IsLegal};
 ghost use Rattle.store.specs.Holding.{Holding};
 ghost use Rattle.store.specs.Looking.{IsShown};
 ghost use Rattle.canoffice_cli.specs.Databases.{Begins};
-ghost use Rattle.canoffice_cli.specs.Exported.{IsExportOutcome, release_number, sheet_asked, not_found, shown_outcome};
+ghost use Rattle.canoffice_cli.specs.Exported.{IsExportOutcome, sheet_asked, not_found, shown_outcome};
 ghost use Rattle.canoffice_cli.specs.Outcome.{outcome_of};
 
 use crate::answering::{lost_report, office_on};
 use crate::databases::Databases;
-use crate::report::{Report, Status, bad_word};
-use catalogue::whole_number;
+use crate::report::{Report, Status};
 use office_types::NetName;
 use sqlite::{Alter, Connection};
 use std::alloc::{AllocError, Global};
 use store::{Lost, Question};
-
-/// The greatest number of a release.
-const RELEASE_LIMIT: u32 = 65_535;
-
-/// The number of a release, or 0 for the live sheet, that the word gives: digits, up to 65535.
-fn release_number(word: &[u8]) -> Option<u32>
-    ensures { result ≡ release_number word.now }
-{
-    let number = whole_number(word)?;
-    if number <= RELEASE_LIMIT {
-        Some(number)
-    } else {
-        None
-    }
-}
 
 fn sheet_asked(net: NetName, number: u32) -> Question
     ensures { result ≡ sheet_asked net number }
@@ -88,21 +72,18 @@ pub fn look_on<S: Alter + Drop>(
     }
 }
 
-/// Prints the release of the network with the number that the word gives, or for 0 its live sheet, as the office in the
-/// database of the path has it. A word that is no number of 0 to 65535 is reported, and that there is no such sheet; there is
-/// none where NET has no network name's form, and the database isn't opened then. The error is out of memory for the report.
+/// Prints the release of the network with this number, or for 0 its live sheet, as the office in the database of the path
+/// has it, or that there is no such sheet. There is none where NET has no network name's form, and the database isn't opened
+/// then. The error is out of memory for the report.
 pub fn export_report<D: Databases>(
     alloc: Global,
     databases: &mut D,
     path: &str,
     net: &str,
-    word: &str,
+    number: u32,
 ) -> Result<Report, AllocError>
-    ensures { IfOk result (λ report. IsExportOutcome (D.known databases.old) (D.known databases.new) path.now net.now word.now (outcome_of report)) }
+    ensures { IfOk result (λ report. IsExportOutcome (D.known databases.old) (D.known databases.new) path.now net.now number (outcome_of report)) }
 {
-    let Some(number) = release_number(word.as_bytes()) else {
-        return bad_word(alloc, word);
-    };
     match NetName::of(alloc, net.as_bytes())? {
         None => not_found(alloc),
         Some(net) => {

@@ -1,9 +1,11 @@
 //! The job that the words of the command line ask for.
 ghost use Rattle.std.specs.Prelude.{◌≡◌, IfOk, IfErr, map, codes};
 ghost use Rattle.clap.specs.Words.{found_of, kind_of, rows_of, subcommand_rows_of};
-ghost use Rattle.canoffice_cli.specs.CommandLine.{HasSome, IsEntered, IsJob, IsJobIn, IsJobOf, IsFaultOfKind, IsLineFault, IsNamed};
+ghost use Rattle.canoffice_cli.specs.CommandLine.{HasSome, IsEntered, IsJob, IsJobIn, IsJobOf, IsFaultOfKind, IsLineFault, IsValueFault, IsValueFaultIn, IsWrongWordFault, is_set};
 
 use crate::command_line::canoffice_command;
+use crate::numbers::{count_given, length_given, port_given, release_number};
+use crate::report::bad_word_text;
 use clap::error::ErrorKind;
 use clap::{ArgMatches, Error};
 use std::alloc::{AllocError, Global};
@@ -15,20 +17,24 @@ pub enum Job<'a> {
     Apply {
         /// The path of the office's database; without one the office is in memory.
         database: Option<&'a str>,
-        /// The path of the script.
+        /// The path of the script, or `-`.
         script: &'a str,
+        /// Whether a wrong line is explained.
+        explain: bool,
     },
-    /// Print the chart of the signals that the words describe, in a message of the length that a word gives.
+    /// Print the chart of the signals that the words describe, in a message of this length.
     Chart {
-        /// The word that gives the length.
-        length: &'a str,
+        /// The length, 0 to 64 bytes.
+        length: u16,
         /// The words that describe the signals.
         signals: Vec<&'a str>,
     },
     /// Check the DBC text in the file of this name.
     Check {
-        /// The path of the file.
+        /// The path of the file, or `-`.
         file: &'a str,
+        /// Whether faults and clashes are explained.
+        explain: bool,
     },
     /// Print a release of a network, or its live sheet.
     Export {
@@ -36,26 +42,28 @@ pub enum Job<'a> {
         database: &'a str,
         /// The word that names the network.
         net: &'a str,
-        /// The word that gives the number of the release.
-        number: &'a str,
+        /// The number of the release, 1 to 65535, or 0 for the live sheet.
+        number: u32,
     },
     /// Print the canonical text of the DBC text in the file of this name.
     Format {
-        /// The path of the file.
+        /// The path of the file, or `-`.
         file: &'a str,
+        /// Whether faults are explained, and told what is left out.
+        explain: bool,
     },
     /// Serve the office over HTTP.
     Serve {
         /// The path of the office's database.
         database: &'a str,
-        /// The word that gives the port, if there is one.
-        port: Option<&'a str>,
-        /// The word that gives the count of connections, if there is one.
-        count: Option<&'a str>,
+        /// The port of this machine, from 1.
+        port: u16,
+        /// The count of connections, 1 to 1000000.
+        count: u32,
     },
     /// Print the table of the messages of the DBC text in the file of this name.
     Table {
-        /// The path of the file.
+        /// The path of the file, or `-`.
         file: &'a str,
     },
 }
@@ -65,16 +73,28 @@ pub enum Job<'a> {
 pub enum LineFault {
     /// They ask for help, and this is its text.
     Help(String),
+    /// They ask for the version, and this is its text.
+    Version(String),
     /// They are wrong; this text explains the error and the usage.
     Usage(String),
     /// Memory ran out.
     Memory,
 }
 
-/// The job that the program's words ask for. The first word is the program's own name.
+/// Why the values of a subcommand make no job.
+#[derive(Clone, Copy, Debug)]
+enum ValueFault<'a> {
+    /// This word gives no number in its range.
+    WrongNumber(&'a str),
+    /// Memory ran out.
+    Memory,
+}
+
+/// The job that the program's words ask for, each number in its range. The first word is the program's own name.
 ///
-/// The result is a job exactly if clap finds no fault in the words, unless memory runs out: it is `Help` only if they
-/// ask for help, and `Usage` only if they have another fault.
+/// The result is a job exactly if clap finds no fault in the words and each word for a number gives one in its range, unless
+/// memory runs out: it is `Help` only if they ask for help, `Version` only if they ask for the version, and `Usage` only if
+/// they have another fault, or a word for a number that gives none in its range: the first one, as `bad word WORD`.
 pub fn job_of<'a>(alloc: Global, words: &'a [&'a str]) -> Result<Job<'a>, LineFault>
     ensures job { IfOk result (IsJob (map (λ s. s.now) words.entry.now)) }
     ensures fault { IfErr result (IsLineFault (map (λ s. s.now) words.entry.now)) }
@@ -85,7 +105,8 @@ pub fn job_of<'a>(alloc: Global, words: &'a [&'a str]) -> Result<Job<'a>, LineFa
     match command.try_get_matches_from(words) {
         Ok(matches) => match job_in(alloc, &matches) {
             Ok(job) => Ok(job),
-            Err(AllocError) => Err(LineFault::Memory),
+            Err(ValueFault::WrongNumber(word)) => Err(wrong_number(alloc, word)),
+            Err(ValueFault::Memory) => Err(LineFault::Memory),
         },
         Err(error) => Err(line_fault(alloc, &error)),
     }
@@ -105,6 +126,16 @@ pub fn not_utf8_fault(alloc: Global) -> LineFault
     }
 }
 
+/// The fault that the word gives no number in its range.
+fn wrong_number(alloc: Global, word: &str) -> LineFault
+    ensures { IsWrongWordFault word.now result }
+{
+    match bad_word_text(alloc, word) {
+        Ok(text) => LineFault::Usage(text),
+        Err(AllocError) => LineFault::Memory,
+    }
+}
+
 /// The fault for clap's error, with clap's text.
 fn line_fault(alloc: Global, error: &Error) -> LineFault
     ensures { IsFaultOfKind (kind_of error.now) result }
@@ -115,17 +146,19 @@ fn line_fault(alloc: Global, error: &Error) -> LineFault
     match error.kind() {
         ErrorKind::OutOfMemory => LineFault::Memory,
         ErrorKind::DisplayHelp => LineFault::Help(text),
+        ErrorKind::DisplayVersion => LineFault::Version(text),
         _ => LineFault::Usage(text),
     }
 }
 
-/// The job of the subcommand that was entered, which is one of the program's, with all its required arguments. Only
-/// the list of a chart's signals takes memory, so no other subcommand can end as out of memory here.
+/// The job of the subcommand that was entered, which is one of the program's, with all its required arguments, or the
+/// first word that gives no number in its range. Only the list of a chart's signals takes memory, so no other subcommand
+/// can end as out of memory here.
 #[tactic(auto, using(crate::proofs::CommandLine::found_pair))]
-fn job_in<'a>(alloc: Global, matches: &ArgMatches<'a>) -> Result<Job<'a>, AllocError>
+fn job_in<'a>(alloc: Global, matches: &ArgMatches<'a>) -> Result<Job<'a>, ValueFault<'a>>
     requires { IsEntered (subcommand_rows_of matches.now) }
     ensures job { IfOk result (IsJobIn (subcommand_rows_of matches.now)) }
-    ensures memory { IfErr result (λ e. IsNamed (codes "chart") (subcommand_rows_of matches.now)) }
+    ensures fault { IfErr result (IsValueFaultIn (subcommand_rows_of matches.now)) }
 {
     let Some((name, found)) = matches.subcommand() else {
         unreachable!("clap wants a subcommand")
@@ -140,13 +173,13 @@ fn job_in<'a>(alloc: Global, matches: &ArgMatches<'a>) -> Result<Job<'a>, AllocE
         return Ok(check_job(found));
     }
     if name == "export" {
-        return Ok(export_job(found));
+        return export_job(found);
     }
     if name == "format" {
         return Ok(format_job(found));
     }
     if name == "serve" {
-        return Ok(serve_job(found));
+        return serve_job(found);
     }
     if name == "table" {
         return Ok(table_job(found));
@@ -154,7 +187,18 @@ fn job_in<'a>(alloc: Global, matches: &ArgMatches<'a>) -> Result<Job<'a>, AllocE
     unreachable!("clap knows no other subcommand")
 }
 
-/// `apply [--db FILE] SCRIPT`
+/// Whether the flag was given.
+#[tactic(auto, using(crate::proofs::CommandLine::flag_in_rows))]
+fn is_set(found: &ArgMatches, id: &str) -> bool
+    ensures { result ≡ is_set (rows_of (found_of found.now)) id.now }
+{
+    match found.get_str(id) {
+        Some(value) => value == "true",
+        None => false,
+    }
+}
+
+/// `apply [--db FILE] [--explain] SCRIPT`
 #[tactic(auto, using(crate::proofs::CommandLine::value_in_rows, crate::proofs::CommandLine::optional_in_rows, crate::proofs::CommandLine::text_is_given))]
 fn apply_job<'a>(found: &ArgMatches<'a>) -> Job<'a>
     requires { HasSome (rows_of (found_of found.now)) (codes "SCRIPT") }
@@ -162,73 +206,96 @@ fn apply_job<'a>(found: &ArgMatches<'a>) -> Job<'a>
 {
     let database = found.get_str("db");
     let script = found.get_str("SCRIPT").unwrap();
-    Job::Apply { database, script }
+    let explain = is_set(found, "explain");
+    Job::Apply {
+        database,
+        script,
+        explain,
+    }
 }
 
 /// `chart LENGTH SIGNAL..`
-#[tactic(auto, using(crate::proofs::CommandLine::value_in_rows, crate::proofs::CommandLine::values_in_rows, crate::proofs::CommandLine::text_is_given, crate::proofs::CommandLine::texts_are_given))]
-fn chart_job<'a>(alloc: Global, found: &ArgMatches<'a>) -> Result<Job<'a>, AllocError>
+#[tactic(auto, using(crate::proofs::CommandLine::optional_in_rows, crate::proofs::CommandLine::text_is_given, crate::proofs::CommandLine::texts_are_given))]
+fn chart_job<'a>(alloc: Global, found: &ArgMatches<'a>) -> Result<Job<'a>, ValueFault<'a>>
     requires length { HasSome (rows_of (found_of found.now)) (codes "LENGTH") }
     requires signals { HasSome (rows_of (found_of found.now)) (codes "SIGNAL") }
-    ensures { IfOk result (λ job. IsJobOf job (codes "chart") (rows_of (found_of found.now))) }
+    ensures job { IfOk result (λ job. IsJobOf job (codes "chart") (rows_of (found_of found.now))) }
+    ensures fault { IfErr result (IsValueFault (codes "chart") (rows_of (found_of found.now))) }
 {
-    let length = found.get_str("LENGTH").unwrap();
     let words = found.get_strs("SIGNAL").unwrap();
-    let signals = Vec::from_slice(alloc, words)?;
-    Ok(Job::Chart { length, signals })
+    let word = found.get_str("LENGTH").unwrap();
+    let Some(length) = length_given(word) else {
+        return Err(ValueFault::WrongNumber(word));
+    };
+    match Vec::from_slice(alloc, words) {
+        Ok(signals) => Ok(Job::Chart { length, signals }),
+        Err(AllocError) => Err(ValueFault::Memory),
+    }
 }
 
-/// `check FILE`
+/// `check [--explain] FILE`
 #[tactic(auto, using(crate::proofs::CommandLine::value_in_rows, crate::proofs::CommandLine::text_is_given))]
 fn check_job<'a>(found: &ArgMatches<'a>) -> Job<'a>
     requires { HasSome (rows_of (found_of found.now)) (codes "FILE") }
     ensures { IsJobOf result (codes "check") (rows_of (found_of found.now)) }
 {
     let file = found.get_str("FILE").unwrap();
-    Job::Check { file }
+    let explain = is_set(found, "explain");
+    Job::Check { file, explain }
 }
 
 /// `export --db FILE NET N`
-#[tactic(auto, using(crate::proofs::CommandLine::value_in_rows, crate::proofs::CommandLine::text_is_given))]
-fn export_job<'a>(found: &ArgMatches<'a>) -> Job<'a>
+#[tactic(auto, using(crate::proofs::CommandLine::value_in_rows, crate::proofs::CommandLine::optional_in_rows, crate::proofs::CommandLine::text_is_given))]
+fn export_job<'a>(found: &ArgMatches<'a>) -> Result<Job<'a>, ValueFault<'a>>
     requires database { HasSome (rows_of (found_of found.now)) (codes "db") }
     requires net { HasSome (rows_of (found_of found.now)) (codes "NET") }
     requires number { HasSome (rows_of (found_of found.now)) (codes "N") }
-    ensures { IsJobOf result (codes "export") (rows_of (found_of found.now)) }
+    ensures job { IfOk result (λ job. IsJobOf job (codes "export") (rows_of (found_of found.now))) }
+    ensures fault { IfErr result (IsValueFault (codes "export") (rows_of (found_of found.now))) }
 {
     let database = found.get_str("db").unwrap();
     let net = found.get_str("NET").unwrap();
-    let number = found.get_str("N").unwrap();
-    Job::Export {
-        database,
-        net,
-        number,
+    let word = found.get_str("N").unwrap();
+    match release_number(word) {
+        Some(number) => Ok(Job::Export {
+            database,
+            net,
+            number,
+        }),
+        None => Err(ValueFault::WrongNumber(word)),
     }
 }
 
-/// `format FILE`
+/// `format [--explain] FILE`
 #[tactic(auto, using(crate::proofs::CommandLine::value_in_rows, crate::proofs::CommandLine::text_is_given))]
 fn format_job<'a>(found: &ArgMatches<'a>) -> Job<'a>
     requires { HasSome (rows_of (found_of found.now)) (codes "FILE") }
     ensures { IsJobOf result (codes "format") (rows_of (found_of found.now)) }
 {
     let file = found.get_str("FILE").unwrap();
-    Job::Format { file }
+    let explain = is_set(found, "explain");
+    Job::Format { file, explain }
 }
 
 /// `serve --db FILE [--port N] [--count N]`
 #[tactic(auto, using(crate::proofs::CommandLine::value_in_rows, crate::proofs::CommandLine::optional_in_rows, crate::proofs::CommandLine::text_is_given))]
-fn serve_job<'a>(found: &ArgMatches<'a>) -> Job<'a>
+fn serve_job<'a>(found: &ArgMatches<'a>) -> Result<Job<'a>, ValueFault<'a>>
     requires { HasSome (rows_of (found_of found.now)) (codes "db") }
-    ensures { IsJobOf result (codes "serve") (rows_of (found_of found.now)) }
+    ensures job { IfOk result (λ job. IsJobOf job (codes "serve") (rows_of (found_of found.now))) }
+    ensures fault { IfErr result (IsValueFault (codes "serve") (rows_of (found_of found.now))) }
 {
     let database = found.get_str("db").unwrap();
-    let port = found.get_str("port");
-    let count = found.get_str("count");
-    Job::Serve {
-        database,
-        port,
-        count,
+    let port = match port_given(found.get_str("port")) {
+        Ok(port) => port,
+        Err(word) => return Err(ValueFault::WrongNumber(word)),
+    };
+    match count_given(found.get_str("count")) {
+        Ok(count) => Ok(Job::Serve {
+            database,
+            port,
+            count,
+        }),
+        Err(word) => Err(ValueFault::WrongNumber(word)),
     }
 }
 

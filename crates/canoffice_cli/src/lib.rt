@@ -1,11 +1,12 @@
 //! The library of the program `canoffice`: from the words of its command line to its exit status.
 //!
 //! - `command_line` describes the subcommands and their arguments for clap; with it `job` turns the words into a `Job`
-//!   or a `LineFault`.
-//! - `files` reads files: those of the machine, or those of a list in memory. `databases` has the offices in databases, of
-//!   which one in memory is here; those of the machine are in the program itself.
-//! - `apply`, `exporting`, `serving`, `charting`, `checking`, `formatting` and `tabling` do the jobs. `answering` answers the
-//!   arrivals of a script, by an office in memory or on a connection to a database, and `progress` shows how far it is.
+//!   or a `LineFault`. `numbers` has the ranges of the numbers that words give.
+//! - `files` reads files and standard input: those of the machine, or those of a list in memory. `databases` has the offices
+//!   in databases, of which one in memory is here; those of the machine are in the program itself.
+//! - `apply`, `exporting`, `serving`, `charting`, `checking`, `formatting` and `tabling` do the jobs. `answering` answers
+//!   the arrivals of a script, by an office in memory or on a connection to a database, and `progress` shows how far it is.
+//! - `file_jobs` does the jobs that read a file, and `explaining` says what `--explain` adds to them.
 //! - `report` is the result of a run: bytes for standard output and standard error, and a `Status`.
 //! - `delivery` writes a report to the two streams.
 //! - `program` joins them: `perform` is a whole run.
@@ -21,11 +22,14 @@ mod checking;
 mod command_line;
 mod databases;
 mod delivery;
+mod explaining;
 mod exporting;
+mod file_jobs;
 mod files;
 mod formatting;
 mod job;
 mod lines;
+mod numbers;
 mod program;
 mod progress;
 mod report;
@@ -39,7 +43,9 @@ pub use checking::check_report;
 pub use databases::{Databases, MemoryDatabase};
 pub use delivery::deliver;
 pub use exporting::{export_report, look_on};
-pub use files::{FileFault, FileSource, HostFiles, ListedFiles, NamedFile};
+pub use files::{
+    FileFault, FileSource, HostFiles, ListedFiles, NamedFile, StandardInput, bytes_at,
+};
 pub use formatting::format_report;
 pub use job::{Job, LineFault, job_of, not_utf8_fault};
 pub use program::{fault_report, perform, report_of};

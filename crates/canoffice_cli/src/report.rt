@@ -1,6 +1,6 @@
 //! The result of a run: bytes for the program's two streams, and its exit status.
 ghost use Rattle.std.specs.Prelude.{◌≡◌, [], IfOk, codes, string_bytes};
-ghost use Rattle.canoffice_cli.specs.Outcome.{code_of, outcome_of, success, wrong_input, unreadable, wrong_line, wrong_word};
+ghost use Rattle.canoffice_cli.specs.Outcome.{and_errors, code_of, outcome_of, success, wrong_input, unreadable, wrong_line, wrong_word, wrong_word_text};
 
 use std::alloc::{AllocError, Global};
 
@@ -64,6 +64,15 @@ impl Report {
             status,
         }
     }
+
+    /// The report with these bytes after its own for standard error. The error is out of memory.
+    pub fn and_errors(self, more: &[u8]) -> Result<Report, AllocError>
+        ensures { IfOk result (λ report. outcome_of report ≡ and_errors (outcome_of self) more.now) }
+    {
+        let mut report = self;
+        report.errors.extend_from_slice(more)?;
+        Ok(report)
+    }
 }
 
 /// What is written to standard error when memory runs out. It takes no memory itself.
@@ -85,15 +94,21 @@ pub fn bad_line(alloc: Global, number: usize) -> Result<Report, AllocError>
     Ok(Report::of_errors(alloc, text.into_bytes(), Status::WrongInput))
 }
 
+/// The text that this word of the command line is malformed.
+pub(crate) fn bad_word_text(alloc: Global, word: &str) -> Result<String, AllocError>
+    ensures { IfOk result (λ text. string_bytes text ≡ wrong_word_text word.now) }
+{
+    format!(in alloc; "bad word {word}\n")
+}
+
 /// The report that this word of the command line is malformed.
 pub fn bad_word(alloc: Global, word: &str) -> Result<Report, AllocError>
     ensures { IfOk result (λ report. outcome_of report ≡ wrong_word word.now) }
 {
-    let text = format!(in alloc; "bad word {word}\n")?;
-    Ok(Report::of_errors(alloc, text.into_bytes(), Status::WrongInput))
+    Ok(usage(alloc, bad_word_text(alloc, word)?))
 }
 
-/// The report that shows this text of help.
+/// The report that shows this text of help, or of the version.
 pub fn help(alloc: Global, text: String) -> Report
     ensures { outcome_of result ≡ success (string_bytes text) }
 {

@@ -23,6 +23,7 @@ mod text;
 mod word;
 
 pub use message::message_chart;
+pub use number::whole_between;
 pub use signal::{ChartSignal, first_clash_of};
 pub use table::{signal_count, table_of};
 pub use text::chart_text;

@@ -6,7 +6,8 @@ ghost use Rattle.chart.specs.Word.{between};
 
 use catalogue::whole_number;
 
-/// The number that the digits write, or `None` if it isn't from `least` to `most`, inclusive.
+/// The whole number that the digits write, or `None` if it isn't from `least` to `most`, inclusive. Leading zeros don't
+/// count.
 pub fn whole_between(bytes: &[u8], least: u32, most: u32) -> Option<u32>
     ensures { result ≡ option_and_then (between least most) (whole_of bytes.now) }
 {

@@ -6,6 +6,9 @@
 //! a request that is sent again is answered as it was. Once the source fails at every call after the last byte: a
 //! request that is whole is answered all the same.
 //!
+//! Then all of them wait in memory and are served by one call, which must answer them so too, and find that no further
+//! connection can be accepted.
+//!
 //! Requests whose title begins with `#@` are served after the others, over a port of the machine: the clients write whole
 //! requests, then all are served, then the clients read.
 //!
@@ -16,6 +19,7 @@ mod loopback;
 mod pieces;
 mod requests;
 mod responses;
+mod waiting;
 
 use loopback::{goes_over_port, serve_over_port};
 use pieces::Ending;
@@ -25,6 +29,7 @@ use sqlite::{Alter, Connection};
 use std::fs;
 use std::io::{self, Write};
 use store::Office;
+use waiting::agree_in_one_call;
 
 /// Serves one request of the file, and prints what came of it.
 fn serve<S: Alter>(
@@ -62,6 +67,11 @@ fn main(rt: HostRuntime) -> io::Result<()> {
         if !goes_over_port(titled) {
             serve(&rt, &mut office, titled)?;
         }
+    }
+    if agree_in_one_call(rt.alloc(), &mut office, &requests)? {
+        println!(rt; "in one call: the same")?;
+    } else {
+        println!(rt; "in one call: NOT THE SAME")?;
     }
     serve_over_port(&rt, &mut office, &requests)
 }

@@ -92,8 +92,15 @@ impl ActionKind {
 }
 
 impl CommandKind {
-    ghost use Rattle.office_fields.specs.Kind.{kind_of_word, word_of};
+    ghost use Rattle.office_fields.specs.Kind.{all_kinds, kind_of_word, word_of};
     ghost use Rattle.office_fields.specs.Field.{fields_of};
+
+    /// All commands.
+    pub fn all() -> &'static [CommandKind]
+        ensures { result.now ≡ all_kinds }
+    {
+        &COMMANDS
+    }
 
     /// The command's word.
     pub fn word(self) -> &'static str

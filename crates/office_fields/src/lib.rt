@@ -3,7 +3,7 @@
 //! [`CommandKind`] names the fifteen commands by their words. The table of fields is one: each [`Field`] has a name, a
 //! [`FieldKind`] and an [`Occurrence`], and [`CommandKind::fields`] says which fields a command has. [`command_of`] makes
 //! the command of a list of [`GivenValue`]s, or says that they are wrong; [`asked_of`] does it for all fifteen, and
-//! leaves the file of an import to be read. How values are written, as words of a script or as JSON, isn't known here:
+//! leaves the file of an import to be read. [`is_value`] tests one value. How values are written, as words of a script or as JSON, isn't known here:
 //! a value is bytes that are decoded already.
 //!
 //! The definitions are in `specs/`: `Kind.antt` has the words of commands, `Field.antt` the table, `Value.antt` the
@@ -24,6 +24,7 @@ mod path;
 mod signals;
 mod texts;
 mod unread;
+mod values;
 
 pub use asked::{Asked, FileImport, asked_of, command_of};
 pub use field::{Field, FieldKind, Occurrence};
@@ -32,3 +33,4 @@ pub use kind::{ActionKind, CommandKind};
 pub use path::FilePath;
 pub use texts::team_of;
 pub use unread::Unread;
+pub use values::is_value;

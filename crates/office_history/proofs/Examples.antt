@@ -3,6 +3,7 @@
 use Rattle.std.proofs.Common.{◌≡◌, ℕ, List, [], ◌∷◌, ◌++◌, map, take, Some, None, IfSome, refl}
 use Rattle.std.specs.Prelude.{codes}
 use Rattle.std.proofs.lemmas.List.Elements.{All-from_recursion}
+use Rattle.catalogue.specs.Messages.{number_of}
 use Rattle.office_types.specs.declared.block.BlockForm.TheVariants as block
 use Rattle.office_types.specs.declared.command.Action.TheVariants as act
 use Rattle.office_types.specs.declared.command.NetKind.TheVariants.{Can}
@@ -84,6 +85,13 @@ names_released qs = elim (net_named (left_by opening qs) truck) [ None ↦ [] | 
 
 it_stays : (names_released released ≡ (codes "E1" ∷ []) ∷ []) × (names_released released_again ≡ (codes "E1" ∷ []) ∷ (codes "E2" ∷ []) ∷ [])
 it_stays = (refl, refl)
+
+-- the number that was released with one name isn't given to a message of another one, though it is retired
+abbrev numbers_released : List Asked → List (List ℕ)
+numbers_released qs = elim (net_named (left_by opening qs) truck) [ None ↦ [] | Some net ↦ map (λ s. map number_of s.messages) net.releases ]
+
+its_number_stays : numbers_released released_again ≡ (256 ∷ []) ∷ (257 ∷ []) ∷ []
+its_number_stays = refl
 
 -- Two numbers are given; what is shared, refused or told again gives none.
 

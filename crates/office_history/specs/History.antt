@@ -50,3 +50,7 @@ pub record IsLegal (h : List Answered) (office : Office) : Type 0 where
   pub replied : map answer_of (first_arrivals h) ≡ map answer.Reply replies
   pub run : Run opening (map request_of (first_arrivals h)) replies office
   pub again : All (λ a. IfSome (first_of h a) (IsAnsweredAs a)) h
+
+-- some office is left by the history: so each answer in it is the office's
+abbrev pub IsLegalHistory : List Answered → Type 0
+IsLegalHistory h = (office : Office) × IsLegal h office

@@ -22,8 +22,8 @@ fn key_from(alloc: Global, bytes: &[u8]) -> Result<Key, Unread>
     Key::of(alloc, bytes)?.ok_or(Unread::Wrong)
 }
 
-/// The key of the line of this number, from 1, whose first word this is.
-pub(crate) fn key_of(alloc: Global, dash: Dash, number: usize, word: &[u8]) -> Result<Key, Unread>
+/// The key of the line of this number, from 1, whose first word this is. `Wrong` where the word is no key.
+pub fn key_of(alloc: Global, dash: Dash, number: usize, word: &[u8]) -> Result<Key, Unread>
     ensures { Reads (key_of dash number word.now) result }
 {
     match dash {

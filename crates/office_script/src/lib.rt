@@ -25,7 +25,7 @@ mod words;
 pub use escapes::unescape;
 pub use fields::read_fields;
 pub use files::{FileFault, FileSource};
-pub use keys::Dash;
+pub use keys::{Dash, key_of};
 pub use lines::{FirstLine, first_line, says_nothing};
 pub use script::{ScriptFault, arrivals_of};
 pub use words::{FirstWord, first_word};

@@ -1,5 +1,5 @@
 //! Runs one after the other on one database in memory.
-use crate::row::prints;
+use crate::run::prints;
 use canoffice_cli::{MemoryDatabase, NamedFile, Status};
 use sqlite::Connection;
 

@@ -1,6 +1,8 @@
 //! Writers that fail, and memory that runs out.
-use crate::row::run_on;
-use canoffice_cli::{FileFault, FileSource, MemoryDatabase, Report, Status, deliver};
+use crate::run::run_on;
+use canoffice_cli::{
+    FileFault, FileSource, MemoryDatabase, Report, StandardInput, Status, deliver,
+};
 use std::alloc::{AllocError, Global};
 use std::io::{self, ErrorKind, Write};
 
@@ -121,6 +123,16 @@ impl FileSource for Exhausted {
     ghost held = { λ _ _. unknown };
 
     fn read(&self, _alloc: Global, _path: &str) -> Result<Vec<u8>, FileFault> {
+        Err(FileFault::Memory)
+    }
+}
+
+impl StandardInput for Exhausted {
+    ghost use Rattle.office_script.specs.Files.{unknown};
+
+    ghost given = { λ _. unknown };
+
+    fn read_input(&self, _alloc: Global) -> Result<Vec<u8>, FileFault> {
         Err(FileFault::Memory)
     }
 }

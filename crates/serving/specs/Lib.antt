@@ -1,2 +1,3 @@
 pub mod Serving
 mod Examples
+pub mod Waiting

@@ -1,26 +1,54 @@
 -- Connections that are served one after the other.
-use Rattle.std.specs.Prelude.{◌≡◌, ◌⊎◌, ℕ, List, [], ◌∷◌, ◌++◌, map, All, Bool, Option, None, Some, IfSome, IsTrue, Result, Ok, Err, ⊤}
+use Rattle.std.specs.Prelude.{◌≡◌, ◌⊎◌, ℕ, List, [], ◌∷◌, ◌++◌, map, Bool, Option, None, Some, option_map, IfSome, IsTrue, IsFalse, Result, Ok, Err, ⊤}
 use Rattle.sqlite.specs.State.{State}
-use Rattle.office_history.specs.History.{Answered}
+use Rattle.office_history.specs.History.{Answered, IsLegalHistory}
 use Rattle.office_history.specs.declared.arrival.Answer.{Answer}
 use Rattle.store.specs.Holding.{Holding}
 use Rattle.desk_types.specs.declared.fault.DeskFault.{DeskFault}
 use Rattle.desk_types.specs.declared.fault.DeskFault.TheVariants.{Read, Write, Memory}
 use Rattle.desk_types.specs.declared.problem.Problem.TheVariants.{TryAgain}
 use Rattle.desk_call.specs.Call.{Asked, Asking, arrives}
+use Rattle.desk_call.specs.Read.{IsNotWhole}
 use Rattle.desk_reply.specs.Response.{problem_response}
 use Rattle.desk.specs.Serving.{IsAsked, IsResponse, answered_as, failed_response}
 
--- a connection: what its peer sends and what was written to it, if these are told, and the fault that ended it, if any
+-- how a connection ended: what was written to its peer, and how many of its reads and of its writes failed
+pub record Ending : Type 0 where
+  pub written : List ℕ
+  pub failed_reads : ℕ
+  pub failed_writes : ℕ
+
+-- a connection: whether the office had failed when it came, what its peer sends and how it ended, if these are told, and the
+-- fault that ended it, if any
 pub record Visit : Type 0 where
+  pub office_failed : Bool
   pub sent : Option (List ℕ)
-  pub written : Option (List ℕ)
+  pub ending : Option Ending
   pub fault : Option DeskFault
+
+-- what was written to the peer, if that is told
+abbrev pub written_to : Visit → Option (List ℕ)
+written_to v = option_map (λ e. e.written) v.ending
 
 -- the fault that ended a connection
 abbrev pub fault_of : {T : Type 0} → Result T DeskFault → Option DeskFault
 fault_of (Ok v) = None
 fault_of (Err fault) = Some fault
+
+-- a beginning of what the peer sends holds no whole request, if that is told
+abbrev pub IsCutShort : Option (List ℕ) → Type 0
+IsCutShort sent = IfSome sent (λ input. (bytes : List ℕ) × (rest : List ℕ) × (input ≡ bytes ++ rest) × IsNotWhole bytes)
+
+-- What ended the connection so. Without a fault no read and no write failed. `Read` is that of a read that failed before the
+-- request was whole, and `Write` that of a write that failed. `Memory` has no such cause.
+abbrev pub IsCause : Option DeskFault → Option (List ℕ) → Option Ending → Type 0
+IsCause None sent ending = IfSome ending (λ e. (e.failed_reads ≡ 0) × (e.failed_writes ≡ 0))
+IsCause (Some Read) sent ending = IsCutShort sent × IfSome ending (λ e. e.failed_reads ≡ 1)
+IsCause (Some Write) sent ending = IfSome ending (λ e. e.failed_writes ≡ 1)
+IsCause (Some Memory) sent ending = ⊤
+
+abbrev pub HasCause : Visit → Type 0
+HasCause v = IsCause v.fault v.sent v.ending
 
 -- this was written, if that is told
 abbrev pub Wrote : Option (List ℕ) → List ℕ → Type 0
@@ -47,13 +75,22 @@ LeadsBy (Some Read) h sent written h2 = (h2 ≡ h) × Wrote written []
 LeadsBy (Some Write) h sent written h2 = (text : List ℕ) × IsReply h sent text h2 × WroteFront written text
 LeadsBy (Some Memory) h sent written h2 = MayGoOn h sent h2 × Wrote written []
 
+-- the same by a connection; one that comes when the office has failed leaves the history as it is
 abbrev pub Leads : List Answered → Visit → List Answered → Type 0
-Leads h v h2 = LeadsBy v.fault h v.sent v.written h2
+Leads h v h2 = (IsTrue v.office_failed × (h2 ≡ h)) ⊎ (IsFalse v.office_failed × LeadsBy v.fault h v.sent (written_to v) h2)
 
 -- each connection leads from the history after the one before it
 abbrev pub Follows : List Answered → List Visit → List Answered → Type 0
 Follows h [] h2 = h2 ≡ h
 Follows h (v ∷ later) h2 = (h1 : List Answered) × Leads h v h1 × Follows h1 later h2
+
+-- The connections lead to a legal history, which the tables hold as long as they are open. They are, unless the office has
+-- failed.
+abbrev pub Ran : List Answered → List Visit → Bool → State → Type 0
+Ran h visits failed s =
+    (h2 : List Answered) × Follows h visits h2 × IsLegalHistory h2 × (IsFalse failed → IsTrue s.is_open) × (IsTrue s.is_open → Holding h2 s)
+
+-- ---- an office that has failed
 
 -- from a connection to an office that has failed, which ended so: what comes to that office is told to try again
 abbrev pub DeclinesBy : Option DeskFault → Option (List ℕ) → Option (List ℕ) → Type 0
@@ -62,16 +99,15 @@ DeclinesBy (Some Read) sent written = Wrote written []
 DeclinesBy (Some Write) sent written = (asked : Asked) × IsAsked sent asked × WroteFront written (failed_response asked)
 DeclinesBy (Some Memory) sent written = Wrote written []
 
-abbrev pub Declines : Visit → Type 0
-Declines v = DeclinesBy v.fault v.sent v.written
+-- if the office had failed when the connection came, it is declined so
+abbrev pub IsDeclined : Visit → Type 0
+IsDeclined v = IsTrue v.office_failed → DeclinesBy v.fault v.sent (written_to v)
 
--- The connections lead to the history that the tables hold. If the office has failed, that is so of the connections up
--- to then, and each later one was told to try again, and has changed no table; these may be closed.
-abbrev pub Ran : List Answered → List Visit → Bool → State → Type 0
-Ran h visits failed s =
-    (h2 : List Answered)
-    × ((Follows h visits h2 × Holding h2 s)
-    ⊎ (IsTrue failed × ((early : List Visit) × (later : List Visit) × (visits ≡ early ++ later) × Follows h early h2 × All Declines later × (IsTrue s.is_open → Holding h2 s))))
+-- Whether the office has failed goes from each connection to the next one: so before the first of them, and so after the
+-- last. Once it has, it has for all that come later.
+abbrev pub FailsOnce : Bool → List Visit → Bool → Type 0
+FailsOnce before [] after = after ≡ before
+FailsOnce before (v ∷ later) after = (v.office_failed ≡ before) × (next : Bool) × (IsTrue before → IsTrue next) × FailsOnce next later after
 
 -- ---- the connections of a listener
 
@@ -81,12 +117,12 @@ Came None new visits = ⊤
 Came (Some coming) new visits =
     (sent : List (List ℕ)) × (left : List (List ℕ)) × (coming ≡ sent ++ left) × (new ≡ Some left) × (map (λ v. v.sent) visits ≡ map Some sent)
 
--- These connections ended, in order, if the listener tells what was written. It may cease to tell, and never tells again.
-abbrev pub Ended : Option (List (List ℕ)) → Option (List (List ℕ)) → List Visit → Type 0
+-- These connections ended, in order, if the listener tells how. It may cease to tell, and never tells again.
+abbrev pub Ended : Option (List Ending) → Option (List Ending) → List Visit → Type 0
 Ended None new visits = new ≡ None
 Ended (Some ended) None visits = ⊤
 Ended (Some ended) (Some more) visits =
-    (written : List (List ℕ)) × (more ≡ ended ++ written) × (map (λ v. v.written) visits ≡ map Some written)
+    (endings : List Ending) × (more ≡ ended ++ endings) × (map (λ v. v.ending) visits ≡ map Some endings)
 
 -- the first connection that comes sends these bytes
 abbrev pub Comes : Option (List (List ℕ)) → Option (List (List ℕ)) → Option (List ℕ) → Type 0
@@ -94,13 +130,18 @@ Comes None new sent = ⊤
 Comes (Some coming) new sent =
     (bytes : List ℕ) × (left : List (List ℕ)) × (coming ≡ bytes ∷ left) × (new ≡ Some left) × (sent ≡ Some bytes)
 
+-- no connection is to come, if the listener tells
+abbrev pub NoneComes : Option (List (List ℕ)) → Type 0
+NoneComes coming = IfSome coming (λ all. all ≡ [])
+
 -- nothing is written yet on a connection
-abbrev pub Starts : Option (List (List ℕ)) → Option (List ℕ) → Type 0
+abbrev pub Starts : Option (List Ending) → Option (List ℕ) → Type 0
 Starts None written = ⊤
 Starts (Some ended) written = written ≡ Some []
 
--- a connection ends, on which this was written
-abbrev pub Ends : Option (List (List ℕ)) → Option (List (List ℕ)) → Option (List ℕ) → Type 0
-Ends None new written = new ≡ None
-Ends (Some ended) None written = ⊤
-Ends (Some ended) (Some more) written = (bytes : List ℕ) × (written ≡ Some bytes) × (more ≡ ended ++ bytes ∷ [])
+-- a connection ends, to which this was written, and of which so many reads and so many writes failed
+abbrev pub Ends : Option (List Ending) → Option (List Ending) → Option (List ℕ) → ℕ → ℕ → Type 0
+Ends None new written reads writes = new ≡ None
+Ends (Some ended) None written reads writes = ⊤
+Ends (Some ended) (Some more) written reads writes =
+    (bytes : List ℕ) × (written ≡ Some bytes) × (more ≡ ended ++ record { written = bytes; failed_reads = reads; failed_writes = writes } ∷ [])

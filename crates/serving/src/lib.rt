@@ -20,4 +20,4 @@ pub use line::Line;
 pub use listener::Listener;
 pub use local_port::{LocalPort, listen};
 pub use serving::serve;
-pub use waiting::Waiting;
+pub use waiting::{EndedConnection, Waiting};

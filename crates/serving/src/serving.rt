@@ -1,11 +1,11 @@
 //! Serving connections in turn.
-ghost use Rattle.std.specs.Prelude.{◌≡◌, ◌<◌, ◌≤◌, List, [], ◌∷◌, length, IfOk, MatchResult, OnErr, IsFalse, IsTrue};
+ghost use Rattle.std.specs.Prelude.{◌≡◌, ◌<◌, ◌≤◌, List, [], ◌∷◌, length, IfOk, All, MatchResult, OnErr, IsFalse, IsTrue};
 ghost use Rattle.sqlite.specs.Held.{state};
 ghost use Rattle.sqlite.specs.State.{HasCleanDisk};
 ghost use Rattle.sqlite_trees.specs.View.{doubt};
-ghost use Rattle.office_history.specs.History.{Answered};
+ghost use Rattle.office_history.specs.History.{Answered, IsLegalHistory};
 ghost use Rattle.store.specs.Holding.{Holding};
-ghost use Rattle.serving.specs.Serving.{Came, Declines, Ended, Leads, Ran, Visit, fault_of};
+ghost use Rattle.serving.specs.Serving.{Came, Ended, FailsOnce, HasCause, IsDeclined, LeadsBy, NoneComes, Ran, Visit, fault_of, written_to};
 
 use crate::fault::ServeFault;
 use crate::listener::Listener;
@@ -26,12 +26,14 @@ fn attend<S: Alter, L: Listener>(
     ensures opened { HasCleanDisk (state S.Store office.new.conn) → (h : List Answered) → Holding h (state S.Store office.old.conn)
         → IsFalse office.new.failed → IsTrue (state S.Store office.new.conn).is_open }
     ensures served { IfOk result (λ ended. (v : Visit) × (v.fault ≡ fault_of ended)
+        × (v.office_failed ≡ office.old.failed)
         × Came (L.coming listener.old) (L.coming listener.new) (v ∷ []) × Ended (L.ended listener.old) (L.ended listener.new) (v ∷ [])
-        × (IsTrue office.old.failed → Declines v)
+        × HasCause v × IsDeclined v
         × (HasCleanDisk (state S.Store office.new.conn) → (h : List Answered) → Holding h (state S.Store office.old.conn)
-        → (h2 : List Answered) × Leads h v h2 × (IsTrue (state S.Store office.new.conn).is_open → Holding h2 (state S.Store office.new.conn)))) }
+        → (h2 : List Answered) × LeadsBy v.fault h v.sent (written_to v) h2 × IsLegalHistory h2
+        × (IsTrue (state S.Store office.new.conn).is_open → Holding h2 (state S.Store office.new.conn)))) }
     ensures kept { OnErr result (office.new ≡ office.old) }
-    ensures none { OnErr result ((L.coming listener.new ≡ L.coming listener.old) × (L.ended listener.new ≡ L.ended listener.old)) }
+    ensures none { OnErr result ((L.coming listener.new ≡ L.coming listener.old) × (L.ended listener.new ≡ L.ended listener.old) × NoneComes (L.coming listener.old)) }
 {
     let (mut request, mut response) = listener.accept()?;
     let ended = serve_one(alloc, office, &mut request, &mut response);
@@ -42,7 +44,8 @@ fn attend<S: Alter, L: Listener>(
 /// Serves `count` connections of the listener, one after the other. A fault of the desk ends its connection alone. Once
 /// the office has failed, it changes nothing any more, and whatever comes to it is answered by 503.
 ///
-/// `Accept` if a connection can't be accepted: then those before it were served.
+/// `Accept` if a connection can't be accepted: then those before it were served. With a listener that tells what comes, none
+/// came any more.
 pub fn serve<S: Alter, L: Listener>(
     alloc: Global,
     office: &mut Office<S>,
@@ -51,7 +54,8 @@ pub fn serve<S: Alter, L: Listener>(
 ) -> Result<(), ServeFault>
     ensures clean { doubt (state S.Store office.old.conn).is_clean ≤ doubt (state S.Store office.new.conn).is_clean }
     ensures served { (visits : List Visit) × Came (L.coming listener.old) (L.coming listener.new) visits × Ended (L.ended listener.old) (L.ended listener.new) visits
-        × MatchResult result (λ done. length visits ≡ count) (λ fault. (fault ≡ ServeFault.Accept) × (length visits < count))
+        × MatchResult result (λ done. length visits ≡ count) (λ fault. (fault ≡ ServeFault.Accept) × (length visits < count) × NoneComes (L.coming listener.new))
+        × All HasCause visits × FailsOnce office.old.failed visits office.new.failed × All IsDeclined visits
         × (HasCleanDisk (state S.Store office.new.conn) → (h : List Answered) → Holding h (state S.Store office.old.conn)
         → Ran h visits office.new.failed (state S.Store office.new.conn)) }
 {

@@ -1,17 +1,29 @@
 //! Connections in memory.
 ghost use Rattle.std.specs.Prelude.{◌≡◌, [], None, Some, map};
 ghost use Rattle.std.specs.Option.{option_map};
+ghost use Rattle.serving.specs.Waiting.{ending_of};
 
 use crate::listener::Listener;
-use desk::{Counted, Failed};
+use desk::{Counted, Failed, Sink, Source};
 use std::alloc::Global;
 
-/// Connections that wait in memory, and what was written on those that have ended.
+/// How a connection in memory ended.
+#[derive(Drop)]
+pub struct EndedConnection {
+    /// What was written to its peer.
+    pub written: Vec<u8>,
+    /// How many of its reads failed.
+    pub failed_reads: u64,
+    /// How many of its writes failed.
+    pub failed_writes: u64,
+}
+
+/// Connections that wait in memory, and how those ended that have.
 #[derive(Drop)]
 pub struct Waiting<'a> {
     alloc: Global,
     coming: &'a [&'a [u8]],
-    ended: Option<Vec<Vec<u8>>>,
+    ended: Option<Vec<EndedConnection>>,
 }
 
 impl<'a> Waiting<'a> {
@@ -27,8 +39,8 @@ impl<'a> Waiting<'a> {
         }
     }
 
-    /// What was written on each connection that has ended, in order; `None` if there was no memory to keep it.
-    pub fn into_ended(self) -> Option<Vec<Vec<u8>>>
+    /// How each connection ended, in order; `None` if there was no memory to keep that.
+    pub fn into_ended(self) -> Option<Vec<EndedConnection>>
         ensures { result ≡ self.entry.ended }
     {
         let Waiting {
@@ -47,7 +59,7 @@ impl<'a> Listener for Waiting<'a> {
 
     ghost coming = { λ s. Some (map (λ b. b.now) s.coming.now) };
 
-    ghost ended = { λ s. option_map (λ all. map (λ text. text.items) all.items) s.ended };
+    ghost ended = { λ s. option_map (λ all. map ending_of all.items) s.ended };
 
     fn accept(&mut self) -> Result<(Counted<&'a [u8]>, Counted<Vec<u8>>), Failed> {
         let coming: &'a [&'a [u8]] = self.coming;
@@ -60,10 +72,16 @@ impl<'a> Listener for Waiting<'a> {
         }
     }
 
-    fn finish(&mut self, _request: Counted<&'a [u8]>, response: Counted<Vec<u8>>) {
-        let written = response.into_inner();
+    fn finish(&mut self, request: Counted<&'a [u8]>, response: Counted<Vec<u8>>) {
+        let failed_reads = request.failures();
+        let failed_writes = response.failures();
+        let connection = EndedConnection {
+            written: response.into_inner(),
+            failed_reads,
+            failed_writes,
+        };
         let kept = match &mut self.ended {
-            Some(all) => all.push(written).is_ok(),
+            Some(all) => all.push(connection).is_ok(),
             None => true,
         };
         if !kept {

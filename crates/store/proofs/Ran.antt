@@ -9,7 +9,7 @@ use Rattle.sqlite.specs.Tree.{Trees}
 use Rattle.sqlite_trees.specs.declared.store.Store.{Ghosts}
 use Rattle.office_history.specs.declared.arrival.Answer.{Answer}
 use Rattle.office_history.specs.declared.arrival.Arrival.{Arrival}
-use Rattle.office_history.specs.History.{Answered}
+use Rattle.office_history.specs.History.{Answered, IsLegalHistory}
 use Rattle.store.specs.declared.lost.Lost.{Lost}
 use Rattle.store.specs.declared.lost.Lost.TheVariants.{Memory, NewerProfile, Store}
 use Rattle.store.specs.Holding.{Holding, Keeps, Leaves}
@@ -52,12 +52,17 @@ still_one : (h : List Answered) (lost : List Arrival) (a : Arrival) (db : Trees)
 still_one h lost a db (inl keeps) = inl keeps
 still_one h lost a db (inr one) = inr (one.0, Contains-append_left lost (a ∷ []) one.0 one.1, one.2, one.3)
 
+-- a history that tables hold is legal
+legal_of : (h : List Answered) (s : State) → Holding h s → IsLegalHistory h
+legal_of h s holding = (holding.keeps.holds.office, holding.keeps.holds.legal)
+
 -- ---- what is held after it
 
 -- no arrival leaves the history as it is
 pub run_none : (h : List Answered) (failed : Bool) (s : State) → (failed ≡ false → IsTrue s.is_open) → Holding h s → Leaves (Keeps h) s → HasRun h [] [] failed s
 run_none h failed s is_open holding left = record {
   each = refl;
+  legal = subst IsLegalHistory (sym (append-nil h)) (legal_of h s holding);
   is_open = is_open;
   held = λ now. subst (λ l. Holding l s) (sym (append-nil h)) holding;
   left = λ db may. inl (subst (λ l. Keeps l db) (sym (append-nil h)) (left db may));
@@ -68,6 +73,7 @@ module _ {S : Type 0} (g : Ghosts S) (h : List Answered) (xs : List Arrival) (rs
   failed_more : (lost : Lost) → old.failed ≡ true → HasRun h (xs ++ a ∷ []) (rs ++ Err lost ∷ []) old.failed (state g old.conn)
   failed_more lost failed = record {
     each = each_more xs rs a (Err lost) before.each;
+    legal = subst (λ l. IsLegalHistory (h ++ l)) (sym (answered_same xs rs a lost before.each)) before.legal;
     is_open = λ working. absurd (let both : true ≡ false = sym failed ∙ working in cc);
     held = λ now. subst (λ l. Holding (h ++ l) (state g old.conn)) (sym (answered_same xs rs a lost before.each)) (before.held now);
     left = λ db may. subst (λ l. KeepsWithOne (h ++ l) (lost_of (xs ++ a ∷ []) (rs ++ Err lost ∷ [])) db) (sym (answered_same xs rs a lost before.each))
@@ -81,6 +87,7 @@ module _ {S : Type 0} (g : Ghosts S) (h : List Answered) (xs : List Arrival) (rs
       let line = append_assoc h (answered_of xs rs) (told a answer ∷ []) ∙ ap (λ l. h ++ l) (sym (answered_more xs rs a answer before.each)) in
       record {
         each = each_more xs rs a (Ok answer) before.each;
+        legal = subst IsLegalHistory line (legal_of ((h ++ answered_of xs rs) ++ told a answer ∷ []) (state g new.conn) holding);
         is_open = λ _. holding.is_open;
         held = λ now. subst (λ l. Holding l (state g new.conn)) line holding;
         left = λ db may. inl (subst (λ l. Keeps l db) line (left db may));
@@ -94,6 +101,7 @@ module _ {S : Type 0} (g : Ghosts S) (h : List Answered) (xs : List Arrival) (rs
       let same = answered_same xs rs a lost before.each in
       record {
         each = each_more xs rs a (Err lost) before.each;
+        legal = subst (λ l. IsLegalHistory (h ++ l)) (sym same) before.legal;
         is_open = is_open;
         held = λ now. subst (λ l. Holding (h ++ l) (state g new.conn)) (sym same) (held now);
         left = λ db may. subst (λ l. KeepsWithOne (h ++ l) (lost_of (xs ++ a ∷ []) (rs ++ Err lost ∷ [])) db) (sym same)

@@ -1,11 +1,13 @@
 -- What holds of the tables after every history.
-use Rattle.std.specs.Prelude.{◌≡◌, ℕ, pos, List, Some, filter, map, IsPermutation}
+use Rattle.std.specs.Prelude.{◌≡◌, ◌≢◌, ℕ, pos, List, Some, filter, map, AllPairs, Contains, IsPermutation}
 use Rattle.std.specs.List.Sorted.{IsStrictlySortedBy}
 use Rattle.sqlite.specs.Order.{column}
 use Rattle.sqlite.specs.declared.types.Value.TheVariants.{Int}
 use Rattle.can_id.specs.Ident.{dbc_number}
-use Rattle.catalogue.specs.Messages.{by_number}
+use Rattle.catalogue.specs.Messages.{by_number, number_of}
 use Rattle.catalogue.specs.Sheet.{IsClearSheet}
+use Rattle.catalogue.specs.declared.message.Message.{Message}
+use Rattle.catalogue.specs.declared.sheet.Sheet.{Sheet}
 use Rattle.office_types.specs.State.{live_messages, sheet_of}
 use Rattle.office_types.specs.declared.state.Net.{Net}
 use Rattle.office_types.specs.declared.state.Office.{Office}
@@ -13,6 +15,7 @@ use Rattle.office_rules.specs.Step.{net_named}
 use Rattle.office_tables.specs.Tables.{Tables}
 use Rattle.office_rows.specs.Rows.{is_of_net}
 use Rattle.office_history.specs.History.{Answered, IsLegal}
+use Rattle.office_history.specs.Laws.{new_spns}
 use Rattle.store.specs.Holds.{Holds}
 
 -- Of a network with these rows: no two live messages have one identifier, and no message has two signals that share a bit
@@ -26,3 +29,11 @@ pub record IsClearInRows (name : List ℕ) (t : Tables) (net : Net) : Type 0 whe
 abbrev pub HeldNetworksAreClear : Type 0
 HeldNetworksAreClear =
     (h : List Answered) (t : Tables) (office : Office) → Holds h t → IsLegal h office → (name : List ℕ) (net : Net) → net_named office name ≡ Some net → IsClearInRows name t net
+
+-- After every history that tables hold: no two first arrivals were given one suspect parameter number of their own; and
+-- two releases of a network that have one message number give it one name.
+pub record HeldNumbersMeanOneThing : Type 0 where
+  pub spns : (h : List Answered) (t : Tables) → Holds h t → AllPairs (λ m n. m ≢ n) (new_spns h)
+  pub names : (h : List Answered) (t : Tables) (office : Office) (net : Net) (r s : Sheet) (m n : Message) → Holds h t → IsLegal h office
+      → Contains office.nets net → Contains net.releases r → Contains net.releases s → Contains r.messages m → Contains s.messages n
+      → number_of m ≡ number_of n → m.name ≡ n.name

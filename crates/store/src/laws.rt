@@ -1,7 +1,7 @@
 //! Laws of tables that hold a history. Each is the contract of a function that does nothing.
-ghost use Rattle.store.specs.Laws.{HeldNetworksAreClear};
+ghost use Rattle.store.specs.Laws.{HeldNetworksAreClear, HeldNumbersMeanOneThing};
 
-use office_history::histories_leave_offices;
+use office_history::{histories_leave_offices, numbers_keep_their_names, spns_are_given_once};
 
 /// After every history that tables hold, no two live messages of a network have one identifier, no message has two
 /// signals that share a bit, and `message` has one row for each live message and no other.
@@ -9,4 +9,14 @@ pub fn held_networks_are_clear()
     ensures { HeldNetworksAreClear }
 {
     histories_leave_offices();
+}
+
+/// After every history that tables hold, and so after every run and every arrival: no two first arrivals of `take_spn`
+/// that don't ask to share a number were answered the same one; and in two releases of a network, one DBC number has one
+/// message name.
+pub fn held_numbers_mean_one_thing()
+    ensures { HeldNumbersMeanOneThing }
+{
+    spns_are_given_once();
+    numbers_keep_their_names();
 }

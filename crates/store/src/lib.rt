@@ -25,7 +25,7 @@ mod question;
 mod running;
 mod stored_office;
 
-pub use laws::held_networks_are_clear;
+pub use laws::{held_networks_are_clear, held_numbers_mean_one_thing};
 pub use lost::Lost;
 pub use office_history::{Answer, Arrival, Key, Request};
 pub use question::Question;

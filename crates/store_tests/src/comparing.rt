@@ -2,12 +2,12 @@
 use crate::expecting::Expected;
 use crate::looking::is_seen;
 use office_history::{Answer, Arrival};
-use sqlite::{Alter, Connection, Error};
+use sqlite::{Alter, Connection};
 use std::io::{self, ErrorKind};
 use store::{Lost, Office};
 
 /// A new office on the connection.
-pub(crate) fn opened<S: Alter + Drop>(conn: Connection<S>) -> io::Result<Office<S>> {
+fn opened<S: Alter + Drop>(conn: Connection<S>) -> io::Result<Office<S>> {
     if !conn.is_autocommit() {
         return Err(ErrorKind::InvalidData)?;
     }
@@ -48,25 +48,6 @@ pub(crate) fn is_answered(
 ) -> io::Result<bool> {
     let mut office = opened(Connection::open_in_memory(rt.alloc())?)?;
     answers_each(rt, &mut office, arrivals, expected)
-}
-
-/// Whether `arrive` answers the list as expected in a file of this name.
-pub(crate) fn is_answered_in_file(
-    rt: &HostRuntime,
-    path: &str,
-    arrivals: &[Arrival],
-    expected: &Expected,
-) -> io::Result<bool> {
-    let Ok(conn) = Connection::open(rt, path) else {
-        return Err(ErrorKind::InvalidData)?;
-    };
-    let mut office = opened(conn)?;
-    let right = answers_each(rt, &mut office, arrivals, expected);
-    let closed: Result<(), Error> = office.close().close();
-    if closed.is_err() {
-        return Ok(false);
-    }
-    right
 }
 
 /// Whether the list is answered as expected, and the tables are then as expected.

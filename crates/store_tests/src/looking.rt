@@ -1,7 +1,9 @@
-//! Looks at every network and release.
+//! Looks at the list of networks, and at every network, live message and release.
 use crate::expecting::Expected;
-use catalogue::{Copying, Message, Sheet, SheetCode};
+use catalogue::{Copying, Message, Name, Sheet, SheetCode};
+use chart::{message_chart, table_of};
 use dbc_write::text_of;
+use net_list::net_line;
 use office_types::{FrozenSheet, Net, NetName};
 use sqlite::Alter;
 use std::alloc::{AllocError, Global};
@@ -19,13 +21,13 @@ fn add(alloc: Global, sheet: &mut Sheet, message: &Message) -> io::Result<()> {
     }
 }
 
-/// The text of the network's live sheet.
-fn live_text(alloc: Global, net: &Net) -> io::Result<Vec<u8>> {
+/// The network's live sheet.
+fn live_sheet(alloc: Global, net: &Net) -> io::Result<Sheet> {
     let mut sheet = net.head.frame.duplicate(alloc)?;
     for live in net.live.as_slice() {
         add(alloc, &mut sheet, &live.message)?;
     }
-    Ok(text_of(alloc, &sheet)?)
+    Ok(sheet)
 }
 
 /// The text of the release.
@@ -51,14 +53,43 @@ fn shows<S: Alter>(
     }
 }
 
-fn net_is_seen<S: Alter>(alloc: Global, office: &mut Office<S>, net: &Net) -> io::Result<bool> {
-    let live = live_text(alloc, net)?;
-    let mut right = shows(
-        alloc,
-        office,
-        &Question::Live(net.name.duplicate(alloc)?),
-        Some(&live),
-    );
+/// Of how many live messages of a network the chart is asked, since each question reads the network.
+const CHARTS: usize = 8;
+
+/// Whether the charts of the first live messages are seen, and none of a message that isn't there.
+fn charts_are_seen<S: Alter>(alloc: Global, office: &mut Office<S>, net: &Net) -> io::Result<bool> {
+    let mut right = true;
+    for live in net.live.as_slice().iter().take(CHARTS) {
+        let chart = message_chart(alloc, &live.message)?;
+        let name = live.message.name.duplicate(alloc)?;
+        let question = Question::Chart(net.name.duplicate(alloc)?, name);
+        right = shows(alloc, office, &question, Some(&chart)) && right;
+    }
+    let Some(absent) = Name::of(alloc, b"NoMessageOfThisName")? else {
+        return Err(ErrorKind::InvalidData)?;
+    };
+    let question = Question::Chart(net.name.duplicate(alloc)?, absent);
+    Ok(shows(alloc, office, &question, None) && right)
+}
+
+/// Whether the live sheet is seen, and its table.
+fn live_is_seen<S: Alter>(alloc: Global, office: &mut Office<S>, net: &Net) -> io::Result<bool> {
+    let sheet = live_sheet(alloc, net)?;
+    let text = text_of(alloc, &sheet)?;
+    let table = table_of(alloc, &sheet)?;
+    let live = Question::Live(net.name.duplicate(alloc)?);
+    let right = shows(alloc, office, &live, Some(&text));
+    let question = Question::Table(net.name.duplicate(alloc)?);
+    Ok(shows(alloc, office, &question, Some(&table)) && right)
+}
+
+/// Whether each release is seen, and none after the last one.
+fn releases_are_seen<S: Alter>(
+    alloc: Global,
+    office: &mut Office<S>,
+    net: &Net,
+) -> io::Result<bool> {
+    let mut right = true;
     let mut number = 1u32;
     for release in net.releases.as_slice() {
         let text = release_text(alloc, release)?;
@@ -70,19 +101,43 @@ fn net_is_seen<S: Alter>(alloc: Global, office: &mut Office<S>, net: &Net) -> io
     Ok(shows(alloc, office, &next, None) && right)
 }
 
-/// Whether each live sheet and release is seen, and nothing of a network that isn't there.
+/// Whether the list has a line for each of these networks, in order.
+fn list_is_seen<S: Alter>(
+    alloc: Global,
+    office: &mut Office<S>,
+    expected: &Expected,
+) -> io::Result<bool> {
+    let mut list = Vec::new(alloc);
+    for net in expected.office.nets() {
+        let line = net_line(alloc, &net.name, &net.head, net.releases.as_slice().len())?;
+        list.extend_from_slice(&line)?;
+    }
+    Ok(shows(alloc, office, &Question::Nets, Some(&list)))
+}
+
+/// Whether nothing is seen of a network that isn't there.
+fn nothing_is_seen<S: Alter>(alloc: Global, office: &mut Office<S>) -> io::Result<bool> {
+    let Some(absent) = NetName::of(alloc, b"there-is-no-network-of-this-name")? else {
+        return Err(ErrorKind::InvalidData)?;
+    };
+    let live = Question::Live(absent.duplicate(alloc)?);
+    let right = shows(alloc, office, &live, None);
+    Ok(shows(alloc, office, &Question::Table(absent), None) && right)
+}
+
+/// Whether the list of networks is seen, each live sheet with its table and charts, and each release; and nothing of what
+/// isn't there.
 pub(crate) fn is_seen<S: Alter>(
     rt: &HostRuntime,
     office: &mut Office<S>,
     expected: &Expected,
 ) -> io::Result<bool> {
     let alloc = rt.alloc();
-    let mut right = true;
+    let mut right = list_is_seen(alloc, office, expected)?;
     for net in expected.office.nets() {
-        right = net_is_seen(alloc, office, net)? && right;
+        right = live_is_seen(alloc, office, net)? && right;
+        right = charts_are_seen(alloc, office, net)? && right;
+        right = releases_are_seen(alloc, office, net)? && right;
     }
-    let Some(absent) = NetName::of(alloc, b"there-is-no-network-of-this-name")? else {
-        return Err(ErrorKind::InvalidData)?;
-    };
-    Ok(shows(alloc, office, &Question::Live(absent), None) && right)
+    Ok(nothing_is_seen(alloc, office)? && right)
 }

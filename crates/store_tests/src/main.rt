@@ -2,13 +2,11 @@
 //! made of an office in memory and of what came first under each key.
 //!
 //! The words are folders of cases, whose scripts are the lists; each line arrives twice, under a key of its own. Each list
-//! goes to three offices: by `arrive` in memory and in a file, and by `run` in memory. After it, every network's live sheet
-//! and every release are looked at. A line is printed for each list: how many arrivals there were, and whether all of them
-//! were answered so.
+//! goes to two offices in memory, by `arrive` and by `run`. After it, every network's live sheet and every release are
+//! looked at. A line is printed for each list: how many arrivals there were, and whether all of them were answered so.
 //!
 //! Without words it tries each text of `office_rows` on real tables (`rows`), tables of something else, and a list that a
-//! generator makes. The words `rows DATABASE` ask for the first alone. With the words `measure DATABASE FOLDER` it tells how
-//! long the folder's script takes on a database file, or in memory for `-`.
+//! generator makes. The words `rows DATABASE` ask for the first alone.
 #![tactic(auto)]
 
 mod comparing;
@@ -17,35 +15,32 @@ mod folder;
 mod foreign;
 mod generating;
 mod looking;
-mod measuring;
 mod reading;
 mod rows;
 
-use comparing::{is_answered, is_answered_in_file, is_run};
+use comparing::{is_answered, is_run};
 use expecting::Expected;
 use folder::Folder;
 use foreign::try_foreign;
 use generating::generated_text;
-use measuring::measure;
 use office_history::Arrival;
 use reading::{arrivals_of, arrivals_of_case};
 use rows::try_rows;
 use std::{env, io};
 
 /// Whether every way of answering the list gives what is expected.
-fn is_as_expected(rt: &HostRuntime, arrivals: &[Arrival], name: &str) -> io::Result<bool> {
+fn is_as_expected(rt: &HostRuntime, arrivals: &[Arrival]) -> io::Result<bool> {
     let expected = Expected::of(rt.alloc(), arrivals)?;
     let answered = is_answered(rt, arrivals, &expected);
     let run = is_run(rt, arrivals, &expected);
-    let in_file = is_answered_in_file(rt, name, arrivals, &expected);
     drop(expected);
-    Ok(answered? && run? && in_file?)
+    Ok(answered? && run?)
 }
 
-/// Tries the list, and tells what came of it. The name is also that of the database file.
+/// Tries the list, and tells what came of it.
 fn try_list(rt: &HostRuntime, name: &str, arrivals: &[Arrival]) -> io::Result<()> {
     let count = arrivals.len();
-    if is_as_expected(rt, arrivals, name)? {
+    if is_as_expected(rt, arrivals)? {
         println!(rt; "{name}: {count} arrivals, all as expected")
     } else {
         println!(rt; "{name}: {count} arrivals, NOT as expected")
@@ -59,15 +54,14 @@ fn try_generated(rt: &HostRuntime) -> io::Result<()> {
         rt,
         name: "office_import_twice",
     };
-    try_list(rt, "generated.db", &arrivals_of(&folder, &text, 1)?)
+    try_list(rt, "generated", &arrivals_of(&folder, &text, 1)?)
 }
 
 /// Tries each folder's script, each line twice.
 fn try_folders(rt: &HostRuntime, folders: &[String]) -> io::Result<()> {
     for name in folders {
         let folder = Folder { rt, name };
-        let path = folder.path_of(rt.alloc(), "store.db")?;
-        try_list(rt, path.as_str(), &arrivals_of_case(&folder, 2)?)?;
+        try_list(rt, name, &arrivals_of_case(&folder, 2)?)?;
     }
     Ok(())
 }
@@ -81,7 +75,6 @@ fn main(rt: HostRuntime) -> io::Result<()> {
             try_generated(&rt)
         }
         [_, word, path] if word.as_str() == "rows" => try_rows(&rt, path),
-        [_, word, path, folder] if word.as_str() == "measure" => measure(&rt, path, folder),
         [_, folders @ ..] => try_folders(&rt, folders),
         [] => Ok(()),
     }

@@ -1,14 +1,14 @@
-//! The files of the machine that the program runs on.
+//! The files and the standard input of the machine that the program runs on.
 ghost use Rattle.std.specs.Prelude.{◌≡◌, ◌↔◌};
 ghost use Rattle.std.specs.IoError.{error_kind};
 
-use super::{FileFault, FileSource};
+use super::{FileFault, FileSource, StandardInput};
 use std::alloc::Global;
 use std::fs::File;
-use std::io::{self, ErrorKind, Read};
+use std::io::{self, ErrorKind, Input, Read};
 use std::rt::Files;
 
-/// The machine's files, as the runtime opens them. Nothing is known of them before they are read.
+/// The machine's files and its standard input, as the runtime opens them. Nothing is known of them before they are read.
 #[derive(Clone, Copy)]
 pub struct HostFiles<'r, R> {
     /// The runtime.
@@ -27,6 +27,21 @@ impl<R: Files> FileSource for HostFiles<'_, R> {
         };
         let mut bytes = Vec::new(alloc);
         match file.read_to_end(&mut bytes) {
+            Ok(_) => Ok(bytes),
+            Err(error) => Err(fault_of(&error)),
+        }
+    }
+}
+
+impl<R: Input> StandardInput for HostFiles<'_, R> {
+    ghost use Rattle.office_script.specs.Files.{unknown};
+
+    ghost given = { λ _. unknown };
+
+    fn read_input(&self, alloc: Global) -> Result<Vec<u8>, FileFault> {
+        let mut input = self.rt.reader();
+        let mut bytes = Vec::new(alloc);
+        match input.read_to_end(&mut bytes) {
             Ok(_) => Ok(bytes),
             Err(error) => Err(fault_of(&error)),
         }

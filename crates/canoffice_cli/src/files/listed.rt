@@ -1,8 +1,8 @@
-//! Files in memory.
+//! Files and standard input in memory.
 ghost use Rattle.std.specs.Prelude.{◌≡◌, find, option_map};
 ghost use Rattle.std.specs.Str.{bytes_eq};
 
-use super::{FileFault, FileSource};
+use super::{FileFault, FileSource, StandardInput};
 use std::alloc::Global;
 
 /// The bytes of a file, and the path that names it.
@@ -14,11 +14,13 @@ pub struct NamedFile<'a> {
     pub bytes: &'a [u8],
 }
 
-/// The files of a list, and no others. If a path occurs twice, the first file counts.
+/// The files of a list, and no others, and a standard input. If a path occurs twice, the first file counts.
 #[derive(Clone, Copy, Debug)]
 pub struct ListedFiles<'a> {
     /// The files, in order.
     pub files: &'a [NamedFile<'a>],
+    /// The bytes of standard input.
+    pub input: &'a [u8],
 }
 
 impl FileSource for ListedFiles<'_> {
@@ -33,6 +35,19 @@ impl FileSource for ListedFiles<'_> {
                 Err(_) => Err(FileFault::Memory),
             },
             None => Err(FileFault::Unreadable),
+        }
+    }
+}
+
+impl StandardInput for ListedFiles<'_> {
+    ghost use Rattle.office_script.specs.Files.{holding};
+
+    ghost given = { λ s. holding s.input.now };
+
+    fn read_input(&self, alloc: Global) -> Result<Vec<u8>, FileFault> {
+        match Vec::from_slice(alloc, self.input) {
+            Ok(bytes) => Ok(bytes),
+            Err(_) => Err(FileFault::Memory),
         }
     }
 }

@@ -3,7 +3,7 @@ use Rattle.std.proofs.lemmas.List.{take_more}
 use Rattle.sqlite.specs.Held.{state}
 use Rattle.sqlite.specs.State.{HasCleanDisk}
 use Rattle.store.specs.Holding.{Holding}
-use Rattle.canoffice_cli.specs.Databases.{IsLegalHistory}
+use Rattle.office_history.specs.History.{IsLegalHistory}
 use Rattle.canoffice_cli.proofs.Told.{held_is_legal, history_at_first, history_so_far, told_next}
 use Rattle.canoffice_cli.proofs.answering.answer_all.Goals as goal
 

@@ -1,7 +1,7 @@
 use Rattle.std.proofs.Common.{◌≡◌, ◌+◌, ◌<◌, ◌++◌, ◌∷◌, [], length, take, ap, ◌∙◌, subst, arith, length-append}
 use Rattle.std.proofs.lemmas.List.{take_more}
 use Rattle.office_keyed.specs.Keyed.{Holds}
-use Rattle.canoffice_cli.specs.Databases.{IsLegalHistory}
+use Rattle.office_history.specs.History.{IsLegalHistory}
 use Rattle.canoffice_cli.proofs.Told.{history_at_first, history_so_far, told_next}
 use Rattle.canoffice_cli.proofs.answering.answer_in_memory.Goals as goal
 

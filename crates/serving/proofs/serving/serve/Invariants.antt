@@ -1,10 +1,11 @@
 use Rattle.std.proofs.Common.{◌≡◌, ◌≤◌, List, length}
+use Rattle.std.specs.Prelude.{All}
 use Rattle.sqlite.specs.Held.{state}
 use Rattle.sqlite.specs.State.{HasCleanDisk}
 use Rattle.sqlite_trees.specs.View.{doubt}
 use Rattle.office_history.specs.History.{Answered}
 use Rattle.store.specs.Holding.{Holding}
-use Rattle.serving.specs.Serving.{Came, Ended, Ran, Visit}
+use Rattle.serving.specs.Serving.{Came, Ended, FailsOnce, HasCause, IsDeclined, Ran, Visit}
 use Rattle.serving.proofs.serving.serve.Given as goal
 
 -- the connections so far were served
@@ -18,5 +19,6 @@ invariant-loop-served g l =
       clean : doubt old.is_clean ≤ doubt now.is_clean;
       so_far : (visits : List Visit) × (length visits ≡ l._served) × Came (coming l.fn.listener) (coming l.listener) visits
           × Ended (ended l.fn.listener) (ended l.listener) visits
+          × All HasCause visits × FailsOnce l.fn.office.failed visits l.office.failed × All IsDeclined visits
           × (HasCleanDisk now → (h : List Answered) → Holding h old → Ran h visits l.office.failed now);
     }

@@ -1,0 +1,47 @@
+-- What `--explain` adds to the outcome of a job on the bytes of a file.
+use Rattle.std.specs.Prelude.{◌≡◌, ◌⊎◌, ℕ, Bool, true, false, List, [], Option, Some, None, map}
+use Rattle.std.specs.Borrow.{Bor}
+use Rattle.catalogue.specs.Reads.{ReadsAs}
+use Rattle.catalogue.specs.declared.sheet.Sheet.{Sheet}
+use Rattle.dbc_advice.specs.Explained.{IsExplained}
+use Rattle.dbc_advice.specs.LeftOut.{left_out}
+use Rattle.dbc_read.specs.Passed.{start_and_keyword}
+use Rattle.dbc_read.specs.Reading.{ReadsAsNothing}
+use Rattle.dbc_read.specs.declared.passed.Passed.{Passed}
+use Rattle.office_script.specs.Lines.{lines_of}
+use Rattle.office_script.specs.declared.keys.Dash.{Dash}
+use Rattle.office_script.specs.declared.keys.Dash.TheVariants.{LineNumber, Wrong}
+use Rattle.script_advice.specs.Explained.{told_of}
+use Rattle.canoffice_cli.specs.Outcome.{Outcome, and_errors}
+use Rattle.canoffice_cli.specs.declared.file_jobs.FileTask.{FileTask}
+use Rattle.canoffice_cli.specs.declared.file_jobs.FileTask.TheVariants as task
+
+-- what is said of a DBC text whose canonical text is printed: what its sheet leaves out, or its faults if it reads as none
+abbrev pub IsSaidOfFormat : List ℕ → List ℕ → List ℕ → Type 0
+IsSaidOfFormat name bytes said =
+    (ReadsAsNothing bytes × IsExplained name bytes said)
+    ⊎ ((s : Sheet) × (passed : List Passed) × ReadsAs bytes s (map start_and_keyword passed) × (said ≡ left_out name bytes s passed))
+
+-- what `-` means as a key in a script for the office in this database, or for one in memory
+abbrev pub dash_of : Option (Bor (List ℕ)) → Dash
+dash_of None = LineNumber
+dash_of (Some path) = Wrong
+
+-- What is said of the file of this name with these bytes. Of a script the first wrong line is told, whatever can't be read
+-- before it.
+abbrev pub IsSaid : FileTask → List ℕ → List ℕ → List ℕ → Type 0
+IsSaid (task.Apply database) name bytes said = said ≡ told_of name (dash_of database) 1 (lines_of bytes)
+IsSaid task.Check name bytes said = IsExplained name bytes said
+IsSaid task.Format name bytes said = IsSaidOfFormat name bytes said
+IsSaid task.Table name bytes said = said ≡ []
+
+-- the output and the status are the plain ones, and something is said after the plain errors
+pub record Explains (IsSaid : List ℕ → Type 0) (plain o : Outcome) : Type 0 where
+  pub said : List ℕ
+  pub is : IsSaid said
+  pub whole : o ≡ and_errors plain said
+
+-- the same with `--explain` or without
+abbrev pub MayExplain : Bool → (List ℕ → Type 0) → Outcome → Outcome → Type 0
+MayExplain true IsSaid plain o = Explains IsSaid plain o
+MayExplain false IsSaid plain o = o ≡ plain

@@ -1,0 +1,46 @@
+//! What `--explain` says on standard error, after what is said there without it.
+ghost use Rattle.std.specs.Prelude.{◌≡◌, IfOk};
+ghost use Rattle.canoffice_cli.specs.Explaining.{IsSaid, IsSaidOfFormat, dash_of};
+
+use crate::file_jobs::FileTask;
+use dbc_advice::{Source, explained, left_out};
+use dbc_read::{ReadCode, read};
+use office_script::Dash;
+use std::alloc::{AllocError, Global};
+
+/// What is said of a DBC text whose canonical text is printed: what this leaves out, or why it reads as no sheet.
+fn said_of_format(alloc: Global, source: Source) -> Result<Vec<u8>, AllocError>
+    ensures { IfOk result (λ said. IsSaidOfFormat source.entry.name.now source.entry.text.now said.items) }
+{
+    match read(alloc, source.text) {
+        Ok(reading) => left_out(alloc, source, &reading),
+        Err(fault) => match fault.code {
+            ReadCode::Memory => Err(AllocError),
+            _ => explained(alloc, source),
+        },
+    }
+}
+
+/// What `-` means as a key in a script for the office in this database, or for one in memory.
+fn dash_of(database: Option<&str>) -> Dash
+    ensures { result ≡ dash_of database.entry }
+{
+    match database {
+        None => Dash::LineNumber,
+        Some(_) => Dash::Wrong,
+    }
+}
+
+/// What is said of a file, by what is done with its bytes. The error is out of memory.
+pub(crate) fn said(alloc: Global, task: FileTask<'_>, source: Source) -> Result<Vec<u8>, AllocError>
+    ensures { IfOk result (λ said. IsSaid task.entry source.entry.name.now source.entry.text.now said.items) }
+{
+    match task {
+        FileTask::Check => explained(alloc, source),
+        FileTask::Format => said_of_format(alloc, source),
+        FileTask::Apply(database) => {
+            script_advice::explained(alloc, source.name, source.text, dash_of(database))
+        }
+        FileTask::Table => Ok(Vec::new(alloc)),
+    }
+}

@@ -1,0 +1,128 @@
+//! Jobs on the bytes of one file, or of standard input.
+ghost use Rattle.std.specs.Prelude.{◌≡◌, IfOk};
+ghost use Rattle.office_script.specs.declared.files.FileFault.TheVariants.{Unreadable};
+ghost use Rattle.canoffice_cli.specs.Databases.{AreKept};
+ghost use Rattle.canoffice_cli.specs.Outcome.{outcome_of, unreadable};
+ghost use Rattle.canoffice_cli.specs.Performance.{ComesTo, IsFileOutcome, IsOfBytes};
+
+use crate::apply::apply_script;
+use crate::checking::check_report;
+use crate::databases::Databases;
+use crate::explaining::said;
+use crate::files::{FileFault, FileSource, StandardInput, bytes_at};
+use crate::formatting::format_report;
+use crate::progress::Progress;
+use crate::report::{Report, cannot_read};
+use crate::tabling::table_report;
+use dbc_advice::Source;
+use std::alloc::{AllocError, Global};
+use std::io::Write;
+
+/// What is done with the bytes of a file.
+#[derive(Clone, Copy)]
+pub(crate) enum FileTask<'a> {
+    /// They are a script, which is applied to the office in the database of this path, or to one in memory.
+    Apply(Option<&'a str>),
+    /// They are DBC text, which is checked.
+    Check,
+    /// They are DBC text, which is printed in its canonical form.
+    Format,
+    /// They are DBC text, the table of whose messages is printed.
+    Table,
+}
+
+/// A job on a file.
+#[derive(Clone, Copy)]
+pub(crate) struct FileJob<'a> {
+    /// What is done with its bytes.
+    pub task: FileTask<'a>,
+    /// Its path, or `-` for standard input. Messages name it so.
+    pub path: &'a str,
+    /// Whether more is said of it on standard error.
+    pub explain: bool,
+}
+
+impl<'a> FileJob<'a> {
+    /// The job of this task on the file of this path.
+    pub fn new(task: FileTask<'a>, path: &'a str, explain: bool) -> FileJob<'a>
+        ensures { result ≡ record { task = task.entry; path = path.entry; explain = explain } }
+    {
+        FileJob {
+            task,
+            path,
+            explain,
+        }
+    }
+}
+
+/// The report that the file can't be read, unless memory ran out.
+fn unreadable_report(alloc: Global, file: &str, fault: FileFault) -> Result<Report, AllocError>
+    ensures { IfOk result (λ report. (fault ≡ Unreadable) × (outcome_of report ≡ unreadable file.now)) }
+{
+    match fault {
+        FileFault::Unreadable => cannot_read(alloc, file),
+        FileFault::Memory => Err(AllocError),
+    }
+}
+
+/// The report on the file of the job: that on its bytes, or that it can't be read.
+pub(crate) fn file_report<F: FileSource + StandardInput, D: Databases, W: Write>(
+    alloc: Global,
+    job: FileJob<'_>,
+    files: &F,
+    databases: &mut D,
+    progress: &mut Progress<W>,
+) -> Result<Report, AllocError>
+    ensures { IfOk result (λ report. IsFileOutcome (F.held files.now) (F.given files.now) (D.known databases.old) (D.known databases.new) job.entry (outcome_of report)) }
+{
+    match bytes_at(alloc, files, job.path) {
+        Ok(bytes) => bytes_report(alloc, job, &bytes, files, databases, progress),
+        Err(fault) => unreadable_report(alloc, job.path, fault),
+    }
+}
+
+/// The report on the bytes of the job's file.
+fn bytes_report<F: FileSource, D: Databases, W: Write>(
+    alloc: Global,
+    job: FileJob<'_>,
+    bytes: &[u8],
+    files: &F,
+    databases: &mut D,
+    progress: &mut Progress<W>,
+) -> Result<Report, AllocError>
+    ensures { IfOk result (λ report. IsOfBytes (F.held files.now) (D.known databases.old) (D.known databases.new) job.entry bytes.now (outcome_of report)) }
+{
+    if job.explain {
+        let source = Source {
+            name: job.path.as_bytes(),
+            text: bytes,
+        };
+        // First of all, so that what a database answers can't be lost for want of memory for this.
+        let said = said(alloc, job.task, source)?;
+        let report = task_report(alloc, job.task, bytes, files, databases, progress)?;
+        report.and_errors(&said)
+    } else {
+        task_report(alloc, job.task, bytes, files, databases, progress)
+    }
+}
+
+/// The report of the task on the bytes, without more.
+fn task_report<F: FileSource, D: Databases, W: Write>(
+    alloc: Global,
+    task: FileTask<'_>,
+    bytes: &[u8],
+    files: &F,
+    databases: &mut D,
+    progress: &mut Progress<W>,
+) -> Result<Report, AllocError>
+    ensures { IfOk result (λ report. ComesTo (F.held files.now) (D.known databases.old) (D.known databases.new) task.entry bytes.now (outcome_of report)) }
+{
+    match task {
+        FileTask::Apply(database) => {
+            apply_script(alloc, bytes, files, database, databases, progress)
+        }
+        FileTask::Check => check_report(alloc, bytes),
+        FileTask::Format => format_report(alloc, bytes),
+        FileTask::Table => table_report(alloc, bytes),
+    }
+}

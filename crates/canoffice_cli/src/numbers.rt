@@ -1,0 +1,68 @@
+//! The numbers that words of the command line give.
+ghost use Rattle.std.specs.Prelude.{◌≡◌, ◌≤◌, Some, None, IfOk, IfErr};
+ghost use Rattle.std.specs.Option.{option_map};
+ghost use Rattle.chart.specs.Word.{length_of};
+ghost use Rattle.canoffice_cli.specs.Numbers.{count_given, number_given, port_given, release_number};
+
+use chart::{length_of, whole_between};
+
+/// The port where none is given.
+const PORT: u32 = 8089;
+
+/// The greatest port.
+const PORT_LIMIT: u32 = 65_535;
+
+/// The greatest count of connections, which is also the one where none is given.
+const COUNT_LIMIT: u32 = 1_000_000;
+
+/// The greatest number of a release.
+const RELEASE_LIMIT: u32 = 65_535;
+
+/// The length of a message that the word gives: 0 to 64 bytes, as [`length_of`] of the crate `chart` reads it.
+pub(crate) fn length_given(word: &str) -> Option<u16>
+    ensures { result ≡ length_of word.now }
+{
+    length_of(word.as_bytes())
+}
+
+/// The number of a release, or 0 for the live sheet, that the word gives: digits, up to 65535.
+pub(crate) fn release_number(word: &str) -> Option<u32>
+    ensures { result ≡ release_number word.now }
+{
+    whole_between(word.as_bytes(), 0, RELEASE_LIMIT)
+}
+
+/// The number from 1 to the limit that the word gives; the other one where there is no word. The error is a word that
+/// gives none.
+fn number_given<'a>(word: Option<&'a str>, absent: u32, limit: u32) -> Result<u32, &'a str>
+    requires { absent ≤ limit }
+    ensures within { IfOk result (λ number. number ≤ limit) }
+    ensures given { IfOk result (λ number. number_given absent limit (option_map (λ w. w.now) word.entry) ≡ Some number) }
+    ensures wrong { IfErr result (λ wrong. (option_map (λ w. w.now) word.entry ≡ Some wrong.now) × (number_given absent limit (option_map (λ w. w.now) word.entry) ≡ None)) }
+{
+    let Some(word) = word else {
+        return Ok(absent);
+    };
+    match whole_between(word.as_bytes(), 1, limit) {
+        Some(number) => Ok(number),
+        None => Err(word),
+    }
+}
+
+/// The port that the word gives: 1 to 65535, and 8089 where there is no word. The error is a word that gives none.
+pub(crate) fn port_given<'a>(word: Option<&'a str>) -> Result<u16, &'a str>
+    ensures given { IfOk result (λ port. port_given (option_map (λ w. w.now) word.entry) ≡ Some port) }
+    ensures wrong { IfErr result (λ wrong. (option_map (λ w. w.now) word.entry ≡ Some wrong.now) × (port_given (option_map (λ w. w.now) word.entry) ≡ None)) }
+{
+    let port = number_given(word, PORT, PORT_LIMIT)?;
+    Ok(port as u16)
+}
+
+/// The count of connections that the word gives: 1 to 1000000, and 1000000 where there is no word. The error is a word that
+/// gives none.
+pub(crate) fn count_given<'a>(word: Option<&'a str>) -> Result<u32, &'a str>
+    ensures given { IfOk result (λ count. count_given (option_map (λ w. w.now) word.entry) ≡ Some count) }
+    ensures wrong { IfErr result (λ wrong. (option_map (λ w. w.now) word.entry ≡ Some wrong.now) × (count_given (option_map (λ w. w.now) word.entry) ≡ None)) }
+{
+    number_given(word, COUNT_LIMIT, COUNT_LIMIT)
+}

@@ -1,0 +1,5 @@
+pub mod ToldMore
+pub mod ToldLines
+pub mod ClashLines
+pub mod PartedMore
+pub mod Rows

@@ -1,0 +1,133 @@
+//! What is told of messages that aren't clear.
+ghost use Rattle.std.specs.Prelude.{◌≡◌, ◌≤◌, IfOk, length};
+ghost use Rattle.bitlayout.specs.Clash.{faulty_index};
+ghost use Rattle.catalogue.specs.Signals.{places_of};
+ghost use Rattle.dbc_advice.specs.Clashes.{AreClashLines, AreCutLines, IsClashLine, clash_label};
+ghost use Rattle.dbc_advice.specs.Reasons.{AreReasons};
+ghost use Rattle.dbc_advice.specs.ToldLine.{AreLinesOf};
+
+use crate::notes::Source;
+use crate::places::{Heading, headings, message_place, signal_place};
+use crate::position::position_of;
+use crate::reasons::{Reason, reasons_of};
+use crate::sentences::{code_label, more_line, told_line};
+use crate::unclear::reason_text;
+use bitlayout::Clash;
+use catalogue::{Message, Sheet, SheetCode};
+use std::alloc::{AllocError, Global};
+
+/// How many reasons are told why messages aren't clear.
+pub const CLASHES_TOLD: usize = 100;
+
+/// The index of the signal that the clash is told at.
+fn signal_index(clash: Clash) -> usize
+    ensures { result ≡ faulty_index clash }
+{
+    match clash {
+        Clash::Outside(index) | Clash::TwoMultiplexors(index) | Clash::NoMultiplexor(index) => {
+            index
+        }
+        Clash::Overlap { later, .. } => later,
+    }
+}
+
+/// The offset of the signal that the reason is told at.
+fn reason_place(text: &[u8], headings: &[Heading], message: &Message, reason: Reason) -> usize
+    ensures { result ≤ length text.now }
+{
+    let from = message_place(headings, message.number()).min(text.len());
+    match message.signals.as_slice().get(signal_index(reason.clash)) {
+        Some(signal) => signal_place(text, from, signal.name.as_bytes()),
+        None => from,
+    }
+}
+
+/// The code of a clash, and its name.
+fn clash_label(alloc: Global, clash: Clash) -> Result<Vec<u8>, AllocError>
+    ensures { IfOk result (λ label. label.items ≡ clash_label clash) }
+{
+    let code = SheetCode::from(clash);
+    code_label(alloc, code.number(), code.name())
+}
+
+/// The line of a reason why the message isn't clear.
+fn clash_line(
+    alloc: Global,
+    source: Source,
+    headings: &[Heading],
+    message: &Message,
+    reason: Reason,
+) -> Result<Vec<u8>, AllocError>
+    ensures { IfOk result (λ line. IsClashLine source.entry.name.now source.entry.text.now (message.now, reason) line.items) }
+{
+    let label = clash_label(alloc, reason.clash)?;
+    let words = reason_text(alloc, message, reason)?;
+    let at = reason_place(source.text, headings, message, reason);
+    let position = position_of(source.text, at);
+    told_line(alloc, source.name, position, &label, &words)
+}
+
+/// The lines of these reasons why the message isn't clear, in order.
+fn clash_lines(
+    alloc: Global,
+    source: Source,
+    headings: &[Heading],
+    message: &Message,
+    reasons: &[Reason],
+) -> Result<Vec<u8>, AllocError>
+    ensures { IfOk result (λ lines. AreLinesOf (λ r. IsClashLine source.entry.name.now source.entry.text.now (message.now, r)) reasons.now lines.items) }
+{
+    let mut lines = Vec::new(alloc);
+    for reason in reasons {
+        let line = clash_line(alloc, source, headings, message, *reason)?;
+        lines.extend_from_slice(&line)?;
+    }
+    Ok(lines)
+}
+
+/// Why the message isn't clear: all reasons, or more than are told.
+fn message_reasons(alloc: Global, message: &Message) -> Result<Vec<Reason>, AllocError>
+    ensures { IfOk result (λ reasons. AreReasons message.now.length (places_of message.now.signals) reasons.items) }
+{
+    let places = message.signals.places(alloc)?;
+    reasons_of(alloc, &places, message.length.bytes())
+}
+
+/// The lines of the first of these reasons, so many as there is room for, and a last one: there are more.
+fn cut_lines(
+    alloc: Global,
+    source: Source,
+    headings: &[Heading],
+    message: &Message,
+    reasons: &[Reason],
+) -> Result<Vec<u8>, AllocError>
+    ensures { IfOk result (λ out. AreCutLines source.entry.name.now source.entry.text.now message.now reasons.now out.items) }
+{
+    let mut lines = clash_lines(alloc, source, headings, message, reasons)?;
+    let more = more_line(alloc, source.name, CLASHES_TOLD, "clashes")?;
+    lines.extend_from_slice(&more)?;
+    Ok(lines)
+}
+
+/// Why messages of the sheet aren't clear: a line for each of the first [`CLASHES_TOLD`] reasons, and a last one if there
+/// are more. The error is out of memory.
+pub(crate) fn unclear(alloc: Global, source: Source, sheet: &Sheet) -> Result<Vec<u8>, AllocError>
+    ensures { IfOk result (λ out. AreClashLines source.entry.name.now source.entry.text.now sheet.now.messages out.items) }
+{
+    let mut lines = Vec::new(alloc);
+    let headings = headings(alloc, source.text)?;
+    let mut told = 0;
+    for message in sheet.messages() {
+        let reasons = message_reasons(alloc, message)?;
+        let room = CLASHES_TOLD - told;
+        if reasons.len() > room {
+            let last = cut_lines(alloc, source, &headings, message, &reasons[..room])?;
+            lines.extend_from_slice(&last)?;
+            return Ok(lines);
+        }
+        let all = clash_lines(alloc, source, &headings, message, &reasons)?;
+        lines.extend_from_slice(&all)?;
+        told += reasons.len();
+    }
+    Ok(lines)
+}

@@ -1,0 +1,110 @@
+//! All that is told of a file.
+ghost use Rattle.std.specs.Prelude.{◌≡◌, ◌≤◌, IfOk, length};
+ghost use Rattle.dbc_advice.specs.Explained.{AreFaultLines, IsExplained, IsFaultLine, IsRest, IsSaidOfSheet, count_line, ending_text};
+
+use crate::clashes::unclear;
+use crate::faulty_lines::keyword_at;
+use crate::found::found_at;
+use crate::leaving::left_out;
+use crate::notes::Source;
+use crate::position::position_of;
+use crate::sentences::{code_label, sentence, told_line};
+use crate::telling::{Ending, Telling, Told, told_faults};
+use dbc_read::Reading;
+use std::alloc::{AllocError, Global};
+
+/// The line of a fault.
+fn fault_line(alloc: Global, source: Source, told: &Told) -> Result<Vec<u8>, AllocError>
+    ensures { IfOk result (λ line. IsFaultLine source.entry.name.now source.entry.text.now told.now line.items) }
+{
+    let at = told.fault.at.min(source.text.len());
+    let first = told.lines.first.min(source.text.len());
+    let code = told.fault.code;
+    let label = code_label(alloc, code.number(), code.name())?;
+    let found = found_at(source.text, at);
+    let statement = keyword_at(source.text, first);
+    let words = sentence(alloc, code, found, &told.wanted, statement, told.hint)?;
+    told_line(
+        alloc,
+        source.name,
+        position_of(source.text, at),
+        &label,
+        &words,
+    )
+}
+
+/// The lines of the faults, in order.
+fn fault_lines(alloc: Global, source: Source, told: &[Told]) -> Result<Vec<u8>, AllocError>
+    ensures { IfOk result (λ lines. AreFaultLines source.entry.name.now source.entry.text.now told.now lines.items) }
+{
+    let mut lines = Vec::new(alloc);
+    for one in told {
+        let line = fault_line(alloc, source, one)?;
+        lines.extend_from_slice(&line)?;
+    }
+    Ok(lines)
+}
+
+/// Why no more faults are told.
+fn ending_text(ending: &Ending) -> &'static str
+    ensures { result.now ≡ ending_text ending.now }
+{
+    match ending {
+        Ending::Reads(_) => "the rest reads",
+        Ending::Many => "there may be more",
+        Ending::Long => "the file is too long to look for more",
+        Ending::Unchanged => "no more can be looked for",
+    }
+}
+
+/// The last line: how many faults are told, and why no more.
+fn count_line(
+    alloc: Global,
+    file: &[u8],
+    count: usize,
+    ending: &Ending,
+) -> Result<Vec<u8>, AllocError>
+    ensures { IfOk result (λ line. line.items ≡ count_line file.now count ending.now) }
+{
+    let rest = ending_text(ending);
+    let words = format!(in alloc; ": {count} told, {rest}\n")?;
+    let mut line = Vec::from_slice(alloc, file)?;
+    line.extend_from_slice(words.as_bytes())?;
+    Ok(line)
+}
+
+/// What is said of a file that reads: each reason why a message isn't clear, and what the sheet leaves out.
+fn said_of_sheet(alloc: Global, source: Source, reading: &Reading) -> Result<Vec<u8>, AllocError>
+    ensures { IfOk result (λ out. IsSaidOfSheet source.entry.name.now source.entry.text.now reading.now out.items) }
+{
+    let mut lines = unclear(alloc, source, &reading.sheet)?;
+    lines.extend_from_slice(&left_out(alloc, source, reading)?)?;
+    Ok(lines)
+}
+
+/// What is said after the faults: of a file that reads what is said of its sheet, and else how many faults are told.
+fn rest_of(alloc: Global, source: Source, telling: &Telling) -> Result<Vec<u8>, AllocError>
+    ensures { IfOk result (λ rest. IsRest source.entry.name.now source.entry.text.now telling.now.told.items telling.now.ending rest.items) }
+{
+    let count = telling.told.len();
+    match &telling.ending {
+        Ending::Reads(reading) if count == 0 => said_of_sheet(alloc, source, reading),
+        ending => count_line(alloc, source.name, count, ending),
+    }
+}
+
+/// All that is told of a DBC file beside what is answered. The error is out of memory.
+///
+/// Of one that can't be read, a line for its fault, one for that of the text with the lines of the first blanked, and so on,
+/// at most [`FAULTS_TOLD`](crate::FAULTS_TOLD) and for at most [`BYTES_READ_AGAIN`](crate::BYTES_READ_AGAIN); and a last one
+/// with their count. Of one that reads, a line for each reason why a message isn't clear, at most
+/// [`CLASHES_TOLD`](crate::CLASHES_TOLD) and then that there are more, and what [`left_out`](crate::left_out) says.
+pub fn explained(alloc: Global, source: Source) -> Result<Vec<u8>, AllocError>
+    ensures { IfOk result (λ out. IsExplained source.entry.name.now source.entry.text.now out.items) }
+{
+    let telling = told_faults(alloc, source.text)?;
+    let mut lines = fault_lines(alloc, source, &telling.told)?;
+    let rest = rest_of(alloc, source, &telling)?;
+    lines.extend_from_slice(&rest)?;
+    Ok(lines)
+}

@@ -1,0 +1,209 @@
+//! What is said of statements that are skipped: those that cite what isn't in the file one by one, the others kind by
+//! kind.
+ghost use Rattle.std.specs.Prelude.{◌≡◌, ◌≤◌, IfOk, codes, length, option_map, string_bytes};
+ghost use Rattle.dbc_advice.specs.Citation.{cited_of};
+ghost use Rattle.dbc_advice.specs.LeftOut.{ArePartedFrom, count_text, has_keyword, kind_count, kind_text, kinds_text, left_out, line_after, missing_at, missing_line, passed_label, passed_line};
+ghost use Rattle.dbc_advice.specs.ToldLine.{more_text};
+
+use crate::citation::{Citation, citation_at, citation_text, is_missing};
+use crate::notes::Source;
+use crate::position::position_of;
+use crate::sentences::{more_line, told_line};
+use catalogue::{Keyword, Sheet};
+use dbc_read::{Passed, Reading};
+use std::alloc::{AllocError, Global};
+
+/// How many statements that cite what isn't in the file are told one by one.
+pub const CITATIONS_TOLD: usize = 100;
+
+/// `passed` and the keyword.
+fn passed_label(alloc: Global, keyword: Keyword) -> Result<Vec<u8>, AllocError>
+    ensures { IfOk result (λ label. label.items ≡ passed_label keyword) }
+{
+    let text = format!(in alloc; "passed {}", keyword.text())?;
+    Ok(text.into_bytes())
+}
+
+/// The line of what is said of a skipped statement: at its keyword, and with this as its label.
+fn passed_line(
+    alloc: Global,
+    source: Source,
+    passed: Passed,
+    sentence: &[u8],
+) -> Result<Vec<u8>, AllocError>
+    ensures { IfOk result (λ line. line.items ≡ passed_line source.entry.name.now source.entry.text.now passed sentence.now) }
+{
+    let label = passed_label(alloc, passed.keyword)?;
+    let at = passed.at.min(source.text.len());
+    let position = position_of(source.text, at);
+    told_line(alloc, source.name, position, &label, sentence)
+}
+
+/// What the skipped statement cites, if the sheet doesn't have it.
+fn missing_at<'a>(sheet: &Sheet, text: &'a [u8], passed: Passed) -> Option<Citation<'a>>
+    ensures { option_map cited_of result ≡ missing_at sheet.now text.now passed }
+{
+    let citation = citation_at(text, passed.at)?;
+    if is_missing(sheet, citation) {
+        Some(citation)
+    } else {
+        None
+    }
+}
+
+/// The line of a skipped statement that cites what isn't in the file.
+fn missing_line(
+    alloc: Global,
+    source: Source,
+    passed: Passed,
+    citation: Citation,
+) -> Result<Vec<u8>, AllocError>
+    ensures { IfOk result (λ line. line.items ≡ missing_line source.entry.name.now source.entry.text.now (passed, cited_of citation.entry)) }
+{
+    let sentence = citation_text(alloc, citation)?;
+    passed_line(alloc, source, passed, &sentence)
+}
+
+/// The same after so many that are told: nothing, if enough are.
+fn line_after(
+    alloc: Global,
+    told: usize,
+    source: Source,
+    passed: Passed,
+    citation: Citation,
+) -> Result<Vec<u8>, AllocError>
+    ensures { IfOk result (λ line. line.items ≡ line_after told source.entry.name.now source.entry.text.now (passed, cited_of citation.entry)) }
+{
+    if told < CITATIONS_TOLD {
+        missing_line(alloc, source, passed, citation)
+    } else {
+        Ok(Vec::new(alloc))
+    }
+}
+
+/// The skipped statements of this keyword that cite nothing, or what the sheet has: how many of them there are.
+fn kind_count(passed: &[Passed], keyword: Keyword) -> usize
+    ensures { result ≡ kind_count keyword passed.now }
+{
+    passed
+        .iter()
+        .filter(|other| other.keyword.text() == keyword.text())
+        .count()
+}
+
+/// Whether a statement of this keyword is among these.
+fn has_keyword(passed: &[Passed], keyword: Keyword) -> bool
+    ensures { result ≡ has_keyword keyword passed.now }
+{
+    passed
+        .iter()
+        .any(|other| other.keyword.text() == keyword.text())
+}
+
+/// What is said of so many statements of a kind.
+fn count_text(alloc: Global, count: usize) -> Result<String, AllocError>
+    ensures { IfOk result (λ text. string_bytes text ≡ count_text count) }
+{
+    format!(in alloc; "{count} left out, the first one here")
+}
+
+/// What is told one by one, and the statements that are left.
+struct Parts {
+    /// A line for each of the first of those that cite what isn't in the file.
+    lines: Vec<u8>,
+    /// How many cite what isn't in the file.
+    missing: usize,
+    /// The other ones.
+    others: Vec<Passed>,
+}
+
+/// Tells each of the statements that cite what isn't in the file, up to [`CITATIONS_TOLD`].
+fn parted(alloc: Global, source: Source, reading: &Reading) -> Result<Parts, AllocError>
+    ensures { IfOk result (ArePartedFrom source.entry.name.now source.entry.text.now reading.now.sheet reading.now.passed) }
+{
+    let mut lines = Vec::new(alloc);
+    let mut others = Vec::new(alloc);
+    let mut missing = 0usize;
+    for passed in reading.passed.as_slice() {
+        match missing_at(&reading.sheet, source.text, *passed) {
+            Some(citation) => {
+                let line = line_after(alloc, missing, source, *passed, citation)?;
+                lines.extend_from_slice(&line)?;
+                missing += 1;
+            }
+            None => others.push(*passed)?,
+        }
+    }
+    Ok(Parts {
+        lines,
+        missing,
+        others,
+    })
+}
+
+/// The last line of those that are told one by one: there are more, if so.
+fn more_missing(alloc: Global, file: &[u8], missing: usize) -> Result<Vec<u8>, AllocError>
+    ensures { IfOk result (λ line. line.items ≡ more_text file.now CITATIONS_TOLD missing (codes "citations")) }
+{
+    if missing > CITATIONS_TOLD {
+        more_line(alloc, file, CITATIONS_TOLD, "citations")
+    } else {
+        Ok(Vec::new(alloc))
+    }
+}
+
+/// The line of the statement at the index, if no earlier one has its keyword, with how many have it.
+fn kind_line(
+    alloc: Global,
+    source: Source,
+    passed: &[Passed],
+    index: usize,
+    first: Passed,
+) -> Result<Vec<u8>, AllocError>
+    requires { index ≤ length passed.now }
+    ensures { IfOk result (λ line. line.items ≡ kind_text source.entry.name.now source.entry.text.now passed.now (index, first)) }
+{
+    if has_keyword(&passed[..index], first.keyword) {
+        return Ok(Vec::new(alloc));
+    }
+    let sentence = count_text(alloc, kind_count(passed, first.keyword))?;
+    passed_line(alloc, source, first, sentence.as_bytes())
+}
+
+/// A line for each keyword of these statements, at the first of them.
+fn kind_lines(alloc: Global, source: Source, passed: &[Passed]) -> Result<Vec<u8>, AllocError>
+    ensures { IfOk result (λ lines. lines.items ≡ kinds_text source.entry.name.now source.entry.text.now passed.now 0) }
+{
+    let mut lines = Vec::new(alloc);
+    for (index, first) in passed.iter().enumerate() {
+        let line = kind_line(alloc, source, passed, index, *first)?;
+        lines.extend_from_slice(&line)?;
+    }
+    Ok(lines)
+}
+
+/// What the sheet of a file leaves out. The error is out of memory.
+///
+/// It is a line for each skipped statement that cites a node, a message or a signal which isn't in the file, at most
+/// [`CITATIONS_TOLD`] and then that there are more, and one for each keyword of the other ones, with their count.
+pub fn left_out(alloc: Global, source: Source, reading: &Reading) -> Result<Vec<u8>, AllocError>
+    ensures { IfOk result (λ out. out.items ≡ left_out source.entry.name.now source.entry.text.now reading.now.sheet reading.now.passed) }
+{
+    let parted = parted(alloc, source, reading)?;
+    let more = more_missing(alloc, source.name, parted.missing)?;
+    let kinds = kind_lines(alloc, source, &parted.others)?;
+    let mut lines = Vec::from_slice(alloc, &parted.lines)?;
+    lines.extend_from_slice(&more)?;
+    lines.extend_from_slice(&kinds)?;
+    Ok(lines)
+}
+
+impl Drop for Parts {
+    fn drop(self) {
+        let Parts {
+            lines: _lines,
+            missing: _missing,
+            others: _others,
+        } = self;
+    }
+}

@@ -1,0 +1,33 @@
+//! What people need beside a fault of reading a DBC text: its line, what was found there, what may be there, and the
+//! further faults of the text.
+#![tactic(auto)]
+
+mod blanking;
+mod candidate;
+mod citation;
+mod clashes;
+mod explaining;
+mod faulty_lines;
+mod found;
+mod hint;
+mod joined;
+mod leaving;
+mod lines;
+mod notes;
+mod pieces;
+mod places;
+mod position;
+mod reasons;
+mod sentences;
+mod telling;
+mod unclear;
+mod wanted;
+
+pub use clashes::CLASHES_TOLD;
+pub use explaining::explained;
+pub use found::quoted;
+pub use leaving::{CITATIONS_TOLD, left_out};
+pub use notes::Source;
+pub use position::{Position, position_of};
+pub use sentences::told_line;
+pub use telling::{BYTES_READ_AGAIN, FAULTS_TOLD};

@@ -1,0 +1,6 @@
+pub mod Placing
+pub mod GivenAfter
+pub mod WordForms
+pub mod WrongLaw
+pub mod Ranges
+mod Rows

@@ -1,0 +1,100 @@
+-- A line is told to be wrong exactly if it is.
+use Rattle.std.proofs.Common.{◌≡◌, ◌==◌, ℕ, ◌+◌, Bool, true, false, List, [], ◌∷◌, Option, Some, None, refl}
+use Rattle.std.specs.Prelude.{is_none, is_some, if◌then◌else◌}
+use Rattle.std.specs.List.{after_first, before_first, join_with_byte, list_any}
+use Rattle.std.specs.Option.{option_and_then, option_map, option_map_or}
+use Rattle.office_fields.specs.Asked.{asked_of}
+use Rattle.office_fields.specs.Given.{NamedValue}
+use Rattle.office_fields.specs.Kind.{kind_of_word}
+use Rattle.office_fields.specs.Value.{plain_name_of}
+use Rattle.office_fields.specs.declared.asked.Asked.{Asked}
+use Rattle.office_fields.specs.declared.kind.CommandKind.{CommandKind}
+use Rattle.office_script.specs.Escapes.{unescaped}
+use Rattle.office_script.specs.Fields.{field_of, fields_of}
+use Rattle.office_script.specs.Keys.{key_of}
+use Rattle.office_script.specs.Lines.{says_nothing}
+use Rattle.office_script.specs.Requests.{asked_by, request_of, request_of_words, requests_of_line}
+use Rattle.office_script.specs.Words.{words_of}
+use Rattle.office_script.specs.declared.keys.Dash.{Dash}
+use Rattle.office_script.specs.declared.requests.LineRequest.{LineRequest}
+use Rattle.script_advice.specs.Cause.{asked_wrong, command_wrong, fields_wrong, first_field, form_cause, form_wrong, words_wrong, wrong_at, wrong_of}
+use Rattle.script_advice.specs.declared.cause.Cause.{Cause}
+use Rattle.script_advice.specs.declared.cause.Cause.TheVariants.{Escape, NoField}
+use Rattle.script_advice.specs.declared.cause.Wrong.{Wrong}
+
+-- ---- fields by their form
+
+abbrev named : List ℕ → List ℕ → NamedValue
+named name value = record { name = name; value = value }
+
+cause_step : (name : List ℕ) (has : Bool) (value : Option (List ℕ))
+    → is_none (if has then (if is_some value then None else Some Escape) else Some NoField) ≡ is_some (if has then option_map (named name) value else None)
+cause_step name true None = refl
+cause_step name true (Some value) = refl
+cause_step name false value = refl
+
+cause_law : (word : List ℕ) → is_none (form_cause word) ≡ is_some (field_of word)
+cause_law word = cause_step (before_first (λ b. b == 61) word) (list_any (λ b. b == 61) word) (unescaped (after_first (λ b. b == 61) word))
+
+form_step : (index : ℕ) (cause : Option Cause) (later : Option Wrong) (field : Option NamedValue) (fields : Option (List NamedValue)) → is_none cause ≡ is_some field
+    → is_none later ≡ is_some fields
+    → is_none (option_map_or (λ c. Some (wrong_at index c)) cause later) ≡ is_some (option_and_then (λ f. option_map (λ fs. f ∷ fs) fields) field)
+form_step index None later None fields e h = let no : true ≡ false = e in cc
+form_step index None later (Some field) None e h = h
+form_step index None later (Some field) (Some fields) e h = h
+form_step index (Some cause) later None fields e h = refl
+form_step index (Some cause) later (Some field) fields e h = let no : false ≡ true = e in cc
+
+form_law : (index : ℕ) (words : List (List ℕ)) → is_none (form_wrong index words) ≡ is_some (fields_of words)
+form_law index [] = refl
+form_law index (word ∷ words) =
+    form_step index (form_cause word) (form_wrong (index + 1) words) (field_of word) (fields_of words) (cause_law word) (form_law (index + 1) words)
+
+-- ---- the command
+
+asked_step : (kind : CommandKind) (values : List NamedValue) (asked : Option Asked) → is_none (asked_wrong kind values asked) ≡ is_some asked
+asked_step kind values None = refl
+asked_step kind values (Some asked) = refl
+
+fields_step : (kind : CommandKind) (words : List (List ℕ)) (fields : Option (List NamedValue)) → is_none (form_wrong first_field words) ≡ is_some fields
+    → is_none (fields_wrong kind words fields) ≡ is_some (option_and_then (λ values. asked_of kind values) fields)
+fields_step kind words None e = e
+fields_step kind words (Some values) e = asked_step kind values (asked_of kind values)
+
+command_step : (kind : Option CommandKind) (words : List (List ℕ))
+    → is_none (command_wrong kind words) ≡ is_some (option_and_then (λ k. option_and_then (λ values. asked_of k values) (fields_of words)) kind)
+command_step None words = refl
+command_step (Some kind) words = fields_step kind words (fields_of words) (form_law first_field words)
+
+command_law : (word : List ℕ) (words : List (List ℕ)) → is_none (command_wrong (kind_of_word word) words) ≡ is_some (asked_by word words)
+unfolding asked_by
+command_law word words = command_step (kind_of_word word) words
+
+-- ---- lines
+
+abbrev request : List ℕ → List ℕ → List ℕ → Asked → LineRequest
+request text key team asked = record { team = team; key = key; text = text; asked = asked }
+
+parts_step : (text : List ℕ) (key team : Option (List ℕ)) (asked : Option Asked) (wrong : Option Wrong) (no_team no_key : Wrong) → is_none wrong ≡ is_some asked
+    → is_none (if is_some key then (if is_some team then wrong else Some no_team) else Some no_key)
+    ≡ is_some (option_and_then (λ k. option_and_then (λ t. option_and_then (λ a. Some (request text k t a)) asked) team) key)
+parts_step text None team asked wrong no_team no_key e = refl
+parts_step text (Some key) None asked wrong no_team no_key e = refl
+parts_step text (Some key) (Some team) None wrong no_team no_key e = e
+parts_step text (Some key) (Some team) (Some asked) wrong no_team no_key e = e
+
+words_law : (dash : Dash) (number : ℕ) (words : List (List ℕ)) → is_none (words_wrong dash number words) ≡ is_some (request_of_words dash number words)
+words_law dash number [] = refl
+words_law dash number (first ∷ []) = refl
+words_law dash number (first ∷ second ∷ []) = refl
+words_law dash number (first ∷ second ∷ word ∷ rest) =
+    parts_step (join_with_byte 32 (word ∷ rest)) (key_of dash number first) (plain_name_of second) (asked_by word rest) (command_wrong (kind_of_word word) rest) _ _ (command_law word rest)
+
+line_step : (nothing : Bool) (wrong : Option Wrong) (request : Option LineRequest) → is_none wrong ≡ is_some request
+    → is_none (if nothing then None else wrong) ≡ is_some (if nothing then Some [] else option_map (λ r. r ∷ []) request)
+line_step true wrong request e = refl
+line_step false wrong None e = e
+line_step false wrong (Some request) e = e
+
+pub wrong_law : (dash : Dash) (number : ℕ) (line : List ℕ) → is_none (wrong_of dash number line) ≡ is_some (requests_of_line dash number line)
+wrong_law dash number line = line_step (says_nothing line) (words_wrong dash number (words_of line)) (request_of dash number line) (words_law dash number (words_of line))

@@ -1,0 +1,11 @@
+use Rattle.std.proofs.Common.{None, Some, sym, ◌∙◌}
+use Rattle.script_advice.proofs.GivenAfter.{value_next}
+use Rattle.script_advice.proofs.values.value_wrong.Goals as goal
+
+pub returns-in-Some : goal.returns-in-Some
+returns-in-Some c =
+    sym (c.loop-index.invariant ∙ value_next c.args.kind c.args.values.now c.loop-index.index c.index-values-index.result (Some c.in-Some.cause) c.loop-index-test.true c.index-values-index.is (rw c.in-Some.is at c.in_ok-cause.ensures))
+
+pub loop-index-preserved : goal.loop-index-preserved
+loop-index-preserved c =
+    c.loop-index.invariant ∙ value_next c.args.kind c.args.values.now c.loop-index.index c.index-values-index.result None c.loop-index-test.true c.index-values-index.is (rw c.in_default.is at c.in_ok-cause.ensures)

@@ -1,0 +1,5 @@
+pub mod Places
+pub mod Cause
+pub mod Phrase
+pub mod Sentence
+pub mod Explained

@@ -1,0 +1,118 @@
+//! The word of a line that is to blame.
+ghost use Rattle.std.specs.Prelude.{◌≡◌, ◌∷◌, IfOk, is_some};
+ghost use Rattle.office_fields.specs.Asked.{asked_of};
+ghost use Rattle.office_fields.specs.Given.{named_values};
+ghost use Rattle.office_fields.specs.Value.{plain_name_of};
+ghost use Rattle.office_script.specs.Keys.{key_of};
+ghost use Rattle.office_script.specs.Fields as script;
+ghost use Rattle.office_script.specs.Words.{words_after};
+ghost use Rattle.script_advice.specs.Cause.{asked_wrong, fields_wrong, words_wrong, wrong_of};
+
+use crate::cause::{Cause, Wrong};
+use crate::forms::{COMMAND, form_wrong};
+use crate::places::{LineParts, line_parts};
+use crate::values::values_wrong;
+use office_fields::{CommandKind, GivenValue, Unread, asked_of, team_of};
+use office_script::{Dash, key_of, read_fields, says_nothing};
+use std::alloc::{AllocError, Global};
+
+/// Whether the word is a key.
+fn is_key(alloc: Global, dash: Dash, number: usize, word: &[u8]) -> Result<bool, AllocError>
+    ensures { IfOk result (λ found. found ≡ is_some (key_of dash number word.now)) }
+{
+    match key_of(alloc, dash, number, word) {
+        Ok(_key) => Ok(true),
+        Err(Unread::Wrong) => Ok(false),
+        Err(Unread::Memory) => Err(AllocError),
+    }
+}
+
+/// Whether the word is a team.
+fn is_team(alloc: Global, word: &[u8]) -> Result<bool, AllocError>
+    ensures { IfOk result (λ found. found ≡ is_some (plain_name_of word.now)) }
+{
+    match team_of(alloc, word) {
+        Ok(_team) => Ok(true),
+        Err(Unread::Wrong) => Ok(false),
+        Err(Unread::Memory) => Err(AllocError),
+    }
+}
+
+/// What is wrong with these values of the command, if the command can't be had of them.
+fn asked_wrong(
+    alloc: Global,
+    kind: CommandKind,
+    values: &[GivenValue<'_>],
+) -> Result<Option<Wrong>, AllocError>
+    ensures { IfOk result (λ found. found ≡ asked_wrong kind (named_values values.now) (asked_of kind (named_values values.now))) }
+{
+    match asked_of(alloc, kind, values) {
+        Ok(_asked) => Ok(None),
+        Err(Unread::Wrong) => Ok(Some(values_wrong(alloc, kind, values)?)),
+        Err(Unread::Memory) => Err(AllocError),
+    }
+}
+
+/// What is wrong with the words of `rest` as fields of the command.
+fn fields_wrong(
+    alloc: Global,
+    kind: CommandKind,
+    rest: Option<&[u8]>,
+) -> Result<Option<Wrong>, AllocError>
+    ensures { IfOk result (λ found. found ≡ fields_wrong kind (words_after rest.entry) (script.fields_of (words_after rest.entry))) }
+{
+    match read_fields(alloc, rest)? {
+        Some(values) => asked_wrong(alloc, kind, &values),
+        None => match rest {
+            Some(words) => form_wrong(alloc, words),
+            None => Ok(None),
+        },
+    }
+}
+
+/// What is wrong with a line of these parts.
+fn parts_wrong(
+    alloc: Global,
+    dash: Dash,
+    number: usize,
+    parts: LineParts<'_>,
+) -> Result<Option<Wrong>, AllocError>
+    ensures { IfOk result (λ found. found ≡ words_wrong dash number (parts.entry.key.now ∷ parts.entry.team.now ∷ parts.entry.command.now ∷ words_after parts.entry.rest)) }
+{
+    if !is_key(alloc, dash, number, parts.key)? {
+        let cause = Cause::Key(dash);
+        return Ok(Some(Wrong { word: 0, cause }));
+    }
+    if !is_team(alloc, parts.team)? {
+        let cause = Cause::Team;
+        return Ok(Some(Wrong { word: 1, cause }));
+    }
+    match CommandKind::of_word(parts.command) {
+        Some(kind) => fields_wrong(alloc, kind, parts.rest),
+        None => Ok(Some(Wrong {
+            word: COMMAND,
+            cause: Cause::Command,
+        })),
+    }
+}
+
+/// Why the line of this number, from 1, is wrong, if it is.
+pub(crate) fn wrong_of(
+    alloc: Global,
+    dash: Dash,
+    number: usize,
+    line: &[u8],
+) -> Result<Option<Wrong>, AllocError>
+    ensures { IfOk result (λ found. found ≡ wrong_of dash number line.now) }
+{
+    if says_nothing(line) {
+        return Ok(None);
+    }
+    match line_parts(line) {
+        Some(parts) => parts_wrong(alloc, dash, number, parts),
+        None => Ok(Some(Wrong {
+            word: 0,
+            cause: Cause::Short,
+        })),
+    }
+}

@@ -11,7 +11,7 @@ use Rattle.catalogue.specs.Saying.{each_in, keys_of, message_in, messages_of, no
 use Rattle.catalogue.specs.Statement as says
 use Rattle.catalogue.specs.Token.{Token}
 use Rattle.dbc_read.specs.Gathered.{AreGathered, IsNothing, gathered_after, passed_of}
-use Rattle.dbc_read.specs.Gathering.{BeginWith, DefineNothing, Gathers, IsDefining, IsEmpty, IsSettling, Settles, cites, defines, with_definitions, with_empty, with_nothing_attached}
+use Rattle.dbc_read.specs.Gathering.{BeginWith, DefineNothing, Defines, FollowAll, Gathers, IsDefining, IsEmpty, IsOfTokens, IsSettling, Settles, SettlesAll, cites, defines, one_or_none, with_definitions, with_empty, with_nothing_attached}
 use Rattle.dbc_read.specs.Lookup.{IsLookupOf}
 use Rattle.dbc_read.specs.Lookups.{AreLookups, IsCitedIndex}
 use Rattle.dbc_read.specs.declared.gathered.Gathered.{Gathered}
@@ -148,10 +148,10 @@ empty_either_way nodes messages signals p c g h = refl
 
 pub one_defined : (said : List says.Statement) (s : Statement) (old now : Gathered) → cites (content_of s.content) ≡ false → now ≡ gathered_after None (passed_of s) s.content old
     → IsDefining said old → IsDefining (said ++ statement_of s ∷ []) now
-one_defined said s old now no is h = λ rest.
+one_defined said s old now cites_none is h = λ rest.
     let all : List says.Statement = said ++ statement_of s ∷ rest in
-    let either = empty_either_way (length (node_names_of all)) (length (numbers_of all)) (length (signal_keys_of all)) (passed_of s) s.content old no in
-    let here : Gathers all (with_nothing_attached all now) rest = one_gathered all s rest None (with_nothing_attached all old) (with_nothing_attached all now) (no_index all s.content no) (ap (with_nothing_attached all) is ∙ either) (h (statement_of s ∷ rest)) in
+    let either = empty_either_way (length (node_names_of all)) (length (numbers_of all)) (length (signal_keys_of all)) (passed_of s) s.content old cites_none in
+    let here : Gathers all (with_nothing_attached all now) rest = one_gathered all s rest None (with_nothing_attached all old) (with_nothing_attached all now) (no_index all s.content cites_none) (ap (with_nothing_attached all) is ∙ either) (h (statement_of s ∷ rest)) in
     subst (λ (x : List says.Statement). Gathers x (with_nothing_attached x now) rest) (sym (append_assoc said (statement_of s ∷ []) rest)) here
 
 -- Statements that define nothing.
@@ -169,12 +169,12 @@ defined_either_way nodes messages index p c g h = refl
 pub one_settled : (l : Lookups) (s : Statement) (index : Option ℕ) (old now : Gathered) → defines (content_of s.content) ≡ false
     → ((all : List says.Statement) → AreLookups l all → IsCitedIndex all (content_of s.content) index) → now ≡ gathered_after index (passed_of s) s.content old
     → Settles l (statement_of s ∷ []) old now
-one_settled l s index old now no found is = λ said nodes messages are h. (
-  lookups_stay said (statement_of s ∷ []) (no, tt) l are,
+one_settled l s index old now defines_none found is = λ said nodes messages are h. (
+  lookups_stay said (statement_of s ∷ []) (defines_none, tt) l are,
   λ rest none.
       let all : List says.Statement = said ++ statement_of s ∷ rest in
-      let more : DefineNothing (statement_of s ∷ rest) = (no, none) in
-      let here : Gathers all (with_definitions nodes messages now) rest = one_gathered all s rest index (with_definitions nodes messages old) (with_definitions nodes messages now) (found all (lookups_stay said (statement_of s ∷ rest) more l are)) (ap (with_definitions nodes messages) is ∙ defined_either_way nodes messages index (passed_of s) s.content old no) (h (statement_of s ∷ rest) more) in
+      let more : DefineNothing (statement_of s ∷ rest) = (defines_none, none) in
+      let here : Gathers all (with_definitions nodes messages now) rest = one_gathered all s rest index (with_definitions nodes messages old) (with_definitions nodes messages now) (found all (lookups_stay said (statement_of s ∷ rest) more l are)) (ap (with_definitions nodes messages) is ∙ defined_either_way nodes messages index (passed_of s) s.content old defines_none) (h (statement_of s ∷ rest) more) in
       subst (λ (x : List says.Statement). Gathers x (with_definitions nodes messages now) rest) (sym (append_assoc said (statement_of s ∷ []) rest)) here,
 )
 
@@ -209,3 +209,32 @@ module _ (said : List says.Statement) (g : Gathered) (h : IsDefining said g) whe
 
   pub defined_messages : map message_of g.messages ≡ messages_of said
   defined_messages = sym (append-nil (map message_of g.messages)) ∙ (h []).messages ∙ ap messages_of (append-nil said)
+
+-- All statements are gathered: those up to the first that cites something, that one, and those after it.
+pub of_tokens : (tokens rest : List Token) (empty g now : Gathered) (first : Option Statement) → IsEmpty empty → Defines tokens rest empty g first
+    → FollowAll g.nodes g.messages first rest (with_definitions [] [] g) now → IsOfTokens tokens (with_definitions g.nodes g.messages now)
+of_tokens tokens rest empty g now first is begun others =
+    let said = begun.said in
+    let defining : IsDefining said g = begun.gathered (nothing_defined empty is) in
+    let over : IsSettling said g.nodes g.messages (with_nothing_attached said (with_definitions [] [] g)) = definitions_over said g [] [] defining in
+    let settled = others.gathered said (defined_names said g defining) (defined_messages said g defining) over in
+    record {
+      said = (said ++ one_or_none first) ++ others.said;
+      read = begin_with_rest (said ++ one_or_none first) others.said tokens rest begun.read others.read;
+      gathered = all_settled ((said ++ one_or_none first) ++ others.said) g.nodes g.messages now settled;
+    }
+
+-- Those after the definitions: what is attached to nothing at first, then the first statement, and then the others.
+pub all_follow : (l : Lookups) (nodes : List NodeName) (messages : List MessageLine) (first : Option Statement) (tokens : List Token) (old attached settled now : Gathered)
+    → ((before : List says.Statement) → names_of nodes ≡ node_names_of before → map message_of messages ≡ messages_of before → AreLookups l before)
+    → ((before : List says.Statement) → AreLookups l before → attached ≡ with_nothing_attached before old)
+    → Settles l (one_or_none first) attached settled → SettlesAll l tokens settled now → FollowAll nodes messages first tokens old now
+all_follow l nodes messages first tokens old attached settled now found begins one others = record {
+  said = others.said;
+  read = others.read;
+  gathered = λ before names lines h.
+      let are = found before names lines in
+      let begun = subst (IsSettling before nodes messages) (sym (begins before are)) h in
+      let after = one before nodes messages are begun in
+      (others.gathered (before ++ one_or_none first) nodes messages after.0 after.1).1;
+}

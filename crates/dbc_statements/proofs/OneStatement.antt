@@ -1,5 +1,5 @@
 -- The first statement of the tokens that are left, and the others.
-use Rattle.std.proofs.Common.{◌≡◌, ◌∙◌, ℕ, true, false, List, [], ◌∷◌, ◌++◌, drop, Some, None, refl, sym, ap}
+use Rattle.std.proofs.Common.{◌≡◌, ◌∙◌, ℕ, true, false, List, [], ◌∷◌, drop, Some, None, refl, sym, ap}
 use Rattle.std.specs.Option.{option_and_then, option_map}
 use Rattle.catalogue.specs.Lexing.{lexed}
 use Rattle.catalogue.specs.Parsing.{Parsed, all_of, is_more, many_at, statement_at, statements_at, with_front}

@@ -7,6 +7,11 @@ returns-in_err-gathered-clause-none c =
     let p = err_from_is_err_and c.from_residual.result c.from_residual.ensures.1 in
     rw (p.1, p.2) (λ memory. undivided c.args.source.now (c.in_err-gathered.ensures.err memory))
 
+pub returns-in_err-gathered-in-Err-NoSheet-clause-none : goal.returns-in_err-gathered-in-Err-NoSheet-clause-none
+returns-in_err-gathered-in-Err-NoSheet-clause-none c =
+    let p = err_from_is_err_and c.from_residual-in_err-gathered-in-Err-NoSheet.result c.from_residual-in_err-gathered-in-Err-NoSheet.ensures.1 in
+    rw (p.1, p.2) (λ memory. undivided c.args.source.now (c.in_err-gathered-in-Err-NoSheet.ensures.err memory))
+
 pub returns-in-Ok-clause-reads : goal.returns-in-Ok-clause-reads
 returns-in-Ok-clause-reads c =
     let of = c.in_ok-gathered.ensures.ok in

@@ -1,6 +1,7 @@
 -- What a text that is divided into statements reads as.
 use Rattle.std.proofs.Common.{◌≡◌, ◌∙◌, ℕ, List, map, ap, refl, subst}
 use Rattle.catalogue.specs.Division.{Divides}
+use Rattle.catalogue.specs.Lexing.{lexed}
 use Rattle.catalogue.specs.Reads.{ReadsAs, ReadsAsOneAtMost, ReadsOnlyAs}
 use Rattle.catalogue.specs.Saying.{Says, passed_by}
 use Rattle.catalogue.specs.Statement.{Statement}
@@ -10,7 +11,10 @@ use Rattle.catalogue.specs.declared.sheet.Sheet.{Sheet}
 use Rattle.catalogue.proofs.Divisions.{one_division}
 use Rattle.catalogue.proofs.OneReading.{reads_only}
 use Rattle.catalogue.proofs.TokensOnce.{tokens_once}
+use Rattle.dbc_lex.specs.declared.fault.ReadFault.{ReadFault}
 use Rattle.dbc_statements.specs.Division.{HasNoDivision, IsDivided}
+use Rattle.dbc_statements.specs.Tokens.{EndsWith}
+use Rattle.dbc_statements.proofs.WholeText.{no_tokens}
 use Rattle.dbc_read.specs.Built.{CanBeSheet, IsBuilt}
 use Rattle.dbc_read.specs.Gathered.{AreGathered}
 use Rattle.dbc_read.specs.Passed.{start_and_keyword}
@@ -19,6 +23,9 @@ use Rattle.dbc_read.specs.Sheets.{SaysNothing}
 use Rattle.dbc_read.specs.declared.gathered.Gathered.{Gathered}
 use Rattle.dbc_read.specs.declared.reading.Reading.{Reading}
 use Rattle.dbc_read.proofs.SheetsSaid.{can_be_sheet_again, says_built, says_nothing}
+
+pub no_tokens_left : (bytes source : List ℕ) (fault : ReadFault) → source ≡ bytes → EndsWith (lexed 0 source) fault → HasNoDivision bytes
+no_tokens_left bytes source fault same ends = no_tokens bytes fault (subst (λ (x : List ℕ). EndsWith (lexed 0 x) fault) same ends)
 
 module _ (bytes : List ℕ) where
   pub undivided : HasNoDivision bytes → ReadsAsNothing bytes

@@ -43,6 +43,9 @@ regroup said s (Some l) = ap (λ (x : List says.Statement). Some x) (sym (append
 pub begin_with_more : (said : List says.Statement) (s : says.Statement) (a b c : List Token) → BeginWith said a b → BeginsWith s b c → BeginWith (said ++ s ∷ []) a c
 begin_with_more said s a b c h k = h ∙ ap (option_map (λ others. said ++ others)) k.statements ∙ regroup said s (statements_at c)
 
+pub begin_with_nothing : (said : List says.Statement) (a b c : List Token) → c ≡ b → BeginWith said a b → BeginWith (said ++ []) a c
+begin_with_nothing said a b c same h = subst (BeginWith (said ++ []) a) (sym same) (subst (λ (x : List says.Statement). BeginWith x a b) (sym (append-nil said)) h)
+
 pub begin_with_all : (said : List says.Statement) (a b : List Token) → BeginWith said a b → statements_at b ≡ Some [] → statements_at a ≡ Some said
 begin_with_all said a b h e = h ∙ ap (option_map (λ others. said ++ others)) e ∙ ap (λ (x : List says.Statement). Some x) (append-nil said)
 
@@ -211,17 +214,22 @@ module _ (said : List says.Statement) (g : Gathered) (h : IsDefining said g) whe
   defined_messages = sym (append-nil (map message_of g.messages)) ∙ (h []).messages ∙ ap messages_of (append-nil said)
 
 -- All statements are gathered: those up to the first that cites something, that one, and those after it.
-pub of_tokens : (tokens rest : List Token) (empty g now : Gathered) (first : Option Statement) → IsEmpty empty → Defines tokens rest empty g first
-    → FollowAll g.nodes g.messages first rest (with_definitions [] [] g) now → IsOfTokens tokens (with_definitions g.nodes g.messages now)
-of_tokens tokens rest empty g now first is begun others =
+pub of_tokens : (tokens rest : List Token) (empty g old now : Gathered) (first : Option Statement) (nodes seen_nodes : List NodeName) (messages seen_messages : List MessageLine)
+    → nodes ≡ g.nodes → messages ≡ g.messages → seen_nodes ≡ g.nodes → seen_messages ≡ g.messages → old ≡ with_definitions [] [] g
+    → IsEmpty empty → Defines tokens rest empty g first → FollowAll seen_nodes seen_messages first rest old now → IsOfTokens tokens (with_definitions nodes messages now)
+of_tokens tokens rest empty g old now first nodes seen_nodes messages seen_messages nodes_are messages_are seen_nodes_are seen_messages_are old_is is begun others =
     let said = begun.said in
     let defining : IsDefining said g = begun.gathered (nothing_defined empty is) in
     let over : IsSettling said g.nodes g.messages (with_nothing_attached said (with_definitions [] [] g)) = definitions_over said g [] [] defining in
-    let settled = others.gathered said (defined_names said g defining) (defined_messages said g defining) over in
+    let after : FollowAll g.nodes g.messages first rest (with_definitions [] [] g) now = subst (λ (x : Gathered). FollowAll g.nodes g.messages first rest x now) old_is
+    (subst (λ (x : List MessageLine). FollowAll g.nodes x first rest old now) seen_messages_are (subst (λ (x : List NodeName). FollowAll x seen_messages first rest old now) seen_nodes_are others)) in
+    let settled = after.gathered said (defined_names said g defining) (defined_messages said g defining) over in
+    let whole : AreGathered ((said ++ one_or_none first) ++ after.said) (with_definitions g.nodes g.messages now) = all_settled ((said ++ one_or_none first) ++ after.said) g.nodes g.messages now settled in
     record {
-      said = (said ++ one_or_none first) ++ others.said;
-      read = begin_with_rest (said ++ one_or_none first) others.said tokens rest begun.read others.read;
-      gathered = all_settled ((said ++ one_or_none first) ++ others.said) g.nodes g.messages now settled;
+      said = (said ++ one_or_none first) ++ after.said;
+      read = begin_with_rest (said ++ one_or_none first) after.said tokens rest begun.read after.read;
+      gathered = subst (λ (x : List NodeName). AreGathered ((said ++ one_or_none first) ++ after.said) (with_definitions x messages now)) (sym nodes_are)
+          (subst (λ (x : List MessageLine). AreGathered ((said ++ one_or_none first) ++ after.said) (with_definitions g.nodes x now)) (sym messages_are) whole);
     }
 
 -- Those after the definitions: what is attached to nothing at first, then the first statement, and then the others.

@@ -1,4 +1,4 @@
-use Rattle.std.proofs.Common.{◌≡◌, ◌∙◌, ◌++◌, append-nil, ap, map, sym}
+use Rattle.std.proofs.Common.{◌∙◌, ◌++◌, append-nil, ap, map, sym}
 use Rattle.std.specs.List.{flat_map}
 use Rattle.std.proofs.Math.ListN.{drop_of_length-le}
 use Rattle.can_id.specs.Ident.{dbc_number}

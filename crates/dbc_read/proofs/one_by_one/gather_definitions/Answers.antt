@@ -1,8 +1,7 @@
-use Rattle.std.proofs.Common.{◌≡◌, ◌∙◌, ◌++◌, List, [], ◌∷◌, Some, append-nil, refl, sym, subst}
+use Rattle.std.proofs.Common.{◌≡◌, ◌∙◌, ap, refl, sym}
 use Rattle.std.proofs.lemmas.Result.{err_from_is_err_and}
-use Rattle.catalogue.specs.Statement as says
-use Rattle.dbc_read.specs.Gathering.{BeginWith}
-use Rattle.dbc_read.proofs.OneByOne.{begin_with_more, begin_without, none_read, one_defined, one_read}
+use Rattle.dbc_read.proofs.OneByOne.{begin_with_more, begin_with_nothing, begin_without, none_read, one_defined, one_read}
+use Rattle.dbc_statements.specs.Left.{Left}
 use Rattle.dbc_statements.specs.Statement.{statement_of}
 use Rattle.dbc_read.proofs.one_by_one.gather_definitions.Goals as goal
 
@@ -43,9 +42,10 @@ pub returns-clause-ok : goal.returns-clause-ok
 returns-clause-ok c =
     let at = c.statements in
     let begun = at.invariant.read in
+    let same : c.read_next.new.self ≡ at.statements = rw c.in_default.is at c.in_ok-next.ensures.last in
     record {
       said = begun.said;
-      read = subst (λ (x : List says.Statement). BeginWith x c.args.statements.now.tokens at.statements.tokens) (sym (append-nil begun.said)) begun.read;
+      read = begin_with_nothing begun.said c.args.statements.now.tokens at.statements.tokens c.read_next.new.self.tokens (ap (λ (s : Left). s.tokens) same) begun.read;
       cites = tt;
       gathered = begun.is;
     }

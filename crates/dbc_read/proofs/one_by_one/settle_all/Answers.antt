@@ -1,4 +1,4 @@
-use Rattle.std.proofs.Common.{◌≡◌, ◌∙◌, [], ◌∷◌, refl, sym}
+use Rattle.std.proofs.Common.{◌∙◌, [], ◌∷◌, refl, sym}
 use Rattle.std.proofs.lemmas.Result.{err_from_is_err_and}
 use Rattle.dbc_read.proofs.OneByOne.{begin_with_all, begin_without, none_read, none_settled, one_read, settled_both}
 use Rattle.dbc_statements.specs.Statement.{statement_of}

@@ -3,15 +3,15 @@ use Rattle.std.proofs.lemmas.Result.{err_from_is_err_and}
 use Rattle.catalogue.specs.Lexing.{lexed}
 use Rattle.catalogue.specs.TokenLaw.{tokens_without_fault}
 use Rattle.dbc_statements.specs.Statement.{statements_of}
-use Rattle.dbc_statements.specs.Tokens.{EndsWith}
-use Rattle.dbc_statements.proofs.WholeText.{is_divided, no_division, no_tokens, whole}
+use Rattle.dbc_statements.proofs.WholeText.{is_divided, no_division, whole}
+use Rattle.dbc_read.proofs.Divided.{no_tokens_left}
 use Rattle.dbc_read.proofs.reading.gathered_text.Goals as goal
 
 pub returns-in_err-token_fault-clause-err : goal.returns-in_err-token_fault-clause-err
 returns-in_err-token_fault-clause-err c =
     let p = err_from_is_err_and c.from_residual.result c.from_residual.ensures.1 in
     let source : c.gathered_one_by_one-read.new.statements.source ≡ c.args.source.now = c.gathered_one_by_one-read.ensures.source ∙ c.of-statements.ensures.source in
-    rw (p.1, p.2) (λ memory. no_tokens c.args.source.now _ (subst (λ (bytes : List ℕ). EndsWith (lexed 0 bytes) c.in_err-token_fault.field-0) source c.in_err-token_fault.ensures.err))
+    rw (p.1, p.2) (λ memory. no_tokens_left c.args.source.now c.gathered_one_by_one-read.new.statements.source _ source c.in_err-token_fault.ensures.err)
 
 pub returns-in_err-found-clause-err : goal.returns-in_err-found-clause-err
 returns-in_err-found-clause-err c =

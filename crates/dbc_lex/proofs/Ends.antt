@@ -1,17 +1,15 @@
 -- What begins with a byte, and where it ends.
-use Rattle.std.proofs.Common.{◌≡◌, ℕ, ◌+◌, ◌-◌, ◌<◌, Bool, true, false, if◌then◌else◌, List, length, get_or, take, drop, Option, Some, None, unwrap_or, Ok, Err, refl, sym, ap, ◌∙◌, arith}
+use Rattle.std.proofs.Common.{◌≡◌, ℕ, ◌+◌, ◌<◌, Bool, true, false, if◌then◌else◌, List, length, get_or, drop, Option, Some, None, Err, refl, sym, ap, ◌∙◌, arith}
 use Rattle.std.specs.Char.{is_ascii_digit}
 use Rattle.std.specs.List.{prefix_len}
-use Rattle.std.specs.Option.{option_map}
 use Rattle.std.proofs.lemmas.List.{drop-drop, drop_more}
 use Rattle.std.proofs.lemmas.List.Sums.{prefix_len-drop_yes}
 use Rattle.decimal.specs.Cutting.{fraction_len}
 use Rattle.catalogue.specs.declared.token.TokenKind.{TokenKind}
 use Rattle.catalogue.specs.declared.token.TokenKind.TheVariants.{Name, Number, Text, Mark}
-use Rattle.catalogue.specs.Lexing.{StrayByte, UnclosedText, exponent_len, inside_len, kind_of, number_len, of_kind, tail_len, token_at, token_or_fault, word_len}
-use Rattle.catalogue.specs.Name.{starts_identifier, continues_identifier}
+use Rattle.catalogue.specs.Lexing.{StrayByte, UnclosedText, exponent_len, kind_of, number_len, of_kind, tail_len, token_at, token_or_fault, word_len}
+use Rattle.catalogue.specs.Name.{starts_identifier}
 use Rattle.catalogue.specs.Spelling.{is_quote, is_mark}
-use Rattle.catalogue.specs.Token.{Token}
 use Rattle.dbc_lex.specs.Offset.{further_by}
 
 -- the kind, from the four tests of the byte

@@ -1,3 +1,4 @@
 mod Insides
+mod Ends
 mod Reading
 mod KindTables

@@ -1,28 +1,39 @@
 -- One call of the lexer.
-use Rattle.std.proofs.Common.{◌≡◌, ℕ, ◌+◌, ◌-◌, List, length, take, drop, Option, Result, sym, ap, ◌∙◌}
+use Rattle.std.proofs.Common.{◌≡◌, ℕ, ◌+◌, ◌-◌, ◌≤◌, List, drop, Option, Some, None, Result, Ok, Err, sym, ap, ◌∙◌, arith}
 use Rattle.std.specs.List.{prefix_len}
-use Rattle.std.proofs.lemmas.List.{take_rest}
+use Rattle.std.proofs.lemmas.List.{drop-drop}
 use Rattle.catalogue.specs.Lexing.{LexFault, Lexed, first_token, lexed, token_at, with_first}
 use Rattle.catalogue.specs.Spelling.{is_gap}
 use Rattle.catalogue.specs.Token.{Token}
 use Rattle.catalogue.proofs.TokenSteps.{lexed_step}
 
--- the slice `&s[n..]`
-abbrev pub bytes_from : ℕ → List ℕ → List ℕ
-bytes_from n bytes = take (length bytes - n) (drop n bytes)
+-- what is read of the bytes from the offset on
+abbrev pub lexed_from : List ℕ → ℕ → Lexed
+lexed_from bytes at = lexed at (drop at bytes)
 
--- what is read after a token
-abbrev pub read_after : ℕ → List ℕ → Token → Lexed
-read_after offset bytes t = lexed t.end (bytes_from (t.end - offset) bytes)
-
-module _ (offset : ℕ) (bytes : List ℕ) (gap : ℕ) (is : gap ≡ prefix_len is_gap bytes) (r : Result (Option Token) LexFault) (h : token_at (offset + gap) (bytes_from gap bytes) ≡ r) where
+module _ (bytes : List ℕ) (at start : ℕ) (is : start ≡ at + prefix_len is_gap (drop at bytes)) where
   -- the first token is the one after the gap
-  first_here : first_token offset bytes ≡ r
+  first_is : first_token at (drop at bytes) ≡ token_at start (drop start bytes)
   unfolding first_token
-  first_here = ap (λ g. token_at (offset + g) (drop g bytes)) (sym is) ∙ ap (token_at (offset + gap)) (sym (take_rest bytes gap)) ∙ h
+  first_is =
+      let gap = prefix_len is_gap (drop at bytes) in
+      ap (token_at (at + gap)) (drop-drop gap at bytes) ∙ ap (λ n. token_at n (drop n bytes)) (sym is)
 
-  -- what is read is that token, and then what is read after it
-  pub read_here : lexed offset bytes ≡ with_first r (read_after offset bytes)
-  read_here =
-      lexed_step offset bytes ∙ ap (λ v. with_first v (λ t. lexed t.end (drop (t.end - offset) bytes))) first_here
-      ∙ ap (λ (f : ℕ → List ℕ). with_first r (λ t. lexed t.end (f (t.end - offset)))) (λ i n. sym (take_rest bytes n) i)
+  read_is : (r : Result (Option Token) LexFault) → token_at start (drop start bytes) ≡ r
+      → lexed_from bytes at ≡ with_first r (λ t. lexed t.end (drop (t.end - at) (drop at bytes)))
+  read_is r h = lexed_step at (drop at bytes) ∙ ap (λ v. with_first v (λ t. lexed t.end (drop (t.end - at) (drop at bytes)))) (first_is ∙ h)
+
+  -- what is read is that token, and then what is read from its end on
+  pub token_read : (t : Token) → at ≤ t.end → token_at start (drop start bytes) ≡ Ok (Some t)
+      → lexed_from bytes at ≡ with_first (Ok (Some t)) (λ t. lexed_from bytes t.end)
+  token_read t within h =
+      let on : at + (t.end - at) ≡ t.end = omega (arith, within) in
+      read_is (Ok (Some t)) h ∙ ap (λ v. with_first (Ok (Some t)) (λ _. lexed t.end v)) (drop-drop (t.end - at) at bytes ∙ ap (λ n. drop n bytes) on)
+
+  -- at the end of the text
+  pub none_read : token_at start (drop start bytes) ≡ Ok None → lexed_from bytes at ≡ with_first (Ok None) (λ t. lexed_from bytes t.end)
+  none_read h = read_is (Ok None) h
+
+  -- where no token begins
+  pub fault_read : (fault : LexFault) → token_at start (drop start bytes) ≡ Err fault → lexed_from bytes at ≡ with_first (Err fault) (λ t. lexed_from bytes t.end)
+  fault_read fault h = read_is (Err fault) h

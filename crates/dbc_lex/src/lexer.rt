@@ -1,42 +1,42 @@
 //! Reading a text token by token.
-ghost use Rattle.std.specs.Prelude.{◌≡◌, ◌+◌, ◌≤◌, ◌<◌, ◌^◌, length, min, drop, IfSome, IfOk};
+ghost use Rattle.std.specs.Prelude.{◌≡◌, ◌≤◌, length, min, drop, IfSome, IfOk};
 ghost use Rattle.catalogue.specs.Lexing.{token_at};
 ghost use Rattle.dbc_lex.specs.First.{GivesFirst};
 
 use crate::fault::{ReadCode, ReadFault};
 use crate::kinds::kind_of;
-use crate::spelling::{gap_len, word_len};
+use crate::spelling::{gap_end, word_end};
 use crate::token::Token;
 use std::marker::Model;
 
-/// The token at the start of the rest, after a gap; `None` at the end of the text.
+/// The token whose first byte is at the offset; `None` at the end of the text.
 #[inline(always)]
 #[tactic(auto, unfolding(catalogue::specs::Lexing::token_at))]
-fn token_at<'a>(start: usize, rest: &'a [u8]) -> Result<Option<Token<'a>>, ReadFault>
-    requires { start + length rest.now < 2 ^ 64 }
-    ensures first { GivesFirst result (token_at start rest.now) }
+fn token_at<'a>(source: &'a [u8], start: usize) -> Result<Option<Token<'a>>, ReadFault>
+    requires { start ≤ length source.now }
+    ensures first { GivesFirst result (token_at start (drop start source.now)) }
     ensures within { IfOk result (λ next. IfSome next (λ t.
-        (start ≤ t.end) × (t.end ≤ start + length rest.now))) }
+        (start ≤ t.end) × (t.end ≤ length source.now))) }
 {
-    match rest {
-        [] => Ok(None),
-        [byte, ..] => match kind_of(*byte) {
+    if start == source.len() {
+        return Ok(None);
+    }
+    match kind_of(source[start]) {
+        None => Err(ReadFault {
+            code: ReadCode::StrayByte,
+            at: start,
+        }),
+        Some(kind) => match word_end(kind, source, start) {
             None => Err(ReadFault {
-                code: ReadCode::StrayByte,
+                code: ReadCode::UnclosedText,
                 at: start,
             }),
-            Some(kind) => match word_len(kind, rest) {
-                None => Err(ReadFault {
-                    code: ReadCode::UnclosedText,
-                    at: start,
-                }),
-                Some(len) => Ok(Some(Token {
-                    kind,
-                    start,
-                    end: start + len,
-                    text: &rest[..len],
-                })),
-            },
+            Some(end) => Ok(Some(Token {
+                kind,
+                start,
+                end,
+                text: &source[start..end],
+            })),
         },
     }
 }
@@ -44,19 +44,19 @@ fn token_at<'a>(start: usize, rest: &'a [u8]) -> Result<Option<Token<'a>>, ReadF
 /// A reader of the tokens of a text. Contracts see it as what is left: the tokens, and the fault after them.
 #[derive(Drop)]
 pub struct Lexer<'a> {
+    source: &'a [u8],
     at: usize,
-    rest: &'a [u8],
 }
 
 impl<'a> Model for Lexer<'a> {
-    ghost use Rattle.std.specs.Prelude.{◌+◌, ◌<◌, ◌^◌, length};
+    ghost use Rattle.std.specs.Prelude.{◌≤◌, length, drop};
     ghost use Rattle.catalogue.specs.Lexing.{Lexed, lexed};
 
     ghost Value = { Lexed };
 
-    ghost view = { λ l. lexed l.at l.rest.now };
+    ghost view = { λ l. lexed l.at (drop l.at l.source.now) };
 
-    ghost invariant = { λ l. l.at + length l.rest.now < 2 ^ 64 };
+    ghost invariant = { λ l. l.at ≤ length l.source.now };
 }
 
 impl<'a> Lexer<'a> {
@@ -67,20 +67,16 @@ impl<'a> Lexer<'a> {
     pub fn of(source: &'a [u8]) -> Lexer<'a>
         ensures { result ≡ lexed 0 source.now }
     {
-        Lexer {
-            at: 0,
-            rest: source,
-        }
+        Lexer { source, at: 0 }
     }
 
     /// The lexer of the text from an offset on, or at its end where the offset is past that.
     pub fn at(source: &'a [u8], offset: usize) -> Lexer<'a>
         ensures { result ≡ lexed (min offset (length source.now)) (drop offset source.now) }
     {
-        let at = offset.min(source.len());
         Lexer {
-            at,
-            rest: &source[at..],
+            source,
+            at: offset.min(source.len()),
         }
     }
 
@@ -89,8 +85,8 @@ impl<'a> Lexer<'a> {
         ensures { result ≡ self.now }
     {
         Lexer {
+            source: self.source,
             at: self.at,
-            rest: self.rest,
         }
     }
 
@@ -107,10 +103,9 @@ impl<'a> Lexer<'a> {
     pub fn next_token(&mut self) -> Result<Option<Token<'a>>, ReadFault>
         ensures { GivesNext self.old result self.new }
     {
-        let gap = gap_len(self.rest);
-        match token_at(self.at + gap, &self.rest[gap..]) {
+        let start = gap_end(self.source, self.at);
+        match token_at(self.source, start) {
             Ok(Some(token)) => {
-                self.rest = &self.rest[token.end - self.at..];
                 self.at = token.end;
                 Ok(Some(token))
             }

@@ -1,9 +1,12 @@
 //! How many bytes a gap or a token takes.
-ghost use Rattle.std.specs.Prelude.{◌≡◌, ◌≤◌, ◌<◌, length, false, IfSome};
+ghost use Rattle.std.specs.Prelude.{◌≡◌, ◌≤◌, ◌<◌, ◌+◌, length, get_or, drop, false, Some, IfSome};
+ghost use Rattle.std.specs.Char.{is_ascii_digit};
 ghost use Rattle.std.specs.List.{prefix_len};
 ghost use Rattle.catalogue.specs.Name.{continues_identifier};
 ghost use Rattle.catalogue.specs.Spelling.{is_gap};
-ghost use Rattle.catalogue.specs.Lexing.{power_len, exponent_len, number_len, inside_len, word_len};
+ghost use Rattle.catalogue.specs.Lexing.{kind_of, power_len, exponent_len, number_len, inside_len, word_len};
+ghost use Rattle.catalogue.specs.declared.token.TokenKind.TheVariants.{Number};
+ghost use Rattle.dbc_lex.specs.Offset.{further_by};
 
 use catalogue::{TokenKind, continues_identifier};
 use decimal::{digits_len, fraction_len};
@@ -14,22 +17,46 @@ fn is_gap(byte: u8) -> bool
     matches!(byte, 9..=13 | 32)
 }
 
-/// How many gap bytes the bytes begin with.
-pub(crate) fn gap_len(bytes: &[u8]) -> usize
-    ensures is { result ≡ prefix_len is_gap bytes.now }
-    ensures within { result ≤ length bytes.now }
+/// The offset of the first byte at the offset or after it that is no gap, or the end.
+#[inline(always)]
+pub(crate) fn gap_end(source: &[u8], at: usize) -> usize
+    requires { at ≤ length source.now }
+    ensures is { result ≡ at + prefix_len is_gap (drop at source.now) }
+    ensures within { result ≤ length source.now }
 {
-    bytes.iter().take_while(|byte| is_gap(**byte)).count()
+    let mut end = at;
+    while end < source.len() && is_gap(source[end]) {
+        end += 1;
+    }
+    end
 }
 
-fn name_len(bytes: &[u8]) -> usize
-    ensures is { result ≡ prefix_len continues_identifier bytes.now }
-    ensures within { result ≤ length bytes.now }
+/// The offset after the bytes at the offset that may come after the first one of a name.
+#[inline(always)]
+fn name_end(source: &[u8], at: usize) -> usize
+    requires { at ≤ length source.now }
+    ensures is { result ≡ at + prefix_len continues_identifier (drop at source.now) }
+    ensures within { result ≤ length source.now }
 {
-    bytes
-        .iter()
-        .take_while(|byte| continues_identifier(**byte))
-        .count()
+    let mut end = at;
+    while end < source.len() && continues_identifier(source[end]) {
+        end += 1;
+    }
+    end
+}
+
+/// The offset after the digits at the offset.
+#[inline(always)]
+fn digits_end(source: &[u8], at: usize) -> usize
+    requires { at ≤ length source.now }
+    ensures is { result ≡ at + prefix_len is_ascii_digit (drop at source.now) }
+    ensures within { result ≤ length source.now }
+{
+    let mut end = at;
+    while end < source.len() && source[end].is_ascii_digit() {
+        end += 1;
+    }
+    end
 }
 
 /// The length of the digits after an exponent's letter, with their sign; 0 if there are no digits.
@@ -62,49 +89,51 @@ fn exponent_len(bytes: &[u8]) -> usize
     }
 }
 
-#[tactic(auto, unfolding(catalogue::specs::Lexing::number_len, catalogue::specs::Lexing::tail_len))]
-fn number_len(bytes: &[u8]) -> usize
-    ensures is { result ≡ number_len bytes.now }
-    ensures within { result ≤ length bytes.now }
+/// The offset after the number whose first digit is at the offset.
+fn number_end(source: &[u8], start: usize) -> usize
+    requires there { start < length source.now }
+    requires kind { kind_of (get_or source.now start 0) ≡ Some Number }
+    ensures is { result ≡ start + number_len (drop start source.now) }
+    ensures within { (start ≤ result) × (result ≤ length source.now) }
 {
-    let whole = digits_len(bytes);
-    let rest = &bytes[whole..];
-    let fraction = fraction_len(rest);
-    whole + (fraction + exponent_len(&rest[fraction..]))
+    let whole = digits_end(source, start + 1);
+    let fraction = fraction_len(&source[whole..]);
+    let power = exponent_len(&source[whole + fraction..]);
+    whole + (fraction + power)
 }
 
-/// How many bytes come before the quote that closes a text, if the bytes begin after its opening quote; `None` if
-/// no quote closes it. A backslash escapes the next byte.
+/// The offset of the quote that closes a text whose first byte after its opening quote is at the offset; `None` if no
+/// quote closes it. A backslash escapes the next byte.
 #[inline(never)]
-fn inside_len(bytes: &[u8]) -> Option<usize>
-    ensures is { result ≡ inside_len false bytes.now }
-    ensures within { IfSome result (λ n. n < length bytes.now) }
+fn closing_quote(source: &[u8], at: usize) -> Option<usize>
+    requires { at ≤ length source.now }
+    ensures is { result ≡ further_by at (inside_len false (drop at source.now)) }
+    ensures within { IfSome result (λ n. n < length source.now) }
 {
-    let mut escaped = false;
-    for (n, byte) in bytes.iter().enumerate() {
-        if escaped {
-            escaped = false;
-        } else if *byte == b'"' {
-            return Some(n);
-        } else {
-            escaped = *byte == b'\\';
+    let mut n = at;
+    while n < source.len() {
+        match source[n] {
+            b'"' => return Some(n),
+            b'\\' => n += 2,
+            _ => n += 1,
         }
     }
     None
 }
 
-/// How many bytes the token of this kind takes that begins with the first byte; `None` for a text that no quote closes.
+/// The offset after the token of this kind whose first byte is at the offset; `None` for a text that no quote closes.
 #[inline(always)]
 #[tactic(auto, unfolding(catalogue::specs::Lexing::word_len))]
-pub(crate) fn word_len(kind: TokenKind, bytes: &[u8]) -> Option<usize>
-    requires { 1 ≤ length bytes.now }
-    ensures is { result ≡ word_len kind bytes.now }
-    ensures within { IfSome result (λ n. n ≤ length bytes.now) }
+pub(crate) fn word_end(kind: TokenKind, source: &[u8], start: usize) -> Option<usize>
+    requires there { start < length source.now }
+    requires kind { kind_of (get_or source.now start 0) ≡ Some kind }
+    ensures is { result ≡ further_by start (word_len kind (drop start source.now)) }
+    ensures within { IfSome result (λ n. (start ≤ n) × (n ≤ length source.now)) }
 {
     match kind {
-        TokenKind::Name => Some(name_len(bytes)),
-        TokenKind::Number => Some(number_len(bytes)),
-        TokenKind::Text => Some(inside_len(&bytes[1..])? + 2),
-        TokenKind::Mark => Some(1),
+        TokenKind::Name => Some(name_end(source, start + 1)),
+        TokenKind::Number => Some(number_end(source, start)),
+        TokenKind::Text => Some(closing_quote(source, start + 1)? + 1),
+        TokenKind::Mark => Some(start + 1),
     }
 }

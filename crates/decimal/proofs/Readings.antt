@@ -10,7 +10,7 @@ use Rattle.decimal.specs.Spelling.{Spelling, IsNumberToken, Writes, are_digits, 
 use Rattle.decimal.specs.Cutting.{is_zero}
 use Rattle.decimal.specs.Reading.{IsStripped, Reads, stripped_exponent}
 use Rattle.decimal.specs.declared.fault.DecimalFault.TheVariants.{TooManyDigits, ExponentRange}
-use Rattle.decimal.proofs.Values.{same_from_meet, neg-times, zero_same}
+use Rattle.decimal.proofs.Values.{same_from_meet, same_trans, neg-times, zero_same}
 use Rattle.decimal.proofs.Significant.{core_value, core_stripped, core_long, front_before_end, back_zeros, digits_after_zeros}
 
 pub size_signed : (b : Bool) (n : ℕ) → unsigned_abs (signed b n) ≡ n
@@ -148,17 +148,18 @@ reads_decimal negative bytes s token start end v e digits ends is short at range
 pub stripped_exponent_at : (s : Spelling) (f k end : ℕ) → f ≡ length (drop 1 s.fraction) → k ≡ length (digits_of s) → power_of (drop 1 s.exponent) -ℤ pos f +ℤ pos (k - end) ≡ stripped_exponent s (length (digits_of s) - end)
 stripped_exponent_at s f k end p q = rw (p, q) refl
 
--- a number that machine arithmetic read of the digits, and then took the zeros from
-pub reads_plain : (negative : Bool) (bytes : List ℕ) (s : Spelling) → IsNumberToken bytes s → (v z : ℕ) (e : ℤ) → digits_value 10 (digits_of s) ≡ v * 10 ^ z → v % 10 ≢ 0 → v < 10 ^ 36 → e ≡ stripped_exponent s z → IsInRange e → Reads negative bytes (Ok (record { mantissa = signed negative v; exponent = e }))
-reads_plain negative bytes s token v z e value last short at range =
-    (writes negative bytes s token v z e value at, decimal_from_stripped negative v e short last range)
+-- a number that the bytes write, once the zeros at its end are taken
+pub reads_stripped : (negative : Bool) (bytes : List ℕ) (n v z : ℕ) (k e : ℤ) → Writes negative bytes (record { mantissa = signed negative n; exponent = k }) → n ≡ v * 10 ^ z → e ≡ k +ℤ pos z → v % 10 ≢ 0 → v < 10 ^ 36 → IsInRange e → Reads negative bytes (Ok (record { mantissa = signed negative v; exponent = e }))
+reads_stripped negative bytes n v z k e w is at last short range =
+    let same = same_from_meet (record { mantissa = signed negative v; exponent = e }) (record { mantissa = signed negative n; exponent = k }) z 0 (record {
+      mantissas = signed-times negative v (10 ^ z) ∙ ap (signed negative) (sym is ∙ sym (mul-one n)) ∙ sym (signed-times negative n 1);
+      exponents = omega (arith, ints, at);
+    }) in (
+      record { spelling = w.spelling; token = w.token; value = same_trans _ _ (number_of negative w.spelling) same w.value },
+      decimal_from_stripped negative v e short last range,
+    )
 
-pub reads_nothing : (negative : Bool) (bytes : List ℕ) (s : Spelling) → IsNumberToken bytes s → digits_value 10 (digits_of s) ≡ 0 → Reads negative bytes (Ok (record { mantissa = pos 0; exponent = pos 0 }))
-reads_nothing negative bytes s token value = (
-  record {
-    spelling = s;
-    token = token;
-    value = zero_same _ (number_of negative s) refl (ap (signed negative) value ∙ signed_zero negative);
-  },
-  zero_decimal,
-)
+pub reads_nothing : (negative : Bool) (bytes : List ℕ) (n : ℕ) (k : ℤ) → Writes negative bytes (record { mantissa = signed negative n; exponent = k }) → n ≡ 0 → Reads negative bytes (Ok (record { mantissa = pos 0; exponent = pos 0 }))
+reads_nothing negative bytes n k w none =
+    let same = zero_same (record { mantissa = pos 0; exponent = pos 0 }) (record { mantissa = signed negative n; exponent = k }) refl (ap (signed negative) none ∙ signed_zero negative) in
+    (record { spelling = w.spelling; token = w.token; value = same_trans _ _ (number_of negative w.spelling) same w.value }, zero_decimal)

@@ -17,6 +17,7 @@ use Rattle.decimal.specs.Reading.{Reads, stripped_exponent}
 use Rattle.decimal.proofs.DigitLists.{ten_le, digit_range}
 use Rattle.decimal.proofs.Significant.{digits_after_append, digits_after_zeros, AreZeros}
 use Rattle.decimal.proofs.Readings.{both_digits, writes}
+use Rattle.decimal.proofs.Tokens.{numeral_from}
 use Rattle.decimal.proofs.Texts.{decimal_short, rest_small, whole_small, at_plain, at_far, is_plain}
 
 -- ---- the digits of a number
@@ -36,12 +37,6 @@ decimal_digits n small = from_all_digits (decimal n) (decimal_is_IsNumeral_wide 
 
 decimal_value : (n : ℕ) → IsSmall n → digits_value 10 (decimal n) ≡ n
 decimal_value n small = (decimal_is_IsNumeral_wide n small).1
-
-some_length : (ds : List ℕ) → 0 < length ds → not (eqb (length ds) 0) ≡ true
-some_length ds h = ap not (ne_eqb (length ds) 0 (λ e. omega (arith, h, e)))
-
-numeral_from : (ds : List ℕ) → 0 < length ds → are_digits ds ≡ true → is_numeral ds ≡ true
-numeral_from ds some digits = and_from _ (are_digits ds) (some_length ds some) digits
 
 pub decimal_numeral : (n : ℕ) → IsSmall n → is_numeral (decimal n) ≡ true
 decimal_numeral n small = numeral_from (decimal n) (decimal_is_IsNumeral_wide n small).0.0 (decimal_digits n small)

@@ -1,9 +1,10 @@
 -- Worked rows: what the definitions give for spellings of DBC files.
-use Rattle.std.proofs.Common.{◌≡◌, ℕ, Bool, true, false, List, [], ◌∷◌, map, refl, Result, Ok, Err}
+use Rattle.std.proofs.Common.{◌≡◌, ℕ, ◌+◌, ◌-◌, ◌^◌, pos, negsuc, Bool, true, false, List, [], ◌∷◌, map, refl, Result, Ok, Err}
 use Rattle.std.specs.Fmt.{digits}
 use Rattle.std.specs.Prelude.{◌==◌, if◌then◌else◌, codes}
 use Rattle.decimal.specs.Number.{Number}
 use Rattle.decimal.specs.Cutting.{cut}
+use Rattle.decimal.specs.Words.{of_words, high_word, low_word}
 use Rattle.decimal.specs.Reading.{reading}
 use Rattle.decimal.specs.Printing.{text_of, unsigned_text}
 use Rattle.decimal.specs.declared.fault.DecimalFault.{DecimalFault}
@@ -111,3 +112,23 @@ exponents_out_of_range : map spelled (codes "10E400" ∷ codes "1E-401" ∷ code
     ≡ Err ExponentRange ∷ Err ExponentRange ∷ Err ExponentRange ∷ Err ExponentRange ∷ []
 unfolding reading cut unsigned_text digits
 exponents_out_of_range = refl
+
+-- ---- the words of a mantissa
+
+high_words : map high_word (pos 0 ∷ pos (2 ^ 64) ∷ negsuc 0 ∷ negsuc (2 ^ 64) ∷ []) ≡ pos 0 ∷ pos 1 ∷ negsuc 0 ∷ negsuc 1 ∷ []
+high_words = refl
+
+low_words : map low_word (pos 5 ∷ pos (2 ^ 64) ∷ negsuc 0 ∷ negsuc (2 ^ 64) ∷ []) ≡ 5 ∷ 0 ∷ (2 ^ 64 - 1) ∷ (2 ^ 64 - 1) ∷ []
+low_words = refl
+
+of_their_words : of_words (pos 1) 5 ≡ pos (2 ^ 64 + 5)
+of_their_words = refl
+
+of_negative_words : of_words (negsuc 0) (2 ^ 64 - 125) ≡ negsuc 124
+of_negative_words = refl
+
+-- a digit or a point more than a word has room for
+longest_plain : map spelled (codes "9999999999999999999" ∷ codes "-10000000000000000000" ∷ codes "99999999999999999.9" ∷ codes "0.00000000000000000010" ∷ [])
+    ≡ Ok (codes "9999999999999999999") ∷ Ok (codes "-10000000000000000000") ∷ Ok (codes "99999999999999999.9") ∷ Ok (codes "0.0000000000000000001") ∷ []
+unfolding reading cut unsigned_text digits
+longest_plain = refl

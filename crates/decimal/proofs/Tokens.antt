@@ -1,8 +1,8 @@
 -- A number token has one division into parts, and cutting its bytes finds it.
-use Rattle.std.proofs.Common.{◌≡◌, ℕ, suc, ◌+◌, Bool, true, false, cond, not, eqb, List, [], ◌∷◌, ◌++◌, length, take, drop, refl, sym, ap, ◌∙◌, arith}
+use Rattle.std.proofs.Common.{◌≡◌, ℕ, suc, ◌+◌, ◌<◌, Bool, true, false, cond, not, eqb, List, [], ◌∷◌, ◌++◌, length, take, drop, refl, sym, ap, ◌∙◌, arith}
 use Rattle.std.specs.Char.{is_ascii_digit}
 use Rattle.std.specs.List.{prefix_len, list_all}
-use Rattle.std.proofs.lemmas.Bool.{and_parts, and_from}
+use Rattle.std.proofs.lemmas.Bool.{and_parts, and_from, ne_eqb}
 use Rattle.std.proofs.lemmas.Bool.Decides.{nat_tests}
 use Rattle.std.proofs.lemmas.List.{take_at, drop_at, take-append-drop}
 use Rattle.decimal.specs.Spelling.{Spelling, IsNumberToken, is_fraction, is_exponent, is_letter_e, is_numeral, are_digits}
@@ -40,6 +40,12 @@ e_point b h = grind (arith, nat_tests)
 
 pub point_digit : (b : ℕ) → eqb b 46 ≡ true → is_ascii_digit b ≡ false
 point_digit b h = grind (arith, nat_tests)
+
+some_length : (ds : List ℕ) → 0 < length ds → not (eqb (length ds) 0) ≡ true
+some_length ds h = ap not (ne_eqb (length ds) 0 (λ e. omega (arith, h, e)))
+
+pub numeral_from : (ds : List ℕ) → 0 < length ds → are_digits ds ≡ true → is_numeral ds ≡ true
+numeral_from ds some digits = and_from _ (are_digits ds) (some_length ds some) digits
 
 -- no digit follows the whole part, and none the fraction
 exponent_stops : (exponent : List ℕ) → is_exponent exponent ≡ true → Stops is_ascii_digit exponent

@@ -1,9 +1,11 @@
 -- When two numbers are one value.
-use Rattle.std.proofs.Common.{Bool, IsTrue, ◌↔◌, ◌≡◌, ℕ, zero, suc, ◌+◌, ◌-◌, ◌*◌, ◌^◌, ◌%◌, ◌<◌, ◌≤◌, ◌⊎◌, inl, inr, refl, sym, ap, subst, ◌∙◌, arith, ℤ, pos, negsuc, neg_ℤ, ◌+ℤ◌, ◌-ℤ◌, ◌*ℤ◌, ◌≤ℤ◌, unsigned_abs, mul_assoc, pow-suc}
+use Rattle.std.proofs.Common.{Bool, IsTrue, ◌↔◌, ◌≡◌, ℕ, zero, suc, ◌+◌, ◌-◌, ◌*◌, ◌^◌, ◌%◌, ◌<◌, ◌≤◌, ◌⊎◌, inl, inr, refl, sym, ap, subst, ◌∙◌, arith, ℤ, pos, negsuc, neg_ℤ, ◌+ℤ◌, ◌-ℤ◌, ◌*ℤ◌, ◌≤ℤ◌, unsigned_abs, int_eq, ◌&&◌, mul_assoc, pow-suc}
 use Rattle.std.specs.Int.{int_min}
 use Rattle.std.proofs.lemmas.Int.{ints, clamps, unsigned_abs-mul}
 use Rattle.std.proofs.lemmas.Nat.{pow-add}
+use Rattle.std.specs.Bool.{Decides}
 use Rattle.std.proofs.lemmas.Bool.{cases_eq}
+use Rattle.std.proofs.lemmas.Bool.Decides.{Decides-and, Decides-int_eq}
 use Rattle.std.proofs.Math.Nat.{eq_of_mul-eq-mul_right}
 use Rattle.std.proofs.Math.IntN.{zero-*ℤ}
 use Rattle.decimal.specs.Reading.{IsStripped}
@@ -178,3 +180,9 @@ same_decimal m n p q same =
 -- decimals are equal exactly where their values are
 pub equal_by_value : (r : Bool) (m n : Number) → IsDecimal m → IsDecimal n → (IsTrue r ↔ (m ≡ n)) → (IsTrue r ↔ SameValue m n)
 equal_by_value r m n p q (to, from) = (λ t. subst (λ (x : Number). SameValue m x) (to t) (same_refl m), λ same. from (same_decimal m n p q same))
+
+-- and exactly where their mantissas and their exponents are
+pub equal_by_parts : (m n : Number) → Decides (int_eq m.mantissa n.mantissa && int_eq m.exponent n.exponent) (m ≡ n)
+equal_by_parts m n =
+    let parts = Decides-and _ _ (Decides-int_eq m.mantissa n.mantissa) (Decides-int_eq m.exponent n.exponent) in
+    (λ h t. record { mantissa = (parts.0 h).0 t; exponent = (parts.0 h).1 t }, λ e. parts.1 (ap (λ x. x.mantissa) e, ap (λ x. x.exponent) e))

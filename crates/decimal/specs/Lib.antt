@@ -1,3 +1,4 @@
+pub mod Words
 pub mod Number
 pub mod Spelling
 pub mod Cutting

@@ -1,24 +1,84 @@
-//! Reading a decimal of few digits that has no exponent, as most numbers are.
-ghost use Rattle.std.specs.Prelude.{◌≡◌, ◌≢◌, ◌+◌, ◌*◌, ◌%◌, ◌^◌, ◌<◌, length, IfSome, Ok};
+//! Reading a decimal of few digits that has no exponent, as most numbers are, in one pass.
+ghost use Rattle.std.specs.Prelude.{◌≡◌, ◌≢◌, ◌+◌, ◌-◌, ◌*◌, ◌%◌, ◌^◌, ◌<◌, ◌≤◌, Bool, length, take, pos, neg_ℤ, IfSome, Ok};
+ghost use Rattle.std.specs.Char.{is_ascii_digit};
+ghost use Rattle.std.specs.List.{prefix_len};
 ghost use Rattle.std.specs.Str.Parse.{digits_value_after};
-ghost use Rattle.decimal.specs.Spelling.{IsNumberToken, bytes_of, signed};
-ghost use Rattle.decimal.specs.Cutting.{spelling};
+ghost use Rattle.decimal.specs.Spelling.{Writes, signed};
 ghost use Rattle.decimal.specs.Reading.{Reads};
 
 use crate::Decimal;
-use crate::spelling::{Parts, after_point};
 
-/// The number that the digits write if they are appended to those of another number. `None` if it is too great, or if
-/// a byte is no digit.
-fn append_digits(number: u64, digits: &[u8]) -> Option<u64>
-    ensures { IfSome result (λ n. n ≡ digits_value_after 10 number digits.now) }
+/// The digits that bytes begin with.
+#[derive(Clone, Copy)]
+struct Leading {
+    /// The number that they write if they are appended to those of another number.
+    number: u64,
+    /// How many there are.
+    len: usize,
+}
+
+/// The digits that the bytes begin with, appended to those of a number.
+fn leading_digits(number: u64, bytes: &[u8]) -> Leading
+    requires { (number + 1) * 10 ^ length bytes.now ≤ 10 ^ 19 }
+    ensures len { result.len ≡ prefix_len is_ascii_digit bytes.now }
+    ensures within { result.len ≤ length bytes.now }
+    ensures number { result.number ≡ digits_value_after 10 number (take result.len bytes.now) }
+    ensures room { (result.number + 1) * 10 ^ (length bytes.now - result.len) ≤ 10 ^ 19 }
 {
     let mut number = number;
-    for byte in digits {
-        let digit = char::from(*byte).to_digit(10)?;
-        number = number.checked_mul(10)?.checked_add(u64::from(digit))?;
+    for (len, byte) in bytes.iter().enumerate() {
+        if !byte.is_ascii_digit() {
+            return Leading { number, len };
+        }
+        number = number * 10 + u64::from(*byte - b'0');
     }
-    Some(number)
+    Leading {
+        number,
+        len: bytes.len(),
+    }
+}
+
+/// Every number of so many digits fits in a `u64`.
+const MOST_BYTES: usize = 19;
+
+/// A whole number, and how many of its digits come after the point.
+#[derive(Clone, Copy)]
+struct Plain {
+    number: u64,
+    places: usize,
+}
+
+/// The number that a short number token writes that has no exponent, or `None` for any other bytes.
+fn plain_of(bytes: &[u8]) -> Option<Plain>
+    ensures value { IfSome result (λ p. (negative : Bool) →
+        Writes negative bytes.now (record { mantissa = signed negative p.number; exponent = neg_ℤ (pos p.places) })) }
+    ensures few { IfSome result (λ p. p.places < 20) }
+{
+    if bytes.len() > MOST_BYTES {
+        return None;
+    }
+    let whole = leading_digits(0, bytes);
+    if whole.len == 0 {
+        return None;
+    }
+    let (_, rest) = bytes.split_at(whole.len);
+    match rest {
+        [] => Some(Plain {
+            number: whole.number,
+            places: 0,
+        }),
+        [b'.', digits @ ..] => {
+            let fraction = leading_digits(whole.number, digits);
+            if fraction.len < digits.len() {
+                return None;
+            }
+            Some(Plain {
+                number: fraction.number,
+                places: fraction.len,
+            })
+        }
+        _ => None,
+    }
 }
 
 /// A number without the zeros at its end, and how many there were.
@@ -54,20 +114,15 @@ fn signed(negative: bool, magnitude: u64) -> i128
     if negative { -magnitude } else { magnitude }
 }
 
-/// The decimal that a number token in these parts writes, negated or not, where it has no exponent and few digits.
-pub(crate) fn plain_decimal(negative: bool, parts: Parts) -> Option<Decimal>
-    requires { IsNumberToken (bytes_of (spelling parts)) (spelling parts) }
-    ensures { IfSome result (λ decimal. Reads negative (bytes_of (spelling parts.entry)) (Ok decimal)) }
+/// The decimal that a short number token writes, negated or not, that has no exponent, or `None` for any other bytes.
+pub(crate) fn plain_decimal(negative: bool, bytes: &[u8]) -> Option<Decimal>
+    ensures { IfSome result (λ decimal. Reads negative bytes.now (Ok decimal)) }
 {
-    let fraction = after_point(parts.fraction);
-    if !parts.exponent.is_empty() || fraction.len() > 20 {
-        return None;
-    }
-    let number = append_digits(append_digits(0, parts.whole)?, fraction)?;
-    if number == 0 {
+    let plain = plain_of(bytes)?;
+    if plain.number == 0 {
         return Some(Decimal::ZERO);
     }
-    let stripped = without_zeros(number)?;
-    let exponent = i16::from(stripped.zeros) - fraction.len() as i16;
+    let stripped = without_zeros(plain.number)?;
+    let exponent = i16::from(stripped.zeros) - plain.places as i16;
     Some(Decimal::new(signed(negative, stripped.number), exponent))
 }

@@ -20,7 +20,7 @@ fn signed(negative: bool, magnitude: u128) -> i128
     if negative { -magnitude } else { magnitude }
 }
 
-/// The decimal that a number token in these parts writes, negated or not, of any number of digits.
+/// The decimal that a number token in these parts writes, negated or not.
 fn long_decimal(negative: bool, parts: Parts) -> Result<Decimal, DecimalFault>
     requires token { IsNumberToken (bytes_of (spelling parts)) (spelling parts) }
     requires within { length parts.whole.now + length parts.fraction.now < 2 ^ 64 }
@@ -44,18 +44,6 @@ fn long_decimal(negative: bool, parts: Parts) -> Result<Decimal, DecimalFault>
     }
 }
 
-/// The decimal that a number token in these parts writes, negated or not.
-fn decimal_of(negative: bool, parts: Parts) -> Result<Decimal, DecimalFault>
-    requires token { IsNumberToken (bytes_of (spelling parts)) (spelling parts) }
-    requires within { length parts.whole.now + length parts.fraction.now < 2 ^ 64 }
-    ensures { Reads negative (bytes_of (spelling parts.entry)) result }
-{
-    match plain_decimal(negative, parts) {
-        Some(decimal) => Ok(decimal),
-        None => long_decimal(negative, parts),
-    }
-}
-
 impl Decimal {
     ghost use Rattle.decimal.specs.Number.{Number};
     ghost use Rattle.decimal.specs.Reading.{Reads, reading};
@@ -75,8 +63,11 @@ impl Decimal {
         ensures only { (other : Result Number Fault) → Reads negative bytes.now other → other ≡ result }
         ensures computed { result ≡ reading negative bytes.now }
     {
+        if let Some(decimal) = plain_decimal(negative, bytes) {
+            return Ok(decimal);
+        }
         match parts_of(bytes) {
-            Some(parts) => decimal_of(negative, parts),
+            Some(parts) => long_decimal(negative, parts),
             None => Err(DecimalFault::NotNumber),
         }
     }

@@ -1,13 +1,15 @@
 -- What begins with a byte, and where it ends.
-use Rattle.std.proofs.Common.{◌≡◌, ℕ, ◌+◌, ◌<◌, Bool, true, false, if◌then◌else◌, List, length, get_or, drop, Option, Some, None, Err, refl, sym, ap, ◌∙◌, arith}
+use Rattle.std.proofs.Common.{◌≡◌, ◌==◌, ◌||◌, ℕ, ◌+◌, ◌<◌, Bool, true, false, true≢false, if◌then◌else◌, List, ◌∷◌, length, get_or, drop, Option, Some, None, Err, refl, sym, ap, ◌∙◌, arith}
 use Rattle.std.specs.Char.{is_ascii_digit}
 use Rattle.std.specs.List.{prefix_len}
 use Rattle.std.proofs.lemmas.List.{drop-drop, drop_more}
+use Rattle.std.proofs.Math.ListN.{drop_of_length-le}
 use Rattle.std.proofs.lemmas.List.Sums.{prefix_len-drop_yes}
 use Rattle.decimal.specs.Cutting.{fraction_len}
+use Rattle.decimal.specs.Spelling.{is_letter_e}
 use Rattle.catalogue.specs.declared.token.TokenKind.{TokenKind}
 use Rattle.catalogue.specs.declared.token.TokenKind.TheVariants.{Name, Number, Text, Mark}
-use Rattle.catalogue.specs.Lexing.{StrayByte, UnclosedText, exponent_len, kind_of, number_len, of_kind, tail_len, token_at, token_or_fault, word_len}
+use Rattle.catalogue.specs.Lexing.{StrayByte, UnclosedText, exponent_len, kind_of, number_len, of_kind, power_len, tail_len, token_at, token_or_fault, with_front, word_len}
 use Rattle.catalogue.specs.Name.{starts_identifier}
 use Rattle.catalogue.specs.Spelling.{is_quote, is_mark}
 use Rattle.dbc_lex.specs.Offset.{further_by}
@@ -37,19 +39,57 @@ digit_by false false false false h = absurd cc
 digit_first : (b : ℕ) → kind_of b ≡ Some Number → is_ascii_digit b ≡ true
 digit_first b h = digit_by (starts_identifier b) (is_ascii_digit b) (is_quote b) (is_mark b) (sym (kind_tests (starts_identifier b) (is_ascii_digit b) (is_quote b) (is_mark b)) ∙ h)
 
+-- a point with its digits, and an exponent
+pub tail_is : (source : List ℕ) (whole fraction power : ℕ) → fraction ≡ fraction_len (drop whole source) → power ≡ exponent_len (drop (whole + fraction) source)
+    → whole + (fraction + power) ≡ whole + tail_len (drop whole source)
+unfolding tail_len
+tail_is source whole fraction power f p =
+    let tail : tail_len (drop whole source) ≡ fraction + power =
+    ap (λ n. n + exponent_len (drop n (drop whole source))) (sym f) ∙ ap (λ v. fraction + exponent_len v) (drop-drop fraction whole source) ∙ ap (λ n. fraction + n) (sym p) in
+    omega (arith, tail)
+
+-- there are none before a byte that begins neither, nor at the end of the text
+both_false : (point letter : Bool) → (point || letter) ≡ false → (point ≡ false) × (letter ≡ false)
+both_false true letter h = absurd (true≢false h)
+both_false false true h = absurd (true≢false h)
+both_false false false h = (refl, refl)
+
+none_if : (test : Bool) (len : ℕ) → test ≡ false → (if test then len else 0) ≡ 0
+none_if true len h = absurd (true≢false h)
+none_if false len h = refl
+
+neither : (b : ℕ) (rest : List ℕ) → (b == 46 || is_letter_e b) ≡ false → tail_len (b ∷ rest) ≡ 0
+unfolding tail_len exponent_len
+neither b rest h =
+    let (point, letter) = both_false (b == 46) (is_letter_e b) h in
+    let fraction : fraction_len (b ∷ rest) ≡ 0 = none_if (b == 46) (1 + prefix_len is_ascii_digit rest) point in
+    let power : exponent_len (drop 0 (b ∷ rest)) ≡ 0 = none_if (is_letter_e b) (with_front (power_len rest)) letter in
+    let both : tail_len (b ∷ rest) ≡ 0 + exponent_len (drop 0 (b ∷ rest)) = ap (λ n. n + exponent_len (drop n (b ∷ rest))) fraction in
+    omega (arith, both, power)
+
+-- a number that ends with its digits
+pub no_tail : (source : List ℕ) (at : ℕ) → at < length source → false ≡ (get_or source at 0 == 46 || is_letter_e (get_or source at 0)) → at ≡ at + tail_len (drop at source)
+no_tail source at there h =
+    let none : tail_len (drop at source) ≡ 0 = ap tail_len (drop_more source at 0 there) ∙ neither (get_or source at 0) (drop (at + 1) source) (sym h) in
+    omega (arith, none)
+
+pub no_tail_at_end : (source : List ℕ) (at : ℕ) → at ≡ length source → at ≡ at + tail_len (drop at source)
+unfolding tail_len exponent_len
+no_tail_at_end source at past =
+    let none : tail_len (drop at source) ≡ 0 = ap tail_len (drop_of_length-le source (omega (arith, past))) in
+    omega (arith, none)
+
 module _ (source : List ℕ) (start : ℕ) (there : start < length source) where
   -- the end of a number, looked for after its first digit
-  pub number_end_is : (whole fraction power : ℕ) → kind_of (get_or source start 0) ≡ Some Number → whole ≡ start + 1 + prefix_len is_ascii_digit (drop (start + 1) source)
-      → fraction ≡ fraction_len (drop whole source) → power ≡ exponent_len (drop (whole + fraction) source) → whole + (fraction + power) ≡ start + number_len (drop start source)
-  unfolding number_len tail_len
-  number_end_is whole fraction power h w f p =
+  pub number_end_is : (whole end : ℕ) → kind_of (get_or source start 0) ≡ Some Number → whole ≡ start + 1 + prefix_len is_ascii_digit (drop (start + 1) source)
+      → end ≡ whole + tail_len (drop whole source) → end ≡ start + number_len (drop start source)
+  unfolding number_len
+  number_end_is whole end h w e =
       let digits = prefix_len is_ascii_digit (drop start source) in
       let ends : start + digits ≡ whole = omega (arith, w, prefix_len-drop_yes is_ascii_digit source start 0 there (digit_first (get_or source start 0) h)) in
       let rest : drop digits (drop start source) ≡ drop whole source = drop-drop digits start source ∙ ap (λ n. drop n source) ends in
-      let tail : tail_len (drop whole source) ≡ fraction + power =
-      ap (λ n. n + exponent_len (drop n (drop whole source))) (sym f) ∙ ap (λ v. fraction + exponent_len v) (drop-drop fraction whole source) ∙ ap (λ n. fraction + n) (sym p) in
-      let all : number_len (drop start source) ≡ digits + (fraction + power) = ap (λ v. digits + tail_len v) rest ∙ ap (λ n. digits + n) tail in
-      omega (arith, ends, all)
+      let all : number_len (drop start source) ≡ digits + tail_len (drop whole source) = ap (λ v. digits + tail_len v) rest in
+      omega (arith, ends, all, e)
 
   -- the token, or the fault, of the first byte's kind
   first_is : token_at start (drop start source) ≡ of_kind start (drop start source) (kind_of (get_or source start 0))

@@ -1,5 +1,5 @@
--- The table of kinds, byte by byte.
-use Rattle.std.proofs.Common.{◌≡◌, ℕ, ◌<◌, ◌≤◌, ◌⊎◌, List, map, Option, None, unwrap_or, inl, inr, sym, ap, ◌∙◌, arith}
+-- The tables of bytes, byte by byte.
+use Rattle.std.proofs.Common.{◌≡◌, ℕ, ◌<◌, ◌≤◌, ◌⊎◌, Bool, false, List, map, Option, None, unwrap_or, inl, inr, sym, ap, ◌∙◌, arith}
 use Rattle.std.specs.List.{range_with_len, slice_get}
 use Rattle.std.proofs.lemmas.Bool.{cases_lt}
 use Rattle.std.proofs.lemmas.Bool.Decides.{nat_tests}
@@ -7,15 +7,28 @@ use Rattle.std.proofs.lemmas.List.FromFn.{get_or-map-range_with_len, length-map-
 use Rattle.std.proofs.lemmas.Option.{slice_get_past, unwrap_or-slice_get}
 use Rattle.catalogue.specs.declared.token.TokenKind.{TokenKind}
 use Rattle.catalogue.specs.Lexing.{kind_of}
+use Rattle.catalogue.specs.Name.{continues_identifier}
 
--- no token begins with a byte above ASCII
-none_above : (b : ℕ) → 128 ≤ b → kind_of b ≡ None
+-- what a table of all bytes tells, if what it is for is the same for all numbers above them
+module _ {X : Type 0} (f : ℕ → X) (other : X) (above_bytes : (b : ℕ) → 256 ≤ b → f b ≡ other) where
+  table_is : (table : List X) (b : ℕ) → table ≡ map f (range_with_len 0 256) → unwrap_or (slice_get table b) other ≡ f b
+  table_is table b is = ap (λ (l : List X). unwrap_or (slice_get l b) other) is ∙ by_range (cases_lt b 256)
+    where
+      by_range : (b < 256) ⊎ (256 ≤ b) → unwrap_or (slice_get (map f (range_with_len 0 256)) b) other ≡ f b
+      by_range (inl below) = unwrap_or-slice_get (map f (range_with_len 0 256)) b other ∙ get_or-map-range_with_len f 0 256 b b other below (omega arith)
+      by_range (inr above) =
+          ap (λ (o : Option X). unwrap_or o other) (slice_get_past (map f (range_with_len 0 256)) b (omega (arith, length-map-range_with_len f 0 256))) ∙ sym (above_bytes b above)
+
+-- no token begins with a number above those of bytes
+none_above : (b : ℕ) → 256 ≤ b → kind_of b ≡ None
 none_above b above = grind (arith, nat_tests)
 
-pub kinds_are : (kinds : List (Option TokenKind)) (b : ℕ) → kinds ≡ map kind_of (range_with_len 0 128) → unwrap_or (slice_get kinds b) None ≡ kind_of b
-kinds_are kinds b is = ap (λ (l : List (Option TokenKind)). unwrap_or (slice_get l b) None) is ∙ by_range (cases_lt b 128)
-  where
-    by_range : (b < 128) ⊎ (128 ≤ b) → unwrap_or (slice_get (map kind_of (range_with_len 0 128)) b) None ≡ kind_of b
-    by_range (inl below) = unwrap_or-slice_get (map kind_of (range_with_len 0 128)) b None ∙ get_or-map-range_with_len kind_of 0 128 b b None below (omega arith)
-    by_range (inr above) =
-        ap (λ (o : Option (Option TokenKind)). unwrap_or o None) (slice_get_past (map kind_of (range_with_len 0 128)) b (omega (arith, length-map-range_with_len kind_of 0 128))) ∙ sym (none_above b above)
+-- and no name has one
+no_name_above : (b : ℕ) → 256 ≤ b → continues_identifier b ≡ false
+no_name_above b above = grind (arith, nat_tests)
+
+pub kinds_are : (kinds : List (Option TokenKind)) (b : ℕ) → kinds ≡ map kind_of (range_with_len 0 256) → unwrap_or (slice_get kinds b) None ≡ kind_of b
+kinds_are kinds b is = table_is kind_of None none_above kinds b is
+
+pub names_are : (flags : List Bool) (b : ℕ) → flags ≡ map continues_identifier (range_with_len 0 256) → unwrap_or (slice_get flags b) false ≡ continues_identifier b
+names_are flags b is = table_is continues_identifier false no_name_above flags b is

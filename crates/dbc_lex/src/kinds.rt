@@ -1,6 +1,7 @@
-//! Which bytes begin a token of each kind.
-ghost use Rattle.std.specs.Prelude.{◌≡◌, None, slice_get, unwrap_or};
+//! Which bytes begin a token of each kind, and which go on in a name.
+ghost use Rattle.std.specs.Prelude.{◌≡◌, None, false, slice_get, unwrap_or};
 ghost use Rattle.catalogue.specs.Lexing.{kind_of};
+ghost use Rattle.catalogue.specs.Name.{continues_identifier};
 
 use catalogue::TokenKind;
 
@@ -14,8 +15,8 @@ const TEXT: Option<TokenKind> = Some(TokenKind::Text);
 
 const MARK: Option<TokenKind> = Some(TokenKind::Mark);
 
-/// For each byte of ASCII the kind of the tokens that begin with it.
-const KINDS: [Option<TokenKind>; 128] = [
+/// For each byte the kind of the tokens that begin with it.
+const KINDS: [Option<TokenKind>; 256] = [
     NONE, NONE, NONE, NONE, NONE, NONE, NONE, NONE, NONE, NONE, NONE, NONE, NONE, NONE, NONE, NONE,
     NONE, NONE, NONE, NONE, NONE, NONE, NONE, NONE, NONE, NONE, NONE, NONE, NONE, NONE, NONE, NONE,
     NONE, NONE, TEXT, NONE, NONE, NONE, NONE, NONE, MARK, MARK, NONE, MARK, MARK, MARK, NONE, NONE,
@@ -24,7 +25,15 @@ const KINDS: [Option<TokenKind>; 128] = [
     NAME, NAME, NAME, NAME, NAME, NAME, NAME, NAME, NAME, NAME, NAME, NAME, NAME, NAME, NAME, MARK,
     NONE, MARK, NONE, NAME, NONE, NAME, NAME, NAME, NAME, NAME, NAME, NAME, NAME, NAME, NAME, NAME,
     NAME, NAME, NAME, NAME, NAME, NAME, NAME, NAME, NAME, NAME, NAME, NAME, NAME, NAME, NAME, NONE,
-    MARK, NONE, NONE, NONE,
+    MARK, NONE, NONE, NONE, NONE, NONE, NONE, NONE, NONE, NONE, NONE, NONE, NONE, NONE, NONE, NONE,
+    NONE, NONE, NONE, NONE, NONE, NONE, NONE, NONE, NONE, NONE, NONE, NONE, NONE, NONE, NONE, NONE,
+    NONE, NONE, NONE, NONE, NONE, NONE, NONE, NONE, NONE, NONE, NONE, NONE, NONE, NONE, NONE, NONE,
+    NONE, NONE, NONE, NONE, NONE, NONE, NONE, NONE, NONE, NONE, NONE, NONE, NONE, NONE, NONE, NONE,
+    NONE, NONE, NONE, NONE, NONE, NONE, NONE, NONE, NONE, NONE, NONE, NONE, NONE, NONE, NONE, NONE,
+    NONE, NONE, NONE, NONE, NONE, NONE, NONE, NONE, NONE, NONE, NONE, NONE, NONE, NONE, NONE, NONE,
+    NONE, NONE, NONE, NONE, NONE, NONE, NONE, NONE, NONE, NONE, NONE, NONE, NONE, NONE, NONE, NONE,
+    NONE, NONE, NONE, NONE, NONE, NONE, NONE, NONE, NONE, NONE, NONE, NONE, NONE, NONE, NONE, NONE,
+    NONE, NONE, NONE, NONE,
 ];
 
 /// The table's entry for the byte, or `None` past its end.
@@ -39,4 +48,43 @@ pub(crate) fn kind_of(byte: u8) -> Option<TokenKind>
     ensures { result ≡ kind_of byte }
 {
     entry(&KINDS, byte)
+}
+
+/// For each byte whether it may come after the first one of a name.
+const CONTINUES: [bool; 256] = [
+    false, false, false, false, false, false, false, false, false, false, false, false, false,
+    false, false, false, false, false, false, false, false, false, false, false, false, false,
+    false, false, false, false, false, false, false, false, false, false, false, false, false,
+    false, false, false, false, false, false, false, false, false, true, true, true, true, true,
+    true, true, true, true, true, false, false, false, false, false, false, false, true, true,
+    true, true, true, true, true, true, true, true, true, true, true, true, true, true, true, true,
+    true, true, true, true, true, true, true, true, false, false, false, false, true, false, true,
+    true, true, true, true, true, true, true, true, true, true, true, true, true, true, true, true,
+    true, true, true, true, true, true, true, true, true, false, false, false, false, false, false,
+    false, false, false, false, false, false, false, false, false, false, false, false, false,
+    false, false, false, false, false, false, false, false, false, false, false, false, false,
+    false, false, false, false, false, false, false, false, false, false, false, false, false,
+    false, false, false, false, false, false, false, false, false, false, false, false, false,
+    false, false, false, false, false, false, false, false, false, false, false, false, false,
+    false, false, false, false, false, false, false, false, false, false, false, false, false,
+    false, false, false, false, false, false, false, false, false, false, false, false, false,
+    false, false, false, false, false, false, false, false, false, false, false, false, false,
+    false, false, false, false, false, false, false, false, false, false, false, false, false,
+    false, false, false, false, false, false, false, false, false, false,
+];
+
+/// The table's entry for the byte, or `false` past its end.
+#[inline(always)]
+fn flag(flags: &[bool], byte: u8) -> bool
+    ensures { result ≡ unwrap_or (slice_get flags.now byte) false }
+{
+    flags.get(usize::from(byte)).copied().unwrap_or(false)
+}
+
+/// Whether the byte may come after the first one of a name. A name has many bytes, so this is a table and no test.
+#[inline(always)]
+pub(crate) fn continues_name(byte: u8) -> bool
+    ensures { result ≡ continues_identifier byte }
+{
+    flag(&CONTINUES, byte)
 }

@@ -1,14 +1,16 @@
 //! How many bytes a gap or a token takes.
-ghost use Rattle.std.specs.Prelude.{◌≡◌, ◌≤◌, ◌<◌, ◌+◌, length, get_or, drop, false, Some, IfSome};
+ghost use Rattle.std.specs.Prelude.{◌≡◌, ◌==◌, ◌||◌, ◌≤◌, ◌<◌, ◌+◌, length, get_or, drop, false, Some, IfSome};
 ghost use Rattle.std.specs.Char.{is_ascii_digit};
 ghost use Rattle.std.specs.List.{prefix_len};
 ghost use Rattle.catalogue.specs.Name.{continues_identifier};
+ghost use Rattle.decimal.specs.Spelling.{is_letter_e};
 ghost use Rattle.catalogue.specs.Spelling.{is_gap};
-ghost use Rattle.catalogue.specs.Lexing.{kind_of, power_len, exponent_len, number_len, inside_len, word_len};
+ghost use Rattle.catalogue.specs.Lexing.{kind_of, power_len, exponent_len, number_len, inside_len, tail_len, word_len};
 ghost use Rattle.catalogue.specs.declared.token.TokenKind.TheVariants.{Number};
 ghost use Rattle.dbc_lex.specs.Offset.{further_by};
 
-use catalogue::{TokenKind, continues_identifier};
+use crate::kinds::continues_name;
+use catalogue::TokenKind;
 use decimal::{digits_len, fraction_len};
 
 fn is_gap(byte: u8) -> bool
@@ -39,7 +41,7 @@ fn name_end(source: &[u8], at: usize) -> usize
     ensures within { result ≤ length source.now }
 {
     let mut end = at;
-    while end < source.len() && continues_identifier(source[end]) {
+    while end < source.len() && continues_name(source[end]) {
         end += 1;
     }
     end
@@ -89,7 +91,27 @@ fn exponent_len(bytes: &[u8]) -> usize
     }
 }
 
-/// The offset after the number whose first digit is at the offset.
+/// The offset after a point with its digits and an exponent, if they come at the offset.
+fn tail_end(source: &[u8], whole: usize) -> usize
+    requires { whole ≤ length source.now }
+    ensures is { result ≡ whole + tail_len (drop whole source.now) }
+    ensures within { (whole ≤ result) × (result ≤ length source.now) }
+{
+    let fraction = fraction_len(&source[whole..]);
+    let power = exponent_len(&source[whole + fraction..]);
+    whole + (fraction + power)
+}
+
+/// Whether a point or an exponent may begin with the byte.
+#[inline(always)]
+fn begins_tail(byte: u8) -> bool
+    ensures { result ≡ (byte == 46 || is_letter_e byte) }
+{
+    matches!(byte, b'.' | b'E' | b'e')
+}
+
+/// The offset after the number whose first digit is at the offset. Most numbers are digits alone.
+#[inline(always)]
 fn number_end(source: &[u8], start: usize) -> usize
     requires there { start < length source.now }
     requires kind { kind_of (get_or source.now start 0) ≡ Some Number }
@@ -97,9 +119,14 @@ fn number_end(source: &[u8], start: usize) -> usize
     ensures within { (start ≤ result) × (result ≤ length source.now) }
 {
     let whole = digits_end(source, start + 1);
-    let fraction = fraction_len(&source[whole..]);
-    let power = exponent_len(&source[whole + fraction..]);
-    whole + (fraction + power)
+    if whole == source.len() {
+        return whole;
+    }
+    if begins_tail(source[whole]) {
+        tail_end(source, whole)
+    } else {
+        whole
+    }
 }
 
 /// The offset of the quote that closes a text whose first byte after its opening quote is at the offset; `None` if no

@@ -1,4 +1,5 @@
 pub mod Spelled
+pub mod FirstToken
 pub mod LoopRounds
 pub mod NameLists
 pub mod Skip

@@ -1,11 +1,6 @@
 -- Names of lists, without those that mean no node.
-use Rattle.std.specs.Prelude.{ℕ, ◌++◌, List, Option, Some, option_and_then, option_map, filter_map}
+use Rattle.std.specs.Prelude.{ℕ, ◌++◌, List, Option, Some, option_and_then, filter_map}
 use Rattle.catalogue.specs.Parsing.{Parsed}
-use Rattle.dbc_statements.specs.declared.statement.NodeName.{NodeName}
-
--- the name, if it is that of a node
-abbrev pub name_of : Option NodeName → Option (List ℕ)
-name_of o = option_map (λ (n : NodeName). n.name) o
 
 -- those of nodes
 abbrev pub names_in : List (Option (List ℕ)) → List (List ℕ)

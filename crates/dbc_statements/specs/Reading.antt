@@ -1,5 +1,5 @@
 -- What a function that reads from the front of the tokens returns, and what it leaves.
-use Rattle.std.specs.Prelude.{◌≡◌, List, Some, None, Result, Ok, Err}
+use Rattle.std.specs.Prelude.{◌≡◌, List, [], ◌∷◌, ◌++◌, Some, None, Result, Ok, Err, option_and_then}
 use Rattle.catalogue.specs.Parsing.{Parsed}
 use Rattle.catalogue.specs.Token.{Token}
 use Rattle.dbc_lex.specs.Fault.{UnlessMemory}
@@ -14,3 +14,7 @@ Reads view (Err fault) parsed rest = UnlessMemory fault.code (parsed ≡ None)
 -- the view of a result that is the value itself
 abbrev pub itself : {X : Type 0} → X → X
 itself x = x
+
+-- one more thing is read, after those that were read before
+abbrev pub with_one : {A : Type 0} → List A → Parsed A → Parsed (List A)
+with_one front o = option_and_then (λ b. Some (front ++ b.0 ∷ [], b.1)) o

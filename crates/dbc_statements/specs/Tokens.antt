@@ -1,30 +1,39 @@
--- The tokens that are left of a text: the next one, and those that the lexer hasn't given yet.
-use Rattle.std.specs.Prelude.{◌≡◌, ◌⊎◌, ℕ, List, [], ◌∷◌, ◌++◌, Option, Some, None, drop, ⊤}
+-- The tokens that are left of a text: the first one, and those that are read after its end.
+use Rattle.std.specs.Prelude.{◌≡◌, ◌⊎◌, ◌≤◌, ℕ, List, [], ◌∷◌, ◌++◌, Option, Some, None, drop, length, slice_range, ⊤}
 use Rattle.std.specs.List.{AllByRecursion}
-use Rattle.catalogue.specs.Lexing.{LexFault, Lexed}
+use Rattle.catalogue.specs.Lexing.{LexFault, Lexed, lexed}
 use Rattle.catalogue.specs.Spelling.{Spells}
 use Rattle.catalogue.specs.Token.{Token}
+use Rattle.catalogue.specs.declared.token.TokenKind.{TokenKind}
 use Rattle.dbc_lex.specs.Fault.{fault_of}
 use Rattle.dbc_lex.specs.Token.{token_of}
 use Rattle.dbc_lex.specs.declared.fault.ReadFault.{ReadFault}
 use Rattle.dbc_lex.specs.declared.token.Token.{Token as TextToken}
 
-abbrev pub tokens_from : Option TextToken → Lexed → List Token
-tokens_from None lexer = lexer.tokens
-tokens_from (Some t) lexer = token_of t ∷ lexer.tokens
+-- the token of these bytes of the text
+abbrev pub token_between : List ℕ → TokenKind → ℕ → ℕ → Token
+token_between source kind start end = record { kind = kind; start = start; end = end; text = slice_range source start end }
+
+-- the token between the offsets, and those that are read after it; none without a kind
+abbrev pub tokens_from : List ℕ → Option TokenKind → ℕ → ℕ → List Token
+tokens_from source None start end = []
+tokens_from source (Some kind) start end = token_between source kind start end ∷ (lexed end (drop end source)).tokens
 
 -- each is spelled as its kind requires
 abbrev pub AreSpelled : List Token → Type 0
 AreSpelled tokens = AllByRecursion (λ (t : Token). Spells t.kind t.text) tokens
 
--- the next token has been read, if there is one
-abbrev pub IsLookahead : Option TextToken → Lexed → Type 0
-IsLookahead None lexer = lexer.tokens ≡ []
-IsLookahead (Some t) lexer = ⊤
+-- no token is left only where the text ends
+abbrev pub EndsThere : List ℕ → Option TokenKind → ℕ → Type 0
+EndsThere source None end = end ≡ length source
+EndsThere source (Some kind) end = ⊤
 
-pub record AreTokens (next : Option TextToken) (lexer : Lexed) : Type 0 where
-  pub lookahead : IsLookahead next lexer
-  pub spelled : AreSpelled (tokens_from next lexer)
+-- the first token is within the text, and each is spelled as its kind requires
+pub record AreTokens (source : List ℕ) (kind : Option TokenKind) (start end : ℕ) : Type 0 where
+  pub ordered : start ≤ end
+  pub within : end ≤ length source
+  pub ends : EndsThere source kind end
+  pub spelled : AreSpelled (tokens_from source kind start end)
 
 -- if there is one, it is spelled as its kind requires
 abbrev pub IsSpelled : Option TextToken → Type 0

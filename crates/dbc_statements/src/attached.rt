@@ -8,34 +8,31 @@ ghost use Rattle.dbc_statements.specs.Statement.{content_of};
 
 use crate::entries::entry_list;
 use crate::fields::{
-    attribute, begins_number, cited_name, cited_number, key, mark, optional_mark, spn, value_type,
+    attribute, cited_name, cited_number, key, mark, optional_mark, spn, value_type,
 };
 use crate::passing::{passed_value_texts, skip_to_end};
 use crate::statement::{CitedSignal, Content};
 use crate::tokens::Tokens;
+use crate::words::cited_number_of;
 use catalogue::Keyword;
 use dbc_lex::{ReadCode, ReadFault};
 use std::alloc::Global;
 
-#[tactic(auto, unfolding(catalogue::specs::Parsing::value_texts_at))]
-fn signal_value_texts(alloc: Global, tokens: &mut Tokens) -> Result<Content, ReadFault>
-    ensures { Reads content_of result (value_texts_at tokens.old) tokens.new }
-{
-    let number = cited_number(tokens)?;
-    let name = cited_name(alloc, tokens)?;
-    let entries = entry_list(alloc, tokens)?;
-    mark(tokens, b';')?;
-    Ok(Content::ValueTexts(CitedSignal { number, name }, entries))
-}
-
 /// The rest of a statement after `VAL_`.
+#[tactic(auto, unfolding(catalogue::specs::Parsing::value_texts_at, catalogue::specs::Parsing::passed_value_texts_at))]
 pub(crate) fn value_texts(alloc: Global, tokens: &mut Tokens) -> Result<Content, ReadFault>
     ensures { Reads content_of result (either_at (begins fields.cited_number) value_texts_at passed_value_texts_at tokens.old) tokens.new }
 {
-    if begins_number(tokens) {
-        signal_value_texts(alloc, tokens)
-    } else {
-        passed_value_texts(tokens)
+    let token = tokens.front()?;
+    match cited_number_of(&token) {
+        Some(number) => {
+            tokens.skip();
+            let name = cited_name(alloc, tokens)?;
+            let entries = entry_list(alloc, tokens)?;
+            mark(tokens, b';')?;
+            Ok(Content::ValueTexts(CitedSignal { number, name }, entries))
+        }
+        None => passed_value_texts(tokens),
     }
 }
 

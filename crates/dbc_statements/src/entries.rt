@@ -1,10 +1,11 @@
 //! Lists of values with their texts.
-ghost use Rattle.std.specs.Prelude.{◌≡◌, ◌≤◌, [], ◌∷◌, ◌++◌, IfOk, OnErr, OnOk, SomeIff, is_some, length, nat_lt};
+ghost use Rattle.std.specs.Prelude.{◌≡◌, ◌≤◌, [], ◌∷◌, ◌++◌, IfErr, IfOk, None, OnErr, OnOk, Some, SomeIff, is_some, length, nat_lt};
 ghost use Rattle.catalogue.specs.Grammar as grammar;
 ghost use Rattle.catalogue.specs.Limits.{value_text_limit};
 ghost use Rattle.catalogue.specs.Parsing.{entry_at, entries_at};
 ghost use Rattle.catalogue.specs.Rules.{starts};
-ghost use Rattle.dbc_statements.specs.Reading.{Reads, itself};
+ghost use Rattle.dbc_lex.specs.Fault.{UnlessMemory};
+ghost use Rattle.dbc_statements.specs.Reading.{Reads, itself, with_one};
 
 use crate::fields::{decimal, text};
 use crate::tokens::Tokens;
@@ -58,11 +59,13 @@ impl Entries {
     }
 
     /// Adds the entry at this offset as the last one.
+    #[inline(always)]
     fn push(&mut self, offset: usize, entry: ValueText) -> Result<(), AllocError>
         ensures ok { OnOk result (self.new ≡ self.old ++ entry ∷ []) }
         ensures err { OnErr result (self.new ≡ self.old) }
     {
-        self.entries.push(entry)?;
+        self.entries.reserve(1)?;
+        self.entries.push_reserved(entry);
         if self.entries.len() == VALUE_TEXT_LIMIT + 1 {
             self.above = Some(offset);
         }
@@ -92,6 +95,7 @@ impl Entries {
 }
 
 /// Whether a token other than `;` comes next.
+#[inline(always)]
 pub(crate) fn is_open(tokens: &Tokens) -> bool
     ensures { result ≡ starts grammar.is_open tokens.now }
 {
@@ -101,14 +105,18 @@ pub(crate) fn is_open(tokens: &Tokens) -> bool
     }
 }
 
-/// A value and its text.
+/// Adds a value and its text to the entries.
+#[inline(always)]
 #[tactic(auto, unfolding(catalogue::specs::Parsing::entry_at))]
-fn entry(alloc: Global, tokens: &mut Tokens) -> Result<ValueText, ReadFault>
-    ensures { Reads itself result (entry_at tokens.old) tokens.new }
+fn add_entry(alloc: Global, tokens: &mut Tokens, entries: &mut Entries) -> Result<(), ReadFault>
+    ensures ok { OnOk result (with_one entries.old (entry_at tokens.old) ≡ Some (entries.new, tokens.new)) }
+    ensures err { IfErr result (λ fault. UnlessMemory fault.code (entry_at tokens.old ≡ None)) }
 {
+    let offset = tokens.offset();
     let value = decimal(tokens)?;
     let text = text(alloc, tokens)?;
-    Ok(ValueText { value, text })
+    entries.push(offset, ValueText { value, text })?;
+    Ok(())
 }
 
 /// Values and their texts, up to `;`.
@@ -117,9 +125,7 @@ pub(crate) fn entry_list(alloc: Global, tokens: &mut Tokens) -> Result<Entries, 
 {
     let mut entries = Entries::with_room(alloc)?;
     'entries: while is_open(tokens) {
-        let offset = tokens.offset();
-        let next = entry(alloc, tokens)?;
-        entries.push(offset, next)?;
+        add_entry(alloc, tokens, &mut entries)?;
     }
     Ok(entries)
 }

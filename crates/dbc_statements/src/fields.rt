@@ -11,9 +11,9 @@ ghost use Rattle.dbc_statements.specs.Reading.{Reads, itself};
 use crate::statement::CitedName;
 use crate::tokens::Tokens;
 use crate::words::{
-    cited_number_of, independent_number_of, inside, is_key, is_mark, is_number, is_spn_name,
-    is_text, is_word, message_ident_of, number_of, order_of, sign_of, size_of, spn_of, start_of,
-    whole,
+    cited_number_of, independent_number_of, inside, is_key, is_made_name, is_mark, is_number,
+    is_spn_name, is_text, is_word, message_ident_of, number_of, order_of, sign_of, size_of, spn_of,
+    start_of, whole,
 };
 use bitlayout::{Layout, Order, Size};
 use can_id::Ident;
@@ -24,6 +24,7 @@ use smallvec::SmallVec;
 use std::alloc::Global;
 
 /// The fault of this code at the token.
+#[inline(always)]
 fn fault(token: &Token, code: ReadCode) -> ReadFault {
     ReadFault {
         code,
@@ -32,11 +33,13 @@ fn fault(token: &Token, code: ReadCode) -> ReadFault {
 }
 
 /// The fault of a token that isn't allowed here.
+#[inline(always)]
 fn unexpected(token: &Token) -> ReadFault {
     fault(token, ReadCode::Unexpected)
 }
 
 /// The fault of a token where a certain number should be: this code if it is another number, and else 32.
+#[inline(always)]
 fn number_fault(token: &Token, code: ReadCode) -> ReadFault {
     if is_number(token) {
         fault(token, code)
@@ -46,6 +49,7 @@ fn number_fault(token: &Token, code: ReadCode) -> ReadFault {
 }
 
 /// A mark of this spelling.
+#[inline(always)]
 pub(crate) fn mark(tokens: &mut Tokens, mark: u8) -> Result<(), ReadFault>
     ensures { Reads itself result (mark_at (mark ∷ []) tokens.old) tokens.new }
 {
@@ -54,6 +58,7 @@ pub(crate) fn mark(tokens: &mut Tokens, mark: u8) -> Result<(), ReadFault>
 }
 
 /// A mark of this spelling, if one comes next.
+#[inline(always)]
 #[tactic(auto, unfolding(catalogue::specs::Parsing::optional_at))]
 pub(crate) fn optional_mark(tokens: &mut Tokens, mark: u8) -> Option<()>
     ensures { optional_at (starts (fields.is_mark (mark ∷ []))) (mark_at (mark ∷ [])) tokens.old ≡ Some (result, tokens.new) }
@@ -68,6 +73,7 @@ pub(crate) fn optional_mark(tokens: &mut Tokens, mark: u8) -> Option<()>
 }
 
 /// This keyword.
+#[inline(always)]
 pub(crate) fn key(tokens: &mut Tokens, keyword: Keyword) -> Result<(), ReadFault>
     ensures { Reads itself result (key_at keyword tokens.old) tokens.new }
 {
@@ -84,6 +90,7 @@ pub(crate) fn any_number(tokens: &mut Tokens) -> Result<(), ReadFault>
 }
 
 /// A name of any kind, a keyword too.
+#[inline(always)]
 pub(crate) fn any_name<'a>(tokens: &mut Tokens<'a>) -> Result<&'a [u8], ReadFault>
     ensures { Reads (λ name. name.now) result (token_at fields.cited_name tokens.old) tokens.new }
 {
@@ -92,6 +99,7 @@ pub(crate) fn any_name<'a>(tokens: &mut Tokens<'a>) -> Result<&'a [u8], ReadFaul
 }
 
 /// The bytes between the quotes of a text.
+#[inline(always)]
 pub(crate) fn text(alloc: Global, tokens: &mut Tokens) -> Result<Text, ReadFault>
     ensures { Reads itself result (token_at fields.text_of tokens.old) tokens.new }
 {
@@ -105,6 +113,7 @@ pub(crate) fn text(alloc: Global, tokens: &mut Tokens) -> Result<Text, ReadFault
 }
 
 /// A name that is only cited: any name, a keyword too.
+#[inline(always)]
 pub(crate) fn cited_name(alloc: Global, tokens: &mut Tokens) -> Result<CitedName, ReadFault>
     ensures { Reads (λ name. name.items) result (token_at fields.cited_name tokens.old) tokens.new }
 {
@@ -113,6 +122,7 @@ pub(crate) fn cited_name(alloc: Global, tokens: &mut Tokens) -> Result<CitedName
 }
 
 /// The name of something that the statement defines. Code 37 at a name that isn't allowed for it.
+#[inline(always)]
 pub(crate) fn made_name(alloc: Global, tokens: &mut Tokens) -> Result<Name, ReadFault>
     ensures { Reads itself result (token_at fields.made_name tokens.old) tokens.new }
 {
@@ -120,26 +130,21 @@ pub(crate) fn made_name(alloc: Global, tokens: &mut Tokens) -> Result<Name, Read
     if !is_word(&token) {
         return Err(unexpected(&token));
     }
-    let name = Name::of(alloc, token.text)?;
-    tokens.accept(name, fault(&token, ReadCode::Name))
+    if !is_made_name(&token) {
+        return Err(fault(&token, ReadCode::Name));
+    }
+    let name = Name::of_kept(alloc, token.text)?;
+    tokens.skip();
+    Ok(name)
 }
 
 /// A whole number that only cites a message; `None` if it is above 4294967295.
+#[inline(always)]
 pub(crate) fn cited_number(tokens: &mut Tokens) -> Result<Option<u32>, ReadFault>
     ensures { Reads itself result (token_at fields.cited_number tokens.old) tokens.new }
 {
     let token = tokens.front()?;
     tokens.accept(cited_number_of(&token), unexpected(&token))
-}
-
-/// Whether a whole number comes next.
-pub(crate) fn begins_number(tokens: &Tokens) -> bool
-    ensures { result ≡ begins fields.cited_number tokens.now }
-{
-    match tokens.first() {
-        Some(token) => cited_number_of(&token).is_some(),
-        None => false,
-    }
 }
 
 /// The identifier of a message. Code 36 at a number that isn't that of an identifier.
@@ -184,6 +189,7 @@ pub(crate) fn length(tokens: &mut Tokens) -> Result<PayloadLength, ReadFault>
 }
 
 /// The start bit of a signal. Code 39 at another number.
+#[inline(always)]
 fn start(tokens: &mut Tokens) -> Result<u16, ReadFault>
     ensures { Reads itself result (token_at fields.start_of tokens.old) tokens.new }
 {
@@ -192,6 +198,7 @@ fn start(tokens: &mut Tokens) -> Result<u16, ReadFault>
 }
 
 /// The size of a signal. Code 39 at another number.
+#[inline(always)]
 fn size(tokens: &mut Tokens) -> Result<Size, ReadFault>
     ensures { Reads itself result (token_at fields.size_of tokens.old) tokens.new }
 {
@@ -200,6 +207,7 @@ fn size(tokens: &mut Tokens) -> Result<Size, ReadFault>
 }
 
 /// The byte order of a signal.
+#[inline(always)]
 fn order(tokens: &mut Tokens) -> Result<Order, ReadFault>
     ensures { Reads itself result (token_at fields.order_of tokens.old) tokens.new }
 {
@@ -208,6 +216,7 @@ fn order(tokens: &mut Tokens) -> Result<Order, ReadFault>
 }
 
 /// Whether values have a sign.
+#[inline(always)]
 fn minus(tokens: &mut Tokens) -> Result<bool, ReadFault>
     ensures { Reads itself result (token_at fields.sign_of tokens.old) tokens.new }
 {
@@ -216,6 +225,7 @@ fn minus(tokens: &mut Tokens) -> Result<bool, ReadFault>
 }
 
 /// Where a signal is in the payload, and whether its values have a sign.
+#[inline(always)]
 #[tactic(auto, unfolding(catalogue::specs::Parsing::layout_at))]
 pub(crate) fn layout(tokens: &mut Tokens) -> Result<(Layout, bool), ReadFault>
     ensures { Reads itself result (layout_at tokens.old) tokens.new }
@@ -230,6 +240,7 @@ pub(crate) fn layout(tokens: &mut Tokens) -> Result<(Layout, bool), ReadFault>
 }
 
 /// A sign, if one comes next: whether it is a minus.
+#[inline(always)]
 #[tactic(auto, unfolding(catalogue::specs::Parsing::optional_at))]
 fn sign(tokens: &mut Tokens) -> Option<bool>
     ensures { optional_at (begins fields.sign_of) (token_at fields.sign_of) tokens.old ≡ Some (result, tokens.new) }
@@ -251,6 +262,7 @@ pub(crate) fn decimal(tokens: &mut Tokens) -> Result<Decimal, ReadFault>
 }
 
 /// Two decimals between marks.
+#[inline(always)]
 #[tactic(auto, unfolding(catalogue::specs::Parsing::pair_at))]
 pub(crate) fn pair(
     tokens: &mut Tokens,

@@ -12,7 +12,7 @@ ghost use Rattle.dbc_statements.specs.Statement.{content_of, line_content};
 use crate::entries::entry_list;
 use crate::fields::{any_number, made_name, mark, text};
 use crate::line::Line;
-use crate::names::{NodeList, nodes};
+use crate::names::placed_nodes;
 use crate::statement::{Content, TableLine};
 use crate::tokens::Tokens;
 use crate::words::{is_key, is_mark, is_number, is_word};
@@ -137,7 +137,7 @@ pub(crate) fn node_names(alloc: Global, tokens: &mut Tokens) -> Result<Line, Rea
     ensures { Reads line_content result (nodes_line_at tokens.old) tokens.new }
 {
     mark(tokens, b':')?;
-    let NodeList { names, ended } = nodes(alloc, tokens)?;
+    let (names, ended) = placed_nodes(alloc, tokens)?;
     Ok(Line {
         content: Content::Nodes(names),
         ended,

@@ -2,6 +2,7 @@
 ghost use Rattle.std.specs.Prelude.{◌≡◌, IfOk, IfErr, None, Some};
 ghost use Rattle.catalogue.specs.Grammar as grammar;
 ghost use Rattle.catalogue.specs.Parsing.{line_at, statement_at, statements_at, token_at};
+ghost use Rattle.catalogue.specs.Spelling.{Spells};
 ghost use Rattle.dbc_lex.specs.Fault.{UnlessMemory};
 ghost use Rattle.dbc_statements.specs.Division.{HasNoDivision, IsDivided, TokensComeFirst};
 ghost use Rattle.dbc_statements.specs.Reading.{Reads, itself};
@@ -50,7 +51,9 @@ fn fault_after_comma(tokens: &Tokens, before: Ended) -> ReadFault {
 }
 
 /// The fault of a token with which no statement begins, after a statement that ended as `before` says.
-fn fault_at_start(tokens: &Tokens, token: &Token, before: Ended) -> ReadFault {
+fn fault_at_start(tokens: &Tokens, token: &Token, before: Ended) -> ReadFault
+    requires { Spells token.now.kind token.now.text.now }
+{
     if is_word(token) {
         return ReadFault {
             code: word_code(token, before),

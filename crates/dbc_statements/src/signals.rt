@@ -1,11 +1,12 @@
 //! The signals of a message.
-ghost use Rattle.std.specs.Prelude.{◌≡◌, [], ◌∷◌, Some, codes};
+ghost use Rattle.std.specs.Prelude.{◌≡◌, [], ◌∷◌, IfErr, None, OnOk, Some, codes};
 ghost use Rattle.catalogue.specs.Fields as fields;
 ghost use Rattle.catalogue.specs.Parsing.{token_at, optional_at, mark_at, signal_at, signals_at};
 ghost use Rattle.catalogue.specs.Rules.{begins, starts};
 ghost use Rattle.catalogue.specs.declared.keyword.Keyword.TheVariants.{Signal as SignalWord};
-ghost use Rattle.dbc_statements.specs.Reading.{Reads, itself};
-ghost use Rattle.dbc_statements.specs.Statement.{signal_of, signals_of};
+ghost use Rattle.dbc_lex.specs.Fault.{UnlessMemory};
+ghost use Rattle.dbc_statements.specs.Reading.{Reads, itself, with_one};
+ghost use Rattle.dbc_statements.specs.Statement.{signals_of};
 
 use crate::fields::{key, layout, made_name, mark, pair, text};
 use crate::names::{Ended, receivers};
@@ -51,10 +52,16 @@ fn colon(tokens: &mut Tokens, is_marked: bool) -> Result<(), ReadFault>
     }
 }
 
-/// A signal from `SG_` on, and how its list of receivers ends.
+/// Adds the signal from `SG_` on to the lines, and returns how its list of receivers ends.
+#[inline(always)]
 #[tactic(auto, unfolding(catalogue::specs::Parsing::signal_at))]
-fn signal(alloc: Global, tokens: &mut Tokens) -> Result<(SignalLine, Ended), ReadFault>
-    ensures { Reads (λ line. signal_of line.0) result (signal_at tokens.old) tokens.new }
+fn add_signal(
+    alloc: Global,
+    tokens: &mut Tokens,
+    lines: &mut Vec<SignalLine>,
+) -> Result<Ended, ReadFault>
+    ensures ok { OnOk result (with_one (signals_of lines.old.items) (signal_at tokens.old) ≡ Some (signals_of lines.new.items, tokens.new)) }
+    ensures err { IfErr result (λ fault. UnlessMemory fault.code (signal_at tokens.old ≡ None)) }
 {
     key(tokens, Keyword::Signal)?;
     let at = tokens.offset();
@@ -67,6 +74,7 @@ fn signal(alloc: Global, tokens: &mut Tokens) -> Result<(SignalLine, Ended), Rea
     let (minimum, maximum) = pair(tokens, b'[', b'|', b']')?;
     let unit = text(alloc, tokens)?;
     let (receivers, ended) = receivers(alloc, tokens)?;
+    lines.reserve(1)?;
     let signal = Signal {
         name,
         layout,
@@ -83,11 +91,12 @@ fn signal(alloc: Global, tokens: &mut Tokens) -> Result<(SignalLine, Ended), Rea
         values: ValueTexts::empty(alloc),
         value_type: ValueType::Integer,
     };
-    let line = SignalLine { at, mux_at, signal };
-    Ok((line, ended))
+    lines.push_reserved(SignalLine { at, mux_at, signal });
+    Ok(ended)
 }
 
 /// Whether a signal comes next.
+#[inline(always)]
 fn is_signal(tokens: &Tokens) -> bool
     ensures { result ≡ starts (fields.is_key SignalWord) tokens.now }
 {
@@ -107,9 +116,7 @@ pub(crate) fn signals(
     let mut signals = Vec::new(alloc);
     let mut ended = Ended::Other;
     'signals: while is_signal(tokens) {
-        let (next, end) = signal(alloc, tokens)?;
-        ended = end;
-        signals.push(next)?;
+        ended = add_signal(alloc, tokens, &mut signals)?;
     }
     Ok((signals, ended))
 }

@@ -6,14 +6,19 @@ ghost use Rattle.catalogue.specs.Spelling.{Spells};
 ghost use Rattle.dbc_lex.specs.Token.{token_of};
 ghost use Rattle.dbc_statements.specs.Tokens.{EndsWith, IsFirst, IsReached, IsSecond, IsSpelled};
 
+use catalogue::TokenKind;
 use dbc_lex::{Lexer, ReadCode, ReadFault, Token};
 use std::marker::Model;
 
-/// The tokens that are left. Contracts see them as their list.
+/// The tokens that are left of a text. Contracts see them as their list.
 #[derive(Drop)]
 pub(crate) struct Tokens<'a> {
-    next: Option<Token<'a>>,
-    lexer: Lexer<'a>,
+    source: &'a [u8],
+    /// The kind of the first of them, if there is one.
+    kind: Option<TokenKind>,
+    /// The offset of its first byte; the text's length if there is none.
+    start: usize,
+    /// The offset after its last byte; the text's length if there is none.
     end: usize,
 }
 
@@ -24,9 +29,9 @@ impl<'a> Model for Tokens<'a> {
 
     ghost Value = { List Token };
 
-    ghost view = { λ t. tokens_from t.next t.lexer };
+    ghost view = { λ t. tokens_from t.source.now t.kind t.start t.end };
 
-    ghost invariant = { λ t. AreTokens t.next t.lexer };
+    ghost invariant = { λ t. AreTokens t.source.now t.kind t.start t.end };
 }
 
 /// The fault of tokens that the text has, if any: at the first offset where no token begins. A token ends at the given
@@ -51,27 +56,41 @@ impl<'a> Tokens<'a> {
     pub(crate) fn of(source: &'a [u8]) -> Tokens<'a>
         ensures { result ≡ (lexed 0 source.now).tokens }
     {
-        let mut lexer = Lexer::of(source);
-        let next = match lexer.next_token() {
-            Ok(next) => next,
-            Err(_) => None,
-        };
-        Tokens {
-            next,
-            lexer,
-            end: source.len(),
+        match Lexer::at(source, 0).next_token() {
+            Ok(Some(token)) => Tokens {
+                source,
+                kind: Some(token.kind),
+                start: token.start,
+                end: token.end,
+            },
+            Ok(None) | Err(_) => Tokens {
+                source,
+                kind: None,
+                start: source.len(),
+                end: source.len(),
+            },
         }
     }
 
     /// The first of them.
+    #[inline(always)]
     pub(crate) fn first(&self) -> Option<Token<'a>>
         ensures first { IsFirst self.now result }
         ensures spelled { IsSpelled result }
     {
-        self.next
+        match self.kind {
+            Some(kind) => Some(Token {
+                kind,
+                start: self.start,
+                end: self.end,
+                text: &self.source[self.start..self.end],
+            }),
+            None => None,
+        }
     }
 
     /// The first of them, or the fault of a text that ends too early.
+    #[inline(always)]
     pub(crate) fn front(&self) -> Result<Token<'a>, ReadFault>
         ensures first { IfOk result (λ t. self.now ≡ token_of t ∷ drop 1 self.now) }
         ensures spelled { IfOk result (λ t. Spells t.kind t.text.now) }
@@ -85,12 +104,12 @@ impl<'a> Tokens<'a> {
 
     /// The one after the first.
     pub(crate) fn second(&self) -> Option<Token<'a>>
-        ensures { IsSecond self.now result }
+        ensures first { IsSecond self.now result }
+        ensures spelled { IsSpelled result }
     {
-        match self.lexer.fork().next_token() {
-            Ok(second) => second,
-            Err(_) => None,
-        }
+        let mut after = self.fork();
+        after.skip();
+        after.first()
     }
 
     /// Removes the first of them.
@@ -98,13 +117,22 @@ impl<'a> Tokens<'a> {
     pub(crate) fn skip(&mut self)
         ensures { self.new ≡ drop 1 self.old }
     {
-        self.next = match self.lexer.next_token() {
-            Ok(next) => next,
-            Err(_) => None,
-        };
+        match Lexer::at(self.source, self.end).next_token() {
+            Ok(Some(token)) => {
+                self.kind = Some(token.kind);
+                self.start = token.start;
+                self.end = token.end;
+            }
+            Ok(None) | Err(_) => {
+                self.kind = None;
+                self.start = self.source.len();
+                self.end = self.source.len();
+            }
+        }
     }
 
     /// The value of the first of them, which is then removed; or this fault if there is no value.
+    #[inline(always)]
     pub(crate) fn accept<T>(&mut self, value: Option<T>, fault: ReadFault) -> Result<T, ReadFault>
         ensures ok { IfOk result (λ v. value ≡ Some v) }
         ensures rest { OnOk result (self.new ≡ drop 1 self.old) }
@@ -120,11 +148,9 @@ impl<'a> Tokens<'a> {
     }
 
     /// The offset of the first of them, or of the end of the text.
+    #[inline(always)]
     pub(crate) fn offset(&self) -> usize {
-        match self.first() {
-            Some(token) => token.start,
-            None => self.end,
-        }
+        self.start
     }
 
     /// The fault of a token that isn't allowed here, or of a text that ends too early.
@@ -137,16 +163,18 @@ impl<'a> Tokens<'a> {
 
     /// Where the text ends.
     pub(crate) fn end(&self) -> usize {
-        self.end
+        self.source.len()
     }
 
     /// The same tokens once more.
+    #[inline(always)]
     pub(crate) fn fork(&self) -> Tokens<'a>
         ensures { result ≡ self.now }
     {
         Tokens {
-            next: self.next,
-            lexer: self.lexer.fork(),
+            source: self.source,
+            kind: self.kind,
+            start: self.start,
             end: self.end,
         }
     }

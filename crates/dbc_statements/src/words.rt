@@ -1,5 +1,5 @@
 //! What single tokens mean.
-ghost use Rattle.std.specs.Prelude.{◌≡◌, [], ◌∷◌, ◌&&◌, IfOk, is_some, nat_lt};
+ghost use Rattle.std.specs.Prelude.{◌≡◌, [], ◌∷◌, ◌&&◌, IfOk, IsTrue, is_some, nat_lt};
 ghost use Rattle.std.specs.Char.{digit_value};
 ghost use Rattle.std.specs.List.{list_all};
 ghost use Rattle.std.specs.Str.{bytes_eq};
@@ -7,7 +7,7 @@ ghost use Rattle.catalogue.specs.Fields as fields;
 ghost use Rattle.catalogue.specs.Grammar as grammar;
 ghost use Rattle.catalogue.specs.Inside.{inside_of};
 ghost use Rattle.catalogue.specs.Keyword.{keyword_text};
-ghost use Rattle.catalogue.specs.Name.{no_node};
+ghost use Rattle.catalogue.specs.Name.{is_c_identifier, is_name, no_node};
 ghost use Rattle.catalogue.specs.Spelling.{Spells};
 ghost use Rattle.catalogue.specs.WholeNumber.{is_numeral};
 ghost use Rattle.catalogue.specs.declared.token.TokenKind.TheVariants.{Name, Number, Text, Mark};
@@ -15,11 +15,12 @@ ghost use Rattle.dbc_lex.specs.Token.{token_of};
 
 use bitlayout::{Mux, Order, Size};
 use can_id::Ident;
-use catalogue::{Keyword, NO_NODE, Spn, TokenKind, is_name, mux_of_indicator, whole_number};
+use catalogue::{Keyword, NAME_LIMIT, NO_NODE, Spn, TokenKind, mux_of_indicator, whole_number};
 use dbc_lex::Token;
 use decimal::Decimal;
 
 /// Whether the token is a text.
+#[inline(always)]
 pub(crate) fn is_text(token: &Token) -> bool
     ensures { result ≡ fields.is_a Text (token_of token.now) }
 {
@@ -27,6 +28,7 @@ pub(crate) fn is_text(token: &Token) -> bool
 }
 
 /// Whether the token is a name of any kind, also a keyword.
+#[inline(always)]
 pub(crate) fn is_word(token: &Token) -> bool
     ensures { result ≡ fields.is_a Name (token_of token.now) }
 {
@@ -34,30 +36,27 @@ pub(crate) fn is_word(token: &Token) -> bool
 }
 
 /// Whether the token is a number of any spelling.
+#[inline(always)]
 pub(crate) fn is_number(token: &Token) -> bool
     ensures { result ≡ fields.is_a Number (token_of token.now) }
 {
     matches!(token.kind, TokenKind::Number)
 }
 
-/// Whether the bytes are this one.
-fn is_byte(bytes: &[u8], byte: u8) -> bool
-    ensures { result ≡ bytes_eq bytes.now (byte ∷ []) }
+/// Whether the token is this mark.
+#[inline(always)]
+pub(crate) fn is_mark(token: &Token, mark: u8) -> bool
+    requires { Spells token.now.kind token.now.text.now }
+    ensures { result ≡ fields.is_mark (mark ∷ []) (token_of token.now) }
 {
-    match bytes {
-        [only] => *only == byte,
+    match token.kind {
+        TokenKind::Mark => token.text[0] == mark,
         _ => false,
     }
 }
 
-/// Whether the token is this mark.
-pub(crate) fn is_mark(token: &Token, mark: u8) -> bool
-    ensures { result ≡ fields.is_mark (mark ∷ []) (token_of token.now) }
-{
-    matches!(token.kind, TokenKind::Mark) && is_byte(token.text, mark)
-}
-
 /// Whether the bytes spell the keyword. The most frequent ones of those that are asked for are compared as patterns.
+#[inline(always)]
 fn spells(bytes: &[u8], keyword: Keyword) -> bool
     ensures { result ≡ bytes_eq bytes.now (keyword_text keyword) }
 {
@@ -70,6 +69,7 @@ fn spells(bytes: &[u8], keyword: Keyword) -> bool
 }
 
 /// Whether the token is this keyword.
+#[inline(always)]
 pub(crate) fn is_key(token: &Token, keyword: Keyword) -> bool
     ensures { result ≡ fields.is_key keyword (token_of token.now) }
 {
@@ -77,6 +77,7 @@ pub(crate) fn is_key(token: &Token, keyword: Keyword) -> bool
 }
 
 /// The keyword that the token is.
+#[inline(always)]
 pub(crate) fn key_of(token: &Token) -> Option<Keyword>
     ensures { result ≡ fields.key_of (token_of token.now) }
 {
@@ -88,6 +89,7 @@ pub(crate) fn key_of(token: &Token) -> Option<Keyword>
 }
 
 /// The bytes between the quotes of a text.
+#[inline(always)]
 pub(crate) fn inside<'a>(text: &'a [u8]) -> &'a [u8]
     ensures { result.now ≡ inside_of text.now }
 {
@@ -98,20 +100,46 @@ pub(crate) fn inside<'a>(text: &'a [u8]) -> &'a [u8]
 }
 
 /// Whether the token is the name that means no node.
+#[inline(always)]
 pub(crate) fn is_no_node(token: &Token) -> bool
     ensures { result ≡ (fields.is_a Name (token_of token.now) && bytes_eq (token_of token.now).text no_node) }
 {
     is_word(token) && token.text == NO_NODE
 }
 
+/// Whether the bytes of a name token are a name: they are a C identifier already.
+#[inline(always)]
+#[tactic(auto, unfolding(catalogue::specs::Name::is_name))]
+fn is_name_word(word: &[u8]) -> bool
+    requires { IsTrue (is_c_identifier word.now) }
+    ensures { result ≡ is_name word.now }
+{
+    word.len() <= NAME_LIMIT && Keyword::of(word).is_none() && word != NO_NODE
+}
+
+/// Whether the token is a name that a statement may give to something.
+#[inline(always)]
+pub(crate) fn is_made_name(token: &Token) -> bool
+    requires { Spells token.now.kind token.now.text.now }
+    ensures { result ≡ (fields.is_a Name (token_of token.now) && is_name token.now.text.now) }
+{
+    match token.kind {
+        TokenKind::Name => is_name_word(token.text),
+        _ => false,
+    }
+}
+
 /// Whether the token is a name of a list: that of a node, or the one that means no node.
+#[inline(always)]
 pub(crate) fn is_node(token: &Token) -> bool
+    requires { Spells token.now.kind token.now.text.now }
     ensures { result ≡ is_some (fields.node_of (token_of token.now)) }
 {
-    is_word(token) && (token.text == NO_NODE || is_name(token.text))
+    is_no_node(token) || is_made_name(token)
 }
 
 /// A whole number up to 4294967295.
+#[inline(always)]
 pub(crate) fn whole(token: &Token) -> Option<u32>
     ensures { result ≡ fields.whole (token_of token.now) }
 {
@@ -123,13 +151,17 @@ pub(crate) fn whole(token: &Token) -> Option<u32>
 }
 
 /// A whole number that only cites a message; `Some(None)` if it is above 4294967295.
+#[inline(always)]
 pub(crate) fn cited_number_of(token: &Token) -> Option<Option<u32>>
     ensures { result ≡ fields.cited_number (token_of token.now) }
 {
-    if is_number(token) && is_numeral(token.text) {
-        Some(whole_number(token.text))
-    } else {
-        None
+    if !is_number(token) {
+        return None;
+    }
+    match whole_number(token.text) {
+        Some(number) => Some(Some(number)),
+        None if is_numeral(token.text) => Some(None),
+        None => None,
     }
 }
 
@@ -163,6 +195,7 @@ pub(crate) fn independent_number_of(token: &Token) -> Option<u32>
 }
 
 /// The start bit of a signal.
+#[inline(always)]
 pub(crate) fn start_of(token: &Token) -> Option<u16>
     ensures { result ≡ fields.start_of (token_of token.now) }
 {
@@ -175,6 +208,7 @@ pub(crate) fn start_of(token: &Token) -> Option<u16>
 }
 
 /// The size of a signal.
+#[inline(always)]
 pub(crate) fn size_of(token: &Token) -> Option<Size>
     ensures { result ≡ fields.size_of (token_of token.now) }
 {
@@ -187,7 +221,9 @@ pub(crate) fn size_of(token: &Token) -> Option<Size>
 }
 
 /// Whether a sign is a minus.
+#[inline(always)]
 pub(crate) fn sign_of(token: &Token) -> Option<bool>
+    requires { Spells token.now.kind token.now.text.now }
     ensures { result ≡ fields.sign_of (token_of token.now) }
 {
     if is_mark(token, b'+') {
@@ -200,6 +236,7 @@ pub(crate) fn sign_of(token: &Token) -> Option<bool>
 }
 
 /// The byte order that a number token names.
+#[inline(always)]
 pub(crate) fn order_of(token: &Token) -> Option<Order>
     ensures { result ≡ fields.order_of (token_of token.now) }
 {

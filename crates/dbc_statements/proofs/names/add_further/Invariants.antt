@@ -1,13 +1,13 @@
-use Rattle.std.proofs.Common.{◌≡◌, length}
+use Rattle.std.proofs.Common.{◌≡◌, length, map}
 use Rattle.catalogue.specs.Fields.{goes_on}
 use Rattle.catalogue.specs.Parsing.{many_at, further_at}
 use Rattle.dbc_statements.specs.Names.{with_names}
-use Rattle.dbc_statements.specs.Statement.{names_of}
 use Rattle.dbc_statements.proofs.names.add_further.Given as goal
 
 abbrev pub invariant-nodes : goal.invariant-nodes
-invariant-nodes l =
-    with_names (names_of l.nodes.items) (many_at goes_on further_at l.tokens) ≡ with_names (names_of l.initial.nodes.items) (many_at goes_on further_at l.initial.tokens)
+invariant-nodes g l =
+    with_names (map g.T.Listed.name_of l.nodes.items) (many_at goes_on further_at l.tokens)
+    ≡ with_names (map g.T.Listed.name_of l.initial.nodes.items) (many_at goes_on further_at l.initial.tokens)
 
 abbrev pub decreases-nodes : goal.decreases-nodes
-decreases-nodes l = length l.tokens
+decreases-nodes g l = length l.tokens

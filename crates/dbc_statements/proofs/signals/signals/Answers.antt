@@ -1,12 +1,11 @@
-use Rattle.std.proofs.Common.{[], ◌∷◌, sym, ◌∙◌}
-use Rattle.std.proofs.lemmas.List.{map-append}
+use Rattle.std.proofs.Common.{sym, ◌∙◌}
 use Rattle.catalogue.specs.Fields.{is_key}
 use Rattle.catalogue.specs.Parsing.{many_at, signal_at, signals_at}
 use Rattle.catalogue.specs.Rules.{starts}
 use Rattle.catalogue.specs.declared.keyword.Keyword.TheVariants.{Signal}
-use Rattle.catalogue.proofs.Repeating.{signals_take, goes_round}
-use Rattle.dbc_statements.specs.Statement.{signal_of, signals_of}
-use Rattle.dbc_statements.proofs.LoopRounds.{at_start}
+use Rattle.catalogue.proofs.Repeating.{signals_take}
+use Rattle.dbc_statements.specs.Statement.{signals_of}
+use Rattle.dbc_statements.proofs.LoopRounds.{at_start, fewer, one_more}
 use Rattle.dbc_statements.proofs.signals.signals.Goals as goal
 
 pub signals-init : goal.signals-init
@@ -15,8 +14,8 @@ signals-init c = rw c.new-signals.ensures.items (at_start (many_at (starts (is_k
 
 pub signals-smaller : goal.signals-smaller
 signals-smaller c =
-    signals_take.shorter c.signals.tokens (signal_of c.in_ok-next.next, c.signal.new.tokens) (sym c.is_signal.ensures ∙ c.signals-test.true) c.in_ok-next.ensures
+    fewer signals_take (signals_of c.signals.signals.items) c.signals.tokens (signals_of c.add_signal.new.lines.items) c.add_signal.new.tokens (sym c.is_signal.ensures ∙ c.signals-test.true) c.in_ok-ended.ensures.ok
 
 pub signals-preserved : goal.signals-preserved
 signals-preserved c =
-    rw (c.in_ok-push.ensures.items, map-append signal_of c.signals.signals.items (c.in_ok-next.next ∷ [])) (goes_round signals_take (signals_of c.signals.signals.items) c.signals.tokens (signal_of c.in_ok-next.next, c.signal.new.tokens) _ (sym c.is_signal.ensures ∙ c.signals-test.true) c.in_ok-next.ensures c.signals.invariant)
+    one_more signals_take (signals_of c.signals.signals.items) c.signals.tokens (signals_of c.add_signal.new.lines.items) c.add_signal.new.tokens _ (sym c.is_signal.ensures ∙ c.signals-test.true) c.in_ok-ended.ensures.ok c.signals.invariant

@@ -1,12 +1,14 @@
-use Rattle.std.proofs.Common.{Option, sym, subst}
-use Rattle.dbc_lex.specs.declared.token.Token.{Token as TextToken}
-use Rattle.dbc_statements.specs.Tokens.{AreTokens}
-use Rattle.dbc_statements.proofs.Spelled.{at_first, at_fault}
+use Rattle.std.proofs.Common.{arith}
+use Rattle.dbc_lex.specs.Token.{token_of}
+use Rattle.dbc_statements.proofs.FirstToken.{are_tokens, tokens_are}
 use Rattle.dbc_statements.proofs.tokens.Tokens.of.Goals as goal
-use Rattle.dbc_statements.proofs.tokens.Tokens.of.Goals.{in-Ok, in-Err}
 
-pub invariant_of-result : goal.invariant_of-result
-invariant_of-result c = elim c.match-next_token.branch [
-  | in-Ok w ↦ subst (λ (next : Option TextToken). AreTokens next c.next_token.new.self) (sym w.next-is) (at_first w.in-Ok.next c.args.source.now c.of-lexer.result c.next_token.new.self c.of-lexer.ensures w.in-Ok.ensures)
-  | in-Err w ↦ subst (λ (next : Option TextToken). AreTokens next c.next_token.new.self) (sym w.next-is) (at_fault _ c.of-lexer.result c.next_token.new.self w.in-Err.ensures)
-]
+pub invariant_of-t-7 : goal.invariant_of-t-7
+invariant_of-t-7 c =
+    let gives = rw c.in-Ok-Some.field-0-is at c.in-Ok-Some.ensures in
+    are_tokens c.args.source.now 0 (omega arith) c.at.result c.at.ensures (token_of c.in-Ok-Some.token) c.next_token.new.self.tokens gives.0
+
+pub returns-in-Ok-Some : goal.returns-in-Ok-Some
+returns-in-Ok-Some c =
+    let gives = rw c.in-Ok-Some.field-0-is at c.in-Ok-Some.ensures in
+    tokens_are c.args.source.now 0 (omega arith) c.at.result c.at.ensures (token_of c.in-Ok-Some.token) c.next_token.new.self.tokens gives.0

@@ -1,5 +1,8 @@
 -- What a text that is divided into statements reads as.
-use Rattle.std.proofs.Common.{◌≡◌, ◌∙◌, ℕ, List, map, ap, refl, subst}
+use Rattle.std.proofs.Common.{◌≡◌, ◌∙◌, ℕ, List, Option, None, Some, Result, Ok, Err, map, ap, refl, subst}
+use Rattle.std.specs.Prelude.{IfErr, IfNone, IfOk, IfSome}
+use Rattle.std.proofs.lemmas.Option.{IfSome_then}
+use Rattle.std.proofs.lemmas.Result.{IfErr-at_err, IfOk-at_ok}
 use Rattle.catalogue.specs.Division.{Divides}
 use Rattle.catalogue.specs.Lexing.{lexed}
 use Rattle.catalogue.specs.Reads.{ReadsAs, ReadsAsOneAtMost, ReadsOnlyAs}
@@ -18,10 +21,13 @@ use Rattle.dbc_statements.proofs.WholeText.{no_tokens}
 use Rattle.dbc_read.specs.Built.{CanBeSheet, IsBuilt}
 use Rattle.dbc_read.specs.Gathered.{AreGathered}
 use Rattle.dbc_read.specs.Passed.{start_and_keyword}
-use Rattle.dbc_read.specs.Reading.{ReadsAsNothing}
+use Rattle.dbc_read.specs.Reading.{CanNeverBeSheet, ReadsAsNothing}
+use Rattle.dbc_read.specs.Refusal.{Unless}
 use Rattle.dbc_read.specs.Sheets.{SaysNothing}
 use Rattle.dbc_read.specs.declared.gathered.Gathered.{Gathered}
 use Rattle.dbc_read.specs.declared.reading.Reading.{Reading}
+use Rattle.dbc_read.specs.declared.refusal.Refusal.{Refusal}
+use Rattle.dbc_read.specs.declared.refusal.Refusal.TheVariants.{NoSheet}
 use Rattle.dbc_read.proofs.SheetsSaid.{can_be_sheet_again, says_built, says_nothing}
 
 pub no_tokens_left : (bytes source : List ℕ) (fault : ReadFault) → source ≡ bytes → EndsWith (lexed 0 source) fault → HasNoDivision bytes
@@ -62,7 +68,7 @@ module _ (bytes : List ℕ) where
       reads_none never = unsaid (says_nothing ss g a never)
 
       -- and what is gathered of it once more can't be either
-      pub can_never_be_sheet : ¬ CanBeSheet g → (us : List Statement) → IsDivided bytes us → (h : Gathered) → AreGathered us h → ¬ CanBeSheet h
+      pub can_never_be_sheet : ¬ CanBeSheet g → CanNeverBeSheet bytes
       can_never_be_sheet never us e h b = λ can. never (can_be_sheet_again ss g h a (subst (λ l. AreGathered l h) (same_statements us e) b) can)
 
       -- the sheet that is built of what is gathered
@@ -71,3 +77,18 @@ module _ (bytes : List ℕ) where
 
       pub reads_only_built : ReadsAsOneAtMost → (r : Reading) → IsBuilt g r.sheet → ReadsOnlyAs bytes r.sheet
       reads_only_built one r built = reads_one one r.sheet (says_built ss g a r.sheet built)
+
+      -- Where the reading is what was built, if anything was.
+      module _ (built : Result Reading Refusal) (found : Option Reading) where
+        pub found_reads : IfOk built (λ r. IsBuilt g r.sheet) → IfOk built (λ r. r.passed ≡ g.passed) → IfSome found (λ r. built ≡ Ok r) → IfSome found (λ r. ReadsAs bytes r.sheet (map start_and_keyword r.passed))
+        found_reads is passed some = IfSome_then found some (λ r e. reads_built r (IfOk-at_ok (λ (x : Reading). IsBuilt g x.sheet) e is) (IfOk-at_ok (λ (x : Reading). x.passed ≡ g.passed) e passed))
+
+        pub found_only : ReadsAsOneAtMost → IfOk built (λ r. IsBuilt g r.sheet) → IfSome found (λ r. built ≡ Ok r) → IfSome found (λ r. ReadsOnlyAs bytes r.sheet)
+        found_only one is some = IfSome_then found some (λ r e. reads_only_built one r (IfOk-at_ok (λ (x : Reading). IsBuilt g x.sheet) e is))
+
+        pub found_never : IfErr built (λ refusal. Unless refusal (¬ CanBeSheet g)) → IfNone found (built ≡ Err NoSheet) → IfNone found (CanNeverBeSheet bytes)
+        found_never refused none = by found none
+          where
+            by : (o : Option Reading) → IfNone o (built ≡ Err NoSheet) → IfNone o (CanNeverBeSheet bytes)
+            by None e = can_never_be_sheet (IfErr-at_err (λ refusal. Unless refusal (¬ CanBeSheet g)) e refused)
+            by (Some r) e = tt

@@ -29,13 +29,13 @@ use Rattle.dbc_statements.specs.declared.statement.Content.TheVariants as conten
 use Rattle.dbc_statements.specs.declared.statement.NodeName.{NodeName}
 use Rattle.dbc_statements.specs.declared.statement.Statement.{Statement}
 
-some_true : (b : Bool) → Some b ≡ Some true → b ≡ true
+pub some_true : (b : Bool) → Some b ≡ Some true → b ≡ true
 some_true b e = ap (λ o. unwrap_or o false) e
 
-none_true : {A : Type 0} → ◌≡◌ {A = Option Bool} None (Some true) → A
+pub none_true : {A : Type 0} → ◌≡◌ {A = Option Bool} None (Some true) → A
 none_true e = absurd (true≢false (sym (ap is_some e)))
 
-or_parts : (a b : Bool) → (a || b) ≡ false → (a ≡ false) × (b ≡ false)
+pub or_parts : (a b : Bool) → (a || b) ≡ false → (a ≡ false) × (b ≡ false)
 or_parts true b h = absurd (true≢false h)
 or_parts false b h = (refl, h)
 

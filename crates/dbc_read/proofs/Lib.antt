@@ -1,7 +1,12 @@
 pub mod IteratorItems
-pub mod Finding
+pub mod LookingUp
+pub mod Fed
+pub mod Positions
+pub mod Places
+pub mod Building
 pub mod Gathering
 pub mod OneByOne
+pub mod Settling
 pub mod Refused
 pub mod SignalsFit
 pub mod Bytes

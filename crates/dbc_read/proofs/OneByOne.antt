@@ -1,9 +1,8 @@
 -- Statements that are gathered as they come: first those that cite nothing, and then those that define nothing that could
--- be cited.
+-- be cited, which Settling.antt goes on with.
 use Rattle.std.proofs.Common.{◌≡◌, ◌∙◌, ◌++◌, ℕ, true, false, List, [], ◌∷◌, length, map, Option, Some, None, refl, sym, ap, append_assoc, append-nil, subst, true≢false}
 use Rattle.std.specs.List.{cons_option, flat_map}
 use Rattle.std.specs.Option.{option_map}
-use Rattle.std.specs.Ordering.{nat_cmp}
 use Rattle.std.proofs.lemmas.List.Elements.{filter_map-append}
 use Rattle.can_id.specs.Ident.{dbc_number}
 use Rattle.catalogue.specs.Parsing.{statements_at}
@@ -11,11 +10,9 @@ use Rattle.catalogue.specs.Saying.{each_in, keys_of, message_in, messages_of, no
 use Rattle.catalogue.specs.Statement as says
 use Rattle.catalogue.specs.Token.{Token}
 use Rattle.dbc_read.specs.Gathered.{AreGathered, IsNothing, gathered_after, passed_of}
-use Rattle.dbc_read.specs.Gathering.{BeginWith, DefineNothing, Defines, FollowAll, Gathers, IsDefining, IsEmpty, IsOfTokens, IsSettling, Settles, SettlesAll, cites, defines, one_or_none, with_definitions, with_empty, with_nothing_attached}
-use Rattle.dbc_read.specs.Lookup.{IsLookupOf}
-use Rattle.dbc_read.specs.Lookups.{AreLookups, IsCitedIndex}
+use Rattle.dbc_read.specs.Gathering.{BeginWith, DefineNothing, Gathers, IsDefining, IsEmpty, IsSettling, cites, defines, with_definitions, with_empty, with_nothing_attached}
+use Rattle.dbc_read.specs.Lookups.{IsCitedIndex}
 use Rattle.dbc_read.specs.declared.gathered.Gathered.{Gathered}
-use Rattle.dbc_read.specs.declared.lookups.Lookups.{Lookups}
 use Rattle.dbc_read.specs.declared.passed.Passed.{Passed}
 use Rattle.dbc_read.proofs.Gathering.{all_gathered, nothing_gathered, one_gathered}
 use Rattle.dbc_statements.specs.Left.{BeginsWith}
@@ -87,24 +84,13 @@ no_messages [] h = refl
 no_messages (s ∷ rest) h = no_message s.content (messages_of rest) h.0 ∙ no_messages rest h.1
 
 module _ (said rest : List says.Statement) (none : DefineNothing rest) where
-  same_names : node_names_of (said ++ rest) ≡ node_names_of said
+  pub same_names : node_names_of (said ++ rest) ≡ node_names_of said
   same_names =
       ap (flat_map (λ (names : List (List ℕ)). names))
       (filter_map-append (λ (s : says.Statement). nodes_in s.content) said rest ∙ ap (λ l. each_in nodes_in said ++ l) (none_named rest none) ∙ append-nil (each_in nodes_in said))
 
-  same_messages : messages_of (said ++ rest) ≡ messages_of said
+  pub same_messages : messages_of (said ++ rest) ≡ messages_of said
   same_messages = filter_map-append (λ (s : says.Statement). message_in s.content) said rest ∙ ap (λ l. messages_of said ++ l) (no_messages rest none) ∙ append-nil (messages_of said)
-
-  pub lookups_stay : (l : Lookups) → AreLookups l said → AreLookups l (said ++ rest)
-  lookups_stay l are = record {
-    node_names = are.node_names;
-    nodes = are.nodes;
-    names = are.names ∙ sym same_names;
-    messages = subst (λ (ms : List says.MessageLine). IsLookupOf nat_cmp l.messages (map (λ (m : says.MessageLine). dbc_number m.ident) ms)) (sym same_messages) are.messages;
-    signal_keys = are.signal_keys;
-    signals = are.signals;
-    keys = are.keys ∙ sym (ap (flat_map keys_of) same_messages);
-  }
 
   same_empty : (g : Gathered) → with_nothing_attached (said ++ rest) g ≡ with_nothing_attached said g
   same_empty g = λ i. with_empty (length (same_names i)) (length (map (λ (m : says.MessageLine). dbc_number m.ident) (same_messages i))) (length (flat_map keys_of (same_messages i))) g
@@ -163,37 +149,11 @@ pub definitions_over : (said : List says.Statement) (g : Gathered) (nodes : List
     → IsSettling said g.nodes g.messages (with_nothing_attached said (with_definitions nodes messages g))
 definitions_over said g nodes messages h = λ rest none. subst (λ (x : Gathered). Gathers (said ++ rest) x rest) (same_empty said rest none g) (h rest)
 
-defined_either_way : (nodes : List NodeName) (messages : List MessageLine) (index : Option ℕ) (p : Passed) (c : Content) (g : Gathered) → defines (content_of c) ≡ false
+pub defined_either_way : (nodes : List NodeName) (messages : List MessageLine) (index : Option ℕ) (p : Passed) (c : Content) (g : Gathered) → defines (content_of c) ≡ false
     → with_definitions nodes messages (gathered_after index p c g) ≡ gathered_after index p c (with_definitions nodes messages g)
 defined_either_way nodes messages index p (content.Nodes names) g h = absurd (true≢false h)
 defined_either_way nodes messages index p (content.Message line) g h = absurd (true≢false h)
 defined_either_way nodes messages index p c g h = refl
-
-pub one_settled : (l : Lookups) (s : Statement) (index : Option ℕ) (old now : Gathered) → defines (content_of s.content) ≡ false
-    → ((all : List says.Statement) → AreLookups l all → IsCitedIndex all (content_of s.content) index) → now ≡ gathered_after index (passed_of s) s.content old
-    → Settles l (statement_of s ∷ []) old now
-one_settled l s index old now defines_none found is = λ said nodes messages are h. (
-  lookups_stay said (statement_of s ∷ []) (defines_none, tt) l are,
-  λ rest none.
-      let all : List says.Statement = said ++ statement_of s ∷ rest in
-      let more : DefineNothing (statement_of s ∷ rest) = (defines_none, none) in
-      let here : Gathers all (with_definitions nodes messages now) rest = one_gathered all s rest index (with_definitions nodes messages old) (with_definitions nodes messages now) (found all (lookups_stay said (statement_of s ∷ rest) more l are)) (ap (with_definitions nodes messages) is ∙ defined_either_way nodes messages index (passed_of s) s.content old defines_none) (h (statement_of s ∷ rest) more) in
-      subst (λ (x : List says.Statement). Gathers x (with_definitions nodes messages now) rest) (sym (append_assoc said (statement_of s ∷ []) rest)) here,
-)
-
-pub none_settled : (l : Lookups) (g : Gathered) → Settles l [] g g
-none_settled l g = λ said nodes messages are h. (
-  subst (AreLookups l) (sym (append-nil said)) are,
-  subst (λ (x : List says.Statement). IsSettling x nodes messages g) (sym (append-nil said)) h,
-)
-
-pub settled_both : (l : Lookups) (first second : List says.Statement) (a b c : Gathered) → Settles l first a b → Settles l second b c → Settles l (first ++ second) a c
-settled_both l first second a b c h k = λ said nodes messages are is.
-    let (are_first, is_first) = h said nodes messages are is in
-    let (are_both, is_both) = k (said ++ first) nodes messages are_first is_first in (
-      subst (AreLookups l) (append_assoc said first second) are_both,
-      subst (λ (x : List says.Statement). IsSettling x nodes messages c) (append_assoc said first second) is_both,
-    )
 
 -- where nothing is left, all are gathered
 pub all_settled : (said : List says.Statement) (nodes : List NodeName) (messages : List MessageLine) (g : Gathered) → IsSettling said nodes messages g → AreGathered said (with_definitions nodes messages g)
@@ -212,37 +172,3 @@ module _ (said : List says.Statement) (g : Gathered) (h : IsDefining said g) whe
 
   pub defined_messages : map message_of g.messages ≡ messages_of said
   defined_messages = sym (append-nil (map message_of g.messages)) ∙ (h []).messages ∙ ap messages_of (append-nil said)
-
--- All statements are gathered: those up to the first that cites something, that one, and those after it.
-pub of_tokens : (tokens rest : List Token) (empty g old now : Gathered) (first : Option Statement) (nodes seen_nodes : List NodeName) (messages seen_messages : List MessageLine)
-    → nodes ≡ g.nodes → messages ≡ g.messages → seen_nodes ≡ g.nodes → seen_messages ≡ g.messages → old ≡ with_definitions [] [] g
-    → IsEmpty empty → Defines tokens rest empty g first → FollowAll seen_nodes seen_messages first rest old now → IsOfTokens tokens (with_definitions nodes messages now)
-of_tokens tokens rest empty g old now first nodes seen_nodes messages seen_messages nodes_are messages_are seen_nodes_are seen_messages_are old_is is begun others =
-    let said = begun.said in
-    let defining : IsDefining said g = begun.gathered (nothing_defined empty is) in
-    let over : IsSettling said g.nodes g.messages (with_nothing_attached said (with_definitions [] [] g)) = definitions_over said g [] [] defining in
-    let after : FollowAll g.nodes g.messages first rest (with_definitions [] [] g) now = subst (λ (x : Gathered). FollowAll g.nodes g.messages first rest x now) old_is
-    (subst (λ (x : List MessageLine). FollowAll g.nodes x first rest old now) seen_messages_are (subst (λ (x : List NodeName). FollowAll x seen_messages first rest old now) seen_nodes_are others)) in
-    let settled = after.gathered said (defined_names said g defining) (defined_messages said g defining) over in
-    let whole : AreGathered ((said ++ one_or_none first) ++ after.said) (with_definitions g.nodes g.messages now) = all_settled ((said ++ one_or_none first) ++ after.said) g.nodes g.messages now settled in
-    record {
-      said = (said ++ one_or_none first) ++ after.said;
-      read = begin_with_rest (said ++ one_or_none first) after.said tokens rest begun.read after.read;
-      gathered = subst (λ (x : List NodeName). AreGathered ((said ++ one_or_none first) ++ after.said) (with_definitions x messages now)) (sym nodes_are)
-          (subst (λ (x : List MessageLine). AreGathered ((said ++ one_or_none first) ++ after.said) (with_definitions g.nodes x now)) (sym messages_are) whole);
-    }
-
--- Those after the definitions: what is attached to nothing at first, then the first statement, and then the others.
-pub all_follow : (l : Lookups) (nodes : List NodeName) (messages : List MessageLine) (first : Option Statement) (tokens : List Token) (old attached settled now : Gathered)
-    → ((before : List says.Statement) → names_of nodes ≡ node_names_of before → map message_of messages ≡ messages_of before → AreLookups l before)
-    → ((before : List says.Statement) → AreLookups l before → attached ≡ with_nothing_attached before old)
-    → Settles l (one_or_none first) attached settled → SettlesAll l tokens settled now → FollowAll nodes messages first tokens old now
-all_follow l nodes messages first tokens old attached settled now found begins one others = record {
-  said = others.said;
-  read = others.read;
-  gathered = λ before names lines h.
-      let are = found before names lines in
-      let begun = subst (IsSettling before nodes messages) (sym (begins before are)) h in
-      let after = one before nodes messages are begun in
-      (others.gathered (before ++ one_or_none first) nodes messages after.0 after.1).1;
-}

@@ -6,13 +6,11 @@ use Rattle.catalogue.specs.Fault.{IsRefusal}
 use Rattle.catalogue.specs.Limits.{roster_limit}
 use Rattle.catalogue.specs.Refusing.{first_refusal}
 use Rattle.catalogue.specs.Signals.{AreSignals, has_multiplexor, signal_is_multiplexor, signal_name, signal_tests}
-use Rattle.catalogue.specs.WellFormed.{AreFewTexts}
 use Rattle.catalogue.specs.declared.fault.SheetCode.{SheetCode}
 use Rattle.catalogue.specs.declared.signal.Signal.{Signal}
 use Rattle.dbc_read.specs.Fit.{AreFit}
 use Rattle.dbc_read.specs.Refusal.{Unless, refusal_of}
-use Rattle.dbc_read.specs.declared.refusal.Refusal.{Refusal}
-use Rattle.dbc_read.proofs.Refused.{each_middle, none_before, refused, room, unless}
+use Rattle.dbc_read.proofs.Refused.{none_before, refused, room}
 
 no_other_multiplexor : (s : Signal) (before : List Signal) → list_any (λ x. signal_is_multiplexor x && signal_is_multiplexor s) before ≡ false → (signal_is_multiplexor s && has_multiplexor before) ≡ false
 no_other_multiplexor s before h = by (signal_is_multiplexor s) before h
@@ -45,9 +43,3 @@ pub signal_refused : (before : List Signal) (s : Signal) (after whole : List Sig
     → IsRefusal (first_refusal (signal_tests before s)) code → Unless (refusal_of code) (AreFit whole → ⊥)
 signal_refused before s after whole code e is =
     refused (signal_tests before s) code (AreFit whole) (λ fit. none_holds before s after (subst AreSignals (sym e) fit.together)) is
-
--- a signal with too many texts for its values
-pub values_refused : (before : List Signal) (s : Signal) (after whole : List Signal) (refusal : Refusal) → before ++ s ∷ after ≡ whole
-    → Unless refusal (AreFewTexts s.values → ⊥) → Unless refusal (AreFit whole → ⊥)
-values_refused before s after whole refusal e h =
-    unless refusal _ _ (λ fit. each_middle (λ (x : Signal). AreFewTexts x.values) before s after (subst (AllByRecursion (λ (x : Signal). AreFewTexts x.values)) (sym e) fit.values)) h

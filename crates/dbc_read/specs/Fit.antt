@@ -11,10 +11,13 @@ use Rattle.catalogue.specs.declared.message.Message.{Message}
 use Rattle.catalogue.specs.declared.signal.Signal.{Signal}
 use Rattle.catalogue.specs.declared.value_table.ValueTable.{ValueTable}
 
+abbrev pub HaveFewTexts : Signal → Type 0
+HaveFewTexts s = AreFewTexts s.values
+
 -- signals that can be in one message
 pub record AreFit (signals : List Signal) : Type 0 where
   pub together : AreSignals signals
-  pub values : AllByRecursion (λ (s : Signal). AreFewTexts s.values) signals
+  pub values : AllByRecursion HaveFewTexts signals
 
 abbrev pub IsFit : Message → Type 0
 IsFit m = AreFit m.signals

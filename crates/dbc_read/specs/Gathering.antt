@@ -10,11 +10,12 @@ use Rattle.catalogue.specs.Statement as says
 use Rattle.catalogue.specs.Token.{Token}
 use Rattle.catalogue.specs.declared.keyword.Keyword.{Keyword}
 use Rattle.catalogue.specs.declared.value_type.ValueType.TheVariants.{Integer}
+use Rattle.dbc_read.specs.Attaching.{all_signals, with_attached}
+use Rattle.dbc_read.specs.Finding.{Finds}
 use Rattle.dbc_read.specs.Gathered.{AreGathered}
-use Rattle.dbc_read.specs.Lookups.{AreLookups}
 use Rattle.dbc_read.specs.Passed.{start_and_keyword}
+use Rattle.dbc_read.specs.declared.finding.Finders.{Finders}
 use Rattle.dbc_read.specs.declared.gathered.Gathered.{Gathered}
-use Rattle.dbc_read.specs.declared.lookups.Lookups.{Lookups}
 use Rattle.dbc_statements.specs.Division.{IsDivided}
 use Rattle.dbc_statements.specs.Parts.{table_of}
 use Rattle.dbc_statements.specs.Statement.{content_of, message_of, names_of, statement_of}
@@ -112,10 +113,19 @@ IsDefining said g = (rest : List says.Statement) → Gathers (said ++ rest) (wit
 abbrev pub IsSettling : List says.Statement → List NodeName → List MessageLine → Gathered → Type 0
 IsSettling said nodes messages g = (rest : List says.Statement) → DefineNothing rest → Gathers (said ++ rest) (with_definitions nodes messages g) rest
 
--- these statements are gathered after others with the same definitions
-abbrev pub Settles : Lookups → List says.Statement → Gathered → Gathered → Type 0
-Settles lookups more old new = (said : List says.Statement) (nodes : List NodeName) (messages : List MessageLine) → AreLookups lookups said → IsSettling said nodes messages old
-    → AreLookups lookups (said ++ more) × IsSettling (said ++ more) nodes messages new
+-- nothing is attached to the signals of the lines
+abbrev pub HaveNothing : List MessageLine → Type 0
+HaveNothing lines = (g : Gathered) → with_attached lines g ≡ record g {
+  signal_comments = replicate (length (all_signals lines)) [];
+  signal_values = replicate (length (all_signals lines)) [];
+  signal_types = replicate (length (all_signals lines)) Integer;
+  signal_spns = replicate (length (all_signals lines)) 0;
+}
+
+-- these statements are gathered after others with the same definitions; what is attached to signals is in the lines
+abbrev pub Settles : Finders → List says.Statement → List MessageLine → Gathered → List MessageLine → Gathered → Type 0
+Settles f more lines old new_lines new = (said : List says.Statement) (nodes : List NodeName) → Finds f lines said → IsSettling said nodes lines (with_attached lines old)
+    → Finds f new_lines (said ++ more) × IsSettling (said ++ more) nodes new_lines (with_attached new_lines new)
 
 -- Tokens that begin with these statements, and then the rest.
 abbrev pub BeginWith : List says.Statement → List Token → List Token → Type 0
@@ -133,17 +143,17 @@ pub record Defines (tokens rest : List Token) (old new : Gathered) (first : Opti
   pub gathered : IsDefining [] old → IsDefining said new
 
 -- all statements that are left are gathered
-pub record SettlesAll (lookups : Lookups) (tokens : List Token) (old new : Gathered) : Type 0 where
+pub record SettlesAll (f : Finders) (tokens : List Token) (lines : List MessageLine) (old : Gathered) (new_lines : List MessageLine) (new : Gathered) : Type 0 where
   pub said : List says.Statement
   pub read : statements_at tokens ≡ Some said
-  pub gathered : Settles lookups said old new
+  pub gathered : Settles f said lines old new_lines new
 
 -- after those with these definitions
-pub record FollowAll (nodes : List NodeName) (messages : List MessageLine) (first : Option Statement) (tokens : List Token) (old new : Gathered) : Type 0 where
+pub record FollowAll (nodes : List NodeName) (lines : List MessageLine) (first : Option Statement) (tokens : List Token) (old : Gathered) (new_lines : List MessageLine) (new : Gathered) : Type 0 where
   pub said : List says.Statement
   pub read : statements_at tokens ≡ Some said
-  pub gathered : (before : List says.Statement) → names_of nodes ≡ node_names_of before → map message_of messages ≡ messages_of before
-      → IsSettling before nodes messages (with_nothing_attached before old) → IsSettling ((before ++ one_or_none first) ++ said) nodes messages new
+  pub gathered : (before : List says.Statement) → names_of nodes ≡ node_names_of before → map message_of lines ≡ messages_of before
+      → IsSettling before nodes lines (with_nothing_attached before old) → IsSettling ((before ++ one_or_none first) ++ said) nodes new_lines (with_attached new_lines new)
 
 -- it is what all statements of the tokens say
 pub record IsOfTokens (tokens : List Token) (g : Gathered) : Type 0 where

@@ -7,6 +7,9 @@ pub mod Gathered
 pub mod Gathering
 pub mod Fit
 pub mod Built
+pub mod Attaching
+pub mod Numbers
+pub mod Finding
 pub mod Faults
 pub mod Sheets
 pub mod Reading

@@ -1,11 +1,12 @@
 -- Which node, message or signal of a file a statement cites: its index among those of all statements.
 use Rattle.std.specs.Prelude.{◌≡◌, ◌==◌, ⊤, ℕ, List, [], ◌∷◌, map, Option, Some, None}
 use Rattle.std.specs.Borrow.{Bor}
+use Rattle.std.specs.List.{flat_map}
 use Rattle.std.specs.Ordering.{nat_cmp, ordering_then}
 use Rattle.std.specs.Str.{bytes_eq}
 use Rattle.catalogue.specs.Keyed.{text_cmp}
-use Rattle.catalogue.specs.Saying.{node_names_of, numbers_of, same_signal, signal_keys_of}
-use Rattle.catalogue.specs.Statement.{Cited, Content, MessageCommentIs, NodeCommentIs, SignalCommentIs, SpnIs, Statement, ValueTextsAre, ValueTypeIs}
+use Rattle.catalogue.specs.Saying.{keys_of, messages_of, node_names_of, numbers_of, same_signal, signal_keys_of}
+use Rattle.catalogue.specs.Statement.{Cited, Content, MessageCommentIs, MessageLine, NodeCommentIs, SignalCommentIs, SpnIs, Statement, ValueTextsAre, ValueTypeIs}
 use Rattle.dbc_read.specs.Keys.{key_of, text_of}
 use Rattle.dbc_read.specs.Lookup.{IsIndexIn, IsLookupOf}
 use Rattle.dbc_read.specs.declared.lookups.Lookups.{Lookups}
@@ -29,9 +30,13 @@ abbrev pub IsMessageIndex : List Statement → Cited → Option ℕ → Type 0
 IsMessageIndex statements None index = index ≡ None
 IsMessageIndex statements (Some number) index = IsIndexIn (λ n. n == number) (numbers_of statements) index
 
+-- among the signals of these messages
+abbrev pub IsSignalIn : List MessageLine → Cited → List ℕ → Option ℕ → Type 0
+IsSignalIn messages None name index = index ≡ None
+IsSignalIn messages (Some number) name index = IsIndexIn (λ key. same_signal key (number, name)) (flat_map keys_of messages) index
+
 abbrev pub IsSignalIndex : List Statement → Cited → List ℕ → Option ℕ → Type 0
-IsSignalIndex statements None name index = index ≡ None
-IsSignalIndex statements (Some number) name index = IsIndexIn (λ key. same_signal key (number, name)) (signal_keys_of statements) index
+IsSignalIndex statements number name index = IsSignalIn (messages_of statements) number name index
 
 -- the index of what a statement cites
 abbrev pub IsCitedIndex : List Statement → Content → Option ℕ → Type 0

@@ -2,10 +2,15 @@
 use Rattle.std.specs.Prelude.{◌≡◌, ◌≢◌, ◌≤◌, ℕ, List, Some, length}
 use Rattle.catalogue.specs.Lexing.{LexFault, lexed}
 use Rattle.catalogue.specs.Reads.{Reads}
+use Rattle.catalogue.specs.Statement.{Statement}
 use Rattle.catalogue.specs.declared.sheet.Sheet.{Sheet}
 use Rattle.dbc_lex.specs.Fault.{fault_of}
 use Rattle.dbc_lex.specs.declared.fault.ReadCode.TheVariants.{Memory}
 use Rattle.dbc_lex.specs.declared.fault.ReadFault.{ReadFault}
+use Rattle.dbc_read.specs.Built.{CanBeSheet}
+use Rattle.dbc_read.specs.Gathered.{AreGathered}
+use Rattle.dbc_read.specs.declared.gathered.Gathered.{Gathered}
+use Rattle.dbc_statements.specs.Division.{IsDivided}
 
 abbrev pub ReadsAsNothing : List ℕ → Type 0
 ReadsAsNothing bytes = (s : Sheet) → ¬ (Reads bytes s)
@@ -17,3 +22,7 @@ pub record IsReadFault (bytes : List ℕ) (fault : ReadFault) : Type 0 where
   pub nothing : ReadsAsNothing bytes
   pub within : fault.at ≤ length bytes
   pub tokens : (cause : LexFault) → (lexed 0 bytes).fault ≡ Some cause → fault ≡ fault_of cause
+
+-- What the statements of the text say can't be in one sheet.
+abbrev pub CanNeverBeSheet : List ℕ → Type 0
+CanNeverBeSheet bytes = (said : List Statement) → IsDivided bytes said → (g : Gathered) → AreGathered said g → ¬ CanBeSheet g

@@ -1,16 +1,20 @@
 //! The contents of the statements, gathered by kind.
-ghost use Rattle.std.specs.Prelude.{◌≡◌, ◌++◌, IfErr, IfOk, OnOk, List, [], replicate};
-ghost use Rattle.catalogue.specs.Statement as says;
-ghost use Rattle.dbc_read.specs.Built.{CanBeSheet, IsBuilt};
-ghost use Rattle.dbc_read.specs.Gathering.{IsEmpty, with_nothing_attached};
+//!
+//! What is attached to signals is listed by their indices, until all messages are there; or, if they are there before
+//! anything is attached, it is set in the signals at once (`attaching`), and the lists stay empty.
+ghost use Rattle.std.specs.Prelude.{◌≡◌, ◌++◌, IfErr, IfOk, OnOk, [], replicate};
+ghost use Rattle.catalogue.specs.declared.value_type.ValueType.TheVariants.{Integer};
+ghost use Rattle.dbc_read.specs.Attaching.{in_signals};
+ghost use Rattle.dbc_read.specs.Built.{CanBeSheet, IsBuilt, feeds_in};
+ghost use Rattle.dbc_read.specs.Gathering.{IsEmpty};
 ghost use Rattle.dbc_read.specs.Gathered.{AreGathered, IsBeginning, gathered_after, passed_after, passed_of, set_at};
-ghost use Rattle.dbc_read.specs.Lookups.{AreLookups};
 ghost use Rattle.dbc_read.specs.Refusal.{Unless};
 ghost use Rattle.dbc_statements.specs.Statement.{statements_of};
 
 use crate::feed::{Feed, Feeds};
+use crate::feeding::feed_lines;
 use crate::keys::keys_of;
-use crate::lookups::{Lookups, cited_indices, lookups_of};
+use crate::lookups::{cited_indices, lookups_of};
 use crate::passed::Passed;
 use crate::reading::Reading;
 use crate::refusal::Refusal;
@@ -81,19 +85,24 @@ fn copies<T: Copy + Drop>(alloc: Global, count: usize, value: T) -> Result<Items
     Ok(Items::from_vec(items))
 }
 
-/// Nothing is attached yet to each of the nodes, the messages and the signals.
+/// Nothing is attached yet to each of so many nodes and messages.
 pub(crate) fn attach_nothing(
     alloc: Global,
-    lookups: &Lookups,
+    nodes: usize,
+    messages: usize,
     gathered: &mut Gathered,
 ) -> Result<(), AllocError>
-    ensures { OnOk result ((statements : List says.Statement) → AreLookups lookups.now statements → gathered.new ≡ with_nothing_attached statements gathered.old) }
+    ensures { OnOk result (gathered.new ≡ record gathered.old { node_comments = replicate nodes []; message_comments = replicate messages [] }) }
 {
-    let nodes = lookups.nodes.len();
-    let messages = lookups.messages.len();
-    let signals = lookups.signals.len();
     gathered.node_comments = no_texts(alloc, nodes)?;
     gathered.message_comments = no_texts(alloc, messages)?;
+    Ok(())
+}
+
+/// Lists of what is attached to so many signals: nothing yet.
+fn list_nothing(alloc: Global, signals: usize, gathered: &mut Gathered) -> Result<(), AllocError>
+    ensures { OnOk result (gathered.new ≡ record gathered.old { signal_comments = replicate signals []; signal_values = replicate signals []; signal_types = replicate signals Integer; signal_spns = replicate signals 0 }) }
+{
     gathered.signal_comments = no_texts(alloc, signals)?;
     gathered.signal_values = no_entries(alloc, signals)?;
     gathered.signal_types = copies(alloc, signals, ValueType::Integer)?;
@@ -114,9 +123,11 @@ fn put<T: Drop>(items: &mut Items<T>, index: Option<usize>, value: T)
 
 /// A statement, and the index of what it cites, if it cites something that the file has.
 #[derive(Clone, Copy)]
-struct Citing {
-    statement: Passed,
-    index: Option<usize>,
+pub(crate) struct Citing {
+    /// The statement.
+    pub statement: Passed,
+    /// The index of what it cites.
+    pub index: Option<usize>,
 }
 
 /// Puts the value at the index of what is cited. If there is no index, the statement is skipped.
@@ -147,7 +158,7 @@ fn gather_nodes(nodes: Vec<NodeName>, found: &mut Items<NodeName>) -> Result<(),
 }
 
 /// Adds the content of a statement to what is gathered.
-fn gather(from: Citing, content: Content, all: &mut Gathered) -> Result<(), AllocError>
+pub(crate) fn gather(from: Citing, content: Content, all: &mut Gathered) -> Result<(), AllocError>
     ensures { OnOk result (all.new ≡ gathered_after from.index from.statement content all.old) }
 {
     match content {
@@ -207,7 +218,13 @@ fn start_gathering(
     let lookups = lookups_of(alloc, keys)?;
     let cited = cited_indices(alloc, &lookups, statements)?;
     let mut gathered = Gathered::empty(alloc);
-    attach_nothing(alloc, &lookups, &mut gathered)?;
+    attach_nothing(
+        alloc,
+        lookups.nodes.len(),
+        lookups.messages.len(),
+        &mut gathered,
+    )?;
+    list_nothing(alloc, lookups.signals.len(), &mut gathered)?;
     Ok((gathered, cited))
 }
 
@@ -245,11 +262,12 @@ impl Gathered {
         }
     }
 
-    /// The sheet of all that is gathered, and what is skipped; or a refusal if that can't be in one sheet.
+    /// The sheet of all that is gathered, and what is skipped; or a refusal if that can't be in one sheet. What is
+    /// attached to signals is in these.
     pub(crate) fn into_reading(self, alloc: Global) -> Result<Reading, Refusal>
-        ensures built { IfOk result (λ reading. IsBuilt self reading.sheet) }
+        ensures built { IfOk result (λ reading. IsBuilt (in_signals self) reading.sheet) }
         ensures passed { IfOk result (λ reading. reading.passed ≡ self.passed) }
-        ensures refused { IfErr result (λ refusal. Unless refusal (¬ CanBeSheet self)) }
+        ensures refused { IfErr result (λ refusal. Unless refusal (¬ CanBeSheet (in_signals self))) }
     {
         let Gathered {
             version,
@@ -259,24 +277,46 @@ impl Gathered {
             messages,
             node_comments,
             message_comments,
-            signal_comments,
-            signal_values,
-            signal_types,
-            signal_spns,
+            signal_comments: _signal_comments,
+            signal_values: _signal_values,
+            signal_types: _signal_types,
+            signal_spns: _signal_spns,
             passed,
         } = self;
-        let feeds = Feeds {
-            comments: Feed::of(signal_comments),
-            values: Feed::of(signal_values),
-            types: Feed::of(signal_types),
-            spns: Feed::of(signal_spns),
-        };
         let mut sheet = bare_sheet(alloc, version, comment);
         add_nodes(alloc, nodes, node_comments, &mut sheet)?;
         add_tables(alloc, tables, &mut sheet)?;
-        add_lines(alloc, messages, message_comments, feeds, &mut sheet)?;
+        add_lines(alloc, messages, message_comments, &mut sheet)?;
         sheets_are_well_formed(&sheet);
         Ok(Reading { sheet, passed })
+    }
+
+    /// Takes out what is listed of signals.
+    fn take_feeds(&mut self) -> Feeds
+        ensures feeds { result ≡ feeds_in self.old }
+        ensures rest { self.new ≡ record self.old { signal_comments = []; signal_values = []; signal_types = []; signal_spns = [] } }
+    {
+        Feeds {
+            comments: Feed::of(self.signal_comments.take()),
+            values: Feed::of(self.signal_values.take()),
+            types: Feed::of(self.signal_types.take()),
+            spns: Feed::of(self.signal_spns.take()),
+        }
+    }
+
+    /// The sheet of all that is gathered, as [`Gathered::into_reading`] gives it. What is attached to signals is in the
+    /// lists.
+    pub(crate) fn into_reading_of_lists(self, alloc: Global) -> Result<Reading, Refusal>
+        ensures built { IfOk result (λ reading. IsBuilt self reading.sheet) }
+        ensures passed { IfOk result (λ reading. reading.passed ≡ self.passed) }
+        ensures refused { IfErr result (λ refusal. Unless refusal (¬ CanBeSheet self)) }
+    {
+        let mut gathered = self;
+        let feeds = gathered.take_feeds();
+        let mut lines = gathered.messages.take().into_vec();
+        feed_lines(alloc, &mut lines, feeds)?;
+        gathered.messages = Items::from_vec(lines);
+        gathered.into_reading(alloc)
     }
 }
 

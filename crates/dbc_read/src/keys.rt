@@ -23,7 +23,10 @@ pub(crate) struct Keys<'s> {
 }
 
 /// Adds the names of the nodes.
-fn add_names<'s>(nodes: &'s [NodeName], found: &mut Vec<&'s [u8]>) -> Result<(), AllocError>
+pub(crate) fn add_names<'s>(
+    nodes: &'s [NodeName],
+    found: &mut Vec<&'s [u8]>,
+) -> Result<(), AllocError>
     ensures { OnOk result (map text_of found.new.items ≡ map text_of found.old.items ++ names_of nodes.now) }
 {
     for node in nodes {
@@ -63,29 +66,6 @@ pub(crate) fn keys_of(alloc: Global, statements: &[Statement]) -> Result<Keys<'_
     Ok(Keys {
         nodes,
         messages,
-        signals,
-    })
-}
-
-/// The keys of these nodes, of these messages, and of their signals.
-pub(crate) fn defined_keys<'s>(
-    alloc: Global,
-    nodes: &'s [NodeName],
-    messages: &'s [MessageLine],
-) -> Result<Keys<'s>, AllocError>
-    ensures { IfOk result (λ keys. (statements : List says.Statement) → names_of nodes.now ≡ node_names_of statements → map message_of messages.now ≡ messages_of statements → AreKeys keys statements) }
-{
-    let mut names = Vec::new(alloc);
-    add_names(nodes, &mut names)?;
-    let mut numbers = Vec::new(alloc);
-    let mut signals = Vec::new(alloc);
-    for line in messages {
-        numbers.push(line.ident.to_dbc())?;
-        add_keys(line, &mut signals)?;
-    }
-    Ok(Keys {
-        nodes: names,
-        messages: numbers,
         signals,
     })
 }

@@ -4,18 +4,26 @@
 //! `specs/Reads.antt`). `dbc_statements` divides the text; here its statements are put together.
 //!
 //! Statements are gathered as they come (`one_by_one`), so none of them is kept. First come those up to the first that
-//! cites a node, a message or a signal: their contents are gathered by kind (`gathered`). Then the index of each thing
-//! that was defined is known (`keys`, `lookup`, `lookups`), and what a statement attaches goes to the index of what it
-//! cites, so that the last one counts; if there is no such thing, the statement is skipped. In the rare file that defines
-//! a node or a message after something was cited, what is cited is known only at the end. Such a file is read once more,
-//! into a list of all statements, and the indices of what they cite are found before any of them is gathered.
+//! cites a node, a message or a signal: their contents are gathered by kind (`gathered`). Then messages are found by
+//! number, in a set of the kit's `indexmap` (`numbers`), and signals by name among those of their message (`finding`).
+//! What a statement attaches to a signal is set there at once (`attaching`), so that the last one counts; if there is no
+//! such signal, the statement is skipped.
 //!
-//! Messages are built by moving their parts, each with what is attached at its index (`feed`, `signals`, `messages`),
-//! and the sheet by its own calls (`sheets`), which refuse what can't be in one. If a part is refused, the statements
-//! are already consumed, so the text is divided once more (`reading`) to find its first fault (`first_fault`).
+//! Some files can't be gathered so. One may define a node or a message after something was cited, and then what is cited
+//! is known only at the end. One may use a number twice, list too many texts for values, or cite signals in an order in
+//! which too many names are compared. Such a file is read once more, into a list of all statements. The indices of what
+//! they cite are found by binary search (`keys`, `lookup`, `lookups`) before any of them is gathered; what is attached to
+//! signals is listed at these indices, and then moved into the signals (`feed`, `feeding`).
+//!
+//! Messages are built by moving their parts (`signals`, `messages`), and the sheet by its own calls (`sheets`), which
+//! refuse what can't be in one. If a part is refused, the statements are already consumed, so the text is divided once
+//! more (`reading`) to find its first fault (`first_fault`).
 #![tactic(auto)]
 
+mod attaching;
 mod feed;
+mod feeding;
+mod finding;
 mod first_fault;
 mod gathered;
 mod items;
@@ -23,6 +31,7 @@ mod keys;
 mod lookup;
 mod lookups;
 mod messages;
+mod numbers;
 mod one_by_one;
 mod passed;
 mod reading;

@@ -1,21 +1,29 @@
 //! The statements of a text, gathered one by one.
 //!
 //! Most files define all nodes and messages before anything cites one. Then what a statement cites is known when the
-//! statement comes, so none of them is kept.
-ghost use Rattle.std.specs.Prelude.{◌≡◌, None, Some, IfErr, IfOk, IfSome, IsTrue, OnOk, false, true};
+//! statement comes (`finding`), and what it attaches to a signal is set there at once (`attaching`).
+ghost use Rattle.std.specs.Prelude.{◌≡◌, None, Some, IfErr, IfOk, IfSome, IsTrue, OnOk, false, map, true};
 ghost use Rattle.catalogue.specs.Parsing.{statements_at};
 ghost use Rattle.dbc_lex.specs.Fault.{UnlessMemory};
-ghost use Rattle.dbc_read.specs.Gathering.{Defines, FollowAll, IsOfTokens, Settles, SettlesAll, cites, defines, one_or_none};
-ghost use Rattle.dbc_statements.specs.Statement.{content_of, statement_of};
+ghost use Rattle.dbc_lex.specs.declared.fault.ReadCode.TheVariants.{Memory};
+ghost use Rattle.dbc_read.specs.Attaching.{IsAttached, in_signals};
+ghost use Rattle.dbc_read.specs.Finding.{FindsAll};
+ghost use Rattle.dbc_read.specs.Gathering.{Defines, FollowAll, HaveNothing, IsOfTokens, Settles, SettlesAll, cites, defines, one_or_none};
+ghost use Rattle.dbc_read.specs.Numbers.{line_numbers};
+ghost use Rattle.dbc_statements.specs.Statement.{content_of, message_of, statement_of};
 
-use crate::gathered::{Gathered, attach_nothing, gather_statement};
-use crate::keys::defined_keys;
-use crate::lookups::{Lookups, cited_index, lookups_of};
+use crate::attaching::{Attachment, Cites, attach_at, cited_by};
+use crate::feed::Feeds;
+use crate::feeding::feed_lines;
+use crate::finding::{Finders, NAMES_A_STATEMENT, Track, finders_of};
+use crate::gathered::{Citing, Gathered, attach_nothing, gather, gather_statement};
+use crate::numbers::Numbers;
+use crate::passed::Passed;
+use crate::refusal::Refusal;
 use catalogue::Items;
 use dbc_lex::ReadFault;
-use dbc_statements::{Content, MessageLine, NodeName, Statement, Statements};
+use dbc_statements::{CitedSignal, Content, MessageLine, NodeName, Statement, Statements};
 use std::alloc::{AllocError, Global};
-use std::mem::replace;
 
 /// Whether it defines nodes or a message, which other statements may cite.
 fn defines(content: &Content) -> bool
@@ -62,103 +70,200 @@ fn gather_definitions(
     Ok(None)
 }
 
-/// Gathers a statement that defines nothing that could be cited.
-fn settle(
-    lookups: &Lookups,
-    statement: Statement,
-    last: &mut usize,
-    gathered: &mut Gathered,
+/// Attaches to the signal that is cited. If there is no such signal, the statement is skipped.
+fn attach(
+    numbers: &Numbers,
+    cited: &CitedSignal,
+    attachment: Attachment,
+    statement: Passed,
+    track: &mut Track,
+    lines: &mut [MessageLine],
+    passed: &mut Items<Passed>,
 ) -> Result<(), AllocError>
-    requires { defines (content_of statement.content) ≡ false }
-    ensures { OnOk result (Settles lookups.now (one_or_none (Some statement)) gathered.old gathered.new) }
+    requires { numbers.now ≡ line_numbers lines.old }
+    ensures messages { map message_of lines.new ≡ map message_of lines.old }
+    ensures attached { OnOk result (IsAttached cited.now.number cited.now.name.items attachment statement lines.old lines.new passed.old passed.new) }
 {
-    let index = cited_index(lookups, &statement.content, last);
-    gather_statement(index, statement, gathered)
-}
-
-/// Gathers the first statement, if there is one, which cites something.
-fn settle_first(
-    lookups: &Lookups,
-    first: Option<Statement>,
-    gathered: &mut Gathered,
-) -> Result<(), AllocError>
-    requires { IfSome first (λ s. cites (content_of s.content) ≡ true) }
-    ensures { OnOk result (Settles lookups.now (one_or_none first) gathered.old gathered.new) }
-{
-    match first {
-        Some(first) => settle(lookups, first, &mut 0, gathered),
-        None => Ok(()),
+    match track.place(numbers, lines, cited) {
+        Some(place) => {
+            attach_at(lines, place, attachment);
+            Ok(())
+        }
+        None => passed.push(statement),
     }
 }
 
-/// Gathers the statements that are left. `false` if one of them defines something that could be cited.
+/// Gathers a statement that defines nothing that could be cited. `false` if it can't be gathered so: it has too many
+/// texts for values, or too many names were compared.
+fn settle(
+    finders: &Finders,
+    statement: Statement,
+    track: &mut Track,
+    lines: &mut [MessageLine],
+    gathered: &mut Gathered,
+) -> Result<bool, AllocError>
+    requires none { defines (content_of statement.content) ≡ false }
+    requires numbers { finders.now.numbers ≡ line_numbers lines.old }
+    ensures messages { map message_of lines.new ≡ map message_of lines.old }
+    ensures settles { IfOk result (λ all. IsTrue all → Settles finders.now (one_or_none (Some statement)) lines.old gathered.old lines.new gathered.new) }
+{
+    if track.names_left == 0 {
+        return Ok(false);
+    }
+    track.names_left = track.names_left.saturating_add(NAMES_A_STATEMENT);
+    let (at, keyword, content) = statement.into_parts();
+    let statement = Passed { at, keyword };
+    match cited_by(content) {
+        Cites::Signal(cited, attachment) => {
+            let numbers = &finders.numbers;
+            let passed = &mut gathered.passed;
+            attach(numbers, &cited, attachment, statement, track, lines, passed)?;
+            Ok(true)
+        }
+        Cites::Other(content) => {
+            let index = track.index(finders, &content);
+            gather(Citing { statement, index }, content, gathered)?;
+            Ok(true)
+        }
+        Cites::TooMany => Ok(false),
+    }
+}
+
+/// Gathers the first statement, if there is one, which cites something. `false` as [`settle`].
+fn settle_first(
+    finders: &Finders,
+    first: Option<Statement>,
+    track: &mut Track,
+    lines: &mut [MessageLine],
+    gathered: &mut Gathered,
+) -> Result<bool, AllocError>
+    requires cites { IfSome first (λ s. cites (content_of s.content) ≡ true) }
+    requires numbers { finders.now.numbers ≡ line_numbers lines.old }
+    ensures messages { map message_of lines.new ≡ map message_of lines.old }
+    ensures settles { IfOk result (λ all. IsTrue all → Settles finders.now (one_or_none first) lines.old gathered.old lines.new gathered.new) }
+{
+    match first {
+        Some(first) => settle(finders, first, track, lines, gathered),
+        None => Ok(true),
+    }
+}
+
+/// Gathers the statements that are left. `false` if one of them defines something that could be cited, or as [`settle`].
 fn settle_all(
     alloc: Global,
-    lookups: &Lookups,
+    finders: &Finders,
     statements: &mut Statements,
+    track: &mut Track,
+    lines: &mut [MessageLine],
     gathered: &mut Gathered,
 ) -> Result<bool, ReadFault>
+    requires { finders.now.numbers ≡ line_numbers lines.old }
     ensures source { statements.new.source ≡ statements.old.source }
-    ensures ok { IfOk result (λ all. IsTrue all → SettlesAll lookups.now statements.old.tokens gathered.old gathered.new) }
+    ensures ok { IfOk result (λ all. IsTrue all → SettlesAll finders.now statements.old.tokens lines.old gathered.old lines.new gathered.new) }
     ensures err { IfErr result (λ fault. UnlessMemory fault.code (statements_at statements.old.tokens ≡ None)) }
 {
-    let mut last = 0;
     'statements: while let Some(next) = statements.read_next(alloc)? {
         if defines(&next.content) {
             return Ok(false);
         }
-        settle(lookups, next, &mut last, gathered)?;
+        if !settle(finders, next, track, lines, gathered)? {
+            return Ok(false);
+        }
     }
     Ok(true)
 }
 
-/// Gathers the statements after those that define these nodes and messages. `false` if one of them defines another.
+/// Nothing is attached to the signals of the lines, whatever they have. `false` is an answer that no caller sees: it is
+/// there since lists, of which there are none here, could be too long.
+fn attach_none(alloc: Global, lines: &mut [MessageLine]) -> Result<bool, ReadFault>
+    ensures messages { map message_of lines.new ≡ map message_of lines.old }
+    ensures nothing { IfOk result (λ all. IsTrue all → HaveNothing lines.new) }
+    ensures memory { IfErr result (λ fault. fault.code ≡ Memory) }
+{
+    match feed_lines(alloc, lines, Feeds::nothing(alloc)) {
+        Ok(()) => Ok(true),
+        Err(Refusal::Memory) => Err(ReadFault::MEMORY),
+        Err(Refusal::NoSheet) => Ok(false),
+    }
+}
+
+/// Gathers the statements after those that define these nodes and messages, which are found so. `false` if one of them
+/// defines another, or as [`settle`].
+fn gather_found(
+    alloc: Global,
+    finders: &Finders,
+    nodes: &[NodeName],
+    first: Option<Statement>,
+    statements: &mut Statements,
+    lines: &mut [MessageLine],
+    gathered: &mut Gathered,
+) -> Result<bool, ReadFault>
+    requires cites { IfSome first (λ s. cites (content_of s.content) ≡ true) }
+    requires numbers { finders.now.numbers ≡ line_numbers lines.old }
+    requires finds { FindsAll finders.now nodes.now lines.old }
+    ensures source { statements.new.source ≡ statements.old.source }
+    ensures ok { IfOk result (λ all. IsTrue all → FollowAll nodes.now lines.old first statements.old.tokens gathered.old lines.new gathered.new) }
+    ensures err { IfErr result (λ fault. UnlessMemory fault.code (statements_at statements.old.tokens ≡ None)) }
+{
+    attach_nothing(alloc, nodes.len(), lines.len(), gathered)?;
+    if !attach_none(alloc, lines)? {
+        return Ok(false);
+    }
+    let mut track = Track::new();
+    if !settle_first(finders, first, &mut track, lines, gathered)? {
+        return Ok(false);
+    }
+    settle_all(alloc, finders, statements, &mut track, lines, gathered)
+}
+
+/// Gathers the statements after those that define these nodes and messages. `false` if two messages have the same
+/// number, or as [`gather_found`].
 fn gather_others(
     alloc: Global,
     nodes: &[NodeName],
-    messages: &[MessageLine],
     first: Option<Statement>,
     statements: &mut Statements,
+    lines: &mut [MessageLine],
     gathered: &mut Gathered,
 ) -> Result<bool, ReadFault>
     requires { IfSome first (λ s. cites (content_of s.content) ≡ true) }
     ensures source { statements.new.source ≡ statements.old.source }
-    ensures ok { IfOk result (λ all. IsTrue all → FollowAll nodes.now messages.now first statements.old.tokens gathered.old gathered.new) }
+    ensures ok { IfOk result (λ all. IsTrue all → FollowAll nodes.now lines.old first statements.old.tokens gathered.old lines.new gathered.new) }
     ensures err { IfErr result (λ fault. UnlessMemory fault.code (statements_at statements.old.tokens ≡ None)) }
 {
-    let keys = defined_keys(alloc, nodes, messages)?;
-    let lookups = lookups_of(alloc, keys)?;
-    attach_nothing(alloc, &lookups, gathered)?;
-    settle_first(&lookups, first, gathered)?;
-    settle_all(alloc, &lookups, statements, gathered)
+    match finders_of(alloc, nodes, lines)? {
+        Some(finders) => gather_found(alloc, &finders, nodes, first, statements, lines, gathered),
+        None => Ok(false),
+    }
 }
 
-/// The contents of all the statements that are left, or `None` if one that cites something comes before one that defines
-/// something that could be cited.
+/// The contents of all the statements that are left, what is attached to signals being in these. `None` if they can't
+/// be gathered one by one: one that cites something comes before one that defines something that could be cited, two
+/// messages have the same number, or the search for signals would take too long.
 pub(crate) fn gathered_one_by_one(
     alloc: Global,
     statements: &mut Statements,
 ) -> Result<Option<Gathered>, ReadFault>
     ensures source { statements.new.source ≡ statements.old.source }
-    ensures ok { IfOk result (λ found. IfSome found (IsOfTokens statements.old.tokens)) }
+    ensures ok { IfOk result (λ found. IfSome found (λ gathered. IsOfTokens statements.old.tokens (in_signals gathered))) }
     ensures err { IfErr result (λ fault. UnlessMemory fault.code (statements_at statements.old.tokens ≡ None)) }
 {
     let mut gathered = Gathered::empty(alloc);
     let first = gather_definitions(alloc, statements, &mut gathered)?;
-    let nodes = replace(&mut gathered.nodes, Items::new(alloc));
-    let messages = replace(&mut gathered.messages, Items::new(alloc));
+    let nodes = gathered.nodes.take();
+    let mut lines = gathered.messages.take().into_vec();
     let all = gather_others(
         alloc,
         nodes.as_slice(),
-        messages.as_slice(),
         first,
         statements,
+        &mut lines,
         &mut gathered,
     )?;
     if !all {
         return Ok(None);
     }
     gathered.nodes = nodes;
-    gathered.messages = messages;
+    gathered.messages = Items::from_vec(lines);
     Ok(Some(gathered))
 }

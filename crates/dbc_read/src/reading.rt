@@ -1,10 +1,13 @@
 //! Reading a DBC text.
-ghost use Rattle.std.specs.Prelude.{◌≤◌, IfErr, IfOk, length, map};
+ghost use Rattle.std.specs.Prelude.{◌≡◌, ◌≤◌, Err, IfErr, IfNone, IfOk, IfSome, Ok, length, map};
 ghost use Rattle.catalogue.specs.Reads.{ReadsAs, ReadsOnlyAs};
 ghost use Rattle.dbc_lex.specs.Fault.{UnlessMemory};
+ghost use Rattle.dbc_lex.specs.declared.fault.ReadCode.TheVariants.{Memory};
+ghost use Rattle.dbc_read.specs.Attaching.{in_signals};
 ghost use Rattle.dbc_read.specs.Gathering.{IsOfText};
 ghost use Rattle.dbc_read.specs.Passed.{start_and_keyword};
-ghost use Rattle.dbc_read.specs.Reading.{ReadsAsNothing};
+ghost use Rattle.dbc_read.specs.Reading.{CanNeverBeSheet, ReadsAsNothing};
+ghost use Rattle.dbc_read.specs.declared.refusal.Refusal.TheVariants.{NoSheet};
 ghost use Rattle.dbc_statements.specs.Division.{HasNoDivision, TokensComeFirst};
 
 use crate::first_fault::first_fault;
@@ -25,9 +28,9 @@ pub struct Reading {
     pub passed: Items<Passed>,
 }
 
-/// What the statements of the text say, by kind.
-fn gathered_text(alloc: Global, source: &[u8]) -> Result<Gathered, ReadFault>
-    ensures ok { IfOk result (IsOfText source.now) }
+/// What the statements of the text say, gathered one by one, or `None` if they can't be gathered so.
+fn gathered_at_once(alloc: Global, source: &[u8]) -> Result<Option<Gathered>, ReadFault>
+    ensures ok { IfOk result (λ found. IfSome found (λ gathered. IsOfText source.now (in_signals gathered))) }
     ensures err { IfErr result (λ fault. UnlessMemory fault.code (HasNoDivision source.now)) }
     ensures tokens { TokensComeFirst source.now result }
 {
@@ -35,14 +38,47 @@ fn gathered_text(alloc: Global, source: &[u8]) -> Result<Gathered, ReadFault>
     let read = gathered_one_by_one(alloc, &mut statements);
     statements.token_fault()?;
     let found = read?;
-    match found {
-        Some(gathered) => Ok(gathered),
+    Ok(found)
+}
+
+/// What the statements of the text say. All of them are read before any is gathered.
+fn gathered_text(alloc: Global, source: &[u8]) -> Result<Gathered, ReadFault>
+    ensures ok { IfOk result (IsOfText source.now) }
+    ensures err { IfErr result (λ fault. UnlessMemory fault.code (HasNoDivision source.now)) }
+    ensures tokens { TokensComeFirst source.now result }
+{
+    let statements = statements_of(alloc, source)?;
+    let gathered = gathered_of(alloc, statements)?;
+    Ok(gathered)
+}
+
+/// The reading, or `None` if there is no sheet. The fault is out of memory.
+fn reading_or_none(built: Result<Reading, Refusal>) -> Result<Option<Reading>, ReadFault>
+    ensures some { IfOk result (λ found. IfSome found (λ reading. built ≡ Ok reading)) }
+    ensures none { IfOk result (λ found. IfNone found (built ≡ Err NoSheet)) }
+    ensures memory { IfErr result (λ fault. fault.code ≡ Memory) }
+{
+    match built {
+        Ok(reading) => Ok(Some(reading)),
+        Err(Refusal::NoSheet) => Ok(None),
+        Err(Refusal::Memory) => Err(ReadFault::MEMORY),
+    }
+}
+
+/// What the text reads as, or `None` if what its statements say can't be in one sheet.
+fn read_sheet(alloc: Global, source: &[u8]) -> Result<Option<Reading>, ReadFault>
+    ensures reads { IfOk result (λ found. IfSome found (λ reading. ReadsAs source.now reading.sheet (map start_and_keyword reading.passed))) }
+    ensures only { IfOk result (λ found. IfSome found (λ reading. ReadsOnlyAs source.now reading.sheet)) }
+    ensures never { IfOk result (λ found. IfNone found (CanNeverBeSheet source.now)) }
+    ensures none { IfErr result (λ fault. UnlessMemory fault.code (ReadsAsNothing source.now)) }
+    ensures tokens { TokensComeFirst source.now result }
+{
+    texts_read_as_one_sheet();
+    match gathered_at_once(alloc, source)? {
+        Some(gathered) => reading_or_none(gathered.into_reading(alloc)),
         None => {
-            // Something is cited before all that could be cited is there, so all statements are read before any is
-            // gathered.
-            let statements = statements_of(alloc, source)?;
-            let gathered = gathered_of(alloc, statements)?;
-            Ok(gathered)
+            let gathered = gathered_text(alloc, source)?;
+            reading_or_none(gathered.into_reading_of_lists(alloc))
         }
     }
 }
@@ -54,12 +90,9 @@ fn read_text(alloc: Global, source: &[u8]) -> Result<Reading, ReadFault>
     ensures none { IfErr result (λ fault. UnlessMemory fault.code (ReadsAsNothing source.now)) }
     ensures tokens { TokensComeFirst source.now result }
 {
-    texts_read_as_one_sheet();
-    let gathered = gathered_text(alloc, source)?;
-    match gathered.into_reading(alloc) {
-        Ok(reading) => Ok(reading),
-        Err(Refusal::Memory) => Err(ReadFault::MEMORY),
-        Err(Refusal::NoSheet) => {
+    match read_sheet(alloc, source)? {
+        Some(reading) => Ok(reading),
+        None => {
             // What was gathered is consumed, so the text is read once more.
             let gathered = gathered_text(alloc, source)?;
             Err(first_fault(alloc, &gathered)?)

@@ -2,13 +2,14 @@
 ghost use Rattle.std.specs.Prelude.{◌≡◌, ◌++◌, [], IfErr, IfOk, IsPermutation, OnOk, map, unwrap_or};
 ghost use Rattle.catalogue.specs.Sheet.{empty_sheet, node_name};
 ghost use Rattle.catalogue.specs.WellFormed.{AreFewTexts, AreRostered};
-ghost use Rattle.dbc_read.specs.Built.{AreAddable, messages_from, nodes_from};
+ghost use Rattle.dbc_read.specs.Attaching.{messages_of_lines};
+ghost use Rattle.dbc_read.specs.Built.{AreAddable, nodes_from};
 ghost use Rattle.dbc_read.specs.Fit.{CanShareSheet, TablesFit};
 ghost use Rattle.dbc_read.specs.Refusal.{Unless};
 ghost use Rattle.dbc_statements.specs.Parts.{table_of};
-ghost use Rattle.dbc_statements.specs.Statement.{message_of, names_of};
+ghost use Rattle.dbc_statements.specs.Statement.{names_of};
 
-use crate::feed::{Feed, Feeds};
+use crate::feed::Feed;
 use crate::messages::messages_of;
 use crate::refusal::Refusal;
 use catalogue::{Items, Message, Node, Sheet, Text, ValueTable};
@@ -104,14 +105,13 @@ pub(crate) fn add_lines(
     alloc: Global,
     lines: Items<MessageLine>,
     comments: Items<Text>,
-    feeds: Feeds,
     sheet: &mut Sheet,
 ) -> Result<(), Refusal>
-    ensures all { OnOk result (IsPermutation (sheet.old.messages ++ messages_from (map message_of lines) comments feeds) sheet.new.messages) }
+    ensures all { OnOk result (IsPermutation (sheet.old.messages ++ messages_of_lines lines comments) sheet.new.messages) }
     ensures rest { OnOk result (sheet.new ≡ record sheet.old { messages = sheet.new.messages }) }
-    ensures refused { IfErr result (λ refusal. Unless refusal (¬ AreAddable sheet.old.messages (messages_from (map message_of lines) comments feeds))) }
+    ensures refused { IfErr result (λ refusal. Unless refusal (¬ AreAddable sheet.old.messages (messages_of_lines lines comments))) }
 {
-    let messages = messages_of(alloc, lines, comments, feeds)?;
+    let messages = messages_of(alloc, lines, comments)?;
     let ascending = by_number(messages)?;
     add_messages(alloc, ascending, sheet)?;
     Ok(())

@@ -2,7 +2,7 @@ use Rattle.std.proofs.Common.{ℕ, List, Bor, refl, subst}
 use Rattle.std.specs.Str.{bytes_eq}
 use Rattle.dbc_read.specs.Lookup.{IsIndexIn}
 use Rattle.dbc_read.specs.Keys.{text_of}
-use Rattle.dbc_read.proofs.Finding.{index_seen}
+use Rattle.dbc_read.proofs.LookingUp.{index_seen}
 use Rattle.dbc_read.proofs.lookups.cited_index.Goals as goal
 
 pub returns-in-NodeComment : goal.returns-in-NodeComment

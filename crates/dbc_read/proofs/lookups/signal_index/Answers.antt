@@ -3,7 +3,7 @@ use Rattle.std.specs.Str.{bytes_eq}
 use Rattle.catalogue.specs.Saying.{same_signal}
 use Rattle.dbc_read.specs.Lookup.{IsIndexIn}
 use Rattle.dbc_read.specs.Keys.{key_of}
-use Rattle.dbc_read.proofs.Finding.{index_seen}
+use Rattle.dbc_read.proofs.LookingUp.{index_seen}
 use Rattle.dbc_read.proofs.lookups.signal_index.Goals as goal
 
 pub returns-in-Some : goal.returns-in-Some

@@ -1,17 +1,21 @@
 use Rattle.std.proofs.Common.{◌∙◌, [], ◌∷◌, refl, sym}
 use Rattle.std.proofs.lemmas.Result.{err_from_is_err_and}
-use Rattle.dbc_read.proofs.OneByOne.{begin_with_all, begin_without, none_read, none_settled, one_read, settled_both}
+use Rattle.dbc_read.proofs.OneByOne.{begin_with_all, begin_without, none_read, one_read}
+use Rattle.dbc_read.proofs.Settling.{none_settled, same_line_numbers, settled_both}
 use Rattle.dbc_statements.specs.Statement.{statement_of}
 use Rattle.dbc_read.proofs.one_by_one.settle_all.Goals as goal
 
 pub statements-init : goal.statements-init
-statements-init c = record { source = refl; read = none_read _ c.args.statements.now.tokens (none_settled c.args.lookups.now c.args.gathered.now) }
+statements-init c = record { source = refl; messages = refl; read = none_read _ c.args.statements.now.tokens (none_settled c.args.finders.now c.args.lines.now c.args.gathered.now) }
 
 pub statements-smaller : goal.statements-smaller
 statements-smaller c = (rw c.in-Some.is at c.in_ok-next.ensures.next).fewer
 
 pub settle-requires : goal.settle-requires
-settle-requires c = sym c.defines.ensures ∙ c.if-defines.false
+settle-requires c = record {
+  none = sym c.defines.ensures ∙ c.if-defines.false;
+  numbers = c.requires ∙ sym (same_line_numbers c.args.lines.now c.statements.lines c.statements.invariant.messages);
+}
 
 pub statements-preserved : goal.statements-preserved
 statements-preserved c =
@@ -19,8 +23,9 @@ statements-preserved c =
     let s = statement_of c.in-Some.next in
     record {
       source = c.read_next.ensures.source ∙ at.invariant.source;
+      messages = c.settle.ensures.messages ∙ at.invariant.messages;
       read = one_read _ _ s c.args.statements.now.tokens at.statements.tokens c.read_next.new.self.tokens (rw c.in-Some.is at c.in_ok-next.ensures.next)
-          (λ said h. settled_both c.args.lookups.now said (s ∷ []) c.args.gathered.now at.gathered c.settle.new.gathered h c.in_ok-settle.ensures) at.invariant.read;
+          (λ said h. settled_both c.args.finders.now said (s ∷ []) c.args.lines.now at.lines c.settle.new.lines c.args.gathered.now at.gathered c.settle.new.gathered h (c.in_ok-settle.ensures.settles c.if-not-branch.false)) at.invariant.read;
     }
 
 pub returns-in_err-next-clause-err : goal.returns-in_err-next-clause-err

@@ -1,6 +1,6 @@
 use Rattle.std.proofs.Common.{rules}
 use Rattle.std.proofs.lemmas.Fn.{always_returns_same}
-use Rattle.dbc_read.proofs.Finding.{absent, found}
+use Rattle.dbc_read.proofs.LookingUp.{absent, found}
 use Rattle.dbc_read.proofs.lookup.Lookup.search.Goals as goal
 
 pub returns-in-Ok : goal.returns-in-Ok

@@ -1,0 +1,132 @@
+-- Messages built of lines: the signals of these have what is attached to them.
+use Rattle.std.proofs.Common.{◌≡◌, ◌∙◌, ◌++◌, ℕ, List, [], ◌∷◌, length, map, replicate, IsPermutation, refl, sym, ap, subst}
+use Rattle.std.specs.Prelude.{drop}
+use Rattle.std.specs.List.{AllByRecursion, flat_map}
+use Rattle.std.proofs.lemmas.List.{map-append}
+use Rattle.catalogue.specs.Statement as says
+use Rattle.catalogue.specs.declared.message.Message.{Message}
+use Rattle.catalogue.specs.declared.sheet.Sheet.{Sheet}
+use Rattle.catalogue.specs.declared.signal.Signal.{Signal}
+use Rattle.catalogue.specs.declared.value_type.ValueType.TheVariants.{Integer}
+use Rattle.dbc_read.specs.Attaching.{all_signals, each_fed, feeds_of, in_signals, line_signals, messages_of_lines, messages_with}
+use Rattle.dbc_read.specs.Built.{CanBeSheet, IsBuilt, feeds_after, feeds_in, first_or, messages_from, messages_in, signals_from}
+use Rattle.dbc_read.specs.Fit.{CanShareSheet, HaveFewTexts, IsFit}
+use Rattle.dbc_read.specs.Gathering.{HaveNothing}
+use Rattle.dbc_read.specs.declared.feed.Feeds.{Feeds}
+use Rattle.dbc_read.specs.declared.gathered.Gathered.{Gathered}
+use Rattle.dbc_statements.specs.Parts.{message_with}
+use Rattle.dbc_statements.specs.Statement.{message_of, signals_of}
+use Rattle.dbc_statements.specs.declared.statement.MessageLine.{MessageLine}
+use Rattle.dbc_statements.specs.declared.statement.SignalLine.{SignalLine}
+
+-- the messages take what is attached, message by message
+pub each_takes : (ms : List says.MessageLine) (comments : List (List ℕ)) (f : Feeds) → messages_with ms comments (each_fed ms f) ≡ messages_from ms comments f
+each_takes [] comments f = refl
+each_takes (m ∷ ms) comments f = ap (λ l. message_with m (first_or [] comments) (signals_from m.signals f) ∷ l) (each_takes ms (drop 1 comments) (feeds_after m.signals f))
+
+-- What is attached in the lines, taken by these.
+
+takes_own : (items rest : List SignalLine) → signals_from (signals_of items) (feeds_of (items ++ rest)) ≡ map (λ (s : SignalLine). s.signal) items
+takes_own [] rest = refl
+takes_own (s ∷ items) rest = ap (λ l. s.signal ∷ l) (takes_own items rest)
+
+leaves_others : (items rest : List SignalLine) → feeds_after (signals_of items) (feeds_of (items ++ rest)) ≡ feeds_of rest
+leaves_others [] rest = refl
+leaves_others (s ∷ items) rest = leaves_others items rest
+
+each_takes_own : (lines : List MessageLine) → each_fed (map message_of lines) (feeds_of (all_signals lines)) ≡ map line_signals lines
+each_takes_own [] = refl
+each_takes_own (line ∷ lines) =
+    λ i. takes_own line.signals.items (all_signals lines) i ∷ (ap (each_fed (map message_of lines)) (leaves_others line.signals.items (all_signals lines)) ∙ each_takes_own lines) i
+
+-- so the messages of the lines are those with what is attached there
+pub lines_built : (lines : List MessageLine) (comments : List (List ℕ)) → messages_from (map message_of lines) comments (feeds_of (all_signals lines)) ≡ messages_of_lines lines comments
+lines_built lines comments = sym (each_takes (map message_of lines) comments (feeds_of (all_signals lines))) ∙ ap (messages_with (map message_of lines) comments) (each_takes_own lines)
+
+-- and they are those with what was listed, where the lines took that
+pub fed_built : (old new : List MessageLine) (comments : List (List ℕ)) (f : Feeds) → map message_of new ≡ map message_of old → map line_signals new ≡ each_fed (map message_of old) f
+    → messages_of_lines new comments ≡ messages_from (map message_of old) comments f
+fed_built old new comments f same fed = (λ i. messages_with (same i) comments (fed i)) ∙ each_takes (map message_of old) comments f
+
+-- where the messages are fit, no signal has too many texts
+pub fit_few : (ms : List says.MessageLine) (comments : List (List ℕ)) (f : Feeds) → AllByRecursion IsFit (messages_from ms comments f) → AllByRecursion (AllByRecursion HaveFewTexts) (each_fed ms f)
+fit_few [] comments f h = tt
+fit_few (m ∷ ms) comments f h = (h.0.values, fit_few ms (drop 1 comments) (feeds_after m.signals f) h.1)
+
+-- What is gathered, once these lines took what was listed of signals.
+abbrev pub in_lines : List MessageLine → Gathered → Gathered
+in_lines lines g = record g { messages = lines; signal_comments = []; signal_values = []; signal_types = []; signal_spns = [] }
+
+module _ (g : Gathered) (lines : List MessageLine) (same : map message_of lines ≡ map message_of g.messages) (fed : map line_signals lines ≡ each_fed (map message_of g.messages) (feeds_in g)) where
+  same_messages : messages_in (in_signals (in_lines lines g)) ≡ messages_in g
+  same_messages = lines_built lines g.message_comments ∙ fed_built g.messages lines g.message_comments (feeds_in g) same fed
+
+  pub built_of_lists : (s : Sheet) → IsBuilt (in_signals (in_lines lines g)) s → IsBuilt g s
+  built_of_lists s h = record {
+    is_sheet = h.is_sheet;
+    version = h.version;
+    comment = h.comment;
+    nodes = h.nodes;
+    tables = h.tables;
+    messages = subst (λ (ms : List Message). IsPermutation ms s.messages) same_messages h.messages;
+  }
+
+  pub sheet_of_lists : CanBeSheet g → CanBeSheet (in_signals (in_lines lines g))
+  sheet_of_lists h = record {
+    nodes = h.nodes;
+    tables = h.tables;
+    messages = subst (AllByRecursion IsFit) (sym same_messages) h.messages;
+    together = subst CanShareSheet (sym same_messages) h.together;
+  }
+
+-- Lines that took nothing.
+
+abbrev nothing : Feeds
+nothing = record { comments = []; values = []; types = []; spns = [] }
+
+nothing_after : (ls : List says.SignalLine) → feeds_after ls nothing ≡ nothing
+nothing_after [] = refl
+nothing_after (l ∷ ls) = nothing_after ls
+
+-- the signals of all lines
+signals_together : (lines : List MessageLine) → flat_map (λ (l : List Signal). l) (map line_signals lines) ≡ map (λ (s : SignalLine). s.signal) (all_signals lines)
+signals_together [] = refl
+signals_together (line ∷ lines) = ap (λ l. line_signals line ++ l) (signals_together lines) ∙ sym (map-append (λ (s : SignalLine). s.signal) line.signals.items (all_signals lines))
+
+none_taken : (ms : List says.MessageLine) → each_fed ms nothing ≡ map (λ (m : says.MessageLine). signals_from m.signals nothing) ms
+none_taken [] = refl
+none_taken (m ∷ ms) = ap (λ l. signals_from m.signals nothing ∷ l) (ap (each_fed ms) (nothing_after m.signals) ∙ none_taken ms)
+
+-- each has what a signal has that took nothing
+module _ {V : Type 0} (get : Signal → V) (d : V) (gets : (l : says.SignalLine) (ls : List says.SignalLine) → map get (signals_from (l ∷ ls) nothing) ≡ d ∷ map get (signals_from ls nothing)) where
+  each_has : (ls : List says.SignalLine) → map get (signals_from ls nothing) ≡ replicate (length ls) d
+  each_has [] = refl
+  each_has (l ∷ ls) = gets l ls ∙ ap (λ r. d ∷ r) (each_has ls)
+
+  all_have : (lines : List MessageLine) → map get (flat_map (λ (l : List Signal). l) (map (λ (m : says.MessageLine). signals_from m.signals nothing) (map message_of lines))) ≡ replicate (length (all_signals lines)) d
+  all_have [] = refl
+  all_have (line ∷ lines) =
+      map-append get (signals_from (signals_of line.signals.items) nothing) (flat_map (λ (l : List Signal). l) (map (λ (m : says.MessageLine). signals_from m.signals nothing) (map message_of lines)))
+      ∙ (λ i. each_has (signals_of line.signals.items) i ++ all_have lines i)
+      ∙ together line.signals.items
+    where
+      together : (items : List SignalLine) → replicate (length (signals_of items)) d ++ replicate (length (all_signals lines)) d ≡ replicate (length (items ++ all_signals lines)) d
+      together [] = refl
+      together (s ∷ items) = ap (λ l. d ∷ l) (together items)
+
+  lists : (old new : List MessageLine) → map message_of new ≡ map message_of old → map line_signals new ≡ each_fed (map message_of old) nothing
+      → map get (map (λ (s : SignalLine). s.signal) (all_signals new)) ≡ replicate (length (all_signals new)) d
+  lists old new same fed =
+      ap (map get) (sym (signals_together new) ∙ ap (flat_map (λ (l : List Signal). l)) (fed ∙ ap (λ ms. each_fed ms nothing) (sym same) ∙ none_taken (map message_of new))) ∙ all_have new
+
+map_twice : {V : Type 0} (get : Signal → V) (items : List SignalLine) → map get (map (λ (s : SignalLine). s.signal) items) ≡ map (λ (s : SignalLine). get s.signal) items
+map_twice get [] = refl
+map_twice get (s ∷ items) = ap (λ l. get s.signal ∷ l) (map_twice get items)
+
+pub have_nothing : (old new : List MessageLine) → map message_of new ≡ map message_of old → map line_signals new ≡ each_fed (map message_of old) nothing → HaveNothing new
+have_nothing old new same fed = λ g.
+    let comments = sym (map_twice (λ (s : Signal). s.comment) (all_signals new)) ∙ lists (λ (s : Signal). s.comment) [] (λ l ls. refl) old new same fed in
+    let values = sym (map_twice (λ (s : Signal). s.values) (all_signals new)) ∙ lists (λ (s : Signal). s.values) [] (λ l ls. refl) old new same fed in
+    let types = sym (map_twice (λ (s : Signal). s.value_type) (all_signals new)) ∙ lists (λ (s : Signal). s.value_type) Integer (λ l ls. refl) old new same fed in
+    let spns = sym (map_twice (λ (s : Signal). s.spn) (all_signals new)) ∙ lists (λ (s : Signal). s.spn) 0 (λ l ls. refl) old new same fed in
+    λ i. record g { signal_comments = comments i; signal_values = values i; signal_types = types i; signal_spns = spns i }

@@ -1,0 +1,262 @@
+-- Statements that are gathered one by one after all definitions. What they attach to signals is in the messages' lines.
+use Rattle.std.proofs.Common.{◌≡◌, ◌∙◌, ◌++◌, ℕ, suc, false, List, [], ◌∷◌, length, map, replicate, Option, Some, None, refl, sym, ap, append_assoc, append-nil, subst, true≢false}
+use Rattle.std.specs.List.{flat_map}
+use Rattle.std.proofs.lemmas.List.{length-map}
+use Rattle.can_id.specs.Ident.{dbc_number}
+use Rattle.catalogue.specs.Saying.{keys_of, messages_of, node_names_of, numbers_of, signal_keys_of}
+use Rattle.catalogue.specs.Statement as says
+use Rattle.catalogue.specs.Token.{Token}
+use Rattle.catalogue.specs.declared.keyword.Keyword.{Keyword}
+use Rattle.catalogue.specs.declared.value_type.ValueType.TheVariants.{Integer}
+use Rattle.dbc_read.specs.Attaching.{IsAttached, all_signals, attached_to, attaching, changed_at, cites_signal, in_signals, with_attached}
+use Rattle.dbc_read.specs.Finding.{Finds, FindsAll}
+use Rattle.dbc_read.specs.Gathered.{AreGathered, gathered_after, passed_of, set_at}
+use Rattle.dbc_read.specs.Gathering.{DefineNothing, Defines, FollowAll, Gathers, HaveNothing, IsDefining, IsEmpty, IsOfTokens, IsSettling, Settles, SettlesAll, defines, one_or_none, with_definitions, with_nothing_attached}
+use Rattle.dbc_read.specs.Lookups.{IsCitedIndex, IsSignalIn}
+use Rattle.dbc_read.specs.Numbers.{line_numbers}
+use Rattle.dbc_read.specs.declared.attaching.Attachment.{Attachment}
+use Rattle.dbc_read.specs.declared.attaching.Attachment.TheVariants as what
+use Rattle.dbc_read.specs.declared.finding.Finders.{Finders}
+use Rattle.dbc_read.specs.declared.gathered.Gathered.{Gathered}
+use Rattle.dbc_read.specs.declared.passed.Passed.{Passed}
+use Rattle.dbc_read.proofs.Gathering.{one_gathered}
+use Rattle.dbc_read.proofs.OneByOne.{all_settled, begin_with_rest, defined_either_way, defined_messages, defined_names, definitions_over, nothing_defined, same_messages, same_names}
+use Rattle.dbc_read.proofs.Places.{change_leaves, change_sets, numbers_of_lines}
+use Rattle.dbc_statements.specs.Statement.{content_of, message_of, signal_of, statement_of}
+use Rattle.dbc_statements.specs.declared.statement.CitedSignal.{CitedSignal}
+use Rattle.dbc_statements.specs.declared.statement.Content.{Content}
+use Rattle.dbc_statements.specs.declared.statement.Content.TheVariants as content
+use Rattle.dbc_statements.specs.declared.statement.MessageLine.{MessageLine}
+use Rattle.dbc_statements.specs.declared.statement.NodeName.{NodeName}
+use Rattle.dbc_statements.specs.declared.statement.SignalLine.{SignalLine}
+use Rattle.dbc_statements.specs.declared.statement.Statement.{Statement}
+
+-- What finds definitions finds them after statements that define nothing, and in lines of the same messages.
+
+finds_more : (f : Finders) (lines : List MessageLine) (said rest : List says.Statement) → DefineNothing rest → Finds f lines said → Finds f lines (said ++ rest)
+finds_more f lines said rest none are = record {
+  node_names = are.node_names;
+  nodes = are.nodes;
+  names = are.names ∙ sym (same_names said rest none);
+  messages = are.messages ∙ sym (same_messages said rest none);
+  numbers = are.numbers;
+}
+
+pub same_line_numbers : (old new : List MessageLine) → map message_of new ≡ map message_of old → line_numbers new ≡ line_numbers old
+same_line_numbers old new same = sym (numbers_of_lines new) ∙ ap (map (λ (m : says.MessageLine). dbc_number m.ident)) same ∙ numbers_of_lines old
+
+finds_same : (f : Finders) (old new : List MessageLine) (said : List says.Statement) → map message_of new ≡ map message_of old → Finds f old said → Finds f new said
+finds_same f old new said same are = record {
+  node_names = are.node_names;
+  nodes = are.nodes;
+  names = are.names;
+  messages = same ∙ are.messages;
+  numbers = are.numbers ∙ sym (same_line_numbers old new same);
+}
+
+pub numbers_found : (f : Finders) (lines : List MessageLine) (said : List says.Statement) → Finds f lines said → f.numbers ≡ numbers_of said
+numbers_found f lines said are = are.numbers ∙ sym (numbers_of_lines lines) ∙ ap (map (λ (m : says.MessageLine). dbc_number m.ident)) are.messages
+
+gathers_same : (all : List says.Statement) (nodes : List NodeName) (old new : List MessageLine) (g : Gathered) (rest : List says.Statement) → map message_of new ≡ map message_of old
+    → Gathers all (with_definitions nodes old g) rest → Gathers all (with_definitions nodes new g) rest
+gathers_same all nodes old new g rest same h = record {
+  version = h.version;
+  comment = h.comment;
+  nodes = h.nodes;
+  tables = h.tables;
+  messages = ap (λ l. l ++ messages_of rest) same ∙ h.messages;
+  node_comments = h.node_comments;
+  message_comments = h.message_comments;
+  signal_comments = h.signal_comments;
+  signal_values = h.signal_values;
+  signal_types = h.signal_types;
+  signal_spns = h.signal_spns;
+  passed = h.passed;
+}
+
+one_settled : (f : Finders) (s : Statement) (index : Option ℕ) (lines new_lines : List MessageLine) (old now : Gathered) → defines (content_of s.content) ≡ false
+    → map message_of new_lines ≡ map message_of lines → ((all : List says.Statement) → Finds f lines all → IsCitedIndex all (content_of s.content) index)
+    → with_attached new_lines now ≡ gathered_after index (passed_of s) s.content (with_attached lines old) → Settles f (statement_of s ∷ []) lines old new_lines now
+one_settled f s index lines new_lines old now defines_none same found is = λ said nodes are h. (
+  finds_same f lines new_lines (said ++ statement_of s ∷ []) same (finds_more f lines said (statement_of s ∷ []) (defines_none, tt) are),
+  λ rest none.
+      let all : List says.Statement = said ++ statement_of s ∷ rest in
+      let more : DefineNothing (statement_of s ∷ rest) = (defines_none, none) in
+      let before = with_definitions nodes lines (with_attached lines old) in
+      let after = with_definitions nodes lines (with_attached new_lines now) in
+      let either : after ≡ gathered_after index (passed_of s) s.content before = ap (with_definitions nodes lines) is ∙ defined_either_way nodes lines index (passed_of s) s.content (with_attached lines old) defines_none in
+      let here : Gathers all after rest = one_gathered all s rest index before after (found all (finds_more f lines said (statement_of s ∷ rest) more are)) either (h (statement_of s ∷ rest) more) in
+      subst (λ (x : List says.Statement). Gathers x (with_definitions nodes new_lines (with_attached new_lines now)) rest) (sym (append_assoc said (statement_of s ∷ []) rest))
+      (gathers_same all nodes lines new_lines (with_attached new_lines now) rest same here),
+)
+
+-- A statement that attaches nothing to a signal.
+
+attached_either_way : (lines : List MessageLine) (index : Option ℕ) (p : Passed) (c : Content) (g : Gathered) → cites_signal c ≡ false
+    → with_attached lines (gathered_after index p c g) ≡ gathered_after index p c (with_attached lines g)
+attached_either_way lines index p (content.SignalComment cited text) g h = absurd (true≢false h)
+attached_either_way lines index p (content.ValueTexts cited texts) g h = absurd (true≢false h)
+attached_either_way lines index p (content.ValueType cited value_type) g h = absurd (true≢false h)
+attached_either_way lines index p (content.Spn cited spn) g h = absurd (true≢false h)
+attached_either_way lines index p c g h = refl
+
+pub other_settled : (f : Finders) (s : Statement) (index : Option ℕ) (lines : List MessageLine) (old now : Gathered) → defines (content_of s.content) ≡ false → cites_signal s.content ≡ false
+    → ((all : List says.Statement) → Finds f lines all → IsCitedIndex all (content_of s.content) index) → now ≡ gathered_after index (passed_of s) s.content old
+    → Settles f (statement_of s ∷ []) lines old lines now
+other_settled f s index lines old now defines_none cites_none found is =
+    one_settled f s index lines lines old now defines_none refl found (ap (with_attached lines) is ∙ attached_either_way lines index (passed_of s) s.content old cites_none)
+
+-- A statement that attaches something to a signal.
+
+module _ (f : SignalLine → SignalLine) {V : Type 0} (get : SignalLine → V) where
+  sets : (v : V) → ((s : SignalLine) → get (f s) ≡ v) → (index : Option ℕ) (xs : List SignalLine) → map get (changed_at f index xs) ≡ set_at index v (map get xs)
+  sets v same None xs = refl
+  sets v same (Some i) xs = change_sets f get v same xs i
+
+  leaves : ((s : SignalLine) → get (f s) ≡ get s) → (index : Option ℕ) (xs : List SignalLine) → map get (changed_at f index xs) ≡ map get xs
+  leaves same None xs = refl
+  leaves same (Some i) xs = change_leaves f get same xs i
+
+attached_view : (cited : CitedSignal) (a : Attachment) (p : Passed) (lines new_lines : List MessageLine) (old : Gathered) (passed : List Passed)
+    → (at : IsAttached cited.number cited.name.items a p lines new_lines old.passed passed)
+    → with_attached new_lines (record old { passed = passed }) ≡ gathered_after at.index p (attaching cited a) (with_attached lines old)
+attached_view cited (what.Comment text) p lines new_lines old passed at =
+    let e = at.signals in
+    let g = attached_to (what.Comment text) in
+    let xs = all_signals lines in
+    let comments = ap (map (λ (s : SignalLine). s.signal.comment)) e ∙ sets g (λ (s : SignalLine). s.signal.comment) text (λ s. refl) at.index xs in
+    let values = ap (map (λ (s : SignalLine). s.signal.values)) e ∙ leaves g (λ (s : SignalLine). s.signal.values) (λ s. refl) at.index xs in
+    let types = ap (map (λ (s : SignalLine). s.signal.value_type)) e ∙ leaves g (λ (s : SignalLine). s.signal.value_type) (λ s. refl) at.index xs in
+    let spns = ap (map (λ (s : SignalLine). s.signal.spn)) e ∙ leaves g (λ (s : SignalLine). s.signal.spn) (λ s. refl) at.index xs in
+    λ i. record old { signal_comments = comments i; signal_values = values i; signal_types = types i; signal_spns = spns i; passed = at.passed i }
+attached_view cited (what.Values texts) p lines new_lines old passed at =
+    let e = at.signals in
+    let g = attached_to (what.Values texts) in
+    let xs = all_signals lines in
+    let comments = ap (map (λ (s : SignalLine). s.signal.comment)) e ∙ leaves g (λ (s : SignalLine). s.signal.comment) (λ s. refl) at.index xs in
+    let values = ap (map (λ (s : SignalLine). s.signal.values)) e ∙ sets g (λ (s : SignalLine). s.signal.values) texts (λ s. refl) at.index xs in
+    let types = ap (map (λ (s : SignalLine). s.signal.value_type)) e ∙ leaves g (λ (s : SignalLine). s.signal.value_type) (λ s. refl) at.index xs in
+    let spns = ap (map (λ (s : SignalLine). s.signal.spn)) e ∙ leaves g (λ (s : SignalLine). s.signal.spn) (λ s. refl) at.index xs in
+    λ i. record old { signal_comments = comments i; signal_values = values i; signal_types = types i; signal_spns = spns i; passed = at.passed i }
+attached_view cited (what.Type value_type) p lines new_lines old passed at =
+    let e = at.signals in
+    let g = attached_to (what.Type value_type) in
+    let xs = all_signals lines in
+    let comments = ap (map (λ (s : SignalLine). s.signal.comment)) e ∙ leaves g (λ (s : SignalLine). s.signal.comment) (λ s. refl) at.index xs in
+    let values = ap (map (λ (s : SignalLine). s.signal.values)) e ∙ leaves g (λ (s : SignalLine). s.signal.values) (λ s. refl) at.index xs in
+    let types = ap (map (λ (s : SignalLine). s.signal.value_type)) e ∙ sets g (λ (s : SignalLine). s.signal.value_type) value_type (λ s. refl) at.index xs in
+    let spns = ap (map (λ (s : SignalLine). s.signal.spn)) e ∙ leaves g (λ (s : SignalLine). s.signal.spn) (λ s. refl) at.index xs in
+    λ i. record old { signal_comments = comments i; signal_values = values i; signal_types = types i; signal_spns = spns i; passed = at.passed i }
+attached_view cited (what.Spn spn) p lines new_lines old passed at =
+    let e = at.signals in
+    let g = attached_to (what.Spn spn) in
+    let xs = all_signals lines in
+    let comments = ap (map (λ (s : SignalLine). s.signal.comment)) e ∙ leaves g (λ (s : SignalLine). s.signal.comment) (λ s. refl) at.index xs in
+    let values = ap (map (λ (s : SignalLine). s.signal.values)) e ∙ leaves g (λ (s : SignalLine). s.signal.values) (λ s. refl) at.index xs in
+    let types = ap (map (λ (s : SignalLine). s.signal.value_type)) e ∙ leaves g (λ (s : SignalLine). s.signal.value_type) (λ s. refl) at.index xs in
+    let spns = ap (map (λ (s : SignalLine). s.signal.spn)) e ∙ sets g (λ (s : SignalLine). s.signal.spn) spn (λ s. refl) at.index xs in
+    λ i. record old { signal_comments = comments i; signal_values = values i; signal_types = types i; signal_spns = spns i; passed = at.passed i }
+
+attached_index : (all : List says.Statement) (cited : CitedSignal) (a : Attachment) (index : Option ℕ) → IsSignalIn (messages_of all) cited.number cited.name.items index → IsCitedIndex all (content_of (attaching cited a)) index
+attached_index all cited (what.Comment text) index h = h
+attached_index all cited (what.Values texts) index h = h
+attached_index all cited (what.Type value_type) index h = h
+attached_index all cited (what.Spn spn) index h = h
+
+pub attached_settled : (f : Finders) (s : Statement) (cited : CitedSignal) (a : Attachment) (lines new_lines : List MessageLine) (old now : Gathered) (passed : List Passed) → defines (content_of s.content) ≡ false
+    → s.content ≡ attaching cited a → map message_of new_lines ≡ map message_of lines → IsAttached cited.number cited.name.items a (passed_of s) lines new_lines old.passed passed
+    → now ≡ record old { passed = passed } → Settles f (statement_of s ∷ []) lines old new_lines now
+attached_settled f s cited a lines new_lines old now passed defines_none says_what same at is =
+    one_settled f s at.index lines new_lines old now defines_none same
+    (λ all are. subst (λ c. IsCitedIndex all (content_of c) at.index) (sym says_what)
+    (attached_index all cited a at.index (subst (λ (ms : List says.MessageLine). IsSignalIn ms cited.number cited.name.items at.index) are.messages at.is)))
+    (ap (with_attached new_lines) is ∙ attached_view cited a (passed_of s) lines new_lines old passed at
+    ∙ ap (λ c. gathered_after at.index (passed_of s) c (with_attached lines old)) (sym says_what))
+
+-- the same of a statement in parts
+pub attached_parts : (f : Finders) (s : Statement) (parts : ℕ × Keyword × Content) (cited : CitedSignal) (a : Attachment) (lines new_lines : List MessageLine) (old : Gathered) (passed : List Passed)
+    → defines (content_of s.content) ≡ false → parts ≡ (s.start, s.keyword, s.content) → parts.2 ≡ attaching cited a → map message_of new_lines ≡ map message_of lines
+    → IsAttached cited.number cited.name.items a (record { at = parts.0; keyword = parts.1 }) lines new_lines old.passed passed → Settles f (statement_of s ∷ []) lines old new_lines (record old { passed = passed })
+attached_parts f s parts cited a lines new_lines old passed defines_none are says_what same at =
+    attached_settled f s cited a lines new_lines old (record old { passed = passed }) passed defines_none (sym (ap (λ (t : ℕ × Keyword × Content). t.2) are) ∙ says_what) same
+    (subst (λ (t : ℕ × Keyword × Content). IsAttached cited.number cited.name.items a (record { at = t.0; keyword = t.1 }) lines new_lines old.passed passed) are at) refl
+
+pub other_parts : (f : Finders) (s : Statement) (parts : ℕ × Keyword × Content) (index : Option ℕ) (lines : List MessageLine) (old now : Gathered) → defines (content_of s.content) ≡ false
+    → parts ≡ (s.start, s.keyword, s.content) → cites_signal parts.2 ≡ false → ((all : List says.Statement) → Finds f lines all → IsCitedIndex all (content_of parts.2) index)
+    → now ≡ gathered_after index (record { at = parts.0; keyword = parts.1 }) parts.2 old → Settles f (statement_of s ∷ []) lines old lines now
+other_parts f s parts index lines old now defines_none are cites_none found is =
+    other_settled f s index lines old now defines_none (subst (λ (t : ℕ × Keyword × Content). cites_signal t.2 ≡ false) are cites_none)
+    (subst (λ (t : ℕ × Keyword × Content). (all : List says.Statement) → Finds f lines all → IsCitedIndex all (content_of t.2) index) are found)
+    (is ∙ ap (λ (t : ℕ × Keyword × Content). gathered_after index (record { at = t.0; keyword = t.1 }) t.2 old) are)
+
+-- Several statements.
+
+pub none_settled : (f : Finders) (lines : List MessageLine) (g : Gathered) → Settles f [] lines g lines g
+none_settled f lines g = λ said nodes are h. (
+  subst (Finds f lines) (sym (append-nil said)) are,
+  subst (λ (x : List says.Statement). IsSettling x nodes lines (with_attached lines g)) (sym (append-nil said)) h,
+)
+
+pub settled_both : (f : Finders) (first second : List says.Statement) (a_lines b_lines c_lines : List MessageLine) (a b c : Gathered)
+    → Settles f first a_lines a b_lines b → Settles f second b_lines b c_lines c → Settles f (first ++ second) a_lines a c_lines c
+settled_both f first second a_lines b_lines c_lines a b c h k = λ said nodes are is.
+    let (are_first, is_first) = h said nodes are is in
+    let (are_both, is_both) = k (said ++ first) nodes are_first is_first in (
+      subst (Finds f c_lines) (append_assoc said first second) are_both,
+      subst (λ (x : List says.Statement). IsSettling x nodes c_lines (with_attached c_lines c)) (append_assoc said first second) is_both,
+    )
+
+-- All statements are gathered: those up to the first that cites something, that one, and those after it.
+pub of_tokens : (tokens rest : List Token) (empty g old now : Gathered) (first : Option Statement) (nodes seen_nodes : List NodeName) (lines new_lines : List MessageLine)
+    → nodes ≡ g.nodes → seen_nodes ≡ g.nodes → lines ≡ g.messages → old ≡ with_definitions [] [] g
+    → IsEmpty empty → Defines tokens rest empty g first → FollowAll seen_nodes lines first rest old new_lines now → IsOfTokens tokens (in_signals (with_definitions nodes new_lines now))
+of_tokens tokens rest empty g old now first nodes seen_nodes lines new_lines nodes_are seen_nodes_are lines_are old_is is begun others =
+    let said = begun.said in
+    let defining : IsDefining said g = begun.gathered (nothing_defined empty is) in
+    let over : IsSettling said g.nodes g.messages (with_nothing_attached said (with_definitions [] [] g)) = definitions_over said g [] [] defining in
+    let after : FollowAll g.nodes g.messages first rest (with_definitions [] [] g) new_lines now = subst (λ (x : Gathered). FollowAll g.nodes g.messages first rest x new_lines now) old_is
+    (subst (λ (x : List MessageLine). FollowAll g.nodes x first rest old new_lines now) lines_are (subst (λ (x : List NodeName). FollowAll x lines first rest old new_lines now) seen_nodes_are others)) in
+    let settled = after.gathered said (defined_names said g defining) (defined_messages said g defining) over in
+    let whole : AreGathered ((said ++ one_or_none first) ++ after.said) (with_definitions g.nodes new_lines (with_attached new_lines now))
+    = all_settled ((said ++ one_or_none first) ++ after.said) g.nodes new_lines (with_attached new_lines now) settled in
+    record {
+      said = (said ++ one_or_none first) ++ after.said;
+      read = begin_with_rest (said ++ one_or_none first) after.said tokens rest begun.read after.read;
+      gathered = subst (λ (x : List NodeName). AreGathered ((said ++ one_or_none first) ++ after.said) (in_signals (with_definitions x new_lines now))) (sym nodes_are) whole;
+    }
+
+count_keys : (lines : List MessageLine) → length (flat_map keys_of (map message_of lines)) ≡ length (all_signals lines)
+count_keys [] = refl
+count_keys (line ∷ lines) = by line.signals.items (count_keys lines)
+  where
+    by : (items : List SignalLine) → length (flat_map keys_of (map message_of lines)) ≡ length (all_signals lines)
+        → length (map (λ (s : says.SignalLine). (dbc_number line.ident, s.name)) (map signal_of items) ++ flat_map keys_of (map message_of lines)) ≡ length (items ++ all_signals lines)
+    by [] e = e
+    by (s ∷ items) e = ap suc (by items e)
+
+-- Those after the definitions: what is attached to nothing at first, then the first statement, and then the others.
+pub all_follow : (f : Finders) (nodes : List NodeName) (lines bare settled_lines new_lines : List MessageLine) (first : Option Statement) (tokens : List Token) (old attached settled now : Gathered)
+    → FindsAll f nodes lines → map message_of bare ≡ map message_of lines → HaveNothing bare → attached ≡ record old { node_comments = replicate (length nodes) []; message_comments = replicate (length lines) [] }
+    → Settles f (one_or_none first) bare attached settled_lines settled → SettlesAll f tokens settled_lines settled new_lines now → FollowAll nodes lines first tokens old new_lines now
+all_follow f nodes lines bare settled_lines new_lines first tokens old attached settled now found same nothing begins one others = record {
+  said = others.said;
+  read = others.read;
+  gathered = λ before names messages h.
+      let node_count : length nodes ≡ length (node_names_of before) = sym (length-map nodes (λ (n : NodeName). n.name)) ∙ ap length names in
+      let message_count : length lines ≡ length (numbers_of before)
+      = sym (length-map lines message_of) ∙ ap length messages ∙ sym (length-map (messages_of before) (λ (m : says.MessageLine). dbc_number m.ident)) in
+      let signal_count : length (all_signals bare) ≡ length (signal_keys_of before) = sym (count_keys bare) ∙ ap (λ ms. length (flat_map keys_of ms)) (same ∙ messages) in
+      let begun : with_attached bare attached ≡ with_nothing_attached before old = ap (with_attached bare) begins ∙ nothing (record old { node_comments = replicate (length nodes) []; message_comments = replicate (length lines) [] })
+      ∙ (λ i. record old {
+        node_comments = replicate (node_count i) [];
+        message_comments = replicate (message_count i) [];
+        signal_comments = replicate (signal_count i) [];
+        signal_values = replicate (signal_count i) [];
+        signal_types = replicate (signal_count i) Integer;
+        signal_spns = replicate (signal_count i) 0;
+      }) in
+      let start : IsSettling before nodes bare (with_attached bare attached) = λ rest none. gathers_same (before ++ rest) nodes lines bare (with_attached bare attached) rest same
+      (subst (λ (x : Gathered). Gathers (before ++ rest) (with_definitions nodes lines x) rest) (sym begun) (h rest none)) in
+      let after = one before nodes (finds_same f lines bare before same (found before names messages)) start in
+      (others.gathered (before ++ one_or_none first) nodes after.0 after.1).1;
+}

@@ -1,0 +1,88 @@
+//! What statements attach to signals, set in these at once.
+ghost use Rattle.std.specs.Prelude.{◌≡◌, ◌<◌, length, map};
+ghost use Rattle.dbc_read.specs.Attaching.{HasPlace, SaysWhat, all_signals, at_index, attached_to, flat_index, with_attachment};
+ghost use Rattle.dbc_statements.specs.Statement.{message_of};
+
+use catalogue::{Signal, Spn, Text, ValueTexts, ValueType};
+use dbc_statements::{CitedSignal, Content, MessageLine, SignalLine};
+
+/// What a statement attaches to a signal.
+#[derive(Drop)]
+pub(crate) enum Attachment {
+    /// Its comment.
+    Comment(Text),
+    /// Texts for its values.
+    Values(ValueTexts),
+    /// Its type.
+    Type(ValueType),
+    /// Its suspect parameter number.
+    Spn(Spn),
+}
+
+/// What a content cites.
+#[derive(Drop)]
+pub(crate) enum Cites {
+    /// A signal, with what it attaches to it.
+    Signal(CitedSignal, Attachment),
+    /// No signal: the content itself.
+    Other(Content),
+    /// A signal, with more texts for its values than one can have.
+    TooMany,
+}
+
+/// Where a signal is.
+#[derive(Clone, Copy)]
+pub(crate) struct Place {
+    /// The index of its message.
+    pub message: usize,
+    /// Its own index among that message's signals.
+    pub signal: usize,
+}
+
+/// What the content cites. Takes no memory.
+pub(crate) fn cited_by(content: Content) -> Cites
+    ensures { SaysWhat content result }
+{
+    match content {
+        Content::SignalComment(cited, text) => Cites::Signal(cited, Attachment::Comment(text)),
+        Content::ValueTexts(cited, entries) => match entries.into_texts() {
+            Some(texts) => Cites::Signal(cited, Attachment::Values(texts)),
+            None => Cites::TooMany,
+        },
+        Content::ValueType(cited, value_type) => {
+            Cites::Signal(cited, Attachment::Type(value_type))
+        }
+        Content::Spn(cited, spn) => Cites::Signal(cited, Attachment::Spn(spn)),
+        other => Cites::Other(other),
+    }
+}
+
+/// Sets what is attached in the signal.
+fn attach_to(signal: &mut Signal, attachment: Attachment)
+    ensures { signal.new ≡ with_attachment attachment signal.old }
+{
+    match attachment {
+        Attachment::Comment(text) => signal.comment = text,
+        Attachment::Values(texts) => signal.values = texts,
+        Attachment::Type(value_type) => signal.value_type = value_type,
+        Attachment::Spn(spn) => signal.spn = spn,
+    }
+}
+
+/// Sets what is attached in the signal at this index.
+fn attach_in(signals: &mut [SignalLine], at: usize, attachment: Attachment)
+    requires { at < length signals.old }
+    ensures { signals.new ≡ at_index (attached_to attachment) signals.old at }
+{
+    attach_to(&mut signals[at].signal, attachment);
+}
+
+/// Sets what is attached in the signal at this place.
+#[tactic(auto, using(crate::proofs::Places::place_within))]
+pub(crate) fn attach_at(lines: &mut [MessageLine], place: Place, attachment: Attachment)
+    requires { HasPlace lines.old place.message place.signal }
+    ensures messages { map message_of lines.new ≡ map message_of lines.old }
+    ensures signals { all_signals lines.new ≡ at_index (attached_to attachment) (all_signals lines.old) (flat_index lines.old place.message place.signal) }
+{
+    attach_in(&mut lines[place.message].signals, place.signal, attachment);
+}

@@ -10,6 +10,7 @@ use catalogue::{Sheet, SheetCode, SheetFault};
 use chart::signal_count;
 use dbc_read::{Passed, ReadCode, ReadFault, Reading, read};
 use std::alloc::{AllocError, Global};
+use std::mem::forget;
 
 impl Line for Passed {
     ghost use Rattle.canoffice_cli.specs.Checked.{passed_line};
@@ -88,7 +89,12 @@ pub fn check_report(alloc: Global, source: &[u8]) -> Result<Report, AllocError>
     ensures { IfOk result (λ report. IsCheckOutcome source.now (outcome_of report)) }
 {
     match read(alloc, source) {
-        Ok(reading) => verdict(alloc, &reading),
+        Ok(reading) => {
+            let report = verdict(alloc, &reading);
+            // The program ends soon, so the many blocks of a sheet aren't given back one by one.
+            forget(reading);
+            report
+        }
         Err(fault) => match fault.code {
             ReadCode::Memory => Err(AllocError),
             _ => {

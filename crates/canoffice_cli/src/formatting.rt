@@ -9,6 +9,7 @@ use dbc_law::canonical_texts_read_as_their_sheets;
 use dbc_read::{ReadCode, read};
 use dbc_write::text_of;
 use std::alloc::{AllocError, Global};
+use std::mem::forget;
 
 /// The canonical text of the sheet that the DBC text reads as, whether it is clear or not; or, if the text reads as no
 /// sheet, the fault's code and offset on standard error, with the status `FaultFound`. A text that is canonical already
@@ -20,8 +21,10 @@ pub fn format_report(alloc: Global, source: &[u8]) -> Result<Report, AllocError>
     canonical_texts_read_as_their_sheets();
     match read(alloc, source) {
         Ok(reading) => {
-            let output = text_of(alloc, &reading.sheet)?;
-            Ok(Report::of_output(alloc, output, Status::Success))
+            let written = text_of(alloc, &reading.sheet);
+            // As in a check, the sheet's blocks aren't given back.
+            forget(reading);
+            Ok(Report::of_output(alloc, written?, Status::Success))
         }
         Err(fault) => match fault.code {
             ReadCode::Memory => Err(AllocError),

@@ -6,10 +6,10 @@ use Rattle.canoffice_cli.proofs.Canonical.{not_nothing, printed_again}
 use Rattle.dbc_read.proofs.ReadFaults.{read_fault}
 use Rattle.canoffice_cli.proofs.formatting.format_report.Goals as goal
 
-pub returns-in_ok-output-in-Ok-clause-canonical : goal.returns-in_ok-output-in-Ok-clause-canonical
-returns-in_ok-output-in-Ok-clause-canonical c =
+pub returns-in_ok-written-in-Ok-clause-canonical : goal.returns-in_ok-written-in-Ok-clause-canonical
+returns-in_ok-written-in-Ok-clause-canonical c =
     printed_again c.canonical_texts_read_as_their_sheets.ensures c.args.source.now c.in-Ok.reading.sheet _ (map start_and_keyword c.in-Ok.reading.passed, c.in-Ok.ensures.reads)
-    (c.of_output.ensures ∙ ap success c.in_ok-output-in-Ok.ensures.text)
+    (c.of_output.ensures ∙ ap success c.in_ok-written-in-Ok.ensures.text)
 
 pub returns-in_ok-line-in_default : goal.returns-in_ok-line-in_default
 returns-in_ok-line-in_default c = record {

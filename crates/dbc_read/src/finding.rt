@@ -1,8 +1,8 @@
 //! Which node, message or signal of the lines each statement cites, as statements come one by one.
 //!
-//! A message is found by its number, and a signal by its name among those of its message: from the one after the signal
-//! that was found last, and round. So names are compared one by one. How many may be is limited by the number of
-//! statements, since a file could cite its signals in an order in which that takes too long.
+//! A message is found by its number, and a signal by its name among those of its message: from the one that was found
+//! last on, and round. So names are compared one by one. How many may be is limited by the number of statements, since a
+//! file could cite its signals in an order in which that takes too long.
 ghost use Rattle.std.specs.Prelude.{◌≡◌, ◌==◌, List, IfOk, IfSome, Some, false, nat_eq};
 ghost use Rattle.std.specs.List.{IsDistinct};
 ghost use Rattle.std.specs.Str.{bytes_eq};
@@ -54,14 +54,14 @@ pub(crate) fn finders_of<'s>(
 const NAMES_AT_FIRST: usize = 65_536;
 
 /// How many more may be for each statement.
-pub(crate) const NAMES_A_STATEMENT: usize = 64;
+pub(crate) const NAMES_A_STATEMENT: usize = 32;
 
-/// What was found last, and how many names may still be compared.
+/// What was found last, and how many names of other signals may still be compared.
 #[derive(Clone, Copy)]
 pub(crate) struct Track {
     node: usize,
     message: usize,
-    next_signal: usize,
+    signal: usize,
     /// How many names may still be compared.
     pub names_left: usize,
 }
@@ -78,11 +78,11 @@ fn first_named(signals: &[SignalLine], name: &[u8]) -> Option<usize>
     None
 }
 
-/// The index of a signal of that name. Those from `next` on are tried first.
-fn named(signals: &[SignalLine], name: &[u8], next: usize) -> Option<usize>
+/// The index of a signal of that name. Those from `last` on are tried first.
+fn named(signals: &[SignalLine], name: &[u8], last: usize) -> Option<usize>
     ensures { IsIndexIn (λ (s : SignalLine). bytes_eq s.signal.name name.now) signals.now result }
 {
-    let (before, after) = signals.split_at(next.min(signals.len()));
+    let (before, after) = signals.split_at(last.min(signals.len()));
     match first_named(after, name) {
         Some(index) => Some(before.len() + index),
         None => first_named(before, name),
@@ -95,7 +95,7 @@ impl Track {
         Track {
             node: 0,
             message: 0,
-            next_signal: 0,
+            signal: 0,
             names_left: NAMES_AT_FIRST,
         }
     }
@@ -109,7 +109,7 @@ impl Track {
         if let Some(message) = found {
             if message != self.message {
                 self.message = message;
-                self.next_signal = 0;
+                self.signal = 0;
             }
         }
         found
@@ -119,15 +119,16 @@ impl Track {
     fn signal_index(&mut self, signals: &[SignalLine], name: &[u8]) -> Option<usize>
         ensures { IsIndexIn (λ (s : SignalLine). bytes_eq s.signal.name name.now) signals.now result }
     {
-        let next = self.next_signal;
-        let found = named(signals, name, next);
-        if let Some(index) = found {
-            self.next_signal = index.saturating_add(1);
-        }
-        // From `next` on up to the one that was found, or all.
-        let onward = self.next_signal.saturating_sub(next);
-        let compared = if onward > 0 { onward } else { signals.len() };
-        self.names_left = self.names_left.saturating_sub(compared);
+        let last = self.signal;
+        let found = named(signals, name, last);
+        let onward = match found {
+            Some(index) => index.checked_sub(last),
+            None => None,
+        };
+        self.signal = found.unwrap_or(last);
+        self.names_left = self
+            .names_left
+            .saturating_sub(onward.unwrap_or(signals.len()));
         found
     }
 

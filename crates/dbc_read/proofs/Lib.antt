@@ -3,6 +3,7 @@ pub mod LookingUp
 pub mod Fed
 pub mod Positions
 pub mod Places
+mod AttachingRows
 pub mod Building
 pub mod Gathering
 pub mod OneByOne

@@ -1,8 +1,8 @@
 //! The contents of the statements of a DBC text, with the offsets of what a fault may be about.
 ghost use Rattle.std.specs.Prelude.{◌≡◌, ◌≤◌, [], length, SomeIff};
 ghost use Rattle.catalogue.specs.Limits.{value_text_limit};
-ghost use Rattle.dbc_statements.specs.Parts.{message_with, signal_with, table_of};
-ghost use Rattle.dbc_statements.specs.Statement.{message_of, signal_of};
+ghost use Rattle.dbc_statements.specs.Parts.{message_with, table_of};
+ghost use Rattle.dbc_statements.specs.Statement.{message_of};
 
 use crate::entries::Entries;
 use can_id::Ident;
@@ -58,26 +58,15 @@ pub struct SignalLine {
 }
 
 impl SignalLine {
-    /// The signal, with what other statements attach to it. Takes no memory.
-    pub fn into_signal(
-        self,
-        comment: Text,
-        spn: Spn,
-        values: ValueTexts,
-        value_type: ValueType,
-    ) -> Signal
-        ensures { result ≡ signal_with (signal_of self) comment spn values value_type }
+    /// The signal alone. Takes no memory.
+    pub fn into_signal(self) -> Signal
+        ensures { result ≡ self.signal }
     {
         let SignalLine {
             at: _at,
             mux_at: _mux_at,
             signal,
         } = self;
-        let mut signal = signal;
-        signal.comment = comment;
-        signal.spn = spn;
-        signal.values = values;
-        signal.value_type = value_type;
         signal
     }
 }

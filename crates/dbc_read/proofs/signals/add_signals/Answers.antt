@@ -11,5 +11,5 @@ returns-in_err-with_signal-clause-refused c =
     let p = err_from_is_err_and r.result r.ensures.1 in
     let before = c.loop-line.message.signals in
     let after = map (λ (s : SignalLine). s.signal) (into_iter_items c.next.new.self) in
-    let e = ap (λ s. before ++ s ∷ after) c.signal_of.ensures ∙ rw c.in-Some.ensures.steps.0 at c.loop-line.invariant.rest in
-    rw (p.1, p.2) (signal_refused before c.signal_of.result after _ _ e c.in_err-with_signal.ensures.refused)
+    let e = ap (λ s. before ++ s ∷ after) c.into_signal.ensures ∙ rw c.in-Some.ensures.steps.0 at c.loop-line.invariant.rest in
+    rw (p.1, p.2) (signal_refused before c.into_signal.result after _ _ e c.in_err-with_signal.ensures.refused)

@@ -100,23 +100,25 @@ signal_decides a b =
       name = p.0 i;
       layout = p.1.0 i;
       signed = p.1.1.0 i;
-      mux = p.1.1.1.0 i;
-      factor = p.1.1.1.1.0 i;
-      offset = p.1.1.1.1.1.0 i;
-      minimum = p.1.1.1.1.1.1.0 i;
-      maximum = p.1.1.1.1.1.1.1.0 i;
-      unit = p.1.1.1.1.1.1.1.1.0 i;
-      receivers = p.1.1.1.1.1.1.1.1.1.0 i;
-      comment = p.1.1.1.1.1.1.1.1.1.1.0 i;
-      spn = p.1.1.1.1.1.1.1.1.1.1.1.0 i;
-      values = p.1.1.1.1.1.1.1.1.1.1.1.1.0 i;
-      value_type = p.1.1.1.1.1.1.1.1.1.1.1.1.1 i;
+      value_type = p.1.1.1.0 i;
+      mux = p.1.1.1.1.0 i;
+      spn = p.1.1.1.1.1.0 i;
+      factor = p.1.1.1.1.1.1.0 i;
+      offset = p.1.1.1.1.1.1.1.0 i;
+      minimum = p.1.1.1.1.1.1.1.1.0 i;
+      maximum = p.1.1.1.1.1.1.1.1.1.0 i;
+      unit = p.1.1.1.1.1.1.1.1.1.1.0 i;
+      receivers = p.1.1.1.1.1.1.1.1.1.1.1.0 i;
+      comment = p.1.1.1.1.1.1.1.1.1.1.1.1.0 i;
+      values = p.1.1.1.1.1.1.1.1.1.1.1.1.1 i;
     })
-    (λ e. (ap (λ s. s.name) e, (ap (λ s. s.layout) e, (ap (λ s. s.signed) e, (ap (λ s. s.mux) e, (ap (λ s. s.factor) e, (ap (λ s. s.offset) e, (ap (λ s. s.minimum) e, (ap (λ s. s.maximum) e, (ap (λ s. s.unit) e, (ap (λ s. s.receivers) e, (ap (λ s. s.comment) e, (ap (λ s. s.spn) e, (ap (λ s. s.values) e, ap (λ s. s.value_type) e))))))))))))))
+    (λ e. (ap (λ s. s.name) e, (ap (λ s. s.layout) e, (ap (λ s. s.signed) e, (ap (λ s. s.value_type) e, (ap (λ s. s.mux) e, (ap (λ s. s.spn) e, (ap (λ s. s.factor) e, (ap (λ s. s.offset) e, (ap (λ s. s.minimum) e, (ap (λ s. s.maximum) e, (ap (λ s. s.unit) e, (ap (λ s. s.receivers) e, (ap (λ s. s.comment) e, ap (λ s. s.values) e))))))))))))))
     (Decides-and _ _ (bytes_eq-Decides a.name b.name)
     (Decides-and _ _ (layout_decides a.layout b.layout)
     (Decides-and _ _ (booleans_Decides a.signed b.signed)
+    (Decides-and _ _ (value_type_decides a.value_type b.value_type)
     (Decides-and _ _ (mux_decides a.mux b.mux)
+    (Decides-and _ _ (Decides-eqb a.spn b.spn)
     (Decides-and _ _ (decimal_decides a.factor b.factor)
     (Decides-and _ _ (decimal_decides a.offset b.offset)
     (Decides-and _ _ (decimal_decides a.minimum b.minimum)
@@ -124,9 +126,7 @@ signal_decides a b =
     (Decides-and _ _ (bytes_eq-Decides a.unit b.unit)
     (Decides-and _ _ (slice_eq-Decides bytes_eq-Decides a.receivers b.receivers _ refl)
     (Decides-and _ _ (bytes_eq-Decides a.comment b.comment)
-    (Decides-and _ _ (Decides-eqb a.spn b.spn)
-    (Decides-and _ _ (slice_eq-Decides value_text_decides a.values b.values _ refl)
-    (value_type_decides a.value_type b.value_type))))))))))))))
+    (slice_eq-Decides value_text_decides a.values b.values _ refl))))))))))))))
 
 message_decides : (a b : Message) → Decides (same_message a b) (a ≡ b)
 message_decides a b =

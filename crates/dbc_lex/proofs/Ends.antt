@@ -1,8 +1,10 @@
 -- What begins with a byte, and where it ends.
-use Rattle.std.proofs.Common.{◌≡◌, ◌==◌, ◌||◌, ℕ, ◌+◌, ◌<◌, Bool, true, false, true≢false, if◌then◌else◌, List, ◌∷◌, length, get_or, drop, Option, Some, None, Err, refl, sym, ap, ◌∙◌, arith}
+use Rattle.std.proofs.Common.{◌≡◌, ◌==◌, ◌||◌, ℕ, ◌+◌, ◌<◌, ◌≤◌, ◌⊎◌, Bool, true, false, true≢false, if◌then◌else◌, List, ◌∷◌, length, get_or, take, drop, Option, Some, None, Ok, Err, ◌-◌, slice_range, option_and_then, inl, inr, refl, sym, ap, ◌∙◌, arith}
 use Rattle.std.specs.Char.{is_ascii_digit}
 use Rattle.std.specs.List.{prefix_len}
 use Rattle.std.proofs.lemmas.List.{drop-drop, drop_more}
+use Rattle.std.proofs.lemmas.Option.{slice_get-get_or, slice_get_past}
+use Rattle.std.proofs.lemmas.Bool.{cases_lt}
 use Rattle.std.proofs.Math.ListN.{drop_of_length-le}
 use Rattle.std.proofs.lemmas.List.Sums.{prefix_len-drop_yes}
 use Rattle.decimal.specs.Cutting.{fraction_len}
@@ -12,6 +14,7 @@ use Rattle.catalogue.specs.declared.token.TokenKind.TheVariants.{Name, Number, T
 use Rattle.catalogue.specs.Lexing.{StrayByte, UnclosedText, exponent_len, kind_of, number_len, of_kind, power_len, tail_len, token_at, token_or_fault, with_front, word_len}
 use Rattle.catalogue.specs.Name.{starts_identifier}
 use Rattle.catalogue.specs.Spelling.{is_quote, is_mark}
+use Rattle.dbc_lex.specs.First.{kind_at}
 use Rattle.dbc_lex.specs.Offset.{further_by}
 
 -- the kind, from the four tests of the byte
@@ -111,3 +114,30 @@ module _ (source : List ℕ) (start : ℕ) (there : start < length source) where
       → token_at start (drop start source) ≡ Err (UnclosedText start)
   unclosed_here kind h none =
       first_is ∙ ap (of_kind start (drop start source)) h ∙ unclosed_by kind (drop start source) (word_len kind (drop start source)) none
+
+  -- a token of the kind ends there
+  token_by : (kind : TokenKind) (end : ℕ) (len : Option ℕ) → further_by start len ≡ Some end
+      → token_or_fault start (drop start source) kind len ≡ Ok (Some (record { kind = kind; start = start; end = end; text = slice_range source start end }))
+  token_by kind end None h = absurd cc
+  token_by kind end (Some n) h =
+      let ends : start + n ≡ end = cc in
+      let size : n ≡ end - start = omega (arith, ends) in
+      ap (λ m. Ok (Some (record { kind = kind; start = start; end = m; text = take n (drop start source) }))) ends
+      ∙ ap (λ m. Ok (Some (record { kind = kind; start = start; end = end; text = take m (drop start source) }))) size
+
+  pub token_here : (kind : TokenKind) (end : ℕ) → kind_of (get_or source start 0) ≡ Some kind → further_by start (word_len kind (drop start source)) ≡ Some end
+      → token_at start (drop start source) ≡ Ok (Some (record { kind = kind; start = start; end = end; text = slice_range source start end }))
+  token_here kind end h ends =
+      first_is ∙ ap (of_kind start (drop start source)) h ∙ token_by kind end (word_len kind (drop start source)) ends
+
+-- a byte with a kind is one of the source, and the kind is its own
+module _ (source : List ℕ) (at : ℕ) where
+  pub kind_there : at < length source → kind_at source at ≡ kind_of (get_or source at 0)
+  kind_there there = ap (option_and_then kind_of) (slice_get-get_or source at 0 there)
+
+  pub there_if_kind : (kind : TokenKind) → Some kind ≡ kind_at source at → at < length source
+  there_if_kind kind h = by (cases_lt at (length source))
+    where
+      by : (at < length source) ⊎ (length source ≤ at) → at < length source
+      by (inl below) = below
+      by (inr past) = let none : Some kind ≡ None = h ∙ ap (option_and_then kind_of) (slice_get_past source at past) in absurd cc

@@ -1,7 +1,8 @@
 -- The first token, as the lexer returns it.
-use Rattle.std.specs.Prelude.{◌≡◌, Option, Some, None, Result, Ok, Err}
-use Rattle.catalogue.specs.Lexing.{LexFault}
+use Rattle.std.specs.Prelude.{◌≡◌, ℕ, List, Option, Some, None, Result, Ok, Err, option_and_then, slice_get}
+use Rattle.catalogue.specs.Lexing.{LexFault, kind_of}
 use Rattle.catalogue.specs.Token.{Token}
+use Rattle.catalogue.specs.declared.token.TokenKind.{TokenKind}
 use Rattle.dbc_lex.specs.declared.fault.ReadFault.{ReadFault}
 use Rattle.dbc_lex.specs.declared.token.Token.{Token as TextToken}
 use Rattle.dbc_lex.specs.Fault.{fault_of}
@@ -12,3 +13,7 @@ abbrev pub GivesFirst : Result (Option TextToken) ReadFault → Result (Option T
 GivesFirst (Ok (Some t)) first = first ≡ Ok (Some (token_of t))
 GivesFirst (Ok None) first = first ≡ Ok None
 GivesFirst (Err fault) first = (cause : LexFault) × (first ≡ Err cause) × (fault ≡ fault_of cause)
+
+-- the kind of the tokens that begin with the byte at the offset; None if none does, or if the bytes end there
+abbrev pub kind_at : List ℕ → ℕ → Option TokenKind
+kind_at bytes at = option_and_then kind_of (slice_get bytes at)

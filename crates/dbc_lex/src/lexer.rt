@@ -1,27 +1,30 @@
 //! Reading a text token by token.
 ghost use Rattle.std.specs.Prelude.{◌≡◌, ◌≤◌, length, min, drop, IfSome, IfOk};
 ghost use Rattle.catalogue.specs.Lexing.{token_at};
-ghost use Rattle.dbc_lex.specs.First.{GivesFirst};
+ghost use Rattle.dbc_lex.specs.First.{GivesFirst, kind_at};
 
 use crate::fault::{ReadCode, ReadFault};
-use crate::kinds::kind_of;
-use crate::spelling::{gap_end, word_end};
+use crate::spelling::{first_after_gap, word_end};
 use crate::token::Token;
+use catalogue::TokenKind;
 use std::marker::Model;
 
-/// The token whose first byte is at the offset; `None` at the end of the text.
+/// The token of this kind whose first byte is at the offset; without a kind none begins there, or the text ends.
 #[inline(always)]
 #[tactic(auto, unfolding(catalogue::specs::Lexing::token_at))]
-fn token_at<'a>(source: &'a [u8], start: usize) -> Result<Option<Token<'a>>, ReadFault>
-    requires { start ≤ length source.now }
+fn token_at<'a>(
+    source: &'a [u8],
+    start: usize,
+    kind: Option<TokenKind>,
+) -> Result<Option<Token<'a>>, ReadFault>
+    requires within { start ≤ length source.now }
+    requires kind { kind ≡ kind_at source.now start }
     ensures first { GivesFirst result (token_at start (drop start source.now)) }
     ensures within { IfOk result (λ next. IfSome next (λ t.
         (start ≤ t.end) × (t.end ≤ length source.now))) }
 {
-    if start == source.len() {
-        return Ok(None);
-    }
-    match kind_of(source[start]) {
+    match kind {
+        None if start == source.len() => Ok(None),
         None => Err(ReadFault {
             code: ReadCode::StrayByte,
             at: start,
@@ -103,8 +106,8 @@ impl<'a> Lexer<'a> {
     pub fn next_token(&mut self) -> Result<Option<Token<'a>>, ReadFault>
         ensures { GivesNext self.old result self.new }
     {
-        let start = gap_end(self.source, self.at);
-        match token_at(self.source, start) {
+        let (start, kind) = first_after_gap(self.source, self.at);
+        match token_at(self.source, start, kind) {
             Ok(Some(token)) => {
                 self.at = token.end;
                 Ok(Some(token))

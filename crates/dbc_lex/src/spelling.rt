@@ -7,9 +7,10 @@ ghost use Rattle.decimal.specs.Spelling.{is_letter_e};
 ghost use Rattle.catalogue.specs.Spelling.{is_gap};
 ghost use Rattle.catalogue.specs.Lexing.{kind_of, power_len, exponent_len, number_len, inside_len, tail_len, word_len};
 ghost use Rattle.catalogue.specs.declared.token.TokenKind.TheVariants.{Number};
+ghost use Rattle.dbc_lex.specs.First.{kind_at};
 ghost use Rattle.dbc_lex.specs.Offset.{further_by};
 
-use crate::kinds::continues_name;
+use crate::kinds::{continues_name, kind_of};
 use catalogue::TokenKind;
 use decimal::{digits_len, fraction_len};
 
@@ -19,18 +20,24 @@ fn is_gap(byte: u8) -> bool
     matches!(byte, 9..=13 | 32)
 }
 
-/// The offset of the first byte at the offset or after it that is no gap, or the end.
+/// The offset of the first byte at the offset or after it that is no gap, or the end; and the kind of the tokens that
+/// begin with that byte, if one does.
 #[inline(always)]
-pub(crate) fn gap_end(source: &[u8], at: usize) -> usize
+pub(crate) fn first_after_gap(source: &[u8], at: usize) -> (usize, Option<TokenKind>)
     requires { at ≤ length source.now }
-    ensures is { result ≡ at + prefix_len is_gap (drop at source.now) }
-    ensures within { result ≤ length source.now }
+    ensures is { result.0 ≡ at + prefix_len is_gap (drop at source.now) }
+    ensures within { result.0 ≤ length source.now }
+    ensures kind { result.1 ≡ kind_at source.now result.0 }
 {
     let mut end = at;
-    while end < source.len() && is_gap(source[end]) {
-        end += 1;
+    while end < source.len() {
+        match kind_of(source[end]) {
+            Some(kind) => return (end, Some(kind)),
+            None if is_gap(source[end]) => end += 1,
+            None => return (end, None),
+        }
     }
-    end
+    (end, None)
 }
 
 /// The offset after the bytes at the offset that may come after the first one of a name.
@@ -131,7 +138,7 @@ fn number_end(source: &[u8], start: usize) -> usize
 
 /// The offset of the quote that closes a text whose first byte after its opening quote is at the offset; `None` if no
 /// quote closes it. A backslash escapes the next byte.
-#[inline(never)]
+#[inline(always)]
 fn closing_quote(source: &[u8], at: usize) -> Option<usize>
     requires { at ≤ length source.now }
     ensures is { result ≡ further_by at (inside_len false (drop at source.now)) }

@@ -12,7 +12,11 @@ fn digits_number(bytes: &[u8]) -> Option<u32>
     let mut number = 0u32;
     for byte in bytes {
         let digit = char::from(*byte).to_digit(10)?;
-        number = number.checked_mul(10)?.checked_add(digit)?;
+        let next = u64::from(number) * 10 + u64::from(digit);
+        if next > u64::from(u32::MAX) {
+            return None;
+        }
+        number = next as u32;
     }
     Some(number)
 }

@@ -4,13 +4,10 @@ use Rattle.std.specs.Char.{digit_value}
 use Rattle.catalogue.proofs.Digits.{past_limit, all_read}
 use Rattle.catalogue.proofs.numbers.digits_number.Goals as goal
 
-pub returns-in_err-checked_mul : goal.returns-in_err-checked_mul
-returns-in_err-checked_mul c =
-    rw c.from_residual-in_err-checked_mul.ensures (past_limit c.loop-byte.number c.loop-byte.byte-index c.args.bytes.now (omega arith) c.loop-byte.invariant.value (omega (arith, c.in_err-checked_mul.ensures)))
-
-pub returns-in_err-number : goal.returns-in_err-number
-returns-in_err-number c =
-    rw c.from_residual-in_err-number.ensures (past_limit c.loop-byte.number c.loop-byte.byte-index c.args.bytes.now (omega arith) c.loop-byte.invariant.value (omega (arith, c.in_err-number.ensures, c.in_ok-checked_mul.ensures, c.in_ok-digit.ensures.value.1, ap digit_value c.from.ensures)))
+pub returns-then-next-from : goal.returns-then-next-from
+returns-then-next-from c =
+    past_limit c.loop-byte.number c.loop-byte.byte-index c.args.bytes.now (omega arith) c.loop-byte.invariant.value
+    (omega (arith, c.if-next-from.true, c.in_ok-digit.ensures.value.1, ap digit_value c.from.ensures, c.from-in-loop-byte.ensures, c.from-in-loop-byte-2.ensures, c.from-in-loop-byte-3.ensures))
 
 pub returns : goal.returns
 returns c =

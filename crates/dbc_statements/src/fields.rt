@@ -1,6 +1,6 @@
 //! The fields of statements, read from the front of the tokens. Each function removes the tokens of what it returns; a
 //! fault leaves the token that it is about.
-ghost use Rattle.std.specs.Prelude.{◌≡◌, [], ◌∷◌, Some};
+ghost use Rattle.std.specs.Prelude.{◌≡◌, [], ◌∷◌, Some, option_map};
 ghost use Rattle.catalogue.specs.Fields as fields;
 ghost use Rattle.catalogue.specs.Grammar as grammar;
 ghost use Rattle.catalogue.specs.Parsing.{token_at, one_at, optional_at, key_at, mark_at, decimal_at, pair_at, layout_at};
@@ -250,15 +250,35 @@ fn sign(tokens: &mut Tokens) -> Option<bool>
     Some(sign)
 }
 
-/// A decimal, with a sign or without. Code 35 at a number that is out of range.
+/// A decimal, with a sign or without. `None` leaves the token that isn't one.
+// An `Option`, since a `Result` of a decimal and a fault is moved byte by byte.
 #[tactic(auto, unfolding(catalogue::specs::Parsing::decimal_at))]
+fn decimal_or_none(tokens: &mut Tokens) -> Option<Decimal>
+    ensures { decimal_at tokens.old ≡ option_map (λ d. (d, tokens.new)) result }
+{
+    let negative = sign(tokens).unwrap_or(false);
+    let number = number_of(negative, &tokens.first()?)?;
+    tokens.skip();
+    Some(number)
+}
+
+/// The fault of a token that is no decimal, or of a text that ends too early.
+fn no_decimal(tokens: &Tokens) -> ReadFault {
+    match tokens.first() {
+        Some(token) => number_fault(&token, ReadCode::Number),
+        None => tokens.unexpected(),
+    }
+}
+
+/// A decimal, with a sign or without. Code 35 at a number that is out of range.
+#[inline(always)]
 pub(crate) fn decimal(tokens: &mut Tokens) -> Result<Decimal, ReadFault>
     ensures { Reads itself result (decimal_at tokens.old) tokens.new }
 {
-    let negative = sign(tokens).unwrap_or(false);
-    let token = tokens.front()?;
-    let number = number_of(negative, &token);
-    tokens.accept(number, number_fault(&token, ReadCode::Number))
+    match decimal_or_none(tokens) {
+        Some(decimal) => Ok(decimal),
+        None => Err(no_decimal(tokens)),
+    }
 }
 
 /// Two decimals between marks.

@@ -18,10 +18,10 @@ loop-signal-preserved c =
     let i = c.loop-signal.signal-index in
     let known : IsMultiplexorKnown (take (i + 1) signals) c.if-is_multiplexor.multiplexed = elim c.if-is_multiplexor.branch [
       | then-is_multiplexor+else-multiplexed w ↦ known_more signals i c.signal-item.result c.loop-signal.multiplexed c.is_multiplexor.result c.if-is_multiplexor.multiplexed
-        c.loop-signal-test.true c.signal-item.is c.loop-signal.invariant.one c.loop-signal.invariant.known c.is_multiplexor.ensures
-        (λ k. w.if-is_multiplexor.true k && w.if-multiplexed.false k) (w.multiplexed-is ∙ sym (ap (λ b. b || c.loop-signal.multiplexed) w.if-is_multiplexor.true))
+          c.loop-signal-test.true c.signal-item.is c.loop-signal.invariant.one c.loop-signal.invariant.known c.is_multiplexor.ensures
+          (λ k. w.if-is_multiplexor.true k && w.if-multiplexed.false k) (w.multiplexed-is ∙ sym (ap (λ b. b || c.loop-signal.multiplexed) w.if-is_multiplexor.true))
       | else-is_multiplexor w ↦ known_more signals i c.signal-item.result c.loop-signal.multiplexed c.is_multiplexor.result c.if-is_multiplexor.multiplexed
-        c.loop-signal-test.true c.signal-item.is c.loop-signal.invariant.one c.loop-signal.invariant.known c.is_multiplexor.ensures
-        (ap (λ b. b && c.loop-signal.multiplexed) w.if-is_multiplexor.false) (w.multiplexed-is ∙ sym (ap (λ b. b || c.loop-signal.multiplexed) w.if-is_multiplexor.false))
+          c.loop-signal-test.true c.signal-item.is c.loop-signal.invariant.one c.loop-signal.invariant.known c.is_multiplexor.ensures
+          (ap (λ b. b && c.loop-signal.multiplexed) w.if-is_multiplexor.false) (w.multiplexed-is ∙ sym (ap (λ b. b || c.loop-signal.multiplexed) w.if-is_multiplexor.false))
     ] in
     record { one = known.one_multiplexor; known = known.known }

@@ -5,6 +5,7 @@ pub mod Texts
 mod KeywordEndings
 mod NameSets
 pub mod Rosters
+pub mod Gathering
 mod SameMessages
 pub mod AscendingLists
 pub mod Naming
@@ -15,6 +16,7 @@ mod Clearness
 mod MessageRules
 mod SheetRows
 mod NameRows
+mod KeptRows
 mod CanonRows
 mod ChangeRows
 pub mod WholeNumbers

@@ -25,7 +25,7 @@ pub none_indexed : (messages : List Message) (names : NameSet) → messages ≡ 
 unfolding IsDistinct IsStrictlySortedBy
 none_indexed messages names none e = rw none (record { together = record { ascending = tt; apart = tt; few = omega arith }; index = e })
 
-not_full : (messages : List Message) → ¬ (message_limit ≤ length messages) → nat_le message_limit (length messages) ≡ false
+pub not_full : (messages : List Message) → ¬ (message_limit ≤ length messages) → nat_le message_limit (length messages) ≡ false
 not_full messages h = grind (arith, nat_tests)
 
 -- what a search finds among the messages that it was handed
@@ -40,13 +40,13 @@ pub second_refuses : (messages : List Message) (m : Message) (at : ℕ) → ¬ (
     → first_refusal (message_tests messages m) ≡ Some DoubleNumber
 second_refuses messages m at few there = rw (not_full messages few, any_at number_of messages (number_of m) at there) refl
 
-pub third_refuses : (messages : List Message) (m : Message) (at : ℕ) → ¬ (message_limit ≤ length messages) → IsGap number_of messages (number_of m) at
+pub third_refuses : (messages : List Message) (m : Message) (at : ℕ) → nat_le message_limit (length messages) ≡ false → IsGap number_of messages (number_of m) at
     → has_name message_name messages m.name ≡ true → first_refusal (message_tests messages m) ≡ Some DoubleName
-third_refuses messages m at few gap there = rw (not_full messages few, any_gap number_of messages (number_of m) at gap, there) refl
+third_refuses messages m at few gap there = rw (few, any_gap number_of messages (number_of m) at gap, there) refl
 
-pub none_refuses : (messages : List Message) (m : Message) (at : ℕ) → ¬ (message_limit ≤ length messages) → IsGap number_of messages (number_of m) at
+pub none_refuses : (messages : List Message) (m : Message) (at : ℕ) → nat_le message_limit (length messages) ≡ false → IsGap number_of messages (number_of m) at
     → has_name message_name messages m.name ≡ false → first_refusal (message_tests messages m) ≡ None
-none_refuses messages m at few gap new = rw (not_full messages few, any_gap number_of messages (number_of m) at gap, new) refl
+none_refuses messages m at few gap new = rw (few, any_gap number_of messages (number_of m) at gap, new) refl
 
 one_more : (messages : List Message) (m : Message) (at : ℕ) → at ≤ length messages → nat_le message_limit (length messages) ≡ false → length (insert messages at m) ≤ message_limit
 one_more messages m at within h = rw (length-insert messages at m within) (grind (arith, nat_tests))

@@ -1,5 +1,5 @@
 -- The multiplexor among the signals of a message.
-use Rattle.std.proofs.Common.{◌≡◌, ◌∙◌, ◌&&◌, ◌||◌, Bool, true, false, cond, not, ℕ, List, [], ◌∷◌, ◌++◌, map, None, Some, refl, sym, ap}
+use Rattle.std.proofs.Common.{◌≡◌, ◌<◌, ◌+◌, ◌∙◌, ◌&&◌, ◌||◌, Bool, true, false, cond, not, ℕ, List, [], ◌∷◌, ◌++◌, length, take, get_or, map, None, Some, refl, sym, ap}
 use Rattle.std.specs.List.{AllByRecursion, IsDistinct, list_any}
 use Rattle.std.specs.Str.{bytes_eq}
 use Rattle.bitlayout.specs.Mux.{is_multiplexor}
@@ -9,6 +9,7 @@ use Rattle.catalogue.specs.Named.{AreNamedApart}
 use Rattle.catalogue.specs.Refusing.{first_refusal}
 use Rattle.catalogue.specs.Signals.{HaveOneMultiplexor, IsMultiplexorKnown, at_signal, has_multiplexor, signal_is_multiplexor, signal_name, signal_named, signal_tests, without_signal}
 use Rattle.catalogue.specs.declared.signal.Signal.{Signal}
+use Rattle.catalogue.proofs.Gathering.{apart_more, next_taken, not_apart}
 use Rattle.catalogue.proofs.NamedThings.{all_without, found_is, none_found, others_have_not, some_none, some_same}
 use Rattle.catalogue.proofs.Naming.{distinct-filter}
 use Rattle.catalogue.proofs.Refusals.{none_holds}
@@ -107,3 +108,27 @@ pub known_still : (signals rest : List Signal) (n : List ℕ) (multiplexed : Boo
     → rest ≡ without_signal signals n → IsMultiplexorKnown rest multiplexed
 known_still signals rest n multiplexed is absent same =
     rw (same ∙ all_without signal_name n signals (none_found (λ s. bytes_eq s.name n) signals absent)) is
+
+-- signals that are looked at one by one
+
+-- the next one is not the multiplexor, or none of those before is
+pub known_more : (signals : List Signal) (i : ℕ) (s : Signal) (multiplexed multiplexes next : Bool) → i < length signals → s ≡ get_or signals i s
+    → HaveOneMultiplexor (take i signals) → multiplexed ≡ has_multiplexor (take i signals) → multiplexes ≡ signal_is_multiplexor s
+    → (multiplexes && multiplexed) ≡ false → next ≡ (multiplexes || multiplexed)
+    → IsMultiplexorKnown (take (i + 1) signals) next
+known_more signals i s multiplexed multiplexes next lt is one known own free later =
+    let both = λ (a b : Signal). signal_is_multiplexor a && signal_is_multiplexor b in
+    let before = take i signals in
+    record {
+      one_multiplexor = apart_more both signals i s lt is one
+          (any_both signal_is_multiplexor (signal_is_multiplexor s) before ∙ (λ k. sym own k && sym known k) ∙ free);
+      known = later ∙ (λ k. own k || known k) ∙ sym (any_and_last signal_is_multiplexor before s)
+          ∙ sym (ap has_multiplexor (next_taken both signals i s lt is));
+    }
+
+-- it is, and so is one of those before
+pub two_known : (signals : List Signal) (i : ℕ) (s : Signal) (multiplexed multiplexes : Bool) → i < length signals → s ≡ get_or signals i s
+    → multiplexed ≡ has_multiplexor (take i signals) → multiplexes ≡ signal_is_multiplexor s → (multiplexes && multiplexed) ≡ true → ¬ (HaveOneMultiplexor signals)
+two_known signals i s multiplexed multiplexes lt is known own two =
+    not_apart (λ a b. signal_is_multiplexor a && signal_is_multiplexor b) signals i s lt is
+    (any_both signal_is_multiplexor (signal_is_multiplexor s) (take i signals) ∙ (λ k. sym own k && sym known k) ∙ two)

@@ -18,6 +18,7 @@ pub mod Name
 pub mod Named
 pub mod Parsing
 pub mod Reads
+pub mod Receivers
 pub mod Refusing
 pub mod Retain
 pub mod Rules

@@ -48,6 +48,11 @@ abbrev pub IsNameIndex : {A : Type 0} → (A → List ℕ) → List A → Option
 IsNameIndex name things None = ⊤
 IsNameIndex name things (Some names) = HasNamesOf name things names
 
+-- what a search for an index finds: none where two of the things have the same name
+abbrev pub IsIndexIff : {A : Type 0} → (A → List ℕ) → List A → Option (Option NameSet) → Type 0
+IsIndexIff name things None = ¬ (AreNamedApart name things)
+IsIndexIff name things (Some index) = AreNamedApart name things × IsNameIndex name things index
+
 -- what an index is after a change: whether it has a name is a function of the name and of whether it had it
 abbrev pub IsIndexBy : (List ℕ → Bool → Bool) → Option NameSet → Option NameSet → Type 0
 IsIndexBy change None new = new ≡ None

@@ -79,24 +79,20 @@ impl Messages {
         }
     }
 
-    /// The index at which the message would go, or why it is refused.
+    /// The index at which the message would go, or why it is refused whatever its name is.
     fn index_for(&self, message: &Message) -> Result<usize, SheetCode>
         ensures gap { IfOk result (IsGap number_of self.now (number_of message.now)) }
-        ensures allowed { OnOk result (first_refusal (message_tests self.now message.now) ≡ None) }
+        ensures room { OnOk result (nat_le message_limit (length self.now) ≡ false) }
         ensures refused { IfErr result (λ code. first_refusal (message_tests self.now message.now) ≡ Some code) }
     {
         let messages = self.messages.as_slice();
         if messages.len() >= MESSAGE_LIMIT {
             return Err(SheetCode::TooMany);
         }
-        let at = match search(messages, message.number()) {
-            Ok(_) => return Err(SheetCode::DoubleNumber),
-            Err(at) => at,
-        };
-        if self.names.has(&message.name) {
-            return Err(SheetCode::DoubleName);
+        match search(messages, message.number()) {
+            Ok(_) => Err(SheetCode::DoubleNumber),
+            Err(at) => Ok(at),
         }
-        Ok(at)
     }
 
     /// Adds a message where its number belongs. It is refused, and nothing changes, with the first of these that holds:
@@ -114,7 +110,11 @@ impl Messages {
         let name = message.name.duplicate(alloc)?;
         self.messages.insert(at, message)?;
         match self.names.insert(name) {
-            Ok(()) => Ok(()),
+            Ok(true) => Ok(()),
+            Ok(false) => {
+                self.messages.remove(at);
+                Err(SheetCode::DoubleName)
+            }
             Err(_) => {
                 self.messages.remove(at);
                 Err(SheetCode::Memory)

@@ -1,8 +1,8 @@
 //! The index of the names of a list. A short list has none: its names are compared one by one, which takes neither a copy
 //! of each name nor more time than a look-up.
-ghost use Rattle.std.specs.Prelude.{◌≡◌, ◌&&◌, ◌||◌, ℕ, List, Bool, None, not, IfOk, OnOk, OnErr};
+ghost use Rattle.std.specs.Prelude.{◌≡◌, ◌&&◌, ◌||◌, ℕ, List, Bool, Decides, None, Some, option_map, not, IfOk, OnOk, OnErr};
 ghost use Rattle.std.specs.Str.{bytes_eq};
-ghost use Rattle.catalogue.specs.Named.{HasNamesOf, IsIndexBy, IsNameIndex};
+ghost use Rattle.catalogue.specs.Named.{AreNamedApart, HasNamesOf, IsIndexBy, IsIndexIff, IsNameIndex, has_name};
 
 use crate::copying::Copying;
 use crate::name::Name;
@@ -27,6 +27,60 @@ fn names_of<T: Named>(alloc: Global, things: &[T]) -> Result<NameSet, AllocError
     Ok(names)
 }
 
+/// The set of the names, or `None` where two of the things have the same name.
+fn names_apart<T: Named>(alloc: Global, things: &[T]) -> Result<Option<NameSet>, AllocError>
+    ensures { IfOk result (λ found. IsIndexIff T.name_of things.now (option_map Some found)) }
+{
+    let mut names = NameSet::new(alloc);
+    for thing in things {
+        if !names.insert(thing.name().duplicate(alloc)?)? {
+            return Ok(None);
+        }
+    }
+    Ok(Some(names))
+}
+
+/// Whether one of the things has the name. They are compared one by one.
+pub(crate) fn one_has_name<T: Named>(things: &[T], name: &Name) -> bool
+    ensures { result ≡ has_name T.name_of things.now name.now }
+{
+    things.iter().any(|thing| thing.name() == name)
+}
+
+/// Whether no two of the things have the same name. Each is compared with those before it.
+fn are_apart<T: Named>(things: &[T]) -> bool
+    ensures { Decides result (AreNamedApart T.name_of things.now) }
+{
+    let mut seen = 0;
+    while seen < things.len() {
+        if one_has_name(&things[..seen], things[seen].name()) {
+            return false;
+        }
+        seen += 1;
+    }
+    true
+}
+
+/// The index of the things, or `None` where two of them have the same name. Few things are compared without any memory.
+pub(crate) fn index_apart<T: Named>(
+    alloc: Global,
+    things: &[T],
+) -> Result<Option<NameIndex>, AllocError>
+    ensures { IfOk result (λ found. IsIndexIff T.name_of things.now found) }
+{
+    if things.len() > SHORT {
+        return match names_apart(alloc, things)? {
+            Some(names) => Ok(Some(Some(names))),
+            None => Ok(None),
+        };
+    }
+    if are_apart(things) {
+        Ok(Some(None))
+    } else {
+        Ok(None)
+    }
+}
+
 /// Makes the index of the things, if they have none and one more makes them too many for a short list.
 pub(crate) fn make_index<T: Named>(
     alloc: Global,
@@ -47,7 +101,10 @@ pub(crate) fn add_name(alloc: Global, name: &Name, index: &mut NameIndex) -> Res
     ensures err { OnErr result (IsIndexBy (λ _ b. b) index.old index.new) }
 {
     match index {
-        Some(names) => names.insert(name.duplicate(alloc)?),
+        Some(names) => {
+            names.insert(name.duplicate(alloc)?)?;
+            Ok(())
+        }
         None => Ok(()),
     }
 }

@@ -29,13 +29,13 @@ impl NameSet {
         self.names.contains(name)
     }
 
-    /// Adds the name. When memory runs out, nothing changes.
-    pub(crate) fn insert(&mut self, name: Name) -> Result<(), AllocError>
+    /// Adds the name, and answers whether it is new. When memory runs out, nothing changes.
+    pub(crate) fn insert(&mut self, name: Name) -> Result<bool, AllocError>
+        ensures new { IfOk result (λ new. new ≡ not (holds_name self.old name)) }
         ensures ok { OnOk result ((n : List ℕ) → holds_name self.new n ≡ (bytes_eq name n || holds_name self.old n)) }
         ensures err { OnErr result ((n : List ℕ) → holds_name self.new n ≡ holds_name self.old n) }
     {
-        self.names.insert(name)?;
-        Ok(())
+        Ok(self.names.insert(name)?)
     }
 
     /// Removes the name.

@@ -1,5 +1,5 @@
 //! Lists of things with unique names, such as the nodes of a sheet or the signals of a message.
-ghost use Rattle.std.specs.Prelude.{◌≡◌, ◌≤◌, ◌++◌, ◌∷◌, [], ℕ, List, None, length, nat_le, false, position, IfErr, IfOk, OnOk, OnErr};
+ghost use Rattle.std.specs.Prelude.{◌≡◌, ◌≤◌, ◌++◌, ◌∷◌, [], ℕ, List, None, length, nat_le, false, position, IfErr, IfOk, OnOk, OnErr, SomeIff};
 ghost use Rattle.std.specs.Str.{bytes_eq};
 ghost use Rattle.catalogue.specs.Changing.{ChangesAs, KeepsName};
 ghost use Rattle.catalogue.specs.Fault.{IsRefusal};
@@ -11,7 +11,9 @@ use crate::copying::{Copying, duplicates};
 use crate::fault::SheetCode;
 use crate::limits::ROSTER_LIMIT;
 use crate::name::Name;
-use crate::name_index::{NameIndex, add_name, copy_index, make_index, remove_name};
+use crate::name_index::{
+    NameIndex, add_name, copy_index, index_apart, make_index, one_has_name, remove_name,
+};
 use std::alloc::{AllocError, Global};
 use std::marker::Model;
 
@@ -69,7 +71,7 @@ impl<T: Named> Roster<T> {
     {
         match &self.names {
             Some(names) => names.has(name),
-            None => self.things.iter().any(|thing| thing.name() == name),
+            None => one_has_name(&self.things, name),
         }
     }
 
@@ -137,6 +139,20 @@ impl<T: Named> Roster<T> {
 }
 
 impl<T: Named + Drop> Roster<T> {
+    /// The things of a vector, in its order, or `None` where they can't be in one roster: more than [`ROSTER_LIMIT`], or
+    /// two of one name. None of them is copied or moved one by one. The error is out of memory.
+    pub fn of(alloc: Global, things: Vec<T>) -> Result<Option<Roster<T>>, AllocError>
+        ensures { IfOk result (λ found. SomeIff found (AreNamedApart T.name_of things.items × (length things.items ≤ roster_limit)) things.items) }
+    {
+        if things.len() > ROSTER_LIMIT {
+            return Ok(None);
+        }
+        match index_apart(alloc, &things)? {
+            Some(names) => Ok(Some(Roster { things, names })),
+            None => Ok(None),
+        }
+    }
+
     /// Adds a thing that isn't refused. When memory runs out, nothing changes.
     pub(crate) fn push(&mut self, alloc: Global, thing: T) -> Result<(), AllocError>
         requires room { nat_le roster_limit (length self.old) ≡ false }

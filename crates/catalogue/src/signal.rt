@@ -3,8 +3,8 @@ ghost use Rattle.std.specs.Prelude.{◌≡◌};
 ghost use Rattle.catalogue.specs.Signal.{place_of};
 
 use crate::copying::Copying;
-use crate::items::Items;
 use crate::name::Name;
+use crate::receivers::Receivers;
 use crate::roster::Named;
 use crate::spn::Spn;
 use crate::text::Text;
@@ -41,7 +41,7 @@ pub struct Signal {
     /// The unit of the physical value, empty where there is none.
     pub unit: Text,
     /// The nodes that receive the signal. They need not be nodes of the sheet, and one may occur twice.
-    pub receivers: Items<Name>,
+    pub receivers: Receivers,
     /// The signal's comment, empty where there is none.
     pub comment: Text,
     /// Texts for values.

@@ -1,9 +1,9 @@
 //! The signals of one message.
-ghost use Rattle.std.specs.Prelude.{◌≡◌, ◌++◌, ◌∷◌, [], None, IfErr, IfOk, OnOk, OnErr};
+ghost use Rattle.std.specs.Prelude.{◌≡◌, ◌++◌, ◌∷◌, [], None, IfErr, IfOk, OnOk, OnErr, SomeIff};
 ghost use Rattle.catalogue.specs.Fault.{IsRefusal};
 ghost use Rattle.catalogue.specs.Refusing.{first_refusal};
 ghost use Rattle.catalogue.specs.Named.{has_name};
-ghost use Rattle.catalogue.specs.Signals.{AreSignals, at_signal, has_multiplexor, places_of, signal_name, signal_named, signal_tests, without_signal};
+ghost use Rattle.catalogue.specs.Signals.{AreSignals, HaveOneMultiplexor, at_signal, has_multiplexor, places_of, signal_name, signal_named, signal_tests, without_signal};
 
 use crate::copying::Copying;
 use crate::fault::SheetCode;
@@ -35,6 +35,22 @@ impl Model for Signals {
     ghost invariant = { λ signals. IsMultiplexorKnown signals.roster signals.multiplexed };
 }
 
+/// Whether one of the signals is the multiplexor, or `None` where two are.
+fn multiplexed(signals: &[Signal]) -> Option<bool>
+    ensures { SomeIff result (HaveOneMultiplexor signals.now) (has_multiplexor signals.now) }
+{
+    let mut multiplexed = false;
+    for signal in signals {
+        if signal.mux.is_multiplexor() {
+            if multiplexed {
+                return None;
+            }
+            multiplexed = true;
+        }
+    }
+    Some(multiplexed)
+}
+
 impl Signals {
     /// No signals. Takes no memory.
     pub fn new(alloc: Global) -> Signals
@@ -43,6 +59,25 @@ impl Signals {
         Signals {
             roster: Roster::new(alloc),
             multiplexed: false,
+        }
+    }
+
+    /// The signals of a vector, in its order, or `None` where they can't be in one message: more than
+    /// [`ROSTER_LIMIT`](crate::ROSTER_LIMIT), two of one name, or two multiplexors. No signal is copied or moved one by
+    /// one. The error is out of memory.
+    pub fn of(alloc: Global, signals: Vec<Signal>) -> Result<Option<Signals>, AllocError>
+        ensures { IfOk result (λ found. SomeIff found (AreSignals signals.items) signals.items) }
+    {
+        let multiplexed = match multiplexed(&signals) {
+            Some(multiplexed) => multiplexed,
+            None => return Ok(None),
+        };
+        match Roster::of(alloc, signals)? {
+            Some(roster) => Ok(Some(Signals {
+                roster,
+                multiplexed,
+            })),
+            None => Ok(None),
         }
     }
 

@@ -1,5 +1,5 @@
 //! Lists of nodes.
-ghost use Rattle.std.specs.Prelude.{◌≡◌, ℕ, List, [], ◌∷◌, ◌++◌, map, option_map, Some, false, IfErr, IfOk, None, OnOk};
+ghost use Rattle.std.specs.Prelude.{◌≡◌, ℕ, List, [], ◌∷◌, ◌++◌, option_map, Some, false, IfErr, IfOk, None, OnOk};
 ghost use Rattle.catalogue.specs.Fields as fields;
 ghost use Rattle.catalogue.specs.Parsing.{token_at, many_at, further_at, some_names_at, nodes_at};
 ghost use Rattle.catalogue.specs.Rules.{begins};
@@ -12,7 +12,7 @@ use crate::fields::optional_mark;
 use crate::statement::NodeName;
 use crate::tokens::Tokens;
 use crate::words::{is_made_name, is_mark, is_no_node, is_node, is_word};
-use catalogue::{Items, Name};
+use catalogue::{Name, Receivers};
 use dbc_lex::{ReadCode, ReadFault};
 use std::alloc::{AllocError, Global};
 
@@ -27,31 +27,63 @@ pub(crate) enum Ended {
     Other,
 }
 
-/// What a list keeps of a node: its name, and in some lists also where that is.
-pub(crate) trait Listed {
-    /// The name.
-    ghost name_of: { Self → List ℕ };
+/// A node's name, and the offset at which it is.
+type Placed = (usize, Name);
 
-    /// The node of this name, which is at the offset.
-    fn at(offset: usize, name: Name) -> Self
-        ensures { name_of result ≡ name };
+/// A list of nodes that is read.
+pub(crate) trait NodeList {
+    /// The names of the nodes.
+    ghost names: { Self → List (List ℕ) };
+
+    /// No nodes. Takes no memory.
+    fn empty(alloc: Global) -> Self
+        ensures { names result ≡ [] };
+
+    /// Adds the node of this name, which is at the offset. The error is out of memory.
+    fn add(&mut self, alloc: Global, offset: usize, name: Name) -> Result<(), AllocError>
+        ensures { OnOk result (names self.new ≡ names self.old ++ name ∷ []) };
+
+    /// Gives back the memory that the list doesn't need.
+    fn finish(&mut self)
+        ensures { names self.new ≡ names self.old };
 }
 
-impl Listed for Name {
-    ghost name_of = { λ name. name };
+/// The names alone.
+impl NodeList for Receivers {
+    ghost names = { λ receivers. receivers };
 
     #[inline(always)]
-    fn at(_offset: usize, name: Name) -> Name {
-        name
+    fn empty(_alloc: Global) -> Receivers {
+        Receivers::new()
     }
-}
-
-impl Listed for NodeName {
-    ghost name_of = { λ node. node.name };
 
     #[inline(always)]
-    fn at(offset: usize, name: Name) -> NodeName {
-        NodeName { at: offset, name }
+    fn add(&mut self, alloc: Global, _offset: usize, name: Name) -> Result<(), AllocError> {
+        self.push(alloc, name)
+    }
+
+    #[inline(always)]
+    fn finish(&mut self) {}
+}
+
+/// The names with their offsets.
+impl NodeList for Vec<NodeName> {
+    ghost use Rattle.dbc_statements.specs.Statement.{names_of};
+
+    ghost names = { λ nodes. names_of nodes.items };
+
+    fn empty(alloc: Global) -> Vec<NodeName> {
+        Vec::new(alloc)
+    }
+
+    fn add(&mut self, _alloc: Global, offset: usize, name: Name) -> Result<(), AllocError> {
+        self.reserve(1)?;
+        self.push_reserved(NodeName { at: offset, name });
+        Ok(())
+    }
+
+    fn finish(&mut self) {
+        self.shrink_to_fit();
     }
 }
 
@@ -83,8 +115,8 @@ fn goes_on(tokens: &Tokens) -> bool
 
 /// A node; `None` for the name that means no node.
 #[inline(always)]
-fn node<T: Listed>(alloc: Global, tokens: &mut Tokens) -> Result<Option<T>, ReadFault>
-    ensures { Reads (option_map T.name_of) result (token_at fields.node_of tokens.old) tokens.new }
+fn node(alloc: Global, tokens: &mut Tokens) -> Result<Option<Placed>, ReadFault>
+    ensures { Reads (option_map (λ node. node.1)) result (token_at fields.node_of tokens.old) tokens.new }
 {
     let at = tokens.offset();
     match tokens.first() {
@@ -95,7 +127,7 @@ fn node<T: Listed>(alloc: Global, tokens: &mut Tokens) -> Result<Option<T>, Read
         Some(token) if is_made_name(&token) => {
             let name = Name::of_kept(alloc, token.text)?;
             tokens.skip();
-            Ok(Some(T::at(at, name)))
+            Ok(Some((at, name)))
         }
         Some(token) if is_word(&token) => Err(ReadFault {
             code: ReadCode::Name,
@@ -108,8 +140,8 @@ fn node<T: Listed>(alloc: Global, tokens: &mut Tokens) -> Result<Option<T>, Read
 /// A further name of a list, with the comma before it if there is one.
 #[inline(always)]
 #[tactic(auto, unfolding(catalogue::specs::Parsing::further_at))]
-fn further<T: Listed>(alloc: Global, tokens: &mut Tokens) -> Result<Option<T>, ReadFault>
-    ensures { Reads (option_map T.name_of) result (further_at tokens.old) tokens.new }
+fn further(alloc: Global, tokens: &mut Tokens) -> Result<Option<Placed>, ReadFault>
+    ensures { Reads (option_map (λ node. node.1)) result (further_at tokens.old) tokens.new }
 {
     optional_mark(tokens, b',');
     node(alloc, tokens)
@@ -117,72 +149,64 @@ fn further<T: Listed>(alloc: Global, tokens: &mut Tokens) -> Result<Option<T>, R
 
 /// Adds the node to the list, if there is one.
 #[inline(always)]
-fn add<T: Listed + Drop>(nodes: &mut Vec<T>, node: Option<T>) -> Result<(), AllocError>
-    ensures { OnOk result (map T.name_of nodes.new.items ≡ map T.name_of nodes.old.items ++ names_in (option_map T.name_of node ∷ [])) }
+fn add<L: NodeList>(alloc: Global, nodes: &mut L, node: Option<Placed>) -> Result<(), AllocError>
+    ensures { OnOk result (L.names nodes.new ≡ L.names nodes.old ++ names_in (option_map (λ node. node.1) node ∷ [])) }
 {
     match node {
-        Some(node) => {
-            nodes.reserve(1)?;
-            nodes.push_reserved(node);
-            Ok(())
-        }
+        Some((at, name)) => nodes.add(alloc, at, name),
         None => Ok(()),
     }
 }
 
 /// Adds all further nodes of a list.
-fn add_further<T: Listed + Drop>(
+fn add_further<L: NodeList>(
     alloc: Global,
     tokens: &mut Tokens,
-    nodes: &mut Vec<T>,
+    nodes: &mut L,
 ) -> Result<(), ReadFault>
-    ensures ok { OnOk result (with_names (map T.name_of nodes.old.items) (many_at fields.goes_on further_at tokens.old) ≡ Some (map T.name_of nodes.new.items, tokens.new)) }
+    ensures ok { OnOk result (with_names (L.names nodes.old) (many_at fields.goes_on further_at tokens.old) ≡ Some (L.names nodes.new, tokens.new)) }
     ensures end { OnOk result (fields.goes_on tokens.new ≡ false) }
     ensures err { IfErr result (λ fault. UnlessMemory fault.code (many_at fields.goes_on further_at tokens.old ≡ None)) }
 {
     'nodes: while goes_on(tokens) {
         let next = further(alloc, tokens)?;
-        add(nodes, next)?;
+        add(alloc, nodes, next)?;
     }
     Ok(())
 }
 
-/// The list of this node alone, if there is one, with no room for more: most lists have one name.
-fn list_of<T: Listed + Drop>(alloc: Global, first: Option<T>) -> Result<Vec<T>, AllocError>
-    ensures { IfOk result (λ nodes. map T.name_of nodes.items ≡ names_in (option_map T.name_of first ∷ [])) }
+/// The list of this node alone, if there is one.
+#[inline(always)]
+fn list_of<L: NodeList + Drop>(alloc: Global, first: Option<Placed>) -> Result<L, AllocError>
+    ensures { IfOk result (λ nodes. L.names nodes ≡ names_in (option_map (λ node. node.1) first ∷ [])) }
 {
-    match first {
-        Some(node) => {
-            let mut nodes = Vec::with_capacity(alloc, 1)?;
-            nodes.push_reserved(node);
-            Ok(nodes)
-        }
-        None => Ok(Vec::new(alloc)),
-    }
+    let mut nodes = L::empty(alloc);
+    add(alloc, &mut nodes, first)?;
+    Ok(nodes)
 }
 
 /// A list of at least one name. It takes no more memory than it needs.
 #[tactic(auto, unfolding(catalogue::specs::Parsing::some_names_at))]
-fn some_nodes<T: Listed + Drop>(alloc: Global, tokens: &mut Tokens) -> Result<Vec<T>, ReadFault>
-    ensures { Reads (λ nodes. map T.name_of nodes.items) result (some_names_at tokens.old) tokens.new }
+fn some_nodes<L: NodeList + Drop>(alloc: Global, tokens: &mut Tokens) -> Result<L, ReadFault>
+    ensures { Reads (λ nodes. L.names nodes) result (some_names_at tokens.old) tokens.new }
 {
     let first = node(alloc, tokens)?;
     let mut nodes = list_of(alloc, first)?;
     add_further(alloc, tokens, &mut nodes)?;
-    nodes.shrink_to_fit();
+    nodes.finish();
     Ok(nodes)
 }
 
 /// A list of nodes, without the names that mean no node, and how it ends.
 #[tactic(auto, unfolding(catalogue::specs::Parsing::nodes_at, catalogue::specs::Parsing::no_names_at))]
-fn nodes<T: Listed + Drop>(alloc: Global, tokens: &mut Tokens) -> Result<(Vec<T>, Ended), ReadFault>
-    ensures { Reads (λ list. map T.name_of list.0.items) result (nodes_at tokens.old) tokens.new }
+fn nodes<L: NodeList + Drop>(alloc: Global, tokens: &mut Tokens) -> Result<(L, Ended), ReadFault>
+    ensures { Reads (λ list. L.names list.0) result (nodes_at tokens.old) tokens.new }
 {
     if begins_node(tokens) {
         let names = some_nodes(alloc, tokens)?;
         return Ok((names, Ended::Names));
     }
-    Ok((Vec::new(alloc), Ended::NoNames))
+    Ok((L::empty(alloc), Ended::NoNames))
 }
 
 /// The nodes of a list with the places of their names, and how it ends.
@@ -192,26 +216,22 @@ pub(crate) fn placed_nodes(
 ) -> Result<(Vec<NodeName>, Ended), ReadFault>
     ensures { Reads (λ list. names_of list.0.items) result (nodes_at tokens.old) tokens.new }
 {
-    nodes::<NodeName>(alloc, tokens)
+    nodes::<Vec<NodeName>>(alloc, tokens)
 }
 
 /// The names of a list of nodes, and how it ends.
-pub(crate) fn receivers(
-    alloc: Global,
-    tokens: &mut Tokens,
-) -> Result<(Items<Name>, Ended), ReadFault>
+pub(crate) fn receivers(alloc: Global, tokens: &mut Tokens) -> Result<(Receivers, Ended), ReadFault>
     ensures { Reads (λ list. list.0) result (nodes_at tokens.old) tokens.new }
 {
-    let (names, ended) = nodes::<Name>(alloc, tokens)?;
-    Ok((Items::from_vec(names), ended))
+    nodes::<Receivers>(alloc, tokens)
 }
 
 /// The node that sends a message; `None` for the name that means no node.
 pub(crate) fn transmitter(alloc: Global, tokens: &mut Tokens) -> Result<Option<Name>, ReadFault>
     ensures { Reads itself result (token_at fields.node_of tokens.old) tokens.new }
 {
-    match node::<Name>(alloc, tokens)? {
-        Some(name) => Ok(Some(name)),
+    match node(alloc, tokens)? {
+        Some((_at, name)) => Ok(Some(name)),
         None => Ok(None),
     }
 }

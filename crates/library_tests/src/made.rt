@@ -2,7 +2,7 @@
 use bitlayout::{Layout, Mux, Order, Size};
 use can_id::Ident;
 use catalogue::{
-    Items, Message, Name, PayloadLength, Signal, Signals, Spn, Text, ValueText, ValueTexts,
+    Message, Name, PayloadLength, Receivers, Signal, Signals, Spn, Text, ValueText, ValueTexts,
     ValueType,
 };
 use decimal::Decimal;
@@ -54,7 +54,7 @@ pub(crate) fn signal(alloc: Global, bytes: &[u8], start: u16, mux: Mux) -> Optio
         minimum: Decimal::ZERO,
         maximum: Decimal::ZERO,
         unit: Text::empty(alloc),
-        receivers: Items::new(alloc),
+        receivers: Receivers::new(),
         comment: Text::empty(alloc),
         spn: Spn::NONE,
         values: ValueTexts::empty(alloc),

@@ -18,7 +18,8 @@ use crate::own::own_message;
 use crate::start::{place_at, start_for};
 use bitlayout::Mux;
 use catalogue::{
-    Copying, Name, Node, ROSTER_LIMIT, SheetCode, Signal, Signals, Spn, Text, ValueTexts, ValueType,
+    Copying, Name, Node, ROSTER_LIMIT, Receivers, SheetCode, Signal, Signals, Spn, Text, ValueTexts,
+    ValueType,
 };
 use office_net::{MessageFacts, has_node, has_signal, one_change, refusal_decision};
 use office_types::{Change, Decision, LiveMessage, Refusal, Reply, TakeBits, Team};
@@ -93,7 +94,7 @@ fn new_signal(alloc: Global, command: &TakeBits, start: u16) -> Result<Signal, A
         minimum: command.minimum,
         maximum: command.maximum,
         unit: command.unit.duplicate(alloc)?,
-        receivers: command.receivers.duplicate(alloc)?,
+        receivers: Receivers::from_vec(command.receivers.duplicate(alloc)?.into_vec()),
         comment: Text::empty(alloc),
         spn: Spn::NONE,
         values: ValueTexts::empty(alloc),

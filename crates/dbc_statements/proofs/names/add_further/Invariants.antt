@@ -1,4 +1,4 @@
-use Rattle.std.proofs.Common.{◌≡◌, length, map}
+use Rattle.std.proofs.Common.{◌≡◌, length}
 use Rattle.catalogue.specs.Fields.{goes_on}
 use Rattle.catalogue.specs.Parsing.{many_at, further_at}
 use Rattle.dbc_statements.specs.Names.{with_names}
@@ -6,8 +6,8 @@ use Rattle.dbc_statements.proofs.names.add_further.Given as goal
 
 abbrev pub invariant-nodes : goal.invariant-nodes
 invariant-nodes g l =
-    with_names (map g.T.Listed.name_of l.nodes.items) (many_at goes_on further_at l.tokens)
-    ≡ with_names (map g.T.Listed.name_of l.initial.nodes.items) (many_at goes_on further_at l.initial.tokens)
+    with_names (g.L.NodeList.names l.nodes) (many_at goes_on further_at l.tokens)
+    ≡ with_names (g.L.NodeList.names l.initial.nodes) (many_at goes_on further_at l.initial.tokens)
 
 abbrev pub decreases-nodes : goal.decreases-nodes
 decreases-nodes g l = length l.tokens

@@ -1,8 +1,7 @@
 -- Messages built of lines: the signals of these have what is attached to them.
-use Rattle.std.proofs.Common.{◌≡◌, ◌∙◌, ◌++◌, ℕ, List, [], ◌∷◌, length, map, replicate, IsPermutation, refl, sym, ap, subst}
+use Rattle.std.proofs.Common.{◌≡◌, ◌∙◌, ◌++◌, ℕ, List, [], ◌∷◌, Option, length, map, replicate, IsPermutation, refl, sym, ap, subst}
 use Rattle.std.specs.Prelude.{drop}
-use Rattle.std.specs.List.{AllByRecursion, flat_map}
-use Rattle.std.proofs.lemmas.List.{map-append}
+use Rattle.std.specs.List.{AllByRecursion}
 use Rattle.catalogue.specs.Statement as says
 use Rattle.catalogue.specs.declared.message.Message.{Message}
 use Rattle.catalogue.specs.declared.sheet.Sheet.{Sheet}
@@ -11,13 +10,16 @@ use Rattle.catalogue.specs.declared.value_type.ValueType.TheVariants.{Integer}
 use Rattle.dbc_read.specs.Attaching.{all_signals, each_fed, feeds_of, in_signals, line_signals, messages_of_lines, messages_with}
 use Rattle.dbc_read.specs.Built.{CanBeSheet, IsBuilt, feeds_after, feeds_in, first_or, messages_from, messages_in, signals_from}
 use Rattle.dbc_read.specs.Fit.{CanShareSheet, HaveFewTexts, IsFit}
-use Rattle.dbc_read.specs.Gathering.{HaveNothing}
+use Rattle.dbc_read.specs.Gathered.{gathered_after}
+use Rattle.dbc_read.specs.Gathering.{AreBare, HaveNothing}
 use Rattle.dbc_read.specs.declared.feed.Feeds.{Feeds}
 use Rattle.dbc_read.specs.declared.gathered.Gathered.{Gathered}
 use Rattle.dbc_statements.specs.Parts.{message_with}
-use Rattle.dbc_statements.specs.Statement.{message_of, signals_of}
+use Rattle.dbc_read.specs.declared.passed.Passed.{Passed}
+use Rattle.dbc_statements.specs.Statement.{HasNothingAttached, HaveNothingAttached, NothingIsAttached, message_of, signals_of}
+use Rattle.dbc_statements.specs.declared.statement.Content.{Content}
+use Rattle.dbc_statements.specs.declared.statement.Content.TheVariants as content
 use Rattle.dbc_statements.specs.declared.statement.MessageLine.{MessageLine}
-use Rattle.dbc_statements.specs.declared.statement.SignalLine.{SignalLine}
 
 -- the messages take what is attached, message by message
 pub each_takes : (ms : List says.MessageLine) (comments : List (List ℕ)) (f : Feeds) → messages_with ms comments (each_fed ms f) ≡ messages_from ms comments f
@@ -26,11 +28,11 @@ each_takes (m ∷ ms) comments f = ap (λ l. message_with m (first_or [] comment
 
 -- What is attached in the lines, taken by these.
 
-takes_own : (items rest : List SignalLine) → signals_from (signals_of items) (feeds_of (items ++ rest)) ≡ map (λ (s : SignalLine). s.signal) items
+takes_own : (items rest : List Signal) → signals_from (signals_of items) (feeds_of (items ++ rest)) ≡ items
 takes_own [] rest = refl
-takes_own (s ∷ items) rest = ap (λ l. s.signal ∷ l) (takes_own items rest)
+takes_own (s ∷ items) rest = ap (λ l. s ∷ l) (takes_own items rest)
 
-leaves_others : (items rest : List SignalLine) → feeds_after (signals_of items) (feeds_of (items ++ rest)) ≡ feeds_of rest
+leaves_others : (items rest : List Signal) → feeds_after (signals_of items) (feeds_of (items ++ rest)) ≡ feeds_of rest
 leaves_others [] rest = refl
 leaves_others (s ∷ items) rest = leaves_others items rest
 
@@ -79,54 +81,35 @@ module _ (g : Gathered) (lines : List MessageLine) (same : map message_of lines 
     together = subst CanShareSheet (sym same_messages) h.together;
   }
 
--- Lines that took nothing.
+-- Lines whose signals have nothing attached.
 
-abbrev nothing : Feeds
-nothing = record { comments = []; values = []; types = []; spns = [] }
+bare_together : (xs ys : List Signal) → HaveNothingAttached xs → HaveNothingAttached ys → HaveNothingAttached (xs ++ ys)
+bare_together [] ys h k = k
+bare_together (x ∷ xs) ys h k = (h.0, bare_together xs ys h.1 k)
 
-nothing_after : (ls : List says.SignalLine) → feeds_after ls nothing ≡ nothing
-nothing_after [] = refl
-nothing_after (l ∷ ls) = nothing_after ls
+all_bare : (lines : List MessageLine) → AreBare lines → HaveNothingAttached (all_signals lines)
+all_bare [] h = tt
+all_bare (line ∷ lines) h = bare_together line.signals.items (all_signals lines) h.0 (all_bare lines h.1)
 
--- the signals of all lines
-signals_together : (lines : List MessageLine) → flat_map (λ (l : List Signal). l) (map line_signals lines) ≡ map (λ (s : SignalLine). s.signal) (all_signals lines)
-signals_together [] = refl
-signals_together (line ∷ lines) = ap (λ l. line_signals line ++ l) (signals_together lines) ∙ sym (map-append (λ (s : SignalLine). s.signal) line.signals.items (all_signals lines))
+each_has : {V : Type 0} (get : Signal → V) (d : V) → ((s : Signal) → HasNothingAttached s → get s ≡ d) → (signals : List Signal) → HaveNothingAttached signals → map get signals ≡ replicate (length signals) d
+each_has get d has [] h = refl
+each_has get d has (s ∷ signals) h = λ i. has s h.0 i ∷ each_has get d has signals h.1 i
 
-none_taken : (ms : List says.MessageLine) → each_fed ms nothing ≡ map (λ (m : says.MessageLine). signals_from m.signals nothing) ms
-none_taken [] = refl
-none_taken (m ∷ ms) = ap (λ l. signals_from m.signals nothing ∷ l) (ap (each_fed ms) (nothing_after m.signals) ∙ none_taken ms)
-
--- each has what a signal has that took nothing
-module _ {V : Type 0} (get : Signal → V) (d : V) (gets : (l : says.SignalLine) (ls : List says.SignalLine) → map get (signals_from (l ∷ ls) nothing) ≡ d ∷ map get (signals_from ls nothing)) where
-  each_has : (ls : List says.SignalLine) → map get (signals_from ls nothing) ≡ replicate (length ls) d
-  each_has [] = refl
-  each_has (l ∷ ls) = gets l ls ∙ ap (λ r. d ∷ r) (each_has ls)
-
-  all_have : (lines : List MessageLine) → map get (flat_map (λ (l : List Signal). l) (map (λ (m : says.MessageLine). signals_from m.signals nothing) (map message_of lines))) ≡ replicate (length (all_signals lines)) d
-  all_have [] = refl
-  all_have (line ∷ lines) =
-      map-append get (signals_from (signals_of line.signals.items) nothing) (flat_map (λ (l : List Signal). l) (map (λ (m : says.MessageLine). signals_from m.signals nothing) (map message_of lines)))
-      ∙ (λ i. each_has (signals_of line.signals.items) i ++ all_have lines i)
-      ∙ together line.signals.items
-    where
-      together : (items : List SignalLine) → replicate (length (signals_of items)) d ++ replicate (length (all_signals lines)) d ≡ replicate (length (items ++ all_signals lines)) d
-      together [] = refl
-      together (s ∷ items) = ap (λ l. d ∷ l) (together items)
-
-  lists : (old new : List MessageLine) → map message_of new ≡ map message_of old → map line_signals new ≡ each_fed (map message_of old) nothing
-      → map get (map (λ (s : SignalLine). s.signal) (all_signals new)) ≡ replicate (length (all_signals new)) d
-  lists old new same fed =
-      ap (map get) (sym (signals_together new) ∙ ap (flat_map (λ (l : List Signal). l)) (fed ∙ ap (λ ms. each_fed ms nothing) (sym same) ∙ none_taken (map message_of new))) ∙ all_have new
-
-map_twice : {V : Type 0} (get : Signal → V) (items : List SignalLine) → map get (map (λ (s : SignalLine). s.signal) items) ≡ map (λ (s : SignalLine). get s.signal) items
-map_twice get [] = refl
-map_twice get (s ∷ items) = ap (λ l. get s.signal ∷ l) (map_twice get items)
-
-pub have_nothing : (old new : List MessageLine) → map message_of new ≡ map message_of old → map line_signals new ≡ each_fed (map message_of old) nothing → HaveNothing new
-have_nothing old new same fed = λ g.
-    let comments = sym (map_twice (λ (s : Signal). s.comment) (all_signals new)) ∙ lists (λ (s : Signal). s.comment) [] (λ l ls. refl) old new same fed in
-    let values = sym (map_twice (λ (s : Signal). s.values) (all_signals new)) ∙ lists (λ (s : Signal). s.values) [] (λ l ls. refl) old new same fed in
-    let types = sym (map_twice (λ (s : Signal). s.value_type) (all_signals new)) ∙ lists (λ (s : Signal). s.value_type) Integer (λ l ls. refl) old new same fed in
-    let spns = sym (map_twice (λ (s : Signal). s.spn) (all_signals new)) ∙ lists (λ (s : Signal). s.spn) 0 (λ l ls. refl) old new same fed in
+pub have_nothing : (lines : List MessageLine) → AreBare lines → HaveNothing lines
+have_nothing lines bare = λ g.
+    let signals = all_signals lines in
+    let nothing = all_bare lines bare in
+    let comments = each_has (λ (s : Signal). s.comment) [] (λ s h. h.comment) signals nothing in
+    let values = each_has (λ (s : Signal). s.values) [] (λ s h. h.values) signals nothing in
+    let types = each_has (λ (s : Signal). s.value_type) Integer (λ s h. h.value_type) signals nothing in
+    let spns = each_has (λ (s : Signal). s.spn) 0 (λ s h. h.spn) signals nothing in
     λ i. record g { signal_comments = comments i; signal_values = values i; signal_types = types i; signal_spns = spns i }
+
+-- one statement more
+bare_with_one : (lines : List MessageLine) (line : MessageLine) → AreBare lines → HaveNothingAttached line.signals.items → AreBare (lines ++ line ∷ [])
+bare_with_one [] line h k = (k, tt)
+bare_with_one (l ∷ lines) line h k = (h.0, bare_with_one lines line h.1 k)
+
+pub bare_after : (index : Option ℕ) (p : Passed) (c : Content) (g : Gathered) → NothingIsAttached c → AreBare g.messages → AreBare (gathered_after index p c g).messages
+bare_after index p (content.Message line) g k h = bare_with_one g.messages line.value h k
+bare_after index p c g k h = h

@@ -16,6 +16,7 @@ use Rattle.catalogue.specs.declared.value_texts.ValueText.{ValueText}
 use Rattle.dbc_read.specs.Built.{CanBeSheet, feeds_after, feeds_in, first_or, messages_from, nodes_from, rest_of, signals_from}
 use Rattle.dbc_read.specs.Faults.{AreMessageLines, AreNamedWithin, HaveSignalLines, entries_of, line_number}
 use Rattle.dbc_read.specs.Fit.{IsFit}
+use Rattle.dbc_read.specs.Placed.{Placed, own_place, placed, placed_at}
 use Rattle.dbc_read.specs.declared.feed.Feeds.{Feeds}
 use Rattle.dbc_read.specs.declared.gathered.Gathered.{Gathered}
 use Rattle.dbc_read.proofs.DistinctNames.{apart_mapped}
@@ -23,7 +24,7 @@ use Rattle.dbc_statements.specs.Parts.{table_of}
 use Rattle.dbc_statements.specs.Statement.{message_of, names_of, signals_of}
 use Rattle.dbc_statements.specs.declared.statement.MessageLine.{MessageLine}
 use Rattle.dbc_statements.specs.declared.statement.NodeName.{NodeName}
-use Rattle.dbc_statements.specs.declared.statement.SignalLine.{SignalLine}
+use Rattle.dbc_statements.specs.declared.statement.SignalPlace.{SignalPlace}
 use Rattle.dbc_statements.specs.declared.statement.TableLine.{TableLine}
 
 -- Things that have the keys of others are as distinct as those, and as many.
@@ -53,13 +54,13 @@ table_keys : (tables : List TableLine) → map table_name (map table_of tables) 
 table_keys [] = refl
 table_keys (t ∷ tables) = ap (λ l. t.name ∷ l) (table_keys tables)
 
-signal_keys : (lines : List SignalLine) (f : Feeds) → map signal_name (signals_from (signals_of lines) f) ≡ map (λ (s : SignalLine). s.signal.name) lines
-signal_keys [] f = refl
-signal_keys (s ∷ lines) f = ap (λ l. s.signal.name ∷ l) (signal_keys lines (rest_of f))
+signal_keys : (other : SignalPlace) (items : List Signal) (places : List SignalPlace) (f : Feeds) → map signal_name (signals_from (signals_of items) f) ≡ map (λ (s : Placed). s.signal.name) (placed_at other items places)
+signal_keys other [] places f = refl
+signal_keys other (s ∷ items) places f = ap (λ l. s.name ∷ l) (signal_keys other items (drop 1 places) (rest_of f))
 
-signal_marks : (lines : List SignalLine) (f : Feeds) → map (λ (s : Signal). s.mux) (signals_from (signals_of lines) f) ≡ map (λ (s : SignalLine). s.signal.mux) lines
-signal_marks [] f = refl
-signal_marks (s ∷ lines) f = ap (λ l. s.signal.mux ∷ l) (signal_marks lines (rest_of f))
+signal_marks : (other : SignalPlace) (items : List Signal) (places : List SignalPlace) (f : Feeds) → map (λ (s : Signal). s.mux) (signals_from (signals_of items) f) ≡ map (λ (s : Placed). s.signal.mux) (placed_at other items places)
+signal_marks other [] places f = refl
+signal_marks other (s ∷ items) places f = ap (λ l. s.mux ∷ l) (signal_marks other items (drop 1 places) (rest_of f))
 
 message_keys : (lines : List MessageLine) (comments : List (List ℕ)) (f : Feeds) → map message_name (messages_from (map message_of lines) comments f) ≡ map (λ (m : MessageLine). m.name) lines
 message_keys [] comments f = refl
@@ -82,11 +83,11 @@ few_rest : (lists : List (List ValueText)) → AreFew lists → AreFew (drop 1 l
 few_rest [] h = tt
 few_rest (l ∷ lists) h = h.1
 
-few_after : (lines : List SignalLine) (f : Feeds) → AreFew f.values → AreFew (feeds_after (signals_of lines) f).values
+few_after : (lines : List Signal) (f : Feeds) → AreFew f.values → AreFew (feeds_after (signals_of lines) f).values
 few_after [] f h = h
 few_after (s ∷ lines) f h = few_after lines (rest_of f) (few_rest f.values h)
 
-signals_few : (lines : List SignalLine) (f : Feeds) → AreFew f.values → AllByRecursion (λ (s : Signal). AreFewTexts s.values) (signals_from (signals_of lines) f)
+signals_few : (lines : List Signal) (f : Feeds) → AreFew f.values → AllByRecursion (λ (s : Signal). AreFewTexts s.values) (signals_from (signals_of lines) f)
 signals_few [] f h = tt
 signals_few (s ∷ lines) f h = (few_first f.values h, signals_few lines (rest_of f) (few_rest f.values h))
 
@@ -98,12 +99,14 @@ messages_fit : (lines : List MessageLine) (comments : List (List ℕ)) (f : Feed
 messages_fit [] comments f h few = tt
 messages_fit (m ∷ lines) comments f h few =
     let signals = m.signals.items in
-    let made = signals_from (signals_of signals) f in (
+    let made = signals_from (signals_of signals) f in
+    let keys = signal_keys (own_place m) signals m.places.items f in
+    let marks = signal_marks (own_place m) signals m.places.items f in (
       record {
         together = record {
-          apart = distinct_too bytes_eq (λ (s : SignalLine). s.signal.name) signal_name signals made (signal_keys signals f) h.0.names.apart;
-          one_multiplexor = distinct_too (λ (a b : Mux). is_multiplexor a && is_multiplexor b) (λ (s : SignalLine). s.signal.mux) (λ (s : Signal). s.mux) signals made (signal_marks signals f) h.0.one_multiplexor;
-          few = subst (λ n. n ≤ roster_limit) (sym (as_many bytes_eq (λ (s : SignalLine). s.signal.name) signal_name signals made (signal_keys signals f))) h.0.names.few;
+          apart = distinct_too bytes_eq (λ (s : Placed). s.signal.name) signal_name (placed m) made keys h.0.names.apart;
+          one_multiplexor = distinct_too (λ (a b : Mux). is_multiplexor a && is_multiplexor b) (λ (s : Placed). s.signal.mux) (λ (s : Signal). s.mux) (placed m) made marks h.0.one_multiplexor;
+          few = subst (λ n. n ≤ roster_limit) (sym (as_many bytes_eq (λ (s : Placed). s.signal.name) signal_name (placed m) made keys)) h.0.names.few;
         };
         values = signals_few signals f few;
       },

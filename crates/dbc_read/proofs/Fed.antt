@@ -1,5 +1,5 @@
 -- Items of a list that are changed in place, one after the other, by what is left of something.
-use Rattle.std.proofs.Common.{◌≡◌, ◌<◌, ◌+◌, ◌∙◌, ◌++◌, ℕ, zero, suc, List, [], ◌∷◌, length, map, slice_index_or, slice_set, refl, sym, ap, subst, append_assoc, arith}
+use Rattle.std.proofs.Common.{◌≡◌, ◌<◌, ◌+◌, ◌∙◌, ◌++◌, ℕ, zero, suc, List, [], ◌∷◌, length, map, map-id, slice_index_or, slice_set, refl, sym, ap, subst, append_assoc, arith}
 use Rattle.std.specs.Prelude.{drop, take}
 use Rattle.std.specs.List.{AllByRecursion}
 use Rattle.std.proofs.lemmas.List.{drop-set-lt, drop_more, map-append, take_more_set}
@@ -26,6 +26,11 @@ module _ {A F : Type 0} (rest : A → F → F) (xs : List A) (i : ℕ) (d y : A)
       ∙ append_assoc front (out y ∷ []) (from left (rest x f))
       ∙ ap (λ o. front ++ o ∷ from left (rest x f)) is_out
       ∙ ap (λ l. front ++ l) (sym (steps x left f) ∙ ap (λ l. from l f) (sym (drop_more xs i d lt)))
+
+  pub one_fed_itself : (one : A → F → A) (from : List A → F → List A) → ((z : A) (zs : List A) (h : F) → from (z ∷ zs) h ≡ one z h ∷ from zs (rest z h)) → y ≡ one (slice_index_or xs i d) f
+      → take (i + 1) (slice_set xs i y) ++ from (drop (i + 1) (slice_set xs i y)) g ≡ take i xs ++ from (drop i xs) f
+  one_fed_itself one from steps is =
+      ap (λ l. l ++ from (drop (i + 1) (slice_set xs i y)) g) (sym (map-id (take (i + 1) (slice_set xs i y)))) ∙ one_fed (λ x. x) one from steps is ∙ ap (λ l. l ++ from (drop i xs) f) (map-id (take i xs))
 
   pub one_left : (after : List A → F → F) → ((z : A) (zs : List A) (h : F) → after (z ∷ zs) h ≡ after zs (rest z h)) → after (drop (i + 1) (slice_set xs i y)) g ≡ after (drop i xs) f
   one_left after steps =

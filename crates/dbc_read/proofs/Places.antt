@@ -10,7 +10,8 @@ use Rattle.std.proofs.lemmas.Option.{slice_get_within}
 use Rattle.can_id.specs.Ident.{dbc_number}
 use Rattle.catalogue.specs.Saying.{SignalKey, keys_of, same_signal}
 use Rattle.catalogue.specs.Statement as says
-use Rattle.dbc_read.specs.Attaching.{HasPlace, IsPlaceOf, all_signals, at_index, attached_to, flat_index, index_after}
+use Rattle.catalogue.specs.declared.signal.Signal.{Signal}
+use Rattle.dbc_read.specs.Attaching.{HasPlace, IsPlaceOf, all_signals, at_index, with_attachment, flat_index, index_after}
 use Rattle.dbc_read.specs.Faults.{line_number}
 use Rattle.dbc_read.specs.Numbers.{line_numbers}
 use Rattle.dbc_read.specs.declared.attaching.Attachment.{Attachment}
@@ -19,7 +20,6 @@ use Rattle.dbc_read.proofs.Gathering.{none_true, or_parts, some_true}
 use Rattle.dbc_read.proofs.Positions.{front_stays}
 use Rattle.dbc_statements.specs.Statement.{message_of, signal_of, signals_of}
 use Rattle.dbc_statements.specs.declared.statement.MessageLine.{MessageLine}
-use Rattle.dbc_statements.specs.declared.statement.SignalLine.{SignalLine}
 
 -- One item of a list changed.
 module _ {A : Type 0} (f : A → A) where
@@ -49,7 +49,7 @@ module _ {A : Type 0} (f : A → A) where
     change_leaves same (x ∷ xs) (suc i) = ap (λ l. get x ∷ l) (change_leaves same xs i)
 
 -- A line at a place of the lines.
-module _ (f : SignalLine → SignalLine) (now : MessageLine) (d : MessageLine) where
+module _ (f : Signal → Signal) (now : MessageLine) (d : MessageLine) where
   pub lines_stay : (lines : List MessageLine) (i j : ℕ) → HasPlace lines i j → message_of now ≡ message_of (slice_index_or lines i d) → map message_of (slice_set lines i now) ≡ map message_of lines
   lines_stay [] i j h e = absurd h
   lines_stay (line ∷ lines) zero j h e = ap (λ m. m ∷ map message_of lines) e
@@ -63,7 +63,7 @@ module _ (f : SignalLine → SignalLine) (now : MessageLine) (d : MessageLine) w
       ap (λ l. line.signals.items ++ l) (signal_changed lines i j h e) ∙ sym (changed_after f line.signals.items (all_signals lines) (flat_index lines i j))
 
 -- what is attached is no part of what the message's own statement says of the signal
-pub attached_leaves : (a : Attachment) (s : SignalLine) → signal_of (attached_to a s) ≡ signal_of s
+pub attached_leaves : (a : Attachment) (s : Signal) → signal_of (with_attachment a s) ≡ signal_of s
 attached_leaves (what.Comment text) s = refl
 attached_leaves (what.Values texts) s = refl
 attached_leaves (what.Type value_type) s = refl
@@ -94,25 +94,25 @@ module _ (number : ℕ) (name : List ℕ) where
   abbrev test : SignalKey → Bool
   test key = same_signal key (number, name)
 
-  abbrev is_named : SignalLine → Bool
-  is_named s = bytes_eq s.signal.name name
+  abbrev is_named : Signal → Bool
+  is_named s = bytes_eq s.name name
 
-  abbrev keyed : ℕ → List SignalLine → List SignalKey
+  abbrev keyed : ℕ → List Signal → List SignalKey
   keyed n items = map (λ (s : says.SignalLine). (n, s.name)) (signals_of items)
 
   abbrev keys : List MessageLine → List SignalKey
   keys lines = flat_map keys_of (map message_of lines)
 
-  after_these : (n : ℕ) (items : List SignalLine) (ys : List SignalKey) (k : ℕ) → slice_get (map test ys) k ≡ Some true → slice_get (map test (keyed n items ++ ys)) (index_after items k) ≡ Some true
+  after_these : (n : ℕ) (items : List Signal) (ys : List SignalKey) (k : ℕ) → slice_get (map test ys) k ≡ Some true → slice_get (map test (keyed n items ++ ys)) (index_after items k) ≡ Some true
   after_these n [] ys k h = h
   after_these n (s ∷ items) ys k h = after_these n items ys k h
 
-  named_there : (n : ℕ) (items : List SignalLine) (j : ℕ) → n == number ≡ true → slice_get (map is_named items) j ≡ Some true → slice_get (map test (keyed n items)) j ≡ Some true
+  named_there : (n : ℕ) (items : List Signal) (j : ℕ) → n == number ≡ true → slice_get (map is_named items) j ≡ Some true → slice_get (map test (keyed n items)) j ≡ Some true
   named_there n [] j e h = none_true h
   named_there n (s ∷ items) zero e h = ap (λ b. Some (b && is_named s)) e ∙ h
   named_there n (s ∷ items) (suc j) e h = named_there n items j e h
 
-  none_named : (n : ℕ) (items : List SignalLine) → list_any is_named items ≡ false → list_any test (keyed n items) ≡ false
+  none_named : (n : ℕ) (items : List Signal) → list_any is_named items ≡ false → list_any test (keyed n items) ≡ false
   none_named n [] h = refl
   none_named n (s ∷ items) h =
       let parts = or_parts (is_named s) (list_any is_named items) h in
@@ -122,7 +122,7 @@ module _ (number : ℕ) (name : List ℕ) where
       and_false true = refl
       and_false false = refl
 
-  none_numbered : (n : ℕ) (items : List SignalLine) → n == number ≡ false → list_any test (keyed n items) ≡ false
+  none_numbered : (n : ℕ) (items : List Signal) → n == number ≡ false → list_any test (keyed n items) ≡ false
   none_numbered n [] e = refl
   none_numbered n (s ∷ items) e = ap (λ b. (b && is_named s) || list_any test (keyed n items)) e ∙ none_numbered n items e
 
@@ -190,22 +190,22 @@ module _ (number : ℕ) (name : List ℕ) (numbers : List ℕ) (lines : List Mes
   pub place_nowhere : list_any (λ n. n == number) numbers ≡ false → IsPlaceOf lines (Some number) name None
   place_nowhere h = record { within = tt; index = no_number number name lines (ap (list_any (λ n. n == number)) (sym are) ∙ h) }
 
-  module _ (i : ℕ) (line : MessageLine) (items : List SignalLine) (there : slice_get (map (λ n. n == number) numbers) i ≡ Some true) (same_items : items ≡ (slice_index_or lines i line).signals.items) where
+  module _ (i : ℕ) (line : MessageLine) (items : List Signal) (there : slice_get (map (λ n. n == number) numbers) i ≡ Some true) (same_items : items ≡ (slice_index_or lines i line).signals.items) where
     number_there : slice_get (map (λ n. n == number) (line_numbers lines)) i ≡ Some true
     number_there = ap (λ ns. slice_get (map (λ n. n == number) ns) i) (sym are) ∙ there
 
-    pub place_found : (j : ℕ) → slice_get (map (λ (s : SignalLine). bytes_eq s.signal.name name) items) j ≡ Some true → IsPlaceOf lines (Some number) name (Some (record { message = i; signal = j }))
+    pub place_found : (j : ℕ) → slice_get (map (λ (s : Signal). bytes_eq s.name name) items) j ≡ Some true → IsPlaceOf lines (Some number) name (Some (record { message = i; signal = j }))
     place_found j h =
-        let here = ap (λ l. slice_get (map (λ (s : SignalLine). bytes_eq s.signal.name name) l) j) (sym same_items) ∙ h in
-        let long = slice_get_within (map (λ (s : SignalLine). bytes_eq s.signal.name name) (slice_index_or lines i line).signals.items) j true here in
-        let count = length-map (slice_index_or lines i line).signals.items (λ (s : SignalLine). bytes_eq s.signal.name name) in
+        let here = ap (λ l. slice_get (map (λ (s : Signal). bytes_eq s.name name) l) j) (sym same_items) ∙ h in
+        let long = slice_get_within (map (λ (s : Signal). bytes_eq s.name name) (slice_index_or lines i line).signals.items) j true here in
+        let count = length-map (slice_index_or lines i line).signals.items (λ (s : Signal). bytes_eq s.name name) in
         record {
           within = place_there line lines i j (number_within number numbers lines i are there) (omega arith);
           index = named_at number name line lines i j number_there here;
         }
 
-    pub place_missing : IsDistinct nat_eq numbers → list_any (λ (s : SignalLine). bytes_eq s.signal.name name) items ≡ false → IsPlaceOf lines (Some number) name None
+    pub place_missing : IsDistinct nat_eq numbers → list_any (λ (s : Signal). bytes_eq s.name name) items ≡ false → IsPlaceOf lines (Some number) name None
     place_missing apart h = record {
       within = tt;
-      index = not_named number name line lines i (subst (IsDistinct nat_eq) are apart) number_there (ap (list_any (λ (s : SignalLine). bytes_eq s.signal.name name)) (sym same_items) ∙ h);
+      index = not_named number name line lines i (subst (IsDistinct nat_eq) are apart) number_there (ap (list_any (λ (s : Signal). bytes_eq s.name name)) (sym same_items) ∙ h);
     }

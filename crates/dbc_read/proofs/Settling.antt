@@ -7,8 +7,9 @@ use Rattle.catalogue.specs.Saying.{keys_of, messages_of, node_names_of, numbers_
 use Rattle.catalogue.specs.Statement as says
 use Rattle.catalogue.specs.Token.{Token}
 use Rattle.catalogue.specs.declared.keyword.Keyword.{Keyword}
+use Rattle.catalogue.specs.declared.signal.Signal.{Signal}
 use Rattle.catalogue.specs.declared.value_type.ValueType.TheVariants.{Integer}
-use Rattle.dbc_read.specs.Attaching.{IsAttached, all_signals, attached_to, attaching, changed_at, cites_signal, in_signals, with_attached}
+use Rattle.dbc_read.specs.Attaching.{IsAttached, all_signals, with_attachment, attaching, changed_at, cites_signal, in_signals, with_attached}
 use Rattle.dbc_read.specs.Finding.{Finds, FindsAll}
 use Rattle.dbc_read.specs.Gathered.{AreGathered, gathered_after, passed_of, set_at}
 use Rattle.dbc_read.specs.Gathering.{DefineNothing, Defines, FollowAll, Gathers, HaveNothing, IsDefining, IsEmpty, IsOfTokens, IsSettling, Settles, SettlesAll, defines, one_or_none, with_definitions, with_nothing_attached}
@@ -28,7 +29,6 @@ use Rattle.dbc_statements.specs.declared.statement.Content.{Content}
 use Rattle.dbc_statements.specs.declared.statement.Content.TheVariants as content
 use Rattle.dbc_statements.specs.declared.statement.MessageLine.{MessageLine}
 use Rattle.dbc_statements.specs.declared.statement.NodeName.{NodeName}
-use Rattle.dbc_statements.specs.declared.statement.SignalLine.{SignalLine}
 use Rattle.dbc_statements.specs.declared.statement.Statement.{Statement}
 
 -- What finds definitions finds them after statements that define nothing, and in lines of the same messages.
@@ -108,12 +108,12 @@ other_settled f s index lines old now defines_none cites_none found is =
 
 -- A statement that attaches something to a signal.
 
-module _ (f : SignalLine → SignalLine) {V : Type 0} (get : SignalLine → V) where
-  sets : (v : V) → ((s : SignalLine) → get (f s) ≡ v) → (index : Option ℕ) (xs : List SignalLine) → map get (changed_at f index xs) ≡ set_at index v (map get xs)
+module _ (f : Signal → Signal) {V : Type 0} (get : Signal → V) where
+  sets : (v : V) → ((s : Signal) → get (f s) ≡ v) → (index : Option ℕ) (xs : List Signal) → map get (changed_at f index xs) ≡ set_at index v (map get xs)
   sets v same None xs = refl
   sets v same (Some i) xs = change_sets f get v same xs i
 
-  leaves : ((s : SignalLine) → get (f s) ≡ get s) → (index : Option ℕ) (xs : List SignalLine) → map get (changed_at f index xs) ≡ map get xs
+  leaves : ((s : Signal) → get (f s) ≡ get s) → (index : Option ℕ) (xs : List Signal) → map get (changed_at f index xs) ≡ map get xs
   leaves same None xs = refl
   leaves same (Some i) xs = change_leaves f get same xs i
 
@@ -122,39 +122,39 @@ attached_view : (cited : CitedSignal) (a : Attachment) (p : Passed) (lines new_l
     → with_attached new_lines (record old { passed = passed }) ≡ gathered_after at.index p (attaching cited a) (with_attached lines old)
 attached_view cited (what.Comment text) p lines new_lines old passed at =
     let e = at.signals in
-    let g = attached_to (what.Comment text) in
+    let g = with_attachment (what.Comment text) in
     let xs = all_signals lines in
-    let comments = ap (map (λ (s : SignalLine). s.signal.comment)) e ∙ sets g (λ (s : SignalLine). s.signal.comment) text (λ s. refl) at.index xs in
-    let values = ap (map (λ (s : SignalLine). s.signal.values)) e ∙ leaves g (λ (s : SignalLine). s.signal.values) (λ s. refl) at.index xs in
-    let types = ap (map (λ (s : SignalLine). s.signal.value_type)) e ∙ leaves g (λ (s : SignalLine). s.signal.value_type) (λ s. refl) at.index xs in
-    let spns = ap (map (λ (s : SignalLine). s.signal.spn)) e ∙ leaves g (λ (s : SignalLine). s.signal.spn) (λ s. refl) at.index xs in
+    let comments = ap (map (λ (s : Signal). s.comment)) e ∙ sets g (λ (s : Signal). s.comment) text (λ s. refl) at.index xs in
+    let values = ap (map (λ (s : Signal). s.values)) e ∙ leaves g (λ (s : Signal). s.values) (λ s. refl) at.index xs in
+    let types = ap (map (λ (s : Signal). s.value_type)) e ∙ leaves g (λ (s : Signal). s.value_type) (λ s. refl) at.index xs in
+    let spns = ap (map (λ (s : Signal). s.spn)) e ∙ leaves g (λ (s : Signal). s.spn) (λ s. refl) at.index xs in
     λ i. record old { signal_comments = comments i; signal_values = values i; signal_types = types i; signal_spns = spns i; passed = at.passed i }
 attached_view cited (what.Values texts) p lines new_lines old passed at =
     let e = at.signals in
-    let g = attached_to (what.Values texts) in
+    let g = with_attachment (what.Values texts) in
     let xs = all_signals lines in
-    let comments = ap (map (λ (s : SignalLine). s.signal.comment)) e ∙ leaves g (λ (s : SignalLine). s.signal.comment) (λ s. refl) at.index xs in
-    let values = ap (map (λ (s : SignalLine). s.signal.values)) e ∙ sets g (λ (s : SignalLine). s.signal.values) texts (λ s. refl) at.index xs in
-    let types = ap (map (λ (s : SignalLine). s.signal.value_type)) e ∙ leaves g (λ (s : SignalLine). s.signal.value_type) (λ s. refl) at.index xs in
-    let spns = ap (map (λ (s : SignalLine). s.signal.spn)) e ∙ leaves g (λ (s : SignalLine). s.signal.spn) (λ s. refl) at.index xs in
+    let comments = ap (map (λ (s : Signal). s.comment)) e ∙ leaves g (λ (s : Signal). s.comment) (λ s. refl) at.index xs in
+    let values = ap (map (λ (s : Signal). s.values)) e ∙ sets g (λ (s : Signal). s.values) texts (λ s. refl) at.index xs in
+    let types = ap (map (λ (s : Signal). s.value_type)) e ∙ leaves g (λ (s : Signal). s.value_type) (λ s. refl) at.index xs in
+    let spns = ap (map (λ (s : Signal). s.spn)) e ∙ leaves g (λ (s : Signal). s.spn) (λ s. refl) at.index xs in
     λ i. record old { signal_comments = comments i; signal_values = values i; signal_types = types i; signal_spns = spns i; passed = at.passed i }
 attached_view cited (what.Type value_type) p lines new_lines old passed at =
     let e = at.signals in
-    let g = attached_to (what.Type value_type) in
+    let g = with_attachment (what.Type value_type) in
     let xs = all_signals lines in
-    let comments = ap (map (λ (s : SignalLine). s.signal.comment)) e ∙ leaves g (λ (s : SignalLine). s.signal.comment) (λ s. refl) at.index xs in
-    let values = ap (map (λ (s : SignalLine). s.signal.values)) e ∙ leaves g (λ (s : SignalLine). s.signal.values) (λ s. refl) at.index xs in
-    let types = ap (map (λ (s : SignalLine). s.signal.value_type)) e ∙ sets g (λ (s : SignalLine). s.signal.value_type) value_type (λ s. refl) at.index xs in
-    let spns = ap (map (λ (s : SignalLine). s.signal.spn)) e ∙ leaves g (λ (s : SignalLine). s.signal.spn) (λ s. refl) at.index xs in
+    let comments = ap (map (λ (s : Signal). s.comment)) e ∙ leaves g (λ (s : Signal). s.comment) (λ s. refl) at.index xs in
+    let values = ap (map (λ (s : Signal). s.values)) e ∙ leaves g (λ (s : Signal). s.values) (λ s. refl) at.index xs in
+    let types = ap (map (λ (s : Signal). s.value_type)) e ∙ sets g (λ (s : Signal). s.value_type) value_type (λ s. refl) at.index xs in
+    let spns = ap (map (λ (s : Signal). s.spn)) e ∙ leaves g (λ (s : Signal). s.spn) (λ s. refl) at.index xs in
     λ i. record old { signal_comments = comments i; signal_values = values i; signal_types = types i; signal_spns = spns i; passed = at.passed i }
 attached_view cited (what.Spn spn) p lines new_lines old passed at =
     let e = at.signals in
-    let g = attached_to (what.Spn spn) in
+    let g = with_attachment (what.Spn spn) in
     let xs = all_signals lines in
-    let comments = ap (map (λ (s : SignalLine). s.signal.comment)) e ∙ leaves g (λ (s : SignalLine). s.signal.comment) (λ s. refl) at.index xs in
-    let values = ap (map (λ (s : SignalLine). s.signal.values)) e ∙ leaves g (λ (s : SignalLine). s.signal.values) (λ s. refl) at.index xs in
-    let types = ap (map (λ (s : SignalLine). s.signal.value_type)) e ∙ leaves g (λ (s : SignalLine). s.signal.value_type) (λ s. refl) at.index xs in
-    let spns = ap (map (λ (s : SignalLine). s.signal.spn)) e ∙ sets g (λ (s : SignalLine). s.signal.spn) spn (λ s. refl) at.index xs in
+    let comments = ap (map (λ (s : Signal). s.comment)) e ∙ leaves g (λ (s : Signal). s.comment) (λ s. refl) at.index xs in
+    let values = ap (map (λ (s : Signal). s.values)) e ∙ leaves g (λ (s : Signal). s.values) (λ s. refl) at.index xs in
+    let types = ap (map (λ (s : Signal). s.value_type)) e ∙ leaves g (λ (s : Signal). s.value_type) (λ s. refl) at.index xs in
+    let spns = ap (map (λ (s : Signal). s.spn)) e ∙ sets g (λ (s : Signal). s.spn) spn (λ s. refl) at.index xs in
     λ i. record old { signal_comments = comments i; signal_values = values i; signal_types = types i; signal_spns = spns i; passed = at.passed i }
 
 attached_index : (all : List says.Statement) (cited : CitedSignal) (a : Attachment) (index : Option ℕ) → IsSignalIn (messages_of all) cited.number cited.name.items index → IsCitedIndex all (content_of (attaching cited a)) index
@@ -229,24 +229,24 @@ count_keys : (lines : List MessageLine) → length (flat_map keys_of (map messag
 count_keys [] = refl
 count_keys (line ∷ lines) = by line.signals.items (count_keys lines)
   where
-    by : (items : List SignalLine) → length (flat_map keys_of (map message_of lines)) ≡ length (all_signals lines)
+    by : (items : List Signal) → length (flat_map keys_of (map message_of lines)) ≡ length (all_signals lines)
         → length (map (λ (s : says.SignalLine). (dbc_number line.ident, s.name)) (map signal_of items) ++ flat_map keys_of (map message_of lines)) ≡ length (items ++ all_signals lines)
     by [] e = e
     by (s ∷ items) e = ap suc (by items e)
 
--- Those after the definitions: what is attached to nothing at first, then the first statement, and then the others.
-pub all_follow : (f : Finders) (nodes : List NodeName) (lines bare settled_lines new_lines : List MessageLine) (first : Option Statement) (tokens : List Token) (old attached settled now : Gathered)
-    → FindsAll f nodes lines → map message_of bare ≡ map message_of lines → HaveNothing bare → attached ≡ record old { node_comments = replicate (length nodes) []; message_comments = replicate (length lines) [] }
-    → Settles f (one_or_none first) bare attached settled_lines settled → SettlesAll f tokens settled_lines settled new_lines now → FollowAll nodes lines first tokens old new_lines now
-all_follow f nodes lines bare settled_lines new_lines first tokens old attached settled now found same nothing begins one others = record {
+-- Those after the definitions: nothing is attached at first; then the first statement is gathered, and then the others.
+pub all_follow : (f : Finders) (nodes : List NodeName) (lines settled_lines new_lines : List MessageLine) (first : Option Statement) (tokens : List Token) (old attached settled now : Gathered)
+    → FindsAll f nodes lines → HaveNothing lines → attached ≡ record old { node_comments = replicate (length nodes) []; message_comments = replicate (length lines) [] }
+    → Settles f (one_or_none first) lines attached settled_lines settled → SettlesAll f tokens settled_lines settled new_lines now → FollowAll nodes lines first tokens old new_lines now
+all_follow f nodes lines settled_lines new_lines first tokens old attached settled now found nothing begins one others = record {
   said = others.said;
   read = others.read;
   gathered = λ before names messages h.
       let node_count : length nodes ≡ length (node_names_of before) = sym (length-map nodes (λ (n : NodeName). n.name)) ∙ ap length names in
       let message_count : length lines ≡ length (numbers_of before)
       = sym (length-map lines message_of) ∙ ap length messages ∙ sym (length-map (messages_of before) (λ (m : says.MessageLine). dbc_number m.ident)) in
-      let signal_count : length (all_signals bare) ≡ length (signal_keys_of before) = sym (count_keys bare) ∙ ap (λ ms. length (flat_map keys_of ms)) (same ∙ messages) in
-      let begun : with_attached bare attached ≡ with_nothing_attached before old = ap (with_attached bare) begins ∙ nothing (record old { node_comments = replicate (length nodes) []; message_comments = replicate (length lines) [] })
+      let signal_count : length (all_signals lines) ≡ length (signal_keys_of before) = sym (count_keys lines) ∙ ap (λ ms. length (flat_map keys_of ms)) messages in
+      let begun : with_attached lines attached ≡ with_nothing_attached before old = ap (with_attached lines) begins ∙ nothing (record old { node_comments = replicate (length nodes) []; message_comments = replicate (length lines) [] })
       ∙ (λ i. record old {
         node_comments = replicate (node_count i) [];
         message_comments = replicate (message_count i) [];
@@ -255,8 +255,7 @@ all_follow f nodes lines bare settled_lines new_lines first tokens old attached 
         signal_types = replicate (signal_count i) Integer;
         signal_spns = replicate (signal_count i) 0;
       }) in
-      let start : IsSettling before nodes bare (with_attached bare attached) = λ rest none. gathers_same (before ++ rest) nodes lines bare (with_attached bare attached) rest same
-      (subst (λ (x : Gathered). Gathers (before ++ rest) (with_definitions nodes lines x) rest) (sym begun) (h rest none)) in
-      let after = one before nodes (finds_same f lines bare before same (found before names messages)) start in
+      let start : IsSettling before nodes lines (with_attached lines attached) = λ rest none. subst (λ (x : Gathered). Gathers (before ++ rest) (with_definitions nodes lines x) rest) (sym begun) (h rest none) in
+      let after = one before nodes (found before names messages) start in
       (others.gathered (before ++ one_or_none first) nodes after.0 after.1).1;
 }

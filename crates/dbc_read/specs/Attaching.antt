@@ -22,16 +22,12 @@ use Rattle.dbc_statements.specs.declared.statement.CitedSignal.{CitedSignal}
 use Rattle.dbc_statements.specs.declared.statement.Content.{Content}
 use Rattle.dbc_statements.specs.declared.statement.Content.TheVariants as content
 use Rattle.dbc_statements.specs.declared.statement.MessageLine.{MessageLine}
-use Rattle.dbc_statements.specs.declared.statement.SignalLine.{SignalLine}
 
 abbrev pub with_attachment : Attachment → Signal → Signal
 with_attachment (what.Comment text) s = record s { comment = text }
 with_attachment (what.Values texts) s = record s { values = texts }
 with_attachment (what.Type value_type) s = record s { value_type = value_type }
 with_attachment (what.Spn spn) s = record s { spn = spn }
-
-abbrev pub attached_to : Attachment → SignalLine → SignalLine
-attached_to a line = record line { signal = with_attachment a line.signal }
 
 -- the content of a statement that attaches this to a signal
 abbrev pub attaching : CitedSignal → Attachment → Content
@@ -64,7 +60,7 @@ changed_at f None xs = xs
 changed_at f (Some i) xs = at_index f xs i
 
 -- the signals of all messages
-abbrev pub all_signals : List MessageLine → List SignalLine
+abbrev pub all_signals : List MessageLine → List Signal
 all_signals lines = flat_map (λ (m : MessageLine). m.signals.items) lines
 
 -- there is a signal at this place
@@ -101,16 +97,16 @@ pub record IsPlaceOf (lines : List MessageLine) (number : Cited) (name : List �
 pub record IsAttached (number : Cited) (name : List ℕ) (a : Attachment) (p : Passed) (old new : List MessageLine) (before after : List Passed) : Type 0 where
   pub index : Option ℕ
   pub is : IsSignalIn (map message_of old) number name index
-  pub signals : all_signals new ≡ changed_at (attached_to a) index (all_signals old)
+  pub signals : all_signals new ≡ changed_at (with_attachment a) index (all_signals old)
   pub passed : after ≡ passed_after index p before
 
 -- What is attached to signals, by kind.
-abbrev pub feeds_of : List SignalLine → Feeds
-feeds_of lines = record {
-  comments = map (λ (s : SignalLine). s.signal.comment) lines;
-  values = map (λ (s : SignalLine). s.signal.values) lines;
-  types = map (λ (s : SignalLine). s.signal.value_type) lines;
-  spns = map (λ (s : SignalLine). s.signal.spn) lines;
+abbrev pub feeds_of : List Signal → Feeds
+feeds_of signals = record {
+  comments = map (λ (s : Signal). s.comment) signals;
+  values = map (λ (s : Signal). s.values) signals;
+  types = map (λ (s : Signal). s.value_type) signals;
+  spns = map (λ (s : Signal). s.spn) signals;
 }
 
 -- what is gathered, where what is attached to signals is in these lines
@@ -128,7 +124,7 @@ in_signals g = with_attached g.messages g
 
 -- The signals of each message, with what is attached to them.
 abbrev pub line_signals : MessageLine → List Signal
-line_signals line = map (λ (s : SignalLine). s.signal) line.signals.items
+line_signals line = line.signals.items
 
 abbrev pub each_fed : List says.MessageLine → Feeds → List (List Signal)
 each_fed [] f = []

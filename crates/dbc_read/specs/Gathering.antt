@@ -18,7 +18,7 @@ use Rattle.dbc_read.specs.declared.finding.Finders.{Finders}
 use Rattle.dbc_read.specs.declared.gathered.Gathered.{Gathered}
 use Rattle.dbc_statements.specs.Division.{IsDivided}
 use Rattle.dbc_statements.specs.Parts.{table_of}
-use Rattle.dbc_statements.specs.Statement.{content_of, message_of, names_of, statement_of}
+use Rattle.dbc_statements.specs.Statement.{HaveNothingAttached, content_of, message_of, names_of, statement_of}
 use Rattle.dbc_statements.specs.declared.statement.MessageLine.{MessageLine}
 use Rattle.dbc_statements.specs.declared.statement.NodeName.{NodeName}
 use Rattle.dbc_statements.specs.declared.statement.Statement.{Statement}
@@ -113,7 +113,11 @@ IsDefining said g = (rest : List says.Statement) → Gathers (said ++ rest) (wit
 abbrev pub IsSettling : List says.Statement → List NodeName → List MessageLine → Gathered → Type 0
 IsSettling said nodes messages g = (rest : List says.Statement) → DefineNothing rest → Gathers (said ++ rest) (with_definitions nodes messages g) rest
 
--- nothing is attached to the signals of the lines
+-- nothing is attached to the signals of each of the lines
+abbrev pub AreBare : List MessageLine → Type 0
+AreBare lines = AllByRecursion (λ (m : MessageLine). HaveNothingAttached m.signals.items) lines
+
+-- so there is nothing in them for what is gathered
 abbrev pub HaveNothing : List MessageLine → Type 0
 HaveNothing lines = (g : Gathered) → with_attached lines g ≡ record g {
   signal_comments = replicate (length (all_signals lines)) [];

@@ -10,6 +10,7 @@ pub mod Built
 pub mod Attaching
 pub mod Numbers
 pub mod Finding
+pub mod Placed
 pub mod Faults
 pub mod Sheets
 pub mod Reading

@@ -1,10 +1,10 @@
 //! What statements attach to signals, set in these at once.
 ghost use Rattle.std.specs.Prelude.{◌≡◌, ◌<◌, length, map};
-ghost use Rattle.dbc_read.specs.Attaching.{HasPlace, SaysWhat, all_signals, at_index, attached_to, flat_index, with_attachment};
+ghost use Rattle.dbc_read.specs.Attaching.{HasPlace, SaysWhat, all_signals, at_index, flat_index, with_attachment};
 ghost use Rattle.dbc_statements.specs.Statement.{message_of};
 
 use catalogue::{Signal, Spn, Text, ValueTexts, ValueType};
-use dbc_statements::{CitedSignal, Content, MessageLine, SignalLine};
+use dbc_statements::{CitedSignal, Content, MessageLine};
 
 /// What a statement attaches to a signal.
 #[derive(Drop)]
@@ -70,11 +70,11 @@ fn attach_to(signal: &mut Signal, attachment: Attachment)
 }
 
 /// Sets what is attached in the signal at this index.
-fn attach_in(signals: &mut [SignalLine], at: usize, attachment: Attachment)
+fn attach_in(signals: &mut [Signal], at: usize, attachment: Attachment)
     requires { at < length signals.old }
-    ensures { signals.new ≡ at_index (attached_to attachment) signals.old at }
+    ensures { signals.new ≡ at_index (with_attachment attachment) signals.old at }
 {
-    attach_to(&mut signals[at].signal, attachment);
+    attach_to(&mut signals[at], attachment);
 }
 
 /// Sets what is attached in the signal at this place.
@@ -82,7 +82,7 @@ fn attach_in(signals: &mut [SignalLine], at: usize, attachment: Attachment)
 pub(crate) fn attach_at(lines: &mut [MessageLine], place: Place, attachment: Attachment)
     requires { HasPlace lines.old place.message place.signal }
     ensures messages { map message_of lines.new ≡ map message_of lines.old }
-    ensures signals { all_signals lines.new ≡ at_index (attached_to attachment) (all_signals lines.old) (flat_index lines.old place.message place.signal) }
+    ensures signals { all_signals lines.new ≡ at_index (with_attachment attachment) (all_signals lines.old) (flat_index lines.old place.message place.signal) }
 {
     attach_in(&mut lines[place.message].signals, place.signal, attachment);
 }

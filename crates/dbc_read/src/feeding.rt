@@ -6,34 +6,33 @@ ghost use Rattle.dbc_read.specs.Built.{feeds_after, next_signal, rest_of, signal
 ghost use Rattle.dbc_read.specs.Fit.{HaveFewTexts};
 ghost use Rattle.dbc_read.specs.Refusal.{Unless};
 ghost use Rattle.dbc_statements.specs.Statement.{message_of, signal_of, signals_of};
-ghost use Rattle.dbc_statements.specs.declared.statement.SignalLine.{SignalLine};
 
 use crate::feed::Feeds;
 use crate::refusal::Refusal;
-use catalogue::{Spn, Text, ValueType};
-use dbc_statements::{Entries, MessageLine, SignalLine};
+use catalogue::{Signal, Spn, Text, ValueType};
+use dbc_statements::{Entries, MessageLine};
 use std::alloc::Global;
 
 /// The signal takes the next of what is attached to signals, in place of what it has.
-fn feed_signal(alloc: Global, line: &mut SignalLine, feeds: &mut Feeds) -> Result<(), Refusal>
-    ensures stays { signal_of line.new ≡ signal_of line.old }
-    ensures fed { OnOk result (line.new.signal ≡ next_signal (signal_of line.old) feeds.old) }
+fn feed_signal(alloc: Global, signal: &mut Signal, feeds: &mut Feeds) -> Result<(), Refusal>
+    ensures stays { signal_of signal.new ≡ signal_of signal.old }
+    ensures fed { OnOk result (signal.new ≡ next_signal (signal_of signal.old) feeds.old) }
     ensures rest { OnOk result (feeds.new ≡ rest_of feeds.old) }
-    ensures refused { IfErr result (λ refusal. Unless refusal (¬ HaveFewTexts (next_signal (signal_of line.old) feeds.old))) }
+    ensures refused { IfErr result (λ refusal. Unless refusal (¬ HaveFewTexts (next_signal (signal_of signal.old) feeds.old))) }
 {
     let entries = feeds.values.next_or(Entries::empty(alloc));
     let values = entries.into_texts().ok_or(Refusal::NoSheet)?;
-    line.signal.values = values;
-    line.signal.comment = feeds.comments.next_or(Text::empty(alloc));
-    line.signal.spn = feeds.spns.next_or(Spn::NONE);
-    line.signal.value_type = feeds.types.next_or(ValueType::Integer);
+    signal.values = values;
+    signal.comment = feeds.comments.next_or(Text::empty(alloc));
+    signal.spn = feeds.spns.next_or(Spn::NONE);
+    signal.value_type = feeds.types.next_or(ValueType::Integer);
     Ok(())
 }
 
 /// Each of the signals takes the next of what is attached.
-fn feed_signals(alloc: Global, signals: &mut [SignalLine], feeds: &mut Feeds) -> Result<(), Refusal>
+fn feed_signals(alloc: Global, signals: &mut [Signal], feeds: &mut Feeds) -> Result<(), Refusal>
     ensures stays { signals_of signals.new ≡ signals_of signals.old }
-    ensures fed { OnOk result (map (λ (s : SignalLine). s.signal) signals.new ≡ signals_from (signals_of signals.old) feeds.old) }
+    ensures fed { OnOk result (signals.new ≡ signals_from (signals_of signals.old) feeds.old) }
     ensures rest { OnOk result (feeds.new ≡ feeds_after (signals_of signals.old) feeds.old) }
     ensures refused { IfErr result (λ refusal. Unless refusal (¬ AllByRecursion HaveFewTexts (signals_from (signals_of signals.old) feeds.old))) }
 {

@@ -7,6 +7,7 @@ ghost use Rattle.std.specs.Prelude.{◌≡◌, ◌==◌, List, IfOk, IfSome, Som
 ghost use Rattle.std.specs.List.{IsDistinct};
 ghost use Rattle.std.specs.Str.{bytes_eq};
 ghost use Rattle.catalogue.specs.Statement as says;
+ghost use Rattle.catalogue.specs.declared.signal.Signal.{Signal};
 ghost use Rattle.dbc_read.specs.Attaching.{IsPlaceOf, cites_signal};
 ghost use Rattle.dbc_read.specs.Finding.{Finds, FindsAll};
 ghost use Rattle.dbc_read.specs.Lookup.{IsIndexIn};
@@ -14,13 +15,13 @@ ghost use Rattle.dbc_read.specs.Lookups.{IsCitedIndex};
 ghost use Rattle.dbc_read.specs.Numbers.{line_numbers};
 ghost use Rattle.dbc_statements.specs.Statement.{content_of};
 ghost use Rattle.dbc_statements.specs.declared.statement.MessageLine.{MessageLine};
-ghost use Rattle.dbc_statements.specs.declared.statement.SignalLine.{SignalLine};
 
 use crate::attaching::Place;
 use crate::keys::add_names;
 use crate::lookup::{Lookup, lookup_of};
 use crate::numbers::{Numbers, numbers_of};
-use dbc_statements::{CitedSignal, Content, MessageLine, NodeName, SignalLine};
+use catalogue::Signal;
+use dbc_statements::{CitedSignal, Content, MessageLine, NodeName};
 use std::alloc::{AllocError, Global};
 
 /// The nodes and the messages of a file, by their indices.
@@ -67,11 +68,11 @@ pub(crate) struct Track {
 }
 
 /// The index of the first signal of that name.
-fn first_named(signals: &[SignalLine], name: &[u8]) -> Option<usize>
-    ensures { IsIndexIn (λ (s : SignalLine). bytes_eq s.signal.name name.now) signals.now result }
+fn first_named(signals: &[Signal], name: &[u8]) -> Option<usize>
+    ensures { IsIndexIn (λ (s : Signal). bytes_eq s.name name.now) signals.now result }
 {
     for index in 0..signals.len() {
-        if signals[index].signal.name.as_bytes() == name {
+        if signals[index].name.as_bytes() == name {
             return Some(index);
         }
     }
@@ -79,8 +80,8 @@ fn first_named(signals: &[SignalLine], name: &[u8]) -> Option<usize>
 }
 
 /// The index of a signal of that name. Those from `last` on are tried first.
-fn named(signals: &[SignalLine], name: &[u8], last: usize) -> Option<usize>
-    ensures { IsIndexIn (λ (s : SignalLine). bytes_eq s.signal.name name.now) signals.now result }
+fn named(signals: &[Signal], name: &[u8], last: usize) -> Option<usize>
+    ensures { IsIndexIn (λ (s : Signal). bytes_eq s.name name.now) signals.now result }
 {
     let (before, after) = signals.split_at(last.min(signals.len()));
     match first_named(after, name) {
@@ -116,8 +117,8 @@ impl Track {
     }
 
     /// The index of a signal of that name among those of the message that was found last.
-    fn signal_index(&mut self, signals: &[SignalLine], name: &[u8]) -> Option<usize>
-        ensures { IsIndexIn (λ (s : SignalLine). bytes_eq s.signal.name name.now) signals.now result }
+    fn signal_index(&mut self, signals: &[Signal], name: &[u8]) -> Option<usize>
+        ensures { IsIndexIn (λ (s : Signal). bytes_eq s.name name.now) signals.now result }
     {
         let last = self.signal;
         let found = named(signals, name, last);

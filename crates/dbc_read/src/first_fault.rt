@@ -26,12 +26,14 @@ ghost use Rattle.dbc_read.specs.Faults.{
   IsSignalsFault,
   entries_of,
 };
+ghost use Rattle.dbc_read.specs.Placed.{placed};
 
 use crate::gathered::Gathered;
 use crate::items::NamedItem;
+use crate::placed::{PlacedSignal, placed_signals};
 use catalogue::{Copying, MESSAGE_LIMIT, ROSTER_LIMIT};
 use dbc_lex::{ReadCode, ReadFault};
-use dbc_statements::{Entries, MessageLine, SignalLine, TableLine};
+use dbc_statements::{Entries, MessageLine, TableLine};
 use std::alloc::{AllocError, Global};
 use std::collections::BTreeSet;
 
@@ -102,17 +104,17 @@ fn number_fault(alloc: Global, messages: &[MessageLine]) -> Result<Option<ReadFa
 }
 
 /// The fault at the second multiplexor of a message.
-fn multiplexor_fault(signals: &[SignalLine]) -> Option<ReadFault>
+fn multiplexor_fault(signals: &[PlacedSignal]) -> Option<ReadFault>
     ensures none { IfNone result (HaveOneMultiplexor signals.now) }
     ensures fault { IfSome result (IsMultiplexorFault signals.now) }
 {
     let mut has_multiplexor = false;
     for signal in signals {
-        if signal.signal.mux.is_multiplexor() {
+        if signal.is_multiplexor() {
             if has_multiplexor {
                 return Some(ReadFault {
                     code: ReadCode::TwoMultiplexors,
-                    at: signal.mux_at,
+                    at: signal.mux_at(),
                 });
             }
             has_multiplexor = true;
@@ -122,12 +124,13 @@ fn multiplexor_fault(signals: &[SignalLine]) -> Option<ReadFault>
 }
 
 /// The first fault of the signals of a message.
-fn signal_fault(alloc: Global, signals: &[SignalLine]) -> Result<Option<ReadFault>, AllocError>
-    ensures none { IfOk result (λ found. IfNone found (AreSignalLines signals.now)) }
-    ensures fault { IfOk result (λ found. IfSome found (IsFaultOfSignals signals.now)) }
+fn signal_fault(alloc: Global, message: &MessageLine) -> Result<Option<ReadFault>, AllocError>
+    ensures none { IfOk result (λ found. IfNone found (AreSignalLines (placed message.now))) }
+    ensures fault { IfOk result (λ found. IfSome found (IsFaultOfSignals (placed message.now))) }
 {
-    let name = name_fault(alloc, signals, ROSTER_LIMIT)?;
-    Ok(earlier(name, multiplexor_fault(signals)))
+    let signals = placed_signals(alloc, message)?;
+    let name = name_fault(alloc, &signals, ROSTER_LIMIT)?;
+    Ok(earlier(name, multiplexor_fault(&signals)))
 }
 
 /// The first fault of signals, of the first message that has one.
@@ -136,7 +139,7 @@ fn signals_fault(alloc: Global, messages: &[MessageLine]) -> Result<Option<ReadF
     ensures fault { IfOk result (λ found. IfSome found (IsSignalsFault messages.now)) }
 {
     for message in messages {
-        let fault = signal_fault(alloc, &message.signals)?;
+        let fault = signal_fault(alloc, message)?;
         if fault.is_some() {
             return Ok(fault);
         }

@@ -2,7 +2,7 @@
 ghost use Rattle.std.specs.Prelude.{◌≡◌, ℕ, List};
 
 use catalogue::Name;
-use dbc_statements::{MessageLine, NodeName, SignalLine, TableLine};
+use dbc_statements::{MessageLine, NodeName, TableLine};
 
 /// An item of a file with a name that no other of its kind may have.
 pub(crate) trait NamedItem {
@@ -59,19 +59,5 @@ impl NamedItem for MessageLine {
 
     fn name_at(&self) -> usize {
         self.name_at
-    }
-}
-
-impl NamedItem for SignalLine {
-    ghost name_of = { λ line. line.signal.name };
-
-    ghost offset_of = { λ line. line.at };
-
-    fn name(&self) -> &Name {
-        &self.signal.name
-    }
-
-    fn name_at(&self) -> usize {
-        self.at
     }
 }

@@ -41,7 +41,7 @@ fn add_keys<'s>(line: &'s MessageLine, found: &mut Vec<Key<'s>>) -> Result<(), A
 {
     let number = line.ident.to_dbc();
     for signal in &line.signals {
-        found.push((number, signal.signal.name.as_bytes()))?;
+        found.push((number, signal.name.as_bytes()))?;
     }
     Ok(())
 }

@@ -34,6 +34,7 @@ mod messages;
 mod numbers;
 mod one_by_one;
 mod passed;
+mod placed;
 mod reading;
 mod refusal;
 mod sheets;

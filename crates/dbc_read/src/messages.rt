@@ -19,8 +19,8 @@ fn message_of(alloc: Global, line: MessageLine, comment: Text) -> Result<Message
     ensures ok { IfOk result (λ message. message ≡ message_with (message_of line) comment (line_signals line)) }
     ensures refused { IfErr result (λ refusal. Unless refusal (¬ IsFit (message_with (message_of line) comment (line_signals line)))) }
 {
-    let (mut message, lines) = line.into_message(alloc, comment);
-    add_signals(alloc, lines, &mut message)?;
+    let (mut message, signals) = line.into_message(alloc, comment);
+    add_signals(alloc, signals, &mut message)?;
     Ok(message)
 }
 

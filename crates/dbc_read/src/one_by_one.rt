@@ -5,21 +5,17 @@
 ghost use Rattle.std.specs.Prelude.{◌≡◌, None, Some, IfErr, IfOk, IfSome, IsTrue, OnOk, false, map, true};
 ghost use Rattle.catalogue.specs.Parsing.{statements_at};
 ghost use Rattle.dbc_lex.specs.Fault.{UnlessMemory};
-ghost use Rattle.dbc_lex.specs.declared.fault.ReadCode.TheVariants.{Memory};
 ghost use Rattle.dbc_read.specs.Attaching.{IsAttached, in_signals};
 ghost use Rattle.dbc_read.specs.Finding.{FindsAll};
-ghost use Rattle.dbc_read.specs.Gathering.{Defines, FollowAll, HaveNothing, IsOfTokens, Settles, SettlesAll, cites, defines, one_or_none};
+ghost use Rattle.dbc_read.specs.Gathering.{AreBare, Defines, FollowAll, IsOfTokens, Settles, SettlesAll, cites, defines, one_or_none};
 ghost use Rattle.dbc_read.specs.Numbers.{line_numbers};
 ghost use Rattle.dbc_statements.specs.Statement.{content_of, message_of, statement_of};
 
 use crate::attaching::{Attachment, Cites, attach_at, cited_by};
-use crate::feed::Feeds;
-use crate::feeding::feed_lines;
 use crate::finding::{Finders, NAMES_A_STATEMENT, Track, finders_of};
 use crate::gathered::{Citing, Gathered, attach_nothing, gather, gather_statement};
 use crate::numbers::Numbers;
 use crate::passed::Passed;
-use crate::refusal::Refusal;
 use catalogue::Items;
 use dbc_lex::ReadFault;
 use dbc_statements::{CitedSignal, Content, MessageLine, NodeName, Statement, Statements};
@@ -51,7 +47,8 @@ fn cites(content: &Content) -> bool
     }
 }
 
-/// Gathers the statements up to the first that cites something, which is returned, or up to the last.
+/// Gathers the statements up to the first that cites something, which is returned, or up to the last. Where signals are
+/// is not kept: a fault is searched for in a list of all statements.
 fn gather_definitions(
     alloc: Global,
     statements: &mut Statements,
@@ -59,13 +56,14 @@ fn gather_definitions(
 ) -> Result<Option<Statement>, ReadFault>
     ensures source { statements.new.source ≡ statements.old.source }
     ensures ok { IfOk result (Defines statements.old.tokens statements.new.tokens gathered.old gathered.new) }
+    ensures bare { OnOk result (AreBare gathered.old.messages → AreBare gathered.new.messages) }
     ensures err { IfErr result (λ fault. UnlessMemory fault.code (statements_at statements.old.tokens ≡ None)) }
 {
     'statements: while let Some(next) = statements.read_next(alloc)? {
         if cites(&next.content) {
             return Ok(Some(next));
         }
-        gather_statement(None, next, gathered)?;
+        gather_statement(None, next.without_places(alloc), gathered)?;
     }
     Ok(None)
 }
@@ -173,20 +171,6 @@ fn settle_all(
     Ok(true)
 }
 
-/// Nothing is attached to the signals of the lines, whatever they have. `false` is an answer that no caller sees: it is
-/// there since lists, of which there are none here, could be too long.
-fn attach_none(alloc: Global, lines: &mut [MessageLine]) -> Result<bool, ReadFault>
-    ensures messages { map message_of lines.new ≡ map message_of lines.old }
-    ensures nothing { IfOk result (λ all. IsTrue all → HaveNothing lines.new) }
-    ensures memory { IfErr result (λ fault. fault.code ≡ Memory) }
-{
-    match feed_lines(alloc, lines, Feeds::nothing(alloc)) {
-        Ok(()) => Ok(true),
-        Err(Refusal::Memory) => Err(ReadFault::MEMORY),
-        Err(Refusal::NoSheet) => Ok(false),
-    }
-}
-
 /// Gathers the statements after those that define these nodes and messages, which are found so. `false` if one of them
 /// defines another, or as [`settle`].
 fn gather_found(
@@ -201,14 +185,12 @@ fn gather_found(
     requires cites { IfSome first (λ s. cites (content_of s.content) ≡ true) }
     requires numbers { finders.now.numbers ≡ line_numbers lines.old }
     requires finds { FindsAll finders.now nodes.now lines.old }
+    requires bare { AreBare lines.old }
     ensures source { statements.new.source ≡ statements.old.source }
     ensures ok { IfOk result (λ all. IsTrue all → FollowAll nodes.now lines.old first statements.old.tokens gathered.old lines.new gathered.new) }
     ensures err { IfErr result (λ fault. UnlessMemory fault.code (statements_at statements.old.tokens ≡ None)) }
 {
     attach_nothing(alloc, nodes.len(), lines.len(), gathered)?;
-    if !attach_none(alloc, lines)? {
-        return Ok(false);
-    }
     let mut track = Track::new();
     if !settle_first(finders, first, &mut track, lines, gathered)? {
         return Ok(false);
@@ -226,7 +208,8 @@ fn gather_others(
     lines: &mut [MessageLine],
     gathered: &mut Gathered,
 ) -> Result<bool, ReadFault>
-    requires { IfSome first (λ s. cites (content_of s.content) ≡ true) }
+    requires cites { IfSome first (λ s. cites (content_of s.content) ≡ true) }
+    requires bare { AreBare lines.old }
     ensures source { statements.new.source ≡ statements.old.source }
     ensures ok { IfOk result (λ all. IsTrue all → FollowAll nodes.now lines.old first statements.old.tokens gathered.old lines.new gathered.new) }
     ensures err { IfErr result (λ fault. UnlessMemory fault.code (statements_at statements.old.tokens ≡ None)) }

@@ -2,24 +2,22 @@
 ghost use Rattle.std.specs.Prelude.{◌≡◌, ◌++◌, IfErr, OnOk, map};
 ghost use Rattle.dbc_read.specs.Fit.{AreFit};
 ghost use Rattle.dbc_read.specs.Refusal.{Unless};
-ghost use Rattle.dbc_statements.specs.declared.statement.SignalLine.{SignalLine};
 
 use crate::refusal::Refusal;
-use catalogue::Message;
-use dbc_statements::SignalLine;
+use catalogue::{Message, Signal};
 use std::alloc::Global;
 
-/// Adds the signals of the lines, in order.
+/// Adds the signals, in order.
 pub(crate) fn add_signals(
     alloc: Global,
-    lines: Vec<SignalLine>,
+    signals: Vec<Signal>,
     message: &mut Message,
 ) -> Result<(), Refusal>
-    ensures ok { OnOk result (message.new ≡ record message.old { signals = message.old.signals ++ map (λ (s : SignalLine). s.signal) lines.items }) }
-    ensures refused { IfErr result (λ refusal. Unless refusal (¬ AreFit (message.old.signals ++ map (λ (s : SignalLine). s.signal) lines.items))) }
+    ensures ok { OnOk result (message.new ≡ record message.old { signals = message.old.signals ++ signals.items }) }
+    ensures refused { IfErr result (λ refusal. Unless refusal (¬ AreFit (message.old.signals ++ signals.items))) }
 {
-    for line in lines {
-        message.with_signal(alloc, line.into_signal())?;
+    for signal in signals {
+        message.with_signal(alloc, signal)?;
     }
     Ok(())
 }

@@ -1,32 +1,34 @@
 -- The statements of the code as statements of the grammar: without the offsets of names and entries.
-use Rattle.std.specs.Prelude.{ℕ, List, map}
+use Rattle.std.specs.Prelude.{◌≡◌, ⊤, ℕ, List, [], map}
+use Rattle.std.specs.List.{AllByRecursion}
 use Rattle.catalogue.specs.Statement as says
+use Rattle.catalogue.specs.declared.signal.Signal.{Signal}
+use Rattle.catalogue.specs.declared.value_type.ValueType.TheVariants.{Integer}
 use Rattle.dbc_statements.specs.declared.statement.Content.{Content}
 use Rattle.dbc_statements.specs.declared.statement.Content.TheVariants as content
 use Rattle.dbc_statements.specs.declared.line.Line.{Line}
 use Rattle.dbc_statements.specs.declared.statement.MessageLine.{MessageLine}
 use Rattle.dbc_statements.specs.declared.statement.NodeName.{NodeName}
-use Rattle.dbc_statements.specs.declared.statement.SignalLine.{SignalLine}
 use Rattle.dbc_statements.specs.declared.statement.Statement.{Statement}
 
 abbrev pub names_of : List NodeName → List (List ℕ)
 names_of nodes = map (λ (n : NodeName). n.name) nodes
 
-abbrev pub signal_of : SignalLine → says.SignalLine
+abbrev pub signal_of : Signal → says.SignalLine
 signal_of s = record {
-  name = s.signal.name;
-  layout = s.signal.layout;
-  signed = s.signal.signed;
-  mux = s.signal.mux;
-  factor = s.signal.factor;
-  offset = s.signal.offset;
-  minimum = s.signal.minimum;
-  maximum = s.signal.maximum;
-  unit = s.signal.unit;
-  receivers = s.signal.receivers;
+  name = s.name;
+  layout = s.layout;
+  signed = s.signed;
+  mux = s.mux;
+  factor = s.factor;
+  offset = s.offset;
+  minimum = s.minimum;
+  maximum = s.maximum;
+  unit = s.unit;
+  receivers = s.receivers;
 }
 
-abbrev pub signals_of : List SignalLine → List says.SignalLine
+abbrev pub signals_of : List Signal → List says.SignalLine
 signals_of signals = map signal_of signals
 
 abbrev pub message_of : MessageLine → says.MessageLine
@@ -61,3 +63,18 @@ statement_of s = record { start = s.start; keyword = s.keyword; content = conten
 
 abbrev pub statements_of : List Statement → List says.Statement
 statements_of statements = map statement_of statements
+
+-- no other statement attaches anything to the signal
+pub record HasNothingAttached (s : Signal) : Type 0 where
+  pub comment : s.comment ≡ []
+  pub spn : s.spn ≡ 0
+  pub values : s.values ≡ []
+  pub value_type : s.value_type ≡ Integer
+
+abbrev pub HaveNothingAttached : List Signal → Type 0
+HaveNothingAttached signals = AllByRecursion HasNothingAttached signals
+
+-- the signals of a message's statement have nothing attached
+abbrev pub NothingIsAttached : Content → Type 0
+NothingIsAttached (content.Message m) = HaveNothingAttached m.value.signals.items
+NothingIsAttached c = ⊤

@@ -1,10 +1,10 @@
 //! What statements attach to signals: texts for their values, types, and suspect parameter numbers.
-ghost use Rattle.std.specs.Prelude.{◌≡◌};
+ghost use Rattle.std.specs.Prelude.{◌≡◌, IfOk};
 ghost use Rattle.catalogue.specs.Fields as fields;
 ghost use Rattle.catalogue.specs.Parsing.{either_at, or_else, passed_value_texts_at, skipped_at, spn_at, value_texts_at, value_type_at};
 ghost use Rattle.catalogue.specs.Rules.{begins};
 ghost use Rattle.dbc_statements.specs.Reading.{Reads};
-ghost use Rattle.dbc_statements.specs.Statement.{content_of};
+ghost use Rattle.dbc_statements.specs.Statement.{NothingIsAttached, content_of};
 
 use crate::entries::entry_list;
 use crate::fields::{
@@ -21,7 +21,8 @@ use std::alloc::Global;
 /// The rest of a statement after `VAL_`.
 #[tactic(auto, unfolding(catalogue::specs::Parsing::value_texts_at, catalogue::specs::Parsing::passed_value_texts_at))]
 pub(crate) fn value_texts(alloc: Global, tokens: &mut Tokens) -> Result<Content, ReadFault>
-    ensures { Reads content_of result (either_at (begins fields.cited_number) value_texts_at passed_value_texts_at tokens.old) tokens.new }
+    ensures reads { Reads content_of result (either_at (begins fields.cited_number) value_texts_at passed_value_texts_at tokens.old) tokens.new }
+    ensures nothing { IfOk result NothingIsAttached }
 {
     let token = tokens.front()?;
     match cited_number_of(&token) {
@@ -39,7 +40,8 @@ pub(crate) fn value_texts(alloc: Global, tokens: &mut Tokens) -> Result<Content,
 /// The rest of a statement after `SIG_VALTYPE_`.
 #[tactic(auto, unfolding(catalogue::specs::Parsing::value_type_at))]
 pub(crate) fn value_types(alloc: Global, tokens: &mut Tokens) -> Result<Content, ReadFault>
-    ensures { Reads content_of result (value_type_at tokens.old) tokens.new }
+    ensures reads { Reads content_of result (value_type_at tokens.old) tokens.new }
+    ensures nothing { IfOk result NothingIsAttached }
 {
     let number = cited_number(tokens)?;
     let name = cited_name(alloc, tokens)?;
@@ -51,7 +53,8 @@ pub(crate) fn value_types(alloc: Global, tokens: &mut Tokens) -> Result<Content,
 
 #[tactic(auto, unfolding(catalogue::specs::Parsing::spn_at))]
 fn spn_of_signal(alloc: Global, tokens: &mut Tokens) -> Result<Content, ReadFault>
-    ensures { Reads content_of result (spn_at tokens.old) tokens.new }
+    ensures reads { Reads content_of result (spn_at tokens.old) tokens.new }
+    ensures nothing { IfOk result NothingIsAttached }
 {
     attribute(tokens)?;
     key(tokens, Keyword::Signal)?;
@@ -64,7 +67,8 @@ fn spn_of_signal(alloc: Global, tokens: &mut Tokens) -> Result<Content, ReadFaul
 
 /// The rest of a statement after `BA_`: a suspect parameter number, or else anything up to `;`.
 pub(crate) fn attribute_value(alloc: Global, tokens: &mut Tokens) -> Result<Content, ReadFault>
-    ensures { Reads content_of result (or_else (spn_at tokens.old) (skipped_at tokens.old)) tokens.new }
+    ensures reads { Reads content_of result (or_else (spn_at tokens.old) (skipped_at tokens.old)) tokens.new }
+    ensures nothing { IfOk result NothingIsAttached }
 {
     let mut ahead = tokens.fork();
     match spn_of_signal(alloc, &mut ahead) {

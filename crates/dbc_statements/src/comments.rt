@@ -1,9 +1,9 @@
 //! Comments.
-ghost use Rattle.std.specs.Prelude.{◌≡◌};
+ghost use Rattle.std.specs.Prelude.{◌≡◌, IfOk};
 ghost use Rattle.catalogue.specs.Fields as fields;
 ghost use Rattle.catalogue.specs.Parsing.{comment_at, file_comment_at, message_comment_at, node_comment_at, signal_comment_at};
 ghost use Rattle.dbc_statements.specs.Reading.{Reads};
-ghost use Rattle.dbc_statements.specs.Statement.{content_of};
+ghost use Rattle.dbc_statements.specs.Statement.{NothingIsAttached, content_of};
 
 use crate::fields::{cited_name, cited_number, key, mark, text};
 use crate::passing::passed_comment;
@@ -16,7 +16,8 @@ use std::alloc::Global;
 
 #[tactic(auto, unfolding(catalogue::specs::Parsing::file_comment_at))]
 fn file_comment(alloc: Global, tokens: &mut Tokens) -> Result<Content, ReadFault>
-    ensures { Reads content_of result (file_comment_at tokens.old) tokens.new }
+    ensures reads { Reads content_of result (file_comment_at tokens.old) tokens.new }
+    ensures nothing { IfOk result NothingIsAttached }
 {
     let text = text(alloc, tokens)?;
     mark(tokens, b';')?;
@@ -25,7 +26,8 @@ fn file_comment(alloc: Global, tokens: &mut Tokens) -> Result<Content, ReadFault
 
 #[tactic(auto, unfolding(catalogue::specs::Parsing::node_comment_at))]
 fn node_comment(alloc: Global, tokens: &mut Tokens) -> Result<Content, ReadFault>
-    ensures { Reads content_of result (node_comment_at tokens.old) tokens.new }
+    ensures reads { Reads content_of result (node_comment_at tokens.old) tokens.new }
+    ensures nothing { IfOk result NothingIsAttached }
 {
     key(tokens, Keyword::Nodes)?;
     let node = cited_name(alloc, tokens)?;
@@ -36,7 +38,8 @@ fn node_comment(alloc: Global, tokens: &mut Tokens) -> Result<Content, ReadFault
 
 #[tactic(auto, unfolding(catalogue::specs::Parsing::message_comment_at))]
 fn message_comment(alloc: Global, tokens: &mut Tokens) -> Result<Content, ReadFault>
-    ensures { Reads content_of result (message_comment_at tokens.old) tokens.new }
+    ensures reads { Reads content_of result (message_comment_at tokens.old) tokens.new }
+    ensures nothing { IfOk result NothingIsAttached }
 {
     key(tokens, Keyword::Message)?;
     let number = cited_number(tokens)?;
@@ -47,7 +50,8 @@ fn message_comment(alloc: Global, tokens: &mut Tokens) -> Result<Content, ReadFa
 
 #[tactic(auto, unfolding(catalogue::specs::Parsing::signal_comment_at))]
 fn signal_comment(alloc: Global, tokens: &mut Tokens) -> Result<Content, ReadFault>
-    ensures { Reads content_of result (signal_comment_at tokens.old) tokens.new }
+    ensures reads { Reads content_of result (signal_comment_at tokens.old) tokens.new }
+    ensures nothing { IfOk result NothingIsAttached }
 {
     key(tokens, Keyword::Signal)?;
     let number = cited_number(tokens)?;
@@ -60,7 +64,8 @@ fn signal_comment(alloc: Global, tokens: &mut Tokens) -> Result<Content, ReadFau
 /// The rest of a statement after `CM_`.
 #[tactic(auto, unfolding(catalogue::specs::Parsing::comment_at))]
 pub(crate) fn comment(alloc: Global, tokens: &mut Tokens) -> Result<Content, ReadFault>
-    ensures { Reads content_of result (comment_at tokens.old) tokens.new }
+    ensures reads { Reads content_of result (comment_at tokens.old) tokens.new }
+    ensures nothing { IfOk result NothingIsAttached }
 {
     match tokens.first() {
         Some(token) if is_text(&token) => file_comment(alloc, tokens),

@@ -4,7 +4,7 @@ ghost use Rattle.catalogue.specs.Lexing.{lexed};
 ghost use Rattle.catalogue.specs.Parsing.{statements_at};
 ghost use Rattle.dbc_lex.specs.Fault.{UnlessMemory};
 ghost use Rattle.dbc_statements.specs.Left.{BeginsWith};
-ghost use Rattle.dbc_statements.specs.Statement.{statement_of};
+ghost use Rattle.dbc_statements.specs.Statement.{NothingIsAttached, statement_of};
 ghost use Rattle.dbc_statements.specs.Tokens.{EndsWith};
 
 use crate::names::Ended;
@@ -57,6 +57,7 @@ impl<'a> Statements<'a> {
     pub fn read_next(&mut self, alloc: Global) -> Result<Option<Statement>, ReadFault>
         ensures source { self.new.source ≡ self.old.source }
         ensures next { IfOk result (λ found. IfSome found (λ s. BeginsWith (statement_of s) self.old.tokens self.new.tokens)) }
+        ensures nothing { IfOk result (λ found. IfSome found (λ s. NothingIsAttached s.content)) }
         ensures end { IfOk result (λ found. IfNone found (statements_at self.old.tokens ≡ Some [])) }
         ensures err { IfErr result (λ fault. UnlessMemory fault.code (statements_at self.old.tokens ≡ None)) }
         ensures last { IfOk result (λ found. IfNone found (self.new ≡ self.old)) }

@@ -1,5 +1,5 @@
 //! The heading of a file: its version, new symbols, bit timing, nodes and value tables.
-ghost use Rattle.std.specs.Prelude.{◌≡◌, codes};
+ghost use Rattle.std.specs.Prelude.{◌≡◌, IfOk, codes};
 ghost use Rattle.catalogue.specs.Fields as fields;
 ghost use Rattle.catalogue.specs.Grammar as grammar;
 ghost use Rattle.catalogue.specs.Parsing.{registers_at, symbols_at, table_at, timing_at, timing_line_at, nodes_line_at, version_at};
@@ -7,7 +7,7 @@ ghost use Rattle.catalogue.specs.Rules.{starts};
 ghost use Rattle.catalogue.specs.declared.token.TokenKind.TheVariants.{Number};
 ghost use Rattle.dbc_statements.specs.Reading.{Reads, itself};
 ghost use Rattle.dbc_statements.specs.Skipping.{Skips};
-ghost use Rattle.dbc_statements.specs.Statement.{content_of, line_content};
+ghost use Rattle.dbc_statements.specs.Statement.{NothingIsAttached, content_of, line_content};
 
 use crate::entries::entry_list;
 use crate::fields::{any_number, made_name, mark, text};
@@ -23,7 +23,8 @@ use std::alloc::Global;
 /// The rest of a statement after `VERSION`.
 #[tactic(auto, unfolding(catalogue::specs::Parsing::version_at))]
 pub(crate) fn version(alloc: Global, tokens: &mut Tokens) -> Result<Content, ReadFault>
-    ensures { Reads content_of result (version_at tokens.old) tokens.new }
+    ensures reads { Reads content_of result (version_at tokens.old) tokens.new }
+    ensures nothing { IfOk result NothingIsAttached }
 {
     let version = text(alloc, tokens)?;
     Ok(Content::Version(version))
@@ -64,7 +65,8 @@ fn skip_symbols(tokens: &mut Tokens)
 /// The rest of a statement after `NS_`.
 #[tactic(auto, unfolding(catalogue::specs::Parsing::symbols_at))]
 pub(crate) fn new_symbols(tokens: &mut Tokens) -> Result<Content, ReadFault>
-    ensures { Reads content_of result (symbols_at tokens.old) tokens.new }
+    ensures reads { Reads content_of result (symbols_at tokens.old) tokens.new }
+    ensures nothing { IfOk result NothingIsAttached }
 {
     mark(tokens, b':')?;
     skip_symbols(tokens);
@@ -122,7 +124,8 @@ fn is_timing(tokens: &Tokens) -> bool
 /// The rest of a statement after `BS_`.
 #[tactic(auto, unfolding(catalogue::specs::Parsing::timing_line_at))]
 pub(crate) fn bit_timing(tokens: &mut Tokens) -> Result<Content, ReadFault>
-    ensures { Reads content_of result (timing_line_at tokens.old) tokens.new }
+    ensures reads { Reads content_of result (timing_line_at tokens.old) tokens.new }
+    ensures nothing { IfOk result NothingIsAttached }
 {
     mark(tokens, b':')?;
     if is_timing(tokens) {
@@ -134,7 +137,8 @@ pub(crate) fn bit_timing(tokens: &mut Tokens) -> Result<Content, ReadFault>
 /// The rest of a statement after `BU_`.
 #[tactic(auto, unfolding(catalogue::specs::Parsing::nodes_line_at))]
 pub(crate) fn node_names(alloc: Global, tokens: &mut Tokens) -> Result<Line, ReadFault>
-    ensures { Reads line_content result (nodes_line_at tokens.old) tokens.new }
+    ensures reads { Reads line_content result (nodes_line_at tokens.old) tokens.new }
+    ensures nothing { IfOk result (λ line. NothingIsAttached line.content) }
 {
     mark(tokens, b':')?;
     let (names, ended) = placed_nodes(alloc, tokens)?;
@@ -147,7 +151,8 @@ pub(crate) fn node_names(alloc: Global, tokens: &mut Tokens) -> Result<Line, Rea
 /// The rest of a statement after `VAL_TABLE_`.
 #[tactic(auto, unfolding(catalogue::specs::Parsing::table_at))]
 pub(crate) fn value_table(alloc: Global, tokens: &mut Tokens) -> Result<Content, ReadFault>
-    ensures { Reads content_of result (table_at tokens.old) tokens.new }
+    ensures reads { Reads content_of result (table_at tokens.old) tokens.new }
+    ensures nothing { IfOk result NothingIsAttached }
 {
     let at = tokens.offset();
     let name = made_name(alloc, tokens)?;

@@ -1,10 +1,10 @@
 //! Messages with their signals.
-ghost use Rattle.std.specs.Prelude.{◌≡◌};
+ghost use Rattle.std.specs.Prelude.{◌≡◌, IfOk};
 ghost use Rattle.catalogue.specs.Fields as fields;
 ghost use Rattle.catalogue.specs.Parsing.{either_at, independent_at, message_at};
 ghost use Rattle.catalogue.specs.Rules.{begins};
 ghost use Rattle.dbc_statements.specs.Reading.{Reads};
-ghost use Rattle.dbc_statements.specs.Statement.{line_content};
+ghost use Rattle.dbc_statements.specs.Statement.{NothingIsAttached, line_content};
 
 use crate::fields::{begins_message, length, made_name, mark, message_ident};
 use crate::line::{Line, line_without_list};
@@ -18,7 +18,8 @@ use std::alloc::Global;
 
 #[tactic(auto, unfolding(catalogue::specs::Parsing::message_at))]
 fn message(alloc: Global, tokens: &mut Tokens) -> Result<Line, ReadFault>
-    ensures { Reads line_content result (message_at tokens.old) tokens.new }
+    ensures reads { Reads line_content result (message_at tokens.old) tokens.new }
+    ensures nothing { IfOk result (λ line. NothingIsAttached line.content) }
 {
     let at = tokens.offset();
     let ident = message_ident(tokens)?;
@@ -27,7 +28,7 @@ fn message(alloc: Global, tokens: &mut Tokens) -> Result<Line, ReadFault>
     mark(tokens, b':')?;
     let length = length(tokens)?;
     let transmitter = transmitter(alloc, tokens)?;
-    let (signals, ended) = signals(alloc, tokens)?;
+    let (signals, places, ended) = signals(alloc, tokens)?;
     let line = MessageLine {
         at,
         name_at,
@@ -36,6 +37,7 @@ fn message(alloc: Global, tokens: &mut Tokens) -> Result<Line, ReadFault>
         length,
         transmitter,
         signals,
+        places,
     };
     let content = Content::Message(Box::new(alloc, line)?);
     Ok(Line { content, ended })
@@ -43,7 +45,8 @@ fn message(alloc: Global, tokens: &mut Tokens) -> Result<Line, ReadFault>
 
 /// The rest of a statement after `BO_`.
 pub(crate) fn message_or_independent(alloc: Global, tokens: &mut Tokens) -> Result<Line, ReadFault>
-    ensures { Reads line_content result (either_at (begins fields.message_ident) message_at independent_at tokens.old) tokens.new }
+    ensures reads { Reads line_content result (either_at (begins fields.message_ident) message_at independent_at tokens.old) tokens.new }
+    ensures nothing { IfOk result (λ line. NothingIsAttached line.content) }
 {
     if begins_message(tokens) {
         message(alloc, tokens)

@@ -1,11 +1,11 @@
 //! Statements that are skipped. Only their first keyword and its offset are reported.
-ghost use Rattle.std.specs.Prelude.{◌≡◌, true};
+ghost use Rattle.std.specs.Prelude.{◌≡◌, IfOk, true};
 ghost use Rattle.catalogue.specs.Grammar as grammar;
 ghost use Rattle.catalogue.specs.Parsing.{independent_at, passed_comment_at, passed_value_texts_at, skipped_at};
 ghost use Rattle.catalogue.specs.Rules.{starts};
 ghost use Rattle.dbc_lex.specs.Token.{token_of};
 ghost use Rattle.dbc_statements.specs.Reading.{Reads};
-ghost use Rattle.dbc_statements.specs.Statement.{content_of};
+ghost use Rattle.dbc_statements.specs.Statement.{NothingIsAttached, content_of};
 ghost use Rattle.dbc_statements.specs.Skipping.{Skips, begins_no_next};
 
 use crate::entries::is_open;
@@ -28,7 +28,8 @@ fn skip_open(tokens: &mut Tokens)
 /// All tokens up to `;`, and that mark.
 #[tactic(auto, unfolding(catalogue::specs::Parsing::skipped_at))]
 pub(crate) fn skip_to_end(tokens: &mut Tokens) -> Result<Content, ReadFault>
-    ensures { Reads content_of result (skipped_at tokens.old) tokens.new }
+    ensures reads { Reads content_of result (skipped_at tokens.old) tokens.new }
+    ensures nothing { IfOk result NothingIsAttached }
 {
     skip_open(tokens);
     mark(tokens, b';')?;
@@ -38,7 +39,8 @@ pub(crate) fn skip_to_end(tokens: &mut Tokens) -> Result<Content, ReadFault>
 /// The rest of a statement after `CM_` that is about an environment variable.
 #[tactic(auto, unfolding(catalogue::specs::Parsing::passed_comment_at))]
 pub(crate) fn passed_comment(tokens: &mut Tokens) -> Result<Content, ReadFault>
-    ensures { Reads content_of result (passed_comment_at tokens.old) tokens.new }
+    ensures reads { Reads content_of result (passed_comment_at tokens.old) tokens.new }
+    ensures nothing { IfOk result NothingIsAttached }
 {
     key(tokens, Keyword::EnvironmentVariable)?;
     skip_to_end(tokens)
@@ -47,7 +49,8 @@ pub(crate) fn passed_comment(tokens: &mut Tokens) -> Result<Content, ReadFault>
 /// The rest of a statement after `VAL_` that is about an environment variable.
 #[tactic(auto, unfolding(catalogue::specs::Parsing::passed_value_texts_at))]
 pub(crate) fn passed_value_texts(tokens: &mut Tokens) -> Result<Content, ReadFault>
-    ensures { Reads content_of result (passed_value_texts_at tokens.old) tokens.new }
+    ensures reads { Reads content_of result (passed_value_texts_at tokens.old) tokens.new }
+    ensures nothing { IfOk result NothingIsAttached }
 {
     any_name(tokens)?;
     skip_to_end(tokens)
@@ -83,7 +86,8 @@ fn skip_to_next(tokens: &mut Tokens)
 /// The rest of a statement after `BO_` with the number of the message that holds the signals of no message.
 #[tactic(auto, unfolding(catalogue::specs::Parsing::independent_at))]
 pub(crate) fn independent(tokens: &mut Tokens) -> Result<Content, ReadFault>
-    ensures { Reads content_of result (independent_at tokens.old) tokens.new }
+    ensures reads { Reads content_of result (independent_at tokens.old) tokens.new }
+    ensures nothing { IfOk result NothingIsAttached }
 {
     independent_number(tokens)?;
     skip_to_next(tokens);

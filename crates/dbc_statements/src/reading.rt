@@ -6,7 +6,7 @@ ghost use Rattle.catalogue.specs.Spelling.{Spells};
 ghost use Rattle.dbc_lex.specs.Fault.{UnlessMemory};
 ghost use Rattle.dbc_statements.specs.Division.{HasNoDivision, IsDivided, TokensComeFirst};
 ghost use Rattle.dbc_statements.specs.Reading.{Reads, itself};
-ghost use Rattle.dbc_statements.specs.Statement.{line_content, statement_of, statements_of};
+ghost use Rattle.dbc_statements.specs.Statement.{NothingIsAttached, line_content, statement_of, statements_of};
 ghost use Rattle.dbc_statements.specs.Tokens.{IsReached};
 
 use crate::attached::{attribute_value, value_texts, value_types};
@@ -88,7 +88,8 @@ fn line(
     keyword: Keyword,
     tokens: &mut Tokens,
 ) -> Result<Line, ReadFault>
-    ensures { Reads line_content result (line_at keyword tokens.old) tokens.new }
+    ensures reads { Reads line_content result (line_at keyword tokens.old) tokens.new }
+    ensures nothing { IfOk result (λ line. NothingIsAttached line.content) }
 {
     match keyword {
         Keyword::Version => line_without_list(version(alloc, tokens)),
@@ -120,7 +121,8 @@ pub(crate) fn statement(
     tokens: &mut Tokens,
     before: Ended,
 ) -> Result<(Statement, Ended), ReadFault>
-    ensures { Reads (λ next. statement_of next.0) result (statement_at tokens.old) tokens.new }
+    ensures reads { Reads (λ next. statement_of next.0) result (statement_at tokens.old) tokens.new }
+    ensures nothing { IfOk result (λ next. NothingIsAttached next.0.content) }
 {
     let (start, keyword) = first_word(tokens, before)?;
     let Line { content, ended } = line(alloc, start, keyword, tokens)?;

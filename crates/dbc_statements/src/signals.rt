@@ -1,16 +1,16 @@
 //! The signals of a message.
-ghost use Rattle.std.specs.Prelude.{◌≡◌, [], ◌∷◌, IfErr, None, OnOk, Some, codes};
+ghost use Rattle.std.specs.Prelude.{◌≡◌, [], ◌∷◌, IfErr, IfOk, None, OnOk, Some, codes};
 ghost use Rattle.catalogue.specs.Fields as fields;
 ghost use Rattle.catalogue.specs.Parsing.{token_at, optional_at, mark_at, signal_at, signals_at};
 ghost use Rattle.catalogue.specs.Rules.{begins, starts};
 ghost use Rattle.catalogue.specs.declared.keyword.Keyword.TheVariants.{Signal as SignalWord};
 ghost use Rattle.dbc_lex.specs.Fault.{UnlessMemory};
 ghost use Rattle.dbc_statements.specs.Reading.{Reads, itself, with_one};
-ghost use Rattle.dbc_statements.specs.Statement.{signals_of};
+ghost use Rattle.dbc_statements.specs.Statement.{HaveNothingAttached, signals_of};
 
 use crate::fields::{key, layout, made_name, mark, pair, text};
 use crate::names::{Ended, receivers};
-use crate::statement::SignalLine;
+use crate::statement::SignalPlace;
 use crate::tokens::Tokens;
 use crate::words::{is_key, is_numeral, is_word, mux_of};
 use bitlayout::Mux;
@@ -52,15 +52,17 @@ fn colon(tokens: &mut Tokens, is_marked: bool) -> Result<(), ReadFault>
     }
 }
 
-/// Adds the signal from `SG_` on to the lines, and returns how its list of receivers ends.
+/// Adds the signal from `SG_` on, and its place, and returns how its list of receivers ends.
 #[inline(always)]
 #[tactic(auto, unfolding(catalogue::specs::Parsing::signal_at))]
 fn add_signal(
     alloc: Global,
     tokens: &mut Tokens,
-    lines: &mut Vec<SignalLine>,
+    signals: &mut Vec<Signal>,
+    places: &mut Vec<SignalPlace>,
 ) -> Result<Ended, ReadFault>
-    ensures ok { OnOk result (with_one (signals_of lines.old.items) (signal_at tokens.old) ≡ Some (signals_of lines.new.items, tokens.new)) }
+    ensures ok { OnOk result (with_one (signals_of signals.old.items) (signal_at tokens.old) ≡ Some (signals_of signals.new.items, tokens.new)) }
+    ensures nothing { OnOk result (HaveNothingAttached signals.old.items → HaveNothingAttached signals.new.items) }
     ensures err { IfErr result (λ fault. UnlessMemory fault.code (signal_at tokens.old ≡ None)) }
 {
     key(tokens, Keyword::Signal)?;
@@ -74,8 +76,9 @@ fn add_signal(
     let (minimum, maximum) = pair(tokens, b'[', b'|', b']')?;
     let unit = text(alloc, tokens)?;
     let (receivers, ended) = receivers(alloc, tokens)?;
-    lines.reserve(1)?;
-    let signal = Signal {
+    signals.reserve(1)?;
+    places.reserve(1)?;
+    signals.push_reserved(Signal {
         name,
         layout,
         signed,
@@ -90,8 +93,8 @@ fn add_signal(
         spn: Spn::NONE,
         values: ValueTexts::empty(alloc),
         value_type: ValueType::Integer,
-    };
-    lines.push_reserved(SignalLine { at, mux_at, signal });
+    });
+    places.push_reserved(SignalPlace { at, mux_at });
     Ok(ended)
 }
 
@@ -106,17 +109,19 @@ fn is_signal(tokens: &Tokens) -> bool
     }
 }
 
-/// Signals, up to anything else, and how the last one ends.
+/// Signals, up to anything else, their places, and how the last one ends.
 pub(crate) fn signals(
     alloc: Global,
     tokens: &mut Tokens,
-) -> Result<(Vec<SignalLine>, Ended), ReadFault>
-    ensures { Reads (λ lines. signals_of lines.0.items) result (signals_at tokens.old) tokens.new }
+) -> Result<(Vec<Signal>, Vec<SignalPlace>, Ended), ReadFault>
+    ensures reads { Reads (λ found. signals_of found.0.items) result (signals_at tokens.old) tokens.new }
+    ensures nothing { IfOk result (λ found. HaveNothingAttached found.0.items) }
 {
     let mut signals = Vec::new(alloc);
+    let mut places = Vec::new(alloc);
     let mut ended = Ended::Other;
     'signals: while is_signal(tokens) {
-        ended = add_signal(alloc, tokens, &mut signals)?;
+        ended = add_signal(alloc, tokens, &mut signals, &mut places)?;
     }
-    Ok((signals, ended))
+    Ok((signals, places, ended))
 }

@@ -2,7 +2,7 @@
 ghost use Rattle.std.specs.Prelude.{◌≡◌, ◌≤◌, [], length, SomeIff};
 ghost use Rattle.catalogue.specs.Limits.{value_text_limit};
 ghost use Rattle.dbc_statements.specs.Parts.{message_with, table_of};
-ghost use Rattle.dbc_statements.specs.Statement.{message_of};
+ghost use Rattle.dbc_statements.specs.Statement.{NothingIsAttached, message_of, statement_of};
 
 use crate::entries::Entries;
 use can_id::Ident;
@@ -47,28 +47,13 @@ impl TableLine {
     }
 }
 
-/// A signal as the statement of its message describes it.
-pub struct SignalLine {
+/// Where a signal is described.
+#[derive(Clone, Copy, Debug, PartialEq, Eq)]
+pub struct SignalPlace {
     /// The offset of its name.
     pub at: usize,
     /// The offset of its multiplexer indicator, or of the colon if it has none.
     pub mux_at: usize,
-    /// The signal, without what other statements attach to it.
-    pub signal: Signal,
-}
-
-impl SignalLine {
-    /// The signal alone. Takes no memory.
-    pub fn into_signal(self) -> Signal
-        ensures { result ≡ self.signal }
-    {
-        let SignalLine {
-            at: _at,
-            mux_at: _mux_at,
-            signal,
-        } = self;
-        signal
-    }
 }
 
 /// A message as its statement describes it.
@@ -85,13 +70,15 @@ pub struct MessageLine {
     pub length: PayloadLength,
     /// The node that sends it, if one is named.
     pub transmitter: Option<Name>,
-    /// Its signals, in order, any number of them.
-    pub signals: Vec<SignalLine>,
+    /// Its signals, in order, any number of them, without what other statements attach to them.
+    pub signals: Vec<Signal>,
+    /// Where each of them is.
+    pub places: Vec<SignalPlace>,
 }
 
 impl MessageLine {
-    /// The message with a comment and no signals, and its signals' lines. Takes no memory.
-    pub fn into_message(self, alloc: Global, comment: Text) -> (Message, Vec<SignalLine>)
+    /// The message with a comment and no signals, and its signals. Takes no memory.
+    pub fn into_message(self, alloc: Global, comment: Text) -> (Message, Vec<Signal>)
         ensures message { result.0 ≡ message_with (message_of self) comment [] }
         ensures signals { result.1.items ≡ self.signals.items }
     {
@@ -103,6 +90,7 @@ impl MessageLine {
             length,
             transmitter,
             signals,
+            places: _places,
         } = self;
         let message = Message {
             ident,
@@ -181,6 +169,27 @@ impl Statement {
         } = self;
         (start, keyword, content)
     }
+
+    /// The statement without the places of its signals, whose memory is given back.
+    pub fn without_places(self, alloc: Global) -> Statement
+        ensures says { statement_of result ≡ statement_of self }
+        ensures nothing { NothingIsAttached self.content → NothingIsAttached result.content }
+    {
+        let (start, keyword, content) = self.into_parts();
+        let content = match content {
+            Content::Message(line) => {
+                let mut line = line;
+                line.places = Vec::new(alloc);
+                Content::Message(line)
+            }
+            other => other,
+        };
+        Statement {
+            start,
+            keyword,
+            content,
+        }
+    }
 }
 
 impl Drop for TableLine {
@@ -189,16 +198,6 @@ impl Drop for TableLine {
             at: _at,
             name: _name,
             entries: _entries,
-        } = self;
-    }
-}
-
-impl Drop for SignalLine {
-    fn drop(self) {
-        let SignalLine {
-            at: _at,
-            mux_at: _mux_at,
-            signal: _signal,
         } = self;
     }
 }
@@ -213,6 +212,7 @@ impl Drop for MessageLine {
             length: _length,
             transmitter: _transmitter,
             signals: _signals,
+            places: _places,
         } = self;
     }
 }

@@ -1,12 +1,17 @@
-use Rattle.std.proofs.Common.{◌≡◌, ◌∙◌, ap, refl, sym}
+use Rattle.std.proofs.Common.{◌≡◌, ◌∙◌, ◌++◌, false, [], ◌∷◌, None, ap, refl, subst, sym}
 use Rattle.std.proofs.lemmas.Result.{err_from_is_err_and}
+use Rattle.catalogue.specs.Statement as says
+use Rattle.dbc_read.specs.Gathered.{passed_of}
+use Rattle.dbc_read.specs.Gathering.{AreBare, IsDefining, cites}
+use Rattle.dbc_read.specs.declared.gathered.Gathered.{Gathered}
+use Rattle.dbc_read.proofs.Building.{bare_after}
 use Rattle.dbc_read.proofs.OneByOne.{begin_with_more, begin_with_nothing, begin_without, none_read, one_defined, one_read}
 use Rattle.dbc_statements.specs.Left.{Left}
-use Rattle.dbc_statements.specs.Statement.{statement_of}
+use Rattle.dbc_statements.specs.Statement.{content_of, statement_of}
 use Rattle.dbc_read.proofs.one_by_one.gather_definitions.Goals as goal
 
 pub statements-init : goal.statements-init
-statements-init c = record { source = refl; read = none_read _ c.args.statements.now.tokens (λ h. h) }
+statements-init c = record { source = refl; read = none_read _ c.args.statements.now.tokens (λ h. h); bare = λ h. h }
 
 pub statements-smaller : goal.statements-smaller
 statements-smaller c = (rw c.in-Some.is at c.in_ok-next.ensures.next).fewer
@@ -15,10 +20,16 @@ pub statements-preserved : goal.statements-preserved
 statements-preserved c =
     let at = c.statements in
     let next = c.in-Some.next in
+    let kept = c.without_places.result in
+    let cites_none : cites (content_of kept.content) ≡ false = ap (λ (s : says.Statement). cites s.content) c.without_places.ensures.says ∙ sym c.cites.ensures ∙ c.if-cites.false in
     record {
       source = c.read_next.ensures.source ∙ at.invariant.source;
       read = one_read _ _ (statement_of next) c.args.statements.now.tokens at.statements.tokens c.read_next.new.self.tokens (rw c.in-Some.is at c.in_ok-next.ensures.next)
-          (λ said h begun. one_defined said next at.gathered c.gather_statement.new.gathered (sym c.cites.ensures ∙ c.if-cites.false) c.in_ok-gather_statement.ensures (h begun)) at.invariant.read;
+          (λ said h begun.
+          subst (λ (s : says.Statement). IsDefining (said ++ s ∷ []) c.gather_statement.new.gathered) c.without_places.ensures.says
+          (one_defined said kept at.gathered c.gather_statement.new.gathered cites_none c.in_ok-gather_statement.ensures (h begun))) at.invariant.read;
+      bare = λ h. subst (λ (g : Gathered). AreBare g.messages) (sym c.in_ok-gather_statement.ensures)
+          (bare_after None (passed_of kept) kept.content at.gathered (c.without_places.ensures.nothing (rw c.in-Some.is at c.in_ok-next.ensures.nothing)) (at.invariant.bare h));
     }
 
 pub returns-in_err-next-clause-err : goal.returns-in_err-next-clause-err

@@ -1,5 +1,5 @@
 use Rattle.std.proofs.Common.{◌≡◌, [], length}
-use Rattle.dbc_read.specs.Gathering.{IsDefining}
+use Rattle.dbc_read.specs.Gathering.{AreBare, IsDefining}
 use Rattle.dbc_read.proofs.OneByOne.{ReadSoFar}
 use Rattle.dbc_read.proofs.one_by_one.gather_definitions.Given as goal
 
@@ -7,6 +7,7 @@ abbrev pub invariant-statements : goal.invariant-statements
 invariant-statements l = record {
   source : l.statements.source ≡ l.initial.statements.source;
   read : ReadSoFar (λ said. IsDefining [] l.initial.gathered → IsDefining said l.gathered) l.initial.statements.tokens l.statements.tokens;
+  bare : AreBare l.initial.gathered.messages → AreBare l.gathered.messages;
 }
 
 abbrev pub decreases-statements : goal.decreases-statements

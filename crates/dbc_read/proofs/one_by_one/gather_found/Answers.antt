@@ -1,19 +1,16 @@
 use Rattle.std.proofs.Common.{◌∙◌, sym}
 use Rattle.std.proofs.lemmas.Result.{IfOk-weaker}
+use Rattle.dbc_read.proofs.Building.{have_nothing}
 use Rattle.dbc_read.proofs.Settling.{all_follow, same_line_numbers}
 use Rattle.dbc_read.proofs.one_by_one.gather_found.Goals as goal
 
-pub settle_first-requires-clause-numbers : goal.settle_first-requires-clause-numbers
-settle_first-requires-clause-numbers c = c.requires.numbers ∙ sym (same_line_numbers c.args.lines.now c.attach_none.new.lines c.attach_none.ensures.messages)
-
 pub settle_all-requires : goal.settle_all-requires
-settle_all-requires c =
-    c.requires.numbers ∙ sym (same_line_numbers c.args.lines.now c.settle_first.new.lines (c.settle_first.ensures.messages ∙ c.attach_none.ensures.messages))
+settle_all-requires c = c.requires.numbers ∙ sym (same_line_numbers c.args.lines.now c.settle_first.new.lines c.settle_first.ensures.messages)
 
 pub returns-clause-ok : goal.returns-clause-ok
 returns-clause-ok c =
     IfOk-weaker c.settle_all.result _ _ (λ all done yes.
-    all_follow c.args.finders.now c.args.nodes.now c.args.lines.now c.attach_none.new.lines c.settle_first.new.lines c.settle_all.new.lines c.args.first c.args.statements.now.tokens
+    all_follow c.args.finders.now c.args.nodes.now c.args.lines.now c.settle_first.new.lines c.settle_all.new.lines c.args.first c.args.statements.now.tokens
     c.args.gathered.now c.attach_nothing.new.gathered c.settle_first.new.gathered c.settle_all.new.gathered
-    c.requires.finds c.attach_none.ensures.messages (c.in_ok-attach_none.ensures.nothing c.if-not-branch.false) c.in_ok-attach_nothing.ensures
-    (c.in_ok-settle_first.ensures.settles c.if-not-branch-2.false) (done yes)) c.settle_all.ensures.ok
+    c.requires.finds (have_nothing c.args.lines.now c.requires.bare) c.in_ok-attach_nothing.ensures
+    (c.in_ok-settle_first.ensures.settles c.if-not-branch.false) (done yes)) c.settle_all.ensures.ok

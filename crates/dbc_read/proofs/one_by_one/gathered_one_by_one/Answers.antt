@@ -2,11 +2,17 @@ use Rattle.std.proofs.Common.{◌≡◌, ◌∙◌, ◌++◌, List, sym, subst}
 use Rattle.std.proofs.lemmas.List.{with_items_is}
 use Rattle.std.proofs.lemmas.Result.{err_from_is_err_and}
 use Rattle.dbc_read.specs.Attaching.{in_signals}
-use Rattle.dbc_read.specs.Gathering.{IsOfTokens, one_or_none, with_definitions}
+use Rattle.dbc_read.specs.Gathering.{AreBare, IsOfTokens, one_or_none, with_definitions}
 use Rattle.dbc_read.proofs.OneByOne.{begin_without}
 use Rattle.dbc_read.proofs.Settling.{of_tokens}
 use Rattle.dbc_statements.specs.declared.statement.MessageLine.{MessageLine}
 use Rattle.dbc_read.proofs.one_by_one.gathered_one_by_one.Goals as goal
+
+pub gather_others-requires-clause-bare : goal.gather_others-requires-clause-bare
+gather_others-requires-clause-bare c =
+    let g = c.gather_definitions.new.gathered in
+    let messages : c.deref_mut.result.now ≡ g.messages = c.deref_mut.ensures.value ∙ c.into_vec-lines.ensures ∙ c.take.ensures.items in
+    subst AreBare (sym messages) (c.in_ok-first.ensures.bare (subst AreBare (sym c.empty-gathered.ensures.messages) tt))
 
 pub returns-in_err-all-clause-err : goal.returns-in_err-all-clause-err
 returns-in_err-all-clause-err c =

@@ -10,12 +10,17 @@ use Rattle.dbc_statements.proofs.signals.signals.Goals as goal
 
 pub signals-init : goal.signals-init
 unfolding signals_at
-signals-init c = rw c.new-signals.ensures.items (at_start (many_at (starts (is_key Signal)) signal_at c.args.tokens.now))
+signals-init c = record {
+  read = rw c.new-signals.ensures.items (at_start (many_at (starts (is_key Signal)) signal_at c.args.tokens.now));
+  nothing = rw c.new-signals.ensures.items tt;
+}
 
 pub signals-smaller : goal.signals-smaller
 signals-smaller c =
-    fewer signals_take (signals_of c.signals.signals.items) c.signals.tokens (signals_of c.add_signal.new.lines.items) c.add_signal.new.tokens (sym c.is_signal.ensures ∙ c.signals-test.true) c.in_ok-ended.ensures.ok
+    fewer signals_take (signals_of c.signals.signals.items) c.signals.tokens (signals_of c.add_signal.new.signals.items) c.add_signal.new.tokens (sym c.is_signal.ensures ∙ c.signals-test.true) c.in_ok-ended.ensures.ok
 
 pub signals-preserved : goal.signals-preserved
-signals-preserved c =
-    one_more signals_take (signals_of c.signals.signals.items) c.signals.tokens (signals_of c.add_signal.new.lines.items) c.add_signal.new.tokens _ (sym c.is_signal.ensures ∙ c.signals-test.true) c.in_ok-ended.ensures.ok c.signals.invariant
+signals-preserved c = record {
+  read = one_more signals_take (signals_of c.signals.signals.items) c.signals.tokens (signals_of c.add_signal.new.signals.items) c.add_signal.new.tokens _ (sym c.is_signal.ensures ∙ c.signals-test.true) c.in_ok-ended.ensures.ok c.signals.invariant.read;
+  nothing = c.in_ok-ended.ensures.nothing c.signals.invariant.nothing;
+}

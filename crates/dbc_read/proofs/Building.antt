@@ -3,12 +3,13 @@ use Rattle.std.proofs.Common.{◌≡◌, ◌∙◌, ◌++◌, ℕ, List, [], ◌
 use Rattle.std.specs.Prelude.{drop}
 use Rattle.std.specs.List.{AllByRecursion, flat_map}
 use Rattle.std.proofs.lemmas.List.{map-append}
+use Rattle.std.proofs.lemmas.List.Sorted.{IsPermutation-map}
 use Rattle.catalogue.specs.Statement as says
 use Rattle.catalogue.specs.declared.message.Message.{Message}
 use Rattle.catalogue.specs.declared.sheet.Sheet.{Sheet}
 use Rattle.catalogue.specs.declared.signal.Signal.{Signal}
 use Rattle.catalogue.specs.declared.value_type.ValueType.TheVariants.{Integer}
-use Rattle.dbc_read.specs.Attaching.{all_signals, each_fed, feeds_of, in_signals, line_signals, messages_of_lines, messages_with}
+use Rattle.dbc_read.specs.Attaching.{all_signals, commented, each_fed, feeds_of, in_signals, line_signals, messages_of_lines, messages_with}
 use Rattle.dbc_read.specs.Built.{CanBeSheet, IsBuilt, feeds_after, feeds_in, first_or, messages_from, messages_in, signals_from}
 use Rattle.dbc_read.specs.Fit.{CanShareSheet, HaveFewTexts, IsFit}
 use Rattle.dbc_read.specs.Gathering.{HaveNothing}
@@ -130,3 +131,32 @@ have_nothing old new same fed = λ g.
     let types = sym (map_twice (λ (s : Signal). s.value_type) (all_signals new)) ∙ lists (λ (s : Signal). s.value_type) Integer (λ l ls. refl) old new same fed in
     let spns = sym (map_twice (λ (s : Signal). s.spn) (all_signals new)) ∙ lists (λ (s : Signal). s.spn) 0 (λ l ls. refl) old new same fed in
     λ i. record g { signal_comments = comments i; signal_values = values i; signal_types = types i; signal_spns = spns i }
+
+-- the first of the lines, and those that are left
+pub first_line : (lines : List MessageLine) (line : MessageLine) (rest : List MessageLine) (comments left : List (List ℕ)) (other comment : List ℕ) (m : Message)
+    → lines ≡ line ∷ rest → other ≡ [] → comment ≡ first_or other comments → left ≡ drop 1 comments → m ≡ message_with (message_of line) comment (line_signals line)
+    → messages_of_lines lines comments ≡ m ∷ messages_of_lines rest left
+first_line lines line rest comments left other comment m first none value others is =
+    ap (λ l. messages_of_lines l comments) first
+    ∙ ap (λ (x : Message). x ∷ messages_of_lines rest (drop 1 comments)) (sym (is ∙ ap (λ t. message_with (message_of line) t (line_signals line)) (value ∙ ap (λ o. first_or o comments) none)))
+    ∙ ap (λ l. m ∷ messages_of_lines rest l) (sym others)
+
+-- Lines with the comments on them, in pairs.
+abbrev message_of_pair : MessageLine × List ℕ → Message
+message_of_pair p = message_with (message_of p.0) p.1 (line_signals p.0)
+
+in_pairs : (lines : List MessageLine) (comments : List (List ℕ)) → map message_of_pair (commented lines comments) ≡ messages_of_lines lines comments
+in_pairs [] comments = refl
+in_pairs (line ∷ lines) comments = ap (λ l. message_with (message_of line) (first_or [] comments) (line_signals line) ∷ l) (in_pairs lines (drop 1 comments))
+
+in_parts : (ps : List (MessageLine × List ℕ)) → map message_of_pair ps ≡ messages_of_lines (map (λ p. p.0) ps) (map (λ p. p.1) ps)
+in_parts [] = refl
+in_parts (p ∷ ps) = ap (λ l. message_of_pair p ∷ l) (in_parts ps)
+
+-- the same messages in another order
+pub pairs_moved : (lines sorted_lines : List MessageLine) (comments sorted_comments : List (List ℕ)) (pairs sorted : List (MessageLine × List ℕ))
+    → pairs ≡ commented lines comments → IsPermutation pairs sorted → sorted_lines ≡ map (λ p. p.0) sorted → sorted_comments ≡ map (λ p. p.1) sorted
+    → IsPermutation (messages_of_lines lines comments) (messages_of_lines sorted_lines sorted_comments)
+pairs_moved lines sorted_lines comments sorted_comments pairs sorted are moved lines_are comments_are =
+    subst (λ l. IsPermutation l (messages_of_lines sorted_lines sorted_comments)) (ap (map message_of_pair) are ∙ in_pairs lines comments)
+    (subst (λ l. IsPermutation (map message_of_pair pairs) l) (in_parts sorted ∙ (λ i. messages_of_lines (sym lines_are i) (sym comments_are i))) (IsPermutation-map message_of_pair pairs sorted moved))

@@ -2,12 +2,13 @@
 use Rattle.std.proofs.Common.{◌≡◌, ◌∙◌, ◌++◌, ℕ, List, [], ◌∷◌, Option, length, map, replicate, IsPermutation, refl, sym, ap, subst}
 use Rattle.std.specs.Prelude.{drop}
 use Rattle.std.specs.List.{AllByRecursion}
+use Rattle.std.proofs.lemmas.List.Sorted.{IsPermutation-map}
 use Rattle.catalogue.specs.Statement as says
 use Rattle.catalogue.specs.declared.message.Message.{Message}
 use Rattle.catalogue.specs.declared.sheet.Sheet.{Sheet}
 use Rattle.catalogue.specs.declared.signal.Signal.{Signal}
 use Rattle.catalogue.specs.declared.value_type.ValueType.TheVariants.{Integer}
-use Rattle.dbc_read.specs.Attaching.{all_signals, each_fed, feeds_of, in_signals, line_signals, messages_of_lines, messages_with}
+use Rattle.dbc_read.specs.Attaching.{all_signals, commented, each_fed, feeds_of, in_signals, line_signals, messages_of_lines, messages_with}
 use Rattle.dbc_read.specs.Built.{CanBeSheet, IsBuilt, feeds_after, feeds_in, first_or, messages_from, messages_in, signals_from}
 use Rattle.dbc_read.specs.Fit.{CanShareSheet, HaveFewTexts, IsFit}
 use Rattle.dbc_read.specs.Gathered.{gathered_after}
@@ -113,3 +114,32 @@ bare_with_one (l ∷ lines) line h k = (h.0, bare_with_one lines line h.1 k)
 pub bare_after : (index : Option ℕ) (p : Passed) (c : Content) (g : Gathered) → NothingIsAttached c → AreBare g.messages → AreBare (gathered_after index p c g).messages
 bare_after index p (content.Message line) g k h = bare_with_one g.messages line.value h k
 bare_after index p c g k h = h
+
+-- the first of the lines, and those that are left
+pub first_line : (lines : List MessageLine) (line : MessageLine) (rest : List MessageLine) (comments left : List (List ℕ)) (other comment : List ℕ) (m : Message)
+    → lines ≡ line ∷ rest → other ≡ [] → comment ≡ first_or other comments → left ≡ drop 1 comments → m ≡ message_with (message_of line) comment (line_signals line)
+    → messages_of_lines lines comments ≡ m ∷ messages_of_lines rest left
+first_line lines line rest comments left other comment m first none value others is =
+    ap (λ l. messages_of_lines l comments) first
+    ∙ ap (λ (x : Message). x ∷ messages_of_lines rest (drop 1 comments)) (sym (is ∙ ap (λ t. message_with (message_of line) t (line_signals line)) (value ∙ ap (λ o. first_or o comments) none)))
+    ∙ ap (λ l. m ∷ messages_of_lines rest l) (sym others)
+
+-- Lines with the comments on them, in pairs.
+abbrev message_of_pair : MessageLine × List ℕ → Message
+message_of_pair p = message_with (message_of p.0) p.1 (line_signals p.0)
+
+in_pairs : (lines : List MessageLine) (comments : List (List ℕ)) → map message_of_pair (commented lines comments) ≡ messages_of_lines lines comments
+in_pairs [] comments = refl
+in_pairs (line ∷ lines) comments = ap (λ l. message_with (message_of line) (first_or [] comments) (line_signals line) ∷ l) (in_pairs lines (drop 1 comments))
+
+in_parts : (ps : List (MessageLine × List ℕ)) → map message_of_pair ps ≡ messages_of_lines (map (λ p. p.0) ps) (map (λ p. p.1) ps)
+in_parts [] = refl
+in_parts (p ∷ ps) = ap (λ l. message_of_pair p ∷ l) (in_parts ps)
+
+-- the same messages in another order
+pub pairs_moved : (lines sorted_lines : List MessageLine) (comments sorted_comments : List (List ℕ)) (pairs sorted : List (MessageLine × List ℕ))
+    → pairs ≡ commented lines comments → IsPermutation pairs sorted → sorted_lines ≡ map (λ p. p.0) sorted → sorted_comments ≡ map (λ p. p.1) sorted
+    → IsPermutation (messages_of_lines lines comments) (messages_of_lines sorted_lines sorted_comments)
+pairs_moved lines sorted_lines comments sorted_comments pairs sorted are moved lines_are comments_are =
+    subst (λ l. IsPermutation l (messages_of_lines sorted_lines sorted_comments)) (ap (map message_of_pair) are ∙ in_pairs lines comments)
+    (subst (λ l. IsPermutation (map message_of_pair pairs) l) (in_parts sorted ∙ (λ i. messages_of_lines (sym lines_are i) (sym comments_are i))) (IsPermutation-map message_of_pair pairs sorted moved))

@@ -5,11 +5,12 @@ use Rattle.std.proofs.lemmas.List.{length-map}
 use Rattle.can_id.specs.Ident.{dbc_number}
 use Rattle.catalogue.specs.Saying.{keys_of, messages_of, node_names_of, numbers_of, signal_keys_of}
 use Rattle.catalogue.specs.Statement as says
+use Rattle.catalogue.specs.Statement.{Cited}
 use Rattle.catalogue.specs.Token.{Token}
 use Rattle.catalogue.specs.declared.keyword.Keyword.{Keyword}
 use Rattle.catalogue.specs.declared.signal.Signal.{Signal}
 use Rattle.catalogue.specs.declared.value_type.ValueType.TheVariants.{Integer}
-use Rattle.dbc_read.specs.Attaching.{IsAttached, all_signals, with_attachment, attaching, changed_at, cites_signal, in_signals, with_attached}
+use Rattle.dbc_read.specs.Attaching.{IsAttached, IsPlaceCited, IsPlaceOf, all_signals, with_attachment, attaching, changed_at, cites_signal, in_signals, with_attached}
 use Rattle.dbc_read.specs.Finding.{Finds, FindsAll}
 use Rattle.dbc_read.specs.Gathered.{AreGathered, gathered_after, passed_of, set_at}
 use Rattle.dbc_read.specs.Gathering.{DefineNothing, Defines, FollowAll, Gathers, HaveNothing, IsDefining, IsEmpty, IsOfTokens, IsSettling, Settles, SettlesAll, defines, one_or_none, with_definitions, with_nothing_attached}
@@ -17,6 +18,7 @@ use Rattle.dbc_read.specs.Lookups.{IsCitedIndex, IsSignalIn}
 use Rattle.dbc_read.specs.Numbers.{line_numbers}
 use Rattle.dbc_read.specs.declared.attaching.Attachment.{Attachment}
 use Rattle.dbc_read.specs.declared.attaching.Attachment.TheVariants as what
+use Rattle.dbc_read.specs.declared.attaching.Place.{Place}
 use Rattle.dbc_read.specs.declared.finding.Finders.{Finders}
 use Rattle.dbc_read.specs.declared.gathered.Gathered.{Gathered}
 use Rattle.dbc_read.specs.declared.passed.Passed.{Passed}
@@ -173,13 +175,26 @@ attached_settled f s cited a lines new_lines old now passed defines_none says_wh
     (ap (with_attached new_lines) is ∙ attached_view cited a (passed_of s) lines new_lines old passed at
     ∙ ap (λ c. gathered_after at.index (passed_of s) c (with_attached lines old)) (sym says_what))
 
--- the same of a statement in parts
-pub attached_parts : (f : Finders) (s : Statement) (parts : ℕ × Keyword × Content) (cited : CitedSignal) (a : Attachment) (lines new_lines : List MessageLine) (old : Gathered) (passed : List Passed)
-    → defines (content_of s.content) ≡ false → parts ≡ (s.start, s.keyword, s.content) → parts.2 ≡ attaching cited a → map message_of new_lines ≡ map message_of lines
-    → IsAttached cited.number cited.name.items a (record { at = parts.0; keyword = parts.1 }) lines new_lines old.passed passed → Settles f (statement_of s ∷ []) lines old new_lines (record old { passed = passed })
-attached_parts f s parts cited a lines new_lines old passed defines_none are says_what same at =
-    attached_settled f s cited a lines new_lines old (record old { passed = passed }) passed defines_none (sym (ap (λ (t : ℕ × Keyword × Content). t.2) are) ∙ says_what) same
-    (subst (λ (t : ℕ × Keyword × Content). IsAttached cited.number cited.name.items a (record { at = t.0; keyword = t.1 }) lines new_lines old.passed passed) are at) refl
+-- the place of what it cites
+cited_place : (lines : List MessageLine) (c : Content) (cited : CitedSignal) (a : Attachment) (place : Option Place) → IsPlaceCited lines c place → c ≡ attaching cited a → IsPlaceOf lines cited.number cited.name.items place
+cited_place lines c cited a place h is = by a (subst (λ (k : Content). IsPlaceCited lines k place) is h)
+  where
+    by : (b : Attachment) → IsPlaceCited lines (attaching cited b) place → IsPlaceOf lines cited.number cited.name.items place
+    by (what.Comment text) k = k
+    by (what.Values texts) k = k
+    by (what.Type value_type) k = k
+    by (what.Spn spn) k = k
+
+-- the same of a statement in parts, where the place of what it cites is known
+pub attached_parts : (f : Finders) (s : Statement) (parts : ℕ × Keyword × Content) (cited : CitedSignal) (a : Attachment) (place : Option Place) (lines new_lines : List MessageLine) (old : Gathered) (passed : List Passed)
+    → defines (content_of s.content) ≡ false → parts ≡ (s.start, s.keyword, s.content) → parts.2 ≡ attaching cited a → IsPlaceCited lines s.content place → map message_of new_lines ≡ map message_of lines
+    → ((number : Cited) (name : List ℕ) → IsPlaceOf lines number name place → IsAttached number name a (record { at = parts.0; keyword = parts.1 }) lines new_lines old.passed passed)
+    → Settles f (statement_of s ∷ []) lines old new_lines (record old { passed = passed })
+attached_parts f s parts cited a place lines new_lines old passed defines_none are says_what found same at =
+    let what_is : s.content ≡ attaching cited a = sym (ap (λ (t : ℕ × Keyword × Content). t.2) are) ∙ says_what in
+    attached_settled f s cited a lines new_lines old (record old { passed = passed }) passed defines_none what_is same
+    (subst (λ (t : ℕ × Keyword × Content). IsAttached cited.number cited.name.items a (record { at = t.0; keyword = t.1 }) lines new_lines old.passed passed) are
+    (at cited.number cited.name.items (cited_place lines s.content cited a place found what_is))) refl
 
 pub other_parts : (f : Finders) (s : Statement) (parts : ℕ × Keyword × Content) (index : Option ℕ) (lines : List MessageLine) (old now : Gathered) → defines (content_of s.content) ≡ false
     → parts ≡ (s.start, s.keyword, s.content) → cites_signal parts.2 ≡ false → ((all : List says.Statement) → Finds f lines all → IsCitedIndex all (content_of parts.2) index)

@@ -2,7 +2,7 @@
 use Rattle.std.proofs.Common.{◌≡◌, ◌≤◌, ◌==◌, ℕ, List, [], ◌∷◌, ◌++◌, length-append, arith, Bool, false, sym, subst, IsPermutation}
 use Rattle.std.specs.List.{AllByRecursion, IsDistinct}
 use Rattle.std.specs.Str.{bytes_eq}
-use Rattle.std.proofs.lemmas.List.Sorted.{length_permutation}
+use Rattle.std.proofs.lemmas.List.Sorted.{IsPermutation-append_right, length_permutation}
 use Rattle.std.proofs.lemmas.Map.Keys.{IsDistinct-IsPermutation}
 use Rattle.catalogue.specs.Fault.{IsRefusal}
 use Rattle.catalogue.specs.Limits.{message_limit, roster_limit}
@@ -14,7 +14,9 @@ use Rattle.catalogue.specs.WellFormed.{AreFewTexts, AreRostered}
 use Rattle.catalogue.specs.declared.fault.SheetCode.{SheetCode}
 use Rattle.catalogue.specs.declared.message.Message.{Message}
 use Rattle.catalogue.specs.declared.value_table.ValueTable.{ValueTable}
+use Rattle.catalogue.proofs.AscendingUnique.{all_permutation}
 use Rattle.catalogue.proofs.SheetSaid.{nat_flip}
+use Rattle.dbc_read.specs.Built.{AreAddable}
 use Rattle.dbc_read.specs.Fit.{CanShareSheet, IsFit, TablesFit}
 use Rattle.dbc_read.specs.Refusal.{Unless, refusal_of}
 use Rattle.dbc_read.specs.declared.refusal.Refusal.{Refusal}
@@ -77,6 +79,12 @@ share_in_any_order xs ys p h = record {
   numbers = IsDistinct-IsPermutation (λ a b. number_of a == number_of b) number_flip xs ys p h.numbers;
   names = IsDistinct-IsPermutation (λ a b. bytes_eq (message_name a) (message_name b)) name_flip xs ys p h.names;
   few = subst (λ n. n ≤ message_limit) (sym (length_permutation xs ys p)) h.few;
+}
+
+pub addable_in_any_order : (before xs ys : List Message) → IsPermutation xs ys → AreAddable before xs → AreAddable before ys
+addable_in_any_order before xs ys p h = record {
+  fit = all_permutation IsFit xs ys p h.fit;
+  together = share_in_any_order (before ++ xs) (before ++ ys) (IsPermutation-append_right before xs ys p) h.together;
 }
 
 sharing : (before : List Message) (m : Message) (after : List Message) → CanShareSheet (before ++ m ∷ after) → AllByRecursion (λ t. t.holds ≡ false) (message_tests before m)

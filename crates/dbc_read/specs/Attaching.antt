@@ -10,8 +10,6 @@ use Rattle.dbc_read.specs.Gathered.{passed_after}
 use Rattle.dbc_read.specs.Lookups.{IsSignalIn}
 use Rattle.dbc_read.specs.declared.attaching.Attachment.{Attachment}
 use Rattle.dbc_read.specs.declared.attaching.Attachment.TheVariants as what
-use Rattle.dbc_read.specs.declared.attaching.Cites.{Cites}
-use Rattle.dbc_read.specs.declared.attaching.Cites.TheVariants as cites
 use Rattle.dbc_read.specs.declared.attaching.Place.{Place}
 use Rattle.dbc_read.specs.declared.feed.Feeds.{Feeds}
 use Rattle.dbc_read.specs.declared.gathered.Gathered.{Gathered}
@@ -42,12 +40,6 @@ cites_signal (content.ValueTexts cited texts) = true
 cites_signal (content.ValueType cited value_type) = true
 cites_signal (content.Spn cited spn) = true
 cites_signal c = false
-
--- what the content attaches to a signal, or the content, if it attaches nothing to one
-abbrev pub SaysWhat : Content → Cites → Type 0
-SaysWhat c (cites.Signal cited a) = c ≡ attaching cited a
-SaysWhat c (cites.Other other) = (c ≡ other) × (cites_signal c ≡ false)
-SaysWhat c cites.TooMany = ⊤
 
 -- the list with one item changed, if there is an index
 abbrev pub at_index : {A : Type 0} → (A → A) → List A → ℕ → List A
@@ -93,6 +85,14 @@ pub record IsPlaceOf (lines : List MessageLine) (number : Cited) (name : List �
   pub within : HasPlaceIfAny lines place
   pub index : IsSignalIn (map message_of lines) number name (index_of_place lines place)
 
+-- the same of the signal that the content cites, if it cites one
+abbrev pub IsPlaceCited : List MessageLine → Content → Option Place → Type 0
+IsPlaceCited lines (content.SignalComment cited text) place = IsPlaceOf lines cited.number cited.name.items place
+IsPlaceCited lines (content.ValueTexts cited texts) place = IsPlaceOf lines cited.number cited.name.items place
+IsPlaceCited lines (content.ValueType cited value_type) place = IsPlaceOf lines cited.number cited.name.items place
+IsPlaceCited lines (content.Spn cited spn) place = IsPlaceOf lines cited.number cited.name.items place
+IsPlaceCited lines c place = ⊤
+
 -- this is attached to the signal that is cited, or the statement is skipped if there is no such signal
 pub record IsAttached (number : Cited) (name : List ℕ) (a : Attachment) (p : Passed) (old new : List MessageLine) (before after : List Passed) : Type 0 where
   pub index : Option ℕ
@@ -137,3 +137,8 @@ messages_with (m ∷ ms) comments lists = message_with m (first_or [] comments) 
 -- the messages of the lines, with what is attached to their signals there
 abbrev pub messages_of_lines : List MessageLine → List (List ℕ) → List Message
 messages_of_lines lines comments = messages_with (map message_of lines) comments (map line_signals lines)
+
+-- the lines, each with the comment on it
+abbrev pub commented : List MessageLine → List (List ℕ) → List (MessageLine × List ℕ)
+commented [] comments = []
+commented (line ∷ lines) comments = (line, first_or [] comments) ∷ commented lines (drop 1 comments)

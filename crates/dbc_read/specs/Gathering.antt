@@ -10,15 +10,18 @@ use Rattle.catalogue.specs.Statement as says
 use Rattle.catalogue.specs.Token.{Token}
 use Rattle.catalogue.specs.declared.keyword.Keyword.{Keyword}
 use Rattle.catalogue.specs.declared.value_type.ValueType.TheVariants.{Integer}
-use Rattle.dbc_read.specs.Attaching.{all_signals, with_attached}
+use Rattle.dbc_read.specs.Attaching.{all_signals, cites_signal, with_attached}
 use Rattle.dbc_read.specs.Finding.{Finds}
-use Rattle.dbc_read.specs.Gathered.{AreGathered}
+use Rattle.dbc_read.specs.Gathered.{AreGathered, gathered_after}
+use Rattle.dbc_read.specs.Lookups.{IsCitedIndex}
 use Rattle.dbc_read.specs.Passed.{start_and_keyword}
 use Rattle.dbc_read.specs.declared.finding.Finders.{Finders}
 use Rattle.dbc_read.specs.declared.gathered.Gathered.{Gathered}
+use Rattle.dbc_read.specs.declared.passed.Passed.{Passed}
 use Rattle.dbc_statements.specs.Division.{IsDivided}
 use Rattle.dbc_statements.specs.Parts.{table_of}
 use Rattle.dbc_statements.specs.Statement.{HaveNothingAttached, content_of, message_of, names_of, statement_of}
+use Rattle.dbc_statements.specs.declared.statement.Content.{Content}
 use Rattle.dbc_statements.specs.declared.statement.MessageLine.{MessageLine}
 use Rattle.dbc_statements.specs.declared.statement.NodeName.{NodeName}
 use Rattle.dbc_statements.specs.declared.statement.Statement.{Statement}
@@ -130,6 +133,13 @@ HaveNothing lines = (g : Gathered) → with_attached lines g ≡ record g {
 abbrev pub Settles : Finders → List says.Statement → List MessageLine → Gathered → List MessageLine → Gathered → Type 0
 Settles f more lines old new_lines new = (said : List says.Statement) (nodes : List NodeName) → Finds f lines said → IsSettling said nodes lines (with_attached lines old)
     → Finds f new_lines (said ++ more) × IsSettling (said ++ more) nodes new_lines (with_attached new_lines new)
+
+-- one statement is gathered, with the index of what its content cites, which is no signal
+pub record IsGathered (f : Finders) (p : Passed) (c : Content) (old new : Gathered) : Type 0 where
+  pub none : cites_signal c ≡ false
+  pub index : Option ℕ
+  pub is : (lines : List MessageLine) (statements : List says.Statement) → Finds f lines statements → IsCitedIndex statements (content_of c) index
+  pub gathered : new ≡ gathered_after index p c old
 
 -- Tokens that begin with these statements, and then the rest.
 abbrev pub BeginWith : List says.Statement → List Token → List Token → Type 0

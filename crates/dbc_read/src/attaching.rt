@@ -1,10 +1,10 @@
 //! What statements attach to signals, set in these at once.
 ghost use Rattle.std.specs.Prelude.{◌≡◌, ◌<◌, length, map};
-ghost use Rattle.dbc_read.specs.Attaching.{HasPlace, SaysWhat, all_signals, at_index, flat_index, with_attachment};
+ghost use Rattle.dbc_read.specs.Attaching.{HasPlace, all_signals, at_index, flat_index, with_attachment};
 ghost use Rattle.dbc_statements.specs.Statement.{message_of};
 
 use catalogue::{Signal, Spn, Text, ValueTexts, ValueType};
-use dbc_statements::{CitedSignal, Content, MessageLine};
+use dbc_statements::MessageLine;
 
 /// What a statement attaches to a signal.
 #[derive(Drop)]
@@ -19,17 +19,6 @@ pub(crate) enum Attachment {
     Spn(Spn),
 }
 
-/// What a content cites.
-#[derive(Drop)]
-pub(crate) enum Cites {
-    /// A signal, with what it attaches to it.
-    Signal(CitedSignal, Attachment),
-    /// No signal: the content itself.
-    Other(Content),
-    /// A signal, with more texts for its values than one can have.
-    TooMany,
-}
-
 /// Where a signal is.
 #[derive(Clone, Copy)]
 pub(crate) struct Place {
@@ -39,25 +28,8 @@ pub(crate) struct Place {
     pub signal: usize,
 }
 
-/// What the content cites. Takes no memory.
-pub(crate) fn cited_by(content: Content) -> Cites
-    ensures { SaysWhat content result }
-{
-    match content {
-        Content::SignalComment(cited, text) => Cites::Signal(cited, Attachment::Comment(text)),
-        Content::ValueTexts(cited, entries) => match entries.into_texts() {
-            Some(texts) => Cites::Signal(cited, Attachment::Values(texts)),
-            None => Cites::TooMany,
-        },
-        Content::ValueType(cited, value_type) => {
-            Cites::Signal(cited, Attachment::Type(value_type))
-        }
-        Content::Spn(cited, spn) => Cites::Signal(cited, Attachment::Spn(spn)),
-        other => Cites::Other(other),
-    }
-}
-
 /// Sets what is attached in the signal.
+#[inline(always)]
 fn attach_to(signal: &mut Signal, attachment: Attachment)
     ensures { signal.new ≡ with_attachment attachment signal.old }
 {
@@ -70,6 +42,7 @@ fn attach_to(signal: &mut Signal, attachment: Attachment)
 }
 
 /// Sets what is attached in the signal at this index.
+#[inline(always)]
 fn attach_in(signals: &mut [Signal], at: usize, attachment: Attachment)
     requires { at < length signals.old }
     ensures { signals.new ≡ at_index (with_attachment attachment) signals.old at }
@@ -78,6 +51,7 @@ fn attach_in(signals: &mut [Signal], at: usize, attachment: Attachment)
 }
 
 /// Sets what is attached in the signal at this place.
+#[inline(always)]
 #[tactic(auto, using(crate::proofs::Places::place_within))]
 pub(crate) fn attach_at(lines: &mut [MessageLine], place: Place, attachment: Attachment)
     requires { HasPlace lines.old place.message place.signal }

@@ -8,7 +8,7 @@ ghost use Rattle.std.specs.List.{IsDistinct};
 ghost use Rattle.std.specs.Str.{bytes_eq};
 ghost use Rattle.catalogue.specs.Statement as says;
 ghost use Rattle.catalogue.specs.declared.signal.Signal.{Signal};
-ghost use Rattle.dbc_read.specs.Attaching.{IsPlaceOf, cites_signal};
+ghost use Rattle.dbc_read.specs.Attaching.{IsPlaceCited, IsPlaceOf, cites_signal};
 ghost use Rattle.dbc_read.specs.Finding.{Finds, FindsAll};
 ghost use Rattle.dbc_read.specs.Lookup.{IsIndexIn};
 ghost use Rattle.dbc_read.specs.Lookups.{IsCitedIndex};
@@ -155,7 +155,7 @@ impl Track {
     }
 
     /// The place of the signal that is cited, if the file has it.
-    pub(crate) fn place(
+    fn place(
         &mut self,
         numbers: &Numbers,
         lines: &[MessageLine],
@@ -168,6 +168,26 @@ impl Track {
             Some(number) => self.place_in(numbers, lines, number, cited.name.as_slice()),
             None => None,
         }
+    }
+
+    /// The place of the signal that the content cites, if it cites one and the file has it.
+    pub(crate) fn place_of(
+        &mut self,
+        numbers: &Numbers,
+        lines: &[MessageLine],
+        content: &Content,
+    ) -> Option<Place>
+        requires { numbers.now ≡ line_numbers lines.now }
+        ensures { IsPlaceCited lines.now content.now result }
+    {
+        let cited = match content {
+            Content::SignalComment(cited, _) => cited,
+            Content::ValueTexts(cited, _) => cited,
+            Content::ValueType(cited, _) => cited,
+            Content::Spn(cited, _) => cited,
+            _ => return None,
+        };
+        self.place(numbers, lines, cited)
     }
 
     /// The index of the node or the message that is cited, if one is and the file has it.

@@ -2,23 +2,24 @@
 //!
 //! Most files define all nodes and messages before anything cites one. Then what a statement cites is known when the
 //! statement comes (`finding`), and what it attaches to a signal is set there at once (`attaching`).
-ghost use Rattle.std.specs.Prelude.{◌≡◌, None, Some, IfErr, IfOk, IfSome, IsTrue, OnOk, false, map, true};
+ghost use Rattle.std.specs.Prelude.{◌≡◌, ℕ, List, None, Some, IfErr, IfOk, IfSome, IsTrue, OnOk, false, map, true};
 ghost use Rattle.catalogue.specs.Parsing.{statements_at};
+ghost use Rattle.catalogue.specs.Statement.{Cited};
 ghost use Rattle.dbc_lex.specs.Fault.{UnlessMemory};
-ghost use Rattle.dbc_read.specs.Attaching.{IsAttached, in_signals};
+ghost use Rattle.dbc_read.specs.Attaching.{HasPlaceIfAny, IsAttached, IsPlaceOf, cites_signal, in_signals};
 ghost use Rattle.dbc_read.specs.Finding.{FindsAll};
-ghost use Rattle.dbc_read.specs.Gathering.{AreBare, Defines, FollowAll, IsOfTokens, Settles, SettlesAll, cites, defines, one_or_none};
+ghost use Rattle.dbc_read.specs.Gathering.{AreBare, Defines, FollowAll, IsGathered, IsOfTokens, Settles, SettlesAll, cites, defines, one_or_none};
 ghost use Rattle.dbc_read.specs.Numbers.{line_numbers};
 ghost use Rattle.dbc_statements.specs.Statement.{content_of, message_of, statement_of};
 
-use crate::attaching::{Attachment, Cites, attach_at, cited_by};
+use crate::attaching::{Attachment, Place, attach_at};
 use crate::finding::{Finders, NAMES_A_STATEMENT, Track, finders_of};
 use crate::gathered::{Citing, Gathered, attach_nothing, gather, gather_statement};
 use crate::numbers::Numbers;
 use crate::passed::Passed;
 use catalogue::Items;
 use dbc_lex::ReadFault;
-use dbc_statements::{CitedSignal, Content, MessageLine, NodeName, Statement, Statements};
+use dbc_statements::{Content, MessageLine, NodeName, Statement, Statements};
 use std::alloc::{AllocError, Global};
 
 /// Whether it defines nodes or a message, which other statements may cite.
@@ -68,21 +69,20 @@ fn gather_definitions(
     Ok(None)
 }
 
-/// Attaches to the signal that is cited. If there is no such signal, the statement is skipped.
+/// Attaches to the signal at the place. If there is none, the statement is skipped.
+#[inline(always)]
 fn attach(
-    numbers: &Numbers,
-    cited: &CitedSignal,
+    place: Option<Place>,
     attachment: Attachment,
     statement: Passed,
-    track: &mut Track,
     lines: &mut [MessageLine],
     passed: &mut Items<Passed>,
 ) -> Result<(), AllocError>
-    requires { numbers.now ≡ line_numbers lines.old }
+    requires { HasPlaceIfAny lines.old place }
     ensures messages { map message_of lines.new ≡ map message_of lines.old }
-    ensures attached { OnOk result (IsAttached cited.now.number cited.now.name.items attachment statement lines.old lines.new passed.old passed.new) }
+    ensures attached { OnOk result ((number : Cited) (name : List ℕ) → IsPlaceOf lines.old number name place → IsAttached number name attachment statement lines.old lines.new passed.old passed.new) }
 {
-    match track.place(numbers, lines, cited) {
+    match place {
         Some(place) => {
             attach_at(lines, place, attachment);
             Ok(())
@@ -91,8 +91,24 @@ fn attach(
     }
 }
 
-/// Gathers a statement that defines nothing that could be cited. `false` if it can't be gathered so: it has too many
-/// texts for values, or too many names were compared.
+/// Gathers a statement that cites no signal.
+#[inline(never)]
+fn settle_other(
+    finders: &Finders,
+    statement: Passed,
+    content: Content,
+    track: &mut Track,
+    gathered: &mut Gathered,
+) -> Result<(), AllocError>
+    requires { cites_signal content ≡ false }
+    ensures { OnOk result (IsGathered finders.now statement content gathered.old gathered.new) }
+{
+    let index = track.index(finders, &content);
+    gather(Citing { statement, index }, content, gathered)
+}
+
+/// Gathers a statement that defines nothing that could be cited. `false` if it isn't gathered so, since it has too many
+/// texts for values, or if no more names may be compared.
 fn settle(
     finders: &Finders,
     statement: Statement,
@@ -105,25 +121,40 @@ fn settle(
     ensures messages { map message_of lines.new ≡ map message_of lines.old }
     ensures settles { IfOk result (λ all. IsTrue all → Settles finders.now (one_or_none (Some statement)) lines.old gathered.old lines.new gathered.new) }
 {
-    if track.names_left == 0 {
-        return Ok(false);
-    }
     track.names_left = track.names_left.saturating_add(NAMES_A_STATEMENT);
+    let numbers = &finders.numbers;
+    let place = track.place_of(numbers, lines, &statement.content);
+    let may_go_on = track.names_left > 0;
     let (at, keyword, content) = statement.into_parts();
-    let statement = Passed { at, keyword };
-    match cited_by(content) {
-        Cites::Signal(cited, attachment) => {
-            let numbers = &finders.numbers;
+    let from = Passed { at, keyword };
+    match content {
+        Content::SignalComment(_cited, text) => {
             let passed = &mut gathered.passed;
-            attach(numbers, &cited, attachment, statement, track, lines, passed)?;
-            Ok(true)
+            attach(place, Attachment::Comment(text), from, lines, passed)?;
+            Ok(may_go_on)
         }
-        Cites::Other(content) => {
-            let index = track.index(finders, &content);
-            gather(Citing { statement, index }, content, gathered)?;
-            Ok(true)
+        Content::ValueTexts(_cited, entries) => match entries.into_texts() {
+            Some(texts) => {
+                let passed = &mut gathered.passed;
+                attach(place, Attachment::Values(texts), from, lines, passed)?;
+                Ok(may_go_on)
+            }
+            None => Ok(false),
+        },
+        Content::ValueType(_cited, value_type) => {
+            let passed = &mut gathered.passed;
+            attach(place, Attachment::Type(value_type), from, lines, passed)?;
+            Ok(may_go_on)
         }
-        Cites::TooMany => Ok(false),
+        Content::Spn(_cited, spn) => {
+            let passed = &mut gathered.passed;
+            attach(place, Attachment::Spn(spn), from, lines, passed)?;
+            Ok(may_go_on)
+        }
+        other => {
+            settle_other(finders, from, other, track, gathered)?;
+            Ok(may_go_on)
+        }
     }
 }
 

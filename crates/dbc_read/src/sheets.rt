@@ -4,17 +4,17 @@ ghost use Rattle.catalogue.specs.Sheet.{empty_sheet, node_name};
 ghost use Rattle.catalogue.specs.WellFormed.{AreFewTexts, AreRostered};
 ghost use Rattle.dbc_read.specs.Attaching.{messages_of_lines};
 ghost use Rattle.dbc_read.specs.Built.{AreAddable, nodes_from};
-ghost use Rattle.dbc_read.specs.Fit.{CanShareSheet, TablesFit};
+ghost use Rattle.dbc_read.specs.Fit.{TablesFit};
 ghost use Rattle.dbc_read.specs.Refusal.{Unless};
 ghost use Rattle.dbc_statements.specs.Parts.{table_of};
 ghost use Rattle.dbc_statements.specs.Statement.{names_of};
 
 use crate::feed::Feed;
-use crate::messages::messages_of;
+use crate::messages::{by_number, message_of};
 use crate::refusal::Refusal;
-use catalogue::{Items, Message, Node, Sheet, Text, ValueTable};
+use catalogue::{Items, Node, Sheet, Text, ValueTable};
 use dbc_statements::{MessageLine, NodeName, TableLine};
-use std::alloc::{AllocError, Global};
+use std::alloc::Global;
 
 /// The text, or an empty one.
 fn text_or_empty(alloc: Global, found: Option<Text>) -> Text
@@ -79,22 +79,21 @@ pub(crate) fn add_tables(
     Ok(())
 }
 
-/// The messages in ascending order of their numbers, in which they are added to a sheet fastest.
-fn by_number(messages: Items<Message>) -> Result<Vec<Message>, AllocError>
-    ensures { IfOk result (λ sorted. IsPermutation messages sorted.items) }
-{
-    let mut messages = messages.into_vec();
-    messages.sort_by_key(|message| message.number())?;
-    Ok(messages)
-}
-
-/// Adds the messages.
-fn add_messages(alloc: Global, messages: Vec<Message>, sheet: &mut Sheet) -> Result<(), Refusal>
-    ensures all { OnOk result (IsPermutation (sheet.old.messages ++ messages.items) sheet.new.messages) }
+/// Adds the messages of the lines, in the order of these. Each line is consumed before the next one's message is built.
+fn add_each(
+    alloc: Global,
+    lines: Vec<MessageLine>,
+    comments: Items<Text>,
+    sheet: &mut Sheet,
+) -> Result<(), Refusal>
+    ensures all { OnOk result (IsPermutation (sheet.old.messages ++ messages_of_lines lines.items comments) sheet.new.messages) }
     ensures rest { OnOk result (sheet.new ≡ record sheet.old { messages = sheet.new.messages }) }
-    ensures refused { IfErr result (λ refusal. Unless refusal (¬ CanShareSheet (sheet.old.messages ++ messages.items))) }
+    ensures refused { IfErr result (λ refusal. Unless refusal (¬ AreAddable sheet.old.messages (messages_of_lines lines.items comments))) }
 {
-    for message in messages {
+    let mut comments = Feed::of(comments);
+    for line in lines {
+        let comment = comments.next_or(Text::empty(alloc));
+        let message = message_of(alloc, line, comment)?;
         sheet.with_message(alloc, message)?;
     }
     Ok(())
@@ -111,8 +110,7 @@ pub(crate) fn add_lines(
     ensures rest { OnOk result (sheet.new ≡ record sheet.old { messages = sheet.new.messages }) }
     ensures refused { IfErr result (λ refusal. Unless refusal (¬ AreAddable sheet.old.messages (messages_of_lines lines comments))) }
 {
-    let messages = messages_of(alloc, lines, comments)?;
-    let ascending = by_number(messages)?;
-    add_messages(alloc, ascending, sheet)?;
+    let (lines, comments) = by_number(alloc, lines.into_vec(), comments)?;
+    add_each(alloc, lines, comments, sheet)?;
     Ok(())
 }

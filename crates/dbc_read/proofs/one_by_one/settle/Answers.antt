@@ -1,20 +1,41 @@
-use Rattle.std.proofs.Common.{◌∙◌, ap, subst, sym}
-use Rattle.dbc_read.specs.Gathered.{gathered_after}
-use Rattle.dbc_read.specs.Lookups.{IsCitedIndex}
+use Rattle.std.proofs.Common.{◌∙◌, ap, refl, sym}
+use Rattle.dbc_read.specs.Gathering.{IsGathered}
+use Rattle.dbc_read.specs.declared.attaching.Attachment.TheVariants as what
 use Rattle.dbc_read.proofs.Settling.{attached_parts, other_parts}
-use Rattle.dbc_statements.specs.Statement.{content_of}
-use Rattle.dbc_statements.specs.declared.statement.Content.{Content}
+use Rattle.dbc_statements.specs.declared.statement.Content.TheVariants as content
 use Rattle.dbc_read.proofs.one_by_one.settle.Goals as goal
 
-pub returns-in_ok-attach-in-Signal-clause-settles : goal.returns-in_ok-attach-in-Signal-clause-settles
-returns-in_ok-attach-in-Signal-clause-settles c = λ yes.
-    attached_parts c.args.finders.now c.args.statement c.into_parts-at.result c.in-Signal.cited c.in-Signal.attachment c.args.lines.now c.attach.new.lines c.args.gathered.now c.attach.new.passed
-    c.requires.none c.into_parts-at.ensures c.in-Signal.ensures c.attach.ensures.messages c.in_ok-attach-in-Signal.ensures.attached
+pub returns-in-SignalComment-clause-settles : goal.returns-in-SignalComment-clause-settles
+returns-in-SignalComment-clause-settles c = λ yes.
+    let here = c.in-SignalComment in
+    attached_parts c.args.finders.now c.args.statement c.into_parts-at.result here._cited (what.Comment here.text) c.place_of-place.result c.args.lines.now c.attach.new.lines c.args.gathered.now c.attach.new.passed
+    c.requires.none c.into_parts-at.ensures here.is c.place_of-place.ensures c.attach.ensures.messages c.in_ok-attach-in-SignalComment.ensures.attached
 
-pub returns-in_ok-gather-in-Other-clause-settles : goal.returns-in_ok-gather-in-Other-clause-settles
-returns-in_ok-gather-in-Other-clause-settles c = λ yes.
-    let says = c.in-Other.ensures in
-    other_parts c.args.finders.now c.args.statement c.into_parts-at.result c.index-index.result c.args.lines.now c.args.gathered.now c.gather.new.all
-    c.requires.none c.into_parts-at.ensures says.1
-    (λ all are. subst (λ (k : Content). IsCitedIndex all (content_of k) c.index-index.result) (sym says.0) (c.index-index.ensures c.args.lines.now all are))
-    (c.in_ok-gather-in-Other.ensures ∙ ap (λ (k : Content). gathered_after c.index-index.result (record { at = c.into_parts-at.result.0; keyword = c.into_parts-at.result.1 }) k c.args.gathered.now) (sym says.0))
+pub returns-in-Some-clause-settles : goal.returns-in-Some-clause-settles
+returns-in-Some-clause-settles c = λ yes.
+    let here = c.in-ValueTexts in
+    let texts = c.in-Some.texts in
+    attached_parts c.args.finders.now c.args.statement c.into_parts-at.result here._cited (what.Values texts) c.place_of-place.result c.args.lines.now c.attach-in-Some.new.lines c.args.gathered.now c.attach-in-Some.new.passed
+    c.requires.none c.into_parts-at.ensures (here.is ∙ ap (content.ValueTexts here._cited) (sym c.in-Some.ensures.1)) c.place_of-place.ensures c.attach-in-Some.ensures.messages c.in_ok-attach-in-Some.ensures.attached
+
+pub returns-in-ValueType-clause-settles : goal.returns-in-ValueType-clause-settles
+returns-in-ValueType-clause-settles c = λ yes.
+    let here = c.in-ValueType in
+    attached_parts c.args.finders.now c.args.statement c.into_parts-at.result here._cited (what.Type here.value_type) c.place_of-place.result c.args.lines.now c.attach-in-ValueType.new.lines c.args.gathered.now c.attach-in-ValueType.new.passed
+    c.requires.none c.into_parts-at.ensures here.is c.place_of-place.ensures c.attach-in-ValueType.ensures.messages c.in_ok-attach-in-ValueType.ensures.attached
+
+pub returns-in-Spn-clause-settles : goal.returns-in-Spn-clause-settles
+returns-in-Spn-clause-settles c = λ yes.
+    let here = c.in-Spn in
+    attached_parts c.args.finders.now c.args.statement c.into_parts-at.result here._cited (what.Spn here.spn) c.place_of-place.result c.args.lines.now c.attach-in-Spn.new.lines c.args.gathered.now c.attach-in-Spn.new.passed
+    c.requires.none c.into_parts-at.ensures here.is c.place_of-place.ensures c.attach-in-Spn.ensures.messages c.in_ok-attach-in-Spn.ensures.attached
+
+pub returns : goal.returns
+returns c =
+    let parts = c.into_parts-at.result in
+    let gathered : IsGathered c.args.finders.now (record { at = parts.0; keyword = parts.1 }) parts.2 c.args.gathered.now c.settle_other.new.gathered = c.in_ok-settle_other-in_default.ensures in
+    record {
+      messages = refl;
+      settles = λ yes. other_parts c.args.finders.now c.args.statement parts gathered.index c.args.lines.now c.args.gathered.now c.settle_other.new.gathered
+          c.requires.none c.into_parts-at.ensures gathered.none (gathered.is c.args.lines.now) gathered.gathered;
+    }

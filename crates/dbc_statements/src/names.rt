@@ -191,7 +191,7 @@ fn some_nodes<L: NodeList + Drop>(alloc: Global, tokens: &mut Tokens) -> Result<
     ensures { Reads (λ nodes. L.names nodes) result (some_names_at tokens.old) tokens.new }
 {
     let first = node(alloc, tokens)?;
-    let mut nodes = list_of(alloc, first)?;
+    let mut nodes: L = list_of(alloc, first)?;
     add_further(alloc, tokens, &mut nodes)?;
     nodes.finish();
     Ok(nodes)

@@ -9,7 +9,6 @@ pub mod Gathering
 pub mod OneByOne
 pub mod Settling
 pub mod Refused
-pub mod SignalsFit
 pub mod Bytes
 pub mod SheetsFit
 pub mod Putting

@@ -17,7 +17,7 @@
 //!
 //! Messages are built by moving their parts (`signals`, `messages`), and the sheet by its own calls (`sheets`), which
 //! refuse what can't be in one. If a part is refused, the statements are already consumed, so the text is divided once
-//! more (`reading`) to find its first fault (`first_fault`).
+//! more (`reading`) to find its first fault (`first_fault`), with the places of signals (`placed`).
 #![tactic(auto)]
 
 mod attaching;

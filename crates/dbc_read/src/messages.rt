@@ -9,7 +9,7 @@ ghost use Rattle.dbc_statements.specs.Statement.{message_of};
 
 use crate::feed::Feed;
 use crate::refusal::Refusal;
-use crate::signals::add_signals;
+use crate::signals::signals_of;
 use catalogue::{Items, Message, Text};
 use dbc_statements::MessageLine;
 use std::alloc::Global;
@@ -20,7 +20,7 @@ fn message_of(alloc: Global, line: MessageLine, comment: Text) -> Result<Message
     ensures refused { IfErr result (λ refusal. Unless refusal (¬ IsFit (message_with (message_of line) comment (line_signals line)))) }
 {
     let (mut message, signals) = line.into_message(alloc, comment);
-    add_signals(alloc, signals, &mut message)?;
+    message.signals = signals_of(alloc, signals)?;
     Ok(message)
 }
 

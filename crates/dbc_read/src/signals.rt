@@ -1,23 +1,19 @@
 //! The signals of a message, with what is attached to them.
-ghost use Rattle.std.specs.Prelude.{◌≡◌, ◌++◌, IfErr, OnOk, map};
+ghost use Rattle.std.specs.Prelude.{◌≡◌, IfErr, IfOk};
 ghost use Rattle.dbc_read.specs.Fit.{AreFit};
 ghost use Rattle.dbc_read.specs.Refusal.{Unless};
 
 use crate::refusal::Refusal;
-use catalogue::{Message, Signal};
+use catalogue::{Signal, Signals};
 use std::alloc::Global;
 
-/// Adds the signals, in order.
-pub(crate) fn add_signals(
-    alloc: Global,
-    signals: Vec<Signal>,
-    message: &mut Message,
-) -> Result<(), Refusal>
-    ensures ok { OnOk result (message.new ≡ record message.old { signals = message.old.signals ++ signals.items }) }
-    ensures refused { IfErr result (λ refusal. Unless refusal (¬ AreFit (message.old.signals ++ signals.items))) }
+/// These signals as those of one message. None of them is copied.
+pub(crate) fn signals_of(alloc: Global, signals: Vec<Signal>) -> Result<Signals, Refusal>
+    ensures ok { IfOk result (λ made. made ≡ signals.items) }
+    ensures refused { IfErr result (λ refusal. Unless refusal (¬ AreFit signals.items)) }
 {
-    for signal in signals {
-        message.with_signal(alloc, signal)?;
+    match Signals::of(alloc, signals)? {
+        Some(made) => Ok(made),
+        None => Err(Refusal::NoSheet),
     }
-    Ok(())
 }

@@ -102,6 +102,7 @@ impl Track {
     }
 
     /// The index of the message of that number.
+    #[inline(always)]
     fn message_index(&mut self, numbers: &Numbers, number: u32) -> Option<usize>
         ensures index { IsIndexIn (λ n. n == number) numbers.now result }
         ensures distinct { IsDistinct nat_eq numbers.now }

@@ -109,6 +109,7 @@ fn settle_other(
 
 /// Gathers a statement that defines nothing that could be cited. `false` if it isn't gathered so, since it has too many
 /// texts for values, or if no more names may be compared.
+#[inline(always)]
 fn settle(
     finders: &Finders,
     statement: Statement,

@@ -23,3 +23,4 @@ pub mod SheetsSaid
 pub mod Divided
 pub mod TokenFaults
 pub mod ReadFaults
+mod GatheringRows

@@ -4,7 +4,6 @@ ghost use Rattle.dbc_read.specs.Built.{first_or};
 
 use catalogue::{Items, Spn, Text, ValueType};
 use dbc_statements::Entries;
-use std::alloc::Global;
 use std::marker::Model;
 use std::vec::IntoIter;
 
@@ -57,20 +56,6 @@ pub(crate) struct Feeds {
     pub types: Feed<ValueType>,
     /// Their suspect parameter numbers.
     pub spns: Feed<Spn>,
-}
-
-impl Feeds {
-    /// Nothing for any signal.
-    pub(crate) fn nothing(alloc: Global) -> Feeds
-        ensures { result ≡ record { comments = []; values = []; types = []; spns = [] } }
-    {
-        Feeds {
-            comments: Feed::of(Items::new(alloc)),
-            values: Feed::of(Items::new(alloc)),
-            types: Feed::of(Items::new(alloc)),
-            spns: Feed::of(Items::new(alloc)),
-        }
-    }
 }
 
 impl Drop for Feeds {

@@ -6,3 +6,4 @@ pub mod Skip
 pub mod Offsets
 pub mod WholeText
 pub mod OneStatement
+mod LeftRows

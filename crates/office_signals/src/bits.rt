@@ -18,8 +18,8 @@ use crate::own::own_message;
 use crate::start::{place_at, start_for};
 use bitlayout::Mux;
 use catalogue::{
-    Copying, Name, Node, ROSTER_LIMIT, Receivers, SheetCode, Signal, Signals, Spn, Text, ValueTexts,
-    ValueType,
+    Copying, Name, Node, ROSTER_LIMIT, Receivers, SheetCode, Signal, Signals, Spn, Text,
+    ValueTexts, ValueType,
 };
 use office_net::{MessageFacts, has_node, has_signal, one_change, refusal_decision};
 use office_types::{Change, Decision, LiveMessage, Refusal, Reply, TakeBits, Team};

@@ -1,0 +1,19 @@
+-- A computed row of the tokens that are left.
+use Rattle.std.proofs.Common.{List, [], ◌∷◌, refl, arith}
+use Rattle.std.specs.Prelude.{codes}
+use Rattle.catalogue.specs.Parsing.{line_at, statement_at, statements_at, version_at}
+use Rattle.catalogue.specs.Statement.{Statement, VersionIs}
+use Rattle.catalogue.specs.Token.{Token}
+use Rattle.catalogue.specs.declared.keyword.Keyword.TheVariants.{Version}
+use Rattle.catalogue.specs.declared.token.TokenKind.TheVariants.{Name, Text}
+use Rattle.dbc_statements.specs.Left.{BeginsWith}
+
+abbrev version : Statement
+version = record { start = 0; keyword = Version; content = VersionIs (codes "1.0") }
+
+abbrev tokens : List Token
+tokens = record { kind = Name; start = 0; end = 7; text = codes "VERSION" } ∷ record { kind = Text; start = 8; end = 13; text = codes "\"1.0\"" } ∷ []
+
+version_comes_first : BeginsWith version tokens []
+unfolding statements_at statement_at line_at version_at
+version_comes_first = record { statements = refl; fewer = omega arith }

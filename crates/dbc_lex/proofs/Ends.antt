@@ -1,5 +1,5 @@
 -- What begins with a byte, and where it ends.
-use Rattle.std.proofs.Common.{◌≡◌, ◌==◌, ◌||◌, ℕ, ◌+◌, ◌<◌, ◌≤◌, ◌⊎◌, Bool, true, false, true≢false, if◌then◌else◌, List, ◌∷◌, length, get_or, take, drop, Option, Some, None, Ok, Err, ◌-◌, slice_range, option_and_then, inl, inr, refl, sym, ap, ◌∙◌, arith}
+use Rattle.std.proofs.Common.{◌≡◌, ◌==◌, ◌||◌, ℕ, ◌+◌, ◌<◌, ◌≤◌, ◌⊎◌, Bool, true, false, true≢false, if◌then◌else◌, List, [], ◌∷◌, length, get_or, take, drop, Option, Some, None, Ok, Err, ◌-◌, slice_range, option_and_then, inl, inr, refl, sym, ap, ◌∙◌, arith}
 use Rattle.std.specs.Char.{is_ascii_digit}
 use Rattle.std.specs.List.{prefix_len}
 use Rattle.std.proofs.lemmas.List.{drop-drop, drop_more}
@@ -129,6 +129,17 @@ module _ (source : List ℕ) (start : ℕ) (there : start < length source) where
       → token_at start (drop start source) ≡ Ok (Some (record { kind = kind; start = start; end = end; text = slice_range source start end }))
   token_here kind end h ends =
       first_is ∙ ap (of_kind start (drop start source)) h ∙ token_by kind end (word_len kind (drop start source)) ends
+
+-- a mark is its one byte
+pub mark_token : (source : List ℕ) (start : ℕ) → start < length source → kind_of (get_or source start 0) ≡ Some Mark
+    → token_at start (drop start source) ≡ Ok (Some (record { kind = Mark; start = start; end = start + 1; text = slice_range source start (start + 1) }))
+unfolding word_len
+mark_token source start there kind = token_here source start there Mark (start + 1) kind refl
+
+pub mark_text : (source : List ℕ) (start mark : ℕ) → start < length source → get_or source start 0 ≡ mark → take (start + 1 - start) (drop start source) ≡ mark ∷ []
+mark_text source start mark there is =
+    let one : start + 1 - start ≡ 1 = omega arith in
+    ap (λ n. take n (drop start source)) one ∙ ap (take 1) (drop_more source start 0 there) ∙ ap (λ b. b ∷ []) is
 
 -- a byte with a kind is one of the source, and the kind is its own
 module _ (source : List ℕ) (at : ℕ) where

@@ -4,7 +4,7 @@ ghost use Rattle.catalogue.specs.Lexing.{token_at};
 ghost use Rattle.dbc_lex.specs.First.{GivesFirst, kind_at};
 
 use crate::fault::{ReadCode, ReadFault};
-use crate::spelling::{first_after_gap, word_end};
+use crate::spelling::{first_after_gap, mark_start, word_end};
 use crate::token::Token;
 use catalogue::TokenKind;
 use std::marker::Model;
@@ -63,8 +63,12 @@ impl<'a> Model for Lexer<'a> {
 }
 
 impl<'a> Lexer<'a> {
-    ghost use Rattle.catalogue.specs.Lexing.{lexed};
+    ghost use Rattle.std.specs.Prelude.{◌≡◌, [], ◌∷◌, IfNone, IfSome, IsTrue, Ok, Some};
+    ghost use Rattle.catalogue.specs.Fields.{is_mark};
+    ghost use Rattle.catalogue.specs.Lexing.{kind_of, lexed};
+    ghost use Rattle.catalogue.specs.declared.token.TokenKind.TheVariants.{Mark};
     ghost use Rattle.dbc_lex.specs.Next.{GivesNext};
+    ghost use Rattle.dbc_lex.specs.Token.{token_of};
 
     /// The lexer of the text, at its first byte.
     pub fn of(source: &'a [u8]) -> Lexer<'a>
@@ -115,5 +119,25 @@ impl<'a> Lexer<'a> {
             Ok(None) => Ok(None),
             Err(fault) => Err(fault),
         }
+    }
+
+    /// Takes the next token if it is this mark, at once or after one space. `None` takes nothing; the mark may still come
+    /// next, after a longer gap.
+    #[inline(always)]
+    pub fn next_mark(&mut self, mark: u8) -> Option<Token<'a>>
+        requires { kind_of mark ≡ Some Mark }
+        ensures some { IfSome result (λ t. GivesNext self.old (Ok (Some t)) self.new) }
+        ensures mark { IfSome result (λ t. IsTrue (is_mark (mark ∷ []) (token_of t))) }
+        ensures none { IfNone result (self.new ≡ self.old) }
+    {
+        let start = mark_start(self.source, self.at, mark)?;
+        let end = start + 1;
+        self.at = end;
+        Some(Token {
+            kind: TokenKind::Mark,
+            start,
+            end,
+            text: &self.source[start..end],
+        })
     }
 }

@@ -6,7 +6,7 @@ ghost use Rattle.catalogue.specs.Name.{continues_identifier};
 ghost use Rattle.decimal.specs.Spelling.{is_letter_e};
 ghost use Rattle.catalogue.specs.Spelling.{is_gap};
 ghost use Rattle.catalogue.specs.Lexing.{kind_of, power_len, exponent_len, number_len, inside_len, tail_len, word_len};
-ghost use Rattle.catalogue.specs.declared.token.TokenKind.TheVariants.{Number};
+ghost use Rattle.catalogue.specs.declared.token.TokenKind.TheVariants.{Mark, Number};
 ghost use Rattle.dbc_lex.specs.First.{kind_at};
 ghost use Rattle.dbc_lex.specs.Offset.{further_by};
 
@@ -38,6 +38,27 @@ pub(crate) fn first_after_gap(source: &[u8], at: usize) -> (usize, Option<TokenK
         }
     }
     (end, None)
+}
+
+/// The offset of the mark if it comes at the offset or after one space there.
+#[inline(always)]
+pub(crate) fn mark_start(source: &[u8], at: usize, mark: u8) -> Option<usize>
+    requires { kind_of mark ≡ Some Mark }
+    ensures is { IfSome result (λ start. start ≡ at + prefix_len is_gap (drop at source.now)) }
+    ensures within { IfSome result (λ start. start < length source.now) }
+    ensures kind { IfSome result (λ start. kind_of (get_or source.now start 0) ≡ Some Mark) }
+    ensures mark { IfSome result (λ start. get_or source.now start 0 ≡ mark) }
+{
+    if at < source.len() && source[at] == mark {
+        return Some(at);
+    }
+    if at < source.len() && source[at] == b' ' {
+        let next = at + 1;
+        if next < source.len() && source[next] == mark {
+            return Some(next);
+        }
+    }
+    None
 }
 
 /// The offset after the bytes at the offset that may come after the first one of a name.

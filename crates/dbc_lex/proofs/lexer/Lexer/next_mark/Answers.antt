@@ -1,0 +1,19 @@
+use Rattle.std.proofs.Common.{rules, ap, refl, ◌+◌, slice_range, arith}
+use Rattle.catalogue.specs.Lexing.{Lexed}
+use Rattle.catalogue.specs.declared.token.TokenKind.TheVariants.{Mark}
+use Rattle.dbc_lex.proofs.Ends.{mark_token, mark_text}
+use Rattle.dbc_lex.proofs.Reading.{token_read}
+use Rattle.dbc_lex.proofs.lexer.Lexer.next_mark.Goals as goal
+
+pub returns-clause-some : goal.returns-clause-some
+returns-clause-some c =
+    let source = c.self.inside.source.now in
+    let start = c.in_ok-start.start in
+    let first = mark_token source start c.in_ok-start.ensures.within c.in_ok-start.ensures.kind in
+    let e = token_read source c.self.inside.at start c.in_ok-start.ensures.is (record { kind = Mark; start = start; end = start + 1; text = slice_range source start (start + 1) }) (omega (arith, c.in_ok-start.ensures.is)) first in
+    rw (← c.self.view_is) (ap (λ (l : Lexed). l.tokens) e, ap (λ (l : Lexed). l.fault) e)
+
+pub returns-clause-mark : goal.returns-clause-mark
+returns-clause-mark c =
+    let text = mark_text c.self.inside.source.now c.in_ok-start.start c.args.mark c.in_ok-start.ensures.within c.in_ok-start.ensures.mark in
+    rw text (search rules)

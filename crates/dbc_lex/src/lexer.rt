@@ -63,7 +63,7 @@ impl<'a> Model for Lexer<'a> {
 }
 
 impl<'a> Lexer<'a> {
-    ghost use Rattle.std.specs.Prelude.{◌≡◌, [], ◌∷◌, IfNone, IfSome, IsTrue, Ok, Some};
+    ghost use Rattle.std.specs.Prelude.{◌≡◌, [], ◌∷◌, IfNone, IfSome, Ok, Some, true};
     ghost use Rattle.catalogue.specs.Fields.{is_mark};
     ghost use Rattle.catalogue.specs.Lexing.{kind_of, lexed};
     ghost use Rattle.catalogue.specs.declared.token.TokenKind.TheVariants.{Mark};
@@ -127,7 +127,7 @@ impl<'a> Lexer<'a> {
     pub fn next_mark(&mut self, mark: u8) -> Option<Token<'a>>
         requires { kind_of mark ≡ Some Mark }
         ensures some { IfSome result (λ t. GivesNext self.old (Ok (Some t)) self.new) }
-        ensures mark { IfSome result (λ t. IsTrue (is_mark (mark ∷ []) (token_of t))) }
+        ensures mark { IfSome result (λ t. is_mark (mark ∷ []) (token_of t) ≡ true) }
         ensures none { IfNone result (self.new ≡ self.old) }
     {
         let start = mark_start(self.source, self.at, mark)?;

@@ -57,6 +57,9 @@ module _ (source : List ℕ) (offset : ℕ) (here : offset ≤ length source) (l
       ap (λ (text : List ℕ). record { kind = t.kind; start = t.start; end = t.end; text = text } ∷ (lexed t.end (drop t.end source)).tokens) is_here.text
       ∙ ap (λ (l : List Token). t ∷ l) is_here.others ∙ sym read_here
 
+  pub begin_with : tokens_from source (Some t.kind) t.start t.end ≡ t ∷ ts
+  begin_with = tokens_are ∙ read_here
+
   pub are_tokens : AreTokens source (Some t.kind) t.start t.end
   are_tokens = record {
     ordered = is_here.ordered;

@@ -2,6 +2,7 @@ pub mod Spelled
 pub mod FirstToken
 pub mod LoopRounds
 pub mod NameLists
+pub mod Marked
 pub mod Skip
 pub mod Offsets
 pub mod WholeText

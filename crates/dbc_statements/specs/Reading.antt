@@ -1,6 +1,6 @@
 -- What a function that reads from the front of the tokens returns, and what it leaves.
-use Rattle.std.specs.Prelude.{◌≡◌, List, [], ◌∷◌, ◌++◌, Some, None, Result, Ok, Err, option_and_then}
-use Rattle.catalogue.specs.Parsing.{Parsed}
+use Rattle.std.specs.Prelude.{◌≡◌, ℕ, List, [], ◌∷◌, ◌++◌, Some, None, Result, Ok, Err, option_and_then}
+use Rattle.catalogue.specs.Parsing.{Parsed, mark_at}
 use Rattle.catalogue.specs.Token.{Token}
 use Rattle.dbc_lex.specs.Fault.{UnlessMemory}
 use Rattle.dbc_lex.specs.declared.fault.ReadFault.{ReadFault}
@@ -18,3 +18,7 @@ itself x = x
 -- one more thing is read, after those that were read before
 abbrev pub with_one : {A : Type 0} → List A → Parsed A → Parsed (List A)
 with_one front o = option_and_then (λ b. Some (front ++ b.0 ∷ [], b.1)) o
+
+-- the mark of this spelling follows
+abbrev pub with_mark : {A : Type 0} → Parsed A → List ℕ → Parsed A
+with_mark o spelling = option_and_then (λ a. option_and_then (λ b. Some (a.0, b.1)) (mark_at spelling a.1)) o

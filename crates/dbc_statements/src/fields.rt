@@ -1,12 +1,13 @@
 //! The fields of statements, read from the front of the tokens. Each function removes the tokens of what it returns; a
 //! fault leaves the token that it is about.
-ghost use Rattle.std.specs.Prelude.{◌≡◌, [], ◌∷◌, Some, option_map};
+ghost use Rattle.std.specs.Prelude.{◌≡◌, [], ◌∷◌, Some, codes, drop, option_map};
 ghost use Rattle.catalogue.specs.Fields as fields;
 ghost use Rattle.catalogue.specs.Grammar as grammar;
+ghost use Rattle.catalogue.specs.Lexing.{kind_of};
 ghost use Rattle.catalogue.specs.Parsing.{token_at, one_at, optional_at, key_at, mark_at, decimal_at, pair_at, layout_at};
 ghost use Rattle.catalogue.specs.Rules.{begins, starts};
-ghost use Rattle.catalogue.specs.declared.token.TokenKind.TheVariants.{Number};
-ghost use Rattle.dbc_statements.specs.Reading.{Reads, itself};
+ghost use Rattle.catalogue.specs.declared.token.TokenKind.TheVariants.{Mark, Number};
+ghost use Rattle.dbc_statements.specs.Reading.{Reads, itself, with_mark};
 
 use crate::statement::CitedName;
 use crate::tokens::Tokens;
@@ -55,6 +56,20 @@ pub(crate) fn mark(tokens: &mut Tokens, mark: u8) -> Result<(), ReadFault>
 {
     let token = tokens.front()?;
     tokens.accept(is_mark(&token, mark).then_some(()), unexpected(&token))
+}
+
+/// Removes the first token and the mark of this spelling after it.
+#[inline(always)]
+fn skip_with(tokens: &mut Tokens, spelling: u8) -> Result<(), ReadFault>
+    requires { kind_of spelling ≡ Some Mark }
+    ensures { Reads itself result (mark_at (spelling ∷ []) (drop 1 tokens.old)) tokens.new }
+{
+    if tokens.skip_to(spelling) {
+        tokens.skip();
+        Ok(())
+    } else {
+        mark(tokens, spelling)
+    }
 }
 
 /// A mark of this spelling, if one comes next.
@@ -134,7 +149,7 @@ pub(crate) fn made_name(alloc: Global, tokens: &mut Tokens) -> Result<Name, Read
         return Err(fault(&token, ReadCode::Name));
     }
     let name = Name::of_kept(alloc, token.text)?;
-    tokens.skip();
+    tokens.skip_to(b':');
     Ok(name)
 }
 
@@ -188,22 +203,26 @@ pub(crate) fn length(tokens: &mut Tokens) -> Result<PayloadLength, ReadFault>
     tokens.accept(length, number_fault(&token, ReadCode::Length))
 }
 
-/// The start bit of a signal. Code 39 at another number.
+/// The start bit of a signal, and the bar after it. Code 39 at another number.
 #[inline(always)]
 fn start(tokens: &mut Tokens) -> Result<u16, ReadFault>
-    ensures { Reads itself result (token_at fields.start_of tokens.old) tokens.new }
+    ensures { Reads itself result (with_mark (token_at fields.start_of tokens.old) (codes "|")) tokens.new }
 {
     let token = tokens.front()?;
-    tokens.accept(start_of(&token), number_fault(&token, ReadCode::Size))
+    let start = start_of(&token).ok_or(number_fault(&token, ReadCode::Size))?;
+    skip_with(tokens, b'|')?;
+    Ok(start)
 }
 
-/// The size of a signal. Code 39 at another number.
+/// The size of a signal, and the `@` after it. Code 39 at another number.
 #[inline(always)]
 fn size(tokens: &mut Tokens) -> Result<Size, ReadFault>
-    ensures { Reads itself result (token_at fields.size_of tokens.old) tokens.new }
+    ensures { Reads itself result (with_mark (token_at fields.size_of tokens.old) (codes "@")) tokens.new }
 {
     let token = tokens.front()?;
-    tokens.accept(size_of(&token), number_fault(&token, ReadCode::Size))
+    let size = size_of(&token).ok_or(number_fault(&token, ReadCode::Size))?;
+    skip_with(tokens, b'@')?;
+    Ok(size)
 }
 
 /// The byte order of a signal.
@@ -212,7 +231,9 @@ fn order(tokens: &mut Tokens) -> Result<Order, ReadFault>
     ensures { Reads itself result (token_at fields.order_of tokens.old) tokens.new }
 {
     let token = tokens.front()?;
-    tokens.accept(order_of(&token), unexpected(&token))
+    let order = order_of(&token).ok_or(unexpected(&token))?;
+    tokens.skip_to(b'+');
+    Ok(order)
 }
 
 /// Whether values have a sign.
@@ -221,7 +242,9 @@ fn minus(tokens: &mut Tokens) -> Result<bool, ReadFault>
     ensures { Reads itself result (token_at fields.sign_of tokens.old) tokens.new }
 {
     let token = tokens.front()?;
-    tokens.accept(sign_of(&token), unexpected(&token))
+    let minus = sign_of(&token).ok_or(unexpected(&token))?;
+    tokens.skip_to(b'(');
+    Ok(minus)
 }
 
 /// Where a signal is in the payload, and whether its values have a sign.
@@ -231,9 +254,7 @@ pub(crate) fn layout(tokens: &mut Tokens) -> Result<(Layout, bool), ReadFault>
     ensures { Reads itself result (layout_at tokens.old) tokens.new }
 {
     let start = start(tokens)?;
-    mark(tokens, b'|')?;
     let size = size(tokens)?;
-    mark(tokens, b'@')?;
     let order = order(tokens)?;
     let signed = minus(tokens)?;
     Ok((Layout { start, size, order }, signed))
@@ -250,16 +271,14 @@ fn sign(tokens: &mut Tokens) -> Option<bool>
     Some(sign)
 }
 
-/// A decimal, with a sign or without. `None` leaves the token that isn't one.
+/// A decimal, with a sign or without, whose number is left. `None` leaves the token that isn't one.
 // An `Option`, since a `Result` of a decimal and a fault is moved byte by byte.
 #[tactic(auto, unfolding(catalogue::specs::Parsing::decimal_at))]
-fn decimal_or_none(tokens: &mut Tokens) -> Option<Decimal>
-    ensures { decimal_at tokens.old ≡ option_map (λ d. (d, tokens.new)) result }
+fn decimal_here(tokens: &mut Tokens) -> Option<Decimal>
+    ensures { decimal_at tokens.old ≡ option_map (λ d. (d, drop 1 tokens.new)) result }
 {
     let negative = sign(tokens).unwrap_or(false);
-    let number = number_of(negative, &tokens.first()?)?;
-    tokens.skip();
-    Some(number)
+    number_of(negative, &tokens.first()?)
 }
 
 /// The fault of a token that is no decimal, or of a text that ends too early.
@@ -275,13 +294,31 @@ fn no_decimal(tokens: &Tokens) -> ReadFault {
 pub(crate) fn decimal(tokens: &mut Tokens) -> Result<Decimal, ReadFault>
     ensures { Reads itself result (decimal_at tokens.old) tokens.new }
 {
-    match decimal_or_none(tokens) {
-        Some(decimal) => Ok(decimal),
+    match decimal_here(tokens) {
+        Some(decimal) => {
+            tokens.skip();
+            Ok(decimal)
+        }
         None => Err(no_decimal(tokens)),
     }
 }
 
-/// Two decimals between marks.
+/// A decimal and the mark after it. Code 35 as [`decimal`].
+#[inline(always)]
+fn decimal_with(tokens: &mut Tokens, spelling: u8) -> Result<Decimal, ReadFault>
+    requires { kind_of spelling ≡ Some Mark }
+    ensures { Reads itself result (with_mark (decimal_at tokens.old) (spelling ∷ [])) tokens.new }
+{
+    match decimal_here(tokens) {
+        Some(decimal) => {
+            skip_with(tokens, spelling)?;
+            Ok(decimal)
+        }
+        None => Err(no_decimal(tokens)),
+    }
+}
+
+/// Two decimals, each with the mark after it, after another mark.
 #[inline(always)]
 #[tactic(auto, unfolding(catalogue::specs::Parsing::pair_at))]
 pub(crate) fn pair(
@@ -290,13 +327,13 @@ pub(crate) fn pair(
     between: u8,
     right: u8,
 ) -> Result<(Decimal, Decimal), ReadFault>
+    requires between { kind_of between ≡ Some Mark }
+    requires right { kind_of right ≡ Some Mark }
     ensures { Reads itself result (pair_at (left ∷ []) (between ∷ []) (right ∷ []) tokens.old) tokens.new }
 {
     mark(tokens, left)?;
-    let first = decimal(tokens)?;
-    mark(tokens, between)?;
-    let second = decimal(tokens)?;
-    mark(tokens, right)?;
+    let first = decimal_with(tokens, between)?;
+    let second = decimal_with(tokens, right)?;
     Ok((first, second))
 }
 

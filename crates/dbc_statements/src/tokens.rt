@@ -1,8 +1,11 @@
 //! The tokens of a text up to its end, or up to the first offset where none begins, one by one, with a look at the next
 //! one.
-ghost use Rattle.std.specs.Prelude.{◌≡◌, [], ◌∷◌, IfErr, IfOk, None, OnErr, OnOk, Some, drop};
-ghost use Rattle.catalogue.specs.Lexing.{lexed};
+ghost use Rattle.std.specs.Prelude.{◌≡◌, [], ◌∷◌, IfErr, IfOk, None, OnErr, OnOk, Some, drop, true};
+ghost use Rattle.catalogue.specs.Fields.{is_mark};
+ghost use Rattle.catalogue.specs.Lexing.{kind_of, lexed};
+ghost use Rattle.catalogue.specs.Rules.{starts};
 ghost use Rattle.catalogue.specs.Spelling.{Spells};
+ghost use Rattle.catalogue.specs.declared.token.TokenKind.TheVariants.{Mark};
 ghost use Rattle.dbc_lex.specs.Token.{token_of};
 ghost use Rattle.dbc_statements.specs.Tokens.{EndsWith, IsFirst, IsReached, IsSecond, IsSpelled};
 
@@ -127,6 +130,28 @@ impl<'a> Tokens<'a> {
                 self.kind = None;
                 self.start = self.source.len();
                 self.end = self.source.len();
+            }
+        }
+    }
+
+    /// Removes the first of them, where this mark is expected after it. `true` says that the mark is now the first; if it
+    /// says `false`, it may still be.
+    #[inline(always)]
+    pub(crate) fn skip_to(&mut self, mark: u8) -> bool
+        requires { kind_of mark ≡ Some Mark }
+        ensures rest { self.new ≡ drop 1 self.old }
+        ensures mark { result ≡ true → starts (is_mark (mark ∷ [])) self.new ≡ true }
+    {
+        match Lexer::at(self.source, self.end).next_mark(mark) {
+            Some(token) => {
+                self.kind = Some(token.kind);
+                self.start = token.start;
+                self.end = token.end;
+                true
+            }
+            None => {
+                self.skip();
+                false
             }
         }
     }

@@ -10,15 +10,8 @@ ghost use Rattle.catalogue.specs.declared.token.TokenKind.TheVariants.{Number};
 ghost use Rattle.dbc_lex.specs.First.{kind_at};
 ghost use Rattle.dbc_lex.specs.Offset.{further_by};
 
-use crate::kinds::{continues_name, kind_of};
+use crate::kinds::{Class, class_of, continues_name};
 use catalogue::TokenKind;
-use decimal::{digits_len, fraction_len};
-
-fn is_gap(byte: u8) -> bool
-    ensures { result ≡ is_gap byte }
-{
-    matches!(byte, 9..=13 | 32)
-}
 
 /// The offset of the first byte at the offset or after it that is no gap, or the end; and the kind of the tokens that
 /// begin with that byte, if one does.
@@ -31,13 +24,16 @@ pub(crate) fn first_after_gap(source: &[u8], at: usize) -> (usize, Option<TokenK
 {
     let mut end = at;
     while end < source.len() {
-        match kind_of(source[end]) {
-            Some(kind) => return (end, Some(kind)),
-            None if is_gap(source[end]) => end += 1,
-            None => return (end, None),
+        match class_of(source[end]) {
+            Class::Name => return (end, Some(TokenKind::Name)),
+            Class::Number => return (end, Some(TokenKind::Number)),
+            Class::Text => return (end, Some(TokenKind::Text)),
+            Class::Mark => return (end, Some(TokenKind::Mark)),
+            Class::Gap => end += 1,
+            Class::Stray => return (end, None),
         }
     }
-    (end, None)
+    (source.len(), None)
 }
 
 /// The offset after the bytes at the offset that may come after the first one of a name.
@@ -48,10 +44,13 @@ fn name_end(source: &[u8], at: usize) -> usize
     ensures within { result ≤ length source.now }
 {
     let mut end = at;
-    while end < source.len() && continues_name(source[end]) {
+    while end < source.len() {
+        if !continues_name(source[end]) {
+            return end;
+        }
         end += 1;
     }
-    end
+    source.len()
 }
 
 /// The offset after the digits at the offset.
@@ -62,51 +61,55 @@ fn digits_end(source: &[u8], at: usize) -> usize
     ensures within { result ≤ length source.now }
 {
     let mut end = at;
-    while end < source.len() && source[end].is_ascii_digit() {
+    while end < source.len() {
+        if !source[end].is_ascii_digit() {
+            return end;
+        }
         end += 1;
     }
-    end
+    source.len()
 }
 
-/// The length of the digits after an exponent's letter, with their sign; 0 if there are no digits.
-#[tactic(auto, unfolding(catalogue::specs::Lexing::power_len))]
-fn power_len(bytes: &[u8]) -> usize
-    ensures is { result ≡ power_len bytes.now }
-    ensures within { result ≤ length bytes.now }
+/// The offset after a point with its digits, if they come at the offset.
+#[inline(always)]
+fn fraction_end(source: &[u8], at: usize) -> usize
 {
-    match bytes {
-        [b'+' | b'-', rest @ ..] => match digits_len(rest) {
-            0 => 0,
-            digits => 1 + digits,
-        },
-        _ => digits_len(bytes),
+    if at < source.len() && source[at] == b'.' {
+        digits_end(source, at + 1)
+    } else {
+        at
     }
 }
 
-/// The length of an exponent with its letter; 0 if there is none.
-#[tactic(auto, unfolding(catalogue::specs::Lexing::exponent_len))]
-fn exponent_len(bytes: &[u8]) -> usize
-    ensures is { result ≡ exponent_len bytes.now }
-    ensures within { result ≤ length bytes.now }
+/// The offset after a sign, if one comes at the offset.
+#[inline(always)]
+fn sign_end(source: &[u8], at: usize) -> usize
 {
-    match bytes {
-        [b'E' | b'e', rest @ ..] => match power_len(rest) {
-            0 => 0,
-            power => 1 + power,
-        },
-        _ => 0,
+    if at < source.len() && matches!(source[at], b'+' | b'-') {
+        at + 1
+    } else {
+        at
+    }
+}
+
+/// The offset after an exponent with its letter, if one comes at the offset.
+#[inline(always)]
+fn exponent_end(source: &[u8], at: usize) -> usize
+{
+    if at < source.len() && matches!(source[at], b'E' | b'e') {
+        let digits = sign_end(source, at + 1);
+        let end = digits_end(source, digits);
+        if end == digits { at } else { end }
+    } else {
+        at
     }
 }
 
 /// The offset after a point with its digits and an exponent, if they come at the offset.
+#[inline(always)]
 fn tail_end(source: &[u8], whole: usize) -> usize
-    requires { whole ≤ length source.now }
-    ensures is { result ≡ whole + tail_len (drop whole source.now) }
-    ensures within { (whole ≤ result) × (result ≤ length source.now) }
 {
-    let fraction = fraction_len(&source[whole..]);
-    let power = exponent_len(&source[whole + fraction..]);
-    whole + (fraction + power)
+    exponent_end(source, fraction_end(source, whole))
 }
 
 /// Whether a point or an exponent may begin with the byte.

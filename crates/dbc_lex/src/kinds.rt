@@ -1,9 +1,8 @@
 //! Which bytes begin a token of each kind, and which go on in a name.
-ghost use Rattle.std.specs.Prelude.{◌≡◌, None, false, slice_get, unwrap_or};
-ghost use Rattle.catalogue.specs.Lexing.{kind_of};
+ghost use Rattle.std.specs.Prelude.{◌≡◌, false, slice_get, unwrap_or};
 ghost use Rattle.catalogue.specs.Name.{continues_identifier};
-
-use catalogue::TokenKind;
+ghost use Rattle.dbc_lex.specs.Class.{class_of};
+ghost use Rattle.dbc_lex.specs.declared.kinds.Class.TheVariants.{Stray};
 
 /// What begins with a byte: a gap, a token of some kind, or nothing.
 #[derive(Clone, Copy)]
@@ -55,6 +54,7 @@ const CLASSES: [Class; 256] = [
 /// The table's entry for the byte, or `Stray` past its end.
 #[inline(always)]
 fn entry(classes: &[Class], byte: u8) -> Class
+    ensures { result ≡ unwrap_or (slice_get classes.now byte) Stray }
 {
     classes.get(usize::from(byte)).copied().unwrap_or(Class::Stray)
 }
@@ -62,6 +62,7 @@ fn entry(classes: &[Class], byte: u8) -> Class
 /// What begins with the byte.
 #[inline(always)]
 pub(crate) fn class_of(byte: u8) -> Class
+    ensures { result ≡ class_of byte }
 {
     entry(&CLASSES, byte)
 }

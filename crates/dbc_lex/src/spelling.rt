@@ -1,11 +1,12 @@
 //! How many bytes a gap or a token takes.
-ghost use Rattle.std.specs.Prelude.{◌≡◌, ◌==◌, ◌||◌, ◌≤◌, ◌<◌, ◌+◌, length, get_or, drop, false, Some, IfSome};
+ghost use Rattle.std.specs.Prelude.{◌≡◌, ◌==◌, ◌||◌, ◌≤◌, ◌<◌, ◌+◌, length, get_or, drop, false, Some, IfSome, if◌then◌else◌};
 ghost use Rattle.std.specs.Char.{is_ascii_digit};
 ghost use Rattle.std.specs.List.{prefix_len};
 ghost use Rattle.catalogue.specs.Name.{continues_identifier};
-ghost use Rattle.decimal.specs.Spelling.{is_letter_e};
+ghost use Rattle.decimal.specs.Cutting.{fraction_len};
+ghost use Rattle.decimal.specs.Spelling.{is_letter_e, is_sign};
 ghost use Rattle.catalogue.specs.Spelling.{is_gap};
-ghost use Rattle.catalogue.specs.Lexing.{kind_of, power_len, exponent_len, number_len, inside_len, tail_len, word_len};
+ghost use Rattle.catalogue.specs.Lexing.{kind_of, exponent_len, number_len, inside_len, tail_len, word_len};
 ghost use Rattle.catalogue.specs.declared.token.TokenKind.TheVariants.{Number};
 ghost use Rattle.dbc_lex.specs.First.{kind_at};
 ghost use Rattle.dbc_lex.specs.Offset.{further_by};
@@ -43,14 +44,17 @@ fn name_end(source: &[u8], at: usize) -> usize
     ensures is { result ≡ at + prefix_len continues_identifier (drop at source.now) }
     ensures within { result ≤ length source.now }
 {
+    if at == source.len() {
+        return at;
+    }
     let mut end = at;
-    while end < source.len() {
-        if !continues_name(source[end]) {
+    while continues_name(source[end]) {
+        end += 1;
+        if end == source.len() {
             return end;
         }
-        end += 1;
     }
-    source.len()
+    end
 }
 
 /// The offset after the digits at the offset.
@@ -73,6 +77,9 @@ fn digits_end(source: &[u8], at: usize) -> usize
 /// The offset after a point with its digits, if they come at the offset.
 #[inline(always)]
 fn fraction_end(source: &[u8], at: usize) -> usize
+    requires { at ≤ length source.now }
+    ensures is { result ≡ at + fraction_len (drop at source.now) }
+    ensures within { (at ≤ result) × (result ≤ length source.now) }
 {
     if at < source.len() && source[at] == b'.' {
         digits_end(source, at + 1)
@@ -84,6 +91,9 @@ fn fraction_end(source: &[u8], at: usize) -> usize
 /// The offset after a sign, if one comes at the offset.
 #[inline(always)]
 fn sign_end(source: &[u8], at: usize) -> usize
+    requires { at ≤ length source.now }
+    ensures is { result ≡ (if is_sign (get_or source.now at 0) then at + 1 else at) }
+    ensures within { (at ≤ result) × (result ≤ length source.now) }
 {
     if at < source.len() && matches!(source[at], b'+' | b'-') {
         at + 1
@@ -92,22 +102,38 @@ fn sign_end(source: &[u8], at: usize) -> usize
     }
 }
 
+/// Whether the byte may begin an exponent.
+#[inline(always)]
+fn is_letter_e(byte: u8) -> bool
+    ensures { result ≡ is_letter_e byte }
+{
+    matches!(byte, b'E' | b'e')
+}
+
 /// The offset after an exponent with its letter, if one comes at the offset.
 #[inline(always)]
 fn exponent_end(source: &[u8], at: usize) -> usize
+    requires { at ≤ length source.now }
+    ensures is { result ≡ at + exponent_len (drop at source.now) }
+    ensures within { (at ≤ result) × (result ≤ length source.now) }
 {
-    if at < source.len() && matches!(source[at], b'E' | b'e') {
-        let digits = sign_end(source, at + 1);
-        let end = digits_end(source, digits);
-        if end == digits { at } else { end }
-    } else {
-        at
+    if at == source.len() {
+        return at;
     }
+    if !is_letter_e(source[at]) {
+        return at;
+    }
+    let digits = sign_end(source, at + 1);
+    let end = digits_end(source, digits);
+    if end == digits { at } else { end }
 }
 
 /// The offset after a point with its digits and an exponent, if they come at the offset.
 #[inline(always)]
 fn tail_end(source: &[u8], whole: usize) -> usize
+    requires { whole ≤ length source.now }
+    ensures is { result ≡ whole + tail_len (drop whole source.now) }
+    ensures within { (whole ≤ result) × (result ≤ length source.now) }
 {
     exponent_end(source, fraction_end(source, whole))
 }
@@ -117,7 +143,7 @@ fn tail_end(source: &[u8], whole: usize) -> usize
 fn begins_tail(byte: u8) -> bool
     ensures { result ≡ (byte == 46 || is_letter_e byte) }
 {
-    matches!(byte, b'.' | b'E' | b'e')
+    byte >= b'.' && byte <= b'e' && (byte == b'.' || is_letter_e(byte))
 }
 
 /// The offset after the number whose first digit is at the offset. Most numbers are digits alone.
@@ -150,6 +176,7 @@ fn closing_quote(source: &[u8], at: usize) -> Option<usize>
     let mut n = at;
     while n < source.len() {
         match source[n] {
+            byte if byte > b'\\' => n += 1,
             b'"' => return Some(n),
             b'\\' => n += 2,
             _ => n += 1,

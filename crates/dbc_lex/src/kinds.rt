@@ -1,53 +1,70 @@
 //! Which bytes begin a token of each kind, and which go on in a name.
-ghost use Rattle.std.specs.Prelude.{◌≡◌, None, false, slice_get, unwrap_or};
-ghost use Rattle.catalogue.specs.Lexing.{kind_of};
+ghost use Rattle.std.specs.Prelude.{◌≡◌, false, slice_get, unwrap_or};
 ghost use Rattle.catalogue.specs.Name.{continues_identifier};
+ghost use Rattle.dbc_lex.specs.Class.{class_of};
+ghost use Rattle.dbc_lex.specs.declared.kinds.Class.TheVariants.{Stray};
 
-use catalogue::TokenKind;
-
-const NONE: Option<TokenKind> = None;
-
-const NAME: Option<TokenKind> = Some(TokenKind::Name);
-
-const NUMBER: Option<TokenKind> = Some(TokenKind::Number);
-
-const TEXT: Option<TokenKind> = Some(TokenKind::Text);
-
-const MARK: Option<TokenKind> = Some(TokenKind::Mark);
-
-/// For each byte the kind of the tokens that begin with it.
-const KINDS: [Option<TokenKind>; 256] = [
-    NONE, NONE, NONE, NONE, NONE, NONE, NONE, NONE, NONE, NONE, NONE, NONE, NONE, NONE, NONE, NONE,
-    NONE, NONE, NONE, NONE, NONE, NONE, NONE, NONE, NONE, NONE, NONE, NONE, NONE, NONE, NONE, NONE,
-    NONE, NONE, TEXT, NONE, NONE, NONE, NONE, NONE, MARK, MARK, NONE, MARK, MARK, MARK, NONE, NONE,
-    NUMBER, NUMBER, NUMBER, NUMBER, NUMBER, NUMBER, NUMBER, NUMBER, NUMBER, NUMBER, MARK, MARK,
-    NONE, NONE, NONE, NONE, MARK, NAME, NAME, NAME, NAME, NAME, NAME, NAME, NAME, NAME, NAME, NAME,
-    NAME, NAME, NAME, NAME, NAME, NAME, NAME, NAME, NAME, NAME, NAME, NAME, NAME, NAME, NAME, MARK,
-    NONE, MARK, NONE, NAME, NONE, NAME, NAME, NAME, NAME, NAME, NAME, NAME, NAME, NAME, NAME, NAME,
-    NAME, NAME, NAME, NAME, NAME, NAME, NAME, NAME, NAME, NAME, NAME, NAME, NAME, NAME, NAME, NONE,
-    MARK, NONE, NONE, NONE, NONE, NONE, NONE, NONE, NONE, NONE, NONE, NONE, NONE, NONE, NONE, NONE,
-    NONE, NONE, NONE, NONE, NONE, NONE, NONE, NONE, NONE, NONE, NONE, NONE, NONE, NONE, NONE, NONE,
-    NONE, NONE, NONE, NONE, NONE, NONE, NONE, NONE, NONE, NONE, NONE, NONE, NONE, NONE, NONE, NONE,
-    NONE, NONE, NONE, NONE, NONE, NONE, NONE, NONE, NONE, NONE, NONE, NONE, NONE, NONE, NONE, NONE,
-    NONE, NONE, NONE, NONE, NONE, NONE, NONE, NONE, NONE, NONE, NONE, NONE, NONE, NONE, NONE, NONE,
-    NONE, NONE, NONE, NONE, NONE, NONE, NONE, NONE, NONE, NONE, NONE, NONE, NONE, NONE, NONE, NONE,
-    NONE, NONE, NONE, NONE, NONE, NONE, NONE, NONE, NONE, NONE, NONE, NONE, NONE, NONE, NONE, NONE,
-    NONE, NONE, NONE, NONE, NONE, NONE, NONE, NONE, NONE, NONE, NONE, NONE, NONE, NONE, NONE, NONE,
-    NONE, NONE, NONE, NONE,
-];
-
-/// The table's entry for the byte, or `None` past its end.
-fn entry(kinds: &[Option<TokenKind>], byte: u8) -> Option<TokenKind>
-    ensures { result ≡ unwrap_or (slice_get kinds.now byte) None }
-{
-    kinds.get(usize::from(byte)).copied().unwrap_or(None)
+/// What begins with a byte: a gap, a token of some kind, or nothing.
+#[derive(Clone, Copy)]
+pub(crate) enum Class {
+    Name,
+    Number,
+    Text,
+    Mark,
+    Gap,
+    Stray,
 }
 
-/// The kind of the tokens that begin with the byte, or `None` if none does.
-pub(crate) fn kind_of(byte: u8) -> Option<TokenKind>
-    ensures { result ≡ kind_of byte }
+const NAME: Class = Class::Name;
+
+const NUMBER: Class = Class::Number;
+
+const TEXT: Class = Class::Text;
+
+const MARK: Class = Class::Mark;
+
+const GAP: Class = Class::Gap;
+
+const STRAY: Class = Class::Stray;
+
+/// For each byte what begins with it.
+const CLASSES: [Class; 256] = [
+    STRAY, STRAY, STRAY, STRAY, STRAY, STRAY, STRAY, STRAY, STRAY, GAP, GAP, GAP, GAP, GAP,
+    STRAY, STRAY, STRAY, STRAY, STRAY, STRAY, STRAY, STRAY, STRAY, STRAY, STRAY, STRAY, STRAY,
+    STRAY, STRAY, STRAY, STRAY, STRAY, GAP, STRAY, TEXT, STRAY, STRAY, STRAY, STRAY, STRAY,
+    MARK, MARK, STRAY, MARK, MARK, MARK, STRAY, STRAY, NUMBER, NUMBER, NUMBER, NUMBER, NUMBER,
+    NUMBER, NUMBER, NUMBER, NUMBER, NUMBER, MARK, MARK, STRAY, STRAY, STRAY, STRAY, MARK,
+    NAME, NAME, NAME, NAME, NAME, NAME, NAME, NAME, NAME, NAME, NAME, NAME, NAME, NAME, NAME,
+    NAME, NAME, NAME, NAME, NAME, NAME, NAME, NAME, NAME, NAME, NAME, MARK, STRAY, MARK,
+    STRAY, NAME, STRAY, NAME, NAME, NAME, NAME, NAME, NAME, NAME, NAME, NAME, NAME, NAME,
+    NAME, NAME, NAME, NAME, NAME, NAME, NAME, NAME, NAME, NAME, NAME, NAME, NAME, NAME, NAME,
+    STRAY, MARK, STRAY, STRAY, STRAY, STRAY, STRAY, STRAY, STRAY, STRAY, STRAY, STRAY, STRAY,
+    STRAY, STRAY, STRAY, STRAY, STRAY, STRAY, STRAY, STRAY, STRAY, STRAY, STRAY, STRAY, STRAY,
+    STRAY, STRAY, STRAY, STRAY, STRAY, STRAY, STRAY, STRAY, STRAY, STRAY, STRAY, STRAY, STRAY,
+    STRAY, STRAY, STRAY, STRAY, STRAY, STRAY, STRAY, STRAY, STRAY, STRAY, STRAY, STRAY, STRAY,
+    STRAY, STRAY, STRAY, STRAY, STRAY, STRAY, STRAY, STRAY, STRAY, STRAY, STRAY, STRAY, STRAY,
+    STRAY, STRAY, STRAY, STRAY, STRAY, STRAY, STRAY, STRAY, STRAY, STRAY, STRAY, STRAY, STRAY,
+    STRAY, STRAY, STRAY, STRAY, STRAY, STRAY, STRAY, STRAY, STRAY, STRAY, STRAY, STRAY, STRAY,
+    STRAY, STRAY, STRAY, STRAY, STRAY, STRAY, STRAY, STRAY, STRAY, STRAY, STRAY, STRAY, STRAY,
+    STRAY, STRAY, STRAY, STRAY, STRAY, STRAY, STRAY, STRAY, STRAY, STRAY, STRAY, STRAY, STRAY,
+    STRAY, STRAY, STRAY, STRAY, STRAY, STRAY, STRAY, STRAY, STRAY, STRAY, STRAY, STRAY, STRAY,
+    STRAY, STRAY, STRAY,
+];
+
+/// The table's entry for the byte, or `Stray` past its end.
+#[inline(always)]
+fn entry(classes: &[Class], byte: u8) -> Class
+    ensures { result ≡ unwrap_or (slice_get classes.now byte) Stray }
 {
-    entry(&KINDS, byte)
+    classes.get(usize::from(byte)).copied().unwrap_or(Class::Stray)
+}
+
+/// What begins with the byte.
+#[inline(always)]
+pub(crate) fn class_of(byte: u8) -> Class
+    ensures { result ≡ class_of byte }
+{
+    entry(&CLASSES, byte)
 }
 
 /// For each byte whether it may come after the first one of a name.

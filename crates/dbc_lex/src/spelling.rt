@@ -1,24 +1,18 @@
 //! How many bytes a gap or a token takes.
-ghost use Rattle.std.specs.Prelude.{◌≡◌, ◌==◌, ◌||◌, ◌≤◌, ◌<◌, ◌+◌, length, get_or, drop, false, Some, IfSome};
+ghost use Rattle.std.specs.Prelude.{◌≡◌, ◌==◌, ◌||◌, ◌≤◌, ◌<◌, ◌+◌, length, get_or, drop, false, Some, IfSome, if◌then◌else◌};
 ghost use Rattle.std.specs.Char.{is_ascii_digit};
 ghost use Rattle.std.specs.List.{prefix_len};
 ghost use Rattle.catalogue.specs.Name.{continues_identifier};
-ghost use Rattle.decimal.specs.Spelling.{is_letter_e};
+ghost use Rattle.decimal.specs.Cutting.{fraction_len};
+ghost use Rattle.decimal.specs.Spelling.{is_letter_e, is_sign};
 ghost use Rattle.catalogue.specs.Spelling.{is_gap};
-ghost use Rattle.catalogue.specs.Lexing.{kind_of, power_len, exponent_len, number_len, inside_len, tail_len, word_len};
+ghost use Rattle.catalogue.specs.Lexing.{kind_of, exponent_len, number_len, inside_len, tail_len, word_len};
 ghost use Rattle.catalogue.specs.declared.token.TokenKind.TheVariants.{Mark, Number};
 ghost use Rattle.dbc_lex.specs.First.{kind_at};
 ghost use Rattle.dbc_lex.specs.Offset.{further_by};
 
-use crate::kinds::{continues_name, kind_of};
+use crate::kinds::{Class, class_of, continues_name};
 use catalogue::TokenKind;
-use decimal::{digits_len, fraction_len};
-
-fn is_gap(byte: u8) -> bool
-    ensures { result ≡ is_gap byte }
-{
-    matches!(byte, 9..=13 | 32)
-}
 
 /// The offset of the first byte at the offset or after it that is no gap, or the end; and the kind of the tokens that
 /// begin with that byte, if one does.
@@ -31,13 +25,16 @@ pub(crate) fn first_after_gap(source: &[u8], at: usize) -> (usize, Option<TokenK
 {
     let mut end = at;
     while end < source.len() {
-        match kind_of(source[end]) {
-            Some(kind) => return (end, Some(kind)),
-            None if is_gap(source[end]) => end += 1,
-            None => return (end, None),
+        match class_of(source[end]) {
+            Class::Name => return (end, Some(TokenKind::Name)),
+            Class::Number => return (end, Some(TokenKind::Number)),
+            Class::Text => return (end, Some(TokenKind::Text)),
+            Class::Mark => return (end, Some(TokenKind::Mark)),
+            Class::Gap => end += 1,
+            Class::Stray => return (end, None),
         }
     }
-    (end, None)
+    (source.len(), None)
 }
 
 /// The offset of the mark if it comes at the offset or after one space there.
@@ -68,9 +65,15 @@ fn name_end(source: &[u8], at: usize) -> usize
     ensures is { result ≡ at + prefix_len continues_identifier (drop at source.now) }
     ensures within { result ≤ length source.now }
 {
+    if at == source.len() {
+        return at;
+    }
     let mut end = at;
-    while end < source.len() && continues_name(source[end]) {
+    while continues_name(source[end]) {
         end += 1;
+        if end == source.len() {
+            return end;
+        }
     }
     end
 }
@@ -83,51 +86,77 @@ fn digits_end(source: &[u8], at: usize) -> usize
     ensures within { result ≤ length source.now }
 {
     let mut end = at;
-    while end < source.len() && source[end].is_ascii_digit() {
+    while end < source.len() {
+        if !source[end].is_ascii_digit() {
+            return end;
+        }
         end += 1;
     }
-    end
+    source.len()
 }
 
-/// The length of the digits after an exponent's letter, with their sign; 0 if there are no digits.
-#[tactic(auto, unfolding(catalogue::specs::Lexing::power_len))]
-fn power_len(bytes: &[u8]) -> usize
-    ensures is { result ≡ power_len bytes.now }
-    ensures within { result ≤ length bytes.now }
+/// The offset after a point with its digits, if they come at the offset.
+#[inline(always)]
+fn fraction_end(source: &[u8], at: usize) -> usize
+    requires { at ≤ length source.now }
+    ensures is { result ≡ at + fraction_len (drop at source.now) }
+    ensures within { (at ≤ result) × (result ≤ length source.now) }
 {
-    match bytes {
-        [b'+' | b'-', rest @ ..] => match digits_len(rest) {
-            0 => 0,
-            digits => 1 + digits,
-        },
-        _ => digits_len(bytes),
+    if at < source.len() && source[at] == b'.' {
+        digits_end(source, at + 1)
+    } else {
+        at
     }
 }
 
-/// The length of an exponent with its letter; 0 if there is none.
-#[tactic(auto, unfolding(catalogue::specs::Lexing::exponent_len))]
-fn exponent_len(bytes: &[u8]) -> usize
-    ensures is { result ≡ exponent_len bytes.now }
-    ensures within { result ≤ length bytes.now }
+/// The offset after a sign, if one comes at the offset.
+#[inline(always)]
+fn sign_end(source: &[u8], at: usize) -> usize
+    requires { at ≤ length source.now }
+    ensures is { result ≡ (if is_sign (get_or source.now at 0) then at + 1 else at) }
+    ensures within { (at ≤ result) × (result ≤ length source.now) }
 {
-    match bytes {
-        [b'E' | b'e', rest @ ..] => match power_len(rest) {
-            0 => 0,
-            power => 1 + power,
-        },
-        _ => 0,
+    if at < source.len() && matches!(source[at], b'+' | b'-') {
+        at + 1
+    } else {
+        at
     }
+}
+
+/// Whether the byte may begin an exponent.
+#[inline(always)]
+fn is_letter_e(byte: u8) -> bool
+    ensures { result ≡ is_letter_e byte }
+{
+    matches!(byte, b'E' | b'e')
+}
+
+/// The offset after an exponent with its letter, if one comes at the offset.
+#[inline(always)]
+fn exponent_end(source: &[u8], at: usize) -> usize
+    requires { at ≤ length source.now }
+    ensures is { result ≡ at + exponent_len (drop at source.now) }
+    ensures within { (at ≤ result) × (result ≤ length source.now) }
+{
+    if at == source.len() {
+        return at;
+    }
+    if !is_letter_e(source[at]) {
+        return at;
+    }
+    let digits = sign_end(source, at + 1);
+    let end = digits_end(source, digits);
+    if end == digits { at } else { end }
 }
 
 /// The offset after a point with its digits and an exponent, if they come at the offset.
+#[inline(always)]
 fn tail_end(source: &[u8], whole: usize) -> usize
     requires { whole ≤ length source.now }
     ensures is { result ≡ whole + tail_len (drop whole source.now) }
     ensures within { (whole ≤ result) × (result ≤ length source.now) }
 {
-    let fraction = fraction_len(&source[whole..]);
-    let power = exponent_len(&source[whole + fraction..]);
-    whole + (fraction + power)
+    exponent_end(source, fraction_end(source, whole))
 }
 
 /// Whether a point or an exponent may begin with the byte.
@@ -135,7 +164,7 @@ fn tail_end(source: &[u8], whole: usize) -> usize
 fn begins_tail(byte: u8) -> bool
     ensures { result ≡ (byte == 46 || is_letter_e byte) }
 {
-    matches!(byte, b'.' | b'E' | b'e')
+    byte >= b'.' && byte <= b'e' && (byte == b'.' || is_letter_e(byte))
 }
 
 /// The offset after the number whose first digit is at the offset. Most numbers are digits alone.
@@ -168,6 +197,7 @@ fn closing_quote(source: &[u8], at: usize) -> Option<usize>
     let mut n = at;
     while n < source.len() {
         match source[n] {
+            byte if byte > b'\\' => n += 1,
             b'"' => return Some(n),
             b'\\' => n += 2,
             _ => n += 1,

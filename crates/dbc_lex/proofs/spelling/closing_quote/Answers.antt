@@ -12,6 +12,12 @@ pub loop-n-preserved-in-92 : goal.loop-n-preserved-in-92
 loop-n-preserved-in-92 c =
     past_backslash c.args.source.now c.loop-n.n (further_by c.args.at (inside_len false (drop c.args.at c.args.source.now))) c.loop-n-test.true c.in-92.is c.loop-n.invariant
 
+pub loop-n-preserved-then-byte-gt92 : goal.loop-n-preserved-then-byte-gt92
+loop-n-preserved-then-byte-gt92 c =
+    let no_quote : get_or c.args.source.now c.loop-n.n 0 ≢ 34 = omega (arith, c.if-byte-gt92.true) in
+    let no_backslash : get_or c.args.source.now c.loop-n.n 0 ≢ 92 = omega (arith, c.if-byte-gt92.true) in
+    past_other c.args.source.now c.loop-n.n (further_by c.args.at (inside_len false (drop c.args.at c.args.source.now))) c.loop-n-test.true no_quote no_backslash c.loop-n.invariant
+
 pub loop-n-preserved : goal.loop-n-preserved
 loop-n-preserved c =
     let no_quote : get_or c.args.source.now c.loop-n.n 0 ≢ 34 = omega arith in

@@ -1,13 +1,6 @@
-use Rattle.std.proofs.Common.{◌+◌}
-use Rattle.std.proofs.lemmas.List.{take_rest}
 use Rattle.dbc_lex.proofs.Ends.{tail_is}
 use Rattle.dbc_lex.proofs.spelling.tail_end.Goals as goal
 
 pub returns-clause-is : goal.returns-clause-is
 returns-clause-is c =
-    let source = c.args.source.now in
-    let whole = c.args.whole in
-    let fraction = c.fraction_len-fraction.result in
-    tail_is source whole fraction c.exponent_len-power.result
-    (rw (take_rest source whole) at c.fraction_len-fraction.ensures.is)
-    (rw (take_rest source (whole + fraction)) at c.exponent_len-power.ensures.is)
+    tail_is c.args.source.now c.args.whole c.fraction_end.result c.exponent_end.result c.fraction_end.ensures.is c.exponent_end.ensures.is

@@ -1,0 +1,22 @@
+-- What begins with a byte, of a gap and the tokens of each kind.
+use Rattle.std.specs.Prelude.{◌≡◌, ℕ, Option, Some, None, if◌then◌else◌, refl}
+use Rattle.catalogue.specs.Lexing.{kind_of}
+use Rattle.catalogue.specs.Spelling.{is_gap}
+use Rattle.catalogue.specs.declared.token.TokenKind.{TokenKind}
+use Rattle.catalogue.specs.declared.token.TokenKind.TheVariants as kind
+use Rattle.dbc_lex.specs.declared.kinds.Class.{Class}
+use Rattle.dbc_lex.specs.declared.kinds.Class.TheVariants.{Name, Number, Text, Mark, Gap, Stray}
+
+-- a token of the kind, or none
+abbrev pub of_kind : Option TokenKind → Class
+of_kind (Some kind.Name) = Name
+of_kind (Some kind.Number) = Number
+of_kind (Some kind.Text) = Text
+of_kind (Some kind.Mark) = Mark
+of_kind None = Stray
+
+abbrev pub class_of : ℕ → Class
+class_of b = if is_gap b then Gap else of_kind (kind_of b)
+
+class_of_example : (class_of 32 ≡ Gap) × (class_of 65 ≡ Name) × (class_of 46 ≡ Stray)
+class_of_example = (refl, refl, refl)

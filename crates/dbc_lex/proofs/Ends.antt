@@ -79,7 +79,7 @@ some_if false len h = absurd (true≢false (sym h))
 module _ (source : List ℕ) where
   power_by : (sign : Bool) (at digits : ℕ) → digits ≡ (if sign then at + 1 else at)
       → (if sign then with_front (prefix_len is_ascii_digit (drop (at + 1) source)) else prefix_len is_ascii_digit (drop at source))
-        ≡ after_front (digits - at) (prefix_len is_ascii_digit (drop digits source))
+      ≡ after_front (digits - at) (prefix_len is_ascii_digit (drop digits source))
   power_by true at digits is =
       let one : digits - at ≡ 1 = omega (arith, is) in
       rw (one, is) (one_front (prefix_len is_ascii_digit (drop (at + 1) source)))
@@ -89,7 +89,7 @@ module _ (source : List ℕ) where
 
   power_here : (at : ℕ) → (at < length source) ⊎ (length source ≤ at)
       → power_len (drop at source)
-        ≡ (if is_sign (get_or source at 0) then with_front (prefix_len is_ascii_digit (drop (at + 1) source)) else prefix_len is_ascii_digit (drop at source))
+      ≡ (if is_sign (get_or source at 0) then with_front (prefix_len is_ascii_digit (drop (at + 1) source)) else prefix_len is_ascii_digit (drop at source))
   unfolding power_len
   power_here at (inl there) =
       let sign = is_sign (get_or source at 0) in

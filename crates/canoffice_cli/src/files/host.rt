@@ -25,11 +25,22 @@ impl<R: Files> FileSource for HostFiles<'_, R> {
             Ok(file) => file,
             Err(error) => return Err(fault_of(&error)),
         };
-        let mut bytes = Vec::new(alloc);
+        let mut bytes = match Vec::with_capacity(alloc, length_of(self.rt, path)) {
+            Ok(bytes) => bytes,
+            Err(_) => return Err(FileFault::Memory),
+        };
         match file.read_to_end(&mut bytes) {
             Ok(_) => Ok(bytes),
             Err(error) => Err(fault_of(&error)),
         }
+    }
+}
+
+/// The length that the file has now, so that room for all of it can be taken at once; 0 if it isn't known.
+fn length_of<R: Files>(rt: &R, path: &str) -> usize {
+    match rt.metadata(path) {
+        Ok(metadata) => usize::try_from(metadata.len()).unwrap_or(0),
+        Err(_) => 0,
     }
 }
 

@@ -1,4 +1,5 @@
 mod Insides
+mod Exponents
 mod Ends
 mod Reading
 mod KindTables

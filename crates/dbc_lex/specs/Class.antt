@@ -1,4 +1,4 @@
--- What begins with a byte, of a gap and the tokens of each kind.
+-- What begins with a byte: a gap, or a token of some kind.
 use Rattle.std.specs.Prelude.{◌≡◌, ℕ, Option, Some, None, if◌then◌else◌, refl}
 use Rattle.catalogue.specs.Lexing.{kind_of}
 use Rattle.catalogue.specs.Spelling.{is_gap}

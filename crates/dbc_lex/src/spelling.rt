@@ -1,4 +1,6 @@
-//! How many bytes a gap or a token takes.
+//! Where a gap or a token ends.
+//!
+//! All of it is inlined into the one function that takes the next token. It calls none, so it saves no registers.
 ghost use Rattle.std.specs.Prelude.{◌≡◌, ◌==◌, ◌||◌, ◌≤◌, ◌<◌, ◌+◌, length, get_or, drop, false, Some, IfSome, if◌then◌else◌};
 ghost use Rattle.std.specs.Char.{is_ascii_digit};
 ghost use Rattle.std.specs.List.{prefix_len};
@@ -58,7 +60,8 @@ pub(crate) fn mark_start(source: &[u8], at: usize, mark: u8) -> Option<usize>
     None
 }
 
-/// The offset after the bytes at the offset that may come after the first one of a name.
+/// The offset after the bytes at the offset that may come after the first one of a name. The end of the text is looked
+/// for after each byte and not before it, which takes fewer instructions.
 #[inline(always)]
 fn name_end(source: &[u8], at: usize) -> usize
     requires { at ≤ length source.now }
@@ -159,7 +162,7 @@ fn tail_end(source: &[u8], whole: usize) -> usize
     exponent_end(source, fraction_end(source, whole))
 }
 
-/// Whether a point or an exponent may begin with the byte.
+/// Whether a point or an exponent may begin with the byte. Most bytes after digits are before or after all of these.
 #[inline(always)]
 fn begins_tail(byte: u8) -> bool
     ensures { result ≡ (byte == 46 || is_letter_e byte) }
@@ -187,7 +190,8 @@ fn number_end(source: &[u8], start: usize) -> usize
 }
 
 /// The offset of the quote that closes a text whose first byte after its opening quote is at the offset; `None` if no
-/// quote closes it. A backslash escapes the next byte.
+/// quote closes it. A backslash escapes the next byte. Most bytes of texts are small letters, which come after both
+/// marks.
 #[inline(always)]
 fn closing_quote(source: &[u8], at: usize) -> Option<usize>
     requires { at ≤ length source.now }

@@ -1,5 +1,5 @@
 use Rattle.std.proofs.Common.{◌<◌, length, sym, arith}
-use Rattle.dbc_lex.proofs.Ends.{no_exponent, no_exponent_at_end, exponent_without_digits, exponent_with_digits}
+use Rattle.dbc_lex.proofs.Exponents.{no_exponent, no_exponent_at_end, exponent_without_digits, exponent_with_digits}
 use Rattle.dbc_lex.proofs.spelling.exponent_end.Goals as goal
 
 pub returns-then-at-source-clause-is : goal.returns-then-at-source-clause-is

@@ -1,5 +1,5 @@
 -- The tables of bytes, byte by byte.
-use Rattle.std.proofs.Common.{◌≡◌, ℕ, ◌<◌, ◌≤◌, ◌⊎◌, Bool, false, List, map, Option, None, unwrap_or, inl, inr, sym, ap, ◌∙◌, arith}
+use Rattle.std.proofs.Common.{◌≡◌, ◌==◌, ℕ, ◌<◌, ◌≤◌, ◌⊎◌, Bool, false, List, map, Option, None, unwrap_or, inl, inr, sym, ap, ◌∙◌, arith}
 use Rattle.std.specs.List.{range_with_len, slice_get}
 use Rattle.std.proofs.lemmas.Bool.{cases_lt}
 use Rattle.std.proofs.lemmas.Bool.Decides.{nat_tests}
@@ -29,8 +29,11 @@ none_above b above = grind (arith, nat_tests)
 no_gap_above : (b : ℕ) → 256 ≤ b → is_gap b ≡ false
 no_gap_above b above = grind (arith, nat_tests)
 
+no_space_above : (b : ℕ) → 256 ≤ b → (b == 32) ≡ false
+no_space_above b above = grind (arith, nat_tests)
+
 stray_above : (b : ℕ) → 256 ≤ b → class_of b ≡ Stray
-stray_above b above = rw (no_gap_above b above) (ap of_kind (none_above b above))
+stray_above b above = rw (no_gap_above b above, no_space_above b above) (ap of_kind (none_above b above))
 
 -- and no name has one
 no_name_above : (b : ℕ) → 256 ≤ b → continues_identifier b ≡ false

@@ -1,11 +1,11 @@
 -- What begins with a byte: a gap, or a token of some kind.
-use Rattle.std.specs.Prelude.{◌≡◌, ℕ, Option, Some, None, if◌then◌else◌, refl}
+use Rattle.std.specs.Prelude.{◌≡◌, ◌==◌, ℕ, Option, Some, None, if◌then◌else◌, refl}
 use Rattle.catalogue.specs.Lexing.{kind_of}
 use Rattle.catalogue.specs.Spelling.{is_gap}
 use Rattle.catalogue.specs.declared.token.TokenKind.{TokenKind}
 use Rattle.catalogue.specs.declared.token.TokenKind.TheVariants as kind
 use Rattle.dbc_lex.specs.declared.kinds.Class.{Class}
-use Rattle.dbc_lex.specs.declared.kinds.Class.TheVariants.{Name, Number, Text, Mark, Gap, Stray}
+use Rattle.dbc_lex.specs.declared.kinds.Class.TheVariants.{Name, Number, Text, Mark, Gap, Stray, Space}
 
 -- a token of the kind, or none
 abbrev pub of_kind : Option TokenKind → Class
@@ -15,8 +15,9 @@ of_kind (Some kind.Text) = Text
 of_kind (Some kind.Mark) = Mark
 of_kind None = Stray
 
+-- a space is a gap too, of its own class
 abbrev pub class_of : ℕ → Class
-class_of b = if is_gap b then Gap else of_kind (kind_of b)
+class_of b = if b == 32 then Space else (if is_gap b then Gap else of_kind (kind_of b))
 
-class_of_example : (class_of 32 ≡ Gap) × (class_of 65 ≡ Name) × (class_of 46 ≡ Stray)
-class_of_example = (refl, refl, refl)
+class_of_example : (class_of 32 ≡ Space) × (class_of 9 ≡ Gap) × (class_of 65 ≡ Name) × (class_of 46 ≡ Stray)
+class_of_example = (refl, refl, refl, refl)

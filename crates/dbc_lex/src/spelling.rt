@@ -32,7 +32,7 @@ pub(crate) fn first_after_gap(source: &[u8], at: usize) -> (usize, Option<TokenK
             Class::Number => return (end, Some(TokenKind::Number)),
             Class::Text => return (end, Some(TokenKind::Text)),
             Class::Mark => return (end, Some(TokenKind::Mark)),
-            Class::Gap => end += 1,
+            Class::Gap | Class::Space => end += 1,
             Class::Stray => return (end, None),
         }
     }

@@ -1,5 +1,7 @@
 pub mod IteratorItems
 pub mod LookingUp
+pub mod Ordered
+mod OrderedRows
 pub mod Fed
 pub mod Positions
 pub mod Places

@@ -90,3 +90,8 @@ module _ {K J : Type 0} (see : K → J) (p : K → Bool) (q : J → Bool) (same 
   pub index_seen : (keys : List K) (index : Option ℕ) → IsIndexIn p keys index → IsIndexIn q (map see keys) index
   index_seen keys None h = any_seen keys ∙ h
   index_seen keys (Some i) h = ap (λ l. slice_get l i) (sym (each_seen keys)) ∙ h
+
+  -- and the other way round
+  pub index_meant : (keys : List K) (index : Option ℕ) → IsIndexIn q (map see keys) index → IsIndexIn p keys index
+  index_meant keys None h = sym (any_seen keys) ∙ h
+  index_meant keys (Some i) h = ap (λ l. slice_get l i) (each_seen keys) ∙ h

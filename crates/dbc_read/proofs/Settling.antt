@@ -11,11 +11,12 @@ use Rattle.catalogue.specs.declared.keyword.Keyword.{Keyword}
 use Rattle.catalogue.specs.declared.signal.Signal.{Signal}
 use Rattle.catalogue.specs.declared.value_type.ValueType.TheVariants.{Integer}
 use Rattle.dbc_read.specs.Attaching.{IsAttached, IsPlaceCited, IsPlaceOf, all_signals, with_attachment, attaching, changed_at, cites_signal, in_signals, with_attached}
-use Rattle.dbc_read.specs.Finding.{Finds, FindsAll}
+use Rattle.dbc_read.specs.Finding.{Finds, FindsAll, FindsSignals}
 use Rattle.dbc_read.specs.Gathered.{AreGathered, gathered_after, passed_of, set_at}
 use Rattle.dbc_read.specs.Gathering.{DefineNothing, Defines, FollowAll, Gathers, HaveNothing, IsDefining, IsEmpty, IsOfTokens, IsSettling, Settles, SettlesAll, defines, one_or_none, with_definitions, with_nothing_attached}
 use Rattle.dbc_read.specs.Lookups.{IsCitedIndex, IsSignalIn}
 use Rattle.dbc_read.specs.Numbers.{line_numbers}
+use Rattle.dbc_read.specs.Orders.{AreOrdersOf}
 use Rattle.dbc_read.specs.declared.attaching.Attachment.{Attachment}
 use Rattle.dbc_read.specs.declared.attaching.Attachment.TheVariants as what
 use Rattle.dbc_read.specs.declared.attaching.Place.{Place}
@@ -44,7 +45,7 @@ finds_more f lines said rest none are = record {
   numbers = are.numbers;
 }
 
-pub same_line_numbers : (old new : List MessageLine) → map message_of new ≡ map message_of old → line_numbers new ≡ line_numbers old
+same_line_numbers : (old new : List MessageLine) → map message_of new ≡ map message_of old → line_numbers new ≡ line_numbers old
 same_line_numbers old new same = sym (numbers_of_lines new) ∙ ap (map (λ (m : says.MessageLine). dbc_number m.ident)) same ∙ numbers_of_lines old
 
 finds_same : (f : Finders) (old new : List MessageLine) (said : List says.Statement) → map message_of new ≡ map message_of old → Finds f old said → Finds f new said
@@ -54,6 +55,12 @@ finds_same f old new said same are = record {
   names = are.names;
   messages = same ∙ are.messages;
   numbers = are.numbers ∙ sym (same_line_numbers old new same);
+}
+
+pub finds_signals_same : (f : Finders) (old new : List MessageLine) → map message_of new ≡ map message_of old → FindsSignals f old → FindsSignals f new
+finds_signals_same f old new same are = record {
+  numbers = are.numbers ∙ sym (same_line_numbers old new same);
+  orders = subst (λ ms. AreOrdersOf ms f.orders.items) (sym same) are.orders;
 }
 
 pub numbers_found : (f : Finders) (lines : List MessageLine) (said : List says.Statement) → Finds f lines said → f.numbers ≡ numbers_of said

@@ -7,6 +7,7 @@ use Rattle.catalogue.specs.Statement.{Statement}
 use Rattle.dbc_read.specs.Keys.{text_of}
 use Rattle.dbc_read.specs.Lookup.{IsLookupOf}
 use Rattle.dbc_read.specs.Numbers.{line_numbers}
+use Rattle.dbc_read.specs.Orders.{AreOrdersOf}
 use Rattle.dbc_read.specs.declared.finding.Finders.{Finders}
 use Rattle.dbc_statements.specs.Statement.{message_of, names_of}
 use Rattle.dbc_statements.specs.declared.statement.MessageLine.{MessageLine}
@@ -23,3 +24,8 @@ pub record Finds (f : Finders) (lines : List MessageLine) (statements : List Sta
 -- it finds these nodes and messages, whichever statements define them
 abbrev pub FindsAll : Finders → List NodeName → List MessageLine → Type 0
 FindsAll f nodes lines = (statements : List Statement) → names_of nodes ≡ node_names_of statements → map message_of lines ≡ messages_of statements → Finds f lines statements
+
+-- it finds the messages of these lines by number, and their signals by name
+pub record FindsSignals (f : Finders) (lines : List MessageLine) : Type 0 where
+  pub numbers : f.numbers ≡ line_numbers lines
+  pub orders : AreOrdersOf (map message_of lines) f.orders.items

@@ -9,6 +9,7 @@ pub mod Fit
 pub mod Built
 pub mod Attaching
 pub mod Numbers
+pub mod Orders
 pub mod Finding
 pub mod Placed
 pub mod Faults

@@ -1,18 +1,18 @@
 //! Which node, message or signal of the lines each statement cites, as statements come one by one.
 //!
-//! A message is found by its number, and a signal by its name among those of its message: from the one that was found
-//! last on, and round. So names are compared one by one. How many may be is limited by the number of statements, since a
-//! file could cite its signals in an order in which that takes too long.
-ghost use Rattle.std.specs.Prelude.{◌≡◌, ◌==◌, List, IfOk, IfSome, Some, false, nat_eq};
+//! A message is found by its number, and a signal by its name among those of its message. The one after the signal that
+//! was found last is tried first, and then that one again. Few others are compared one by one, from there on and round;
+//! among many there is a binary search (`orders`), so that no order of citations takes long.
+ghost use Rattle.std.specs.Prelude.{◌≡◌, ◌==◌, List, IfOk, IfSome, Some, false, map, nat_eq, slice_get, true};
 ghost use Rattle.std.specs.List.{IsDistinct};
 ghost use Rattle.std.specs.Str.{bytes_eq};
 ghost use Rattle.catalogue.specs.Statement as says;
 ghost use Rattle.catalogue.specs.declared.signal.Signal.{Signal};
 ghost use Rattle.dbc_read.specs.Attaching.{IsPlaceCited, IsPlaceOf, cites_signal};
-ghost use Rattle.dbc_read.specs.Finding.{Finds, FindsAll};
+ghost use Rattle.dbc_read.specs.Finding.{Finds, FindsAll, FindsSignals};
 ghost use Rattle.dbc_read.specs.Lookup.{IsIndexIn};
 ghost use Rattle.dbc_read.specs.Lookups.{IsCitedIndex};
-ghost use Rattle.dbc_read.specs.Numbers.{line_numbers};
+ghost use Rattle.dbc_read.specs.Orders.{IsOrderOf, signal_names};
 ghost use Rattle.dbc_statements.specs.Statement.{content_of};
 ghost use Rattle.dbc_statements.specs.declared.statement.MessageLine.{MessageLine};
 
@@ -20,51 +20,64 @@ use crate::attaching::Place;
 use crate::keys::add_names;
 use crate::lookup::{Lookup, lookup_of};
 use crate::numbers::{Numbers, numbers_of};
+use crate::orders::{orders_of, search};
 use catalogue::Signal;
 use dbc_statements::{CitedSignal, Content, MessageLine, NodeName};
 use std::alloc::{AllocError, Global};
 
-/// The nodes and the messages of a file, by their indices.
+/// The nodes, the messages and the signals of a file, by their indices.
 pub(crate) struct Finders<'s> {
     /// The names of the nodes.
     pub nodes: Lookup<&'s [u8]>,
     /// The numbers of the messages.
     pub numbers: Numbers,
+    /// The order of the signals of each message.
+    pub orders: Vec<Vec<u16>>,
 }
 
-/// What finds these nodes and messages, or `None` if two messages have the same number.
+/// What finds these nodes and messages. `None` if two messages have the same number, or one has 65,536 signals or more.
 pub(crate) fn finders_of<'s>(
     alloc: Global,
     nodes: &'s [NodeName],
     lines: &[MessageLine],
 ) -> Result<Option<Finders<'s>>, AllocError>
-    ensures numbers { IfOk result (λ found. IfSome found (λ finders. finders.numbers ≡ line_numbers lines.now)) }
+    ensures signals { IfOk result (λ found. IfSome found (λ finders. FindsSignals finders lines.now)) }
     ensures all { IfOk result (λ found. IfSome found (λ finders. FindsAll finders nodes.now lines.now)) }
 {
     let numbers = match numbers_of(alloc, lines)? {
         Some(numbers) => numbers,
         None => return Ok(None),
     };
+    let orders = match orders_of(alloc, lines)? {
+        Some(orders) => orders,
+        None => return Ok(None),
+    };
     let mut names = Vec::new(alloc);
     add_names(nodes, &mut names)?;
     let nodes = lookup_of(alloc, names)?;
-    Ok(Some(Finders { nodes, numbers }))
+    Ok(Some(Finders {
+        nodes,
+        numbers,
+        orders,
+    }))
 }
 
-/// How many names may be compared at first.
-const NAMES_AT_FIRST: usize = 65_536;
-
-/// How many more may be for each statement.
-pub(crate) const NAMES_A_STATEMENT: usize = 32;
-
-/// What was found last, and how many names of other signals may still be compared.
+/// The node and the message that were found last, and the index after that of the signal that was.
 #[derive(Clone, Copy)]
 pub(crate) struct Track {
     node: usize,
     message: usize,
-    signal: usize,
-    /// How many names may still be compared.
-    pub names_left: usize,
+    next: usize,
+}
+
+/// Whether the signal at the index has that name.
+fn has_at(signals: &[Signal], index: usize, name: &[u8]) -> bool
+    ensures { result ≡ true → slice_get (map (λ (s : Signal). bytes_eq s.name name.now) signals.now) index ≡ Some true }
+{
+    match signals.get(index) {
+        Some(signal) => signal.name.as_bytes() == name,
+        None => false,
+    }
 }
 
 /// The index of the first signal of that name.
@@ -79,14 +92,28 @@ fn first_named(signals: &[Signal], name: &[u8]) -> Option<usize>
     None
 }
 
-/// The index of a signal of that name. Those from `last` on are tried first.
-fn named(signals: &[Signal], name: &[u8], last: usize) -> Option<usize>
+/// The index of a signal of that name. Those from `next` on are tried first.
+fn named(signals: &[Signal], name: &[u8], next: usize) -> Option<usize>
     ensures { IsIndexIn (λ (s : Signal). bytes_eq s.name name.now) signals.now result }
 {
-    let (before, after) = signals.split_at(last.min(signals.len()));
+    let (before, after) = signals.split_at(next.min(signals.len()));
     match first_named(after, name) {
         Some(index) => Some(before.len() + index),
         None => first_named(before, name),
+    }
+}
+
+/// The index of a signal of that name, wherever it is. Few signals are compared one by one, those from `next` on first;
+/// among many there is a binary search.
+#[inline(never)]
+fn anywhere(signals: &[Signal], order: &[u16], name: &[u8], next: usize) -> Option<usize>
+    requires { IsOrderOf (signal_names signals.now) order.now }
+    ensures { IsIndexIn (λ (s : Signal). bytes_eq s.name name.now) signals.now result }
+{
+    if order.is_empty() {
+        named(signals, name, next)
+    } else {
+        search(signals, order, name)
     }
 }
 
@@ -96,8 +123,7 @@ impl Track {
         Track {
             node: 0,
             message: 0,
-            signal: 0,
-            names_left: NAMES_AT_FIRST,
+            next: 0,
         }
     }
 
@@ -111,26 +137,31 @@ impl Track {
         if let Some(message) = found {
             if message != self.message {
                 self.message = message;
-                self.signal = 0;
+                self.next = 0;
             }
         }
         found
     }
 
-    /// The index of a signal of that name among those of the message that was found last.
-    fn signal_index(&mut self, signals: &[Signal], name: &[u8]) -> Option<usize>
+    /// The index of a signal of that name among those of the message that was found last. The one after the signal that
+    /// was found last is tried first, and then that one.
+    fn signal_index(&mut self, signals: &[Signal], order: &[u16], name: &[u8]) -> Option<usize>
+        requires { IsOrderOf (signal_names signals.now) order.now }
         ensures { IsIndexIn (λ (s : Signal). bytes_eq s.name name.now) signals.now result }
     {
-        let last = self.signal;
-        let found = named(signals, name, last);
-        let onward = match found {
-            Some(index) => index.checked_sub(last),
-            None => None,
-        };
-        self.signal = found.unwrap_or(last);
-        self.names_left = self
-            .names_left
-            .saturating_sub(onward.unwrap_or(signals.len()));
+        let next = self.next;
+        if has_at(signals, next, name) {
+            self.next = next.saturating_add(1);
+            return Some(next);
+        }
+        let last = next.saturating_sub(1);
+        if has_at(signals, last, name) {
+            return Some(last);
+        }
+        let found = anywhere(signals, order, name, next);
+        if let Some(index) = found {
+            self.next = index.saturating_add(1);
+        }
         found
     }
 
@@ -138,19 +169,22 @@ impl Track {
     #[tactic(auto, using(crate::proofs::Places::number_within))]
     fn place_in(
         &mut self,
-        numbers: &Numbers,
+        finders: &Finders,
         lines: &[MessageLine],
         number: u32,
         name: &[u8],
     ) -> Option<Place>
-        requires { numbers.now ≡ line_numbers lines.now }
+        requires { FindsSignals finders.now lines.now }
         ensures { IsPlaceOf lines.now (Some number) name.now result }
     {
-        match self.message_index(numbers, number) {
-            Some(message) => match self.signal_index(&lines[message].signals, name) {
-                Some(signal) => Some(Place { message, signal }),
-                None => None,
-            },
+        match self.message_index(&finders.numbers, number) {
+            Some(message) => {
+                let order = &finders.orders[message];
+                match self.signal_index(&lines[message].signals, order, name) {
+                    Some(signal) => Some(Place { message, signal }),
+                    None => None,
+                }
+            }
             None => None,
         }
     }
@@ -158,15 +192,15 @@ impl Track {
     /// The place of the signal that is cited, if the file has it.
     fn place(
         &mut self,
-        numbers: &Numbers,
+        finders: &Finders,
         lines: &[MessageLine],
         cited: &CitedSignal,
     ) -> Option<Place>
-        requires { numbers.now ≡ line_numbers lines.now }
+        requires { FindsSignals finders.now lines.now }
         ensures { IsPlaceOf lines.now cited.now.number cited.now.name.items result }
     {
         match cited.number {
-            Some(number) => self.place_in(numbers, lines, number, cited.name.as_slice()),
+            Some(number) => self.place_in(finders, lines, number, cited.name.as_slice()),
             None => None,
         }
     }
@@ -174,11 +208,11 @@ impl Track {
     /// The place of the signal that the content cites, if it cites one and the file has it.
     pub(crate) fn place_of(
         &mut self,
-        numbers: &Numbers,
+        finders: &Finders,
         lines: &[MessageLine],
         content: &Content,
     ) -> Option<Place>
-        requires { numbers.now ≡ line_numbers lines.now }
+        requires { FindsSignals finders.now lines.now }
         ensures { IsPlaceCited lines.now content.now result }
     {
         let cited = match content {
@@ -188,7 +222,7 @@ impl Track {
             Content::Spn(cited, _) => cited,
             _ => return None,
         };
-        self.place(numbers, lines, cited)
+        self.place(finders, lines, cited)
     }
 
     /// The index of the node or the message that is cited, if one is and the file has it.
@@ -212,6 +246,7 @@ impl Drop for Finders<'_> {
         let Finders {
             nodes: _nodes,
             numbers: _numbers,
+            orders: _orders,
         } = self;
     }
 }

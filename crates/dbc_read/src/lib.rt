@@ -5,15 +5,16 @@
 //!
 //! Statements are gathered as they come (`one_by_one`), so none of them is kept. First come those up to the first that
 //! cites a node, a message or a signal: their contents are gathered by kind (`gathered`). Then messages are found by
-//! number, in a set of the kit's `indexmap` (`numbers`), and signals by name among those of their message (`finding`).
+//! number, in a set of the kit's `indexmap` (`numbers`), and signals by name among those of their message (`finding`):
+//! few names are compared one by one, and many are in ascending order (`orders`).
 //! What a statement attaches to a signal is set there at once (`attaching`), so that the last one counts; if there is no
 //! such signal, the statement is skipped.
 //!
 //! Some files can't be gathered so. One may define a node or a message after something was cited, and then what is cited
-//! is known only at the end. One may use a number twice, list too many texts for values, or cite signals in an order in
-//! which too many names are compared. Such a file is read once more, into a list of all statements. The indices of what
-//! they cite are found by binary search (`keys`, `lookup`, `lookups`) before any of them is gathered; what is attached to
-//! signals is listed at these indices, and then moved into the signals (`feed`, `feeding`).
+//! is known only at the end. One may use a number twice, list too many texts for values, or have 65,536 signals or more in
+//! a message. Such a file is read once more, into a list of all statements. The indices of what they cite are found by
+//! binary search (`keys`, `lookup`, `lookups`) before any of them is gathered; what is attached to signals is listed at
+//! these indices, and then moved into the signals (`feed`, `feeding`).
 //!
 //! Messages are built by moving their parts (`signals`, `messages`), and the sheet by its own calls (`sheets`), which
 //! refuse what can't be in one. If a part is refused, the statements are already consumed, so the text is divided once
@@ -33,6 +34,7 @@ mod lookups;
 mod messages;
 mod numbers;
 mod one_by_one;
+mod orders;
 mod passed;
 mod placed;
 mod reading;

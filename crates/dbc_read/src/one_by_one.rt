@@ -7,15 +7,13 @@ ghost use Rattle.catalogue.specs.Parsing.{statements_at};
 ghost use Rattle.catalogue.specs.Statement.{Cited};
 ghost use Rattle.dbc_lex.specs.Fault.{UnlessMemory};
 ghost use Rattle.dbc_read.specs.Attaching.{HasPlaceIfAny, IsAttached, IsPlaceOf, cites_signal, in_signals};
-ghost use Rattle.dbc_read.specs.Finding.{FindsAll};
+ghost use Rattle.dbc_read.specs.Finding.{FindsAll, FindsSignals};
 ghost use Rattle.dbc_read.specs.Gathering.{AreBare, Defines, FollowAll, IsGathered, IsOfTokens, Settles, SettlesAll, cites, defines, one_or_none};
-ghost use Rattle.dbc_read.specs.Numbers.{line_numbers};
 ghost use Rattle.dbc_statements.specs.Statement.{content_of, message_of, statement_of};
 
 use crate::attaching::{Attachment, Place, attach_at};
-use crate::finding::{Finders, NAMES_A_STATEMENT, Track, finders_of};
+use crate::finding::{Finders, Track, finders_of};
 use crate::gathered::{Citing, Gathered, attach_nothing, gather, gather_statement};
-use crate::numbers::Numbers;
 use crate::passed::Passed;
 use catalogue::Items;
 use dbc_lex::ReadFault;
@@ -108,7 +106,7 @@ fn settle_other(
 }
 
 /// Gathers a statement that defines nothing that could be cited. `false` if it isn't gathered so, since it has too many
-/// texts for values, or if no more names may be compared.
+/// texts for values.
 #[inline(always)]
 fn settle(
     finders: &Finders,
@@ -118,43 +116,40 @@ fn settle(
     gathered: &mut Gathered,
 ) -> Result<bool, AllocError>
     requires none { defines (content_of statement.content) ≡ false }
-    requires numbers { finders.now.numbers ≡ line_numbers lines.old }
+    requires signals { FindsSignals finders.now lines.old }
     ensures messages { map message_of lines.new ≡ map message_of lines.old }
     ensures settles { IfOk result (λ all. IsTrue all → Settles finders.now (one_or_none (Some statement)) lines.old gathered.old lines.new gathered.new) }
 {
-    track.names_left = track.names_left.saturating_add(NAMES_A_STATEMENT);
-    let numbers = &finders.numbers;
-    let place = track.place_of(numbers, lines, &statement.content);
-    let may_go_on = track.names_left > 0;
+    let place = track.place_of(finders, lines, &statement.content);
     let (at, keyword, content) = statement.into_parts();
     let from = Passed { at, keyword };
     match content {
         Content::SignalComment(_cited, text) => {
             let passed = &mut gathered.passed;
             attach(place, Attachment::Comment(text), from, lines, passed)?;
-            Ok(may_go_on)
+            Ok(true)
         }
         Content::ValueTexts(_cited, entries) => match entries.into_texts() {
             Some(texts) => {
                 let passed = &mut gathered.passed;
                 attach(place, Attachment::Values(texts), from, lines, passed)?;
-                Ok(may_go_on)
+                Ok(true)
             }
             None => Ok(false),
         },
         Content::ValueType(_cited, value_type) => {
             let passed = &mut gathered.passed;
             attach(place, Attachment::Type(value_type), from, lines, passed)?;
-            Ok(may_go_on)
+            Ok(true)
         }
         Content::Spn(_cited, spn) => {
             let passed = &mut gathered.passed;
             attach(place, Attachment::Spn(spn), from, lines, passed)?;
-            Ok(may_go_on)
+            Ok(true)
         }
         other => {
             settle_other(finders, from, other, track, gathered)?;
-            Ok(may_go_on)
+            Ok(true)
         }
     }
 }
@@ -168,7 +163,7 @@ fn settle_first(
     gathered: &mut Gathered,
 ) -> Result<bool, AllocError>
     requires cites { IfSome first (λ s. cites (content_of s.content) ≡ true) }
-    requires numbers { finders.now.numbers ≡ line_numbers lines.old }
+    requires signals { FindsSignals finders.now lines.old }
     ensures messages { map message_of lines.new ≡ map message_of lines.old }
     ensures settles { IfOk result (λ all. IsTrue all → Settles finders.now (one_or_none first) lines.old gathered.old lines.new gathered.new) }
 {
@@ -187,7 +182,7 @@ fn settle_all(
     lines: &mut [MessageLine],
     gathered: &mut Gathered,
 ) -> Result<bool, ReadFault>
-    requires { finders.now.numbers ≡ line_numbers lines.old }
+    requires { FindsSignals finders.now lines.old }
     ensures source { statements.new.source ≡ statements.old.source }
     ensures ok { IfOk result (λ all. IsTrue all → SettlesAll finders.now statements.old.tokens lines.old gathered.old lines.new gathered.new) }
     ensures err { IfErr result (λ fault. UnlessMemory fault.code (statements_at statements.old.tokens ≡ None)) }
@@ -215,7 +210,7 @@ fn gather_found(
     gathered: &mut Gathered,
 ) -> Result<bool, ReadFault>
     requires cites { IfSome first (λ s. cites (content_of s.content) ≡ true) }
-    requires numbers { finders.now.numbers ≡ line_numbers lines.old }
+    requires signals { FindsSignals finders.now lines.old }
     requires finds { FindsAll finders.now nodes.now lines.old }
     requires bare { AreBare lines.old }
     ensures source { statements.new.source ≡ statements.old.source }
@@ -230,8 +225,8 @@ fn gather_found(
     settle_all(alloc, finders, statements, &mut track, lines, gathered)
 }
 
-/// Gathers the statements after those that define these nodes and messages. `false` if two messages have the same
-/// number, or as [`gather_found`].
+/// Gathers the statements after those that define these nodes and messages. `false` if [`finders_of`] finds nothing in
+/// these, or as [`gather_found`].
 fn gather_others(
     alloc: Global,
     nodes: &[NodeName],
@@ -254,7 +249,7 @@ fn gather_others(
 
 /// The contents of all the statements that are left, what is attached to signals being in these. `None` if they can't
 /// be gathered one by one: one that cites something comes before one that defines something that could be cited, two
-/// messages have the same number, or the search for signals would take too long.
+/// messages have the same number, a message has 65,536 signals or more, or a signal too many texts for values.
 pub(crate) fn gathered_one_by_one(
     alloc: Global,
     statements: &mut Statements,

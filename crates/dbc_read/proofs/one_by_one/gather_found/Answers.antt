@@ -1,11 +1,10 @@
-use Rattle.std.proofs.Common.{◌∙◌, sym}
 use Rattle.std.proofs.lemmas.Result.{IfOk-weaker}
 use Rattle.dbc_read.proofs.Building.{have_nothing}
-use Rattle.dbc_read.proofs.Settling.{all_follow, same_line_numbers}
+use Rattle.dbc_read.proofs.Settling.{all_follow, finds_signals_same}
 use Rattle.dbc_read.proofs.one_by_one.gather_found.Goals as goal
 
 pub settle_all-requires : goal.settle_all-requires
-settle_all-requires c = c.requires.numbers ∙ sym (same_line_numbers c.args.lines.now c.settle_first.new.lines c.settle_first.ensures.messages)
+settle_all-requires c = finds_signals_same c.args.finders.now c.args.lines.now c.settle_first.new.lines c.settle_first.ensures.messages c.requires.signals
 
 pub returns-clause-ok : goal.returns-clause-ok
 returns-clause-ok c =

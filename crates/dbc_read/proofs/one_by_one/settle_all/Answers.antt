@@ -1,7 +1,7 @@
 use Rattle.std.proofs.Common.{◌∙◌, [], ◌∷◌, refl, sym}
 use Rattle.std.proofs.lemmas.Result.{err_from_is_err_and}
 use Rattle.dbc_read.proofs.OneByOne.{begin_with_all, begin_without, none_read, one_read}
-use Rattle.dbc_read.proofs.Settling.{none_settled, same_line_numbers, settled_both}
+use Rattle.dbc_read.proofs.Settling.{finds_signals_same, none_settled, settled_both}
 use Rattle.dbc_statements.specs.Statement.{statement_of}
 use Rattle.dbc_read.proofs.one_by_one.settle_all.Goals as goal
 
@@ -14,7 +14,7 @@ statements-smaller c = (rw c.in-Some.is at c.in_ok-next.ensures.next).fewer
 pub settle-requires : goal.settle-requires
 settle-requires c = record {
   none = sym c.defines.ensures ∙ c.if-defines.false;
-  numbers = c.requires ∙ sym (same_line_numbers c.args.lines.now c.statements.lines c.statements.invariant.messages);
+  signals = finds_signals_same c.args.finders.now c.args.lines.now c.statements.lines c.statements.invariant.messages c.requires;
 }
 
 pub statements-preserved : goal.statements-preserved

@@ -1,0 +1,30 @@
+-- The signals of a message in ascending order of their names.
+use Rattle.std.specs.Prelude.{◌≤◌, ⊤, ℕ, List, [], ◌∷◌, get_or, length, map, IsPermutation, IsSortedBy, Vec}
+use Rattle.std.specs.List.{range_with_len}
+use Rattle.std.specs.Ordering.{is_lt}
+use Rattle.catalogue.specs.Keyed.{text_cmp}
+use Rattle.catalogue.specs.Statement as says
+use Rattle.catalogue.specs.declared.signal.Signal.{Signal}
+use Rattle.dbc_read.specs.declared.orders.TheConstants.{FEW_SIGNALS}
+
+abbrev pub signal_names : List Signal → List (List ℕ)
+signal_names signals = map (λ (s : Signal). s.name) signals
+
+abbrev pub line_names : says.MessageLine → List (List ℕ)
+line_names m = map (λ (s : says.SignalLine). s.name) m.signals
+
+-- the indices of these names, in an order in which the names ascend
+pub record IsAscending (names : List (List ℕ)) (order : List ℕ) : Type 0 where
+  pub indices : IsPermutation (range_with_len 0 (length names)) order
+  pub sorted : IsSortedBy (λ i j. is_lt (text_cmp (get_or names i []) (get_or names j []))) order
+
+-- the same, or nothing where the names are few
+abbrev pub IsOrderOf : List (List ℕ) → List ℕ → Type 0
+IsOrderOf names [] = length names ≤ FEW_SIGNALS
+IsOrderOf names (i ∷ order) = IsAscending names (i ∷ order)
+
+-- an order for each of the messages
+abbrev pub AreOrdersOf : {A : Type 0} → List says.MessageLine → List (Vec ℕ A) → Type 0
+AreOrdersOf [] [] = ⊤
+AreOrdersOf (m ∷ ms) (order ∷ orders) = IsOrderOf (line_names m) order.items × AreOrdersOf ms orders
+AreOrdersOf ms orders = ⊥

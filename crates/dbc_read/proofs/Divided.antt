@@ -19,6 +19,7 @@ use Rattle.dbc_statements.specs.Division.{HasNoDivision, IsDivided}
 use Rattle.dbc_statements.specs.Tokens.{EndsWith}
 use Rattle.dbc_statements.proofs.WholeText.{no_tokens}
 use Rattle.dbc_read.specs.Built.{CanBeSheet, IsBuilt}
+use Rattle.dbc_read.specs.Faults.{IsFault}
 use Rattle.dbc_read.specs.Gathered.{AreGathered}
 use Rattle.dbc_read.specs.Passed.{start_and_keyword}
 use Rattle.dbc_read.specs.Reading.{CanNeverBeSheet, ReadsAsNothing}
@@ -28,6 +29,7 @@ use Rattle.dbc_read.specs.declared.gathered.Gathered.{Gathered}
 use Rattle.dbc_read.specs.declared.reading.Reading.{Reading}
 use Rattle.dbc_read.specs.declared.refusal.Refusal.{Refusal}
 use Rattle.dbc_read.specs.declared.refusal.Refusal.TheVariants.{NoSheet}
+use Rattle.dbc_read.proofs.FaultsRefuse.{refused_fault}
 use Rattle.dbc_read.proofs.SheetsSaid.{can_be_sheet_again, says_built, says_nothing}
 
 pub no_tokens_left : (bytes source : List ℕ) (fault : ReadFault) → source ≡ bytes → EndsWith (lexed 0 source) fault → HasNoDivision bytes
@@ -66,6 +68,10 @@ module _ (bytes : List ℕ) where
       -- where what is gathered can't be in one sheet, the text reads as none
       pub reads_none : ¬ CanBeSheet g → ReadsAsNothing bytes
       reads_none never = unsaid (says_nothing ss g a never)
+
+      -- so it does where that has a fault
+      pub reads_none_at : (fault : ReadFault) → IsFault g fault → ReadsAsNothing bytes
+      reads_none_at fault is = reads_none (refused_fault ss g a fault is)
 
       -- and what is gathered of it once more can't be either
       pub can_never_be_sheet : ¬ CanBeSheet g → CanNeverBeSheet bytes

@@ -20,6 +20,8 @@ pub mod EntryLimits
 pub mod Faultless
 pub mod FaultsAt
 pub mod SheetsSaid
+pub mod FaultsRefuse
+pub mod DefinitionsAlone
 pub mod Divided
 pub mod TokenFaults
 pub mod ReadFaults

@@ -1,7 +1,8 @@
 -- Definitions that are gathered without what other statements say: a fault of them is one of the whole text.
-use Rattle.std.proofs.Common.{◌≡◌, ◌∙◌, ◌++◌, ℕ, nat_eq, nat_lt, Bool, true, false, if◌then◌else◌, List, [], ◌∷◌, length, map, Option, Some, None, refl, sym, ap, append-nil, arith, true≢false}
+use Rattle.std.proofs.Common.{◌≡◌, ◌∙◌, ◌++◌, ℕ, nat_eq, nat_lt, Bool, true, false, if◌then◌else◌, List, [], ◌∷◌, length, map, Option, Some, None, refl, sym, ap, append_assoc, append-nil, arith, subst, true≢false}
 use Rattle.std.specs.Prelude.{IfSome, unwrap_or}
 use Rattle.std.specs.List.{AllByRecursion, cons_option, flat_map, last_or}
+use Rattle.std.specs.Option.{option_map}
 use Rattle.std.specs.Str.{bytes_eq}
 use Rattle.std.proofs.lemmas.Bool.Decides.{nat_tests}
 use Rattle.std.proofs.lemmas.Grind.{flat_map-append}
@@ -9,23 +10,26 @@ use Rattle.std.proofs.lemmas.List.{map-append}
 use Rattle.std.proofs.lemmas.List.Elements.{filter_map-append}
 use Rattle.catalogue.specs.Limits.{value_text_limit}
 use Rattle.catalogue.specs.Saying.{SignalKey, comment_in, each_in, last_at, last_value_of, message_comment_in, message_in, messages_of, node_comment_in, node_names_of, nodes_in, numbers_of, passed_by, same_signal, signal_comment_in, signal_keys_of, spn_in, table_in, value_texts_in, value_type_in, version_in}
+use Rattle.catalogue.specs.Parsing.{statements_at}
 use Rattle.catalogue.specs.Statement as says
+use Rattle.catalogue.specs.Token.{Token}
 use Rattle.catalogue.specs.WellFormed.{AreFewTexts}
 use Rattle.catalogue.specs.declared.keyword.Keyword.{Keyword}
 use Rattle.catalogue.specs.declared.value_texts.ValueText.{ValueText}
 use Rattle.catalogue.specs.declared.value_type.ValueType.TheVariants.{Integer}
 use Rattle.dbc_lex.specs.declared.fault.ReadFault.{ReadFault}
 use Rattle.dbc_read.specs.Built.{CanBeSheet}
-use Rattle.dbc_read.specs.Definitions.{AreDefinitions, HaveFewTexts, IsDefinitionFault, has_many_texts, is_definition}
+use Rattle.dbc_read.specs.Definitions.{AreDefinitions, HaveFewTexts, IsDefinitionFault, TokensHaveManyTexts, has_many_texts, is_definition}
 use Rattle.dbc_read.specs.Faults.{AreDefined, IsFaultOfDefinitions}
 use Rattle.dbc_read.specs.Faults as faults
 use Rattle.dbc_read.specs.Gathered.{AreGathered, gathered_after, passed_of}
-use Rattle.dbc_read.specs.Gathering.{IsEmpty}
+use Rattle.dbc_read.specs.Gathering.{BeginWith, IsEmpty}
 use Rattle.dbc_read.specs.Passed.{start_and_keyword}
 use Rattle.dbc_read.specs.Reading.{CanNeverBeSheet}
 use Rattle.dbc_read.specs.declared.gathered.Gathered.{Gathered}
 use Rattle.dbc_read.specs.declared.passed.Passed.{Passed}
 use Rattle.dbc_read.proofs.Faultless.{can_be_sheet}
+use Rattle.dbc_read.proofs.Refused.{each_middle}
 use Rattle.dbc_statements.specs.Division.{IsDivided}
 use Rattle.dbc_statements.specs.Parts.{table_of}
 use Rattle.dbc_statements.specs.Statement.{content_of, message_of, names_of, statement_of}
@@ -96,6 +100,18 @@ one_gathered s old now is said are =
 pub few_with_one : (said : List says.Statement) (s : says.Statement) → HaveFewTexts said → has_many_texts s.content ≡ false → HaveFewTexts (said ++ s ∷ [])
 few_with_one [] s h few = (few, tt)
 few_with_one (x ∷ said) s h few = (h.0, few_with_one said s h.1 few)
+
+-- a statement with too many texts is one of all
+pub many_said : (said : List says.Statement) (s : says.Statement) (tokens rest : List Token) → BeginWith (said ++ s ∷ []) tokens rest → has_many_texts s.content ≡ true → TokensHaveManyTexts tokens
+many_said said s tokens rest read many all is = λ few. by few (statements_at rest) (sym is ∙ read)
+  where
+    by : HaveFewTexts all → (o : Option (List says.Statement)) → Some all ≡ option_map (λ others. (said ++ s ∷ []) ++ others) o → ⊥
+    by few None e = absurd cc
+    by few (Some others) e =
+        let same : all ≡ (said ++ s ∷ []) ++ others = cc in
+        let none : has_many_texts s.content ≡ false
+        = each_middle (λ (x : says.Statement). has_many_texts x.content ≡ false) said s others (subst HaveFewTexts (same ∙ append_assoc said (s ∷ []) others) few) in
+        true≢false (sym many ∙ none)
 
 -- Where no statement has too many texts, no signal has.
 

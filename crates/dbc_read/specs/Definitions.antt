@@ -8,7 +8,7 @@ use Rattle.catalogue.specs.Statement as says
 use Rattle.catalogue.specs.Token.{Token}
 use Rattle.catalogue.specs.WellFormed.{AreFewTexts}
 use Rattle.dbc_lex.specs.declared.fault.ReadFault.{ReadFault}
-use Rattle.dbc_read.specs.Faults.{IsFault, IsFaultOfDefinitions}
+use Rattle.dbc_read.specs.Faults.{IsFaultOfDefinitions}
 use Rattle.dbc_read.specs.Gathering.{IsOfText}
 use Rattle.dbc_read.specs.declared.gathered.Gathered.{Gathered}
 use Rattle.dbc_statements.specs.Division.{IsDivided}
@@ -44,17 +44,15 @@ pub record AreDefinitionsOfTokens (tokens : List Token) (g : Gathered) : Type 0 
   pub few : HaveFewTexts said
   pub are : AreDefinitions said g
 
--- some statement of the text has too many texts
+-- some statement of the tokens has too many texts, if they are those of statements
+abbrev pub TokensHaveManyTexts : List Token → Type 0
+TokensHaveManyTexts tokens = (said : List says.Statement) → statements_at tokens ≡ Some said → ¬ HaveFewTexts said
+
+-- the same of a text
 abbrev pub HasManyTexts : List ℕ → Type 0
 HasManyTexts bytes = (said : List says.Statement) → IsDivided bytes said → ¬ HaveFewTexts said
 
--- the fault is one of what all statements of the text say
-pub record IsFaultOfText (bytes : List ℕ) (fault : ReadFault) : Type 0 where
-  pub gathered : Gathered
-  pub of : IsOfText bytes gathered
-  pub is : IsFault gathered fault
-
--- and one of its definitions, where no signal has too many texts
+-- the fault is one of the text's definitions, where no signal has too many texts
 pub record IsDefinitionFault (bytes : List ℕ) (fault : ReadFault) : Type 0 where
   pub gathered : Gathered
   pub of : IsOfText bytes gathered

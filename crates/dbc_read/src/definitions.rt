@@ -8,7 +8,7 @@ ghost use Rattle.std.specs.Prelude.{◌≡◌, ◌++◌, [], ◌∷◌, List, No
 ghost use Rattle.catalogue.specs.Parsing.{statements_at};
 ghost use Rattle.catalogue.specs.Statement as says;
 ghost use Rattle.dbc_lex.specs.Fault.{UnlessMemory};
-ghost use Rattle.dbc_read.specs.Definitions.{AreDefinitions, AreDefinitionsOfTokens, HasManyTexts, IsDefinitionFault, has_many_texts, is_definition};
+ghost use Rattle.dbc_read.specs.Definitions.{AreDefinitions, AreDefinitionsOfTokens, HasManyTexts, IsDefinitionFault, TokensHaveManyTexts, has_many_texts, is_definition};
 ghost use Rattle.dbc_read.specs.Reading.{CanNeverBeSheet};
 ghost use Rattle.dbc_statements.specs.Division.{HasNoDivision, TokensComeFirst};
 ghost use Rattle.dbc_statements.specs.Statement.{content_of, statement_of};
@@ -59,6 +59,7 @@ fn definitions_of(
 ) -> Result<Option<Gathered>, ReadFault>
     ensures source { statements.new.source ≡ statements.old.source }
     ensures ok { IfOk result (λ found. IfSome found (AreDefinitionsOfTokens statements.old.tokens)) }
+    ensures many { IfOk result (λ found. IfNone found (TokensHaveManyTexts statements.old.tokens)) }
     ensures err { IfErr result (λ fault. UnlessMemory fault.code (statements_at statements.old.tokens ≡ None)) }
 {
     let mut gathered = Gathered::empty(alloc);
@@ -79,6 +80,7 @@ pub(crate) fn fault_of_definitions(
 ) -> Result<Option<ReadFault>, ReadFault>
     requires { CanNeverBeSheet source.now }
     ensures fault { IfOk result (λ found. IfSome found (IsDefinitionFault source.now)) }
+    ensures many { IfOk result (λ found. IfNone found (HasManyTexts source.now)) }
     ensures err { IfErr result (λ fault. UnlessMemory fault.code (HasNoDivision source.now)) }
     ensures tokens { TokensComeFirst source.now result }
 {

@@ -6,7 +6,7 @@ ghost use Rattle.dbc_lex.specs.declared.fault.ReadCode.TheVariants.{Memory};
 ghost use Rattle.dbc_read.specs.Attaching.{in_signals};
 ghost use Rattle.dbc_read.specs.Gathering.{IsOfText};
 ghost use Rattle.dbc_read.specs.Passed.{start_and_keyword};
-ghost use Rattle.dbc_read.specs.Reading.{CanNeverBeSheet, ReadsAsNothing};
+ghost use Rattle.dbc_read.specs.Reading.{CanNeverBeSheet, HasFault, ReadsAsNothing};
 ghost use Rattle.dbc_read.specs.declared.refusal.Refusal.TheVariants.{NoSheet};
 ghost use Rattle.dbc_statements.specs.Division.{HasNoDivision, TokensComeFirst};
 
@@ -71,6 +71,7 @@ fn read_lists(alloc: Global, source: &[u8]) -> Result<Reading, ReadFault>
     ensures reads { IfOk result (λ reading. ReadsAs source.now reading.sheet (map start_and_keyword reading.passed)) }
     ensures only { IfOk result (λ reading. ReadsOnlyAs source.now reading.sheet) }
     ensures none { IfErr result (λ fault. UnlessMemory fault.code (ReadsAsNothing source.now)) }
+    ensures faults { IfErr result (λ fault. UnlessMemory fault.code (HasFault source.now fault)) }
     ensures tokens { TokensComeFirst source.now result }
 {
     texts_read_as_one_sheet();
@@ -90,6 +91,7 @@ fn read_sheet(alloc: Global, source: &[u8]) -> Result<Option<Reading>, ReadFault
     ensures only { IfOk result (λ found. IfSome found (λ reading. ReadsOnlyAs source.now reading.sheet)) }
     ensures never { IfOk result (λ found. IfNone found (CanNeverBeSheet source.now)) }
     ensures none { IfErr result (λ fault. UnlessMemory fault.code (ReadsAsNothing source.now)) }
+    ensures faults { IfErr result (λ fault. UnlessMemory fault.code (HasFault source.now fault)) }
     ensures tokens { TokensComeFirst source.now result }
 {
     texts_read_as_one_sheet();
@@ -107,6 +109,7 @@ fn read_text(alloc: Global, source: &[u8]) -> Result<Reading, ReadFault>
     ensures reads { IfOk result (λ reading. ReadsAs source.now reading.sheet (map start_and_keyword reading.passed)) }
     ensures only { IfOk result (λ reading. ReadsOnlyAs source.now reading.sheet) }
     ensures none { IfErr result (λ fault. UnlessMemory fault.code (ReadsAsNothing source.now)) }
+    ensures faults { IfErr result (λ fault. UnlessMemory fault.code (HasFault source.now fault)) }
     ensures tokens { TokensComeFirst source.now result }
 {
     match read_sheet(alloc, source)? {

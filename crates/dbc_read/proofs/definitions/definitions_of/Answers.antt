@@ -1,7 +1,7 @@
 use Rattle.std.proofs.Common.{◌∙◌, refl, sym}
 use Rattle.std.proofs.lemmas.Result.{err_from_is_err_and}
-use Rattle.dbc_read.proofs.DefinitionsAlone.{few_with_one, none_defined}
-use Rattle.dbc_read.proofs.OneByOne.{begin_with_all, begin_without, none_read, one_read}
+use Rattle.dbc_read.proofs.DefinitionsAlone.{few_with_one, many_said, none_defined}
+use Rattle.dbc_read.proofs.OneByOne.{begin_with_all, begin_with_more, begin_without, none_read, one_read}
 use Rattle.dbc_statements.specs.Statement.{statement_of}
 use Rattle.dbc_read.proofs.definitions.definitions_of.Goals as goal
 
@@ -26,6 +26,15 @@ returns-in_err-next-clause-err c =
     let at = c.statements in
     let p = err_from_is_err_and c.from_residual.result c.from_residual.ensures.1 in
     rw (p.1, p.2) (λ memory. begin_without at.invariant.read.said c.args.statements.now.tokens at.statements.tokens at.invariant.read.read (c.in_err-next.ensures.err memory))
+
+pub returns-then-has_many_texts-clause-many : goal.returns-then-has_many_texts-clause-many
+returns-then-has_many_texts-clause-many c =
+    let at = c.statements in
+    let read = at.invariant.read in
+    let s = statement_of c.in-Some.next in
+    many_said read.said s c.args.statements.now.tokens c.read_next.new.self.tokens
+    (begin_with_more read.said s c.args.statements.now.tokens at.statements.tokens c.read_next.new.self.tokens read.read (rw c.in-Some.is at c.in_ok-next.ensures.next))
+    (sym c.has_many_texts.ensures ∙ c.if-has_many_texts.true)
 
 pub returns-clause-ok : goal.returns-clause-ok
 returns-clause-ok c =

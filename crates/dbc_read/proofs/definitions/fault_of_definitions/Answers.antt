@@ -4,7 +4,7 @@ use Rattle.catalogue.specs.Lexing.{lexed}
 use Rattle.catalogue.specs.TokenLaw.{tokens_without_fault}
 use Rattle.dbc_statements.proofs.WholeText.{is_divided, no_division, whole}
 use Rattle.dbc_read.proofs.DefinitionsAlone.{fault_is_found, fault_of_text}
-use Rattle.dbc_read.proofs.Divided.{no_tokens_left}
+use Rattle.dbc_read.proofs.Divided.{no_tokens_left, said_at}
 use Rattle.dbc_read.proofs.FaultsAt.{at_none}
 use Rattle.dbc_read.proofs.definitions.fault_of_definitions.Goals as goal
 
@@ -28,6 +28,12 @@ unreachable-requires c =
     let read : lexed 0 c.args.source.now ≡ tokens_without_fault c.of-statements.result.tokens = whole c.args.source.now c.of-statements.result.tokens c.of-statements.ensures.tokens (subst (λ (bytes : List ℕ). (lexed 0 bytes).fault ≡ None) source c.in_ok-token_fault.ensures.ok) in
     let divided = is_divided c.args.source.now c.of-statements.result.tokens read of.said of.read in
     fault_is_found of.said c.in-Some.gathered of.are c.args.source.now divided of.few c.requires (at_none c.in_ok-fault-in-Some.field-0 _ c.in-None-2.is c.in_ok-fault-in-Some.ensures.none)
+
+pub returns-in-None-clause-many : goal.returns-in-None-clause-many
+returns-in-None-clause-many c =
+    let source : c.definitions_of-read.new.statements.source ≡ c.args.source.now = c.definitions_of-read.ensures.source ∙ c.of-statements.ensures.source in
+    let read : lexed 0 c.args.source.now ≡ tokens_without_fault c.of-statements.result.tokens = whole c.args.source.now c.of-statements.result.tokens c.of-statements.ensures.tokens (subst (λ (bytes : List ℕ). (lexed 0 bytes).fault ≡ None) source c.in_ok-token_fault.ensures.ok) in
+    λ said divided. (rw c.in-None.is at c.in_ok-gathered.ensures.many) said (said_at c.args.source.now c.of-statements.result.tokens read said divided)
 
 pub returns-in-Some-2-clause-fault : goal.returns-in-Some-2-clause-fault
 returns-in-Some-2-clause-fault c =

@@ -1,3 +1,4 @@
+use Rattle.std.proofs.Common.{inl}
 use Rattle.std.proofs.lemmas.Result.{IfOk-weaker, err_from_is_err_and}
 use Rattle.dbc_read.specs.Attaching.{in_signals}
 use Rattle.dbc_read.proofs.Divided.{found_never, found_only, found_reads, undivided}
@@ -25,3 +26,8 @@ returns-in-Some-clause-never c =
     let of = rw c.in-Some.is at c.in_ok-gathered.ensures.ok in
     IfOk-weaker c.reading_or_none.result _ _ (λ found none.
     found_never c.args.source.now of.said of.divided (in_signals c.in-Some.gathered) of.gathered c.into_reading.result found c.into_reading.ensures.refused none) c.reading_or_none.ensures.none
+
+pub returns-in_err-gathered-clause-faults : goal.returns-in_err-gathered-clause-faults
+returns-in_err-gathered-clause-faults c =
+    let p = err_from_is_err_and c.from_residual.result c.from_residual.ensures.1 in
+    rw (p.1, p.2) (λ memory. inl (c.in_err-gathered.ensures.err memory))

@@ -20,7 +20,7 @@ use Rattle.catalogue.proofs.TokensOnce.{tokens_once}
 use Rattle.dbc_lex.specs.declared.fault.ReadFault.{ReadFault}
 use Rattle.dbc_statements.specs.Division.{HasNoDivision, IsDivided}
 use Rattle.dbc_statements.specs.Tokens.{EndsWith}
-use Rattle.dbc_statements.proofs.WholeText.{no_tokens}
+use Rattle.dbc_statements.proofs.WholeText.{no_tokens, whole}
 use Rattle.dbc_read.specs.Built.{CanBeSheet, IsBuilt}
 use Rattle.dbc_read.specs.Faults.{IsFault}
 use Rattle.dbc_read.specs.Gathered.{AreGathered}
@@ -41,6 +41,10 @@ no_tokens_left bytes source fault same ends = no_tokens bytes fault (subst (λ (
 module _ (bytes : List ℕ) where
   pub undivided : HasNoDivision bytes → ReadsAsNothing bytes
   undivided none s (passed, r) = none r.statements (record { tokens = r.tokens; has_tokens = r.has_tokens; divides = r.divides })
+
+  -- the tokens of a reader of this text, if it has no fault of tokens
+  pub all_tokens : (source : List ℕ) (tokens : List Token) → tokens ≡ (lexed 0 bytes).tokens → source ≡ bytes → (lexed 0 source).fault ≡ None → lexed 0 bytes ≡ tokens_without_fault tokens
+  all_tokens source tokens are same none = whole bytes tokens are (subst (λ (x : List ℕ). (lexed 0 x).fault ≡ None) same none)
 
   -- what the text is divided into is what its tokens are read as
   pub said_at : (tokens : List Token) → lexed 0 bytes ≡ tokens_without_fault tokens → (ss : List Statement) → IsDivided bytes ss → statements_at tokens ≡ Some ss

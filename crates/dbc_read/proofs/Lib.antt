@@ -26,3 +26,4 @@ pub mod Divided
 pub mod TokenFaults
 pub mod ReadFaults
 mod GatheringRows
+mod DefinitionRows

@@ -53,10 +53,7 @@ fn gather_definition(statement: Statement, gathered: &mut Gathered) -> Result<()
 
 /// The definitions of the statements that are left, with the places of signals; or `None` if one of the statements has
 /// too many texts for values.
-fn definitions_of(
-    alloc: Global,
-    statements: &mut Statements,
-) -> Result<Option<Gathered>, ReadFault>
+fn definitions_of(alloc: Global, statements: &mut Statements) -> Result<Option<Gathered>, ReadFault>
     ensures source { statements.new.source ≡ statements.old.source }
     ensures ok { IfOk result (λ found. IfSome found (AreDefinitionsOfTokens statements.old.tokens)) }
     ensures many { IfOk result (λ found. IfNone found (TokensHaveManyTexts statements.old.tokens)) }

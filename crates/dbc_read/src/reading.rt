@@ -1,4 +1,5 @@
-//! Reading a DBC text.
+//! Reading a DBC text: one statement after the other, or into lists if it can't be read so. A text that can't be one
+//! sheet has a fault, which its lists tell, or its definitions.
 ghost use Rattle.std.specs.Prelude.{◌≡◌, ◌≤◌, Err, IfErr, IfNone, IfOk, IfSome, Ok, length, map};
 ghost use Rattle.catalogue.specs.Reads.{ReadsAs, ReadsOnlyAs};
 ghost use Rattle.dbc_lex.specs.Fault.{UnlessMemory};

@@ -1,24 +1,28 @@
 -- What a text that is divided into statements reads as.
-use Rattle.std.proofs.Common.{◌≡◌, ◌∙◌, ℕ, List, Option, None, Some, Result, Ok, Err, map, ap, refl, subst}
+use Rattle.std.proofs.Common.{◌≡◌, ◌∙◌, ℕ, List, Option, None, Some, Result, Ok, Err, map, ap, refl, sym, subst}
 use Rattle.std.specs.Prelude.{IfErr, IfNone, IfOk, IfSome}
 use Rattle.std.proofs.lemmas.Option.{IfSome_then}
 use Rattle.std.proofs.lemmas.Result.{IfErr-at_err, IfOk-at_ok}
 use Rattle.catalogue.specs.Division.{Divides}
-use Rattle.catalogue.specs.Lexing.{lexed}
+use Rattle.catalogue.specs.Lexing.{Lexed, lexed}
+use Rattle.catalogue.specs.Parsing.{statements_at}
 use Rattle.catalogue.specs.Reads.{ReadsAs, ReadsAsOneAtMost, ReadsOnlyAs}
 use Rattle.catalogue.specs.Saying.{Says, passed_by}
 use Rattle.catalogue.specs.Statement.{Statement}
 use Rattle.catalogue.specs.Token.{Token}
+use Rattle.catalogue.specs.TokenLaw.{tokens_without_fault}
 use Rattle.catalogue.specs.declared.keyword.Keyword.{Keyword}
 use Rattle.catalogue.specs.declared.sheet.Sheet.{Sheet}
-use Rattle.catalogue.proofs.Divisions.{one_division}
+use Rattle.catalogue.proofs.Divisions.{one_division, reading_is_exact}
 use Rattle.catalogue.proofs.OneReading.{reads_only}
+use Rattle.catalogue.proofs.TokenExact.{exact}
 use Rattle.catalogue.proofs.TokensOnce.{tokens_once}
 use Rattle.dbc_lex.specs.declared.fault.ReadFault.{ReadFault}
 use Rattle.dbc_statements.specs.Division.{HasNoDivision, IsDivided}
 use Rattle.dbc_statements.specs.Tokens.{EndsWith}
-use Rattle.dbc_statements.proofs.WholeText.{no_tokens}
+use Rattle.dbc_statements.proofs.WholeText.{no_tokens, whole}
 use Rattle.dbc_read.specs.Built.{CanBeSheet, IsBuilt}
+use Rattle.dbc_read.specs.Faults.{IsFault}
 use Rattle.dbc_read.specs.Gathered.{AreGathered}
 use Rattle.dbc_read.specs.Passed.{start_and_keyword}
 use Rattle.dbc_read.specs.Reading.{CanNeverBeSheet, ReadsAsNothing}
@@ -28,6 +32,7 @@ use Rattle.dbc_read.specs.declared.gathered.Gathered.{Gathered}
 use Rattle.dbc_read.specs.declared.reading.Reading.{Reading}
 use Rattle.dbc_read.specs.declared.refusal.Refusal.{Refusal}
 use Rattle.dbc_read.specs.declared.refusal.Refusal.TheVariants.{NoSheet}
+use Rattle.dbc_read.proofs.FaultsRefuse.{refused_fault}
 use Rattle.dbc_read.proofs.SheetsSaid.{can_be_sheet_again, says_built, says_nothing}
 
 pub no_tokens_left : (bytes source : List ℕ) (fault : ReadFault) → source ≡ bytes → EndsWith (lexed 0 source) fault → HasNoDivision bytes
@@ -36,6 +41,16 @@ no_tokens_left bytes source fault same ends = no_tokens bytes fault (subst (λ (
 module _ (bytes : List ℕ) where
   pub undivided : HasNoDivision bytes → ReadsAsNothing bytes
   undivided none s (passed, r) = none r.statements (record { tokens = r.tokens; has_tokens = r.has_tokens; divides = r.divides })
+
+  -- the tokens of a reader of this text, if it has no fault of tokens
+  pub all_tokens : (source : List ℕ) (tokens : List Token) → tokens ≡ (lexed 0 bytes).tokens → source ≡ bytes → (lexed 0 source).fault ≡ None → lexed 0 bytes ≡ tokens_without_fault tokens
+  all_tokens source tokens are same none = whole bytes tokens are (subst (λ (x : List ℕ). (lexed 0 x).fault ≡ None) same none)
+
+  -- what the text is divided into is what its tokens are read as
+  pub said_at : (tokens : List Token) → lexed 0 bytes ≡ tokens_without_fault tokens → (ss : List Statement) → IsDivided bytes ss → statements_at tokens ≡ Some ss
+  said_at tokens read ss d =
+      let same : d.tokens ≡ tokens = ap (λ (l : Lexed). l.tokens) (sym ((exact 0 bytes d.tokens).0 d.has_tokens) ∙ read) in
+      ap statements_at (sym same) ∙ (reading_is_exact d.tokens ss).0 d.divides
 
   module _ (ss : List Statement) (d : IsDivided bytes ss) where
     reads_as : (s : Sheet) (passed : List (ℕ × Keyword)) → Says ss s → passed ≡ passed_by ss → ReadsAs bytes s passed
@@ -66,6 +81,10 @@ module _ (bytes : List ℕ) where
       -- where what is gathered can't be in one sheet, the text reads as none
       pub reads_none : ¬ CanBeSheet g → ReadsAsNothing bytes
       reads_none never = unsaid (says_nothing ss g a never)
+
+      -- so it does where that has a fault
+      pub reads_none_at : (fault : ReadFault) → IsFault g fault → ReadsAsNothing bytes
+      reads_none_at fault is = reads_none (refused_fault ss g a fault is)
 
       -- and what is gathered of it once more can't be either
       pub can_never_be_sheet : ¬ CanBeSheet g → CanNeverBeSheet bytes

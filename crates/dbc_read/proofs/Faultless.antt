@@ -1,4 +1,4 @@
--- Where no item is at fault, all that is gathered can be in one sheet.
+-- Where no item is at fault, all that is gathered can be in one sheet; and only there.
 use Rattle.std.proofs.Common.{◌≡◌, ◌∙◌, ◌≤◌, ◌&&◌, ℕ, Bool, arith, false, nat_eq, List, [], ◌∷◌, length, map, drop, refl, sym, ap, subst}
 use Rattle.std.specs.List.{AllByRecursion, IsDistinct}
 use Rattle.std.specs.Str.{bytes_eq}
@@ -14,7 +14,7 @@ use Rattle.catalogue.specs.declared.signal.Signal.{Signal}
 use Rattle.catalogue.specs.declared.value_table.ValueTable.{ValueTable}
 use Rattle.catalogue.specs.declared.value_texts.ValueText.{ValueText}
 use Rattle.dbc_read.specs.Built.{CanBeSheet, feeds_after, feeds_in, first_or, messages_from, nodes_from, rest_of, signals_from}
-use Rattle.dbc_read.specs.Faults.{AreMessageLines, AreNamedWithin, HaveSignalLines, entries_of, line_number}
+use Rattle.dbc_read.specs.Faults.{AreDefined, AreNamedWithin, HaveSignalLines, entries_of, line_number}
 use Rattle.dbc_read.specs.Fit.{IsFit}
 use Rattle.dbc_read.specs.Placed.{Placed, own_place, placed, placed_at}
 use Rattle.dbc_read.specs.declared.feed.Feeds.{Feeds}
@@ -113,9 +113,11 @@ messages_fit (m ∷ lines) comments f h few =
       messages_fit lines (drop 1 comments) (feeds_after (signals_of signals) f) h.1 (few_after signals f few),
     )
 
-pub can_be_sheet : (g : Gathered) → AreNamedWithin (λ (n : NodeName). n.name) roster_limit g.nodes → AreNamedWithin (λ (t : TableLine). t.name) roster_limit g.tables → AreMessageLines g.messages
-    → AreFew (entries_of g.tables) → AreFew g.signal_values → CanBeSheet g
-can_be_sheet g nodes tables messages entries values =
+pub can_be_sheet : (g : Gathered) → AreDefined g → AreFew g.signal_values → CanBeSheet g
+can_be_sheet g are values =
+    let nodes = are.nodes in
+    let tables = are.tables in
+    let messages = are.messages in
     let node_list = nodes_from (names_of g.nodes) g.node_comments in
     let message_list = messages_from (map message_of g.messages) g.message_comments (feeds_in g) in
     let node_equal = node_keys g.nodes g.node_comments in
@@ -130,7 +132,7 @@ can_be_sheet g nodes tables messages entries values =
           apart = distinct_too bytes_eq (λ (t : TableLine). t.name) table_name g.tables (map table_of g.tables) (table_keys g.tables) tables.apart;
           few = subst (λ n. n ≤ roster_limit) (sym (length-map g.tables table_of)) tables.few;
         };
-        entries = tables_few g.tables entries;
+        entries = tables_few g.tables are.entries;
       };
       messages = messages_fit g.messages g.message_comments (feeds_in g) messages.signals values;
       together = record {
@@ -138,4 +140,48 @@ can_be_sheet g nodes tables messages entries values =
         names = distinct_too bytes_eq (λ (m : MessageLine). m.name) message_name g.messages message_list name_equal messages.names.apart;
         few = subst (λ n. n ≤ message_limit) (sym (as_many bytes_eq (λ (m : MessageLine). m.name) message_name g.messages message_list name_equal)) messages.names.few;
       };
+    }
+
+-- Where it can be in one sheet, no definition is at fault.
+
+named_within : {A B : Type 0} (f : A → List ℕ) (g : B → List ℕ) (limit : ℕ) (xs : List A) (ys : List B) → map f xs ≡ map g ys → IsDistinct (λ a b. bytes_eq (f a) (f b)) xs → length xs ≤ limit
+    → AreNamedWithin g limit ys
+named_within f g limit xs ys same apart few = record {
+  apart = distinct_too bytes_eq f g xs ys (sym same) apart;
+  few = subst (λ n. n ≤ limit) (sym (as_many bytes_eq f g xs ys (sym same))) few;
+}
+
+entries_few : (tables : List TableLine) → AllByRecursion (λ (t : ValueTable). AreFewTexts t.entries) (map table_of tables) → AreFew (entries_of tables)
+entries_few [] h = tt
+entries_few (t ∷ tables) h = (h.0, entries_few tables h.1)
+
+signals_placed : (lines : List MessageLine) (comments : List (List ℕ)) (f : Feeds) → AllByRecursion IsFit (messages_from (map message_of lines) comments f) → HaveSignalLines lines
+signals_placed [] comments f h = tt
+signals_placed (m ∷ lines) comments f h =
+    let signals = m.signals.items in
+    let made = signals_from (signals_of signals) f in
+    let marks = signal_marks (own_place m) signals m.places.items f in (
+      record {
+        names = named_within signal_name (λ (s : Placed). s.signal.name) roster_limit made (placed m) (signal_keys (own_place m) signals m.places.items f) h.0.together.apart h.0.together.few;
+        one_multiplexor = distinct_too (λ (a b : Mux). is_multiplexor a && is_multiplexor b) (λ (s : Signal). s.mux) (λ (s : Placed). s.signal.mux) made (placed m) (sym marks) h.0.together.one_multiplexor;
+      },
+      signals_placed lines (drop 1 comments) (feeds_after (signals_of signals) f) h.1,
+    )
+
+pub defined_if_sheet : (g : Gathered) → CanBeSheet g → AreDefined g
+defined_if_sheet g h =
+    let node_list = nodes_from (names_of g.nodes) g.node_comments in
+    let message_list = messages_from (map message_of g.messages) g.message_comments (feeds_in g) in
+    record {
+      nodes = named_within node_name (λ (n : NodeName). n.name) roster_limit node_list g.nodes (node_keys g.nodes g.node_comments) h.nodes.apart h.nodes.few;
+      tables = named_within table_name (λ (t : TableLine). t.name) roster_limit (map table_of g.tables) g.tables (table_keys g.tables) h.tables.together.apart h.tables.together.few;
+      messages = record {
+        numbers = record {
+          apart = distinct_too nat_eq number_of line_number message_list g.messages (sym (message_numbers g.messages g.message_comments (feeds_in g))) h.together.numbers;
+          few = subst (λ n. n ≤ message_limit) (sym (as_many nat_eq number_of line_number message_list g.messages (sym (message_numbers g.messages g.message_comments (feeds_in g))))) h.together.few;
+        };
+        names = named_within message_name (λ (m : MessageLine). m.name) message_limit message_list g.messages (message_keys g.messages g.message_comments (feeds_in g)) h.together.names h.together.few;
+        signals = signals_placed g.messages g.message_comments (feeds_in g) h.messages;
+      };
+      entries = entries_few g.tables h.tables.entries;
     }

@@ -34,6 +34,10 @@ signals_fault_at messages i line (Some fault) lt is first h = record {
   is = h;
 }
 
+pub none_weaker : {A : Type 0} (found : Option A) (P Q : Type 0) → (P → Q) → IfNone found P → IfNone found Q
+none_weaker None P Q f h = f h
+none_weaker (Some x) P Q f h = tt
+
 pub at_none : {A : Type 0} (found : Option A) (P : Type 0) → found ≡ None → IfNone found P → P
 at_none None P e h = h
 at_none (Some x) P e h = absurd cc

@@ -22,7 +22,10 @@ pub mod EntryLimits
 pub mod Faultless
 pub mod FaultsAt
 pub mod SheetsSaid
+pub mod FaultsRefuse
+pub mod DefinitionsAlone
 pub mod Divided
 pub mod TokenFaults
 pub mod ReadFaults
 mod GatheringRows
+mod DefinitionRows

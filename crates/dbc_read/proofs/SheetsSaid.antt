@@ -1,24 +1,26 @@
 -- What is gathered of statements: the sheet that is built of it is the one that they say, and if it can't be in one
 -- sheet, they say none.
-use Rattle.std.proofs.Common.{◌≡◌, ◌==◌, ◌∙◌, ℕ, List, [], ◌∷◌, map, nat_eq, ap, sym, subst, IsPermutation}
+use Rattle.std.proofs.Common.{◌≡◌, ◌==◌, ◌∙◌, ◌++◌, ℕ, List, [], ◌∷◌, map, nat_eq, ap, sym, subst, IsPermutation}
 use Rattle.std.specs.Prelude.{unwrap_or}
 use Rattle.std.specs.List.{AllByRecursion, IsDistinct, flat_map}
 use Rattle.std.specs.Str.{bytes_eq}
 use Rattle.std.proofs.lemmas.List.Sorted.{IsPermutation-sym}
 use Rattle.std.proofs.lemmas.Map.Keys.{IsDistinct-IsPermutation}
+use Rattle.can_id.specs.Ident.{dbc_number}
 use Rattle.catalogue.specs.Form.{IsSheet}
 use Rattle.catalogue.specs.Messages.{number_of}
 use Rattle.catalogue.specs.Named.{AreNamedApart}
-use Rattle.catalogue.specs.Saying.{Says, keys_of, messages_of, node_names_of, numbers_of, same_signal, signal_keys_of, whole_message, whole_node}
+use Rattle.catalogue.specs.Saying.{Says, SignalKey, keys_of, last_value_of, messages_of, node_names_of, numbers_of, same_signal, signal_keys_of, value_texts_in, whole_message, whole_node, whole_signal}
 use Rattle.catalogue.specs.Sheet.{node_name}
 use Rattle.catalogue.specs.Signals.{signal_name}
-use Rattle.catalogue.specs.Statement.{Statement}
-use Rattle.catalogue.specs.WellFormed.{AreRostered, IsWellFormedMessage}
+use Rattle.catalogue.specs.Statement.{MessageLine, SignalLine, Statement}
+use Rattle.catalogue.specs.WellFormed.{AreFewTexts, AreRostered, IsWellFormedMessage}
 use Rattle.catalogue.specs.declared.message.Message.{Message}
 use Rattle.catalogue.specs.declared.sheet.Sheet.{Sheet}
+use Rattle.catalogue.specs.declared.value_texts.ValueText.{ValueText}
 use Rattle.catalogue.proofs.AscendingUnique.{all_permutation, distinct_if_ascending}
 use Rattle.dbc_read.specs.Built.{CanBeSheet, IsBuilt, feeds_in, messages_from, messages_in, nodes_from, nodes_in, tables_in}
-use Rattle.dbc_read.specs.Fit.{CanShareSheet, IsFit, TablesFit}
+use Rattle.dbc_read.specs.Fit.{CanShareSheet, HaveFewTexts, IsFit, TablesFit}
 use Rattle.dbc_read.specs.Gathered.{AreGathered}
 use Rattle.dbc_read.specs.Sheets.{SaysNothing}
 use Rattle.dbc_read.specs.declared.feed.Feeds.{Feeds}
@@ -46,6 +48,9 @@ module _ (s : Sheet) (is : IsSheet s) (ms : List Message) (p : IsPermutation ms 
   names_of_sheet = each_named_apart ms (all_permutation IsWellFormedMessage s.messages ms (IsPermutation-sym _ _ p) is.well_formed.messages)
 
 module _ (ss : List Statement) (g : Gathered) (are : AreGathered ss g) where
+  abbrev texts_said : SignalKey → List ValueText
+  texts_said key = last_value_of same_signal key [] value_texts_in ss
+
   -- names and numbers are single, so each thing takes what the statements say of it
   record AreSingle : Type 0 where
     pub names : IsDistinct bytes_eq (node_names_of ss)
@@ -118,6 +123,21 @@ module _ (ss : List Statement) (g : Gathered) (are : AreGathered ss g) where
             (fit_each s.messages says.is_sheet.well_formed.messages);
         together = share_in_any_order s.messages _ (IsPermutation-sym _ _ p) (record { numbers = distinct_if_ascending number_of s.messages t.ascending; names = t.apart; few = t.few });
       }
+
+  -- in a sheet each signal takes its texts, so they are few
+  signals_few : (number : ℕ) (lines : List SignalLine) → AllByRecursion HaveFewTexts (map (whole_signal ss number) lines) → (more : List SignalKey)
+      → AllByRecursion AreFewTexts (map texts_said more) → AllByRecursion AreFewTexts (map texts_said (map (λ (l : SignalLine). (number, l.name)) lines ++ more))
+  signals_few number [] h more rest = rest
+  signals_few number (line ∷ lines) h more rest = (h.0, signals_few number lines h.1 more rest)
+
+  lines_few : (lines : List MessageLine) → AllByRecursion IsFit (map (whole_message ss) lines) → AllByRecursion AreFewTexts (map texts_said (flat_map keys_of lines))
+  lines_few [] h = tt
+  lines_few (line ∷ lines) h = signals_few (dbc_number line.ident) line.signals h.0.values (flat_map keys_of lines) (lines_few lines h.1)
+
+  pub values_few : CanBeSheet g → AllByRecursion AreFewTexts g.signal_values
+  values_few h =
+      let single = single_if_sheet h in
+      subst (AllByRecursion AreFewTexts) (sym (are.signal_values single.keys)) (lines_few (messages_of ss) (subst (AllByRecursion IsFit) (messages_are single) h.messages))
 
   pub says_nothing : ¬ CanBeSheet g → SaysNothing ss
   says_nothing never = λ s says. never (can_if_said s says)

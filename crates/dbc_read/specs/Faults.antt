@@ -50,6 +50,16 @@ pub record AreMessageLines (messages : List MessageLine) : Type 0 where
   pub names : AreNamedWithin (λ (m : MessageLine). m.name) message_limit messages
   pub signals : HaveSignalLines messages
 
+abbrev pub entries_of : List TableLine → List (List ValueText)
+entries_of tables = map (λ (t : TableLine). t.entries) tables
+
+-- the nodes, value tables and messages
+pub record AreDefined (g : Gathered) : Type 0 where
+  pub nodes : AreNamedWithin (λ (n : NodeName). n.name) roster_limit g.nodes
+  pub tables : AreNamedWithin (λ (t : TableLine). t.name) roster_limit g.tables
+  pub messages : AreMessageLines g.messages
+  pub entries : AllByRecursion AreFewTexts (entries_of g.tables)
+
 -- Why an item is the first of its kind that can't come after those before it: the code of the fault.
 
 abbrev pub IsNameRefused : {A : Type 0} → (A → List ℕ) → ℕ → List A → A → ReadCode → Type 0
@@ -122,13 +132,14 @@ pub data IsFaultOfMessages (messages : List MessageLine) (fault : ReadFault) : T
   name : IsMessageFault messages fault → IsFaultOfMessages messages fault
   signals : IsSignalsFault messages fault → IsFaultOfMessages messages fault
 
-abbrev pub entries_of : List TableLine → List (List ValueText)
-entries_of tables = map (λ (t : TableLine). t.entries) tables
+-- all that can be wrong with the nodes, value tables and messages
+pub data IsFaultOfDefinitions (g : Gathered) (fault : ReadFault) : Type 0 where
+  node : IsNodeFault g.nodes fault → IsFaultOfDefinitions g fault
+  table : IsTableFault g.tables fault → IsFaultOfDefinitions g fault
+  messages : IsFaultOfMessages g.messages fault → IsFaultOfDefinitions g fault
+  table_entries : IsEntriesFault (entries_of g.tables) fault → IsFaultOfDefinitions g fault
 
--- all that can be wrong with what is gathered
+-- and with all that is gathered
 pub data IsFault (g : Gathered) (fault : ReadFault) : Type 0 where
-  node : IsNodeFault g.nodes fault → IsFault g fault
-  table : IsTableFault g.tables fault → IsFault g fault
-  messages : IsFaultOfMessages g.messages fault → IsFault g fault
-  table_entries : IsEntriesFault (entries_of g.tables) fault → IsFault g fault
+  definition : IsFaultOfDefinitions g fault → IsFault g fault
   value_texts : IsEntriesFault g.signal_values fault → IsFault g fault

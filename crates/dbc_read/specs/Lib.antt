@@ -14,4 +14,5 @@ pub mod Finding
 pub mod Placed
 pub mod Faults
 pub mod Sheets
+pub mod Definitions
 pub mod Reading

@@ -1,5 +1,5 @@
 -- A text that reads as no sheet, and its fault.
-use Rattle.std.specs.Prelude.{◌≡◌, ◌≢◌, ◌≤◌, ℕ, List, Some, length}
+use Rattle.std.specs.Prelude.{◌≡◌, ◌≢◌, ◌≤◌, ◌⊎◌, ℕ, List, Some, length}
 use Rattle.catalogue.specs.Lexing.{LexFault, lexed}
 use Rattle.catalogue.specs.Reads.{Reads}
 use Rattle.catalogue.specs.Statement.{Statement}
@@ -8,9 +8,11 @@ use Rattle.dbc_lex.specs.Fault.{fault_of}
 use Rattle.dbc_lex.specs.declared.fault.ReadCode.TheVariants.{Memory}
 use Rattle.dbc_lex.specs.declared.fault.ReadFault.{ReadFault}
 use Rattle.dbc_read.specs.Built.{CanBeSheet}
+use Rattle.dbc_read.specs.Faults.{IsFault}
 use Rattle.dbc_read.specs.Gathered.{AreGathered}
+use Rattle.dbc_read.specs.Gathering.{IsOfText}
 use Rattle.dbc_read.specs.declared.gathered.Gathered.{Gathered}
-use Rattle.dbc_statements.specs.Division.{IsDivided}
+use Rattle.dbc_statements.specs.Division.{HasNoDivision, IsDivided}
 
 abbrev pub ReadsAsNothing : List ℕ → Type 0
 ReadsAsNothing bytes = (s : Sheet) → ¬ (Reads bytes s)
@@ -22,6 +24,16 @@ pub record IsReadFault (bytes : List ℕ) (fault : ReadFault) : Type 0 where
   pub nothing : ReadsAsNothing bytes
   pub within : fault.at ≤ length bytes
   pub tokens : (cause : LexFault) → (lexed 0 bytes).fault ≡ Some cause → fault ≡ fault_of cause
+
+-- the fault is one of what all statements of the text say
+pub record IsFaultOfText (bytes : List ℕ) (fault : ReadFault) : Type 0 where
+  pub gathered : Gathered
+  pub of : IsOfText bytes gathered
+  pub is : IsFault gathered fault
+
+-- the text isn't a sequence of statements, or the fault is one of what they say
+abbrev pub HasFault : List ℕ → ReadFault → Type 0
+HasFault bytes fault = HasNoDivision bytes ⊎ IsFaultOfText bytes fault
 
 -- What the statements of the text say can't be in one sheet.
 abbrev pub CanNeverBeSheet : List ℕ → Type 0

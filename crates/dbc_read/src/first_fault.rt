@@ -1,7 +1,8 @@
-//! The first fault of statements that can't be in one sheet.
+//! The first fault of what is gathered of a text's statements, if that can't be in one sheet.
 //!
 //! Each kind of item is searched separately, in the file's order. The fault with the lowest offset of those that are
-//! found is the first of the file.
+//! found is the first of the file. Nodes, value tables and messages are searched without the other statements too
+//! (`definitions`).
 ghost use Rattle.std.specs.Prelude.{◌≡◌, ◌⊎◌, ◌≤◌, IfNone, IfOk, IfSome, None, is_some, length, nat_lt};
 ghost use Rattle.std.specs.List.{AllByRecursion};
 ghost use Rattle.catalogue.specs.Limits.{value_text_limit};
@@ -9,6 +10,7 @@ ghost use Rattle.catalogue.specs.WellFormed.{AreFewTexts};
 ghost use Rattle.dbc_lex.specs.declared.fault.ReadCode.TheVariants.{TooMany};
 ghost use Rattle.dbc_read.specs.Built.{CanBeSheet};
 ghost use Rattle.dbc_read.specs.Faults.{
+  AreDefined,
   AreMessageLines,
   AreNamedWithin,
   AreNumbered,
@@ -18,6 +20,7 @@ ghost use Rattle.dbc_read.specs.Faults.{
   IsEntriesFault,
   IsFault,
   IsFaultAt,
+  IsFaultOfDefinitions,
   IsFaultOfMessages,
   IsFaultOfSignals,
   IsMultiplexorFault,
@@ -194,19 +197,31 @@ fn messages_fault(alloc: Global, messages: &[MessageLine]) -> Result<Option<Read
     Ok(earlier(number, earlier(name, signal)))
 }
 
-/// The first fault of what is gathered, which can't be in one sheet.
-pub(crate) fn first_fault(alloc: Global, gathered: &Gathered) -> Result<ReadFault, AllocError>
-    requires { ¬ CanBeSheet gathered.now }
-    ensures { IfOk result (IsFault gathered.now) }
+/// The first fault of the nodes, value tables and messages that are gathered.
+pub(crate) fn definition_fault(
+    alloc: Global,
+    gathered: &Gathered,
+) -> Result<Option<ReadFault>, AllocError>
+    ensures none { IfOk result (λ found. IfNone found (AreDefined gathered.now)) }
+    ensures fault { IfOk result (λ found. IfSome found (IsFaultOfDefinitions gathered.now)) }
 {
     let node = name_fault(alloc, gathered.nodes.as_slice(), ROSTER_LIMIT)?;
     let table = name_fault(alloc, gathered.tables.as_slice(), ROSTER_LIMIT)?;
     let message = messages_fault(alloc, gathered.messages.as_slice())?;
     let named = earlier(node, earlier(table, message));
     let entry = tables_fault(gathered.tables.as_slice());
+    Ok(earlier(named, entry))
+}
+
+/// The first fault of what is gathered, or `None` if that can be in one sheet.
+pub(crate) fn first_fault(
+    alloc: Global,
+    gathered: &Gathered,
+) -> Result<Option<ReadFault>, AllocError>
+    ensures none { IfOk result (λ found. IfNone found (CanBeSheet gathered.now)) }
+    ensures fault { IfOk result (λ found. IfSome found (IsFault gathered.now)) }
+{
+    let definition = definition_fault(alloc, gathered)?;
     let value = values_fault(gathered.signal_values.as_slice());
-    match earlier(named, earlier(entry, value)) {
-        Some(fault) => Ok(fault),
-        None => unreachable!(),
-    }
+    Ok(earlier(definition, value))
 }

@@ -17,11 +17,13 @@
 //! these indices, and then moved into the signals (`feed`, `feeding`).
 //!
 //! Messages are built by moving their parts (`signals`, `messages`), and the sheet by its own calls (`sheets`), which
-//! refuse what can't be in one. If a part is refused, the statements are already consumed, so the text is divided once
-//! more (`reading`) to find its first fault (`first_fault`), with the places of signals (`placed`).
+//! refuse what can't be in one. Then the text's first fault is searched for (`first_fault`), with the places of signals
+//! (`placed`). Lists are searched before a sheet is built of them. If statements were gathered as they came, they are
+//! consumed, and the text is read once more, for its definitions alone (`definitions`): it is they that are at fault.
 #![tactic(auto)]
 
 mod attaching;
+mod definitions;
 mod feed;
 mod feeding;
 mod finding;

@@ -1,4 +1,5 @@
-//! Reading a DBC text.
+//! Reading a DBC text: one statement after the other, or into lists if it can't be read so. A text that can't be one
+//! sheet has a fault, which its lists tell, or its definitions.
 ghost use Rattle.std.specs.Prelude.{◌≡◌, ◌≤◌, Err, IfErr, IfNone, IfOk, IfSome, Ok, length, map};
 ghost use Rattle.catalogue.specs.Reads.{ReadsAs, ReadsOnlyAs};
 ghost use Rattle.dbc_lex.specs.Fault.{UnlessMemory};
@@ -6,10 +7,11 @@ ghost use Rattle.dbc_lex.specs.declared.fault.ReadCode.TheVariants.{Memory};
 ghost use Rattle.dbc_read.specs.Attaching.{in_signals};
 ghost use Rattle.dbc_read.specs.Gathering.{IsOfText};
 ghost use Rattle.dbc_read.specs.Passed.{start_and_keyword};
-ghost use Rattle.dbc_read.specs.Reading.{CanNeverBeSheet, ReadsAsNothing};
+ghost use Rattle.dbc_read.specs.Reading.{CanNeverBeSheet, HasFault, ReadsAsNothing};
 ghost use Rattle.dbc_read.specs.declared.refusal.Refusal.TheVariants.{NoSheet};
 ghost use Rattle.dbc_statements.specs.Division.{HasNoDivision, TokensComeFirst};
 
+use crate::definitions::fault_of_definitions;
 use crate::first_fault::first_fault;
 use crate::gathered::{Gathered, gathered_of};
 use crate::one_by_one::gathered_one_by_one;
@@ -65,20 +67,40 @@ fn reading_or_none(built: Result<Reading, Refusal>) -> Result<Option<Reading>, R
     }
 }
 
+/// What the text reads as, or its fault. All statements are read before any is gathered.
+fn read_lists(alloc: Global, source: &[u8]) -> Result<Reading, ReadFault>
+    ensures reads { IfOk result (λ reading. ReadsAs source.now reading.sheet (map start_and_keyword reading.passed)) }
+    ensures only { IfOk result (λ reading. ReadsOnlyAs source.now reading.sheet) }
+    ensures none { IfErr result (λ fault. UnlessMemory fault.code (ReadsAsNothing source.now)) }
+    ensures faults { IfErr result (λ fault. UnlessMemory fault.code (HasFault source.now fault)) }
+    ensures tokens { TokensComeFirst source.now result }
+{
+    texts_read_as_one_sheet();
+    let gathered = gathered_text(alloc, source)?;
+    if let Some(fault) = first_fault(alloc, &gathered)? {
+        return Err(fault);
+    }
+    match reading_or_none(gathered.into_reading_of_lists(alloc))? {
+        Some(reading) => Ok(reading),
+        None => unreachable!(),
+    }
+}
+
 /// What the text reads as, or `None` if what its statements say can't be in one sheet.
 fn read_sheet(alloc: Global, source: &[u8]) -> Result<Option<Reading>, ReadFault>
     ensures reads { IfOk result (λ found. IfSome found (λ reading. ReadsAs source.now reading.sheet (map start_and_keyword reading.passed))) }
     ensures only { IfOk result (λ found. IfSome found (λ reading. ReadsOnlyAs source.now reading.sheet)) }
     ensures never { IfOk result (λ found. IfNone found (CanNeverBeSheet source.now)) }
     ensures none { IfErr result (λ fault. UnlessMemory fault.code (ReadsAsNothing source.now)) }
+    ensures faults { IfErr result (λ fault. UnlessMemory fault.code (HasFault source.now fault)) }
     ensures tokens { TokensComeFirst source.now result }
 {
     texts_read_as_one_sheet();
     match gathered_at_once(alloc, source)? {
         Some(gathered) => reading_or_none(gathered.into_reading(alloc)),
         None => {
-            let gathered = gathered_text(alloc, source)?;
-            reading_or_none(gathered.into_reading_of_lists(alloc))
+            let reading = read_lists(alloc, source)?;
+            Ok(Some(reading))
         }
     }
 }
@@ -88,15 +110,16 @@ fn read_text(alloc: Global, source: &[u8]) -> Result<Reading, ReadFault>
     ensures reads { IfOk result (λ reading. ReadsAs source.now reading.sheet (map start_and_keyword reading.passed)) }
     ensures only { IfOk result (λ reading. ReadsOnlyAs source.now reading.sheet) }
     ensures none { IfErr result (λ fault. UnlessMemory fault.code (ReadsAsNothing source.now)) }
+    ensures faults { IfErr result (λ fault. UnlessMemory fault.code (HasFault source.now fault)) }
     ensures tokens { TokensComeFirst source.now result }
 {
     match read_sheet(alloc, source)? {
         Some(reading) => Ok(reading),
-        None => {
-            // What was gathered is consumed, so the text is read once more.
-            let gathered = gathered_text(alloc, source)?;
-            Err(first_fault(alloc, &gathered)?)
-        }
+        None => match fault_of_definitions(alloc, source)? {
+            Some(fault) => Err(fault),
+            // Whether too many texts for values are a fault, only all the statements tell.
+            None => read_lists(alloc, source),
+        },
     }
 }
 

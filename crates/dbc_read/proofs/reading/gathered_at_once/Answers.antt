@@ -1,10 +1,8 @@
-use Rattle.std.proofs.Common.{◌≡◌, ◌∙◌, ℕ, List, None, subst}
+use Rattle.std.proofs.Common.{◌≡◌, ◌∙◌}
 use Rattle.std.proofs.lemmas.Option.{IfSome_then}
 use Rattle.std.proofs.lemmas.Result.{err_from_is_err_and}
-use Rattle.catalogue.specs.Lexing.{lexed}
-use Rattle.catalogue.specs.TokenLaw.{tokens_without_fault}
-use Rattle.dbc_statements.proofs.WholeText.{is_divided, no_division, whole}
-use Rattle.dbc_read.proofs.Divided.{no_tokens_left}
+use Rattle.dbc_statements.proofs.WholeText.{is_divided, no_division}
+use Rattle.dbc_read.proofs.Divided.{all_tokens, no_tokens_left}
 use Rattle.dbc_read.proofs.reading.gathered_at_once.Goals as goal
 
 pub returns-in_err-token_fault-clause-err : goal.returns-in_err-token_fault-clause-err
@@ -16,13 +14,13 @@ returns-in_err-token_fault-clause-err c =
 pub returns-in_err-found-clause-err : goal.returns-in_err-found-clause-err
 returns-in_err-found-clause-err c =
     let p = err_from_is_err_and c.from_residual-in_err-found.result c.from_residual-in_err-found.ensures.1 in
-    let source : c.gathered_one_by_one-read.new.statements.source ≡ c.args.source.now = c.gathered_one_by_one-read.ensures.source ∙ c.of-statements.ensures.source in
-    let read : lexed 0 c.args.source.now ≡ tokens_without_fault c.of-statements.result.tokens = whole c.args.source.now c.of-statements.result.tokens c.of-statements.ensures.tokens (subst (λ (bytes : List ℕ). (lexed 0 bytes).fault ≡ None) source c.in_ok-token_fault.ensures.ok) in
+    let source = c.gathered_one_by_one-read.ensures.source ∙ c.of-statements.ensures.source in
+    let read = all_tokens c.args.source.now c.gathered_one_by_one-read.new.statements.source c.of-statements.result.tokens c.of-statements.ensures.tokens source c.in_ok-token_fault.ensures.ok in
     rw (p.1, p.2) (λ memory. no_division c.args.source.now c.of-statements.result.tokens read (c.in_err-found.ensures.err memory))
 
 pub returns-clause-ok : goal.returns-clause-ok
 returns-clause-ok c =
-    let source : c.gathered_one_by_one-read.new.statements.source ≡ c.args.source.now = c.gathered_one_by_one-read.ensures.source ∙ c.of-statements.ensures.source in
-    let read : lexed 0 c.args.source.now ≡ tokens_without_fault c.of-statements.result.tokens = whole c.args.source.now c.of-statements.result.tokens c.of-statements.ensures.tokens (subst (λ (bytes : List ℕ). (lexed 0 bytes).fault ≡ None) source c.in_ok-token_fault.ensures.ok) in
+    let source = c.gathered_one_by_one-read.ensures.source ∙ c.of-statements.ensures.source in
+    let read = all_tokens c.args.source.now c.gathered_one_by_one-read.new.statements.source c.of-statements.result.tokens c.of-statements.ensures.tokens source c.in_ok-token_fault.ensures.ok in
     IfSome_then c.in_ok-found.found c.in_ok-found.ensures.ok
     (λ g of. record { said = of.said; divided = is_divided c.args.source.now c.of-statements.result.tokens read of.said of.read; gathered = of.gathered })

@@ -1,3 +1,4 @@
+use Rattle.std.proofs.Common.{inl}
 use Rattle.std.proofs.lemmas.Result.{IfOk-weaker, err_from_is_err_and}
 use Rattle.dbc_read.specs.Attaching.{in_signals}
 use Rattle.dbc_read.proofs.Divided.{found_never, found_only, found_reads, undivided}
@@ -7,11 +8,6 @@ pub returns-in_err-gathered-clause-none : goal.returns-in_err-gathered-clause-no
 returns-in_err-gathered-clause-none c =
     let p = err_from_is_err_and c.from_residual.result c.from_residual.ensures.1 in
     rw (p.1, p.2) (λ memory. undivided c.args.source.now (c.in_err-gathered.ensures.err memory))
-
-pub returns-in_err-gathered-in-None-clause-none : goal.returns-in_err-gathered-in-None-clause-none
-returns-in_err-gathered-in-None-clause-none c =
-    let p = err_from_is_err_and c.from_residual-in_err-gathered-in-None.result c.from_residual-in_err-gathered-in-None.ensures.1 in
-    rw (p.1, p.2) (λ memory. undivided c.args.source.now (c.in_err-gathered-in-None.ensures.err memory))
 
 pub returns-in-Some-clause-reads : goal.returns-in-Some-clause-reads
 returns-in-Some-clause-reads c =
@@ -31,20 +27,7 @@ returns-in-Some-clause-never c =
     IfOk-weaker c.reading_or_none.result _ _ (λ found none.
     found_never c.args.source.now of.said of.divided (in_signals c.in-Some.gathered) of.gathered c.into_reading.result found c.into_reading.ensures.refused none) c.reading_or_none.ensures.none
 
-pub returns-in_ok-gathered-in-None-clause-reads : goal.returns-in_ok-gathered-in-None-clause-reads
-returns-in_ok-gathered-in-None-clause-reads c =
-    let of = c.in_ok-gathered-in-None.ensures.ok in
-    IfOk-weaker c.reading_or_none-in-None.result _ _ (λ found some.
-    found_reads c.args.source.now of.said of.divided c.in_ok-gathered-in-None.gathered of.gathered c.into_reading_of_lists.result found c.into_reading_of_lists.ensures.built c.into_reading_of_lists.ensures.passed some) c.reading_or_none-in-None.ensures.some
-
-pub returns-in_ok-gathered-in-None-clause-only : goal.returns-in_ok-gathered-in-None-clause-only
-returns-in_ok-gathered-in-None-clause-only c =
-    let of = c.in_ok-gathered-in-None.ensures.ok in
-    IfOk-weaker c.reading_or_none-in-None.result _ _ (λ found some.
-    found_only c.args.source.now of.said of.divided c.in_ok-gathered-in-None.gathered of.gathered c.into_reading_of_lists.result found c.texts_read_as_one_sheet.ensures c.into_reading_of_lists.ensures.built some) c.reading_or_none-in-None.ensures.some
-
-pub returns-in_ok-gathered-in-None-clause-never : goal.returns-in_ok-gathered-in-None-clause-never
-returns-in_ok-gathered-in-None-clause-never c =
-    let of = c.in_ok-gathered-in-None.ensures.ok in
-    IfOk-weaker c.reading_or_none-in-None.result _ _ (λ found none.
-    found_never c.args.source.now of.said of.divided c.in_ok-gathered-in-None.gathered of.gathered c.into_reading_of_lists.result found c.into_reading_of_lists.ensures.refused none) c.reading_or_none-in-None.ensures.none
+pub returns-in_err-gathered-clause-faults : goal.returns-in_err-gathered-clause-faults
+returns-in_err-gathered-clause-faults c =
+    let p = err_from_is_err_and c.from_residual.result c.from_residual.ensures.1 in
+    rw (p.1, p.2) (λ memory. inl (c.in_err-gathered.ensures.err memory))

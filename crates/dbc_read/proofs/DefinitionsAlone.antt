@@ -1,0 +1,203 @@
+-- Definitions that are gathered without what other statements say: a fault of them is one of the whole text.
+use Rattle.std.proofs.Common.{◌≡◌, ◌∙◌, ◌++◌, ℕ, nat_eq, nat_lt, Bool, true, false, if◌then◌else◌, List, [], ◌∷◌, length, map, Option, Some, None, refl, sym, ap, append_assoc, append-nil, arith, subst, true≢false}
+use Rattle.std.specs.Prelude.{IfSome, unwrap_or}
+use Rattle.std.specs.List.{AllByRecursion, cons_option, flat_map, last_or}
+use Rattle.std.specs.Option.{option_map}
+use Rattle.std.specs.Str.{bytes_eq}
+use Rattle.std.proofs.lemmas.Bool.Decides.{nat_tests}
+use Rattle.std.proofs.lemmas.Grind.{flat_map-append}
+use Rattle.std.proofs.lemmas.List.{map-append}
+use Rattle.std.proofs.lemmas.List.Elements.{filter_map-append}
+use Rattle.catalogue.specs.Limits.{value_text_limit}
+use Rattle.catalogue.specs.Saying.{SignalKey, comment_in, each_in, last_at, last_value_of, message_comment_in, message_in, messages_of, node_comment_in, node_names_of, nodes_in, numbers_of, passed_by, same_signal, signal_comment_in, signal_keys_of, spn_in, table_in, value_texts_in, value_type_in, version_in}
+use Rattle.catalogue.specs.Parsing.{statements_at}
+use Rattle.catalogue.specs.Statement as says
+use Rattle.catalogue.specs.Token.{Token}
+use Rattle.catalogue.specs.WellFormed.{AreFewTexts}
+use Rattle.catalogue.specs.declared.keyword.Keyword.{Keyword}
+use Rattle.catalogue.specs.declared.value_texts.ValueText.{ValueText}
+use Rattle.catalogue.specs.declared.value_type.ValueType.TheVariants.{Integer}
+use Rattle.dbc_lex.specs.declared.fault.ReadFault.{ReadFault}
+use Rattle.dbc_read.specs.Built.{CanBeSheet}
+use Rattle.dbc_read.specs.Definitions.{AreDefinitions, HaveFewTexts, IsDefinitionFault, TokensHaveManyTexts, has_many_texts, is_definition}
+use Rattle.dbc_read.specs.Faults.{AreDefined, IsFaultOfDefinitions}
+use Rattle.dbc_read.specs.Faults as faults
+use Rattle.dbc_read.specs.Gathered.{AreGathered, gathered_after, passed_of}
+use Rattle.dbc_read.specs.Gathering.{BeginWith, IsEmpty}
+use Rattle.dbc_read.specs.Passed.{start_and_keyword}
+use Rattle.dbc_read.specs.Reading.{CanNeverBeSheet}
+use Rattle.dbc_read.specs.declared.gathered.Gathered.{Gathered}
+use Rattle.dbc_read.specs.declared.passed.Passed.{Passed}
+use Rattle.dbc_read.proofs.Faultless.{can_be_sheet}
+use Rattle.dbc_read.proofs.Refused.{each_middle}
+use Rattle.dbc_statements.specs.Division.{IsDivided}
+use Rattle.dbc_statements.specs.Parts.{table_of}
+use Rattle.dbc_statements.specs.Statement.{content_of, message_of, names_of, statement_of}
+use Rattle.dbc_statements.specs.declared.statement.Content.{Content}
+use Rattle.dbc_statements.specs.declared.statement.Content.TheVariants as content
+use Rattle.dbc_statements.specs.declared.statement.NodeName.{NodeName}
+use Rattle.dbc_statements.specs.declared.statement.Statement.{Statement}
+
+-- Statements one by one.
+
+pub none_defined : (g : Gathered) → IsEmpty g → AreDefinitions [] g
+none_defined g is = record { nodes = ap names_of is.nodes; tables = ap (map table_of) is.tables; messages = ap (map message_of) is.messages }
+
+-- what one more statement defines comes after what the others do
+names_with_one : (said : List says.Statement) (s : says.Statement) → node_names_of (said ++ s ∷ []) ≡ node_names_of said ++ node_names_of (s ∷ [])
+names_with_one said s =
+    ap (flat_map (λ (names : List (List ℕ)). names)) (filter_map-append (λ (x : says.Statement). nodes_in x.content) said (s ∷ []))
+    ∙ flat_map-append (λ (names : List (List ℕ)). names) (each_in nodes_in said) (each_in nodes_in (s ∷ []))
+
+-- what a statement adds to the definitions
+record Adds (s : says.Statement) (old now : Gathered) : Type 0 where
+  pub nodes : names_of now.nodes ≡ names_of old.nodes ++ node_names_of (s ∷ [])
+  pub tables : map table_of now.tables ≡ map table_of old.tables ++ each_in table_in (s ∷ [])
+  pub messages : map message_of now.messages ≡ map message_of old.messages ++ messages_of (s ∷ [])
+
+adds_nothing : (start : ℕ) (keyword : Keyword) (c : says.Content) (g : Gathered) → is_definition c ≡ false → Adds (record { start = start; keyword = keyword; content = c }) g g
+adds_nothing start keyword (says.NodesAre names) g h = absurd (true≢false h)
+adds_nothing start keyword (says.TableIs name entries) g h = absurd (true≢false h)
+adds_nothing start keyword (says.MessageIs line) g h = absurd (true≢false h)
+adds_nothing start keyword c g h =
+    record { nodes = sym (append-nil (names_of g.nodes)); tables = sym (append-nil (map table_of g.tables)); messages = sym (append-nil (map message_of g.messages)) }
+
+adds_itself : (start : ℕ) (keyword : Keyword) (c : Content) (p : Passed) (g : Gathered) → Adds (record { start = start; keyword = keyword; content = content_of c }) g (gathered_after None p c g)
+adds_itself start keyword (content.Nodes nodes) p g = record {
+  nodes = map-append (λ (n : NodeName). n.name) g.nodes nodes.items ∙ ap (λ l. names_of g.nodes ++ l) (sym (append-nil (names_of nodes.items)));
+  tables = sym (append-nil (map table_of g.tables));
+  messages = sym (append-nil (map message_of g.messages));
+}
+adds_itself start keyword (content.Table line) p g = record {
+  nodes = sym (append-nil (names_of g.nodes));
+  tables = map-append table_of g.tables (line.value ∷ []);
+  messages = sym (append-nil (map message_of g.messages));
+}
+adds_itself start keyword (content.Message line) p g = record {
+  nodes = sym (append-nil (names_of g.nodes));
+  tables = sym (append-nil (map table_of g.tables));
+  messages = map-append message_of g.messages (line.value ∷ []);
+}
+adds_itself start keyword c p g =
+    record { nodes = sym (append-nil (names_of g.nodes)); tables = sym (append-nil (map table_of g.tables)); messages = sym (append-nil (map message_of g.messages)) }
+
+with_one : (said : List says.Statement) (s : says.Statement) (old now : Gathered) → Adds s old now → AreDefinitions said old → AreDefinitions (said ++ s ∷ []) now
+with_one said s old now adds are = record {
+  nodes = adds.nodes ∙ ap (λ l. l ++ node_names_of (s ∷ [])) are.nodes ∙ sym (names_with_one said s);
+  tables = adds.tables ∙ ap (λ l. l ++ each_in table_in (s ∷ [])) are.tables ∙ sym (filter_map-append (λ (x : says.Statement). table_in x.content) said (s ∷ []));
+  messages = adds.messages ∙ ap (λ l. l ++ messages_of (s ∷ [])) are.messages ∙ sym (filter_map-append (λ (x : says.Statement). message_in x.content) said (s ∷ []));
+}
+
+-- a statement that is dropped, and one that is gathered
+pub one_dropped : (s : Statement) (g : Gathered) → is_definition (content_of s.content) ≡ false → (said : List says.Statement) → AreDefinitions said g → AreDefinitions (said ++ statement_of s ∷ []) g
+one_dropped s g none said = with_one said (statement_of s) g g (adds_nothing s.start s.keyword (content_of s.content) g none)
+
+pub one_gathered : (s : Statement) (old now : Gathered) → now ≡ gathered_after None (passed_of s) s.content old → (said : List says.Statement) → AreDefinitions said old → AreDefinitions (said ++ statement_of s ∷ []) now
+one_gathered s old now is said are =
+    let h = with_one said (statement_of s) old (gathered_after None (passed_of s) s.content old) (adds_itself s.start s.keyword s.content (passed_of s) old) are in
+    rw is h
+
+pub few_with_one : (said : List says.Statement) (s : says.Statement) → HaveFewTexts said → has_many_texts s.content ≡ false → HaveFewTexts (said ++ s ∷ [])
+few_with_one [] s h few = (few, tt)
+few_with_one (x ∷ said) s h few = (h.0, few_with_one said s h.1 few)
+
+-- a statement with too many texts is one of all
+pub many_said : (said : List says.Statement) (s : says.Statement) (tokens rest : List Token) → BeginWith (said ++ s ∷ []) tokens rest → has_many_texts s.content ≡ true → TokensHaveManyTexts tokens
+many_said said s tokens rest read many all is = λ few. by few (statements_at rest) (sym is ∙ read)
+  where
+    by : HaveFewTexts all → (o : Option (List says.Statement)) → Some all ≡ option_map (λ others. (said ++ s ∷ []) ++ others) o → ⊥
+    by few None e = absurd cc
+    by few (Some others) e =
+        let same : all ≡ (said ++ s ∷ []) ++ others = cc in
+        let none : has_many_texts s.content ≡ false
+        = each_middle (λ (x : says.Statement). has_many_texts x.content ≡ false) said s others (subst HaveFewTexts (same ∙ append_assoc said (s ∷ []) others) few) in
+        true≢false (sym many ∙ none)
+
+-- Where no statement has too many texts, no signal has.
+
+few_texts : (texts : List ValueText) → nat_lt value_text_limit (length texts) ≡ false → AreFewTexts texts
+few_texts texts h = grind (arith, nat_tests)
+
+each_few : (said : List says.Statement) → HaveFewTexts said → AllByRecursion (λ (p : SignalKey × List ValueText). AreFewTexts p.1) (each_in value_texts_in said)
+each_few [] h = tt
+each_few (s ∷ said) h = by s.content h.0 (each_few said h.1)
+  where
+    by : (c : says.Content) → has_many_texts c ≡ false → AllByRecursion (λ (p : SignalKey × List ValueText). AreFewTexts p.1) (each_in value_texts_in said)
+        → AllByRecursion (λ (p : SignalKey × List ValueText). AreFewTexts p.1) (cons_option (value_texts_in c) (each_in value_texts_in said))
+    by (says.ValueTextsAre None name texts) few rest = rest
+    by (says.ValueTextsAre (Some number) name texts) few rest = (few_texts texts few, rest)
+    by c few rest = rest
+
+last_few : (key : SignalKey) (o : Option (List ValueText)) (ps : List (SignalKey × List ValueText)) → IfSome o AreFewTexts → AllByRecursion (λ (p : SignalKey × List ValueText). AreFewTexts p.1) ps
+    → AreFewTexts (unwrap_or (last_at same_signal key o ps) [])
+last_few key None [] h each = omega arith
+last_few key (Some texts) [] h each = h
+last_few key o (p ∷ ps) h each = last_few key (if same_signal p.0 key then Some p.1 else o) ps (by (same_signal p.0 key)) each.1
+  where
+    by : (b : Bool) → IfSome (if b then Some p.1 else o) AreFewTexts
+    by true = each.0
+    by false = h
+
+module _ (said : List says.Statement) where
+  texts_few : HaveFewTexts said → (keys : List SignalKey) → AllByRecursion AreFewTexts (map (λ key. last_value_of same_signal key [] value_texts_in said) keys)
+  texts_few h [] = tt
+  texts_few h (key ∷ keys) = (last_few key None (each_in value_texts_in said) tt (each_few said h), texts_few h keys)
+
+  abbrev pub as_passed : List (ℕ × Keyword) → List Passed
+  as_passed skipped = map (λ (p : ℕ × Keyword). record { at = p.0; keyword = p.1 }) skipped
+
+  same_passed : (skipped : List (ℕ × Keyword)) → map start_and_keyword (as_passed skipped) ≡ skipped
+  same_passed [] = refl
+  same_passed (p ∷ skipped) = ap (λ l. p ∷ l) (same_passed skipped)
+
+  -- the definitions, with all else that the statements say
+  abbrev pub with_others : Gathered → Gathered
+  with_others g = record g {
+    version = last_or None (each_in version_in said);
+    comment = last_or None (each_in comment_in said);
+    node_comments = map (λ name. last_value_of bytes_eq name [] node_comment_in said) (node_names_of said);
+    message_comments = map (λ number. last_value_of nat_eq number [] message_comment_in said) (numbers_of said);
+    signal_comments = map (λ key. last_value_of same_signal key [] signal_comment_in said) (signal_keys_of said);
+    signal_values = map (λ key. last_value_of same_signal key [] value_texts_in said) (signal_keys_of said);
+    signal_types = map (λ key. last_value_of same_signal key Integer value_type_in said) (signal_keys_of said);
+    signal_spns = map (λ key. last_value_of same_signal key 0 spn_in said) (signal_keys_of said);
+    passed = as_passed (passed_by said);
+  }
+
+  module _ (g : Gathered) (are : AreDefinitions said g) where
+    all_gathered : AreGathered said (with_others g)
+    all_gathered = record {
+      version = refl;
+      comment = refl;
+      nodes = are.nodes;
+      tables = are.tables;
+      messages = are.messages;
+      node_comments = λ distinct. refl;
+      message_comments = λ distinct. refl;
+      signal_comments = λ distinct. refl;
+      signal_values = λ distinct. refl;
+      signal_types = λ distinct. refl;
+      signal_spns = λ distinct. refl;
+      passed = same_passed (passed_by said);
+    }
+
+    module _ (bytes : List ℕ) (divided : IsDivided bytes said) (few : HaveFewTexts said) where
+      -- a fault of the definitions is one of the text
+      pub fault_of_text : (fault : ReadFault) → IsFaultOfDefinitions g fault → IsDefinitionFault bytes fault
+      fault_of_text fault is = record {
+        gathered = with_others g;
+        of = record { said = said; divided = divided; gathered = all_gathered };
+        is = other_parts fault is;
+        values = texts_few few (signal_keys_of said);
+      }
+        where
+          other_parts : (f : ReadFault) → IsFaultOfDefinitions g f → IsFaultOfDefinitions (with_others g) f
+          other_parts f (faults.node h) = faults.node h
+          other_parts f (faults.table h) = faults.table h
+          other_parts f (faults.messages h) = faults.messages h
+          other_parts f (faults.table_entries h) = faults.table_entries h
+
+      -- and if there is none, the text can be a sheet
+      pub fault_is_found : CanNeverBeSheet bytes → ¬ AreDefined g
+      fault_is_found never = λ defined. never said divided (with_others g) all_gathered
+          (can_be_sheet (with_others g) (record { nodes = defined.nodes; tables = defined.tables; messages = defined.messages; entries = defined.entries }) (texts_few few (signal_keys_of said)))

@@ -1,8 +1,8 @@
 //! Which node, message or signal of the lines each statement cites, as statements come one by one.
 //!
 //! A message is found by its number, and a signal by its name among those of its message. The one after the signal that
-//! was found last is tried first, and then that one again. Few others are compared one by one, from there on and round;
-//! among many there is a binary search (`orders`), so that no order of citations takes long.
+//! was found last is tried first, and then that one again. If the name is another's, few signals are compared one by one,
+//! from there on and round; among many there is a binary search (`orders`), so that no order of citations takes long.
 ghost use Rattle.std.specs.Prelude.{◌≡◌, ◌==◌, List, IfOk, IfSome, Some, false, map, nat_eq, slice_get, true};
 ghost use Rattle.std.specs.List.{IsDistinct};
 ghost use Rattle.std.specs.Str.{bytes_eq};

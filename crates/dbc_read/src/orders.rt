@@ -39,7 +39,7 @@ fn ascending(alloc: Global, signals: &[Signal], count: u16) -> Result<Vec<u16>, 
     Ok(order)
 }
 
-/// The order of the signals of a message, which is empty if they are few. `None` if an index above 65,535 would be in it.
+/// The order of the signals of a message, which is empty if they are few. `None` if they are 65,536 or more.
 fn order_of(alloc: Global, signals: &[Signal]) -> Result<Option<Vec<u16>>, AllocError>
     ensures { IfOk result (λ found. IfSome found (λ order. IsOrderOf (signal_names signals.now) order.items)) }
 {

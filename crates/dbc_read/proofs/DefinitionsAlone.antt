@@ -18,7 +18,6 @@ use Rattle.catalogue.specs.declared.keyword.Keyword.{Keyword}
 use Rattle.catalogue.specs.declared.value_texts.ValueText.{ValueText}
 use Rattle.catalogue.specs.declared.value_type.ValueType.TheVariants.{Integer}
 use Rattle.dbc_lex.specs.declared.fault.ReadFault.{ReadFault}
-use Rattle.dbc_read.specs.Built.{CanBeSheet}
 use Rattle.dbc_read.specs.Definitions.{AreDefinitions, HaveFewTexts, IsDefinitionFault, TokensHaveManyTexts, has_many_texts, is_definition}
 use Rattle.dbc_read.specs.Faults.{AreDefined, IsFaultOfDefinitions}
 use Rattle.dbc_read.specs.Faults as faults

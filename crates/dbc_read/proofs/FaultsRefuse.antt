@@ -1,10 +1,10 @@
 -- What is gathered with a fault can't be in one sheet.
-use Rattle.std.proofs.Common.{◌≡◌, ◌∙◌, ◌<◌, ◌≤◌, ◌+◌, ◌++◌, ◌&&◌, ◌||◌, ◌==◌, ℕ, Bool, true, false, List, [], ◌∷◌, length, length-append, refl, sym, ap, subst, arith, true≢false}
-use Rattle.std.specs.List.{AllByRecursion, IsDistinct, list_any}
+use Rattle.std.proofs.Common.{◌≡◌, ◌∙◌, ◌≤◌, ◌+◌, ◌++◌, ◌&&◌, ◌||◌, ◌==◌, ℕ, Bool, true, false, List, [], ◌∷◌, length, length-append, refl, sym, subst, arith, true≢false}
+use Rattle.std.specs.List.{AllByRecursion, list_any}
 use Rattle.std.specs.Str.{bytes_eq}
 use Rattle.bitlayout.specs.Mux.{is_multiplexor}
 use Rattle.catalogue.specs.Limits.{message_limit, roster_limit}
-use Rattle.catalogue.specs.Named.{AreNamedApart, has_name}
+use Rattle.catalogue.specs.Named.{has_name}
 use Rattle.catalogue.specs.Statement.{Statement}
 use Rattle.catalogue.specs.WellFormed.{AreFewTexts}
 use Rattle.catalogue.specs.declared.value_texts.ValueText.{ValueText}

@@ -1,6 +1,6 @@
 -- Loops that look for the first item that is above a limit, or has the key of an earlier one: the items that they passed,
 -- and the set of their keys.
-use Rattle.std.proofs.Common.{◌≡◌, ◌≤◌, ◌<◌, ◌+◌, ◌∙◌, ◌||◌, ℕ, Bool, true, false, cond, not, List, [], ◌∷◌, ◌++◌, length, refl, sym, ap, arith, true≢false}
+use Rattle.std.proofs.Common.{◌≡◌, ◌≤◌, ◌<◌, ◌+◌, ◌∙◌, ◌||◌, ℕ, Bool, true, false, cond, not, List, [], ◌∷◌, ◌++◌, length, take, refl, sym, ap, arith, true≢false}
 use Rattle.std.specs.BTreeSet.{BTreeSet, IsEmpty, Updates, btree_set_len, contains}
 use Rattle.std.specs.List.{AllByRecursion, IsDistinct, list_any}
 use Rattle.std.specs.Ordering.{is_eq}
@@ -9,6 +9,7 @@ use Rattle.std.proofs.Math.Bool.{or_comm}
 use Rattle.std.proofs.lemmas.Bool.{or_parts}
 use Rattle.std.proofs.lemmas.List.{length-append}
 use Rattle.std.proofs.lemmas.List.Folds.{list_any-append}
+use Rattle.catalogue.specs.Named.{has_name}
 
 each_and_last : {A : Type 0} (P : A → Type 0) (xs : List A) (x : A) → AllByRecursion P xs → P x → AllByRecursion P (xs ++ x ∷ [])
 each_and_last P [] x h p = (p, tt)
@@ -25,6 +26,11 @@ apart_and_last e (y ∷ xs) x h none =
 -- one more at the end passes the test, or one of those before
 pub any_and_last : {A : Type 0} (p : A → Bool) (xs : List A) (x : A) → list_any p (xs ++ x ∷ []) ≡ (p x || list_any p xs)
 any_and_last p xs x = list_any-append p xs (x ∷ []) ∙ or_comm (list_any p xs) (p x || false) ∙ ap (λ b. b || list_any p xs) (or_comm (p x) false)
+
+-- whether one of those before has the name
+pub named_before : {A : Type 0} (name : A → List ℕ) (items : List A) (before i : ℕ) (n m : List ℕ) (found b : Bool) → before ≡ i → n ≡ m → found ≡ has_name name (take before items) n → found ≡ b
+    → has_name name (take i items) m ≡ b
+named_before name items before i n m found b at same is which = (λ d. has_name name (take (sym at d) items) (sym same d)) ∙ sym is ∙ which
 
 or_else : (t b : Bool) → cond t true b ≡ (t || b)
 or_else true b = refl

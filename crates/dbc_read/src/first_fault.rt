@@ -6,6 +6,7 @@
 ghost use Rattle.std.specs.Prelude.{◌≡◌, ◌⊎◌, ◌≤◌, IfNone, IfOk, IfSome, None, is_some, length, nat_lt};
 ghost use Rattle.std.specs.List.{AllByRecursion};
 ghost use Rattle.catalogue.specs.Limits.{value_text_limit};
+ghost use Rattle.catalogue.specs.Named.{has_name};
 ghost use Rattle.catalogue.specs.WellFormed.{AreFewTexts};
 ghost use Rattle.dbc_lex.specs.declared.fault.ReadCode.TheVariants.{TooMany};
 ghost use Rattle.dbc_read.specs.Built.{CanBeSheet};
@@ -54,6 +55,46 @@ fn earlier(a: Option<ReadFault>, b: Option<ReadFault>) -> Option<ReadFault>
     }
 }
 
+/// Whether one of the items has the name.
+fn is_named<T: NamedItem>(items: &[T], name: &[u8]) -> bool
+    ensures { result ≡ has_name T.name_of items.now name.now }
+{
+    for item in items {
+        if item.name().as_bytes() == name {
+            return true;
+        }
+    }
+    false
+}
+
+/// How many items are few. Comparing the names of so few takes no memory and less time than a set of them.
+const FEW_ITEMS: usize = 16;
+
+/// The fault at the first of few items that is above the limit, or has the name of an earlier one.
+fn few_names_fault<T: NamedItem>(items: &[T], limit: usize) -> Option<ReadFault>
+    ensures none { IfNone result (AreNamedWithin T.name_of limit items.now) }
+    ensures fault { IfSome result (IsFaultAt T.offset_of (IsNameRefused T.name_of limit) items.now) }
+{
+    let mut before = 0;
+    for item in items {
+        let at = item.name_at();
+        if before >= limit {
+            return Some(ReadFault {
+                code: ReadCode::TooMany,
+                at,
+            });
+        }
+        if is_named(&items[..before], item.name().as_bytes()) {
+            return Some(ReadFault {
+                code: ReadCode::DoubleName,
+                at,
+            });
+        }
+        before += 1;
+    }
+    None
+}
+
 /// The fault at the first item that is above the limit, or has the name of an earlier one.
 fn name_fault<T: NamedItem>(
     alloc: Global,
@@ -63,6 +104,9 @@ fn name_fault<T: NamedItem>(
     ensures none { IfOk result (λ found. IfNone found (AreNamedWithin T.name_of limit items.now)) }
     ensures fault { IfOk result (λ found. IfSome found (IsFaultAt T.offset_of (IsNameRefused T.name_of limit) items.now)) }
 {
+    if items.len() <= FEW_ITEMS {
+        return Ok(few_names_fault(items, limit));
+    }
     let mut before = BTreeSet::new(alloc);
     for item in items {
         let at = item.name_at();

@@ -71,7 +71,7 @@ pub(crate) fn placed_signals(
 ) -> Result<Vec<PlacedSignal<'_>>, AllocError>
     ensures { IfOk result (λ found. found.items ≡ placed line.now) }
 {
-    let mut found = Vec::new(alloc);
+    let mut found = Vec::with_capacity(alloc, line.signals.len())?;
     let mut places: &[SignalPlace] = &line.places;
     for signal in &line.signals {
         let place = match places {

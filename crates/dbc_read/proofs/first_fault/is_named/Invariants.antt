@@ -1,0 +1,6 @@
+use Rattle.std.proofs.Common.{◌≡◌, false, take}
+use Rattle.catalogue.specs.Named.{has_name}
+use Rattle.dbc_read.proofs.first_fault.is_named.Given as goal
+
+abbrev pub invariant-loop-item : goal.invariant-loop-item
+invariant-loop-item g l = has_name g.T.NamedItem.name_of (take l.item-index l.items) l.name ≡ false

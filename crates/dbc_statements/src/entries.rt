@@ -12,6 +12,7 @@ use crate::tokens::Tokens;
 use crate::words::is_mark;
 use catalogue::{VALUE_TEXT_LIMIT, ValueText, ValueTexts};
 use dbc_lex::ReadFault;
+use decimal::Decimal;
 use std::alloc::{AllocError, Global};
 use std::marker::Model;
 
@@ -113,7 +114,8 @@ fn add_entry(alloc: Global, tokens: &mut Tokens, entries: &mut Entries) -> Resul
     ensures err { IfErr result (λ fault. UnlessMemory fault.code (entry_at tokens.old ≡ None)) }
 {
     let offset = tokens.offset();
-    let value = decimal(tokens)?;
+    let mut value = Decimal::ZERO;
+    decimal(tokens, &mut value)?;
     let text = text(alloc, tokens)?;
     entries.push(offset, ValueText { value, text })?;
     Ok(())

@@ -289,36 +289,55 @@ fn no_decimal(tokens: &Tokens) -> ReadFault {
     }
 }
 
-/// A decimal, with a sign or without. Code 35 at a number that is out of range.
+/// Reads a decimal, with a sign or without. Code 35 at a number that is out of range.
+// It is given by reference, since a result of a decimal or a fault is moved byte by byte.
 #[inline(always)]
-pub(crate) fn decimal(tokens: &mut Tokens) -> Result<Decimal, ReadFault>
-    ensures { Reads itself result (decimal_at tokens.old) tokens.new }
+pub(crate) fn decimal(tokens: &mut Tokens, decimal: &mut Decimal) -> Result<(), ReadFault>
+    ensures { Reads (λ u. decimal.new) result (decimal_at tokens.old) tokens.new }
 {
     match decimal_here(tokens) {
-        Some(decimal) => {
+        Some(number) => {
+            *decimal = number;
             tokens.skip();
-            Ok(decimal)
+            Ok(())
         }
         None => Err(no_decimal(tokens)),
     }
 }
 
-/// A decimal and the mark after it. Code 35 as [`decimal`].
+/// Reads a decimal and the mark after it. Code 35 as [`decimal`].
 #[inline(always)]
-fn decimal_with(tokens: &mut Tokens, spelling: u8) -> Result<Decimal, ReadFault>
+fn decimal_with(tokens: &mut Tokens, spelling: u8, decimal: &mut Decimal) -> Result<(), ReadFault>
     requires { kind_of spelling ≡ Some Mark }
-    ensures { Reads itself result (with_mark (decimal_at tokens.old) (spelling ∷ [])) tokens.new }
+    ensures { Reads (λ u. decimal.new) result (with_mark (decimal_at tokens.old) (spelling ∷ [])) tokens.new }
 {
     match decimal_here(tokens) {
-        Some(decimal) => {
-            skip_with(tokens, spelling)?;
-            Ok(decimal)
+        Some(number) => {
+            *decimal = number;
+            skip_with(tokens, spelling)
         }
         None => Err(no_decimal(tokens)),
     }
 }
 
-/// Two decimals, each with the mark after it, after another mark.
+/// Two decimals.
+#[derive(Clone, Copy)]
+pub(crate) struct Decimals {
+    /// The first of them.
+    pub first: Decimal,
+    /// The second.
+    pub second: Decimal,
+}
+
+impl Decimals {
+    /// Two zeros.
+    pub(crate) const ZEROS: Decimals = Decimals {
+        first: Decimal::ZERO,
+        second: Decimal::ZERO,
+    };
+}
+
+/// Reads two decimals, each with the mark after it, after another mark.
 #[inline(always)]
 #[tactic(auto, unfolding(catalogue::specs::Parsing::pair_at))]
 pub(crate) fn pair(
@@ -326,15 +345,16 @@ pub(crate) fn pair(
     left: u8,
     between: u8,
     right: u8,
-) -> Result<(Decimal, Decimal), ReadFault>
+    pair: &mut Decimals,
+) -> Result<(), ReadFault>
     requires between { kind_of between ≡ Some Mark }
     requires right { kind_of right ≡ Some Mark }
-    ensures { Reads itself result (pair_at (left ∷ []) (between ∷ []) (right ∷ []) tokens.old) tokens.new }
+    ensures { Reads (λ u. (pair.new.first, pair.new.second)) result (pair_at (left ∷ []) (between ∷ []) (right ∷ []) tokens.old) tokens.new }
 {
     mark(tokens, left)?;
-    let first = decimal_with(tokens, between)?;
-    let second = decimal_with(tokens, right)?;
-    Ok((first, second))
+    decimal_with(tokens, between, &mut pair.first)?;
+    decimal_with(tokens, right, &mut pair.second)?;
+    Ok(())
 }
 
 /// The type of a signal's values. Code 35 at another number.

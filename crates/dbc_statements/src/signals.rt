@@ -8,7 +8,7 @@ ghost use Rattle.dbc_lex.specs.Fault.{UnlessMemory};
 ghost use Rattle.dbc_statements.specs.Reading.{Reads, itself, with_one};
 ghost use Rattle.dbc_statements.specs.Statement.{HaveNothingAttached, signals_of};
 
-use crate::fields::{key, layout, made_name, mark, pair, text};
+use crate::fields::{Decimals, key, layout, made_name, mark, pair, text};
 use crate::names::{Ended, receivers};
 use crate::statement::SignalPlace;
 use crate::tokens::Tokens;
@@ -72,8 +72,10 @@ fn add_signal(
     let mux = mux(tokens);
     colon(tokens, mux.is_some())?;
     let (layout, signed) = layout(tokens)?;
-    let (factor, offset) = pair(tokens, b'(', b',', b')')?;
-    let (minimum, maximum) = pair(tokens, b'[', b'|', b']')?;
+    let mut scale = Decimals::ZEROS;
+    pair(tokens, b'(', b',', b')', &mut scale)?;
+    let mut range = Decimals::ZEROS;
+    pair(tokens, b'[', b'|', b']', &mut range)?;
     let unit = text(alloc, tokens)?;
     let (receivers, ended) = receivers(alloc, tokens)?;
     signals.reserve(1)?;
@@ -83,10 +85,10 @@ fn add_signal(
         layout,
         signed,
         mux: mux.unwrap_or(Mux::Always),
-        factor,
-        offset,
-        minimum,
-        maximum,
+        factor: scale.first,
+        offset: scale.second,
+        minimum: range.first,
+        maximum: range.second,
         unit,
         receivers,
         comment: Text::empty(alloc),

@@ -6,4 +6,5 @@ pub mod Presence
 mod Rows
 pub mod Search
 pub mod Starts
+pub mod Turns
 pub mod Walks

@@ -17,6 +17,15 @@ two_orders_overlap : first_clash_of (place_from 16 Motorola Always 7 ∷ place_f
 unfolding walk shares_bit is_inside clash_after first_answer
 two_orders_overlap = refl
 
+-- by their ranks the second follows the first, and in its own order it has the same four bits
+ranks_of_two_orders : first_clash_of (place_from 4 Intel Always 0 ∷ place_from 4 Motorola Always 3 ∷ []) 1 ≡ Some (Overlap 0 1)
+unfolding walk shares_bit is_inside clash_after first_answer
+ranks_of_two_orders = refl
+
+motorola_in_turn : first_clash_of (place_from 12 Motorola Always 7 ∷ place_from 4 Motorola Always 11 ∷ []) 2 ≡ None
+unfolding walk shares_bit is_inside clash_after first_answer
+motorola_in_turn = refl
+
 two_values_share : first_clash_of (place_from 4 Intel Multiplexor 0 ∷ place_from 4 Intel (Under 0) 4 ∷ place_from 4 Intel (Under 1) 4 ∷ []) 1 ≡ None
 unfolding walk shares_bit is_inside clash_after first_answer
 two_values_share = refl

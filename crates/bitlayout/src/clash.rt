@@ -1,10 +1,12 @@
 //! The first reason why the signals of a message do not fit together.
-ghost use Rattle.std.specs.Prelude.{◌≡◌, ◌↔◌, IfSome, IsNone, position};
+ghost use Rattle.std.specs.Prelude.{◌≡◌, ◌↔◌, IfSome, IsNone, IsTrue, position};
 ghost use Rattle.bitlayout.specs.Clash.{IsFirstClash, clash_after, first_clash_among, first_clash_of, collide, has_multiplexor};
 ghost use Rattle.bitlayout.specs.Clear.{IsClear};
 
 use crate::bits::{inside, share_bit};
-use crate::place::{Place, meet};
+use crate::interval::ranks;
+use crate::layout::Order;
+use crate::place::{Mux, Place, meet};
 
 /// Why places do not fit together in one message. The numbers are indices in the list of places.
 #[derive(Clone, Copy, Debug, PartialEq, Eq)]
@@ -86,6 +88,22 @@ pub(crate) fn first_clash_where(places: &[Place], length: u16, multiplexed: bool
     None
 }
 
+/// Whether each place is present in every message, has this byte order and begins where the one before it ends, or
+/// later, and the last one ends in a payload of `length` bytes. Such a list is clear; others may be too.
+fn are_in_turn(places: &[Place], order: Order, length: u16) -> bool
+    ensures { IsTrue result → IsClear places.now length }
+{
+    let mut end = 0;
+    for place in places {
+        let ranks = ranks(place.layout);
+        if !matches!(place.mux, Mux::Always) || place.layout.order != order || ranks.first < end {
+            return false;
+        }
+        end = ranks.end;
+    }
+    end <= 8 * u32::from(length)
+}
+
 /// The first reason why the places do not fit together in a message of `length` bytes, or `None` where the
 /// list is clear. It is the clash of the place at the least index; of that place the first of
 /// [`Clash::Outside`], [`Clash::TwoMultiplexors`], [`Clash::NoMultiplexor`] and [`Clash::Overlap`]; and of
@@ -95,5 +113,11 @@ pub fn first_clash(places: &[Place], length: u16) -> Option<Clash>
     ensures first { IfSome result (IsFirstClash places.now length) }
     ensures computed { result ≡ first_clash_of places.now length }
 {
+    // Most messages list their signals one after the other, and then no two need to be compared.
+    if let Some(first) = places.first()
+        && are_in_turn(places, first.layout.order, length)
+    {
+        return None;
+    }
     first_clash_where(places, length, any_multiplexor(places))
 }

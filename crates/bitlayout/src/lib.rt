@@ -10,7 +10,8 @@
 //!
 //! Layouts are compared as intervals, never bit by bit. A layout is one interval if each byte is numbered in
 //! the layout's own direction, and at most nine, one in each byte that it touches, when it is compared with a
-//! layout of the other order. Nothing here allocates memory. The definitions are in `specs/`.
+//! layout of the other order. Signals that follow one another, as most lists have them, are not compared in pairs:
+//! intervals in ascending order share no number. Nothing here allocates memory. The definitions are in `specs/`.
 #![tactic(auto)]
 
 mod bits;

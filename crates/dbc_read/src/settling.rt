@@ -149,6 +149,7 @@ pub(crate) fn settle_first(
 
 /// Gathers the statements that are left, up to the first that defines something that could be cited. `None` if one of
 /// them isn't gathered so, as [`settle`].
+#[inline(never)]
 pub(crate) fn settle_all(
     alloc: Global,
     finders: &Finders,
@@ -176,6 +177,7 @@ pub(crate) fn settle_all(
 
 /// Gathers the statements that are left, without those that define something that could be cited, whose definitions are
 /// known. `false` if one of them isn't gathered so, as [`settle`].
+#[inline(never)]
 pub(crate) fn settle_others(
     alloc: Global,
     finders: &Finders,

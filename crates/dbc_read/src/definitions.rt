@@ -54,8 +54,8 @@ pub(crate) fn gather_definition(
     Ok(())
 }
 
-/// What is gathered, and what the statements that are left define, with the places of signals; or `None` if one of the
-/// statements has too many texts for values.
+/// What is gathered, and what the statements that are left define, with the places of signals; or `None` if one of
+/// the statements has too many texts for values.
 pub(crate) fn further_definitions(
     alloc: Global,
     gathered: Gathered,

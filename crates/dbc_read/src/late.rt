@@ -1,8 +1,8 @@
 //! Definitions that come after something was cited.
 //!
-//! What was cited may be defined by them. So the definitions alone are gathered, up to the last statement. Then the text
-//! is read a second time: its definitions are known, so they are skipped, and the other statements are gathered one by
-//! one as in any file (`settling`). No list of statements is kept.
+//! What was cited may be defined by them. So the definitions alone are gathered, up to the last statement. Then the
+//! text is read a second time: its definitions are known, so they are skipped, and the other statements are gathered
+//! one by one as in any file (`settling`). No list of statements is kept.
 ghost use Rattle.std.specs.Prelude.{◌≡◌, None, IfErr, IfOk, IfSome, IsTrue, map};
 ghost use Rattle.catalogue.specs.Parsing.{statements_at};
 ghost use Rattle.dbc_lex.specs.Fault.{UnlessMemory};

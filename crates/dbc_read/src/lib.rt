@@ -13,10 +13,10 @@
 //! If a node or a message is defined after something was cited, what is cited is known only at the end. Then nothing but
 //! definitions is gathered up to there, and a second reading gathers all else (`late`).
 //!
-//! Some files can't be gathered so. One may use a number twice, list too many texts for values, or have 65,536 signals or
-//! more in a message. Such a file is read once more, into a list of all statements. The indices of what they cite are found
-//! by binary search (`keys`, `lookup`, `lookups`) before any of them is gathered; what is attached to signals is listed at
-//! these indices, and then moved into the signals (`feed`, `feeding`).
+//! Some files can't be gathered so. One may use a number twice, list too many texts for values, or have 65,536 signals
+//! or more in a message. Such a file is read once more, into a list of all statements. The indices of what they cite are
+//! found by binary search (`keys`, `lookup`, `lookups`) before any of them is gathered; what is attached to signals is
+//! listed at these indices, and then moved into the signals (`feed`, `feeding`).
 //!
 //! Messages are built by moving their parts (`signals`, `messages`), and the sheet by its own calls (`sheets`), which
 //! refuse what can't be in one. Then the text's first fault is searched for (`first_fault`), with the places of signals

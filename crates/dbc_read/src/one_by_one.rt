@@ -47,8 +47,8 @@ fn cites(content: &Content) -> bool
     }
 }
 
-/// Gathers the statements up to the first that cites something, which is returned, or up to the last. Where signals are is
-/// not kept: to find a fault, the text is read once more.
+/// Gathers the statements up to the first that cites something, which is returned, or up to the last. Where signals
+/// are is not kept: to find a fault, the text is read once more.
 fn gather_definitions(
     alloc: Global,
     statements: &mut Statements,
@@ -95,8 +95,8 @@ fn gather_found(
     settle_all(alloc, finders, statements, &mut track, lines, gathered)
 }
 
-/// Gathers the statements after those that define these nodes and messages, up to the first that defines another. `None`
-/// if [`finders_of`] finds nothing in these, or as [`gather_found`].
+/// Gathers the statements after those that define these nodes and messages, up to the first that defines another.
+/// `None` if [`finders_of`] finds nothing in these, or as [`gather_found`].
 fn gather_others(
     alloc: Global,
     nodes: &[NodeName],

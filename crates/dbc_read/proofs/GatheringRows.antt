@@ -3,6 +3,8 @@ use Rattle.std.proofs.Common.{◌≡◌, ℕ, [], ◌∷◌, nat_eq, refl}
 use Rattle.catalogue.specs.Parsing.{statements_at}
 use Rattle.dbc_read.specs.Attaching.{commented}
 use Rattle.dbc_read.specs.Gathering.{BeginWith, finished}
+use Rattle.dbc_read.specs.Settling.{ReadUpTo}
+use Rattle.dbc_read.specs.declared.settling.Settled.TheVariants as settled
 use Rattle.dbc_statements.specs.declared.statement.MessageLine.{MessageLine}
 
 -- of the keys 1 and 2 with the values 5 and 6 so far, the second has a pair left, and the last pair counts
@@ -17,3 +19,8 @@ first_has_it a b = refl
 none_begin : BeginWith [] [] []
 unfolding statements_at
 none_begin = refl
+
+-- no tokens are those of no statements, all of which are settled
+none_settled : ReadUpTo settled.All [] [] []
+unfolding statements_at
+none_settled = refl

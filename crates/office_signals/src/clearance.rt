@@ -1,8 +1,9 @@
 //! Whether the places of a message are clear, by a sort and work that grows with their number.
 //!
-//! [`bitlayout::first_clash`] tells which clash comes first, and so compares each two places. Here the places are sorted by
-//! the value of the multiplexor under which they are present, and each is compared with those after it that may be present
-//! with it. Such places are at most as many as the payload has bits where no two of them share one.
+//! [`bitlayout::first_clash`] tells which clash comes first, and so compares each two places, if they don't follow one
+//! another. Here the places are sorted by the value of the multiplexor under which they are present, and each is compared
+//! with those after it that may be present with it. Such places are at most as many as the payload has bits where no two of
+//! them share one.
 ghost use Rattle.std.specs.Prelude.{◌≡◌, ◌↔◌, ◌&&◌, IfOk, IsTrue, None, not};
 ghost use Rattle.std.specs.List.{list_all, list_any};
 ghost use Rattle.std.specs.List.Sorted.{IsNonDecreasingBy, IsPermutation};

@@ -48,11 +48,11 @@ fn cites(content: &Content) -> bool
 
 /// Gathers the statements up to the first that cites something, which is returned, or up to the last. Where signals are
 /// is not kept: a fault is searched for in a list of all statements.
-fn gather_definitions(
+fn gather_definitions<'a>(
     alloc: Global,
-    statements: &mut Statements,
+    statements: &mut Statements<'a>,
     gathered: &mut Gathered,
-) -> Result<Option<Statement>, ReadFault>
+) -> Result<Option<Statement<'a>>, ReadFault>
     ensures source { statements.new.source ≡ statements.old.source }
     ensures ok { IfOk result (Defines statements.old.tokens statements.new.tokens gathered.old gathered.new) }
     ensures bare { OnOk result (AreBare gathered.old.messages → AreBare gathered.new.messages) }

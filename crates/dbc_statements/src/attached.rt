@@ -8,7 +8,7 @@ ghost use Rattle.dbc_statements.specs.Statement.{NothingIsAttached, content_of};
 
 use crate::entries::entry_list;
 use crate::fields::{
-    attribute, cited_name, cited_number, key, mark, optional_mark, spn, value_type,
+    any_name, attribute, cited_number, key, mark, optional_mark, spn, value_type,
 };
 use crate::passing::{passed_value_texts, skip_to_end};
 use crate::statement::{CitedSignal, Content};
@@ -20,7 +20,7 @@ use std::alloc::Global;
 
 /// The rest of a statement after `VAL_`.
 #[tactic(auto, unfolding(catalogue::specs::Parsing::value_texts_at, catalogue::specs::Parsing::passed_value_texts_at))]
-pub(crate) fn value_texts(alloc: Global, tokens: &mut Tokens) -> Result<Content, ReadFault>
+pub(crate) fn value_texts<'a>(alloc: Global, tokens: &mut Tokens<'a>) -> Result<Content<'a>, ReadFault>
     ensures reads { Reads content_of result (either_at (begins fields.cited_number) value_texts_at passed_value_texts_at tokens.old) tokens.new }
     ensures nothing { IfOk result NothingIsAttached }
 {
@@ -28,7 +28,7 @@ pub(crate) fn value_texts(alloc: Global, tokens: &mut Tokens) -> Result<Content,
     match cited_number_of(&token) {
         Some(number) => {
             tokens.skip();
-            let name = cited_name(alloc, tokens)?;
+            let name = any_name(tokens)?;
             let entries = entry_list(alloc, tokens)?;
             mark(tokens, b';')?;
             Ok(Content::ValueTexts(CitedSignal { number, name }, entries))
@@ -39,12 +39,12 @@ pub(crate) fn value_texts(alloc: Global, tokens: &mut Tokens) -> Result<Content,
 
 /// The rest of a statement after `SIG_VALTYPE_`.
 #[tactic(auto, unfolding(catalogue::specs::Parsing::value_type_at))]
-pub(crate) fn value_types(alloc: Global, tokens: &mut Tokens) -> Result<Content, ReadFault>
+pub(crate) fn value_types<'a>(alloc: Global, tokens: &mut Tokens<'a>) -> Result<Content<'a>, ReadFault>
     ensures reads { Reads content_of result (value_type_at tokens.old) tokens.new }
     ensures nothing { IfOk result NothingIsAttached }
 {
     let number = cited_number(tokens)?;
-    let name = cited_name(alloc, tokens)?;
+    let name = any_name(tokens)?;
     optional_mark(tokens, b':');
     let value_type = value_type(tokens)?;
     mark(tokens, b';')?;
@@ -52,21 +52,21 @@ pub(crate) fn value_types(alloc: Global, tokens: &mut Tokens) -> Result<Content,
 }
 
 #[tactic(auto, unfolding(catalogue::specs::Parsing::spn_at))]
-fn spn_of_signal(alloc: Global, tokens: &mut Tokens) -> Result<Content, ReadFault>
+fn spn_of_signal<'a>(alloc: Global, tokens: &mut Tokens<'a>) -> Result<Content<'a>, ReadFault>
     ensures reads { Reads content_of result (spn_at tokens.old) tokens.new }
     ensures nothing { IfOk result NothingIsAttached }
 {
     attribute(tokens)?;
     key(tokens, Keyword::Signal)?;
     let number = cited_number(tokens)?;
-    let name = cited_name(alloc, tokens)?;
+    let name = any_name(tokens)?;
     let spn = spn(tokens)?;
     mark(tokens, b';')?;
     Ok(Content::Spn(CitedSignal { number, name }, spn))
 }
 
 /// The rest of a statement after `BA_`: a suspect parameter number, or else anything up to `;`.
-pub(crate) fn attribute_value(alloc: Global, tokens: &mut Tokens) -> Result<Content, ReadFault>
+pub(crate) fn attribute_value<'a>(alloc: Global, tokens: &mut Tokens<'a>) -> Result<Content<'a>, ReadFault>
     ensures reads { Reads content_of result (or_else (spn_at tokens.old) (skipped_at tokens.old)) tokens.new }
     ensures nothing { IfOk result NothingIsAttached }
 {

@@ -43,7 +43,7 @@ fn has_many_texts(content: &Content) -> bool
 
 /// Gathers a statement that defines something. Another one is dropped.
 fn gather_definition(statement: Statement, gathered: &mut Gathered) -> Result<(), AllocError>
-    ensures { OnOk result ((said : List says.Statement) → AreDefinitions said gathered.old → AreDefinitions (said ++ statement_of statement ∷ []) gathered.new) }
+    ensures { OnOk result ((said : List says.Statement) → AreDefinitions said gathered.old → AreDefinitions (said ++ statement_of statement.entry ∷ []) gathered.new) }
 {
     if is_definition(&statement.content) {
         return gather_statement(None, statement, gathered);

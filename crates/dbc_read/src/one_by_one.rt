@@ -99,7 +99,7 @@ fn settle_other(
     gathered: &mut Gathered,
 ) -> Result<(), AllocError>
     requires { cites_signal content ≡ false }
-    ensures { OnOk result (IsGathered finders.now statement content gathered.old gathered.new) }
+    ensures { OnOk result (IsGathered finders.now statement content.entry gathered.old gathered.new) }
 {
     let index = track.index(finders, &content);
     gather(Citing { statement, index }, content, gathered)
@@ -118,7 +118,7 @@ fn settle(
     requires none { defines (content_of statement.content) ≡ false }
     requires signals { FindsSignals finders.now lines.old }
     ensures messages { map message_of lines.new ≡ map message_of lines.old }
-    ensures settles { IfOk result (λ all. IsTrue all → Settles finders.now (one_or_none (Some statement)) lines.old gathered.old lines.new gathered.new) }
+    ensures settles { IfOk result (λ all. IsTrue all → Settles finders.now (one_or_none (Some statement.entry)) lines.old gathered.old lines.new gathered.new) }
 {
     let place = track.place_of(finders, lines, &statement.content);
     let (at, keyword, content) = statement.into_parts();
@@ -165,7 +165,7 @@ fn settle_first(
     requires cites { IfSome first (λ s. cites (content_of s.content) ≡ true) }
     requires signals { FindsSignals finders.now lines.old }
     ensures messages { map message_of lines.new ≡ map message_of lines.old }
-    ensures settles { IfOk result (λ all. IsTrue all → Settles finders.now (one_or_none first) lines.old gathered.old lines.new gathered.new) }
+    ensures settles { IfOk result (λ all. IsTrue all → Settles finders.now (one_or_none first.entry) lines.old gathered.old lines.new gathered.new) }
 {
     match first {
         Some(first) => settle(finders, first, track, lines, gathered),
@@ -214,7 +214,7 @@ fn gather_found(
     requires finds { FindsAll finders.now nodes.now lines.old }
     requires bare { AreBare lines.old }
     ensures source { statements.new.source ≡ statements.old.source }
-    ensures ok { IfOk result (λ all. IsTrue all → FollowAll nodes.now lines.old first statements.old.tokens gathered.old lines.new gathered.new) }
+    ensures ok { IfOk result (λ all. IsTrue all → FollowAll nodes.now lines.old first.entry statements.old.tokens gathered.old lines.new gathered.new) }
     ensures err { IfErr result (λ fault. UnlessMemory fault.code (statements_at statements.old.tokens ≡ None)) }
 {
     attach_nothing(alloc, nodes.len(), lines.len(), gathered)?;
@@ -238,7 +238,7 @@ fn gather_others(
     requires cites { IfSome first (λ s. cites (content_of s.content) ≡ true) }
     requires bare { AreBare lines.old }
     ensures source { statements.new.source ≡ statements.old.source }
-    ensures ok { IfOk result (λ all. IsTrue all → FollowAll nodes.now lines.old first statements.old.tokens gathered.old lines.new gathered.new) }
+    ensures ok { IfOk result (λ all. IsTrue all → FollowAll nodes.now lines.old first.entry statements.old.tokens gathered.old lines.new gathered.new) }
     ensures err { IfErr result (λ fault. UnlessMemory fault.code (statements_at statements.old.tokens ≡ None)) }
 {
     match finders_of(alloc, nodes, lines)? {

@@ -156,7 +156,7 @@ pub struct Statement<'a> {
 impl<'a> Statement<'a> {
     /// The offset of its first keyword, that keyword, and its content.
     pub fn into_parts(self) -> (usize, Keyword, Content<'a>)
-        ensures { result ≡ (self.start, self.keyword, self.content) }
+        ensures { result ≡ (self.entry.start, self.entry.keyword, self.entry.content) }
     {
         let Statement {
             start,
@@ -168,8 +168,8 @@ impl<'a> Statement<'a> {
 
     /// The statement without the places of its signals, whose memory is given back.
     pub fn without_places(self, alloc: Global) -> Statement<'a>
-        ensures says { statement_of result ≡ statement_of self }
-        ensures nothing { NothingIsAttached self.content → NothingIsAttached result.content }
+        ensures says { statement_of result ≡ statement_of self.entry }
+        ensures nothing { NothingIsAttached self.entry.content → NothingIsAttached result.content }
     {
         let (start, keyword, content) = self.into_parts();
         let content = match content {

@@ -7,9 +7,7 @@ ghost use Rattle.dbc_statements.specs.Reading.{Reads};
 ghost use Rattle.dbc_statements.specs.Statement.{NothingIsAttached, content_of};
 
 use crate::entries::entry_list;
-use crate::fields::{
-    any_name, attribute, cited_number, key, mark, optional_mark, spn, value_type,
-};
+use crate::fields::{any_name, attribute, cited_number, key, mark, optional_mark, spn, value_type};
 use crate::passing::{passed_value_texts, skip_to_end};
 use crate::statement::{CitedSignal, Content};
 use crate::tokens::Tokens;
@@ -20,7 +18,10 @@ use std::alloc::Global;
 
 /// The rest of a statement after `VAL_`.
 #[tactic(auto, unfolding(catalogue::specs::Parsing::value_texts_at, catalogue::specs::Parsing::passed_value_texts_at))]
-pub(crate) fn value_texts<'a>(alloc: Global, tokens: &mut Tokens<'a>) -> Result<Content<'a>, ReadFault>
+pub(crate) fn value_texts<'a>(
+    alloc: Global,
+    tokens: &mut Tokens<'a>,
+) -> Result<Content<'a>, ReadFault>
     ensures reads { Reads content_of result (either_at (begins fields.cited_number) value_texts_at passed_value_texts_at tokens.old) tokens.new }
     ensures nothing { IfOk result NothingIsAttached }
 {
@@ -39,7 +40,10 @@ pub(crate) fn value_texts<'a>(alloc: Global, tokens: &mut Tokens<'a>) -> Result<
 
 /// The rest of a statement after `SIG_VALTYPE_`.
 #[tactic(auto, unfolding(catalogue::specs::Parsing::value_type_at))]
-pub(crate) fn value_types<'a>(alloc: Global, tokens: &mut Tokens<'a>) -> Result<Content<'a>, ReadFault>
+pub(crate) fn value_types<'a>(
+    alloc: Global,
+    tokens: &mut Tokens<'a>,
+) -> Result<Content<'a>, ReadFault>
     ensures reads { Reads content_of result (value_type_at tokens.old) tokens.new }
     ensures nothing { IfOk result NothingIsAttached }
 {
@@ -66,7 +70,10 @@ fn spn_of_signal<'a>(alloc: Global, tokens: &mut Tokens<'a>) -> Result<Content<'
 }
 
 /// The rest of a statement after `BA_`: a suspect parameter number, or else anything up to `;`.
-pub(crate) fn attribute_value<'a>(alloc: Global, tokens: &mut Tokens<'a>) -> Result<Content<'a>, ReadFault>
+pub(crate) fn attribute_value<'a>(
+    alloc: Global,
+    tokens: &mut Tokens<'a>,
+) -> Result<Content<'a>, ReadFault>
     ensures reads { Reads content_of result (or_else (spn_at tokens.old) (skipped_at tokens.old)) tokens.new }
     ensures nothing { IfOk result NothingIsAttached }
 {

@@ -150,7 +150,10 @@ pub(crate) fn node_names<'a>(alloc: Global, tokens: &mut Tokens<'a>) -> Result<L
 
 /// The rest of a statement after `VAL_TABLE_`.
 #[tactic(auto, unfolding(catalogue::specs::Parsing::table_at))]
-pub(crate) fn value_table<'a>(alloc: Global, tokens: &mut Tokens<'a>) -> Result<Content<'a>, ReadFault>
+pub(crate) fn value_table<'a>(
+    alloc: Global,
+    tokens: &mut Tokens<'a>,
+) -> Result<Content<'a>, ReadFault>
     ensures reads { Reads content_of result (table_at tokens.old) tokens.new }
     ensures nothing { IfOk result NothingIsAttached }
 {

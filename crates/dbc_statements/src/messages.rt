@@ -44,7 +44,10 @@ fn message<'a>(alloc: Global, tokens: &mut Tokens<'a>) -> Result<Line<'a>, ReadF
 }
 
 /// The rest of a statement after `BO_`.
-pub(crate) fn message_or_independent<'a>(alloc: Global, tokens: &mut Tokens<'a>) -> Result<Line<'a>, ReadFault>
+pub(crate) fn message_or_independent<'a>(
+    alloc: Global,
+    tokens: &mut Tokens<'a>,
+) -> Result<Line<'a>, ReadFault>
     ensures reads { Reads line_content result (either_at (begins fields.message_ident) message_at independent_at tokens.old) tokens.new }
     ensures nothing { IfOk result (λ line. NothingIsAttached line.content) }
 {

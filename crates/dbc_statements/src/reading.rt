@@ -162,10 +162,7 @@ fn all_statements<'a>(
 /// A fault comes only if the text isn't a sequence of statements, or memory ran out: code 30 or 31 at the first offset
 /// where no token begins, wherever it is, and else one of 32 to 39 at the first token that can't continue the
 /// statement, or at the text's length if it ends too early.
-pub fn statements_of<'a>(
-    alloc: Global,
-    source: &'a [u8],
-) -> Result<Vec<Statement<'a>>, ReadFault>
+pub fn statements_of<'a>(alloc: Global, source: &'a [u8]) -> Result<Vec<Statement<'a>>, ReadFault>
     ensures ok { IfOk result (λ statements. IsDivided source.now (statements_of statements.items)) }
     ensures err { IfErr result (λ fault. UnlessMemory fault.code (HasNoDivision source.now)) }
     ensures tokens { TokensComeFirst source.now result }

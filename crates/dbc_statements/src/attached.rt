@@ -40,10 +40,7 @@ pub(crate) fn value_texts<'a>(
 
 /// The rest of a statement after `SIG_VALTYPE_`.
 #[tactic(auto, unfolding(catalogue::specs::Parsing::value_type_at))]
-pub(crate) fn value_types<'a>(
-    alloc: Global,
-    tokens: &mut Tokens<'a>,
-) -> Result<Content<'a>, ReadFault>
+pub(crate) fn value_types<'a>(tokens: &mut Tokens<'a>) -> Result<Content<'a>, ReadFault>
     ensures reads { Reads content_of result (value_type_at tokens.old) tokens.new }
     ensures nothing { IfOk result NothingIsAttached }
 {
@@ -56,7 +53,7 @@ pub(crate) fn value_types<'a>(
 }
 
 #[tactic(auto, unfolding(catalogue::specs::Parsing::spn_at))]
-fn spn_of_signal<'a>(alloc: Global, tokens: &mut Tokens<'a>) -> Result<Content<'a>, ReadFault>
+fn spn_of_signal<'a>(tokens: &mut Tokens<'a>) -> Result<Content<'a>, ReadFault>
     ensures reads { Reads content_of result (spn_at tokens.old) tokens.new }
     ensures nothing { IfOk result NothingIsAttached }
 {
@@ -70,19 +67,17 @@ fn spn_of_signal<'a>(alloc: Global, tokens: &mut Tokens<'a>) -> Result<Content<'
 }
 
 /// The rest of a statement after `BA_`: a suspect parameter number, or else anything up to `;`.
-pub(crate) fn attribute_value<'a>(
-    alloc: Global,
-    tokens: &mut Tokens<'a>,
-) -> Result<Content<'a>, ReadFault>
+pub(crate) fn attribute_value<'a>(tokens: &mut Tokens<'a>) -> Result<Content<'a>, ReadFault>
     ensures reads { Reads content_of result (or_else (spn_at tokens.old) (skipped_at tokens.old)) tokens.new }
     ensures nothing { IfOk result NothingIsAttached }
 {
     let mut ahead = tokens.fork();
-    match spn_of_signal(alloc, &mut ahead) {
+    match spn_of_signal(&mut ahead) {
         Ok(content) => {
             *tokens = ahead;
             Ok(content)
         }
+        // No field here takes memory, but their contracts don't say so.
         Err(
             ReadFault {
                 code: ReadCode::Memory,

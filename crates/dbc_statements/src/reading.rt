@@ -100,8 +100,8 @@ fn line<'a>(
         Keyword::Message => message_or_independent(alloc, tokens),
         Keyword::Comment => line_without_list(comment(alloc, tokens)),
         Keyword::ValueTexts => line_without_list(value_texts(alloc, tokens)),
-        Keyword::SignalValueType => line_without_list(value_types(alloc, tokens)),
-        Keyword::AttributeValue => line_without_list(attribute_value(alloc, tokens)),
+        Keyword::SignalValueType => line_without_list(value_types(tokens)),
+        Keyword::AttributeValue => line_without_list(attribute_value(tokens)),
         Keyword::Signal => Err(ReadFault {
             code: ReadCode::Unexpected,
             at: start,

@@ -242,7 +242,7 @@ module _ (all : List says.Statement) (start : ℕ) (keyword : Keyword) (index : 
   passed_step content.PassedOver all_passed is h = one_more kept all_passed h
   passed_step c all_passed is h = h
 
-  content_gathered : (c : Content) → IsCitedIndex all (content_of c) index → Gathers all g (these c) → Gathers all (new c) rest
+  pub content_gathered : (c : Content) → IsCitedIndex all (content_of c) index → Gathers all g (these c) → Gathers all (new c) rest
   content_gathered c is h = record {
     version = version_step c _ h.version;
     comment = comment_step c _ h.comment;

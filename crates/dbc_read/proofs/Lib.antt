@@ -9,7 +9,7 @@ mod AttachingRows
 pub mod Building
 pub mod Gathering
 pub mod OneByOne
-pub mod Settling
+pub mod Settled
 pub mod Refused
 pub mod Bytes
 pub mod SheetsFit
@@ -25,6 +25,8 @@ pub mod SheetsSaid
 pub mod FaultsRefuse
 pub mod DefinitionsAlone
 pub mod Divided
+pub mod Apart
+pub mod Cleared
 pub mod TokenFaults
 pub mod ReadFaults
 mod GatheringRows

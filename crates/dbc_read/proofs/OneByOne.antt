@@ -1,20 +1,19 @@
 -- Statements that are gathered as they come: first those that cite nothing, and then those that define nothing that could
--- be cited, which Settling.antt goes on with.
+-- be cited, which Settled.antt goes on with.
 use Rattle.std.proofs.Common.{◌≡◌, ◌∙◌, ◌++◌, ℕ, true, false, List, [], ◌∷◌, length, map, Option, Some, None, refl, sym, ap, append_assoc, append-nil, subst, true≢false}
 use Rattle.std.specs.List.{cons_option, flat_map}
 use Rattle.std.specs.Option.{option_map}
 use Rattle.std.proofs.lemmas.List.Elements.{filter_map-append}
-use Rattle.can_id.specs.Ident.{dbc_number}
 use Rattle.catalogue.specs.Parsing.{statements_at}
-use Rattle.catalogue.specs.Saying.{each_in, keys_of, message_in, messages_of, node_names_of, nodes_in, numbers_of, signal_keys_of}
+use Rattle.catalogue.specs.Saying.{each_in, message_in, messages_of, node_names_of, nodes_in, numbers_of, signal_keys_of}
 use Rattle.catalogue.specs.Statement as says
 use Rattle.catalogue.specs.Token.{Token}
-use Rattle.dbc_read.specs.Gathered.{AreGathered, IsNothing, gathered_after, passed_of}
-use Rattle.dbc_read.specs.Gathering.{BeginWith, DefineNothing, Gathers, IsDefining, IsEmpty, IsSettling, cites, defines, with_definitions, with_empty, with_nothing_attached}
+use Rattle.dbc_read.specs.Gathered.{IsNothing, gathered_after, passed_of}
+use Rattle.dbc_read.specs.Gathering.{BeginWith, DefineNothing, Gathers, IsDefining, IsEmpty, cites, defines, with_definitions, with_empty, with_nothing_attached}
 use Rattle.dbc_read.specs.Lookups.{IsCitedIndex}
 use Rattle.dbc_read.specs.declared.gathered.Gathered.{Gathered}
 use Rattle.dbc_read.specs.declared.passed.Passed.{Passed}
-use Rattle.dbc_read.proofs.Gathering.{all_gathered, nothing_gathered, one_gathered}
+use Rattle.dbc_read.proofs.Gathering.{nothing_gathered, one_gathered}
 use Rattle.dbc_statements.specs.Left.{BeginsWith}
 use Rattle.dbc_statements.specs.Statement.{content_of, message_of, names_of, statement_of}
 use Rattle.dbc_statements.specs.declared.statement.Content.{Content}
@@ -48,6 +47,17 @@ begin_with_all said a b h e = h ∙ ap (option_map (λ others. said ++ others)) 
 
 pub begin_with_rest : (said more : List says.Statement) (a b : List Token) → BeginWith said a b → statements_at b ≡ Some more → statements_at a ≡ Some (said ++ more)
 begin_with_rest said more a b h e = h ∙ ap (option_map (λ others. said ++ others)) e
+
+both_begin : (said more : List says.Statement) (o : Option (List says.Statement))
+    → option_map (λ others. said ++ others) (option_map (λ others. more ++ others) o) ≡ option_map (λ others. (said ++ more) ++ others) o
+both_begin said more None = refl
+both_begin said more (Some l) = ap (λ (x : List says.Statement). Some x) (sym (append_assoc said more l))
+
+-- up to a late one
+pub begin_with_both : (said more : List says.Statement) (late : says.Statement) (a b c : List Token) → BeginWith said a b → BeginWith (more ++ late ∷ []) b c → BeginWith ((said ++ more) ++ late ∷ []) a c
+begin_with_both said more late a b c h k =
+    subst (λ (x : List says.Statement). BeginWith x a c) (sym (append_assoc said more (late ∷ [])))
+    (h ∙ ap (option_map (λ others. said ++ others)) k ∙ both_begin said (more ++ late ∷ []) (statements_at c))
 
 pub begin_without : (said : List says.Statement) (a b : List Token) → BeginWith said a b → statements_at b ≡ None → statements_at a ≡ None
 begin_without said a b h e = h ∙ ap (option_map (λ others. said ++ others)) e
@@ -91,9 +101,6 @@ module _ (said rest : List says.Statement) (none : DefineNothing rest) where
 
   pub same_messages : messages_of (said ++ rest) ≡ messages_of said
   same_messages = filter_map-append (λ (s : says.Statement). message_in s.content) said rest ∙ ap (λ l. messages_of said ++ l) (no_messages rest none) ∙ append-nil (messages_of said)
-
-  same_empty : (g : Gathered) → with_nothing_attached (said ++ rest) g ≡ with_nothing_attached said g
-  same_empty g = λ i. with_empty (length (same_names i)) (length (map (λ (m : says.MessageLine). dbc_number m.ident) (same_messages i))) (length (flat_map keys_of (same_messages i))) g
 
 -- Statements that cite nothing.
 
@@ -145,20 +152,11 @@ one_defined said s old now cites_none is h = λ rest.
 
 -- Statements that define nothing.
 
-pub definitions_over : (said : List says.Statement) (g : Gathered) (nodes : List NodeName) (messages : List MessageLine) → IsDefining said g
-    → IsSettling said g.nodes g.messages (with_nothing_attached said (with_definitions nodes messages g))
-definitions_over said g nodes messages h = λ rest none. subst (λ (x : Gathered). Gathers (said ++ rest) x rest) (same_empty said rest none g) (h rest)
-
 pub defined_either_way : (nodes : List NodeName) (messages : List MessageLine) (index : Option ℕ) (p : Passed) (c : Content) (g : Gathered) → defines (content_of c) ≡ false
     → with_definitions nodes messages (gathered_after index p c g) ≡ gathered_after index p c (with_definitions nodes messages g)
 defined_either_way nodes messages index p (content.Nodes names) g h = absurd (true≢false h)
 defined_either_way nodes messages index p (content.Message line) g h = absurd (true≢false h)
 defined_either_way nodes messages index p c g h = refl
-
--- where nothing is left, all are gathered
-pub all_settled : (said : List says.Statement) (nodes : List NodeName) (messages : List MessageLine) (g : Gathered) → IsSettling said nodes messages g → AreGathered said (with_definitions nodes messages g)
-all_settled said nodes messages g h =
-    all_gathered said (with_definitions nodes messages g) (subst (λ (x : List says.Statement). Gathers x (with_definitions nodes messages g) []) (append-nil said) (h [] tt))
 
 pub cited_defines_nothing : (c : says.Content) → cites c ≡ true → defines c ≡ false
 cited_defines_nothing (says.NodesAre names) h = absurd (true≢false (sym h))

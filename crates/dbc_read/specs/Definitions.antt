@@ -1,5 +1,5 @@
 -- The definitions of a text: the nodes, value tables and messages of its statements, without what others say.
-use Rattle.std.specs.Prelude.{◌≡◌, ℕ, Bool, true, false, nat_lt, List, Some, length, map}
+use Rattle.std.specs.Prelude.{◌≡◌, ◌++◌, ℕ, Bool, true, false, nat_lt, List, Some, length, map}
 use Rattle.std.specs.List.{AllByRecursion}
 use Rattle.catalogue.specs.Limits.{value_text_limit}
 use Rattle.catalogue.specs.Parsing.{statements_at}
@@ -43,6 +43,13 @@ pub record AreDefinitionsOfTokens (tokens : List Token) (g : Gathered) : Type 0 
   pub read : statements_at tokens ≡ Some said
   pub few : HaveFewTexts said
   pub are : AreDefinitions said g
+
+-- what the statements that are left define is gathered too, none of which has too many texts
+pub record DefineFurther (tokens : List Token) (old new : Gathered) : Type 0 where
+  pub said : List says.Statement
+  pub read : statements_at tokens ≡ Some said
+  pub few : HaveFewTexts said
+  pub are : (before : List says.Statement) → AreDefinitions before old → AreDefinitions (before ++ said) new
 
 -- some statement of the tokens has too many texts, if they are those of statements
 abbrev pub TokensHaveManyTexts : List Token → Type 0

@@ -112,10 +112,6 @@ with_definitions nodes messages g = record g { nodes = nodes; messages = message
 abbrev pub IsDefining : List says.Statement → Gathered → Type 0
 IsDefining said g = (rest : List says.Statement) → Gathers (said ++ rest) (with_nothing_attached (said ++ rest) g) rest
 
--- the statements so far are gathered, whatever the rest is, if it defines nothing that they could cite
-abbrev pub IsSettling : List says.Statement → List NodeName → List MessageLine → Gathered → Type 0
-IsSettling said nodes messages g = (rest : List says.Statement) → DefineNothing rest → Gathers (said ++ rest) (with_definitions nodes messages g) rest
-
 -- nothing is attached to the signals of each of the lines
 abbrev pub AreBare : List MessageLine → Type 0
 AreBare lines = AllByRecursion (λ (m : MessageLine). HaveNothingAttached m.signals.items) lines
@@ -129,10 +125,10 @@ HaveNothing lines = (g : Gathered) → with_attached lines g ≡ record g {
   signal_spns = replicate (length (all_signals lines)) 0;
 }
 
--- these statements are gathered after others with the same definitions; what is attached to signals is in the lines
+-- these statements, which define nothing, are gathered where what they cite is found; what is attached to signals is in the lines
 abbrev pub Settles : Finders → List says.Statement → List MessageLine → Gathered → List MessageLine → Gathered → Type 0
-Settles f more lines old new_lines new = (said : List says.Statement) (nodes : List NodeName) → Finds f lines said → IsSettling said nodes lines (with_attached lines old)
-    → Finds f new_lines (said ++ more) × IsSettling (said ++ more) nodes new_lines (with_attached new_lines new)
+Settles f more lines old new_lines new = (all rest : List says.Statement) (nodes : List NodeName) (messages : List MessageLine) → Finds f lines all
+    → Gathers all (with_definitions nodes messages (with_attached lines old)) (more ++ rest) → Gathers all (with_definitions nodes messages (with_attached new_lines new)) rest
 
 -- one statement is gathered, with the index of what its content cites, which is no signal
 pub record IsGathered (f : Finders) (p : Passed) (c : Content) (old new : Gathered) : Type 0 where
@@ -155,19 +151,6 @@ pub record Defines (tokens rest : List Token) (old new : Gathered) (first : Opti
   pub read : BeginWith (said ++ one_or_none first) tokens rest
   pub cites : IfSome first (λ s. cites (content_of s.content) ≡ true)
   pub gathered : IsDefining [] old → IsDefining said new
-
--- all statements that are left are gathered
-pub record SettlesAll (f : Finders) (tokens : List Token) (lines : List MessageLine) (old : Gathered) (new_lines : List MessageLine) (new : Gathered) : Type 0 where
-  pub said : List says.Statement
-  pub read : statements_at tokens ≡ Some said
-  pub gathered : Settles f said lines old new_lines new
-
--- after those with these definitions
-pub record FollowAll (nodes : List NodeName) (lines : List MessageLine) (first : Option Statement) (tokens : List Token) (old : Gathered) (new_lines : List MessageLine) (new : Gathered) : Type 0 where
-  pub said : List says.Statement
-  pub read : statements_at tokens ≡ Some said
-  pub gathered : (before : List says.Statement) → names_of nodes ≡ node_names_of before → map message_of lines ≡ messages_of before
-      → IsSettling before nodes lines (with_nothing_attached before old) → IsSettling ((before ++ one_or_none first) ++ said) nodes new_lines (with_attached new_lines new)
 
 -- it is what all statements of the tokens say
 pub record IsOfTokens (tokens : List Token) (g : Gathered) : Type 0 where

@@ -11,8 +11,10 @@ pub mod Attaching
 pub mod Numbers
 pub mod Orders
 pub mod Finding
+pub mod Settling
 pub mod Placed
 pub mod Faults
 pub mod Sheets
 pub mod Definitions
+pub mod Late
 pub mod Reading

@@ -8,7 +8,7 @@ ghost use Rattle.std.specs.Prelude.{◌≡◌, ◌++◌, [], ◌∷◌, List, No
 ghost use Rattle.catalogue.specs.Parsing.{statements_at};
 ghost use Rattle.catalogue.specs.Statement as says;
 ghost use Rattle.dbc_lex.specs.Fault.{UnlessMemory};
-ghost use Rattle.dbc_read.specs.Definitions.{AreDefinitions, AreDefinitionsOfTokens, HasManyTexts, IsDefinitionFault, TokensHaveManyTexts, has_many_texts, is_definition};
+ghost use Rattle.dbc_read.specs.Definitions.{AreDefinitions, AreDefinitionsOfTokens, DefineFurther, HasManyTexts, IsDefinitionFault, TokensHaveManyTexts, has_many_texts, is_definition};
 ghost use Rattle.dbc_read.specs.Reading.{CanNeverBeSheet};
 ghost use Rattle.dbc_statements.specs.Division.{HasNoDivision, TokensComeFirst};
 ghost use Rattle.dbc_statements.specs.Statement.{content_of, statement_of};
@@ -42,7 +42,10 @@ fn has_many_texts(content: &Content) -> bool
 }
 
 /// Gathers a statement that defines something. Another one is dropped.
-fn gather_definition(statement: Statement, gathered: &mut Gathered) -> Result<(), AllocError>
+pub(crate) fn gather_definition(
+    statement: Statement,
+    gathered: &mut Gathered,
+) -> Result<(), AllocError>
     ensures { OnOk result ((said : List says.Statement) → AreDefinitions said gathered.old → AreDefinitions (said ++ statement_of statement.entry ∷ []) gathered.new) }
 {
     if is_definition(&statement.content) {
@@ -51,22 +54,37 @@ fn gather_definition(statement: Statement, gathered: &mut Gathered) -> Result<()
     Ok(())
 }
 
-/// The definitions of the statements that are left, with the places of signals; or `None` if one of the statements has
-/// too many texts for values.
+/// What is gathered, and what the statements that are left define, with the places of signals; or `None` if one of the
+/// statements has too many texts for values.
+pub(crate) fn further_definitions(
+    alloc: Global,
+    gathered: Gathered,
+    statements: &mut Statements,
+) -> Result<Option<Gathered>, ReadFault>
+    ensures source { statements.new.source ≡ statements.old.source }
+    ensures ok { IfOk result (λ found. IfSome found (DefineFurther statements.old.tokens gathered)) }
+    ensures many { IfOk result (λ found. IfNone found (TokensHaveManyTexts statements.old.tokens)) }
+    ensures err { IfErr result (λ fault. UnlessMemory fault.code (statements_at statements.old.tokens ≡ None)) }
+{
+    let mut definitions = gathered;
+    'statements: while let Some(next) = statements.read_next(alloc)? {
+        if has_many_texts(&next.content) {
+            return Ok(None);
+        }
+        gather_definition(next, &mut definitions)?;
+    }
+    Ok(Some(definitions))
+}
+
+/// The definitions of the statements that are left, as [`further_definitions`].
 fn definitions_of(alloc: Global, statements: &mut Statements) -> Result<Option<Gathered>, ReadFault>
     ensures source { statements.new.source ≡ statements.old.source }
     ensures ok { IfOk result (λ found. IfSome found (AreDefinitionsOfTokens statements.old.tokens)) }
     ensures many { IfOk result (λ found. IfNone found (TokensHaveManyTexts statements.old.tokens)) }
     ensures err { IfErr result (λ fault. UnlessMemory fault.code (statements_at statements.old.tokens ≡ None)) }
 {
-    let mut gathered = Gathered::empty(alloc);
-    'statements: while let Some(next) = statements.read_next(alloc)? {
-        if has_many_texts(&next.content) {
-            return Ok(None);
-        }
-        gather_definition(next, &mut gathered)?;
-    }
-    Ok(Some(gathered))
+    let nothing = Gathered::empty(alloc);
+    further_definitions(alloc, nothing, statements)
 }
 
 /// The first fault of the definitions of a text that can't be one sheet; or `None` if one of its statements has too many

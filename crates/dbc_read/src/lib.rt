@@ -7,13 +7,15 @@
 //! cites a node, a message or a signal: their contents are gathered by kind (`gathered`). Then messages are found by
 //! number, in a set of the kit's `indexmap` (`numbers`), and signals by name among those of their message (`finding`):
 //! few names are compared one by one, and many are in ascending order (`orders`).
-//! What a statement attaches to a signal is set there at once (`attaching`), so that the last one counts; if there is no
-//! such signal, the statement is skipped.
+//! What a statement attaches to a signal is set there at once (`attaching`, `settling`), so that the last one counts; if
+//! there is no such signal, the statement is skipped.
 //!
-//! Some files can't be gathered so. One may define a node or a message after something was cited, and then what is cited
-//! is known only at the end. One may use a number twice, list too many texts for values, or have 65,536 signals or more in
-//! a message. Such a file is read once more, into a list of all statements. The indices of what they cite are found by
-//! binary search (`keys`, `lookup`, `lookups`) before any of them is gathered; what is attached to signals is listed at
+//! If a node or a message is defined after something was cited, what is cited is known only at the end. Then nothing but
+//! definitions is gathered up to there, and a second reading gathers all else (`late`).
+//!
+//! Some files can't be gathered so. One may use a number twice, list too many texts for values, or have 65,536 signals or
+//! more in a message. Such a file is read once more, into a list of all statements. The indices of what they cite are found
+//! by binary search (`keys`, `lookup`, `lookups`) before any of them is gathered; what is attached to signals is listed at
 //! these indices, and then moved into the signals (`feed`, `feeding`).
 //!
 //! Messages are built by moving their parts (`signals`, `messages`), and the sheet by its own calls (`sheets`), which
@@ -31,6 +33,7 @@ mod first_fault;
 mod gathered;
 mod items;
 mod keys;
+mod late;
 mod lookup;
 mod lookups;
 mod messages;
@@ -41,6 +44,7 @@ mod passed;
 mod placed;
 mod reading;
 mod refusal;
+mod settling;
 mod sheets;
 mod signals;
 

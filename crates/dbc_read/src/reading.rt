@@ -1,5 +1,5 @@
-//! Reading a DBC text: one statement after the other, or into lists if it can't be read so. A text that can't be one
-//! sheet has a fault, which its lists tell, or its definitions.
+//! Reading a DBC text: one statement after the other, a second time if something is defined late, or into lists if it
+//! can't be read so. A text that can't be one sheet has a fault, which its lists tell, or its definitions.
 ghost use Rattle.std.specs.Prelude.{◌≡◌, ◌≤◌, Err, IfErr, IfNone, IfOk, IfSome, Ok, length, map};
 ghost use Rattle.catalogue.specs.Reads.{ReadsAs, ReadsOnlyAs};
 ghost use Rattle.dbc_lex.specs.Fault.{UnlessMemory};
@@ -14,7 +14,8 @@ ghost use Rattle.dbc_statements.specs.Division.{HasNoDivision, TokensComeFirst};
 use crate::definitions::fault_of_definitions;
 use crate::first_fault::first_fault;
 use crate::gathered::{Gathered, gathered_of};
-use crate::one_by_one::gathered_one_by_one;
+use crate::late::gathered_again;
+use crate::one_by_one::{Found, gathered_one_by_one};
 use crate::passed::Passed;
 use crate::refusal::Refusal;
 use catalogue::{Items, Sheet, texts_read_as_one_sheet};
@@ -30,7 +31,8 @@ pub struct Reading {
     pub passed: Items<Passed>,
 }
 
-/// What the statements of the text say, gathered one by one, or `None` if they can't be gathered so.
+/// What the statements of the text say, gathered one by one, or `None` if they can't be gathered so. If something is
+/// defined late, the text is read a second time.
 fn gathered_at_once(alloc: Global, source: &[u8]) -> Result<Option<Gathered>, ReadFault>
     ensures ok { IfOk result (λ found. IfSome found (λ gathered. IsOfText source.now (in_signals gathered))) }
     ensures err { IfErr result (λ fault. UnlessMemory fault.code (HasNoDivision source.now)) }
@@ -40,7 +42,13 @@ fn gathered_at_once(alloc: Global, source: &[u8]) -> Result<Option<Gathered>, Re
     let read = gathered_one_by_one(alloc, &mut statements);
     statements.token_fault()?;
     let found = read?;
-    Ok(found)
+    match found {
+        Some(Found::All(gathered)) => Ok(Some(gathered)),
+        Some(Found::Definitions(definitions)) => {
+            gathered_again(alloc, definitions, &mut Statements::of(source))
+        }
+        None => Ok(None),
+    }
 }
 
 /// What the statements of the text say. All of them are read before any is gathered.

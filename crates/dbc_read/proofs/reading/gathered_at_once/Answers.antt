@@ -1,6 +1,6 @@
 use Rattle.std.proofs.Common.{◌≡◌, ◌∙◌}
 use Rattle.std.proofs.lemmas.Option.{IfSome_then}
-use Rattle.std.proofs.lemmas.Result.{err_from_is_err_and}
+use Rattle.std.proofs.lemmas.Result.{IfOk-weaker, err_from_is_err_and}
 use Rattle.dbc_statements.proofs.WholeText.{is_divided, no_division}
 use Rattle.dbc_read.proofs.Divided.{all_tokens, no_tokens_left}
 use Rattle.dbc_read.proofs.reading.gathered_at_once.Goals as goal
@@ -18,9 +18,16 @@ returns-in_err-found-clause-err c =
     let read = all_tokens c.args.source.now c.gathered_one_by_one-read.new.statements.source c.of-statements.result.tokens c.of-statements.ensures.tokens source c.in_ok-token_fault.ensures.ok in
     rw (p.1, p.2) (λ memory. no_division c.args.source.now c.of-statements.result.tokens read (c.in_err-found.ensures.err memory))
 
-pub returns-clause-ok : goal.returns-clause-ok
-returns-clause-ok c =
+pub returns-in-Some-All-clause-ok : goal.returns-in-Some-All-clause-ok
+returns-in-Some-All-clause-ok c =
     let source = c.gathered_one_by_one-read.ensures.source ∙ c.of-statements.ensures.source in
     let read = all_tokens c.args.source.now c.gathered_one_by_one-read.new.statements.source c.of-statements.result.tokens c.of-statements.ensures.tokens source c.in_ok-token_fault.ensures.ok in
-    IfSome_then c.in_ok-found.found c.in_ok-found.ensures.ok
-    (λ g of. record { said = of.said; divided = is_divided c.args.source.now c.of-statements.result.tokens read of.said of.read; gathered = of.gathered })
+    let of = rw c.in-Some-All.field-0-is at (rw c.in-Some-All.is at c.in_ok-found.ensures.ok) in
+    record { said = of.said; divided = is_divided c.args.source.now c.of-statements.result.tokens read of.said of.read; gathered = of.gathered }
+
+pub returns-in-Some-Definitions-clause-ok : goal.returns-in-Some-Definitions-clause-ok
+returns-in-Some-Definitions-clause-ok c =
+    let source = c.gathered_one_by_one-read.ensures.source ∙ c.of-statements.ensures.source in
+    let read = all_tokens c.args.source.now c.gathered_one_by_one-read.new.statements.source c.of.result.tokens c.of.ensures.tokens source c.in_ok-token_fault.ensures.ok in
+    IfOk-weaker c.gathered_again.result _ _ (λ found all.
+    IfSome_then found all (λ g of. record { said = of.said; divided = is_divided c.args.source.now c.of.result.tokens read of.said of.read; gathered = of.gathered })) c.gathered_again.ensures.ok

@@ -3,7 +3,7 @@ use Rattle.std.specs.Str.{bytes_eq}
 use Rattle.dbc_read.specs.Keys.{text_of}
 use Rattle.dbc_read.specs.Lookup.{IsIndexIn}
 use Rattle.dbc_read.proofs.LookingUp.{index_seen}
-use Rattle.dbc_read.proofs.Settling.{numbers_found}
+use Rattle.dbc_read.proofs.Settled.{numbers_found}
 use Rattle.dbc_read.proofs.finding.Track.index.Goals as goal
 
 pub returns-in-NodeComment : goal.returns-in-NodeComment

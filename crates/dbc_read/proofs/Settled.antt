@@ -1,5 +1,6 @@
 -- Statements that are gathered one by one after all definitions. What they attach to signals is in the messages' lines.
-use Rattle.std.proofs.Common.{◌≡◌, ◌∙◌, ◌++◌, ℕ, suc, false, List, [], ◌∷◌, length, map, replicate, Option, Some, None, refl, sym, ap, append_assoc, append-nil, subst, true≢false}
+use Rattle.std.proofs.Common.{◌≡◌, ◌∙◌, ◌++◌, ℕ, suc, false, true, List, [], ◌∷◌, length, map, replicate, Option, Some, None, refl, sym, ap, append_assoc, append-nil, subst, true≢false}
+use Rattle.std.specs.Prelude.{IfSome}
 use Rattle.std.specs.List.{flat_map}
 use Rattle.std.proofs.lemmas.List.{length-map}
 use Rattle.can_id.specs.Ident.{dbc_number}
@@ -13,20 +14,23 @@ use Rattle.catalogue.specs.declared.value_type.ValueType.TheVariants.{Integer}
 use Rattle.dbc_read.specs.Attaching.{IsAttached, IsPlaceCited, IsPlaceOf, all_signals, with_attachment, attaching, changed_at, cites_signal, in_signals, with_attached}
 use Rattle.dbc_read.specs.Finding.{Finds, FindsAll, FindsSignals}
 use Rattle.dbc_read.specs.Gathered.{AreGathered, gathered_after, passed_of, set_at}
-use Rattle.dbc_read.specs.Gathering.{DefineNothing, Defines, FollowAll, Gathers, HaveNothing, IsDefining, IsEmpty, IsOfTokens, IsSettling, Settles, SettlesAll, defines, one_or_none, with_definitions, with_nothing_attached}
+use Rattle.dbc_read.specs.Gathering.{BeginWith, DefineNothing, Defines, Gathers, HaveNothing, IsDefining, IsEmpty, Settles, cites, defines, one_or_none, with_definitions, with_nothing_attached}
 use Rattle.dbc_read.specs.Lookups.{IsCitedIndex, IsSignalIn}
 use Rattle.dbc_read.specs.Numbers.{line_numbers}
 use Rattle.dbc_read.specs.Orders.{AreOrdersOf}
+use Rattle.dbc_read.specs.Settling.{AreSettled, Follow, ReadUpTo, SettlesTo}
 use Rattle.dbc_read.specs.declared.attaching.Attachment.{Attachment}
 use Rattle.dbc_read.specs.declared.attaching.Attachment.TheVariants as what
 use Rattle.dbc_read.specs.declared.attaching.Place.{Place}
 use Rattle.dbc_read.specs.declared.finding.Finders.{Finders}
 use Rattle.dbc_read.specs.declared.gathered.Gathered.{Gathered}
 use Rattle.dbc_read.specs.declared.passed.Passed.{Passed}
-use Rattle.dbc_read.proofs.Gathering.{one_gathered}
-use Rattle.dbc_read.proofs.OneByOne.{all_settled, begin_with_rest, defined_either_way, defined_messages, defined_names, definitions_over, nothing_defined, same_messages, same_names}
+use Rattle.dbc_read.specs.declared.settling.Settled.{Settled}
+use Rattle.dbc_read.specs.declared.settling.Settled.TheVariants as settled
+use Rattle.dbc_read.proofs.Gathering.{all_gathered, one_gathered}
+use Rattle.dbc_read.proofs.OneByOne.{begin_with_both, begin_with_rest, cited_defines_nothing, defined_either_way, defined_messages, defined_names, nothing_defined, same_messages, same_names}
 use Rattle.dbc_read.proofs.Places.{change_leaves, change_sets, numbers_of_lines}
-use Rattle.dbc_statements.specs.Statement.{content_of, message_of, signal_of, statement_of}
+use Rattle.dbc_statements.specs.Statement.{content_of, message_of, names_of, signal_of, statement_of}
 use Rattle.dbc_statements.specs.declared.statement.CitedSignal.{CitedSignal}
 use Rattle.dbc_statements.specs.declared.statement.Content.{Content}
 use Rattle.dbc_statements.specs.declared.statement.Content.TheVariants as content
@@ -34,21 +38,12 @@ use Rattle.dbc_statements.specs.declared.statement.MessageLine.{MessageLine}
 use Rattle.dbc_statements.specs.declared.statement.NodeName.{NodeName}
 use Rattle.dbc_statements.specs.declared.statement.Statement.{Statement}
 
--- What finds definitions finds them after statements that define nothing, and in lines of the same messages.
-
-finds_more : (f : Finders) (lines : List MessageLine) (said rest : List says.Statement) → DefineNothing rest → Finds f lines said → Finds f lines (said ++ rest)
-finds_more f lines said rest none are = record {
-  node_names = are.node_names;
-  nodes = are.nodes;
-  names = are.names ∙ sym (same_names said rest none);
-  messages = are.messages ∙ sym (same_messages said rest none);
-  numbers = are.numbers;
-}
+-- What finds definitions finds them in lines of the same messages.
 
 same_line_numbers : (old new : List MessageLine) → map message_of new ≡ map message_of old → line_numbers new ≡ line_numbers old
 same_line_numbers old new same = sym (numbers_of_lines new) ∙ ap (map (λ (m : says.MessageLine). dbc_number m.ident)) same ∙ numbers_of_lines old
 
-finds_same : (f : Finders) (old new : List MessageLine) (said : List says.Statement) → map message_of new ≡ map message_of old → Finds f old said → Finds f new said
+pub finds_same : (f : Finders) (old new : List MessageLine) (said : List says.Statement) → map message_of new ≡ map message_of old → Finds f old said → Finds f new said
 finds_same f old new said same are = record {
   node_names = are.node_names;
   nodes = are.nodes;
@@ -66,38 +61,12 @@ finds_signals_same f old new same are = record {
 pub numbers_found : (f : Finders) (lines : List MessageLine) (said : List says.Statement) → Finds f lines said → f.numbers ≡ numbers_of said
 numbers_found f lines said are = are.numbers ∙ sym (numbers_of_lines lines) ∙ ap (map (λ (m : says.MessageLine). dbc_number m.ident)) are.messages
 
-gathers_same : (all : List says.Statement) (nodes : List NodeName) (old new : List MessageLine) (g : Gathered) (rest : List says.Statement) → map message_of new ≡ map message_of old
-    → Gathers all (with_definitions nodes old g) rest → Gathers all (with_definitions nodes new g) rest
-gathers_same all nodes old new g rest same h = record {
-  version = h.version;
-  comment = h.comment;
-  nodes = h.nodes;
-  tables = h.tables;
-  messages = ap (λ l. l ++ messages_of rest) same ∙ h.messages;
-  node_comments = h.node_comments;
-  message_comments = h.message_comments;
-  signal_comments = h.signal_comments;
-  signal_values = h.signal_values;
-  signal_types = h.signal_types;
-  signal_spns = h.signal_spns;
-  passed = h.passed;
-}
-
 one_settled : (f : Finders) (s : Statement) (index : Option ℕ) (lines new_lines : List MessageLine) (old now : Gathered) → defines (content_of s.content) ≡ false
-    → map message_of new_lines ≡ map message_of lines → ((all : List says.Statement) → Finds f lines all → IsCitedIndex all (content_of s.content) index)
+    → ((all : List says.Statement) → Finds f lines all → IsCitedIndex all (content_of s.content) index)
     → with_attached new_lines now ≡ gathered_after index (passed_of s) s.content (with_attached lines old) → Settles f (statement_of s ∷ []) lines old new_lines now
-one_settled f s index lines new_lines old now defines_none same found is = λ said nodes are h. (
-  finds_same f lines new_lines (said ++ statement_of s ∷ []) same (finds_more f lines said (statement_of s ∷ []) (defines_none, tt) are),
-  λ rest none.
-      let all : List says.Statement = said ++ statement_of s ∷ rest in
-      let more : DefineNothing (statement_of s ∷ rest) = (defines_none, none) in
-      let before = with_definitions nodes lines (with_attached lines old) in
-      let after = with_definitions nodes lines (with_attached new_lines now) in
-      let either : after ≡ gathered_after index (passed_of s) s.content before = ap (with_definitions nodes lines) is ∙ defined_either_way nodes lines index (passed_of s) s.content (with_attached lines old) defines_none in
-      let here : Gathers all after rest = one_gathered all s rest index before after (found all (finds_more f lines said (statement_of s ∷ rest) more are)) either (h (statement_of s ∷ rest) more) in
-      subst (λ (x : List says.Statement). Gathers x (with_definitions nodes new_lines (with_attached new_lines now)) rest) (sym (append_assoc said (statement_of s ∷ []) rest))
-      (gathers_same all nodes lines new_lines (with_attached new_lines now) rest same here),
-)
+one_settled f s index lines new_lines old now defines_none found is = λ all rest nodes messages are h.
+    one_gathered all s rest index (with_definitions nodes messages (with_attached lines old)) (with_definitions nodes messages (with_attached new_lines now)) (found all are)
+    (ap (with_definitions nodes messages) is ∙ defined_either_way nodes messages index (passed_of s) s.content (with_attached lines old) defines_none) h
 
 -- A statement that attaches nothing to a signal.
 
@@ -113,7 +82,7 @@ pub other_settled : (f : Finders) (s : Statement) (index : Option ℕ) (lines : 
     → ((all : List says.Statement) → Finds f lines all → IsCitedIndex all (content_of s.content) index) → now ≡ gathered_after index (passed_of s) s.content old
     → Settles f (statement_of s ∷ []) lines old lines now
 other_settled f s index lines old now defines_none cites_none found is =
-    one_settled f s index lines lines old now defines_none refl found (ap (with_attached lines) is ∙ attached_either_way lines index (passed_of s) s.content old cites_none)
+    one_settled f s index lines lines old now defines_none found (ap (with_attached lines) is ∙ attached_either_way lines index (passed_of s) s.content old cites_none)
 
 -- A statement that attaches something to a signal.
 
@@ -173,10 +142,10 @@ attached_index all cited (what.Type value_type) index h = h
 attached_index all cited (what.Spn spn) index h = h
 
 pub attached_settled : (f : Finders) (s : Statement) (cited : CitedSignal) (a : Attachment) (lines new_lines : List MessageLine) (old now : Gathered) (passed : List Passed) → defines (content_of s.content) ≡ false
-    → s.content ≡ attaching cited a → map message_of new_lines ≡ map message_of lines → IsAttached cited.number cited.name.now a (passed_of s) lines new_lines old.passed passed
+    → s.content ≡ attaching cited a → IsAttached cited.number cited.name.now a (passed_of s) lines new_lines old.passed passed
     → now ≡ record old { passed = passed } → Settles f (statement_of s ∷ []) lines old new_lines now
-attached_settled f s cited a lines new_lines old now passed defines_none says_what same at is =
-    one_settled f s at.index lines new_lines old now defines_none same
+attached_settled f s cited a lines new_lines old now passed defines_none says_what at is =
+    one_settled f s at.index lines new_lines old now defines_none
     (λ all are. subst (λ c. IsCitedIndex all (content_of c) at.index) (sym says_what)
     (attached_index all cited a at.index (subst (λ (ms : List says.MessageLine). IsSignalIn ms cited.number cited.name.now at.index) are.messages at.is)))
     (ap (with_attached new_lines) is ∙ attached_view cited a (passed_of s) lines new_lines old passed at
@@ -194,12 +163,12 @@ cited_place lines c cited a place h is = by a (subst (λ (k : Content). IsPlaceC
 
 -- the same of a statement in parts, where the place of what it cites is known
 pub attached_parts : (f : Finders) (s : Statement) (parts : ℕ × Keyword × Content) (cited : CitedSignal) (a : Attachment) (place : Option Place) (lines new_lines : List MessageLine) (old : Gathered) (passed : List Passed)
-    → defines (content_of s.content) ≡ false → parts ≡ (s.start, s.keyword, s.content) → parts.2 ≡ attaching cited a → IsPlaceCited lines s.content place → map message_of new_lines ≡ map message_of lines
+    → defines (content_of s.content) ≡ false → parts ≡ (s.start, s.keyword, s.content) → parts.2 ≡ attaching cited a → IsPlaceCited lines s.content place
     → ((number : Cited) (name : List ℕ) → IsPlaceOf lines number name place → IsAttached number name a (record { at = parts.0; keyword = parts.1 }) lines new_lines old.passed passed)
     → Settles f (statement_of s ∷ []) lines old new_lines (record old { passed = passed })
-attached_parts f s parts cited a place lines new_lines old passed defines_none are says_what found same at =
+attached_parts f s parts cited a place lines new_lines old passed defines_none are says_what found at =
     let what_is : s.content ≡ attaching cited a = sym (ap (λ (t : ℕ × Keyword × Content). t.2) are) ∙ says_what in
-    attached_settled f s cited a lines new_lines old (record old { passed = passed }) passed defines_none what_is same
+    attached_settled f s cited a lines new_lines old (record old { passed = passed }) passed defines_none what_is
     (subst (λ (t : ℕ × Keyword × Content). IsAttached cited.number cited.name.now a (record { at = t.0; keyword = t.1 }) lines new_lines old.passed passed) are
     (at cited.number cited.name.now (cited_place lines s.content cited a place found what_is))) refl
 
@@ -214,38 +183,13 @@ other_parts f s parts index lines old now defines_none are cites_none found is =
 -- Several statements.
 
 pub none_settled : (f : Finders) (lines : List MessageLine) (g : Gathered) → Settles f [] lines g lines g
-none_settled f lines g = λ said nodes are h. (
-  subst (Finds f lines) (sym (append-nil said)) are,
-  subst (λ (x : List says.Statement). IsSettling x nodes lines (with_attached lines g)) (sym (append-nil said)) h,
-)
+none_settled f lines g = λ all rest nodes messages are h. h
 
-pub settled_both : (f : Finders) (first second : List says.Statement) (a_lines b_lines c_lines : List MessageLine) (a b c : Gathered)
+pub settled_both : (f : Finders) (first second : List says.Statement) (a_lines b_lines c_lines : List MessageLine) (a b c : Gathered) → map message_of b_lines ≡ map message_of a_lines
     → Settles f first a_lines a b_lines b → Settles f second b_lines b c_lines c → Settles f (first ++ second) a_lines a c_lines c
-settled_both f first second a_lines b_lines c_lines a b c h k = λ said nodes are is.
-    let (are_first, is_first) = h said nodes are is in
-    let (are_both, is_both) = k (said ++ first) nodes are_first is_first in (
-      subst (Finds f c_lines) (append_assoc said first second) are_both,
-      subst (λ (x : List says.Statement). IsSettling x nodes c_lines (with_attached c_lines c)) (append_assoc said first second) is_both,
-    )
-
--- All statements are gathered: those up to the first that cites something, that one, and those after it.
-pub of_tokens : (tokens rest : List Token) (empty g old now : Gathered) (first : Option Statement) (nodes seen_nodes : List NodeName) (lines new_lines : List MessageLine)
-    → nodes ≡ g.nodes → seen_nodes ≡ g.nodes → lines ≡ g.messages → old ≡ with_definitions [] [] g
-    → IsEmpty empty → Defines tokens rest empty g first → FollowAll seen_nodes lines first rest old new_lines now → IsOfTokens tokens (in_signals (with_definitions nodes new_lines now))
-of_tokens tokens rest empty g old now first nodes seen_nodes lines new_lines nodes_are seen_nodes_are lines_are old_is is begun others =
-    let said = begun.said in
-    let defining : IsDefining said g = begun.gathered (nothing_defined empty is) in
-    let over : IsSettling said g.nodes g.messages (with_nothing_attached said (with_definitions [] [] g)) = definitions_over said g [] [] defining in
-    let after : FollowAll g.nodes g.messages first rest (with_definitions [] [] g) new_lines now = subst (λ (x : Gathered). FollowAll g.nodes g.messages first rest x new_lines now) old_is
-    (subst (λ (x : List MessageLine). FollowAll g.nodes x first rest old new_lines now) lines_are (subst (λ (x : List NodeName). FollowAll x lines first rest old new_lines now) seen_nodes_are others)) in
-    let settled = after.gathered said (defined_names said g defining) (defined_messages said g defining) over in
-    let whole : AreGathered ((said ++ one_or_none first) ++ after.said) (with_definitions g.nodes new_lines (with_attached new_lines now))
-    = all_settled ((said ++ one_or_none first) ++ after.said) g.nodes new_lines (with_attached new_lines now) settled in
-    record {
-      said = (said ++ one_or_none first) ++ after.said;
-      read = begin_with_rest (said ++ one_or_none first) after.said tokens rest begun.read after.read;
-      gathered = subst (λ (x : List NodeName). AreGathered ((said ++ one_or_none first) ++ after.said) (in_signals (with_definitions x new_lines now))) (sym nodes_are) whole;
-    }
+settled_both f first second a_lines b_lines c_lines a b c same h k = λ all rest nodes messages are g.
+    k all rest nodes messages (finds_same f a_lines b_lines all same are)
+    (h all (second ++ rest) nodes messages are (subst (Gathers all (with_definitions nodes messages (with_attached a_lines a))) (append_assoc first second rest) g))
 
 count_keys : (lines : List MessageLine) → length (flat_map keys_of (map message_of lines)) ≡ length (all_signals lines)
 count_keys [] = refl
@@ -256,28 +200,91 @@ count_keys (line ∷ lines) = by line.signals.items (count_keys lines)
     by [] e = e
     by (s ∷ items) e = ap suc (by items e)
 
--- Those after the definitions: nothing is attached at first; then the first statement is gathered, and then the others.
-pub all_follow : (f : Finders) (nodes : List NodeName) (lines settled_lines new_lines : List MessageLine) (first : Option Statement) (tokens : List Token) (old attached settled now : Gathered)
-    → FindsAll f nodes lines → HaveNothing lines → attached ≡ record old { node_comments = replicate (length nodes) []; message_comments = replicate (length lines) [] }
-    → Settles f (one_or_none first) lines attached settled_lines settled → SettlesAll f tokens settled_lines settled new_lines now → FollowAll nodes lines first tokens old new_lines now
-all_follow f nodes lines settled_lines new_lines first tokens old attached settled now found nothing begins one others = record {
+-- Nothing is attached at first.
+pub begun_with : (said : List says.Statement) (nodes : List NodeName) (lines : List MessageLine) (old attached : Gathered) → names_of nodes ≡ node_names_of said → map message_of lines ≡ messages_of said → HaveNothing lines
+    → attached ≡ record old { node_comments = replicate (length nodes) []; message_comments = replicate (length lines) [] } → with_attached lines attached ≡ with_nothing_attached said old
+begun_with said nodes lines old attached names messages nothing begins =
+    let node_count : length nodes ≡ length (node_names_of said) = sym (length-map nodes (λ (n : NodeName). n.name)) ∙ ap length names in
+    let message_count : length lines ≡ length (numbers_of said)
+    = sym (length-map lines message_of) ∙ ap length messages ∙ sym (length-map (messages_of said) (λ (m : says.MessageLine). dbc_number m.ident)) in
+    let signal_count : length (all_signals lines) ≡ length (signal_keys_of said) = sym (count_keys lines) ∙ ap (λ ms. length (flat_map keys_of ms)) messages in
+    ap (with_attached lines) begins ∙ nothing (record old { node_comments = replicate (length nodes) []; message_comments = replicate (length lines) [] })
+    ∙ (λ i. record old {
+      node_comments = replicate (node_count i) [];
+      message_comments = replicate (message_count i) [];
+      signal_comments = replicate (signal_count i) [];
+      signal_values = replicate (signal_count i) [];
+      signal_types = replicate (signal_count i) Integer;
+      signal_spns = replicate (signal_count i) 0;
+    })
+
+-- all are gathered, where nothing is left
+pub gathered_with : (all : List says.Statement) (nodes other_nodes : List NodeName) (lines other_lines : List MessageLine) (g : Gathered) → Gathers all (with_definitions nodes lines g) []
+    → names_of other_nodes ≡ node_names_of all → map message_of other_lines ≡ messages_of all → AreGathered all (with_definitions other_nodes other_lines g)
+gathered_with all nodes other_nodes lines other_lines g h names messages =
+    let are = all_gathered all (with_definitions nodes lines g) h in
+    record {
+      version = are.version;
+      comment = are.comment;
+      nodes = names;
+      tables = are.tables;
+      messages = messages;
+      node_comments = are.node_comments;
+      message_comments = are.message_comments;
+      signal_comments = are.signal_comments;
+      signal_values = are.signal_values;
+      signal_types = are.signal_types;
+      signal_spns = are.signal_spns;
+      passed = are.passed;
+    }
+
+pub defining_nothing : (xs ys : List says.Statement) → DefineNothing xs → DefineNothing ys → DefineNothing (xs ++ ys)
+defining_nothing [] ys h k = k
+defining_nothing (x ∷ xs) ys h k = (h.0, defining_nothing xs ys h.1 k)
+
+first_defines_nothing : (first : Option Statement) → IfSome first (λ s. cites (content_of s.content) ≡ true) → DefineNothing (one_or_none first)
+first_defines_nothing None h = tt
+first_defines_nothing (Some s) h = (cited_defines_nothing (content_of s.content) h, tt)
+
+-- Those after the definitions: first one statement is gathered, and then the others.
+pub all_follow : (f : Finders) (nodes : List NodeName) (lines settled_lines new_lines : List MessageLine) (first : Option Statement) (end : Settled) (tokens rest : List Token) (old attached settled now : Gathered)
+    → IfSome first (λ s. cites (content_of s.content) ≡ true) → FindsAll f nodes lines → HaveNothing lines
+    → attached ≡ record old { node_comments = replicate (length nodes) []; message_comments = replicate (length lines) [] }
+    → map message_of settled_lines ≡ map message_of lines → map message_of new_lines ≡ map message_of settled_lines
+    → Settles f (one_or_none first) lines attached settled_lines settled → SettlesTo f end tokens rest settled_lines settled new_lines now → Follow nodes lines first end tokens rest old new_lines now
+all_follow f nodes lines settled_lines new_lines first end tokens rest old attached settled now citing found nothing begins same_first same_others one others = record {
   said = others.said;
   read = others.read;
-  gathered = λ before names messages h.
-      let node_count : length nodes ≡ length (node_names_of before) = sym (length-map nodes (λ (n : NodeName). n.name)) ∙ ap length names in
-      let message_count : length lines ≡ length (numbers_of before)
-      = sym (length-map lines message_of) ∙ ap length messages ∙ sym (length-map (messages_of before) (λ (m : says.MessageLine). dbc_number m.ident)) in
-      let signal_count : length (all_signals lines) ≡ length (signal_keys_of before) = sym (count_keys lines) ∙ ap (λ ms. length (flat_map keys_of ms)) messages in
-      let begun : with_attached lines attached ≡ with_nothing_attached before old = ap (with_attached lines) begins ∙ nothing (record old { node_comments = replicate (length nodes) []; message_comments = replicate (length lines) [] })
-      ∙ (λ i. record old {
-        node_comments = replicate (node_count i) [];
-        message_comments = replicate (message_count i) [];
-        signal_comments = replicate (signal_count i) [];
-        signal_values = replicate (signal_count i) [];
-        signal_types = replicate (signal_count i) Integer;
-        signal_spns = replicate (signal_count i) 0;
-      }) in
-      let start : IsSettling before nodes lines (with_attached lines attached) = λ rest none. subst (λ (x : Gathered). Gathers (before ++ rest) (with_definitions nodes lines x) rest) (sym begun) (h rest none) in
-      let after = one before nodes (found before names messages) start in
-      (others.gathered (before ++ one_or_none first) nodes after.0 after.1).1;
+  gathered = λ before h.
+      let more : List says.Statement = one_or_none first ++ others.said in
+      let all : List says.Statement = before ++ more in
+      let none : DefineNothing more = defining_nothing (one_or_none first) others.said (first_defines_nothing first citing) others.none in
+      let g : Gathered = with_definitions nodes lines old in
+      let names : names_of nodes ≡ node_names_of all = defined_names before g h ∙ sym (same_names before more none) in
+      let messages : map message_of lines ≡ messages_of all = defined_messages before g h ∙ sym (same_messages before more none) in
+      let begun : with_attached lines attached ≡ with_nothing_attached all old = begun_with all nodes lines old attached names messages nothing begins in
+      let start : Gathers all (with_definitions nodes lines (with_attached lines attached)) more = subst (λ (x : Gathered). Gathers all (with_definitions nodes lines x) more) (sym begun) (h more) in
+      let both : Settles f more lines attached new_lines now = settled_both f (one_or_none first) others.said lines settled_lines new_lines attached settled now same_first one others.gathered in
+      let end : Gathers all (with_definitions nodes lines (with_attached new_lines now)) []
+      = both all [] nodes lines (found all names messages) (subst (Gathers all (with_definitions nodes lines (with_attached lines attached))) (sym (append-nil more)) start) in
+      subst (λ (x : List says.Statement). AreGathered x (with_definitions nodes new_lines (with_attached new_lines now))) (sym (append_assoc before (one_or_none first) others.said))
+      (gathered_with all nodes nodes lines new_lines (with_attached new_lines now) end names (same_others ∙ same_first ∙ messages));
 }
+
+-- All statements up to the late one: those up to the first that cites something, that one, and those after it.
+
+read_before : (end : Settled) (before said : List says.Statement) (tokens middle rest : List Token) → BeginWith before tokens middle → ReadUpTo end said middle rest → ReadUpTo end (before ++ said) tokens rest
+read_before settled.All before said tokens middle rest h k = begin_with_rest before said tokens middle h k
+read_before (settled.UpTo late) before said tokens middle rest h k = begin_with_both before said (statement_of late) tokens middle rest h k
+
+pub all_settled : (end : Settled) (tokens middle rest : List Token) (empty g old now : Gathered) (first : Option Statement) (nodes seen_nodes : List NodeName) (lines new_lines : List MessageLine)
+    → nodes ≡ g.nodes → seen_nodes ≡ g.nodes → lines ≡ g.messages → old ≡ with_definitions [] [] g
+    → IsEmpty empty → Defines tokens middle empty g first → Follow seen_nodes lines first end middle rest old new_lines now → AreSettled end tokens rest (in_signals (with_definitions nodes new_lines now))
+all_settled end tokens middle rest empty g old now first nodes seen_nodes lines new_lines nodes_are seen_nodes_are lines_are old_is is begun others =
+    let said = begun.said in
+    let defining : IsDefining said (with_definitions seen_nodes lines old) = subst (IsDefining said) (λ i. with_definitions (sym seen_nodes_are i) (sym lines_are i) (sym old_is i)) (begun.gathered (nothing_defined empty is)) in
+    record {
+      said = (said ++ one_or_none first) ++ others.said;
+      read = read_before end (said ++ one_or_none first) others.said tokens middle rest begun.read others.read;
+      gathered = subst (λ (x : List NodeName). AreGathered ((said ++ one_or_none first) ++ others.said) (in_signals (with_definitions x new_lines now))) (seen_nodes_are ∙ sym nodes_are) (others.gathered said defining);
+    }

@@ -1,14 +1,14 @@
 use Rattle.std.proofs.Common.{◌≡◌, length, map}
-use Rattle.dbc_read.specs.Gathering.{Settles}
+use Rattle.dbc_read.specs.Gathering.{DefineNothing, Settles}
 use Rattle.dbc_read.proofs.OneByOne.{ReadSoFar}
 use Rattle.dbc_statements.specs.Statement.{message_of}
-use Rattle.dbc_read.proofs.one_by_one.settle_all.Given as goal
+use Rattle.dbc_read.proofs.settling.settle_all.Given as goal
 
 abbrev pub invariant-statements : goal.invariant-statements
 invariant-statements l = record {
   source : l.statements.source ≡ l.initial.statements.source;
   messages : map message_of l.lines ≡ map message_of l.initial.lines;
-  read : ReadSoFar (λ said. Settles l.finders said l.initial.lines l.initial.gathered l.lines l.gathered) l.initial.statements.tokens l.statements.tokens;
+  read : ReadSoFar (λ said. DefineNothing said × Settles l.finders said l.initial.lines l.initial.gathered l.lines l.gathered) l.initial.statements.tokens l.statements.tokens;
 }
 
 abbrev pub decreases-statements : goal.decreases-statements

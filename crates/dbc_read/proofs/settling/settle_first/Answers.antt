@@ -1,4 +1,4 @@
-use Rattle.dbc_read.proofs.one_by_one.settle_first.Goals as goal
+use Rattle.dbc_read.proofs.settling.settle_first.Goals as goal
 
 pub returns-in-Some-clause-settles : goal.returns-in-Some-clause-settles
 returns-in-Some-clause-settles c = rw c.in-Some.is c.settle.ensures.settles

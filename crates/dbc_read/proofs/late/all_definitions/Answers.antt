@@ -1,0 +1,14 @@
+use Rattle.std.proofs.Common.{◌++◌, [], ◌∷◌}
+use Rattle.std.proofs.lemmas.Option.{IfSome_then}
+use Rattle.std.proofs.lemmas.Result.{IfOk-weaker}
+use Rattle.dbc_statements.specs.Statement.{statement_of}
+use Rattle.dbc_read.proofs.late.all_definitions.Goals as goal
+
+pub returns-clause-ok : goal.returns-clause-ok
+returns-clause-ok c =
+    IfOk-weaker c.further_definitions.result _ _ (λ found all.
+    IfSome_then found all (λ g more. record {
+      said = more.said;
+      read = more.read;
+      are = λ before h. more.are (before ++ statement_of c.args.late ∷ []) (c.in_ok-gather_definition.ensures before h);
+    })) c.further_definitions.ensures.ok

@@ -179,7 +179,7 @@ module _ (all : List says.Statement) (start : ℕ) (keyword : Keyword) (index : 
       → finished bytes_eq [] (each_in node_comment_in (these c)) (node_names_of all) g.node_comments ≡ whole
       → finished bytes_eq [] (each_in node_comment_in rest) (node_names_of all) (new c).node_comments ≡ whole
   node_comments_step (content.NodeComment name text) whole is distinct h =
-      sym (settled bytes_eq [] bytes_equiv name.items text (each_in node_comment_in rest) (node_names_of all) g.node_comments index distinct is) ∙ h
+      sym (settled bytes_eq [] bytes_equiv name.now text (each_in node_comment_in rest) (node_names_of all) g.node_comments index distinct is) ∙ h
   node_comments_step c whole is distinct h = h
 
   message_comments_step : (c : Content) (whole : List (List ℕ)) → IsCitedIndex all (content_of c) index → IsDistinct nat_eq (numbers_of all)
@@ -192,28 +192,28 @@ module _ (all : List says.Statement) (start : ℕ) (keyword : Keyword) (index : 
       → finished same_signal [] (each_in signal_comment_in (these c)) (signal_keys_of all) g.signal_comments ≡ whole
       → finished same_signal [] (each_in signal_comment_in rest) (signal_keys_of all) (new c).signal_comments ≡ whole
   signal_comments_step (content.SignalComment cited text) whole is distinct h =
-      sym (signal_settled [] all cited.number cited.name.items text (each_in signal_comment_in rest) g.signal_comments index is distinct) ∙ h
+      sym (signal_settled [] all cited.number cited.name.now text (each_in signal_comment_in rest) g.signal_comments index is distinct) ∙ h
   signal_comments_step c whole is distinct h = h
 
   signal_values_step : (c : Content) (whole : List (List ValueText)) → IsCitedIndex all (content_of c) index → IsDistinct same_signal (signal_keys_of all)
       → finished same_signal [] (each_in value_texts_in (these c)) (signal_keys_of all) g.signal_values ≡ whole
       → finished same_signal [] (each_in value_texts_in rest) (signal_keys_of all) (new c).signal_values ≡ whole
   signal_values_step (content.ValueTexts cited entries) whole is distinct h =
-      sym (signal_settled [] all cited.number cited.name.items entries (each_in value_texts_in rest) g.signal_values index is distinct) ∙ h
+      sym (signal_settled [] all cited.number cited.name.now entries (each_in value_texts_in rest) g.signal_values index is distinct) ∙ h
   signal_values_step c whole is distinct h = h
 
   signal_types_step : (c : Content) (whole : List ValueType) → IsCitedIndex all (content_of c) index → IsDistinct same_signal (signal_keys_of all)
       → finished same_signal Integer (each_in value_type_in (these c)) (signal_keys_of all) g.signal_types ≡ whole
       → finished same_signal Integer (each_in value_type_in rest) (signal_keys_of all) (new c).signal_types ≡ whole
   signal_types_step (content.ValueType cited value_type) whole is distinct h =
-      sym (signal_settled Integer all cited.number cited.name.items value_type (each_in value_type_in rest) g.signal_types index is distinct) ∙ h
+      sym (signal_settled Integer all cited.number cited.name.now value_type (each_in value_type_in rest) g.signal_types index is distinct) ∙ h
   signal_types_step c whole is distinct h = h
 
   signal_spns_step : (c : Content) (whole : List ℕ) → IsCitedIndex all (content_of c) index → IsDistinct same_signal (signal_keys_of all)
       → finished same_signal 0 (each_in spn_in (these c)) (signal_keys_of all) g.signal_spns ≡ whole
       → finished same_signal 0 (each_in spn_in rest) (signal_keys_of all) (new c).signal_spns ≡ whole
   signal_spns_step (content.Spn cited spn) whole is distinct h =
-      sym (signal_settled 0 all cited.number cited.name.items spn (each_in spn_in rest) g.signal_spns index is distinct) ∙ h
+      sym (signal_settled 0 all cited.number cited.name.now spn (each_in spn_in rest) g.signal_spns index is distinct) ∙ h
   signal_spns_step c whole is distinct h = h
 
   one_more : (kept : List says.Statement) (all_passed : List (ℕ × Keyword)) → map start_and_keyword g.passed ++ (start, keyword) ∷ map passed_pair kept ≡ all_passed
@@ -233,12 +233,12 @@ module _ (all : List says.Statement) (start : ℕ) (keyword : Keyword) (index : 
 
   passed_step : (c : Content) (all_passed : List (ℕ × Keyword)) → IsCitedIndex all (content_of c) index
       → map start_and_keyword g.passed ++ passed_in all (these c) ≡ all_passed → map start_and_keyword (new c).passed ++ passed_in all rest ≡ all_passed
-  passed_step (content.NodeComment name text) all_passed is h = skipped_step _ kept all_passed _ index refl (has_index (λ n. bytes_eq n name.items) (node_names_of all) index is) h
+  passed_step (content.NodeComment name text) all_passed is h = skipped_step _ kept all_passed _ index refl (has_index (λ n. bytes_eq n name.now) (node_names_of all) index is) h
   passed_step (content.MessageComment cited text) all_passed is h = skipped_step _ kept all_passed _ index refl (has_message_index all cited index is) h
-  passed_step (content.SignalComment cited text) all_passed is h = skipped_step _ kept all_passed _ index refl (has_signal_index all cited.number cited.name.items index is) h
-  passed_step (content.ValueTexts cited entries) all_passed is h = skipped_step _ kept all_passed _ index refl (has_signal_index all cited.number cited.name.items index is) h
-  passed_step (content.ValueType cited value_type) all_passed is h = skipped_step _ kept all_passed _ index refl (has_signal_index all cited.number cited.name.items index is) h
-  passed_step (content.Spn cited spn) all_passed is h = skipped_step _ kept all_passed _ index refl (has_signal_index all cited.number cited.name.items index is) h
+  passed_step (content.SignalComment cited text) all_passed is h = skipped_step _ kept all_passed _ index refl (has_signal_index all cited.number cited.name.now index is) h
+  passed_step (content.ValueTexts cited entries) all_passed is h = skipped_step _ kept all_passed _ index refl (has_signal_index all cited.number cited.name.now index is) h
+  passed_step (content.ValueType cited value_type) all_passed is h = skipped_step _ kept all_passed _ index refl (has_signal_index all cited.number cited.name.now index is) h
+  passed_step (content.Spn cited spn) all_passed is h = skipped_step _ kept all_passed _ index refl (has_signal_index all cited.number cited.name.now index is) h
   passed_step content.PassedOver all_passed is h = one_more kept all_passed h
   passed_step c all_passed is h = h
 

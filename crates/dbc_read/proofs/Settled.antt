@@ -96,7 +96,7 @@ module _ (f : Signal → Signal) {V : Type 0} (get : Signal → V) where
   leaves same (Some i) xs = change_leaves f get same xs i
 
 attached_view : (cited : CitedSignal) (a : Attachment) (p : Passed) (lines new_lines : List MessageLine) (old : Gathered) (passed : List Passed)
-    → (at : IsAttached cited.number cited.name.items a p lines new_lines old.passed passed)
+    → (at : IsAttached cited.number cited.name.now a p lines new_lines old.passed passed)
     → with_attached new_lines (record old { passed = passed }) ≡ gathered_after at.index p (attaching cited a) (with_attached lines old)
 attached_view cited (what.Comment text) p lines new_lines old passed at =
     let e = at.signals in
@@ -135,27 +135,27 @@ attached_view cited (what.Spn spn) p lines new_lines old passed at =
     let spns = ap (map (λ (s : Signal). s.spn)) e ∙ sets g (λ (s : Signal). s.spn) spn (λ s. refl) at.index xs in
     λ i. record old { signal_comments = comments i; signal_values = values i; signal_types = types i; signal_spns = spns i; passed = at.passed i }
 
-attached_index : (all : List says.Statement) (cited : CitedSignal) (a : Attachment) (index : Option ℕ) → IsSignalIn (messages_of all) cited.number cited.name.items index → IsCitedIndex all (content_of (attaching cited a)) index
+attached_index : (all : List says.Statement) (cited : CitedSignal) (a : Attachment) (index : Option ℕ) → IsSignalIn (messages_of all) cited.number cited.name.now index → IsCitedIndex all (content_of (attaching cited a)) index
 attached_index all cited (what.Comment text) index h = h
 attached_index all cited (what.Values texts) index h = h
 attached_index all cited (what.Type value_type) index h = h
 attached_index all cited (what.Spn spn) index h = h
 
 pub attached_settled : (f : Finders) (s : Statement) (cited : CitedSignal) (a : Attachment) (lines new_lines : List MessageLine) (old now : Gathered) (passed : List Passed) → defines (content_of s.content) ≡ false
-    → s.content ≡ attaching cited a → IsAttached cited.number cited.name.items a (passed_of s) lines new_lines old.passed passed
+    → s.content ≡ attaching cited a → IsAttached cited.number cited.name.now a (passed_of s) lines new_lines old.passed passed
     → now ≡ record old { passed = passed } → Settles f (statement_of s ∷ []) lines old new_lines now
 attached_settled f s cited a lines new_lines old now passed defines_none says_what at is =
     one_settled f s at.index lines new_lines old now defines_none
     (λ all are. subst (λ c. IsCitedIndex all (content_of c) at.index) (sym says_what)
-    (attached_index all cited a at.index (subst (λ (ms : List says.MessageLine). IsSignalIn ms cited.number cited.name.items at.index) are.messages at.is)))
+    (attached_index all cited a at.index (subst (λ (ms : List says.MessageLine). IsSignalIn ms cited.number cited.name.now at.index) are.messages at.is)))
     (ap (with_attached new_lines) is ∙ attached_view cited a (passed_of s) lines new_lines old passed at
     ∙ ap (λ c. gathered_after at.index (passed_of s) c (with_attached lines old)) (sym says_what))
 
 -- the place of what it cites
-cited_place : (lines : List MessageLine) (c : Content) (cited : CitedSignal) (a : Attachment) (place : Option Place) → IsPlaceCited lines c place → c ≡ attaching cited a → IsPlaceOf lines cited.number cited.name.items place
+cited_place : (lines : List MessageLine) (c : Content) (cited : CitedSignal) (a : Attachment) (place : Option Place) → IsPlaceCited lines c place → c ≡ attaching cited a → IsPlaceOf lines cited.number cited.name.now place
 cited_place lines c cited a place h is = by a (subst (λ (k : Content). IsPlaceCited lines k place) is h)
   where
-    by : (b : Attachment) → IsPlaceCited lines (attaching cited b) place → IsPlaceOf lines cited.number cited.name.items place
+    by : (b : Attachment) → IsPlaceCited lines (attaching cited b) place → IsPlaceOf lines cited.number cited.name.now place
     by (what.Comment text) k = k
     by (what.Values texts) k = k
     by (what.Type value_type) k = k
@@ -169,8 +169,8 @@ pub attached_parts : (f : Finders) (s : Statement) (parts : ℕ × Keyword × Co
 attached_parts f s parts cited a place lines new_lines old passed defines_none are says_what found at =
     let what_is : s.content ≡ attaching cited a = sym (ap (λ (t : ℕ × Keyword × Content). t.2) are) ∙ says_what in
     attached_settled f s cited a lines new_lines old (record old { passed = passed }) passed defines_none what_is
-    (subst (λ (t : ℕ × Keyword × Content). IsAttached cited.number cited.name.items a (record { at = t.0; keyword = t.1 }) lines new_lines old.passed passed) are
-    (at cited.number cited.name.items (cited_place lines s.content cited a place found what_is))) refl
+    (subst (λ (t : ℕ × Keyword × Content). IsAttached cited.number cited.name.now a (record { at = t.0; keyword = t.1 }) lines new_lines old.passed passed) are
+    (at cited.number cited.name.now (cited_place lines s.content cited a place found what_is))) refl
 
 pub other_parts : (f : Finders) (s : Statement) (parts : ℕ × Keyword × Content) (index : Option ℕ) (lines : List MessageLine) (old now : Gathered) → defines (content_of s.content) ≡ false
     → parts ≡ (s.start, s.keyword, s.content) → cites_signal parts.2 ≡ false → ((all : List says.Statement) → Finds f lines all → IsCitedIndex all (content_of parts.2) index)

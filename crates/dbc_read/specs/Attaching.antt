@@ -87,10 +87,10 @@ pub record IsPlaceOf (lines : List MessageLine) (number : Cited) (name : List �
 
 -- the same of the signal that the content cites, if it cites one
 abbrev pub IsPlaceCited : List MessageLine → Content → Option Place → Type 0
-IsPlaceCited lines (content.SignalComment cited text) place = IsPlaceOf lines cited.number cited.name.items place
-IsPlaceCited lines (content.ValueTexts cited texts) place = IsPlaceOf lines cited.number cited.name.items place
-IsPlaceCited lines (content.ValueType cited value_type) place = IsPlaceOf lines cited.number cited.name.items place
-IsPlaceCited lines (content.Spn cited spn) place = IsPlaceOf lines cited.number cited.name.items place
+IsPlaceCited lines (content.SignalComment cited text) place = IsPlaceOf lines cited.number cited.name.now place
+IsPlaceCited lines (content.ValueTexts cited texts) place = IsPlaceOf lines cited.number cited.name.now place
+IsPlaceCited lines (content.ValueType cited value_type) place = IsPlaceOf lines cited.number cited.name.now place
+IsPlaceCited lines (content.Spn cited spn) place = IsPlaceOf lines cited.number cited.name.now place
 IsPlaceCited lines c place = ⊤
 
 -- this is attached to the signal that is cited, or the statement is skipped if there is no such signal

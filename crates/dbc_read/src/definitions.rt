@@ -46,7 +46,7 @@ pub(crate) fn gather_definition(
     statement: Statement,
     gathered: &mut Gathered,
 ) -> Result<(), AllocError>
-    ensures { OnOk result ((said : List says.Statement) → AreDefinitions said gathered.old → AreDefinitions (said ++ statement_of statement ∷ []) gathered.new) }
+    ensures { OnOk result ((said : List says.Statement) → AreDefinitions said gathered.old → AreDefinitions (said ++ statement_of statement.entry ∷ []) gathered.new) }
 {
     if is_definition(&statement.content) {
         return gather_statement(None, statement, gathered);

@@ -197,10 +197,10 @@ impl Track {
         cited: &CitedSignal,
     ) -> Option<Place>
         requires { FindsSignals finders.now lines.now }
-        ensures { IsPlaceOf lines.now cited.now.number cited.now.name.items result }
+        ensures { IsPlaceOf lines.now cited.now.number cited.now.name.now result }
     {
         match cited.number {
-            Some(number) => self.place_in(finders, lines, number, cited.name.as_slice()),
+            Some(number) => self.place_in(finders, lines, number, cited.name),
             None => None,
         }
     }
@@ -231,7 +231,7 @@ impl Track {
         ensures { (lines : List MessageLine) (statements : List says.Statement) → Finds finders.now lines statements → IsCitedIndex statements (content_of content.now) result }
     {
         match content {
-            Content::NodeComment(name, _) => finders.nodes.find(&name.as_slice(), &mut self.node),
+            Content::NodeComment(name, _) => finders.nodes.find(name, &mut self.node),
             Content::MessageComment(cited, _) => match *cited {
                 Some(number) => self.message_index(&finders.numbers, number),
                 None => None,

@@ -159,7 +159,7 @@ fn gather_nodes(nodes: Vec<NodeName>, found: &mut Items<NodeName>) -> Result<(),
 
 /// Adds the content of a statement to what is gathered.
 pub(crate) fn gather(from: Citing, content: Content, all: &mut Gathered) -> Result<(), AllocError>
-    ensures { OnOk result (all.new ≡ gathered_after from.index from.statement content all.old) }
+    ensures { OnOk result (all.new ≡ gathered_after from.index from.statement content.entry all.old) }
 {
     match content {
         Content::Version(text) => {
@@ -200,7 +200,7 @@ pub(crate) fn gather_statement(
     statement: Statement,
     gathered: &mut Gathered,
 ) -> Result<(), AllocError>
-    ensures { OnOk result (gathered.new ≡ gathered_after index (passed_of statement) statement.content gathered.old) }
+    ensures { OnOk result (gathered.new ≡ gathered_after index (passed_of statement.entry) statement.entry.content gathered.old) }
 {
     let (at, keyword, content) = statement.into_parts();
     let statement = Passed { at, keyword };
@@ -230,7 +230,7 @@ fn start_gathering(
 
 /// The contents of all the statements.
 pub(crate) fn gathered_of(alloc: Global, statements: Vec<Statement>) -> Result<Gathered, AllocError>
-    ensures { IfOk result (λ gathered. AreGathered (statements_of statements.items) gathered) }
+    ensures { IfOk result (λ gathered. AreGathered (statements_of statements.entry.items) gathered) }
 {
     let (mut gathered, cited) = start_gathering(alloc, &statements)?;
     let mut indices = Feed::of(Items::from_vec(cited));

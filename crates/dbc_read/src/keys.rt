@@ -47,7 +47,10 @@ fn add_keys<'s>(line: &'s MessageLine, found: &mut Vec<Key<'s>>) -> Result<(), A
 }
 
 /// The keys of the nodes, messages and signals of the statements.
-pub(crate) fn keys_of(alloc: Global, statements: &[Statement]) -> Result<Keys<'_>, AllocError>
+pub(crate) fn keys_of<'s>(
+    alloc: Global,
+    statements: &'s [Statement<'_>],
+) -> Result<Keys<'s>, AllocError>
     ensures { IfOk result (λ keys. AreKeys keys (statements_of statements.now)) }
 {
     let mut nodes = Vec::new(alloc);

@@ -69,7 +69,7 @@ pub(crate) fn all_definitions(
     statements: &mut Statements,
 ) -> Result<Option<Gathered>, ReadFault>
     ensures source { statements.new.source ≡ statements.old.source }
-    ensures ok { IfOk result (λ found. IfSome found (DefineLate late statements.old.tokens gathered)) }
+    ensures ok { IfOk result (λ found. IfSome found (DefineLate late.entry statements.old.tokens gathered)) }
     ensures err { IfErr result (λ fault. UnlessMemory fault.code (statements_at statements.old.tokens ≡ None)) }
 {
     let mut definitions = gathered;

@@ -48,10 +48,10 @@ fn message_index(lookups: &Lookups, cited: Option<u32>, last: &mut usize) -> Opt
 
 /// The index of the signal that is cited, if the file has it.
 fn signal_index(lookups: &Lookups, cited: &CitedSignal, last: &mut usize) -> Option<usize>
-    ensures { (statements : List says.Statement) → AreLookups lookups.now statements → IsSignalIndex statements cited.now.number cited.now.name.items result }
+    ensures { (statements : List says.Statement) → AreLookups lookups.now statements → IsSignalIndex statements cited.now.number cited.now.name.now result }
 {
     match cited.number {
-        Some(number) => lookups.signals.find(&(number, cited.name.as_slice()), last),
+        Some(number) => lookups.signals.find(&(number, cited.name), last),
         None => None,
     }
 }
@@ -62,7 +62,7 @@ pub(crate) fn cited_index(lookups: &Lookups, content: &Content, last: &mut usize
     ensures { (statements : List says.Statement) → AreLookups lookups.now statements → IsCitedIndex statements (content_of content.now) result }
 {
     match content {
-        Content::NodeComment(name, _) => lookups.nodes.find(&name.as_slice(), last),
+        Content::NodeComment(name, _) => lookups.nodes.find(name, last),
         Content::MessageComment(cited, _) => message_index(lookups, *cited, last),
         Content::SignalComment(cited, _) => signal_index(lookups, cited, last),
         Content::ValueTexts(cited, _) => signal_index(lookups, cited, last),

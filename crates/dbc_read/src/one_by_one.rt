@@ -49,11 +49,11 @@ fn cites(content: &Content) -> bool
 
 /// Gathers the statements up to the first that cites something, which is returned, or up to the last. Where signals
 /// are is not kept: to find a fault, the text is read once more.
-fn gather_definitions(
+fn gather_definitions<'a>(
     alloc: Global,
-    statements: &mut Statements,
+    statements: &mut Statements<'a>,
     gathered: &mut Gathered,
-) -> Result<Option<Statement>, ReadFault>
+) -> Result<Option<Statement<'a>>, ReadFault>
     ensures source { statements.new.source ≡ statements.old.source }
     ensures ok { IfOk result (Defines statements.old.tokens statements.new.tokens gathered.old gathered.new) }
     ensures bare { OnOk result (AreBare gathered.old.messages → AreBare gathered.new.messages) }
@@ -70,21 +70,21 @@ fn gather_definitions(
 
 /// Gathers the statements after those that define these nodes and messages, which are found so, up to the first that
 /// defines another. `None` as [`settle_all`].
-fn gather_found(
+fn gather_found<'a>(
     alloc: Global,
     finders: &Finders,
     nodes: &[NodeName],
-    first: Option<Statement>,
-    statements: &mut Statements,
+    first: Option<Statement<'a>>,
+    statements: &mut Statements<'a>,
     lines: &mut [MessageLine],
     gathered: &mut Gathered,
-) -> Result<Option<Settled>, ReadFault>
+) -> Result<Option<Settled<'a>>, ReadFault>
     requires cites { IfSome first (λ s. cites (content_of s.content) ≡ true) }
     requires signals { FindsSignals finders.now lines.old }
     requires finds { FindsAll finders.now nodes.now lines.old }
     requires bare { AreBare lines.old }
     ensures source { statements.new.source ≡ statements.old.source }
-    ensures ok { IfOk result (λ found. IfSome found (λ settled. Follow nodes.now lines.old first settled statements.old.tokens statements.new.tokens gathered.old lines.new gathered.new)) }
+    ensures ok { IfOk result (λ found. IfSome found (λ settled. Follow nodes.now lines.old first.entry settled statements.old.tokens statements.new.tokens gathered.old lines.new gathered.new)) }
     ensures err { IfErr result (λ fault. UnlessMemory fault.code (statements_at statements.old.tokens ≡ None)) }
 {
     attach_nothing(alloc, nodes.len(), lines.len(), gathered)?;
@@ -97,18 +97,18 @@ fn gather_found(
 
 /// Gathers the statements after those that define these nodes and messages, up to the first that defines another.
 /// `None` if [`finders_of`] finds nothing in these, or as [`gather_found`].
-fn gather_others(
+fn gather_others<'a>(
     alloc: Global,
     nodes: &[NodeName],
-    first: Option<Statement>,
-    statements: &mut Statements,
+    first: Option<Statement<'a>>,
+    statements: &mut Statements<'a>,
     lines: &mut [MessageLine],
     gathered: &mut Gathered,
-) -> Result<Option<Settled>, ReadFault>
+) -> Result<Option<Settled<'a>>, ReadFault>
     requires cites { IfSome first (λ s. cites (content_of s.content) ≡ true) }
     requires bare { AreBare lines.old }
     ensures source { statements.new.source ≡ statements.old.source }
-    ensures ok { IfOk result (λ found. IfSome found (λ settled. Follow nodes.now lines.old first settled statements.old.tokens statements.new.tokens gathered.old lines.new gathered.new)) }
+    ensures ok { IfOk result (λ found. IfSome found (λ settled. Follow nodes.now lines.old first.entry settled statements.old.tokens statements.new.tokens gathered.old lines.new gathered.new)) }
     ensures err { IfErr result (λ fault. UnlessMemory fault.code (statements_at statements.old.tokens ≡ None)) }
 {
     match finders_of(alloc, nodes, lines)? {
@@ -119,11 +119,11 @@ fn gather_others(
 
 /// Gathers the statements that are left, up to the first that defines something that could be cited after something was
 /// cited. `None` as [`gather_others`].
-fn gather_up_to(
+fn gather_up_to<'a>(
     alloc: Global,
-    statements: &mut Statements,
+    statements: &mut Statements<'a>,
     gathered: &mut Gathered,
-) -> Result<Option<Settled>, ReadFault>
+) -> Result<Option<Settled<'a>>, ReadFault>
     requires { IsEmpty gathered.old }
     ensures source { statements.new.source ≡ statements.old.source }
     ensures ok { IfOk result (λ found. IfSome found (λ settled. AreSettled settled statements.old.tokens statements.new.tokens (in_signals gathered.new))) }

@@ -23,11 +23,11 @@ use std::alloc::{AllocError, Global};
 
 /// Which statements of those that are left are gathered.
 #[derive(Drop)]
-pub(crate) enum Settled {
+pub(crate) enum Settled<'a> {
     /// All.
     All,
     /// Those before this one, which is the first that defines something that could be cited.
-    UpTo(Statement),
+    UpTo(Statement<'a>),
 }
 
 /// Whether it defines nodes or a message, which other statements may cite.
@@ -73,7 +73,7 @@ fn settle_other(
     gathered: &mut Gathered,
 ) -> Result<(), AllocError>
     requires { cites_signal content ≡ false }
-    ensures { OnOk result (IsGathered finders.now statement content gathered.old gathered.new) }
+    ensures { OnOk result (IsGathered finders.now statement content.entry gathered.old gathered.new) }
 {
     let index = track.index(finders, &content);
     gather(Citing { statement, index }, content, gathered)
@@ -92,7 +92,7 @@ fn settle(
     requires none { defines (content_of statement.content) ≡ false }
     requires signals { FindsSignals finders.now lines.old }
     ensures messages { map message_of lines.new ≡ map message_of lines.old }
-    ensures settles { IfOk result (λ all. IsTrue all → Settles finders.now (one_or_none (Some statement)) lines.old gathered.old lines.new gathered.new) }
+    ensures settles { IfOk result (λ all. IsTrue all → Settles finders.now (one_or_none (Some statement.entry)) lines.old gathered.old lines.new gathered.new) }
 {
     let place = track.place_of(finders, lines, &statement.content);
     let (at, keyword, content) = statement.into_parts();
@@ -139,7 +139,7 @@ pub(crate) fn settle_first(
     requires cites { IfSome first (λ s. cites (content_of s.content) ≡ true) }
     requires signals { FindsSignals finders.now lines.old }
     ensures messages { map message_of lines.new ≡ map message_of lines.old }
-    ensures settles { IfOk result (λ all. IsTrue all → Settles finders.now (one_or_none first) lines.old gathered.old lines.new gathered.new) }
+    ensures settles { IfOk result (λ all. IsTrue all → Settles finders.now (one_or_none first.entry) lines.old gathered.old lines.new gathered.new) }
 {
     match first {
         Some(first) => settle(finders, first, track, lines, gathered),
@@ -150,14 +150,14 @@ pub(crate) fn settle_first(
 /// Gathers the statements that are left, up to the first that defines something that could be cited. `None` if one of
 /// them isn't gathered so, as [`settle`].
 #[inline(never)]
-pub(crate) fn settle_all(
+pub(crate) fn settle_all<'a>(
     alloc: Global,
     finders: &Finders,
-    statements: &mut Statements,
+    statements: &mut Statements<'a>,
     track: &mut Track,
     lines: &mut [MessageLine],
     gathered: &mut Gathered,
-) -> Result<Option<Settled>, ReadFault>
+) -> Result<Option<Settled<'a>>, ReadFault>
     requires { FindsSignals finders.now lines.old }
     ensures source { statements.new.source ≡ statements.old.source }
     ensures messages { map message_of lines.new ≡ map message_of lines.old }

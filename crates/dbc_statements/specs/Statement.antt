@@ -46,12 +46,12 @@ content_of (content.Nodes nodes) = says.NodesAre (names_of nodes.items)
 content_of (content.Table t) = says.TableIs t.value.name t.value.entries
 content_of (content.Message m) = says.MessageIs (message_of m.value)
 content_of (content.Comment text) = says.CommentIs text
-content_of (content.NodeComment name text) = says.NodeCommentIs name.items text
+content_of (content.NodeComment name text) = says.NodeCommentIs name.now text
 content_of (content.MessageComment number text) = says.MessageCommentIs number text
-content_of (content.SignalComment cited text) = says.SignalCommentIs cited.number cited.name.items text
-content_of (content.ValueTexts cited entries) = says.ValueTextsAre cited.number cited.name.items entries
-content_of (content.ValueType cited value_type) = says.ValueTypeIs cited.number cited.name.items value_type
-content_of (content.Spn cited spn) = says.SpnIs cited.number cited.name.items spn
+content_of (content.SignalComment cited text) = says.SignalCommentIs cited.number cited.name.now text
+content_of (content.ValueTexts cited entries) = says.ValueTextsAre cited.number cited.name.now entries
+content_of (content.ValueType cited value_type) = says.ValueTypeIs cited.number cited.name.now value_type
+content_of (content.Spn cited spn) = says.SpnIs cited.number cited.name.now spn
 content_of content.Dropped = says.Dropped
 content_of content.PassedOver = says.PassedOver
 

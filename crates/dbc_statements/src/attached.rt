@@ -7,9 +7,7 @@ ghost use Rattle.dbc_statements.specs.Reading.{Reads};
 ghost use Rattle.dbc_statements.specs.Statement.{NothingIsAttached, content_of};
 
 use crate::entries::entry_list;
-use crate::fields::{
-    attribute, cited_name, cited_number, key, mark, optional_mark, spn, value_type,
-};
+use crate::fields::{any_name, attribute, cited_number, key, mark, optional_mark, spn, value_type};
 use crate::passing::{passed_value_texts, skip_to_end};
 use crate::statement::{CitedSignal, Content};
 use crate::tokens::Tokens;
@@ -20,7 +18,10 @@ use std::alloc::Global;
 
 /// The rest of a statement after `VAL_`.
 #[tactic(auto, unfolding(catalogue::specs::Parsing::value_texts_at, catalogue::specs::Parsing::passed_value_texts_at))]
-pub(crate) fn value_texts(alloc: Global, tokens: &mut Tokens) -> Result<Content, ReadFault>
+pub(crate) fn value_texts<'a>(
+    alloc: Global,
+    tokens: &mut Tokens<'a>,
+) -> Result<Content<'a>, ReadFault>
     ensures reads { Reads content_of result (either_at (begins fields.cited_number) value_texts_at passed_value_texts_at tokens.old) tokens.new }
     ensures nothing { IfOk result NothingIsAttached }
 {
@@ -28,7 +29,7 @@ pub(crate) fn value_texts(alloc: Global, tokens: &mut Tokens) -> Result<Content,
     match cited_number_of(&token) {
         Some(number) => {
             tokens.skip();
-            let name = cited_name(alloc, tokens)?;
+            let name = any_name(tokens)?;
             let entries = entry_list(alloc, tokens)?;
             mark(tokens, b';')?;
             Ok(Content::ValueTexts(CitedSignal { number, name }, entries))
@@ -39,12 +40,12 @@ pub(crate) fn value_texts(alloc: Global, tokens: &mut Tokens) -> Result<Content,
 
 /// The rest of a statement after `SIG_VALTYPE_`.
 #[tactic(auto, unfolding(catalogue::specs::Parsing::value_type_at))]
-pub(crate) fn value_types(alloc: Global, tokens: &mut Tokens) -> Result<Content, ReadFault>
+pub(crate) fn value_types<'a>(tokens: &mut Tokens<'a>) -> Result<Content<'a>, ReadFault>
     ensures reads { Reads content_of result (value_type_at tokens.old) tokens.new }
     ensures nothing { IfOk result NothingIsAttached }
 {
     let number = cited_number(tokens)?;
-    let name = cited_name(alloc, tokens)?;
+    let name = any_name(tokens)?;
     optional_mark(tokens, b':');
     let value_type = value_type(tokens)?;
     mark(tokens, b';')?;
@@ -52,30 +53,31 @@ pub(crate) fn value_types(alloc: Global, tokens: &mut Tokens) -> Result<Content,
 }
 
 #[tactic(auto, unfolding(catalogue::specs::Parsing::spn_at))]
-fn spn_of_signal(alloc: Global, tokens: &mut Tokens) -> Result<Content, ReadFault>
+fn spn_of_signal<'a>(tokens: &mut Tokens<'a>) -> Result<Content<'a>, ReadFault>
     ensures reads { Reads content_of result (spn_at tokens.old) tokens.new }
     ensures nothing { IfOk result NothingIsAttached }
 {
     attribute(tokens)?;
     key(tokens, Keyword::Signal)?;
     let number = cited_number(tokens)?;
-    let name = cited_name(alloc, tokens)?;
+    let name = any_name(tokens)?;
     let spn = spn(tokens)?;
     mark(tokens, b';')?;
     Ok(Content::Spn(CitedSignal { number, name }, spn))
 }
 
 /// The rest of a statement after `BA_`: a suspect parameter number, or else anything up to `;`.
-pub(crate) fn attribute_value(alloc: Global, tokens: &mut Tokens) -> Result<Content, ReadFault>
+pub(crate) fn attribute_value<'a>(tokens: &mut Tokens<'a>) -> Result<Content<'a>, ReadFault>
     ensures reads { Reads content_of result (or_else (spn_at tokens.old) (skipped_at tokens.old)) tokens.new }
     ensures nothing { IfOk result NothingIsAttached }
 {
     let mut ahead = tokens.fork();
-    match spn_of_signal(alloc, &mut ahead) {
+    match spn_of_signal(&mut ahead) {
         Ok(content) => {
             *tokens = ahead;
             Ok(content)
         }
+        // No field here takes memory, but their contracts don't say so.
         Err(
             ReadFault {
                 code: ReadCode::Memory,

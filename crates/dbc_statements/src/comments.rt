@@ -5,7 +5,7 @@ ghost use Rattle.catalogue.specs.Parsing.{comment_at, file_comment_at, message_c
 ghost use Rattle.dbc_statements.specs.Reading.{Reads};
 ghost use Rattle.dbc_statements.specs.Statement.{NothingIsAttached, content_of};
 
-use crate::fields::{cited_name, cited_number, key, mark, text};
+use crate::fields::{any_name, cited_number, key, mark, text};
 use crate::passing::passed_comment;
 use crate::statement::{CitedSignal, Content};
 use crate::tokens::Tokens;
@@ -15,7 +15,7 @@ use dbc_lex::ReadFault;
 use std::alloc::Global;
 
 #[tactic(auto, unfolding(catalogue::specs::Parsing::file_comment_at))]
-fn file_comment(alloc: Global, tokens: &mut Tokens) -> Result<Content, ReadFault>
+fn file_comment<'a>(alloc: Global, tokens: &mut Tokens<'a>) -> Result<Content<'a>, ReadFault>
     ensures reads { Reads content_of result (file_comment_at tokens.old) tokens.new }
     ensures nothing { IfOk result NothingIsAttached }
 {
@@ -25,19 +25,19 @@ fn file_comment(alloc: Global, tokens: &mut Tokens) -> Result<Content, ReadFault
 }
 
 #[tactic(auto, unfolding(catalogue::specs::Parsing::node_comment_at))]
-fn node_comment(alloc: Global, tokens: &mut Tokens) -> Result<Content, ReadFault>
+fn node_comment<'a>(alloc: Global, tokens: &mut Tokens<'a>) -> Result<Content<'a>, ReadFault>
     ensures reads { Reads content_of result (node_comment_at tokens.old) tokens.new }
     ensures nothing { IfOk result NothingIsAttached }
 {
     key(tokens, Keyword::Nodes)?;
-    let node = cited_name(alloc, tokens)?;
+    let node = any_name(tokens)?;
     let text = text(alloc, tokens)?;
     mark(tokens, b';')?;
     Ok(Content::NodeComment(node, text))
 }
 
 #[tactic(auto, unfolding(catalogue::specs::Parsing::message_comment_at))]
-fn message_comment(alloc: Global, tokens: &mut Tokens) -> Result<Content, ReadFault>
+fn message_comment<'a>(alloc: Global, tokens: &mut Tokens<'a>) -> Result<Content<'a>, ReadFault>
     ensures reads { Reads content_of result (message_comment_at tokens.old) tokens.new }
     ensures nothing { IfOk result NothingIsAttached }
 {
@@ -49,13 +49,13 @@ fn message_comment(alloc: Global, tokens: &mut Tokens) -> Result<Content, ReadFa
 }
 
 #[tactic(auto, unfolding(catalogue::specs::Parsing::signal_comment_at))]
-fn signal_comment(alloc: Global, tokens: &mut Tokens) -> Result<Content, ReadFault>
+fn signal_comment<'a>(alloc: Global, tokens: &mut Tokens<'a>) -> Result<Content<'a>, ReadFault>
     ensures reads { Reads content_of result (signal_comment_at tokens.old) tokens.new }
     ensures nothing { IfOk result NothingIsAttached }
 {
     key(tokens, Keyword::Signal)?;
     let number = cited_number(tokens)?;
-    let name = cited_name(alloc, tokens)?;
+    let name = any_name(tokens)?;
     let text = text(alloc, tokens)?;
     mark(tokens, b';')?;
     Ok(Content::SignalComment(CitedSignal { number, name }, text))
@@ -63,7 +63,7 @@ fn signal_comment(alloc: Global, tokens: &mut Tokens) -> Result<Content, ReadFau
 
 /// The rest of a statement after `CM_`.
 #[tactic(auto, unfolding(catalogue::specs::Parsing::comment_at))]
-pub(crate) fn comment(alloc: Global, tokens: &mut Tokens) -> Result<Content, ReadFault>
+pub(crate) fn comment<'a>(alloc: Global, tokens: &mut Tokens<'a>) -> Result<Content<'a>, ReadFault>
     ensures reads { Reads content_of result (comment_at tokens.old) tokens.new }
     ensures nothing { IfOk result NothingIsAttached }
 {

@@ -54,7 +54,7 @@ impl<'a> Statements<'a> {
     /// A fault comes only if the tokens that are left aren't a sequence of statements, or memory ran out: one of 32 to 39
     /// at the first token that can't continue the statement, or at the text's length if it ends too early. Then the
     /// statements that are left are the same as before.
-    pub fn read_next(&mut self, alloc: Global) -> Result<Option<Statement>, ReadFault>
+    pub fn read_next(&mut self, alloc: Global) -> Result<Option<Statement<'a>>, ReadFault>
         ensures source { self.new.source ≡ self.old.source }
         ensures next { IfOk result (λ found. IfSome found (λ s. BeginsWith (statement_of s) self.old.tokens self.new.tokens)) }
         ensures nothing { IfOk result (λ found. IfSome found (λ s. NothingIsAttached s.content)) }

@@ -9,7 +9,6 @@ ghost use Rattle.catalogue.specs.Rules.{begins, starts};
 ghost use Rattle.catalogue.specs.declared.token.TokenKind.TheVariants.{Mark, Number};
 ghost use Rattle.dbc_statements.specs.Reading.{Reads, itself, with_mark};
 
-use crate::statement::CitedName;
 use crate::tokens::Tokens;
 use crate::words::{
     cited_number_of, independent_number_of, inside, is_key, is_made_name, is_mark, is_number,
@@ -21,7 +20,6 @@ use can_id::Ident;
 use catalogue::{Keyword, Name, PayloadLength, Spn, Text, ValueType};
 use dbc_lex::{ReadCode, ReadFault, Token};
 use decimal::Decimal;
-use smallvec::SmallVec;
 use std::alloc::Global;
 
 /// The fault of this code at the token.
@@ -125,15 +123,6 @@ pub(crate) fn text(alloc: Global, tokens: &mut Tokens) -> Result<Text, ReadFault
     let text = Text::of_kept(alloc, inside(token.text))?;
     tokens.skip();
     Ok(text)
-}
-
-/// A name that is only cited: any name, a keyword too.
-#[inline(always)]
-pub(crate) fn cited_name(alloc: Global, tokens: &mut Tokens) -> Result<CitedName, ReadFault>
-    ensures { Reads (λ name. name.items) result (token_at fields.cited_name tokens.old) tokens.new }
-{
-    let name = any_name(tokens)?;
-    Ok(SmallVec::from_slice(alloc, name)?)
 }
 
 /// The name of something that the statement defines. Code 37 at a name that isn't allowed for it.

@@ -7,16 +7,18 @@ use dbc_lex::ReadFault;
 
 /// The content of a statement, and how it ends.
 #[derive(Drop)]
-pub(crate) struct Line {
+pub(crate) struct Line<'a> {
     /// Its content.
-    pub content: Content,
+    pub content: Content<'a>,
     /// How it ends.
     pub ended: Ended,
 }
 
 /// The line with this content, which doesn't end with a list.
-pub(crate) fn line_without_list(read: Result<Content, ReadFault>) -> Result<Line, ReadFault>
-    ensures { MatchResult read (λ content. IsOkAnd result (λ line. line.content ≡ content)) (λ fault. result ≡ Err fault) }
+pub(crate) fn line_without_list<'a>(
+    read: Result<Content<'a>, ReadFault>,
+) -> Result<Line<'a>, ReadFault>
+    ensures { MatchResult read.entry (λ content. IsOkAnd result (λ line. line.content ≡ content)) (λ fault. result ≡ Err fault) }
 {
     match read {
         Ok(content) => Ok(Line {

@@ -17,7 +17,7 @@ use dbc_lex::ReadFault;
 use std::alloc::Global;
 
 #[tactic(auto, unfolding(catalogue::specs::Parsing::message_at))]
-fn message(alloc: Global, tokens: &mut Tokens) -> Result<Line, ReadFault>
+fn message<'a>(alloc: Global, tokens: &mut Tokens<'a>) -> Result<Line<'a>, ReadFault>
     ensures reads { Reads line_content result (message_at tokens.old) tokens.new }
     ensures nothing { IfOk result (λ line. NothingIsAttached line.content) }
 {
@@ -44,7 +44,10 @@ fn message(alloc: Global, tokens: &mut Tokens) -> Result<Line, ReadFault>
 }
 
 /// The rest of a statement after `BO_`.
-pub(crate) fn message_or_independent(alloc: Global, tokens: &mut Tokens) -> Result<Line, ReadFault>
+pub(crate) fn message_or_independent<'a>(
+    alloc: Global,
+    tokens: &mut Tokens<'a>,
+) -> Result<Line<'a>, ReadFault>
     ensures reads { Reads line_content result (either_at (begins fields.message_ident) message_at independent_at tokens.old) tokens.new }
     ensures nothing { IfOk result (λ line. NothingIsAttached line.content) }
 {

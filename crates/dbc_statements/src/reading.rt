@@ -82,12 +82,12 @@ fn first_word(tokens: &mut Tokens, before: Ended) -> Result<(usize, Keyword), Re
 
 /// The rest of a statement after its first keyword, which is at the offset `start`.
 #[tactic(auto, unfolding(catalogue::specs::Parsing::line_at))]
-fn line(
+fn line<'a>(
     alloc: Global,
     start: usize,
     keyword: Keyword,
-    tokens: &mut Tokens,
-) -> Result<Line, ReadFault>
+    tokens: &mut Tokens<'a>,
+) -> Result<Line<'a>, ReadFault>
     ensures reads { Reads line_content result (line_at keyword tokens.old) tokens.new }
     ensures nothing { IfOk result (λ line. NothingIsAttached line.content) }
 {
@@ -100,8 +100,8 @@ fn line(
         Keyword::Message => message_or_independent(alloc, tokens),
         Keyword::Comment => line_without_list(comment(alloc, tokens)),
         Keyword::ValueTexts => line_without_list(value_texts(alloc, tokens)),
-        Keyword::SignalValueType => line_without_list(value_types(alloc, tokens)),
-        Keyword::AttributeValue => line_without_list(attribute_value(alloc, tokens)),
+        Keyword::SignalValueType => line_without_list(value_types(tokens)),
+        Keyword::AttributeValue => line_without_list(attribute_value(tokens)),
         Keyword::Signal => Err(ReadFault {
             code: ReadCode::Unexpected,
             at: start,
@@ -116,11 +116,11 @@ fn line(
 
 /// A statement, and how it ends, after a statement that ended as `before` says.
 #[tactic(auto, unfolding(catalogue::specs::Parsing::statement_at))]
-pub(crate) fn statement(
+pub(crate) fn statement<'a>(
     alloc: Global,
-    tokens: &mut Tokens,
+    tokens: &mut Tokens<'a>,
     before: Ended,
-) -> Result<(Statement, Ended), ReadFault>
+) -> Result<(Statement<'a>, Ended), ReadFault>
     ensures reads { Reads (λ next. statement_of next.0) result (statement_at tokens.old) tokens.new }
     ensures nothing { IfOk result (λ next. NothingIsAttached next.0.content) }
 {
@@ -135,11 +135,11 @@ pub(crate) fn statement(
 }
 
 /// Reads all statements. Whatever it returns, the tokens were read at least up to the offset `reached`.
-fn all_statements(
+fn all_statements<'a>(
     alloc: Global,
-    tokens: &mut Tokens,
+    tokens: &mut Tokens<'a>,
     reached: &mut usize,
-) -> Result<Vec<Statement>, ReadFault>
+) -> Result<Vec<Statement<'a>>, ReadFault>
     ensures ok { IfOk result (λ statements. statements_at tokens.old ≡ Some (statements_of statements.items)) }
     ensures err { IfErr result (λ fault. UnlessMemory fault.code (statements_at tokens.old ≡ None)) }
     ensures reached { IsReached tokens.old reached.new }
@@ -162,7 +162,7 @@ fn all_statements(
 /// A fault comes only if the text isn't a sequence of statements, or memory ran out: code 30 or 31 at the first offset
 /// where no token begins, wherever it is, and else one of 32 to 39 at the first token that can't continue the
 /// statement, or at the text's length if it ends too early.
-pub fn statements_of(alloc: Global, source: &[u8]) -> Result<Vec<Statement>, ReadFault>
+pub fn statements_of<'a>(alloc: Global, source: &'a [u8]) -> Result<Vec<Statement<'a>>, ReadFault>
     ensures ok { IfOk result (λ statements. IsDivided source.now (statements_of statements.items)) }
     ensures err { IfErr result (λ fault. UnlessMemory fault.code (HasNoDivision source.now)) }
     ensures tokens { TokensComeFirst source.now result }

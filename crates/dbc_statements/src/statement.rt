@@ -10,7 +10,6 @@ use catalogue::{
     Keyword, Message, Name, PayloadLength, Signal, Signals, Spn, Text, ValueTable, ValueTexts,
     ValueType,
 };
-use smallvec::SmallVec;
 use std::alloc::Global;
 
 /// A node of a list, and where its name is.
@@ -104,21 +103,18 @@ impl MessageLine {
     }
 }
 
-/// A name that a statement cites: any name, also a keyword. A short one takes no block of memory of its own.
-pub type CitedName = SmallVec<u8, 24>;
-
 /// The signal that a statement cites.
-#[derive(Drop)]
-pub struct CitedSignal {
+#[derive(Clone, Copy)]
+pub struct CitedSignal<'a> {
     /// The DBC number of its message; `None` above 4294967295, since no message has such a number.
     pub number: Option<u32>,
-    /// Its name.
-    pub name: CitedName,
+    /// Its name: any name, also a keyword, as the text has it.
+    pub name: &'a [u8],
 }
 
 /// The content of one statement.
 #[derive(Drop)]
-pub enum Content {
+pub enum Content<'a> {
     /// `VERSION`: the version.
     Version(Text),
     /// `BU_`: the nodes, without the names that mean no node.
@@ -130,17 +126,17 @@ pub enum Content {
     /// `CM_`: the comment of the file.
     Comment(Text),
     /// `CM_ BU_`: the node's name, which may be any name, and its comment.
-    NodeComment(CitedName, Text),
+    NodeComment(&'a [u8], Text),
     /// `CM_ BO_`: the message's DBC number, as in [`CitedSignal`], and its comment.
     MessageComment(Option<u32>, Text),
     /// `CM_ SG_`: the signal and its comment.
-    SignalComment(CitedSignal, Text),
+    SignalComment(CitedSignal<'a>, Text),
     /// `VAL_`: the signal and texts for its values.
-    ValueTexts(CitedSignal, Entries),
+    ValueTexts(CitedSignal<'a>, Entries),
     /// `SIG_VALTYPE_`: the signal and its type.
-    ValueType(CitedSignal, ValueType),
+    ValueType(CitedSignal<'a>, ValueType),
     /// `BA_ "SPN" SG_`: the signal and its suspect parameter number.
-    Spn(CitedSignal, Spn),
+    Spn(CitedSignal<'a>, Spn),
     /// `NS_` and `BS_`: nothing of them is kept, and they aren't reported.
     Dropped,
     /// Skipped and reported.
@@ -148,19 +144,19 @@ pub enum Content {
 }
 
 /// One statement.
-pub struct Statement {
+pub struct Statement<'a> {
     /// The offset of its first keyword.
     pub start: usize,
     /// That keyword.
     pub keyword: Keyword,
     /// Its content.
-    pub content: Content,
+    pub content: Content<'a>,
 }
 
-impl Statement {
+impl<'a> Statement<'a> {
     /// The offset of its first keyword, that keyword, and its content.
-    pub fn into_parts(self) -> (usize, Keyword, Content)
-        ensures { result ≡ (self.start, self.keyword, self.content) }
+    pub fn into_parts(self) -> (usize, Keyword, Content<'a>)
+        ensures { result ≡ (self.entry.start, self.entry.keyword, self.entry.content) }
     {
         let Statement {
             start,
@@ -171,9 +167,9 @@ impl Statement {
     }
 
     /// The statement without the places of its signals, whose memory is given back.
-    pub fn without_places(self, alloc: Global) -> Statement
-        ensures says { statement_of result ≡ statement_of self }
-        ensures nothing { NothingIsAttached self.content → NothingIsAttached result.content }
+    pub fn without_places(self, alloc: Global) -> Statement<'a>
+        ensures says { statement_of result ≡ statement_of self.entry }
+        ensures nothing { NothingIsAttached self.entry.content → NothingIsAttached result.content }
     {
         let (start, keyword, content) = self.into_parts();
         let content = match content {
@@ -217,7 +213,7 @@ impl Drop for MessageLine {
     }
 }
 
-impl Drop for Statement {
+impl Drop for Statement<'_> {
     fn drop(self) {
         let Statement {
             start: _start,

@@ -7,8 +7,8 @@ use Rattle.dbc_read.proofs.lookups.cited_index.Goals as goal
 
 pub returns-in-NodeComment : goal.returns-in-NodeComment
 returns-in-NodeComment c = λ statements are.
-    let name = c.in-NodeComment.name.items in
-    let here = rw c.as_slice.ensures at c.find.ensures are.node_names are.nodes in
+    let name = c.in-NodeComment.name.now in
+    let here = c.find.ensures are.node_names are.nodes in
     rw c.in-NodeComment.is
     (subst (λ names. IsIndexIn (λ n. bytes_eq n name) names c.find.result) are.names
     (index_seen text_of (λ (v : Bor (List ℕ)). bytes_eq v.now name) (λ n. bytes_eq n name) (λ v. refl) are.node_names c.find.result here))

@@ -1,5 +1,7 @@
 //! Reading a text token by token.
-ghost use Rattle.std.specs.Prelude.{◌≡◌, ◌≤◌, length, min, drop, IfSome, IfOk};
+ghost use Rattle.std.specs.Prelude.{◌≡◌, ◌≤◌, [], ◌∷◌, length, min, drop, IfSome, IfOk};
+ghost use Rattle.catalogue.specs.Fields.{is_mark};
+ghost use Rattle.dbc_lex.specs.Token.{token_of};
 ghost use Rattle.catalogue.specs.Lexing.{token_at};
 ghost use Rattle.dbc_lex.specs.First.{GivesFirst, kind_at};
 
@@ -63,7 +65,8 @@ impl<'a> Model for Lexer<'a> {
 }
 
 impl<'a> Lexer<'a> {
-    ghost use Rattle.std.specs.Prelude.{◌≡◌, [], ◌∷◌, IfNone, IfSome, Ok, Some, true};
+    ghost use Rattle.std.specs.Prelude.{◌≡◌, [], ◌∷◌, IfNone, IfSome, Ok, Some, false, true};
+    ghost use Rattle.catalogue.specs.Rules.{starts};
     ghost use Rattle.catalogue.specs.Fields.{is_mark};
     ghost use Rattle.catalogue.specs.Lexing.{kind_of, lexed};
     ghost use Rattle.catalogue.specs.declared.token.TokenKind.TheVariants.{Mark};
@@ -121,23 +124,56 @@ impl<'a> Lexer<'a> {
         }
     }
 
-    /// Takes the next token if it is this mark, at once or after one space. `None` takes nothing; the mark may still come
-    /// next, after a longer gap.
+    /// Takes the next token if it is this mark, and else nothing. It takes little time where the mark comes at once or after
+    /// one space.
     #[inline(always)]
     pub fn next_mark(&mut self, mark: u8) -> Option<Token<'a>>
         requires { kind_of mark ≡ Some Mark }
         ensures some { IfSome result (λ t. GivesNext self.old (Ok (Some t)) self.new) }
         ensures mark { IfSome result (λ t. is_mark (mark ∷ []) (token_of t) ≡ true) }
-        ensures none { IfNone result (self.new ≡ self.old) }
+        ensures none { IfNone result (starts (is_mark (mark ∷ [])) self.old.tokens ≡ false) }
+        ensures kept { IfNone result (self.new ≡ self.old) }
     {
-        let start = mark_start(self.source, self.at, mark)?;
-        let end = start + 1;
-        self.at = end;
-        Some(Token {
-            kind: TokenKind::Mark,
-            start,
-            end,
-            text: &self.source[start..end],
-        })
+        match mark_start(self.source, self.at, mark) {
+            Some(start) => {
+                let end = start + 1;
+                self.at = end;
+                Some(Token {
+                    kind: TokenKind::Mark,
+                    start,
+                    end,
+                    text: &self.source[start..end],
+                })
+            }
+            None => self.far_mark(mark),
+        }
+    }
+
+    /// The same as [`Lexer::next_mark`], wherever the mark comes.
+    #[inline(never)]
+    fn far_mark(&mut self, mark: u8) -> Option<Token<'a>>
+        ensures some { IfSome result (λ t. GivesNext self.old (Ok (Some t)) self.new) }
+        ensures mark { IfSome result (λ t. is_mark (mark ∷ []) (token_of t) ≡ true) }
+        ensures none { IfNone result (starts (is_mark (mark ∷ [])) self.old.tokens ≡ false) }
+        ensures kept { IfNone result (self.new ≡ self.old) }
+    {
+        let mut ahead = self.fork();
+        match ahead.next_token() {
+            Ok(Some(token)) if is_this_mark(&token, mark) => {
+                *self = ahead;
+                Some(token)
+            }
+            _ => None,
+        }
+    }
+}
+
+/// Whether the token is this mark.
+fn is_this_mark(token: &Token, mark: u8) -> bool
+    ensures { result ≡ is_mark (mark ∷ []) (token_of token.now) }
+{
+    match token.kind {
+        TokenKind::Mark => token.text == [mark].as_slice(),
+        _ => false,
     }
 }

@@ -66,7 +66,7 @@ fn skip_with(tokens: &mut Tokens, spelling: u8) -> Result<(), ReadFault>
         tokens.skip();
         Ok(())
     } else {
-        mark(tokens, spelling)
+        Err(tokens.unexpected())
     }
 }
 

@@ -134,13 +134,12 @@ impl<'a> Tokens<'a> {
         }
     }
 
-    /// Removes the first of them, where this mark is expected after it. `true` says that the mark is now the first; if it
-    /// says `false`, it may still be.
+    /// Removes the first of them, where this mark is expected after it, and says whether it is.
     #[inline(always)]
     pub(crate) fn skip_to(&mut self, mark: u8) -> bool
         requires { kind_of mark ≡ Some Mark }
         ensures rest { self.new ≡ drop 1 self.old }
-        ensures mark { result ≡ true → starts (is_mark (mark ∷ [])) self.new ≡ true }
+        ensures mark { result ≡ starts (is_mark (mark ∷ [])) self.new }
     {
         match Lexer::at(self.source, self.end).next_mark(mark) {
             Some(token) => {

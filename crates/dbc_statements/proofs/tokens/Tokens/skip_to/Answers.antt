@@ -21,4 +21,4 @@ pub returns-in-Some-clause-mark : goal.returns-in-Some-clause-mark
 returns-in-Some-clause-mark c =
     let at = c.self.inside in
     let begin = begin_with at.source.now at.end c.self.invariant.within c.at.result c.at.ensures (token_of c.in-Some.token) c.next_mark.new.self.tokens c.in-Some.ensures.some.0 in
-    λ _. subst (λ (ts : List Token). starts (is_mark (c.args.mark ∷ [])) ts ≡ true) (sym begin) c.in-Some.ensures.mark
+    sym (subst (λ (ts : List Token). starts (is_mark (c.args.mark ∷ [])) ts ≡ true) (sym begin) c.in-Some.ensures.mark)

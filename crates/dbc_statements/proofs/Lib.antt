@@ -8,3 +8,4 @@ pub mod Offsets
 pub mod WholeText
 pub mod OneStatement
 mod LeftRows
+mod ReadingRows

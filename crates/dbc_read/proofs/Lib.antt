@@ -30,4 +30,6 @@ pub mod Cleared
 pub mod TokenFaults
 pub mod ReadFaults
 mod GatheringRows
+mod ReadingRows
+mod LateRows
 mod DefinitionRows

@@ -178,10 +178,10 @@ impl Line for Answer {
 
     ghost line = { answer_line };
 
-    fn line(&self, alloc: Global) -> Result<String, AllocError> {
+    fn add_to(&self, text: &mut String) -> Result<(), AllocError> {
         match self {
-            Answer::Reply(reply) => format!(in alloc; "{reply}\n"),
-            Answer::KeyReused => format!(in alloc; "refused 70 KeyReused\n"),
+            Answer::Reply(reply) => write!(text, "{reply}\n"),
+            Answer::KeyReused => write!(text, "refused 70 KeyReused\n"),
         }
     }
 }

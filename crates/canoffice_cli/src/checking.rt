@@ -18,8 +18,8 @@ impl Line for Passed {
 
     ghost line = { λ passed. passed_line (start_and_keyword passed) };
 
-    fn line(&self, alloc: Global) -> Result<String, AllocError> {
-        format!(in alloc; "passed {} {}\n", self.at, self.keyword.text())
+    fn add_to(&self, text: &mut String) -> Result<(), AllocError> {
+        write!(text, "passed {} {}\n", self.at, self.keyword.text())
     }
 }
 

@@ -1,8 +1,8 @@
 -- What a text that is divided into statements reads as.
-use Rattle.std.proofs.Common.{◌≡◌, ◌∙◌, ℕ, List, Option, None, Some, Result, Ok, Err, map, ap, refl, sym, subst}
-use Rattle.std.specs.Prelude.{IfErr, IfNone, IfOk, IfSome}
+use Rattle.std.proofs.Common.{◌≡◌, ◌∙◌, ℕ, List, Option, None, Some, Result, Ok, map, ap, refl, sym, subst}
+use Rattle.std.specs.Prelude.{IfOk, IfSome}
 use Rattle.std.proofs.lemmas.Option.{IfSome_then}
-use Rattle.std.proofs.lemmas.Result.{IfErr-at_err, IfOk-at_ok}
+use Rattle.std.proofs.lemmas.Result.{IfOk-at_ok}
 use Rattle.catalogue.specs.Division.{Divides}
 use Rattle.catalogue.specs.Lexing.{Lexed, lexed}
 use Rattle.catalogue.specs.Parsing.{statements_at}
@@ -25,15 +25,13 @@ use Rattle.dbc_read.specs.Built.{CanBeSheet, IsBuilt}
 use Rattle.dbc_read.specs.Faults.{IsFault}
 use Rattle.dbc_read.specs.Gathered.{AreGathered}
 use Rattle.dbc_read.specs.Passed.{start_and_keyword}
-use Rattle.dbc_read.specs.Reading.{CanNeverBeSheet, ReadsAsNothing}
-use Rattle.dbc_read.specs.Refusal.{Unless}
+use Rattle.dbc_read.specs.Reading.{ReadsAsNothing}
 use Rattle.dbc_read.specs.Sheets.{SaysNothing}
 use Rattle.dbc_read.specs.declared.gathered.Gathered.{Gathered}
 use Rattle.dbc_read.specs.declared.reading.Reading.{Reading}
 use Rattle.dbc_read.specs.declared.refusal.Refusal.{Refusal}
-use Rattle.dbc_read.specs.declared.refusal.Refusal.TheVariants.{NoSheet}
 use Rattle.dbc_read.proofs.FaultsRefuse.{refused_fault}
-use Rattle.dbc_read.proofs.SheetsSaid.{can_be_sheet_again, says_built, says_nothing}
+use Rattle.dbc_read.proofs.SheetsSaid.{says_built, says_nothing}
 
 pub no_tokens_left : (bytes source : List ℕ) (fault : ReadFault) → source ≡ bytes → EndsWith (lexed 0 source) fault → HasNoDivision bytes
 no_tokens_left bytes source fault same ends = no_tokens bytes fault (subst (λ (x : List ℕ). EndsWith (lexed 0 x) fault) same ends)
@@ -86,10 +84,6 @@ module _ (bytes : List ℕ) where
       pub reads_none_at : (fault : ReadFault) → IsFault g fault → ReadsAsNothing bytes
       reads_none_at fault is = reads_none (refused_fault ss g a fault is)
 
-      -- and what is gathered of it once more can't be either
-      pub can_never_be_sheet : ¬ CanBeSheet g → CanNeverBeSheet bytes
-      can_never_be_sheet never us e h b = λ can. never (can_be_sheet_again ss g h a (subst (λ l. AreGathered l h) (same_statements us e) b) can)
-
       -- the sheet that is built of what is gathered
       pub reads_built : (r : Reading) → IsBuilt g r.sheet → r.passed ≡ g.passed → ReadsAs bytes r.sheet (map start_and_keyword r.passed)
       reads_built r built same = reads_as r.sheet _ (says_built ss g a r.sheet built) (ap (map start_and_keyword) same ∙ a.passed)
@@ -104,10 +98,3 @@ module _ (bytes : List ℕ) where
 
         pub found_only : ReadsAsOneAtMost → IfOk built (λ r. IsBuilt g r.sheet) → IfSome found (λ r. built ≡ Ok r) → IfSome found (λ r. ReadsOnlyAs bytes r.sheet)
         found_only one is some = IfSome_then found some (λ r e. reads_only_built one r (IfOk-at_ok (λ (x : Reading). IsBuilt g x.sheet) e is))
-
-        pub found_never : IfErr built (λ refusal. Unless refusal (¬ CanBeSheet g)) → IfNone found (built ≡ Err NoSheet) → IfNone found (CanNeverBeSheet bytes)
-        found_never refused none = by found none
-          where
-            by : (o : Option Reading) → IfNone o (built ≡ Err NoSheet) → IfNone o (CanNeverBeSheet bytes)
-            by None e = can_never_be_sheet (IfErr-at_err (λ refusal. Unless refusal (¬ CanBeSheet g)) e refused)
-            by (Some r) e = tt

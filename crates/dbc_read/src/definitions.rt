@@ -1,9 +1,10 @@
 //! The first fault of a text's definitions: its nodes, value tables and messages with their signals.
 //!
-//! What is gathered for a sheet is consumed, and the places of signals aren't kept. So if the sheet is refused, the text
-//! is read once more for its first fault: statement by statement, and nothing is kept but the definitions. Others can be
-//! at fault in one way only, by too many texts for the values of a signal. If there is such a statement, the definitions
-//! alone don't tell the first fault, since the texts may be of no signal, or not the last ones of theirs.
+//! What is gathered for a sheet is consumed, and the places of signals aren't kept. So if the sheet is refused, or can't be
+//! gathered one by one, the text is read once more for its first fault: statement by statement, and nothing is kept but
+//! the definitions. Others can be at fault in one way only, by too many texts for the values of a signal. If there is such
+//! a statement, the definitions alone don't tell the first fault, since the texts may be of no signal, or not the last
+//! ones of theirs.
 ghost use Rattle.std.specs.Prelude.{◌≡◌, ◌++◌, [], ◌∷◌, List, None, IfErr, IfNone, IfOk, IfSome, OnOk};
 ghost use Rattle.catalogue.specs.Parsing.{statements_at};
 ghost use Rattle.catalogue.specs.Statement as says;
@@ -87,15 +88,14 @@ fn definitions_of(alloc: Global, statements: &mut Statements) -> Result<Option<G
     further_definitions(alloc, nothing, statements)
 }
 
-/// The first fault of the definitions of a text that can't be one sheet; or `None` if one of its statements has too many
-/// texts for values.
+/// The first fault of the definitions of a text. `None` if they have none, or if one of its statements has too many texts
+/// for values. A text that can never be one sheet and has no such statement has a fault.
 pub(crate) fn fault_of_definitions(
     alloc: Global,
     source: &[u8],
 ) -> Result<Option<ReadFault>, ReadFault>
-    requires { CanNeverBeSheet source.now }
     ensures fault { IfOk result (λ found. IfSome found (IsDefinitionFault source.now)) }
-    ensures many { IfOk result (λ found. IfNone found (HasManyTexts source.now)) }
+    ensures many { IfOk result (λ found. IfNone found (CanNeverBeSheet source.now → HasManyTexts source.now)) }
     ensures err { IfErr result (λ fault. UnlessMemory fault.code (HasNoDivision source.now)) }
     ensures tokens { TokensComeFirst source.now result }
 {
@@ -103,10 +103,10 @@ pub(crate) fn fault_of_definitions(
     let read = definitions_of(alloc, &mut statements);
     statements.token_fault()?;
     match read? {
-        Some(gathered) => match definition_fault(alloc, &gathered)? {
-            Some(fault) => Ok(Some(fault)),
-            None => unreachable!(),
-        },
+        Some(gathered) => {
+            let fault = definition_fault(alloc, &gathered)?;
+            Ok(fault)
+        }
         None => Ok(None),
     }
 }

@@ -13,15 +13,15 @@
 //! If a node or a message is defined after something was cited, what is cited is known only at the end. Then nothing but
 //! definitions is gathered up to there, and a second reading gathers all else (`late`).
 //!
-//! Some files can't be gathered so. One may use a number twice, list too many texts for values, or have 65,536 signals
-//! or more in a message. Such a file is read once more, into a list of all statements. The indices of what they cite are
-//! found by binary search (`keys`, `lookup`, `lookups`) before any of them is gathered; what is attached to signals is
-//! listed at these indices, and then moved into the signals (`feed`, `feeding`).
-//!
 //! Messages are built by moving their parts (`signals`, `messages`), and the sheet by its own calls (`sheets`), which
-//! refuse what can't be in one. Then the text's first fault is searched for (`first_fault`), with the places of signals
-//! (`placed`). Lists are searched before a sheet is built of them. If statements were gathered as they came, they are
-//! consumed, and the text is read once more, for its definitions alone (`definitions`): it is they that are at fault.
+//! refuse what can't be in one. Then the text is read once more, for its definitions alone (`definitions`), since it is
+//! they that are at fault: the first fault is searched for among them (`first_fault`), with the places of signals
+//! (`placed`). So it is for a file that can't be gathered as it comes: one that uses a number twice, say.
+//!
+//! Only where a statement lists too many texts for values, the definitions don't tell whether that is a fault. Such a
+//! file is read into a list of all statements. The indices of what they cite are found by binary search (`keys`, `lookup`,
+//! `lookups`) before any of them is gathered; what is attached to signals is listed at these indices, searched for a
+//! fault, and then moved into the signals (`feed`, `feeding`).
 #![tactic(auto)]
 
 mod attaching;

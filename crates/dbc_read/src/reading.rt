@@ -12,7 +12,7 @@ ghost use Rattle.dbc_read.specs.declared.refusal.Refusal.TheVariants.{NoSheet};
 ghost use Rattle.dbc_statements.specs.Division.{HasNoDivision, TokensComeFirst};
 
 use crate::definitions::fault_of_definitions;
-use crate::first_fault::first_fault;
+use crate::first_fault::{definition_fault, first_fault};
 use crate::gathered::{Gathered, gathered_of};
 use crate::late::gathered_again;
 use crate::one_by_one::{Found, gathered_one_by_one};
@@ -32,7 +32,7 @@ pub struct Reading {
 }
 
 /// What the statements of the text say, gathered one by one, or `None` if they can't be gathered so. If something is
-/// defined late, the text is read a second time.
+/// defined late, the text is read a second time, or `None` comes at once if what it defines can't be in one sheet.
 fn gathered_at_once(alloc: Global, source: &[u8]) -> Result<Option<Gathered>, ReadFault>
     ensures ok { IfOk result (λ found. IfSome found (λ gathered. IsOfText source.now (in_signals gathered))) }
     ensures err { IfErr result (λ fault. UnlessMemory fault.code (HasNoDivision source.now)) }
@@ -45,6 +45,10 @@ fn gathered_at_once(alloc: Global, source: &[u8]) -> Result<Option<Gathered>, Re
     match found {
         Some(Found::All(gathered)) => Ok(Some(gathered)),
         Some(Found::Definitions(definitions)) => {
+            // A second reading is of no use where these can't be in one sheet.
+            if definition_fault(alloc, &definitions)?.is_some() {
+                return Ok(None);
+            }
             gathered_again(alloc, definitions, &mut Statements::of(source))
         }
         None => Ok(None),
@@ -94,22 +98,18 @@ fn read_lists(alloc: Global, source: &[u8]) -> Result<Reading, ReadFault>
     }
 }
 
-/// What the text reads as, or `None` if what its statements say can't be in one sheet.
+/// What the text reads as, or `None` if its statements can't be gathered one by one, or if what they say can't be in one
+/// sheet.
 fn read_sheet(alloc: Global, source: &[u8]) -> Result<Option<Reading>, ReadFault>
     ensures reads { IfOk result (λ found. IfSome found (λ reading. ReadsAs source.now reading.sheet (map start_and_keyword reading.passed))) }
     ensures only { IfOk result (λ found. IfSome found (λ reading. ReadsOnlyAs source.now reading.sheet)) }
-    ensures never { IfOk result (λ found. IfNone found (CanNeverBeSheet source.now)) }
-    ensures none { IfErr result (λ fault. UnlessMemory fault.code (ReadsAsNothing source.now)) }
-    ensures faults { IfErr result (λ fault. UnlessMemory fault.code (HasFault source.now fault)) }
+    ensures err { IfErr result (λ fault. UnlessMemory fault.code (HasNoDivision source.now)) }
     ensures tokens { TokensComeFirst source.now result }
 {
     texts_read_as_one_sheet();
     match gathered_at_once(alloc, source)? {
         Some(gathered) => reading_or_none(gathered.into_reading(alloc)),
-        None => {
-            let reading = read_lists(alloc, source)?;
-            Ok(Some(reading))
-        }
+        None => Ok(None),
     }
 }
 

@@ -1,13 +1,12 @@
-use Rattle.std.proofs.Common.{inl}
 use Rattle.std.proofs.lemmas.Result.{IfOk-weaker, err_from_is_err_and}
 use Rattle.dbc_read.specs.Attaching.{in_signals}
-use Rattle.dbc_read.proofs.Divided.{found_never, found_only, found_reads, undivided}
+use Rattle.dbc_read.proofs.Divided.{found_only, found_reads}
 use Rattle.dbc_read.proofs.reading.read_sheet.Goals as goal
 
-pub returns-in_err-gathered-clause-none : goal.returns-in_err-gathered-clause-none
-returns-in_err-gathered-clause-none c =
+pub returns-in_err-gathered-clause-err : goal.returns-in_err-gathered-clause-err
+returns-in_err-gathered-clause-err c =
     let p = err_from_is_err_and c.from_residual.result c.from_residual.ensures.1 in
-    rw (p.1, p.2) (λ memory. undivided c.args.source.now (c.in_err-gathered.ensures.err memory))
+    rw (p.1, p.2) (λ memory. c.in_err-gathered.ensures.err memory)
 
 pub returns-in-Some-clause-reads : goal.returns-in-Some-clause-reads
 returns-in-Some-clause-reads c =
@@ -20,14 +19,3 @@ returns-in-Some-clause-only c =
     let of = rw c.in-Some.is at c.in_ok-gathered.ensures.ok in
     IfOk-weaker c.reading_or_none.result _ _ (λ found some.
     found_only c.args.source.now of.said of.divided (in_signals c.in-Some.gathered) of.gathered c.into_reading.result found c.texts_read_as_one_sheet.ensures c.into_reading.ensures.built some) c.reading_or_none.ensures.some
-
-pub returns-in-Some-clause-never : goal.returns-in-Some-clause-never
-returns-in-Some-clause-never c =
-    let of = rw c.in-Some.is at c.in_ok-gathered.ensures.ok in
-    IfOk-weaker c.reading_or_none.result _ _ (λ found none.
-    found_never c.args.source.now of.said of.divided (in_signals c.in-Some.gathered) of.gathered c.into_reading.result found c.into_reading.ensures.refused none) c.reading_or_none.ensures.none
-
-pub returns-in_err-gathered-clause-faults : goal.returns-in_err-gathered-clause-faults
-returns-in_err-gathered-clause-faults c =
-    let p = err_from_is_err_and c.from_residual.result c.from_residual.ensures.1 in
-    rw (p.1, p.2) (λ memory. inl (c.in_err-gathered.ensures.err memory))

@@ -1,5 +1,5 @@
 -- What a binary search finds in an order of names, and the orders of the signals of lines.
-use Rattle.std.proofs.Common.{◌≡◌, ◌<◌, ◌∙◌, ◌||◌, ℕ, zero, suc, Bool, true, false, List, [], ◌∷◌, length, get_or, map, Some, Vec, refl, sym, ap, subst, inl, inr, arith}
+use Rattle.std.proofs.Common.{◌≡◌, ◌<◌, ◌∙◌, ◌||◌, ℕ, zero, suc, Bool, true, false, List, [], ◌∷◌, length, get_or, map, Some, refl, sym, ap, subst, inl, inr, arith}
 use Rattle.std.specs.Prelude.{slice_get}
 use Rattle.std.specs.Cmp.Lexicographic.{nat_list_cmp_total, texts_ties}
 use Rattle.std.specs.List.{All, HoldsAt, list_any, range_with_len}
@@ -14,6 +14,7 @@ use Rattle.catalogue.specs.Keyed.{text_cmp}
 use Rattle.catalogue.specs.Statement.{SignalLine}
 use Rattle.catalogue.specs.declared.signal.Signal.{Signal}
 use Rattle.dbc_read.specs.Orders.{AreOrdersOf, IsAscending, IsOrderOf, signal_names}
+use Rattle.dbc_read.specs.declared.orders.Order.{Order}
 use Rattle.dbc_statements.specs.Statement.{message_of, signals_of}
 use Rattle.dbc_statements.specs.declared.statement.MessageLine.{MessageLine}
 
@@ -78,17 +79,16 @@ pub names_meant : (signals : List Signal) → map (λ (s : SignalLine). s.name) 
 names_meant [] = refl
 names_meant (s ∷ signals) = ap (λ l. s.name ∷ l) (names_meant signals)
 
-module _ {A : Type 0} where
-  pub as_many : (lines : List MessageLine) (orders : List (Vec ℕ A)) → AreOrdersOf (map message_of lines) orders → length orders ≡ length lines
-  as_many [] [] are = refl
-  as_many [] (order ∷ orders) are = absurd are
-  as_many (line ∷ lines) [] are = absurd are
-  as_many (line ∷ lines) (order ∷ orders) are = let rest = as_many lines orders are.1 in omega arith
+pub as_many : (lines : List MessageLine) (orders : List Order) → AreOrdersOf (map message_of lines) orders → length orders ≡ length lines
+as_many [] [] are = refl
+as_many [] (order ∷ orders) are = absurd are
+as_many (line ∷ lines) [] are = absurd are
+as_many (line ∷ lines) (order ∷ orders) are = let rest = as_many lines orders are.1 in omega arith
 
-  -- the order of the message at an index
-  pub order_there : (d : MessageLine) (e : Vec ℕ A) (lines : List MessageLine) (orders : List (Vec ℕ A)) (i : ℕ) → AreOrdersOf (map message_of lines) orders → i < length lines
-      → IsOrderOf (signal_names (get_or lines i d).signals.items) (get_or orders i e).items
-  order_there d e [] orders i are h = absurd (omega arith)
-  order_there d e (line ∷ lines) [] i are h = absurd are
-  order_there d e (line ∷ lines) (order ∷ orders) zero are h = subst (λ names. IsOrderOf names order.items) (names_meant line.signals.items) are.0
-  order_there d e (line ∷ lines) (order ∷ orders) (suc i) are h = order_there d e lines orders i are.1 (omega arith)
+-- the order of the message at an index
+pub order_there : (d : MessageLine) (e : Order) (lines : List MessageLine) (orders : List Order) (i : ℕ) → AreOrdersOf (map message_of lines) orders → i < length lines
+    → IsOrderOf (signal_names (get_or lines i d).signals.items) (get_or orders i e).indices.items
+order_there d e [] orders i are h = absurd (omega arith)
+order_there d e (line ∷ lines) [] i are h = absurd are
+order_there d e (line ∷ lines) (order ∷ orders) zero are h = subst (λ names. IsOrderOf names order.indices.items) (names_meant line.signals.items) are.0
+order_there d e (line ∷ lines) (order ∷ orders) (suc i) are h = order_there d e lines orders i are.1 (omega arith)

@@ -1,10 +1,11 @@
 -- The signals of a message in ascending order of their names.
-use Rattle.std.specs.Prelude.{◌≤◌, ⊤, ℕ, List, [], ◌∷◌, get_or, length, map, IsPermutation, IsSortedBy, Vec}
+use Rattle.std.specs.Prelude.{◌≤◌, ⊤, ℕ, List, [], ◌∷◌, get_or, length, map, IsPermutation, IsSortedBy}
 use Rattle.std.specs.List.{range_with_len}
 use Rattle.std.specs.Ordering.{is_lt}
 use Rattle.catalogue.specs.Keyed.{text_cmp}
 use Rattle.catalogue.specs.Statement as says
 use Rattle.catalogue.specs.declared.signal.Signal.{Signal}
+use Rattle.dbc_read.specs.declared.orders.Order.{Order}
 use Rattle.dbc_read.specs.declared.orders.TheConstants.{FEW_SIGNALS}
 
 abbrev pub signal_names : List Signal → List (List ℕ)
@@ -24,7 +25,7 @@ IsOrderOf names [] = length names ≤ FEW_SIGNALS
 IsOrderOf names (i ∷ order) = IsAscending names (i ∷ order)
 
 -- an order for each of the messages
-abbrev pub AreOrdersOf : {A : Type 0} → List says.MessageLine → List (Vec ℕ A) → Type 0
+abbrev pub AreOrdersOf : List says.MessageLine → List Order → Type 0
 AreOrdersOf [] [] = ⊤
-AreOrdersOf (m ∷ ms) (order ∷ orders) = IsOrderOf (line_names m) order.items × AreOrdersOf ms orders
+AreOrdersOf (m ∷ ms) (order ∷ orders) = IsOrderOf (line_names m) order.indices.items × AreOrdersOf ms orders
 AreOrdersOf ms orders = ⊥

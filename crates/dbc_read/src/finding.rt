@@ -2,7 +2,8 @@
 //!
 //! A message is found by its number, and a signal by its name among those of its message. The one after the signal that
 //! was found last is tried first, and then that one again. If the name is another's, few signals are compared one by one,
-//! from there on and round; among many there is a binary search (`orders`), so that no order of citations takes long.
+//! from there on and round; among many it is guessed (`guesses`), and if the guess is wrong, there is a binary search
+//! (`orders`), so that no order of citations takes long.
 ghost use Rattle.std.specs.Prelude.{◌≡◌, ◌==◌, List, IfOk, IfSome, Some, false, map, nat_eq, slice_get, true};
 ghost use Rattle.std.specs.List.{IsDistinct};
 ghost use Rattle.std.specs.Str.{bytes_eq};
@@ -17,10 +18,11 @@ ghost use Rattle.dbc_statements.specs.Statement.{content_of};
 ghost use Rattle.dbc_statements.specs.declared.statement.MessageLine.{MessageLine};
 
 use crate::attaching::Place;
+use crate::guesses::guess;
 use crate::keys::add_names;
 use crate::lookup::{Lookup, lookup_of};
 use crate::numbers::{Numbers, numbers_of};
-use crate::orders::{orders_of, search};
+use crate::orders::{Order, orders_of, search};
 use catalogue::Signal;
 use dbc_statements::{CitedSignal, Content, MessageLine, NodeName};
 use std::alloc::{AllocError, Global};
@@ -31,8 +33,8 @@ pub(crate) struct Finders<'s> {
     pub nodes: Lookup<&'s [u8]>,
     /// The numbers of the messages.
     pub numbers: Numbers,
-    /// The order of the signals of each message.
-    pub orders: Vec<Vec<u16>>,
+    /// The order of the signals of each message, and guesses of them.
+    pub orders: Vec<Order>,
 }
 
 /// What finds these nodes and messages. `None` if two messages have the same number, or one has 65,536 signals or more.
@@ -104,17 +106,20 @@ fn named(signals: &[Signal], name: &[u8], next: usize) -> Option<usize>
 }
 
 /// The index of a signal of that name, wherever it is. Few signals are compared one by one, those from `next` on first;
-/// among many there is a binary search.
+/// among many it is guessed, and if the guess is wrong, there is a binary search.
 #[inline(never)]
-fn anywhere(signals: &[Signal], order: &[u16], name: &[u8], next: usize) -> Option<usize>
-    requires { IsOrderOf (signal_names signals.now) order.now }
+fn anywhere(signals: &[Signal], order: &Order, name: &[u8], next: usize) -> Option<usize>
+    requires { IsOrderOf (signal_names signals.now) order.now.indices.items }
     ensures { IsIndexIn (λ (s : Signal). bytes_eq s.name name.now) signals.now result }
 {
-    if order.is_empty() {
-        named(signals, name, next)
-    } else {
-        search(signals, order, name)
+    if order.indices.is_empty() {
+        return named(signals, name, next);
     }
+    let guessed = guess(&order.guesses, name);
+    if has_at(signals, guessed, name) {
+        return Some(guessed);
+    }
+    search(signals, &order.indices, name)
 }
 
 impl Track {
@@ -145,8 +150,8 @@ impl Track {
 
     /// The index of a signal of that name among those of the message that was found last. The one after the signal that
     /// was found last is tried first, and then that one.
-    fn signal_index(&mut self, signals: &[Signal], order: &[u16], name: &[u8]) -> Option<usize>
-        requires { IsOrderOf (signal_names signals.now) order.now }
+    fn signal_index(&mut self, signals: &[Signal], order: &Order, name: &[u8]) -> Option<usize>
+        requires { IsOrderOf (signal_names signals.now) order.now.indices.items }
         ensures { IsIndexIn (λ (s : Signal). bytes_eq s.name name.now) signals.now result }
     {
         let next = self.next;

@@ -6,7 +6,7 @@
 //! Statements are gathered as they come (`one_by_one`), so none of them is kept. First come those up to the first that
 //! cites a node, a message or a signal: their contents are gathered by kind (`gathered`). Then messages are found by
 //! number, in a set of the kit's `indexmap` (`numbers`), and signals by name among those of their message (`finding`):
-//! few names are compared one by one, and many are in ascending order (`orders`).
+//! few names are compared one by one, and many are guessed (`guesses`), or are in ascending order (`orders`).
 //! What a statement attaches to a signal is set there at once (`attaching`, `settling`), so that the last one counts; if
 //! there is no such signal, the statement is skipped.
 //!
@@ -31,6 +31,7 @@ mod feeding;
 mod finding;
 mod first_fault;
 mod gathered;
+mod guesses;
 mod items;
 mod keys;
 mod late;

@@ -9,9 +9,18 @@ ghost use Rattle.dbc_read.specs.Lookup.{IsIndexIn};
 ghost use Rattle.dbc_read.specs.Orders.{AreOrdersOf, IsAscending, IsOrderOf, signal_names};
 ghost use Rattle.dbc_statements.specs.Statement.{message_of};
 
+use crate::guesses::guesses_of;
 use catalogue::Signal;
 use dbc_statements::MessageLine;
 use std::alloc::{AllocError, Global};
+
+/// How the signals of a message are found. Both lists are empty if they are few.
+pub(crate) struct Order {
+    /// The indices of the signals in ascending order of their names.
+    pub indices: Vec<u16>,
+    /// The guesses of a signal by its name (`guesses`).
+    pub guesses: Vec<u16>,
+}
 
 /// Up to how many signals of a message are compared one by one.
 const FEW_SIGNALS: usize = 16;
@@ -40,23 +49,29 @@ fn ascending(alloc: Global, signals: &[Signal], count: u16) -> Result<Vec<u16>, 
 }
 
 /// The order of the signals of a message, which is empty if they are few. `None` if they are 65,536 or more.
-fn order_of(alloc: Global, signals: &[Signal]) -> Result<Option<Vec<u16>>, AllocError>
-    ensures { IfOk result (λ found. IfSome found (λ order. IsOrderOf (signal_names signals.now) order.items)) }
+fn order_of(alloc: Global, signals: &[Signal]) -> Result<Option<Order>, AllocError>
+    ensures { IfOk result (λ found. IfSome found (λ order. IsOrderOf (signal_names signals.now) order.indices.items)) }
 {
     if signals.len() <= FEW_SIGNALS {
-        return Ok(Some(Vec::new(alloc)));
+        return Ok(Some(Order {
+            indices: Vec::new(alloc),
+            guesses: Vec::new(alloc),
+        }));
     }
-    match u16::try_from(signals.len()) {
-        Ok(count) => Ok(Some(ascending(alloc, signals, count)?)),
-        Err(_) => Ok(None),
-    }
+    let count = match u16::try_from(signals.len()) {
+        Ok(count) => count,
+        Err(_) => return Ok(None),
+    };
+    let indices = ascending(alloc, signals, count)?;
+    let guesses = guesses_of(alloc, signals, count)?;
+    Ok(Some(Order { indices, guesses }))
 }
 
 /// The order of the signals of each message. `None` if a message has 65,536 signals or more, which no sheet has.
 pub(crate) fn orders_of(
     alloc: Global,
     lines: &[MessageLine],
-) -> Result<Option<Vec<Vec<u16>>>, AllocError>
+) -> Result<Option<Vec<Order>>, AllocError>
     ensures { IfOk result (λ found. IfSome found (λ orders. AreOrdersOf (map message_of lines.now) orders.items)) }
 {
     let mut orders = Vec::with_capacity(alloc, lines.len())?;
@@ -77,5 +92,14 @@ pub(crate) fn search(signals: &[Signal], order: &[u16], name: &[u8]) -> Option<u
     match order.binary_search_by(|index: &u16| name_at(signals, *index).cmp(name)) {
         Ok(at) => Some(usize::from(order[at])),
         Err(_) => None,
+    }
+}
+
+impl Drop for Order {
+    fn drop(self) {
+        let Order {
+            indices: _indices,
+            guesses: _guesses,
+        } = self;
     }
 }

@@ -1,5 +1,5 @@
 -- What a binary search finds in an order of names, and the orders of the signals of lines.
-use Rattle.std.proofs.Common.{◌≡◌, ◌<◌, ◌∙◌, ◌||◌, ℕ, zero, suc, Bool, true, false, List, [], ◌∷◌, length, get_or, map, Some, refl, sym, ap, subst, inl, inr, arith}
+use Rattle.std.proofs.Common.{◌≡◌, ◌<◌, ◌∙◌, ◌||◌, ℕ, zero, suc, Bool, true, false, List, [], ◌∷◌, length, get_or, map, Option, Some, Box, Global, refl, sym, ap, subst, inl, inr, arith}
 use Rattle.std.specs.Prelude.{slice_get}
 use Rattle.std.specs.Cmp.Lexicographic.{nat_list_cmp_total, texts_ties}
 use Rattle.std.specs.List.{All, HoldsAt, list_any, range_with_len}
@@ -67,28 +67,20 @@ module _ (names : List (List ℕ)) (order : List ℕ) (is : IsAscending names or
       let there : get_or all i 0 ≡ i = omega arith in
       subst (λ j. same (get_or names j []) ≡ false) there (each i 0 (omega arith)))
 
--- an order of many names isn't empty
-pub is_order : (names : List (List ℕ)) (order : List ℕ) → 0 < length names → IsAscending names order → IsOrderOf names order
-is_order names [] some is =
-    let all = range_with_len 0 (length names) in
-    let long = length-range_with_len 0 (length names) in
-    absurd (All-permutation (λ i. ⊥) [] all (IsPermutation-sym all [] is.indices) (λ k d lt. absurd (omega arith)) 0 0 (omega arith))
-is_order names (i ∷ order) some is = is
-
 pub names_meant : (signals : List Signal) → map (λ (s : SignalLine). s.name) (signals_of signals) ≡ signal_names signals
 names_meant [] = refl
 names_meant (s ∷ signals) = ap (λ l. s.name ∷ l) (names_meant signals)
 
-pub as_many : (lines : List MessageLine) (orders : List Order) → AreOrdersOf (map message_of lines) orders → length orders ≡ length lines
+pub as_many : (lines : List MessageLine) (orders : List (Option (Box Order Global))) → AreOrdersOf (map message_of lines) orders → length orders ≡ length lines
 as_many [] [] are = refl
 as_many [] (order ∷ orders) are = absurd are
 as_many (line ∷ lines) [] are = absurd are
 as_many (line ∷ lines) (order ∷ orders) are = let rest = as_many lines orders are.1 in omega arith
 
 -- the order of the message at an index
-pub order_there : (d : MessageLine) (e : Order) (lines : List MessageLine) (orders : List Order) (i : ℕ) → AreOrdersOf (map message_of lines) orders → i < length lines
-    → IsOrderOf (signal_names (get_or lines i d).signals.items) (get_or orders i e).indices.items
+pub order_there : (d : MessageLine) (e : Option (Box Order Global)) (lines : List MessageLine) (orders : List (Option (Box Order Global))) (i : ℕ) → AreOrdersOf (map message_of lines) orders → i < length lines
+    → IsOrderOf (signal_names (get_or lines i d).signals.items) (get_or orders i e)
 order_there d e [] orders i are h = absurd (omega arith)
 order_there d e (line ∷ lines) [] i are h = absurd are
-order_there d e (line ∷ lines) (order ∷ orders) zero are h = subst (λ names. IsOrderOf names order.indices.items) (names_meant line.signals.items) are.0
+order_there d e (line ∷ lines) (order ∷ orders) zero are h = subst (λ names. IsOrderOf names order) (names_meant line.signals.items) are.0
 order_there d e (line ∷ lines) (order ∷ orders) (suc i) are h = order_there d e lines orders i are.1 (omega arith)

@@ -1,5 +1,5 @@
 -- Computed rows of the definitions of orders.
-use Rattle.std.proofs.Common.{◌≡◌, ◌<◌, ◌≤◌, ◌+◌, ℕ, zero, suc, false, List, [], ◌∷◌, get_or, refl, true≢false, arith}
+use Rattle.std.proofs.Common.{◌≡◌, ◌<◌, ◌≤◌, ◌+◌, ℕ, zero, suc, false, List, [], ◌∷◌, Global, None, get_or, refl, true≢false, arith}
 use Rattle.std.specs.Ordering.{is_lt}
 use Rattle.catalogue.specs.Keyed.{text_cmp}
 use Rattle.dbc_read.specs.Orders.{IsAscending, IsOrderOf}
@@ -17,9 +17,9 @@ ascend : IsAscending b_and_a (1 ∷ 0 ∷ [])
 ascend = record { indices = record { moves = (0, 1) ∷ []; below = (omega arith, omega arith, tt); is = refl }; sorted = a_is_first }
 
 -- and not as they are
-unordered : ¬ IsOrderOf b_and_a (0 ∷ 1 ∷ [])
+unordered : ¬ IsAscending b_and_a (0 ∷ 1 ∷ [])
 unordered = λ h. true≢false (h.sorted 0 0 (omega arith) (omega arith))
 
 -- so few need no order
-need_none : IsOrderOf b_and_a []
+need_none : IsOrderOf {A = Global} b_and_a None
 need_none = omega arith

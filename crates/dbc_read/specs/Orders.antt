@@ -1,5 +1,5 @@
 -- The signals of a message in ascending order of their names.
-use Rattle.std.specs.Prelude.{◌≤◌, ⊤, ℕ, List, [], ◌∷◌, get_or, length, map, IsPermutation, IsSortedBy}
+use Rattle.std.specs.Prelude.{◌≤◌, ⊤, ℕ, List, [], ◌∷◌, Option, None, Some, Box, get_or, length, map, IsPermutation, IsSortedBy}
 use Rattle.std.specs.List.{range_with_len}
 use Rattle.std.specs.Ordering.{is_lt}
 use Rattle.catalogue.specs.Keyed.{text_cmp}
@@ -19,13 +19,13 @@ pub record IsAscending (names : List (List ℕ)) (order : List ℕ) : Type 0 whe
   pub indices : IsPermutation (range_with_len 0 (length names)) order
   pub sorted : IsSortedBy (λ i j. is_lt (text_cmp (get_or names i []) (get_or names j []))) order
 
--- the same, or nothing where the names are few
-abbrev pub IsOrderOf : List (List ℕ) → List ℕ → Type 0
-IsOrderOf names [] = length names ≤ FEW_SIGNALS
-IsOrderOf names (i ∷ order) = IsAscending names (i ∷ order)
+-- an order of these names, or none where they are few
+abbrev pub IsOrderOf : {A : Type 0} → List (List ℕ) → Option (Box Order A) → Type 0
+IsOrderOf names None = length names ≤ FEW_SIGNALS
+IsOrderOf names (Some order) = IsAscending names order.value.indices.items
 
--- an order for each of the messages
-abbrev pub AreOrdersOf : List says.MessageLine → List Order → Type 0
+-- an order for each of the messages, or none
+abbrev pub AreOrdersOf : {A : Type 0} → List says.MessageLine → List (Option (Box Order A)) → Type 0
 AreOrdersOf [] [] = ⊤
-AreOrdersOf (m ∷ ms) (order ∷ orders) = IsOrderOf (line_names m) order.indices.items × AreOrdersOf ms orders
+AreOrdersOf (m ∷ ms) (order ∷ orders) = IsOrderOf (line_names m) order × AreOrdersOf ms orders
 AreOrdersOf ms orders = ⊥

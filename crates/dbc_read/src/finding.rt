@@ -18,11 +18,10 @@ ghost use Rattle.dbc_statements.specs.Statement.{content_of};
 ghost use Rattle.dbc_statements.specs.declared.statement.MessageLine.{MessageLine};
 
 use crate::attaching::Place;
-use crate::guesses::guess;
 use crate::keys::add_names;
 use crate::lookup::{Lookup, lookup_of};
 use crate::numbers::{Numbers, numbers_of};
-use crate::orders::{Order, orders_of, search};
+use crate::orders::{OrderOfMany, orders_of, search};
 use catalogue::Signal;
 use dbc_statements::{CitedSignal, Content, MessageLine, NodeName};
 use std::alloc::{AllocError, Global};
@@ -33,8 +32,8 @@ pub(crate) struct Finders<'s> {
     pub nodes: Lookup<&'s [u8]>,
     /// The numbers of the messages.
     pub numbers: Numbers,
-    /// The order of the signals of each message, and guesses of them.
-    pub orders: Vec<Order>,
+    /// The order of the signals of each message.
+    pub orders: Vec<OrderOfMany>,
 }
 
 /// What finds these nodes and messages. `None` if two messages have the same number, or one has 65,536 signals or more.
@@ -108,18 +107,21 @@ fn named(signals: &[Signal], name: &[u8], next: usize) -> Option<usize>
 /// The index of a signal of that name, wherever it is. Few signals are compared one by one, those from `next` on first;
 /// among many it is guessed, and if the guess is wrong, there is a binary search.
 #[inline(never)]
-fn anywhere(signals: &[Signal], order: &Order, name: &[u8], next: usize) -> Option<usize>
-    requires { IsOrderOf (signal_names signals.now) order.now.indices.items }
+fn anywhere(signals: &[Signal], order: &OrderOfMany, name: &[u8], next: usize) -> Option<usize>
+    requires { IsOrderOf (signal_names signals.now) order.now }
     ensures { IsIndexIn (λ (s : Signal). bytes_eq s.name name.now) signals.now result }
 {
-    if order.indices.is_empty() {
-        return named(signals, name, next);
+    match order {
+        Some(order) => {
+            let guessed = order.guesses.guess(name);
+            if has_at(signals, guessed, name) {
+                Some(guessed)
+            } else {
+                search(signals, &order.indices, name)
+            }
+        }
+        None => named(signals, name, next),
     }
-    let guessed = guess(&order.guesses, name);
-    if has_at(signals, guessed, name) {
-        return Some(guessed);
-    }
-    search(signals, &order.indices, name)
 }
 
 impl Track {
@@ -150,8 +152,13 @@ impl Track {
 
     /// The index of a signal of that name among those of the message that was found last. The one after the signal that
     /// was found last is tried first, and then that one.
-    fn signal_index(&mut self, signals: &[Signal], order: &Order, name: &[u8]) -> Option<usize>
-        requires { IsOrderOf (signal_names signals.now) order.now.indices.items }
+    fn signal_index(
+        &mut self,
+        signals: &[Signal],
+        order: &OrderOfMany,
+        name: &[u8],
+    ) -> Option<usize>
+        requires { IsOrderOf (signal_names signals.now) order.now }
         ensures { IsIndexIn (λ (s : Signal). bytes_eq s.name name.now) signals.now result }
     {
         let next = self.next;

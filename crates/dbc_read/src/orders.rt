@@ -9,18 +9,21 @@ ghost use Rattle.dbc_read.specs.Lookup.{IsIndexIn};
 ghost use Rattle.dbc_read.specs.Orders.{AreOrdersOf, IsAscending, IsOrderOf, signal_names};
 ghost use Rattle.dbc_statements.specs.Statement.{message_of};
 
-use crate::guesses::guesses_of;
+use crate::guesses::Guesses;
 use catalogue::Signal;
 use dbc_statements::MessageLine;
 use std::alloc::{AllocError, Global};
 
-/// How the signals of a message are found. Both lists are empty if they are few.
+/// How one of many signals of a message is found.
 pub(crate) struct Order {
     /// The indices of the signals in ascending order of their names.
     pub indices: Vec<u16>,
-    /// The guesses of a signal by its name (`guesses`).
-    pub guesses: Vec<u16>,
+    /// Guesses of a signal by its name.
+    pub guesses: Guesses,
 }
+
+/// The order of a message's signals, or none if they are few. It is in a block of its own, since few messages have one.
+pub(crate) type OrderOfMany = Option<Box<Order>>;
 
 /// Up to how many signals of a message are compared one by one.
 const FEW_SIGNALS: usize = 16;
@@ -48,30 +51,28 @@ fn ascending(alloc: Global, signals: &[Signal], count: u16) -> Result<Vec<u16>, 
     Ok(order)
 }
 
-/// The order of the signals of a message, which is empty if they are few. `None` if they are 65,536 or more.
-fn order_of(alloc: Global, signals: &[Signal]) -> Result<Option<Order>, AllocError>
-    ensures { IfOk result (λ found. IfSome found (λ order. IsOrderOf (signal_names signals.now) order.indices.items)) }
+/// The order of the signals of a message, or none if they are few. `None` if they are 65,536 or more.
+fn order_of(alloc: Global, signals: &[Signal]) -> Result<Option<OrderOfMany>, AllocError>
+    ensures { IfOk result (λ found. IfSome found (IsOrderOf (signal_names signals.now))) }
 {
     if signals.len() <= FEW_SIGNALS {
-        return Ok(Some(Order {
-            indices: Vec::new(alloc),
-            guesses: Vec::new(alloc),
-        }));
+        return Ok(Some(None));
     }
     let count = match u16::try_from(signals.len()) {
         Ok(count) => count,
         Err(_) => return Ok(None),
     };
     let indices = ascending(alloc, signals, count)?;
-    let guesses = guesses_of(alloc, signals, count)?;
-    Ok(Some(Order { indices, guesses }))
+    let guesses = Guesses::of(alloc, signals, count)?;
+    let order = Box::new(alloc, Order { indices, guesses })?;
+    Ok(Some(Some(order)))
 }
 
 /// The order of the signals of each message. `None` if a message has 65,536 signals or more, which no sheet has.
 pub(crate) fn orders_of(
     alloc: Global,
     lines: &[MessageLine],
-) -> Result<Option<Vec<Order>>, AllocError>
+) -> Result<Option<Vec<OrderOfMany>>, AllocError>
     ensures { IfOk result (λ found. IfSome found (λ orders. AreOrdersOf (map message_of lines.now) orders.items)) }
 {
     let mut orders = Vec::with_capacity(alloc, lines.len())?;

@@ -1,8 +1,8 @@
-use Rattle.std.proofs.Common.{◌++◌, List, drop, map}
+use Rattle.std.proofs.Common.{◌++◌, Box, Global, List, Option, drop, map}
 use Rattle.dbc_read.specs.Orders.{AreOrdersOf}
 use Rattle.dbc_read.specs.declared.orders.Order.{Order}
 use Rattle.dbc_statements.specs.Statement.{message_of}
 use Rattle.dbc_read.proofs.orders.orders_of.Given as goal
 
 abbrev pub invariant-loop-line : goal.invariant-loop-line
-invariant-loop-line l = (more : List Order) → AreOrdersOf (map message_of (drop l.line-index l.lines)) more → AreOrdersOf (map message_of l.lines) (l.orders.items ++ more)
+invariant-loop-line l = (more : List (Option (Box Order Global))) → AreOrdersOf (map message_of (drop l.line-index l.lines)) more → AreOrdersOf (map message_of l.lines) (l.orders.items ++ more)

@@ -1,7 +1,6 @@
-use Rattle.std.proofs.Common.{List, ap, arith, get_or, subst, sym}
+use Rattle.std.proofs.Common.{List, arith, get_or, subst, sym}
 use Rattle.catalogue.specs.declared.signal.Signal.{Signal}
 use Rattle.dbc_read.specs.Orders.{IsOrderOf, signal_names}
-use Rattle.dbc_read.specs.declared.orders.Order.{Order}
 use Rattle.dbc_read.proofs.Ordered.{as_many, order_there}
 use Rattle.dbc_read.proofs.Places.{number_within, place_found, place_missing, place_nowhere}
 use Rattle.dbc_read.proofs.finding.Track.place_in.Goals as goal
@@ -21,9 +20,8 @@ signal_index-requires c =
     let message = c.in-Some.message in
     let within = number_within c.args.number finders.numbers lines message c.requires.numbers c.in-Some.ensures.index in
     let there = order_there c.index-lines-message.result c.index-order.result.now lines finders.orders.items message c.requires.orders within in
-    let order = ap (λ (o : Order). o.indices.items) c.index-order.ensures in
-    subst (λ (signals : List Signal). IsOrderOf (signal_names signals) c.index-order.result.now.indices.items) (sym c.deref.ensures.value)
-    (subst (IsOrderOf (signal_names (get_or lines message c.index-lines-message.result).signals.items)) (sym order) there)
+    subst (λ (signals : List Signal). IsOrderOf (signal_names signals) c.index-order.result.now) (sym c.deref.ensures.value)
+    (subst (IsOrderOf (signal_names (get_or lines message c.index-lines-message.result).signals.items)) (sym c.index-order.ensures) there)
 
 pub returns-in-Some-signal_index : goal.returns-in-Some-signal_index
 returns-in-Some-signal_index c =

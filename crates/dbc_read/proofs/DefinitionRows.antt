@@ -1,10 +1,11 @@
 -- Computed rows of what a statement defines, and of too many texts.
-use Rattle.std.proofs.Common.{◌≡◌, ℕ, true, false, nat_lt, List, [], ◌∷◌, length, refl}
+use Rattle.std.proofs.Common.{◌≡◌, ℕ, true, false, nat_lt, List, [], ◌∷◌, append-nil, length, refl, subst, sym}
+use Rattle.catalogue.specs.Parsing.{statements_at}
 use Rattle.catalogue.specs.Statement as says
 use Rattle.catalogue.specs.Statement.{Cited}
 use Rattle.catalogue.specs.declared.keyword.Keyword.TheVariants.{Nodes}
 use Rattle.catalogue.specs.declared.value_texts.ValueText.{ValueText}
-use Rattle.dbc_read.specs.Definitions.{AreDefinitions, has_many_texts, is_definition}
+use Rattle.dbc_read.specs.Definitions.{AreDefinitions, DefineFurther, has_many_texts, is_definition}
 use Rattle.dbc_read.specs.declared.gathered.Gathered.{Gathered}
 
 -- a list of nodes defines, and a comment doesn't
@@ -21,3 +22,8 @@ limit_is cited name texts = refl
 -- of one list with the node A that node is the only definition, wherever its name is
 one_node : (g : Gathered) → AreDefinitions (record { start = 0; keyword = Nodes; content = says.NodesAre ((65 ∷ []) ∷ []) } ∷ []) (record g { nodes = record { at = 5; name = 65 ∷ [] } ∷ []; tables = []; messages = [] })
 one_node g = record { nodes = refl; tables = refl; messages = refl }
+
+-- no tokens define anything further
+nothing_further : (g : Gathered) → DefineFurther [] g g
+unfolding statements_at
+nothing_further g = record { said = []; read = refl; few = tt; are = λ before are. subst (λ ss. AreDefinitions ss g) (sym (append-nil before)) are }

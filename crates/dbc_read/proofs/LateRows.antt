@@ -18,7 +18,7 @@ use Rattle.dbc_statements.specs.Statement.{content_of, statement_of}
 use Rattle.dbc_statements.specs.declared.statement.MessageLine.{MessageLine}
 use Rattle.dbc_statements.specs.declared.statement.Statement.{Statement}
 
-nothing_is_said : AreGathered [] nothing
+pub nothing_is_said : AreGathered [] nothing
 nothing_is_said = record {
   version = refl;
   comment = refl;

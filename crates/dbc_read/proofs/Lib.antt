@@ -32,4 +32,5 @@ pub mod ReadFaults
 mod GatheringRows
 mod ReadingRows
 mod LateRows
+mod SettlingRows
 mod DefinitionRows

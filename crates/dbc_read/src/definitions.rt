@@ -1,10 +1,10 @@
 //! The first fault of a text's definitions: its nodes, value tables and messages with their signals.
 //!
-//! What is gathered for a sheet is consumed, and the places of signals aren't kept. So if the sheet is refused, or can't be
-//! gathered one by one, the text is read once more for its first fault: statement by statement, and nothing is kept but
-//! the definitions. Others can be at fault in one way only, by too many texts for the values of a signal. If there is such
-//! a statement, the definitions alone don't tell the first fault, since the texts may be of no signal, or not the last
-//! ones of theirs.
+//! What is gathered for a sheet is consumed, and the places of signals aren't kept. So if the sheet is refused, or the
+//! statements can't be gathered one by one, the text is read once more for its first fault: statement by statement, and
+//! nothing is kept but the definitions. Others can be at fault in one way only, by too many texts for the values of a
+//! signal. If there is such a statement, the definitions alone don't tell the first fault, since the texts may be of no
+//! signal, or not the last ones of theirs.
 ghost use Rattle.std.specs.Prelude.{◌≡◌, ◌++◌, [], ◌∷◌, List, None, IfErr, IfNone, IfOk, IfSome, OnOk};
 ghost use Rattle.catalogue.specs.Parsing.{statements_at};
 ghost use Rattle.catalogue.specs.Statement as says;
@@ -88,8 +88,8 @@ fn definitions_of(alloc: Global, statements: &mut Statements) -> Result<Option<G
     further_definitions(alloc, nothing, statements)
 }
 
-/// The first fault of the definitions of a text. `None` if they have none, or if one of its statements has too many texts
-/// for values. A text that can never be one sheet and has no such statement has a fault.
+/// The first fault of the definitions of a text. `None` if they have none, or if one of its statements has too many
+/// texts for values. A text that can never be one sheet and has no such statement has a fault.
 pub(crate) fn fault_of_definitions(
     alloc: Global,
     source: &[u8],

@@ -1,15 +1,15 @@
 //! Guesses of which signal of a message has a name, so that most searches end at once.
 //!
-//! Each name has a slot by its hash, and a slot has the index of the last signal whose name has it. Names can share a slot,
-//! so a guess may be wrong: whoever takes one looks whether the signal has the name, and otherwise searches (`orders`). A
-//! file chooses its names, so each is hashed after all names of its message: which of them share a slot depends on all of
-//! them. No contract speaks of guesses: they decide how long a search takes.
+//! Each name has a slot by its hash, and a slot has the index of the last signal whose name has it. Names can share a
+//! slot, so a guess may be wrong: whoever takes one looks whether the signal has the name, and otherwise searches
+//! (`orders`). A file chooses its names, so each is hashed after all names of its message: which of them share a slot
+//! depends on all of them. No contract speaks of guesses: they decide how long a search takes.
 use catalogue::Signal;
 use std::alloc::{AllocError, Global};
 use std::hash::{FoldHasher, Hasher};
 
-/// How many slots there are for each signal. With four, about one name in nine shares its slot with a later one. Twice as
-/// many slots make no search faster that was measured.
+/// How many slots there are for each signal. With four, about one name in nine shares its slot with a later one. Twice
+/// as many slots make no search faster that was measured.
 const SLOTS_OF_EACH: usize = 4;
 
 /// Guesses of the signals of a message.

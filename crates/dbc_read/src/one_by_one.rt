@@ -146,7 +146,7 @@ fn gather_up_to<'a>(
 }
 
 /// What is gathered of all the statements that are left. `None` if they can't be gathered one by one: two messages have
-/// the same number, a message has 65,536 signals or more, or a signal too many texts for values.
+/// the same number, a message has 65,536 signals or more, or a statement has too many texts for values.
 pub(crate) fn gathered_one_by_one(
     alloc: Global,
     statements: &mut Statements,

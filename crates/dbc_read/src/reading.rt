@@ -1,5 +1,6 @@
-//! Reading a DBC text: one statement after the other, a second time if something is defined late, or into lists if it
-//! can't be read so. A text that can't be one sheet has a fault, which its lists tell, or its definitions.
+//! Reading a DBC text: one statement after the other, and a second time if something is defined late. If there is no
+//! sheet, its definitions tell the first fault. If too many texts for values leave that open, the text is read into
+//! lists.
 ghost use Rattle.std.specs.Prelude.{◌≡◌, ◌≤◌, Err, IfErr, IfNone, IfOk, IfSome, Ok, length, map};
 ghost use Rattle.catalogue.specs.Reads.{ReadsAs, ReadsOnlyAs};
 ghost use Rattle.dbc_lex.specs.Fault.{UnlessMemory};
@@ -32,7 +33,7 @@ pub struct Reading {
 }
 
 /// What the statements of the text say, gathered one by one, or `None` if they can't be gathered so. If something is
-/// defined late, the text is read a second time, or `None` comes at once if what it defines can't be in one sheet.
+/// defined late, the text is read a second time, but not if its definitions have a fault: then `None` comes at once.
 fn gathered_at_once(alloc: Global, source: &[u8]) -> Result<Option<Gathered>, ReadFault>
     ensures ok { IfOk result (λ found. IfSome found (λ gathered. IsOfText source.now (in_signals gathered))) }
     ensures err { IfErr result (λ fault. UnlessMemory fault.code (HasNoDivision source.now)) }
@@ -45,7 +46,7 @@ fn gathered_at_once(alloc: Global, source: &[u8]) -> Result<Option<Gathered>, Re
     match found {
         Some(Found::All(gathered)) => Ok(Some(gathered)),
         Some(Found::Definitions(definitions)) => {
-            // A second reading is of no use where these can't be in one sheet.
+            // Where these have a fault, a second reading is of no use.
             if definition_fault(alloc, &definitions)?.is_some() {
                 return Ok(None);
             }
@@ -98,8 +99,8 @@ fn read_lists(alloc: Global, source: &[u8]) -> Result<Reading, ReadFault>
     }
 }
 
-/// What the text reads as, or `None` if its statements can't be gathered one by one, or if what they say can't be in one
-/// sheet.
+/// What the text reads as, or `None` if its statements aren't gathered one by one, or if what they say can't be in
+/// one sheet.
 fn read_sheet(alloc: Global, source: &[u8]) -> Result<Option<Reading>, ReadFault>
     ensures reads { IfOk result (λ found. IfSome found (λ reading. ReadsAs source.now reading.sheet (map start_and_keyword reading.passed))) }
     ensures only { IfOk result (λ found. IfSome found (λ reading. ReadsOnlyAs source.now reading.sheet)) }

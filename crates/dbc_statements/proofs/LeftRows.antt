@@ -1,5 +1,5 @@
--- A computed row of the tokens that are left.
-use Rattle.std.proofs.Common.{List, [], ◌∷◌, refl, arith}
+-- Computed rows of the tokens that are left, and of places.
+use Rattle.std.proofs.Common.{◌≡◌, Box, Global, List, [], ◌∷◌, refl, arith}
 use Rattle.std.specs.Prelude.{codes}
 use Rattle.catalogue.specs.Parsing.{line_at, statement_at, statements_at, version_at}
 use Rattle.catalogue.specs.Statement.{Statement, VersionIs}
@@ -7,6 +7,9 @@ use Rattle.catalogue.specs.Token.{Token}
 use Rattle.catalogue.specs.declared.keyword.Keyword.TheVariants.{Version}
 use Rattle.catalogue.specs.declared.token.TokenKind.TheVariants.{Name, Text}
 use Rattle.dbc_statements.specs.Left.{BeginsWith}
+use Rattle.dbc_statements.specs.Statement.{HasNoPlaces}
+use Rattle.dbc_statements.specs.declared.statement.Content.TheVariants as content
+use Rattle.dbc_statements.specs.declared.statement.MessageLine.{MessageLine}
 
 abbrev version : Statement
 version = record { start = 0; keyword = Version; content = VersionIs (codes "1.0") }
@@ -17,3 +20,11 @@ tokens = record { kind = Name; start = 0; end = 7; text = codes "VERSION" } ∷ 
 version_comes_first : BeginsWith version tokens []
 unfolding statements_at statement_at line_at version_at
 version_comes_first = record { statements = refl; fewer = omega arith }
+
+-- a version has no signals, so no places of them
+version_has_none : HasNoPlaces (content.Version (codes "1.0"))
+version_has_none = tt
+
+-- and a message has none if its list is empty
+message_has_none : (line : Box MessageLine Global) → line.value.places.items ≡ [] → HasNoPlaces (content.Message line)
+message_has_none line none = none

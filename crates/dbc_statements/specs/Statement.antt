@@ -78,3 +78,8 @@ HaveNothingAttached signals = AllByRecursion HasNothingAttached signals
 abbrev pub NothingIsAttached : Content → Type 0
 NothingIsAttached (content.Message m) = HaveNothingAttached m.value.signals.items
 NothingIsAttached c = ⊤
+
+-- where the signals of a message's statement are isn't kept
+abbrev pub HasNoPlaces : Content → Type 0
+HasNoPlaces (content.Message m) = m.value.places.items ≡ []
+HasNoPlaces c = ⊤

@@ -2,7 +2,7 @@
 ghost use Rattle.std.specs.Prelude.{◌≡◌, ◌≤◌, [], length, SomeIff};
 ghost use Rattle.catalogue.specs.Limits.{value_text_limit};
 ghost use Rattle.dbc_statements.specs.Parts.{message_with, table_of};
-ghost use Rattle.dbc_statements.specs.Statement.{NothingIsAttached, message_of, statement_of};
+ghost use Rattle.dbc_statements.specs.Statement.{HasNoPlaces, NothingIsAttached, message_of, statement_of};
 
 use crate::entries::Entries;
 use can_id::Ident;
@@ -170,6 +170,7 @@ impl<'a> Statement<'a> {
     pub fn without_places(self, alloc: Global) -> Statement<'a>
         ensures says { statement_of result ≡ statement_of self.entry }
         ensures nothing { NothingIsAttached self.entry.content → NothingIsAttached result.content }
+        ensures places { HasNoPlaces result.content }
     {
         let (start, keyword, content) = self.into_parts();
         let content = match content {

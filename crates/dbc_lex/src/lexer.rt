@@ -124,8 +124,8 @@ impl<'a> Lexer<'a> {
         }
     }
 
-    /// Takes the next token if it is this mark, and else nothing. It takes little time where the mark comes at once or after
-    /// one space.
+    /// Takes the next token if it is this mark, and else nothing. It takes little time where the mark comes at once or
+    /// after one space.
     #[inline(always)]
     pub fn next_mark(&mut self, mark: u8) -> Option<Token<'a>>
         requires { kind_of mark ≡ Some Mark }

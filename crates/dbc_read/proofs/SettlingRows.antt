@@ -1,9 +1,9 @@
 -- Computed rows of how far statements are settled.
-use Rattle.std.proofs.Common.{◌≡◌, ◌++◌, List, [], ◌∷◌, None, refl, tt}
+use Rattle.std.proofs.Common.{List, [], ◌∷◌, refl}
 use Rattle.catalogue.specs.Parsing.{statements_at}
 use Rattle.catalogue.specs.Token.{Token}
 use Rattle.dbc_read.specs.Gathering.{BeginWith, Settles}
-use Rattle.dbc_read.specs.Settling.{AreSettled, Follow, ReadUpTo, SettlesTo}
+use Rattle.dbc_read.specs.Settling.{AreSettled, ReadUpTo, SettlesTo}
 use Rattle.dbc_read.specs.declared.finding.Finders.{Finders}
 use Rattle.dbc_read.specs.declared.gathered.Gathered.{Gathered}
 use Rattle.dbc_read.specs.declared.settling.Settled.TheVariants as settled

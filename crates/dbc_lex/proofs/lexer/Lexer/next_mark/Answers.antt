@@ -1,4 +1,4 @@
-use Rattle.std.proofs.Common.{rules, ap, refl, ◌+◌, slice_range, arith}
+use Rattle.std.proofs.Common.{rules, ap, ◌+◌, slice_range, arith}
 use Rattle.catalogue.specs.Lexing.{Lexed}
 use Rattle.catalogue.specs.declared.token.TokenKind.TheVariants.{Mark}
 use Rattle.dbc_lex.proofs.Ends.{mark_token, mark_text}

@@ -35,7 +35,7 @@ pub collide_decides : (a b : Place) → Decides (collide a b) (Meet a.mux b.mux 
 collide_decides a b = Decides-and (meets a.mux b.mux) (shares_bit a.layout b.layout) (meets_decides a.mux b.mux) (shares_bit_decides a.layout b.layout)
 
 -- the index of a first place, or none
-at_position : (test : Place → Bool) (places : List Place) → position test places ≡ None → (k : ℕ) (d : Place) → k < length places → test (get_or places k d) ≡ false
+pub at_position : (test : Place → Bool) (places : List Place) → position test places ≡ None → (k : ℕ) (d : Place) → k < length places → test (get_or places k d) ≡ false
 at_position test places none k d below = elim (cases_lt (position_or_len test places) (length places)) [
   | inl found ↦
       let some : position test places ≡ Some (position_or_len test places) = cond-true (nat_lt (position_or_len test places) (length places)) _ None (lt-ltb _ _ found) in
@@ -43,7 +43,7 @@ at_position test places none k d below = elim (cases_lt (position_or_len test pl
   | inr past ↦ fails_before_first test places k d (omega arith)
 ]
 
-no_position : (test : Place → Bool) (places : List Place) (o : Option ℕ) → position test places ≡ o → (d : Place) → ((k : ℕ) → k < length places → test (get_or places k d) ≡ false) → o ≡ None
+pub no_position : (test : Place → Bool) (places : List Place) (o : Option ℕ) → position test places ≡ o → (d : Place) → ((k : ℕ) → k < length places → test (get_or places k d) ≡ false) → o ≡ None
 no_position test places None e d none = refl
 no_position test places (Some i) e d none = let (below, passes, before) = position-Some test places i d e in absurd (both_ways _ (none i below) passes)
 

@@ -1,6 +1,9 @@
 pub mod Adding
 pub mod Clearance
+pub mod Collisions
+pub mod Covering
 pub mod Faults
+pub mod Masks
 pub mod Naming
 pub mod Presence
 mod Rows

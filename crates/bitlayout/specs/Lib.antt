@@ -3,6 +3,8 @@ pub mod Clash
 pub mod Clear
 pub mod First
 pub mod Interval
+pub mod Mask
 pub mod Mux
 pub mod Order
 pub mod Start
+pub mod Taken

@@ -1,5 +1,5 @@
 //! The databases of the machine that the program runs on.
-ghost use Rattle.std.specs.Prelude.{◌≡◌, ◌⊎◌, IfErr, IfOk, Err, Ok, false};
+ghost use Rattle.std.specs.Prelude.{◌≡◌, Err, IfOk, IsFalse, IsOk, IsTrue, false};
 ghost use Rattle.sqlite.specs.Files.{file_state};
 
 use canoffice_cli::{
@@ -40,7 +40,7 @@ fn closed(conn: Connection<FileStore<File>>) -> Result<(), Lost> {
     }
 }
 
-/// Serves connections of the port by the office.
+/// Serves connections of the port by the office. Standard error says when it listens, and when the office fails.
 fn serve_at(
     rt: &HostRuntime,
     office: &mut Office<FileStore<File>>,
@@ -53,17 +53,19 @@ fn serve_at(
     };
     let mut errors = rt.stderr();
     let _told = writeln!(errors, "listening on {address}");
-    serve(rt.alloc(), office, &mut listener, count)
+    serve(rt.alloc(), office, &mut listener, &mut errors, count)
 }
 
-/// How serving ended, as the program says it.
-fn end_of(served: Result<(), ServeFault>) -> Result<(), ServeEnd>
-    ensures done { IfOk result (λ done. served ≡ Ok done) }
-    ensures listen { IfErr result (λ end. end ≡ ServeEnd.CannotListen → served ≡ Err ServeFault.Listen) }
-    ensures accept { IfErr result (λ end. end ≡ ServeEnd.CannotAccept → served ≡ Err ServeFault.Accept) }
-    ensures no_other { IfErr result (λ end. (end ≡ ServeEnd.CannotListen) ⊎ (end ≡ ServeEnd.CannotAccept)) }
+/// How serving ended, as the program says it: it is lost also where all connections were served, if the office has
+/// failed.
+fn end_of(served: Result<(), ServeFault>, failed: bool) -> Result<(), ServeEnd>
+    ensures listen { served ≡ Err ServeFault.Listen → result ≡ Err ServeEnd.CannotListen }
+    ensures accept { served ≡ Err ServeFault.Accept → result ≡ Err ServeEnd.CannotAccept }
+    ensures lost { IsOk served → IsTrue failed → result ≡ Err (ServeEnd.IsLost Lost.Store) }
+    ensures done { IsOk served → IsFalse failed → IsOk result }
 {
     match served {
+        Ok(()) if failed => Err(ServeEnd::IsLost(Lost::Store)),
         Ok(()) => Ok(()),
         Err(ServeFault::Listen) => Err(ServeEnd::CannotListen),
         Err(ServeFault::Accept) => Err(ServeEnd::CannotAccept),
@@ -82,7 +84,8 @@ fn serve_on(
     match Office::open(conn) {
         Ok(mut office) => {
             let served = serve_at(rt, &mut office, port, count);
-            (end_of(served), office.close())
+            let end = end_of(served, office.is_failed());
+            (end, office.close())
         }
         Err((lost, conn)) => (Err(ServeEnd::IsLost(lost)), conn),
     }

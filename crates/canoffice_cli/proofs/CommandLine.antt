@@ -13,10 +13,10 @@ use Rattle.clap.specs.declared.parser.matches.ArgMatches.TheViews.{out-ArgMatche
 use Rattle.clap.specs.declared.parser.matches.SubCommand.{SubCommand}
 use Rattle.clap.specs.Words.{App, subcommand_name_of, subcommand_rows_of, IsAmong, Row, Text, all_of, matched_of, raw_values, first_value, fault_of, first_of, is_simple_and_free, rows_of}
 use Rattle.clap.specs.declared.error.kind.ErrorKind.{ErrorKind}
-use Rattle.clap.specs.declared.error.kind.ErrorKind.TheVariants.{OutOfMemory}
-use Rattle.canoffice_cli.specs.CommandLine.{HasSome, HasWrongNumber, IsEntered, IsFaultOfKind, IsLineFault, IsWhole, IsWrongWordFault, canoffice_app, is_set, line_faults}
+use Rattle.clap.specs.declared.error.kind.ErrorKind.TheVariants.{OutOfMemory, ValueValidation}
+use Rattle.canoffice_cli.specs.CommandLine.{HasSome, HasWrongNumber, IsEntered, IsFaultOfKind, IsLineFault, IsWhole, canoffice_app, is_set, line_faults}
 use Rattle.canoffice_cli.specs.declared.job.LineFault.{LineFault}
-use Rattle.canoffice_cli.specs.declared.job.LineFault.TheVariants.{Help, Version, Usage, Memory}
+use Rattle.canoffice_cli.specs.declared.job.LineFault.TheVariants.{Help, Usage, Memory}
 use Rattle.clap.specs.declared.parser.matches.Found.{Found}
 use Rattle.clap.proofs.WalkLemmas.{first_value-rows, raw_values-rows}
 
@@ -52,19 +52,19 @@ found_pair m name rows a b = pair_of_parts (out-ArgMatches m).subcommand name ro
 
 -- a fault of the kind of clap's error is one that the words have
 pub line_fault_of : (words : List Text) (kind : ErrorKind) (fault : LineFault) → (kind ≡ OutOfMemory) ⊎ IsAmong kind (line_faults words) → IsFaultOfKind kind fault → IsLineFault words fault
-line_fault_of words kind (Help text) (inl memory) is = cc
-line_fault_of words kind (Help text) (inr among) is = subst (λ k. IsAmong k (line_faults words)) is among
-line_fault_of words kind (Version text) (inl memory) is = cc
-line_fault_of words kind (Version text) (inr among) is = subst (λ k. IsAmong k (line_faults words)) is among
+line_fault_of words kind (Help text) (inl memory) (inl help) = cc
+line_fault_of words kind (Help text) (inl memory) (inr version) = cc
+line_fault_of words kind (Help text) (inr among) (inl help) = inl (subst (λ k. IsAmong k (line_faults words)) help among)
+line_fault_of words kind (Help text) (inr among) (inr version) = inr (subst (λ k. IsAmong k (line_faults words)) version among)
 line_fault_of words kind (Usage text) (inl memory) is = absurd (is.2 memory)
 line_fault_of words kind (Usage text) (inr among) is = inl (kind, is.0, is.1, among)
 line_fault_of words kind Memory has is = tt
 
 -- a wrong number of the subcommand that was entered is one that the words have
-pub wrong_number_of : (words : List Text) (word : Text) (fault : LineFault) → HasWrongNumber words word → IsWrongWordFault word fault → IsLineFault words fault
-wrong_number_of words word (Help text) has is = absurd is
-wrong_number_of words word (Version text) has is = absurd is
-wrong_number_of words word (Usage text) has is = inr (word, has, is)
+pub wrong_number_of : (words : List Text) (word : Text) (fault : LineFault) → HasWrongNumber words word → IsFaultOfKind ValueValidation fault → IsLineFault words fault
+wrong_number_of words word (Help text) has (inl help) = cc
+wrong_number_of words word (Help text) has (inr version) = cc
+wrong_number_of words word (Usage text) has is = inr (word, has)
 wrong_number_of words word Memory has is = tt
 
 is_simple_line : is_simple_and_free canoffice_app ≡ true

@@ -1,5 +1,5 @@
 -- The command line of the program, which job its words ask for, and which fault they have.
-use Rattle.std.specs.Prelude.{◌≡◌, ◌≢◌, ◌⊎◌, ℕ, Bool, List, [], ◌∷◌, find, map, codes, Option, Some, None, option_map, string_bytes, true, false, Result, Ok, Err}
+use Rattle.std.specs.Prelude.{◌≡◌, ◌≢◌, ◌⊎◌, ℕ, Bool, List, [], ◌∷◌, find, map, codes, Option, Some, None, option_map, true, false, Result, Ok, Err}
 use Rattle.std.specs.Option.{option_and_then, option_map_or}
 use Rattle.std.specs.Str.{bytes_eq}
 use Rattle.clap.specs.Lexer.{usize_max}
@@ -12,11 +12,10 @@ use Rattle.chart.specs.Word.{length_of}
 use Rattle.canoffice_cli.specs.declared.job.Job.{Job}
 use Rattle.canoffice_cli.specs.declared.job.Job.TheVariants.{Apply, Chart, Check, Export, Format, Serve, Table}
 use Rattle.canoffice_cli.specs.declared.job.LineFault.{LineFault}
-use Rattle.canoffice_cli.specs.declared.job.LineFault.TheVariants.{Help, Version, Usage, Memory}
+use Rattle.canoffice_cli.specs.declared.job.LineFault.TheVariants.{Help, Usage, Memory}
 use Rattle.canoffice_cli.specs.declared.job.ValueFault.{ValueFault}
 use Rattle.canoffice_cli.specs.declared.job.ValueFault.TheVariants as value
 use Rattle.canoffice_cli.specs.Numbers.{count_given, port_given, release_number}
-use Rattle.canoffice_cli.specs.Outcome.{wrong_word_text}
 
 -- ---- the description for clap
 
@@ -155,8 +154,7 @@ IsEntered (Some found) = IsWhole (find (λ s. bytes_eq found.0 s.name) canoffice
 
 -- the fault for clap's error of this kind
 abbrev pub IsFaultOfKind : ErrorKind → LineFault → Type 0
-IsFaultOfKind kind (Help text) = kind ≡ DisplayHelp
-IsFaultOfKind kind (Version text) = kind ≡ DisplayVersion
+IsFaultOfKind kind (Help text) = (kind ≡ DisplayHelp) ⊎ (kind ≡ DisplayVersion)
 IsFaultOfKind kind (Usage text) = (kind ≢ DisplayHelp) × (kind ≢ DisplayVersion) × (kind ≢ OutOfMemory)
 IsFaultOfKind kind Memory = Unit {0}
 
@@ -171,7 +169,7 @@ IsWrongNumber name rows word =
 
 -- the subcommand with these arguments makes no job: a word is a wrong number, or there was no memory for a chart's signals
 abbrev pub IsValueFault : Text → List Row → ValueFault → Type 0
-IsValueFault name rows (value.WrongNumber word) = IsWrongNumber name rows word.now
+IsValueFault name rows (value.WrongNumber number word) = IsWrongNumber name rows word.now
 IsValueFault name rows value.Memory = name ≡ codes "chart"
 
 abbrev pub IsValueFaultIn : Option (Text × List Row) → ValueFault → Type 0
@@ -182,21 +180,12 @@ abbrev pub HasWrongNumber : List Text → Text → Type 0
 HasWrongNumber words word =
     (line_faults words ≡ []) × (name : Text) × (rows : List Row) × (subcommand_of canoffice_app words ≡ Some (name, rows)) × IsWrongNumber name rows word
 
--- the fault says that this word is malformed, or that memory ran out
-abbrev pub IsWrongWordFault : Text → LineFault → Type 0
-IsWrongWordFault word (Help text) = ⊥
-IsWrongWordFault word (Version text) = ⊥
-IsWrongWordFault word (Usage text) = string_bytes text ≡ wrong_word_text word
-IsWrongWordFault word Memory = Unit {0}
-
--- the words ask for help, or for the version; or they have a fault of another kind, or a wrong number, which is told; or
--- memory ran out
+-- the words ask for help, or for the version; or they have a fault of another kind, or a wrong number; or memory ran out
 abbrev pub IsLineFault : List Text → LineFault → Type 0
-IsLineFault words (Help text) = IsAmong DisplayHelp (line_faults words)
-IsLineFault words (Version text) = IsAmong DisplayVersion (line_faults words)
+IsLineFault words (Help text) = IsAmong DisplayHelp (line_faults words) ⊎ IsAmong DisplayVersion (line_faults words)
 IsLineFault words (Usage text) =
     ((kind : ErrorKind) × (kind ≢ DisplayHelp) × (kind ≢ DisplayVersion) × IsAmong kind (line_faults words))
-    ⊎ ((word : Text) × HasWrongNumber words word × (string_bytes text ≡ wrong_word_text word))
+    ⊎ ((word : Text) × HasWrongNumber words word)
 IsLineFault words Memory = Unit {0}
 
 -- the words ask for a job, or have a fault

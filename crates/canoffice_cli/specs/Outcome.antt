@@ -46,11 +46,8 @@ abbrev pub wrong_line : ℕ → Outcome
 wrong_line number = wrong_input (codes "bad line " ++ (decimal number ++ codes "\n"))
 
 -- this word of the command line is malformed
-abbrev pub wrong_word_text : List ℕ → List ℕ
-wrong_word_text word = codes "bad word " ++ (word ++ codes "\n")
-
 abbrev pub wrong_word : List ℕ → Outcome
-wrong_word word = wrong_input (wrong_word_text word)
+wrong_word word = wrong_input (codes "bad word " ++ (word ++ codes "\n"))
 
 -- memory ran out
 abbrev pub memory_lost : Outcome

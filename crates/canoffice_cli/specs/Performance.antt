@@ -21,7 +21,7 @@ use Rattle.canoffice_cli.specs.declared.file_jobs.FileTask.TheVariants as task
 use Rattle.canoffice_cli.specs.declared.job.Job.{Job}
 use Rattle.canoffice_cli.specs.declared.job.Job.TheVariants.{Apply, Chart, Check, Export, Format, Serve, Table}
 use Rattle.canoffice_cli.specs.declared.job.LineFault.{LineFault}
-use Rattle.canoffice_cli.specs.declared.job.LineFault.TheVariants.{Help, Version, Usage, Memory}
+use Rattle.canoffice_cli.specs.declared.job.LineFault.TheVariants.{Help, Usage, Memory}
 
 -- the outcome of a job whose file is at the path: that of its bytes, or that it can't be read; nothing is done then
 abbrev pub IsOfFile : Type 0 → (List ℕ → Outcome → Type 0) → List ℕ → Holding → Outcome → Type 0
@@ -59,7 +59,6 @@ IsDone files input before after (Table file) o = IsFileOutcome files input befor
 -- the outcome of words that ask for no job: the text of their fault
 abbrev pub IsFaultAnswer : LineFault → Outcome → Type 0
 IsFaultAnswer (Help text) o = o ≡ success (string_bytes text)
-IsFaultAnswer (Version text) o = o ≡ success (string_bytes text)
 IsFaultAnswer (Usage text) o = o ≡ wrong_input (string_bytes text)
 IsFaultAnswer Memory o = o ≡ memory_lost
 

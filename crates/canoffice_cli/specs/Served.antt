@@ -7,7 +7,7 @@ use Rattle.canoffice_cli.specs.Outcome.{Outcome, failure, success}
 use Rattle.canoffice_cli.specs.declared.serving.ServeEnd.{ServeEnd}
 use Rattle.canoffice_cli.specs.declared.serving.ServeEnd.TheVariants.{CannotAccept, CannotListen, IsLost}
 
--- nothing is printed, or why serving ended early
+-- nothing is printed, or why serving ended early or was not all well
 abbrev pub end_outcome : Result ⊤ ServeEnd → Outcome
 end_outcome (Ok done) = success []
 end_outcome (Err CannotListen) = failure (codes "cannot listen\n")

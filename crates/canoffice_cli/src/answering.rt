@@ -7,11 +7,12 @@ ghost use Rattle.office_history.specs.History.{Answered, IsLegalHistory};
 ghost use Rattle.store.specs.Holding.{Holding};
 ghost use Rattle.canoffice_cli.specs.Answered.{InMemory, answered_with, answers_outcome, lost_line};
 ghost use Rattle.canoffice_cli.specs.Databases.{Begins};
-ghost use Rattle.canoffice_cli.specs.Outcome.{outcome_of};
+ghost use Rattle.canoffice_cli.specs.Outcome.{failure, outcome_of};
 
-use crate::lines::{Line, lines_of};
+use crate::lines::{Line, add_lines};
 use crate::progress::{AskingLines, Progress};
 use crate::report::{Report, Status};
+use crate::room::Room;
 use office_history::{Answer, Arrival, histories_grow};
 use office_keyed::KeyedOffice;
 use sqlite::{Alter, Connection};
@@ -186,27 +187,37 @@ impl Line for Answer {
     }
 }
 
-/// The report that a call was lost, after this output.
-pub(crate) fn lost_report(alloc: Global, output: Vec<u8>, lost: Lost) -> Result<Report, AllocError>
-    ensures { IfOk result (λ report. outcome_of report ≡ record { output = output.items; errors = lost_line lost; status = Status.Failed }) }
+/// The report that a call was lost, and nothing else.
+pub(crate) fn lost_report(alloc: Global, lost: Lost) -> Result<Report, AllocError>
+    ensures { IfOk result (λ report. outcome_of report ≡ failure (lost_line lost)) }
 {
     let text = format!(in alloc; "{lost}\n")?;
-    Ok(Report {
-        output,
-        errors: text.into_bytes(),
-        status: Status::Failed,
-    })
+    Ok(Report::of_errors(alloc, text.into_bytes(), Status::Failed))
 }
 
 impl Answers {
-    /// The line of each answer, and then why the next arrival was lost, if it was.
-    pub(crate) fn report(&self, alloc: Global) -> Result<Report, AllocError>
+    /// The line of each answer, and then why the next arrival was lost, if it was. They are put into the room, in the
+    /// place of what it has. The error is out of memory, which can be only if there is too little room.
+    pub(crate) fn report(&self, alloc: Global, room: Room) -> Result<Report, AllocError>
         ensures { IfOk result (λ report. outcome_of report ≡ answers_outcome self.now.answers.items self.now.lost) }
     {
-        let output = lines_of(alloc, &self.answers)?;
+        let Room { answers, loss } = room;
+        let mut output = answers;
+        output.clear();
+        add_lines(&mut output, &self.answers)?;
+        let output = output.into_bytes();
         match self.lost {
             None => Ok(Report::of_output(alloc, output, Status::Success)),
-            Some(lost) => lost_report(alloc, output, lost),
+            Some(lost) => {
+                let mut errors = loss;
+                errors.clear();
+                write!(errors, "{lost}\n")?;
+                Ok(Report {
+                    output,
+                    errors: errors.into_bytes(),
+                    status: Status::Failed,
+                })
+            }
         }
     }
 }

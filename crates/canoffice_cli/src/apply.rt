@@ -10,6 +10,7 @@ use crate::databases::Databases;
 use crate::files::FileSource;
 use crate::progress::Progress;
 use crate::report::{Report, bad_line, cannot_read};
+use crate::room::Room;
 use office_script::{Dash, ScriptFault, arrivals_of};
 use std::alloc::{AllocError, Global};
 use std::io::Write;
@@ -36,9 +37,11 @@ fn apply_in_memory<F: FileSource, W: Write>(
 {
     match arrivals_of(alloc, script, Dash::LineNumber, files) {
         Ok(arrivals) => {
+            // First of all, so that no answer is lost for want of memory for its line.
+            let room = Room::for_answers(alloc, arrivals.len())?;
             let told = answer_in_memory(alloc, script, &arrivals, progress);
             progress.ends();
-            told?.report(alloc)
+            told?.report(alloc, room)
         }
         Err(fault) => amiss_report(alloc, fault),
     }
@@ -57,9 +60,11 @@ fn apply_in_database<F: FileSource, D: Databases, W: Write>(
 {
     match arrivals_of(alloc, script, Dash::Wrong, files) {
         Ok(arrivals) => {
+            // First of all, so that no answer is lost for want of memory for its line.
+            let room = Room::for_answers(alloc, arrivals.len())?;
             let told = databases.answer(alloc, path, script, &arrivals, progress);
             progress.ends();
-            told?.report(alloc)
+            told?.report(alloc, room)
         }
         Err(fault) => amiss_report(alloc, fault),
     }
@@ -71,7 +76,7 @@ fn apply_in_database<F: FileSource, D: Databases, W: Write>(
 /// one is reported, and if a file can't be read, the path of the first one; then nothing is done. Else each arrival is
 /// answered in turn, up to the first that is lost, and the answers are printed, with the status `Success` whatever was
 /// refused; after the last one `lost` and its number if one was lost, with the status `Failed`. The error is out of memory
-/// for the report.
+/// for the report. Room for the lines of all answers is taken before the first arrival.
 pub fn apply_script<F: FileSource, D: Databases, W: Write>(
     alloc: Global,
     script: &[u8],

@@ -48,7 +48,8 @@ pub trait Databases {
         ensures { IsLookedUp (known self.old) (known self.new) path.now question.now (result_map_both (option_map (λ text. text.items)) (λ lost. lost) result) };
 
     /// Serves `count` connections of the port of this machine by the office in the database at the path, and tells on the
-    /// machine's standard error when it listens. The error is why it ended before that.
+    /// machine's standard error when it listens, and when the office fails. The error is why it ended before that, or that
+    /// the office has failed.
     fn serve(&mut self, alloc: Global, path: &str, port: u16, count: u32) -> Result<(), ServeEnd>
         ensures { IsServed (known self.old) (known self.new) path.now count result };
 }

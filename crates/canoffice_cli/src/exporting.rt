@@ -45,7 +45,7 @@ fn shown_report(alloc: Global, shown: Result<Option<Vec<u8>>, Lost>) -> Result<R
     match shown {
         Ok(Some(text)) => Ok(Report::of_output(alloc, text, Status::Success)),
         Ok(None) => not_found(alloc),
-        Err(lost) => lost_report(alloc, Vec::new(alloc), lost),
+        Err(lost) => lost_report(alloc, lost),
     }
 }
 

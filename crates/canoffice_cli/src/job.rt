@@ -1,11 +1,10 @@
 //! The job that the words of the command line ask for.
 ghost use Rattle.std.specs.Prelude.{◌≡◌, IfOk, IfErr, map, codes};
 ghost use Rattle.clap.specs.Words.{found_of, kind_of, rows_of, subcommand_rows_of};
-ghost use Rattle.canoffice_cli.specs.CommandLine.{HasSome, IsEntered, IsJob, IsJobIn, IsJobOf, IsFaultOfKind, IsLineFault, IsValueFault, IsValueFaultIn, IsWrongWordFault, is_set};
+ghost use Rattle.canoffice_cli.specs.CommandLine.{HasSome, IsEntered, IsJob, IsJobIn, IsJobOf, IsFaultOfKind, IsLineFault, IsValueFault, IsValueFaultIn, is_set};
 
 use crate::command_line::canoffice_command;
-use crate::numbers::{count_given, length_given, port_given, release_number};
-use crate::report::bad_word_text;
+use crate::numbers::{Number, count_given, length_given, port_given, release_number};
 use clap::error::ErrorKind;
 use clap::{ArgMatches, Error};
 use std::alloc::{AllocError, Global};
@@ -71,10 +70,8 @@ pub enum Job<'a> {
 /// Why the words of the command line ask for no job.
 #[derive(Debug, Drop)]
 pub enum LineFault {
-    /// They ask for help, and this is its text.
+    /// They ask for help, or for the version, and this is its text.
     Help(String),
-    /// They ask for the version, and this is its text.
-    Version(String),
     /// They are wrong; this text explains the error and the usage.
     Usage(String),
     /// Memory ran out.
@@ -84,17 +81,17 @@ pub enum LineFault {
 /// Why the values of a subcommand make no job.
 #[derive(Clone, Copy, Debug)]
 enum ValueFault<'a> {
-    /// This word gives no number in its range.
-    WrongNumber(&'a str),
+    /// This word gives no such number, in its range.
+    WrongNumber(Number, &'a str),
     /// Memory ran out.
     Memory,
 }
 
 /// The job that the program's words ask for, each number in its range. The first word is the program's own name.
 ///
-/// The result is a job exactly if clap finds no fault in the words and each word for a number gives one in its range, unless
-/// memory runs out: it is `Help` only if they ask for help, `Version` only if they ask for the version, and `Usage` only if
-/// they have another fault, or a word for a number that gives none in its range: the first one, as `bad word WORD`.
+/// The result is a job exactly if clap finds no fault in the words and each word for a number gives one in its range,
+/// unless memory runs out: it is `Help` only if they ask for help or for the version, and `Usage` only if they have
+/// another fault, or a word for a number that gives none in its range, the first of which the text names.
 pub fn job_of<'a>(alloc: Global, words: &'a [&'a str]) -> Result<Job<'a>, LineFault>
     ensures job { IfOk result (IsJob (map (λ s. s.now) words.entry.now)) }
     ensures fault { IfErr result (IsLineFault (map (λ s. s.now) words.entry.now)) }
@@ -105,7 +102,7 @@ pub fn job_of<'a>(alloc: Global, words: &'a [&'a str]) -> Result<Job<'a>, LineFa
     match command.try_get_matches_from(words) {
         Ok(matches) => match job_in(alloc, &matches) {
             Ok(job) => Ok(job),
-            Err(ValueFault::WrongNumber(word)) => Err(wrong_number(alloc, word)),
+            Err(ValueFault::WrongNumber(number, word)) => Err(wrong_number(alloc, number, word)),
             Err(ValueFault::Memory) => Err(LineFault::Memory),
         },
         Err(error) => Err(line_fault(alloc, &error)),
@@ -116,23 +113,30 @@ pub fn job_of<'a>(alloc: Global, words: &'a [&'a str]) -> Result<Job<'a>, LineFa
 pub fn not_utf8_fault(alloc: Global) -> LineFault
     ensures { IsFaultOfKind ErrorKind.ValueValidation result }
 {
-    let Ok(mut command) = canoffice_command(alloc) else {
-        return LineFault::Memory;
-    };
     let message = "invalid UTF-8 was detected in one or more arguments";
-    match command.error(ErrorKind::ValueValidation, message) {
-        Ok(error) => line_fault(alloc, &error),
-        Err(_) => LineFault::Memory,
+    validation_fault(alloc, message)
+}
+
+/// The fault that the word gives no such number, in its range: `Usage`, unless memory runs out.
+fn wrong_number(alloc: Global, number: Number, word: &str) -> LineFault
+    ensures { IsFaultOfKind ErrorKind.ValueValidation result }
+{
+    match number.refusal(alloc, word) {
+        Ok(message) => validation_fault(alloc, &message),
+        Err(AllocError) => LineFault::Memory,
     }
 }
 
-/// The fault that the word gives no number in its range.
-fn wrong_number(alloc: Global, word: &str) -> LineFault
-    ensures { IsWrongWordFault word.now result }
+/// The fault that a word isn't as it must be, with the text that clap makes of the message.
+fn validation_fault(alloc: Global, message: &str) -> LineFault
+    ensures { IsFaultOfKind ErrorKind.ValueValidation result }
 {
-    match bad_word_text(alloc, word) {
-        Ok(text) => LineFault::Usage(text),
-        Err(AllocError) => LineFault::Memory,
+    let Ok(mut command) = canoffice_command(alloc) else {
+        return LineFault::Memory;
+    };
+    match command.error(ErrorKind::ValueValidation, message) {
+        Ok(error) => line_fault(alloc, &error),
+        Err(_) => LineFault::Memory,
     }
 }
 
@@ -145,8 +149,7 @@ fn line_fault(alloc: Global, error: &Error) -> LineFault
     };
     match error.kind() {
         ErrorKind::OutOfMemory => LineFault::Memory,
-        ErrorKind::DisplayHelp => LineFault::Help(text),
-        ErrorKind::DisplayVersion => LineFault::Version(text),
+        ErrorKind::DisplayHelp | ErrorKind::DisplayVersion => LineFault::Help(text),
         _ => LineFault::Usage(text),
     }
 }
@@ -225,7 +228,7 @@ fn chart_job<'a>(alloc: Global, found: &ArgMatches<'a>) -> Result<Job<'a>, Value
     let words = found.get_strs("SIGNAL").unwrap();
     let word = found.get_str("LENGTH").unwrap();
     let Some(length) = length_given(word) else {
-        return Err(ValueFault::WrongNumber(word));
+        return Err(ValueFault::WrongNumber(Number::Length, word));
     };
     match Vec::from_slice(alloc, words) {
         Ok(signals) => Ok(Job::Chart { length, signals }),
@@ -262,7 +265,7 @@ fn export_job<'a>(found: &ArgMatches<'a>) -> Result<Job<'a>, ValueFault<'a>>
             net,
             number,
         }),
-        None => Err(ValueFault::WrongNumber(word)),
+        None => Err(ValueFault::WrongNumber(Number::Release, word)),
     }
 }
 
@@ -287,7 +290,7 @@ fn serve_job<'a>(found: &ArgMatches<'a>) -> Result<Job<'a>, ValueFault<'a>>
     let database = found.get_str("db").unwrap();
     let port = match port_given(found.get_str("port")) {
         Ok(port) => port,
-        Err(word) => return Err(ValueFault::WrongNumber(word)),
+        Err(word) => return Err(ValueFault::WrongNumber(Number::Port, word)),
     };
     match count_given(found.get_str("count")) {
         Ok(count) => Ok(Job::Serve {
@@ -295,7 +298,7 @@ fn serve_job<'a>(found: &ArgMatches<'a>) -> Result<Job<'a>, ValueFault<'a>>
             port,
             count,
         }),
-        Err(word) => Err(ValueFault::WrongNumber(word)),
+        Err(word) => Err(ValueFault::WrongNumber(Number::Count, word)),
     }
 }
 

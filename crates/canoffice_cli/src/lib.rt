@@ -5,7 +5,8 @@
 //! - `files` reads files and standard input: those of the machine, or those of a list in memory. `databases` has the offices
 //!   in databases, of which one in memory is here; those of the machine are in the program itself.
 //! - `apply`, `exporting`, `serving`, `charting`, `checking`, `formatting` and `tabling` do the jobs. `answering` answers
-//!   the arrivals of a script, by an office in memory or on a connection to a database, and `progress` shows how far it is.
+//!   the arrivals of a script, by an office in memory or on a connection to a database, `progress` shows how far it is,
+//!   and `room` is taken before for what is printed after.
 //! - `file_jobs` does the jobs that read a file, and `explaining` says what `--explain` adds to them.
 //! - `report` is the result of a run: bytes for standard output and standard error, and a `Status`.
 //! - `delivery` writes a report to the two streams.
@@ -33,6 +34,7 @@ mod numbers;
 mod program;
 mod progress;
 mod report;
+mod room;
 mod serving;
 mod tabling;
 

@@ -14,13 +14,21 @@ pub(crate) trait Line {
         ensures { OnOk result (string_bytes text.new ≡ string_bytes text.old ++ line self.now) };
 }
 
+/// Adds the line of each of the values, in order. The error is out of memory.
+pub(crate) fn add_lines<T: Line>(text: &mut String, values: &[T]) -> Result<(), AllocError>
+    ensures { OnOk result (string_bytes text.new ≡ string_bytes text.old ++ flat_map T.line values.now) }
+{
+    for value in values {
+        value.add_to(text)?;
+    }
+    Ok(())
+}
+
 /// The line of each of the values, in order. The error is out of memory.
 pub(crate) fn lines_of<T: Line>(alloc: Global, values: &[T]) -> Result<Vec<u8>, AllocError>
     ensures { IfOk result (λ text. text.items ≡ flat_map T.line values.now) }
 {
     let mut text = String::new(alloc);
-    for value in values {
-        value.add_to(&mut text)?;
-    }
+    add_lines(&mut text, values)?;
     Ok(text.into_bytes())
 }

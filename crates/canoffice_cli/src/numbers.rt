@@ -5,6 +5,7 @@ ghost use Rattle.chart.specs.Word.{length_of};
 ghost use Rattle.canoffice_cli.specs.Numbers.{count_given, number_given, port_given, release_number};
 
 use chart::{length_of, whole_between};
+use std::alloc::{AllocError, Global};
 
 /// The port where none is given.
 const PORT: u32 = 8089;
@@ -17,6 +18,48 @@ const COUNT_LIMIT: u32 = 1_000_000;
 
 /// The greatest number of a release.
 const RELEASE_LIMIT: u32 = 65_535;
+
+/// A number that a word of the command line gives.
+#[derive(Clone, Copy, Debug)]
+pub(crate) enum Number {
+    /// The length of a message.
+    Length,
+    /// The number of a release, or 0.
+    Release,
+    /// The port.
+    Port,
+    /// The count of connections.
+    Count,
+}
+
+impl Number {
+    /// Its argument, as clap writes it.
+    fn argument(self) -> &'static str {
+        match self {
+            Number::Length => "<LENGTH>",
+            Number::Release => "<N>",
+            Number::Port => "--port <N>",
+            Number::Count => "--count <N>",
+        }
+    }
+
+    /// Its range, as clap writes it.
+    fn range(self) -> &'static str {
+        match self {
+            Number::Length => "0..=64",
+            Number::Release => "0..=65535",
+            Number::Port => "1..=65535",
+            Number::Count => "1..=1000000",
+        }
+    }
+
+    /// What clap says of a word that gives none in the range. The error is out of memory.
+    pub(crate) fn refusal(self, alloc: Global, word: &str) -> Result<String, AllocError> {
+        let argument = self.argument();
+        let range = self.range();
+        format!(in alloc; "invalid value '{word}' for '{argument}': {word} is not in {range}")
+    }
+}
 
 /// The length of a message that the word gives: 0 to 64 bytes, as [`length_of`] of the crate `chart` reads it.
 pub(crate) fn length_given(word: &str) -> Option<u16>

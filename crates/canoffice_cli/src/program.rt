@@ -52,12 +52,12 @@ fn answer<'a, F: FileSource + StandardInput, D: Databases, W: Write>(
     }
 }
 
-/// The report on words that ask for no job: the text of help, of the version or of usage.
+/// The report on words that ask for no job: the text of help, or of the version, or of usage.
 pub fn fault_report(alloc: Global, fault: LineFault) -> Result<Report, AllocError>
     ensures { IfOk result (λ report. IsFaultAnswer fault (outcome_of report)) }
 {
     match fault {
-        LineFault::Help(text) | LineFault::Version(text) => Ok(help(alloc, text)),
+        LineFault::Help(text) => Ok(help(alloc, text)),
         LineFault::Usage(text) => Ok(usage(alloc, text)),
         LineFault::Memory => Err(AllocError),
     }

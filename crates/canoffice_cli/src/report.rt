@@ -1,6 +1,6 @@
 //! The result of a run: bytes for the program's two streams, and its exit status.
 ghost use Rattle.std.specs.Prelude.{◌≡◌, [], IfOk, codes, string_bytes};
-ghost use Rattle.canoffice_cli.specs.Outcome.{and_errors, code_of, outcome_of, success, wrong_input, unreadable, wrong_line, wrong_word, wrong_word_text};
+ghost use Rattle.canoffice_cli.specs.Outcome.{and_errors, code_of, outcome_of, success, wrong_input, unreadable, wrong_line, wrong_word};
 
 use std::alloc::{AllocError, Global};
 
@@ -94,18 +94,12 @@ pub fn bad_line(alloc: Global, number: usize) -> Result<Report, AllocError>
     Ok(Report::of_errors(alloc, text.into_bytes(), Status::WrongInput))
 }
 
-/// The text that this word of the command line is malformed.
-pub(crate) fn bad_word_text(alloc: Global, word: &str) -> Result<String, AllocError>
-    ensures { IfOk result (λ text. string_bytes text ≡ wrong_word_text word.now) }
-{
-    format!(in alloc; "bad word {word}\n")
-}
-
 /// The report that this word of the command line is malformed.
 pub fn bad_word(alloc: Global, word: &str) -> Result<Report, AllocError>
     ensures { IfOk result (λ report. outcome_of report ≡ wrong_word word.now) }
 {
-    Ok(usage(alloc, bad_word_text(alloc, word)?))
+    let text = format!(in alloc; "bad word {word}\n")?;
+    Ok(usage(alloc, text))
 }
 
 /// The report that shows this text of help, or of the version.

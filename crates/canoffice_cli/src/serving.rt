@@ -9,14 +9,14 @@ use crate::report::{Report, Status};
 use std::alloc::{AllocError, Global};
 use store::Lost;
 
-/// Why serving ended before all connections were served.
+/// Why serving ended before all connections were served, or wasn't all well.
 #[derive(Clone, Copy, Debug, PartialEq, Eq)]
 pub enum ServeEnd {
     /// The port can't be listened on.
     CannotListen,
     /// A connection can't be accepted.
     CannotAccept,
-    /// The database can't be opened, or closed.
+    /// The database can't be opened, or closed, or it failed in between.
     IsLost(Lost),
 }
 
@@ -36,7 +36,7 @@ fn end_report(alloc: Global, end: Result<(), ServeEnd>) -> Result<Report, AllocE
         Ok(()) => Ok(Report::of_output(alloc, Vec::new(alloc), Status::Success)),
         Err(ServeEnd::CannotListen) => failed_report(alloc, b"cannot listen\n"),
         Err(ServeEnd::CannotAccept) => failed_report(alloc, b"cannot accept\n"),
-        Err(ServeEnd::IsLost(lost)) => lost_report(alloc, Vec::new(alloc), lost),
+        Err(ServeEnd::IsLost(lost)) => lost_report(alloc, lost),
     }
 }
 

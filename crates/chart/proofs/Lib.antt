@@ -1,3 +1,4 @@
 pub mod Pieces
 mod Rows
 mod TableRows
+pub mod Holding

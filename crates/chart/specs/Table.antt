@@ -1,5 +1,5 @@
 -- The table of a sheet's messages, line by line.
-use Rattle.std.specs.Prelude.{ℕ, List, ◌++◌, false, length, Option, None, Some, codes, decimal, unwrap_or}
+use Rattle.std.specs.Prelude.{ℕ, List, ◌++◌, false, length, codes, decimal, unwrap_or}
 use Rattle.std.specs.Fmt.{digits}
 use Rattle.std.specs.List.{flat_map}
 use Rattle.std.specs.Option.{option_map_or}

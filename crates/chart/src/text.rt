@@ -1,11 +1,12 @@
 //! The text of a chart.
-ghost use Rattle.std.specs.Prelude.{◌≡◌, ◌++◌, ℕ, List, ◌<◌, length, IfOk, position, string_bytes, decimal, codes};
+ghost use Rattle.std.specs.Prelude.{◌≡◌, ◌++◌, ℕ, List, ◌<◌, ◌≤◌, length, IfOk, position, string_bytes, decimal, codes};
 ghost use Rattle.std.specs.List.{count_by, flat_map, range_with_len, enumerate_from};
+ghost use Rattle.chart.specs.Held.{IsHeldBy};
 ghost use Rattle.chart.specs.Text.{letter_of, holds, cell_of, cells_of, byte_line, layout_text, mark_text, signal_line, name_at, names_of, verdict_of, chart_of};
 
 use crate::columns::number_right;
 use crate::signal::{ChartSignal, first_clash_of};
-use bitlayout::{Clash, Layout, Mux, has_bit};
+use bitlayout::{Clash, Layout, MASK_END, Mask, Mux, has_bit};
 use catalogue::SheetCode;
 use std::alloc::{AllocError, Global};
 
@@ -45,36 +46,97 @@ fn first_holder(signals: &[ChartSignal], at: u32) -> Option<usize>
         .position(|signal| has_bit(signal.place.layout, at))
 }
 
-/// What the chart shows at the position.
-fn cell(signals: &[ChartSignal], position: u32) -> u8
+/// Which positions below [`MASK_END`] the signals have.
+#[derive(Clone, Copy)]
+struct Held {
+    /// Those that at least one signal has.
+    some: Mask,
+    /// Those that at least two have.
+    several: Mask,
+}
+
+/// The positions that the signals have.
+fn held_by(signals: &[ChartSignal]) -> Held
+    ensures { IsHeldBy result signals.now }
+{
+    let mut some = Mask::empty();
+    let mut several = Mask::empty();
+    for signal in signals {
+        several.add_shared(&some, signal.place.layout);
+        some.add_layout(signal.place.layout);
+    }
+    Held { some, several }
+}
+
+/// What the chart shows at a position that no two signals have.
+fn single_cell(signals: &[ChartSignal], position: u32) -> u8
+    requires { count_by (holds position) signals.now ≤ 1 }
     ensures { result ≡ cell_of signals.now position }
 {
-    if holder_count(signals, position) > 1 {
-        return b'#';
-    }
     match first_holder(signals, position) {
         Some(index) => letter(index),
         None => b'.',
     }
 }
 
+/// What the chart shows at a position past the masks, for which each signal is looked at.
+fn far_cell(signals: &[ChartSignal], position: u32) -> u8
+    ensures { result ≡ cell_of signals.now position }
+{
+    if holder_count(signals, position) > 1 {
+        b'#'
+    } else {
+        single_cell(signals, position)
+    }
+}
+
+/// What the chart shows at the position.
+fn cell(held: &Held, signals: &[ChartSignal], position: u32) -> u8
+    requires { IsHeldBy held.now signals.now }
+    ensures { result ≡ cell_of signals.now position }
+{
+    if position >= MASK_END {
+        return far_cell(signals, position);
+    }
+    let near = position as u16;
+    if held.several.has(near) {
+        b'#'
+    } else if held.some.has(near) {
+        single_cell(signals, position)
+    } else {
+        b'.'
+    }
+}
+
 /// The cells of a byte, each after a space.
-fn cells(alloc: Global, signals: &[ChartSignal], byte: u16) -> Result<Vec<u8>, AllocError>
+fn cells(
+    alloc: Global,
+    held: &Held,
+    signals: &[ChartSignal],
+    byte: u16,
+) -> Result<Vec<u8>, AllocError>
+    requires { IsHeldBy held.now signals.now }
     ensures { IfOk result (λ text. text.items ≡ cells_of signals.now byte) }
 {
     let mut text = Vec::new(alloc);
     for bit in BITS {
         let position = 8 * u32::from(byte) + *bit;
-        text.extend_from_slice(&[b' ', cell(signals, position)])?;
+        text.extend_from_slice(&[b' ', cell(held, signals, position)])?;
     }
     Ok(text)
 }
 
 /// The line of a byte.
-fn byte_line(alloc: Global, signals: &[ChartSignal], byte: u16) -> Result<Vec<u8>, AllocError>
+fn byte_line(
+    alloc: Global,
+    held: &Held,
+    signals: &[ChartSignal],
+    byte: u16,
+) -> Result<Vec<u8>, AllocError>
+    requires { IsHeldBy held.now signals.now }
     ensures { IfOk result (λ text. text.items ≡ byte_line signals.now byte) }
 {
-    let cells = cells(alloc, signals, byte)?;
+    let cells = cells(alloc, held, signals, byte)?;
     let mut line = number_right(alloc, 4, usize::from(byte))?;
     line.extend_from_slice(&cells)?;
     line.push(b'\n')?;
@@ -174,9 +236,10 @@ fn verdict(
 fn byte_lines(alloc: Global, length: u16, signals: &[ChartSignal]) -> Result<Vec<u8>, AllocError>
     ensures { IfOk result (λ text. text.items ≡ flat_map (byte_line signals.now) (range_with_len 0 length)) }
 {
+    let held = held_by(signals);
     let mut lines = Vec::new(alloc);
     for byte in 0..length {
-        lines.extend_from_slice(&byte_line(alloc, signals, byte)?)?;
+        lines.extend_from_slice(&byte_line(alloc, &held, signals, byte)?)?;
     }
     Ok(lines)
 }

@@ -2,10 +2,11 @@
 use Rattle.std.specs.Prelude.{◌≡◌, ◌⊎◌, ℕ, List, [], ◌∷◌, ◌++◌, Option, None, Some, IfSome, IsTrue}
 use Rattle.std.specs.Io.KnownBytes.{Appends}
 use Rattle.sqlite.specs.State.{State}
+use Rattle.sqlite.specs.Tree.{Trees}
 use Rattle.office_types.specs.declared.state.Office.{Office}
 use Rattle.office_history.specs.History.{Answered, IsLegal}
 use Rattle.office_history.specs.declared.arrival.Answer.{Answer}
-use Rattle.store.specs.Holding.{Holding}
+use Rattle.store.specs.Holding.{Holding, Keeps, Leaves}
 use Rattle.store.specs.Looking.{IsShown}
 use Rattle.store.specs.declared.question.Question.{Question}
 use Rattle.store.specs.declared.question.Question.TheVariants as question
@@ -53,18 +54,26 @@ IsResponse h (fails problem) text h2 = (h2 ≡ h) × (text ≡ problem_response 
 IsResponse h (shows l) text h2 = (h2 ≡ h) × ((office : Office) → IsLegal h office → IsLookResponse office l text)
 IsResponse h (arrives a) text h2 = (answer : Answer) × (h2 ≡ h ++ answered_as a answer ∷ []) × (text ≡ answer_response answer)
 
--- The text is the response, and the tables hold the history after it; or it says to try again, and the tables, if
--- they are still open, hold the history as before.
+-- the trees keep the history, or it with the arrival that is asked
+abbrev pub FollowsAsked : List Answered → Asked → Trees → Type 0
+FollowsAsked h asked db =
+    Keeps h db ⊎ ((a : Asking) × (asked ≡ arrives a) × (answer : Answer) × Keeps (h ++ answered_as a answer ∷ []) db)
+
+-- The text is the response, the tables hold the history after it, and a crash leaves just that one; or it says to try
+-- again, and the tables, if they are still open, hold the history as before, and a crash leaves it, or it with the
+-- arrival that was asked.
 abbrev pub Responds : List Answered → Asked → List ℕ → State → Type 0
 Responds h asked text s =
-    ((h2 : List Answered) × IsResponse h asked text h2 × Holding h2 s)
-    ⊎ ((text ≡ problem_response TryAgain) × (IsTrue s.is_open → Holding h s))
+    ((h2 : List Answered) × IsResponse h asked text h2 × Holding h2 s × Leaves (Keeps h2) s)
+    ⊎ ((text ≡ problem_response TryAgain) × (IsTrue s.is_open → Holding h s) × Leaves (FollowsAsked h asked) s)
 
--- without a response: the tables, if they are open, hold the history as before, or with the arrival that was asked
+-- without a response: the tables, if they are open, hold the history as before, or with the arrival that was asked, and
+-- a crash leaves one of these
 abbrev pub MayHaveTaken : List Answered → Asked → State → Type 0
 MayHaveTaken h asked s =
-    IsTrue s.is_open
-    → Holding h s ⊎ ((a : Asking) × (asked ≡ arrives a) × ((answer : Answer) × Holding (h ++ answered_as a answer ∷ []) s))
+    (IsTrue s.is_open
+    → Holding h s ⊎ ((a : Asking) × (asked ≡ arrives a) × ((answer : Answer) × Holding (h ++ answered_as a answer ∷ []) s)))
+    × Leaves (FollowsAsked h asked) s
 
 -- ---- one connection
 
@@ -84,7 +93,7 @@ HasBegun h left told_old told_new s =
 
 -- nothing was written, for want of memory
 abbrev pub HasGivenUp : List Answered → Option (List ℕ) → State → Type 0
-HasGivenUp h left s = Holding h s ⊎ ((asked : Asked) × IsAsked left asked × MayHaveTaken h asked s)
+HasGivenUp h left s = (Holding h s × Leaves (Keeps h) s) ⊎ ((asked : Asked) × IsAsked left asked × MayHaveTaken h asked s)
 
 -- ---- one connection to an office that has failed
 

@@ -99,6 +99,7 @@ pub(crate) fn response_to<S: Alter>(
     ensures err { HasCleanDisk (state S.Store office.new.conn) → (h : List Answered) → Holding h (state S.Store office.old.conn)
         → OnErr result (MayHaveTaken h (seen call) (state S.Store office.new.conn)) }
 {
+    office.leaves_now();
     match call {
         Call::Fails(problem) => problem_response(alloc, problem),
         Call::Shows(look) => shown(alloc, office, look),

@@ -24,8 +24,11 @@ use store::Office;
 /// `Read` if the source failed before the request was whole: nothing was written, and the office is as before.
 /// `Write` if the sink failed: a beginning of the response was written, and what was asked is done as if it had all
 /// been. `Memory` if memory ran out: nothing was written, and an arrival may have been taken. A request that is sent
-/// again under its key is answered as it would have been. An office that has failed stays as it is, and what comes to it is
-/// answered by 503.
+/// again under its key is answered as it would have been. An office that has failed stays as it is, and what comes to
+/// it is answered by 503.
+///
+/// A crash leaves the history after the response. After a 503, or where memory ran out, it leaves the history from
+/// before, or that one with the arrival that was asked.
 pub fn serve_one<S: Alter, R: Source, W: Sink>(
     alloc: Global,
     office: &mut Office<S>,
@@ -52,8 +55,10 @@ pub fn serve_one<S: Alter, R: Source, W: Sink>(
     ensures write_failed { IsErrOf result DeskFault.Write → W.failure_count sink.new ≡ W.failure_count sink.old + 1 }
     ensures memory { HasCleanDisk (state S.Store office.new.conn) → (h : List Answered) → Holding h (state S.Store office.old.conn)
         → IsErrOf result DeskFault.Memory → HasGivenUp h (R.left source.old) (state S.Store office.new.conn) }
+    ensures memory_counts { IsErrOf result DeskFault.Memory → (R.failure_count source.new ≡ R.failure_count source.old) × (W.failure_count sink.new ≡ W.failure_count sink.old) }
     ensures memory_kept { IsErrOf result DeskFault.Memory → sink.new ≡ sink.old }
 {
+    office.leaves_now();
     let call = read_call(alloc, source)?;
     let Ok(text) = response_to(alloc, office, call) else {
         return Err(DeskFault::Memory);

@@ -6,7 +6,7 @@ use Rattle.office_fields.specs.declared.unread.Unread.TheVariants.{Wrong, Memory
 use Rattle.office_history.specs.declared.arrival.Arrival.{Arrival}
 use Rattle.desk_types.specs.declared.problem.Problem.TheVariants.{BadRequest}
 use Rattle.desk_head.specs.Ahead.{ahead_of, body_size}
-use Rattle.desk_head.specs.Head.{HasHead, HasNoHead}
+use Rattle.desk_head.specs.Head.{HasHead, HasNoHead, IsUnfinished}
 use Rattle.desk_call.specs.Call.{Asked, Asking, asking_seen, call_of, fails}
 
 -- What the bytes ask: that of the request that they begin with. Bytes without a head within the limits are a bad
@@ -20,10 +20,10 @@ Asks bytes asked =
 abbrev pub BytesAskOneThing : Type 0
 BytesAskOneThing = (bytes : List ℕ) (a b : Asked) → Asks bytes a → Asks bytes b → a ≡ b
 
--- the bytes hold no whole request: no head, or a head that asks for a body that isn't all there
+-- the bytes hold no whole request: less than a head, or a head that asks for a body that isn't all there
 abbrev pub IsNotWhole : List ℕ → Type 0
 IsNotWhole bytes =
-    HasNoHead bytes ⊎ ((h : RequestHead) × (rest : List ℕ) × HasHead bytes h rest
+    IsUnfinished bytes ⊎ ((h : RequestHead) × (rest : List ℕ) × HasHead bytes h rest
     × (length rest < body_size (ahead_of h)))
 
 -- an arrival is the one that the definition finds; out of memory states nothing

@@ -2,7 +2,7 @@
 ghost use Rattle.std.specs.Prelude.{◌≡◌, ◌+◌, ◌-◌, ◌<◌, ◌^◌, [], IfOk, OnOk, IfSome, IsErrOf};
 ghost use Rattle.std.specs.Io.KnownBytes.{Consumes};
 ghost use Rattle.desk_types.specs.Moved.{GivesAtMost};
-ghost use Rattle.desk_head.specs.Head.{HasNoHead, IsHeadAt};
+ghost use Rattle.desk_head.specs.Head.{HasNoHead, IsHeadAt, IsUnfinished};
 ghost use Rattle.desk_head.specs.Limits.{head_limit};
 
 use crate::limits::{HEAD_LIMIT, HEADER_LIMIT};
@@ -26,7 +26,7 @@ pub fn read_head<R: Source>(
     ensures none { result ≡ Ok None → IfSome (R.left source.old) HasNoHead }
     ensures kept { OnOk result (R.failure_count source.new ≡ R.failure_count source.old) }
     ensures read { IsErrOf result DeskFault.Read → Consumes (R.left source.old) (R.left source.new) got.new.items
-        × HasNoHead got.new.items }
+        × IsUnfinished got.new.items }
     ensures failed { IsErrOf result DeskFault.Read → R.failure_count source.new ≡ R.failure_count source.old + 1 }
     ensures memory { IsErrOf result DeskFault.Memory → R.failure_count source.new ≡ R.failure_count source.old }
     ensures never { IsErrOf result DeskFault.Write → ⊥ }

@@ -50,7 +50,8 @@ pub(crate) fn serve_over_port<S: Alter>(
     let Ok(count) = u32::try_from(clients.len()) else {
         return Err(ErrorKind::InvalidData)?;
     };
-    if serve(alloc, office, &mut port, count).is_err() {
+    let mut errors = Vec::new(alloc);
+    if serve(alloc, office, &mut port, &mut errors, count).is_err() || !errors.is_empty() {
         return Err(ErrorKind::ConnectionAborted)?;
     }
     let mut served = clients.iter_mut();

@@ -19,9 +19,16 @@ fn ended_in_one_call<S: Alter>(
         return Err(ErrorKind::InvalidData)?;
     };
     let mut waiting = Waiting::new(alloc, requests);
-    let served = serve(alloc, office, &mut waiting, count.saturating_add(1));
+    let mut errors = Vec::new(alloc);
+    let served = serve(
+        alloc,
+        office,
+        &mut waiting,
+        &mut errors,
+        count.saturating_add(1),
+    );
     match (served, waiting.into_ended()) {
-        (Err(ServeFault::Accept), Some(ended)) => Ok(ended),
+        (Err(ServeFault::Accept), Some(ended)) if errors.is_empty() => Ok(ended),
         _ => Err(ErrorKind::Other)?,
     }
 }

@@ -1,5 +1,5 @@
 //! Devices that count their failures.
-ghost use Rattle.std.specs.Prelude.{◌≡◌, ℕ, ◌+◌, ◌<◌, ◌≤◌, ◌^◌, ◌-◌, List, Option, length, IfOk, OnOk, OnErr};
+ghost use Rattle.std.specs.Prelude.{◌≡◌, ℕ, ◌+◌, ◌<◌, ◌≤◌, ◌^◌, ◌-◌, List, Option, Ok, length, IfOk, OnOk, OnErr};
 ghost use Rattle.std.specs.Io.KnownBytes.{ReadConsumes, WriteAppends};
 
 use std::io::{Read, Write};
@@ -51,6 +51,21 @@ pub trait Sink {
         ensures { result ≡ failure_count self.now };
 }
 
+/// What a call of a device counts as: it succeeds where it took `least` bytes or more, and else its failure is counted.
+fn tally<E: Drop>(call: Result<usize, E>, least: usize, count: &mut u64) -> Result<usize, Failed>
+    requires { count.old < 2 ^ 64 - 1 }
+    ensures ok { IfOk result (λ n. (call ≡ Ok n) × (least ≤ n) × (count.new ≡ count.old)) }
+    ensures failed { OnErr result (IfOk call (λ n. n < least) × (count.new ≡ count.old + 1)) }
+{
+    match call {
+        Ok(n) if n >= least => Ok(n),
+        _ => {
+            *count += 1;
+            Err(Failed)
+        }
+    }
+}
+
 /// A reader or a writer with the count of its failures: each error, and each write that takes nothing.
 #[derive(Drop)]
 pub struct Counted<T> {
@@ -82,13 +97,8 @@ impl<T: Read> Source for Counted<T> {
     ghost failure_count = { λ s. s.count };
 
     fn take(&mut self, buf: &mut [u8]) -> Result<usize, Failed> {
-        match self.device.read(buf) {
-            Ok(n) => Ok(n),
-            Err(_) => {
-                self.count += 1;
-                Err(Failed)
-            }
-        }
+        let call = self.device.read(buf);
+        tally(call, 0, &mut self.count)
     }
 
     fn failures(&self) -> u64 {
@@ -102,13 +112,8 @@ impl<T: Write> Sink for Counted<T> {
     ghost failure_count = { λ s. s.count };
 
     fn put(&mut self, bytes: &[u8]) -> Result<usize, Failed> {
-        match self.device.write(bytes) {
-            Ok(n) if n > 0 => Ok(n),
-            _ => {
-                self.count += 1;
-                Err(Failed)
-            }
-        }
+        let call = self.device.write(bytes);
+        tally(call, 1, &mut self.count)
     }
 
     fn failures(&self) -> u64 {

@@ -16,14 +16,14 @@ fn walk_positions(layout: &Layout) -> u128 {
     set
 }
 
-/// The layouts of both orders, of starts 0 to 23 and of 1 to 20 bits, by their index below 960.
-fn layout_at(index: u16) -> Option<Layout> {
+/// The layouts of both orders, of starts 0 to 23 and of 1 to 24 bits, by their index below 1152.
+pub(crate) fn layout_at(index: u16) -> Option<Layout> {
     let order = if index % 2 == 0 {
         Order::Intel
     } else {
         Order::Motorola
     };
-    let size = Size::new((index / 48 % 20) as u8 + 1)?;
+    let size = Size::new((index / 48 % 24) as u8 + 1)?;
     let start = index / 2 % 24;
     Some(Layout { start, size, order })
 }
@@ -65,15 +65,15 @@ fn share_at(first: u16, second: u16) -> bool {
 
 #[test]
 fn layouts_lie_where_their_walks_do(rt: HostRuntime) {
-    for index in 0..960 {
+    for index in 0..1152 {
         assert!(rt; lies_at(index), "{index}");
     }
 }
 
 #[test]
 fn layouts_share_where_their_walks_do(rt: HostRuntime) {
-    for first in 0..960 {
-        for second in 0..960 {
+    for first in 0..1152 {
+        for second in 0..1152 {
             assert!(rt; share_at(first, second), "{first} and {second}");
         }
     }

@@ -20,6 +20,8 @@ mod lists;
 #[cfg(test)]
 mod made;
 #[cfg(test)]
+mod masks;
+#[cfg(test)]
 mod numbers;
 #[cfg(test)]
 mod read_faults;

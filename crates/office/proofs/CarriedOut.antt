@@ -26,7 +26,7 @@ use Rattle.office.specs.Carried.{IsIndexOf, carried, with_both}
 -- The index of a network.
 
 module _ {A : Type 0} (p : A → Bool) (xs : List A) where
-  found_at : (i : ℕ) → position p xs ≡ Some i → (i < length xs) × (slice_get xs i ≡ find p xs)
+  pub found_at : (i : ℕ) → position p xs ≡ Some i → (i < length xs) × (slice_get xs i ≡ find p xs)
   found_at i h = by_test (nat_lt (position_or_len p xs) (length xs)) refl h
     where
       some_same : (a b : ℕ) → ◌≡◌ {A = Option ℕ} (Some a) (Some b) → a ≡ b
@@ -43,7 +43,7 @@ module _ {A : Type 0} (p : A → Bool) (xs : List A) where
           let within : position_or_len p xs < length xs = grind (arith, nat_tests) in
           (omega (arith, same, within), ap (slice_get xs) (sym same) ∙ sym (find_at p xs))
 
-  not_found : position p xs ≡ None → find p xs ≡ None
+  pub not_found : position p xs ≡ None → find p xs ≡ None
   not_found h = by_test (nat_lt (position_or_len p xs) (length xs)) refl h
     where
       some_none : (a : ℕ) → ◌≡◌ {A = Option ℕ} (Some a) None → ⊥

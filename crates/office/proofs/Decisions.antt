@@ -6,6 +6,7 @@ use Rattle.dbc_lex.specs.declared.fault.ReadCode.TheVariants.{DoubleNumber, Doub
 use Rattle.office_types.specs.declared.change.Decision.{Decision}
 use Rattle.office_types.specs.declared.command.Action.{Action}
 use Rattle.office_types.specs.declared.command.Command.{Command}
+use Rattle.office_types.specs.declared.command.Task.{Task}
 use Rattle.office_types.specs.declared.command.Task.TheVariants.{Act, Import}
 use Rattle.office_types.specs.declared.state.Net.{Net}
 use Rattle.office_types.specs.declared.state.Phase.{Phase}
@@ -28,6 +29,9 @@ phase_unwanted a net (Review team) is = subst (λ p. file_wanted (Some (record n
 unwanted : (a : Action) (net : Option Net) → file_wanted net (Act a) ≡ None
 unwanted a None = refl
 unwanted a (Some net) = phase_unwanted a net net.head.phase refl
+
+pub none_read : (net : Option Net) (t : Task) (a : Action) → t ≡ Act a → IsRead (file_wanted net t) no_reading
+none_read net t a is = subst (λ u. IsRead (file_wanted net u) no_reading) (sym is) (subst (λ o. IsRead o no_reading) (sym (unwanted a net)) (tt {0}))
 
 pub action_decided : (team : List ℕ) (before : NetAndBook) (c : Command) (a : Action) (d : Decision) → c.task ≡ Act a
     → Decides c.net before (acted team c.net before.net before.book a) d → IsCommandDecision team before c d

@@ -1,3 +1,5 @@
 mod CarriedOut
 mod Decisions
+mod InPlace
 mod Runs
+mod PutThere

@@ -2,18 +2,23 @@
 use Rattle.std.proofs.Common.{◌≡◌, ℕ, ◌+◌, ◌<◌, List, [], ◌∷◌, ◌++◌, length, take, get_or, Option, refl, sym, ap, subst, ◌∙◌, append_assoc}
 use Rattle.std.specs.List.Sorted.{IsStrictlySortedBy}
 use Rattle.std.specs.Option.{option_and_then}
-use Rattle.std.specs.Prelude.{slice_get}
+use Rattle.std.specs.Prelude.{IfOk, OnErr, Result, Ok, Err, slice_get}
 use Rattle.std.proofs.lemmas.List.{take_more}
+use Rattle.office_types.specs.Command.{IsCommand}
+use Rattle.office_types.specs.PlainName.{IsPlainName}
 use Rattle.office_types.specs.State.{by_name}
+use Rattle.office_types.specs.declared.book.SpnBook.{SpnBook}
 use Rattle.office_types.specs.declared.change.Decision.{Decision}
 use Rattle.office_types.specs.declared.command.Command.{Command}
 use Rattle.office_types.specs.declared.reply.Reply.{Reply}
 use Rattle.office_types.specs.declared.state.Net.{Net}
 use Rattle.office_types.specs.declared.state.Office.{Office}
 use Rattle.office_rules.specs.Change.{IsDecision, left_after}
+use Rattle.office_rules.specs.Kept.{IsOffice}
 use Rattle.office_rules.specs.Outcome.{Outcome, Refusing, Changing}
 use Rattle.office_rules.specs.Step.{HasRun, Run, Step, net_named, office_after, step_outcome}
 use Rattle.office_rules.proofs.Runs.{run_more}
+use Rattle.office_law.proofs.KeptOffice.{offices_are_kept}
 use Rattle.office.specs.Carried.{IsIndexOf, carried, with_both}
 use Rattle.office.proofs.CarriedOut.{index_found, nothing_carried}
 
@@ -42,6 +47,14 @@ indexed_step o after nets others team c index found d sorted same same_too at is
     let here : IsIndexOf o c.net index = subst (λ (ns : List Net). IsIndexOf (record { nets = ns; book = o.book }) c.net index) same at in
     let there : found ≡ net_named o c.net = is ∙ ap (λ (ns : List Net). option_and_then (slice_get ns) index) same_too ∙ index_found o c.net index here in
     carried_step o after team c d sorted (subst (λ (n : Option Net). IsDecision team (record { net = n; book = o.book }) c d) there h) left
+
+-- the office is as every office is after a step, and where memory ran out, since nothing changed
+pub IsOffice-after : {E : Type 0} (o : Office) (nets : List Net) (book : SpnBook) (team : List ℕ) (c : Command) (r : Result Reply E)
+    → IsOffice o → IsPlainName team → IsCommand c → IfOk r (λ reply. Step o team c reply (record { nets = nets; book = book }))
+    → OnErr r ((nets ≡ o.nets) × (book ≡ o.book)) → IsOffice (record { nets = nets; book = book })
+IsOffice-after o nets book team c (Ok reply) is plain in_range step same = offices_are_kept.step o (record { nets = nets; book = book }) team c reply is plain in_range step
+IsOffice-after o nets book team c (Err e) is plain in_range step same =
+    subst (λ (p : List Net × SpnBook). IsOffice (record { nets = p.0; book = p.1 })) (λ i. (sym same.0 i, sym same.1 i)) is
 
 pub HasRun-more : (a b c : Office) (requests : List (List ℕ × Command)) (i : ℕ) (q : List ℕ × Command) (earlier before after : List Reply) (r : Reply)
     → i < length requests → q ≡ get_or requests i q → HasRun a (take i requests) earlier before b → Step b q.0 q.1 r c → after ≡ before ++ r ∷ []

@@ -3,8 +3,12 @@ use Rattle.std.specs.Prelude.{◌≡◌, ℕ, ◌<◌, List, length, Option, Som
 use Rattle.catalogue.specs.Keyed.{put}
 use Rattle.office_types.specs.State.{by_name}
 use Rattle.office_types.specs.declared.change.Change.{Change}
+use Rattle.office_types.specs.declared.reply.Reply.{Reply}
+use Rattle.office_types.specs.declared.reply.Reply.TheVariants.{Refused}
+use Rattle.office_types.specs.declared.state.Net.{Net}
 use Rattle.office_types.specs.declared.state.Office.{Office}
 use Rattle.office_rules.specs.Change.{NetAndBook, all_applied}
+use Rattle.office_rules.specs.Outcome.{Outcome, Refusing, Changing}
 use Rattle.office_rules.specs.Step.{net_named}
 
 -- the office with its network and its book so
@@ -21,3 +25,8 @@ carried o name changes = with_both o (all_applied name changes (record { net = n
 abbrev pub IsIndexOf : Office → List ℕ → Option ℕ → Type 0
 IsIndexOf o name None = net_named o name ≡ None
 IsIndexOf o name (Some i) = (i < length o.nets) × (slice_get o.nets i ≡ net_named o name)
+
+-- an outcome's reply is this, and it leaves the command's network so
+abbrev pub IsDone : Net → Outcome → Reply → Net → Type 0
+IsDone before (Refusing r) reply after = (reply ≡ Refused r) × (after ≡ before)
+IsDone before (Changing r net e) reply after = (reply ≡ r) × (after ≡ net)

@@ -8,6 +8,8 @@
 //! The bodies of the commands are in `office_take`, `office_signals` and `office_import`; here one is chosen, an imported
 //! file is read, and changes are carried out: one change in place, more of them on copies of the network and the book
 //! first, so that nothing is changed where memory runs out.
+//! `take_bits` alone goes another way here (`in_place.rt`): its signal is added to the live message, which a change would
+//! copy.
 //!
 //! The definitions are in `office_rules/specs`: `Commands.antt` and `Step.antt` what a command comes to, `Change.antt`
 //! what changes do. `specs/Carried.antt` here has what they do to a whole office.
@@ -17,8 +19,10 @@ mod applying;
 mod carrying;
 mod deciding;
 mod importing;
+mod in_place;
 mod on_message;
 mod plain;
+mod stepping;
 
 pub use deciding::decide;
 pub use plain::PlainOffice;

@@ -1,13 +1,11 @@
 //! An office in memory.
 ghost use Rattle.std.specs.Prelude.{◌≡◌, IfOk, OnOk, OnErr};
-ghost use Rattle.std.specs.Option.{option_copied};
 ghost use Rattle.office_rules.specs.Kept.{IsOffice};
 ghost use Rattle.office_rules.specs.Step.{opening, Step, HasRun, HasBegun};
 
-use crate::carrying::{carry_out, index_of, net_at};
-use crate::deciding::decide;
+use crate::stepping::step;
 use catalogue::Items;
-use office_types::{Command, Decision, Net, Reply, SpnBook, Team, UsedSpns, command_is_in_range};
+use office_types::{Command, Net, Reply, SpnBook, Team, UsedSpns, command_is_in_range};
 use std::alloc::{AllocError, Global};
 use std::marker::Model;
 
@@ -63,19 +61,7 @@ impl PlainOffice {
     {
         team.as_bytes();
         command_is_in_range(command);
-        let index = index_of(&self.nets, &self.book, &command.net);
-        let net = net_at(&self.nets, index);
-        let decision = decide(alloc, team, net, &self.book, command)?;
-        let Decision { changes, reply } = decision;
-        carry_out(
-            alloc,
-            &command.net,
-            &mut self.nets,
-            &mut self.book,
-            index,
-            changes,
-        )?;
-        Ok(reply)
+        step(alloc, team, &mut self.nets, &mut self.book, command)
     }
 
     /// Runs the commands in order, each for its team, and adds their replies. If memory runs out, the first commands

@@ -1,8 +1,10 @@
--- Worked examples, computed from the definitions: repeats after the office has moved on, releases that stay, and suspect
--- parameter numbers that are given.
-use Rattle.std.proofs.Common.{◌≡◌, ℕ, List, [], ◌∷◌, ◌++◌, map, take, Some, None, IfSome, refl}
+-- Worked examples, computed from the definitions: repeats after the office has moved on, releases that stay, suspect
+-- parameter numbers that are given, and arrivals on two networks.
+use Rattle.std.proofs.Common.{◌≡◌, ℕ, true, false, List, [], ◌∷◌, ◌++◌, filter, map, take, Some, None, IfSome, arith, refl}
 use Rattle.std.specs.Prelude.{codes}
+use Rattle.std.proofs.lemmas.Bool.{false≢true}
 use Rattle.std.proofs.lemmas.List.Elements.{All-from_recursion}
+use Rattle.std.proofs.lemmas.Slice.Eq.{bytes_eq-Decides}
 use Rattle.catalogue.specs.Messages.{number_of}
 use Rattle.office_types.specs.declared.block.BlockForm.TheVariants as block
 use Rattle.office_types.specs.declared.command.Action.TheVariants as act
@@ -12,12 +14,13 @@ use Rattle.office_types.specs.declared.reply.Reply.TheVariants.{Done, Number, Re
 use Rattle.office_types.specs.declared.state.Office.{Office}
 use Rattle.office_rules.specs.Outcome.{reply_of}
 use Rattle.office_rules.specs.Step.{IsRead, Step, file_wanted, net_named, office_after, opening, step_outcome}
-use Rattle.office_rules.proofs.Asking.{Asked, asks, engine, grants, left_by, office, opens, takes, takes_spn, truck}
+use Rattle.office_rules.proofs.Asking.{Asked, asks, bus, engine, grants, left_by, office, on_bus, opens, takes, takes_spn, truck}
 use Rattle.office_history.specs.declared.arrival.Answer.{Answer}
 use Rattle.office_history.specs.declared.arrival.Answer.TheVariants as answer
 use Rattle.office_history.specs.declared.arrival.Answer.TheVariants.{KeyReused}
-use Rattle.office_history.specs.History.{Answered, IsAnsweredAs, IsLegal, first_arrivals, first_of}
-use Rattle.office_history.specs.Laws.{new_spns}
+use Rattle.office_history.specs.History.{Answered, IsAnsweredAs, IsLegal, IsLegalHistory, first_arrivals, first_of}
+use Rattle.office_law.specs.Apart.{asks_book}
+use Rattle.office_history.specs.Laws.{HaveOneNetwork, is_on, new_spns}
 
 abbrev answered : Asked → List ℕ → List ℕ → Answer → Answered
 answered q key content answer = record { team = q.team; key = key; content = content; command = q.command; answer = answer }
@@ -106,3 +109,58 @@ spns_asked =
 
 each_number_once : new_spns spns_asked ≡ 500 ∷ 501 ∷ []
 each_number_once = refl
+
+-- Arrivals on another network don't count on this one.
+
+abbrev on_other : Answered
+on_other = answered (on_bus (opens Can 0)) (codes "o9") (codes "open_net bus") (answer.Reply Done)
+
+on_this_network : filter (is_on truck) (on_other ∷ moved_on) ≡ moved_on
+on_this_network = refl
+
+spns_ask_the_book : (asks_book (takes_spn (codes "P") None).command.task ≡ true) × (asks_book (grants engine block.Std 256 258).command.task ≡ false)
+spns_ask_the_book = (refl, refl)
+
+-- The law that networks are apart wants that no pair of team and key names two networks: without that it would be
+-- false. Under the key that opened the other network no answer opens this one.
+
+abbrev AnswersAreApartUnderAnyKeys : Type 0
+AnswersAreApartUnderAnyKeys = (h g : List Answered) (a : Answered) → asks_book a.command.task ≡ false
+    → filter (is_on a.command.net) h ≡ filter (is_on a.command.net) g → IsLegalHistory (h ++ a ∷ []) → IsLegalHistory g → IsLegalHistory (g ++ a ∷ [])
+
+abbrev first_this : Answered
+first_this = answered (opens Can 0) (codes "o1") (codes "open_net truck") (answer.Reply Done)
+
+abbrev first_other : Answered
+first_other = answered (on_bus (opens Can 0)) (codes "o1") (codes "open_net bus") (answer.Reply Done)
+
+one_key_for_both : HaveOneNetwork (first_this ∷ first_other ∷ []) → ⊥
+one_key_for_both one = false≢true ((bytes_eq-Decides truck bus).1 (one 0 1 first_this (omega arith) (omega arith) refl))
+
+opens_this : IsLegalHistory (first_this ∷ [])
+opens_this = (
+  left_by opening (opens Can 0 ∷ []),
+  record {
+    replies = Done ∷ [];
+    replied = refl;
+    run = (left_by opening (opens Can 0 ∷ []), step_of opening (opens Can 0) (tt {0}), refl);
+    again = All-from_recursion (λ a. IfSome (first_of (first_this ∷ []) a) (IsAnsweredAs a)) (first_this ∷ []) (refl, tt {0});
+  },
+)
+
+opens_other : IsLegalHistory (first_other ∷ [])
+opens_other = (
+  left_by opening (on_bus (opens Can 0) ∷ []),
+  record {
+    replies = Done ∷ [];
+    replied = refl;
+    run = (left_by opening (on_bus (opens Can 0) ∷ []), step_of opening (on_bus (opens Can 0)) (tt {0}), refl);
+    again = All-from_recursion (λ a. IfSome (first_of (first_other ∷ []) a) (IsAnsweredAs a)) (first_other ∷ []) (refl, tt {0});
+  },
+)
+
+keys_matter : AnswersAreApartUnderAnyKeys → ⊥
+keys_matter law =
+    let both = law [] (first_other ∷ []) first_this refl refl opens_this opens_other in
+    let repeated : ◌≡◌ {A = Answer} (answer.Reply Done) KeyReused = both.1.again 1 first_this (omega arith) in
+    cc

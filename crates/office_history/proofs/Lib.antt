@@ -4,4 +4,5 @@ pub mod Offices
 pub mod Releases
 pub mod Names
 pub mod Spns
+pub mod NetworksApart
 pub mod Examples

@@ -1,5 +1,6 @@
 -- How legal histories go on, and what they leave.
-use Rattle.std.specs.Prelude.{◌≡◌, ◌≢◌, ℕ, Bool, false, if◌then◌else◌, List, [], ◌∷◌, ◌++◌, map, filter_map, All, AllPairs, Contains, Option, None, Some, is_none}
+use Rattle.std.specs.Prelude.{◌≡◌, ◌≢◌, ℕ, Bool, true, false, if◌then◌else◌, List, [], ◌∷◌, ◌++◌, map, filter, filter_map, All, AllPairs, Contains, Option, None, Some, is_none}
+use Rattle.std.specs.Str.{bytes_eq}
 use Rattle.catalogue.specs.Messages.{number_of}
 use Rattle.catalogue.specs.declared.message.Message.{Message}
 use Rattle.catalogue.specs.declared.sheet.Sheet.{Sheet}
@@ -14,9 +15,10 @@ use Rattle.office_types.specs.declared.state.Net.{Net}
 use Rattle.office_types.specs.declared.state.Office.{Office}
 use Rattle.office_rules.specs.Kept.{IsOffice}
 use Rattle.office_rules.specs.Step.{Step, net_named, opening}
+use Rattle.office_law.specs.Apart.{asks_book}
 use Rattle.office_history.specs.declared.arrival.Answer.{Answer}
 use Rattle.office_history.specs.declared.arrival.Answer.TheVariants as answer
-use Rattle.office_history.specs.History.{Answered, IsAnsweredAs, IsLegal, first_arrivals, first_of, request_of}
+use Rattle.office_history.specs.History.{Answered, IsAnsweredAs, IsLegal, IsLegalHistory, first_arrivals, first_of, request_of, same_pair}
 
 -- One more arrival leaves a history legal: a first one, by a step of the office, and a repeat, by the answer of the first one.
 pub record HistoriesGrow : Type 0 where
@@ -66,3 +68,22 @@ new_spns h = filter_map new_spn (first_arrivals h)
 -- No two first arrivals are given one suspect parameter number of their own.
 abbrev pub SpnsAreGivenOnce : Type 0
 SpnsAreGivenOnce = (h : List Answered) (office : Office) → IsLegal h office → AllPairs (λ m n. m ≢ n) (new_spns h)
+
+-- the arrival is on the network of this name
+abbrev pub is_on : List ℕ → Answered → Bool
+is_on name a = bytes_eq a.command.net name
+
+-- two arrivals of one pair of team and key are on one network
+abbrev pub NamesOneNetwork : Answered → Answered → Type 0
+NamesOneNetwork a b = same_pair a b ≡ true → a.command.net ≡ b.command.net
+
+-- No pair of team and key names two networks.
+abbrev pub HaveOneNetwork : List Answered → Type 0
+HaveOneNetwork h = AllPairs NamesOneNetwork h
+
+-- What an arrival is answered after one legal history it may be answered after any other that has the same arrivals,
+-- with the same answers, on its network, whatever else each of the two has: if the command doesn't ask the book, and
+-- with this arrival no pair of team and key names two networks in either.
+abbrev pub AnswersAreApart : Type 0
+AnswersAreApart = (h g : List Answered) (a : Answered) → asks_book a.command.task ≡ false → HaveOneNetwork (h ++ a ∷ []) → HaveOneNetwork (g ++ a ∷ [])
+    → filter (is_on a.command.net) h ≡ filter (is_on a.command.net) g → IsLegalHistory (h ++ a ∷ []) → IsLegalHistory g → IsLegalHistory (g ++ a ∷ [])

@@ -1,5 +1,5 @@
 //! Laws of histories. Each is the contract of a function that does nothing.
-ghost use Rattle.office_history.specs.Laws.{HistoriesGrow, HistoriesLeaveOffices, NumbersKeepTheirNames, ReleasesStay, SpnsAreGivenOnce};
+ghost use Rattle.office_history.specs.Laws.{AnswersAreApart, HistoriesGrow, HistoriesLeaveOffices, NumbersKeepTheirNames, ReleasesStay, SpnsAreGivenOnce};
 
 use catalogue::texts_read_as_one_sheet;
 
@@ -38,3 +38,11 @@ pub fn numbers_keep_their_names()
 pub fn spns_are_given_once()
     ensures { SpnsAreGivenOnce }
 {}
+
+/// Networks are apart: what an arrival is answered on a network depends on the arrivals on that network alone, with
+/// what they were answered. So it may be answered so after any other legal history that has the same ones there.
+pub fn answers_are_apart()
+    ensures { AnswersAreApart }
+{
+    texts_read_as_one_sheet();
+}

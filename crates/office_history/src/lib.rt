@@ -8,8 +8,9 @@
 //! A history is a list of arrivals with their answers. It is legal (`IsLegal`, `specs/History.antt`) if its first
 //! arrivals, in order, are answered by the steps of the office, and each repeat as above. [`histories_grow`] says how a
 //! legal history goes on, [`histories_leave_offices`] what it leaves, [`releases_stay`] that no release changes,
-//! [`numbers_keep_their_names`] that releases give one message number one name, and [`spns_are_given_once`] that no
-//! suspect parameter number is given out twice. The definitions are in `specs/`.
+//! [`numbers_keep_their_names`] that releases give one message number one name, [`spns_are_given_once`] that no suspect
+//! parameter number is given out twice, and [`answers_are_apart`] that an answer depends on the arrivals on its network
+//! alone. The definitions are in `specs/`.
 #![tactic(auto)]
 
 mod arrival;
@@ -19,6 +20,6 @@ mod laws;
 pub use arrival::{Answer, Arrival, Request};
 pub use key::{Key, KeyRule};
 pub use laws::{
-    histories_grow, histories_leave_offices, numbers_keep_their_names, releases_stay,
-    spns_are_given_once,
+    answers_are_apart, histories_grow, histories_leave_offices, numbers_keep_their_names,
+    releases_stay, spns_are_given_once,
 };

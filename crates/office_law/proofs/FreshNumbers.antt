@@ -44,6 +44,7 @@ use Rattle.office_law.proofs.Idents.{not_held, not_live, same_number}
 use Rattle.office_law.proofs.Inverting.{given, passed, same_Changing}
 use Rattle.office_law.proofs.KeptBook.{now_used, still_used}
 use Rattle.office_law.proofs.KeptMessages.{is_identifier}
+use Rattle.office_law.proofs.Started.{starts}
 use Rattle.office_law.proofs.Lists.{All-from_contains, Contains-first, Contains-from_put, Contains-put, Contains-put_other}
 use Rattle.office_law.proofs.Sheets.{Contains-map}
 
@@ -158,4 +159,4 @@ imports team net after s reply e h =
     }
 
 pub numbers_are_fresh : NumbersAreFresh
-numbers_are_fresh = record { idents = idents; groups = groups; spns = spns; imports = imports; stay_used = λ book e n c. still_used e.numbers book.used n c }
+numbers_are_fresh = record { idents = idents; groups = groups; spns = spns; starts = λ team net after c reply e h. starts team net c after reply e h; imports = imports; stay_used = λ book e n c. still_used e.numbers book.used n c }

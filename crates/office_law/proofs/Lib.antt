@@ -16,6 +16,7 @@ pub mod OnSignals
 pub mod Going
 pub mod KeptOffice
 pub mod Inverting
+pub mod Started
 pub mod FreshNumbers
 pub mod Apart
 pub mod OneStep

@@ -1,8 +1,11 @@
 -- Numbers that are given out are fresh: no live message has them, none was held, none was used.
 use Rattle.std.specs.Prelude.{◌≡◌, ◌≢◌, ◌⊎◌, true, ℕ, List, All, Contains, Option, Some, None, map}
+use Rattle.bitlayout.specs.Start.{CanStartAt, IsLeastStart}
+use Rattle.bitlayout.specs.declared.place.Place.{Place}
 use Rattle.can_id.specs.Ident.{ident_of}
 use Rattle.can_id.specs.J1939.{IsBuilt, fields_with}
 use Rattle.catalogue.specs.Form.{IsSheet}
+use Rattle.catalogue.specs.Signals.{places_of}
 use Rattle.catalogue.specs.declared.sheet.Sheet.{Sheet}
 use Rattle.office_types.specs.Block.{block_form}
 use Rattle.office_types.specs.Command.{IsAction, group_form}
@@ -11,21 +14,22 @@ use Rattle.office_types.specs.declared.block.Block.{Block}
 use Rattle.office_types.specs.declared.block.BlockForm.TheVariants.{Pgn}
 use Rattle.office_types.specs.declared.book.SpnBook.{SpnBook}
 use Rattle.office_types.specs.declared.command.Action.TheVariants as act
+use Rattle.office_types.specs.declared.command.TakeBits.{TakeBits}
 use Rattle.office_types.specs.declared.command.TakeIdent.{TakeIdent}
 use Rattle.office_types.specs.declared.command.TakePgn.{TakePgn}
 use Rattle.office_types.specs.declared.command.TakeSpn.{TakeSpn}
 use Rattle.office_types.specs.declared.free.Form.{Form}
 use Rattle.office_types.specs.declared.free.Form.TheVariants.{Spn}
 use Rattle.office_types.specs.declared.reply.Reply.{Reply}
-use Rattle.office_types.specs.declared.reply.Reply.TheVariants.{Number}
+use Rattle.office_types.specs.declared.reply.Reply.TheVariants.{Number, Start}
 use Rattle.office_types.specs.declared.state.LiveMessage.{LiveMessage}
 use Rattle.office_types.specs.declared.state.Net.{Net}
-use Rattle.office_rules.specs.Facts.{blocks_of, group_of, lies_in, spn_blocks_of, taken_groups, taken_numbers}
+use Rattle.office_rules.specs.Facts.{blocks_of, group_of, lies_in, live_named, spn_blocks_of, taken_groups, taken_numbers}
 use Rattle.office_rules.specs.Importing.{Reading, import, new_messages, owned_by}
 use Rattle.office_rules.specs.Kept.{IsNet}
 use Rattle.office_rules.specs.Numbers.{address_of, ident_with, new_message, take_ident, take_pgn, with_message}
 use Rattle.office_rules.specs.Outcome.{Entries, no_entries, Changing, entered}
-use Rattle.office_rules.specs.Signals.{spn_entered, take_spn}
+use Rattle.office_rules.specs.Signals.{new_signal, spn_entered, take_bits, take_spn, with_last_signal}
 
 -- the number that is wanted, or where none is the least that may be given out
 abbrev pub IsChosen : Option ℕ → List ℕ → List Block → Form → ℕ → Type 0
@@ -78,6 +82,23 @@ pub record GivesSpn (team name : List ℕ) (book : SpnBook) (reply : Reply) (ent
   pub told : reply ≡ Number number
   pub added : entries ≡ spn_entered number
 
+-- the start that is wanted, or where none is the least from which the signals stay clear
+abbrev pub IsStartChosen : Option ℕ → List Place → ℕ → TakeBits → ℕ → Type 0
+IsStartChosen (Some wanted) places bytes c start = start ≡ wanted
+IsStartChosen None places bytes c start = IsLeastStart places bytes c.size c.order c.mux start
+
+-- What a `take_bits` that isn't refused gives out and changes: a start from which the named message's signals stay
+-- clear, the wanted one or the least. The message gets a last signal from there.
+pub record GivesStart (net : Net) (c : TakeBits) (reply : Reply) (after : Net) (entries : Entries) : Type 0 where
+  pub message : LiveMessage
+  pub found : live_named net.live c.path.message ≡ Some message
+  pub start : ℕ
+  pub clear : CanStartAt (places_of message.message.signals) message.message.length c.size c.order c.mux start
+  pub chosen : IsStartChosen c.start (places_of message.message.signals) message.message.length c start
+  pub told : reply ≡ Start start
+  pub added : after ≡ with_message net (with_last_signal message (new_signal c start))
+  pub quiet : entries ≡ no_entries
+
 -- the live messages are the earlier ones and these
 pub record AreJoined (live next new : List LiveMessage) : Type 0 where
   pub there : (m : LiveMessage) → Contains new m → Contains next m
@@ -97,6 +118,8 @@ pub record NumbersAreFresh : Type 0 where
       → take_pgn team (Some net) c ≡ Changing reply after e → GivesGroup team net c reply after e
   pub spns : (team name : List ℕ) (net after : Net) (book : SpnBook) (c : TakeSpn) (reply : Reply) (e : Entries)
       → c.same ≡ None → take_spn team name (Some net) book c ≡ Changing reply after e → GivesSpn team name book reply e
+  pub starts : (team : List ℕ) (net after : Net) (c : TakeBits) (reply : Reply) (e : Entries)
+      → take_bits team (Some net) c ≡ Changing reply after e → GivesStart net c reply after e
   pub imports : (team : List ℕ) (net after : Net) (s : Sheet) (reply : Reply) (e : Entries)
       → import team (Some net) (Reading s) ≡ Changing reply after e → GivesFile team net s after
   -- and whatever a command enters, a used number stays used

@@ -14,8 +14,9 @@ pub fn offices_are_kept()
     ensures { OfficesAreKept }
 {}
 
-/// A `take_ident` or a `take_pgn` that isn't refused gives out a number that no live message has and that isn't held, the
-/// wanted one or the least; a `take_spn` without a wanted number gives out the least that was never used.
+/// A `take_ident` or a `take_pgn` that isn't refused gives out a number that no live message has and that isn't held,
+/// the wanted one or the least; a `take_spn` without a wanted number gives out the least that was never used; a
+/// `take_bits` that isn't refused gives a start from which the signals stay clear, the wanted one or the least.
 pub fn numbers_are_fresh()
     ensures { NumbersAreFresh }
 {}

@@ -3,21 +3,25 @@ use Rattle.std.proofs.Common.{ℕ, false, List, [], ◌∷◌, Option, None}
 use Rattle.std.specs.Prelude.{pos, codes}
 use Rattle.bitlayout.specs.declared.layout.Order.{Order}
 use Rattle.bitlayout.specs.declared.place.Mux.{Mux}
-use Rattle.can_id.specs.declared.form.IdentForm.TheVariants.{Standard}
+use Rattle.can_id.specs.declared.form.IdentForm.TheVariants.{Standard, Extended}
 use Rattle.can_id.specs.declared.ident.Ident.{Ident}
 use Rattle.catalogue.specs.Sheet.{empty_sheet}
 use Rattle.catalogue.specs.declared.message.Message.{Message}
 use Rattle.catalogue.specs.declared.sheet.Sheet.{Sheet}
 use Rattle.catalogue.specs.declared.signal.Signal.{Signal}
+use Rattle.catalogue.specs.declared.value_texts.ValueText.{ValueText}
 use Rattle.decimal.specs.Number.{Number}
 use Rattle.office_types.specs.declared.block.BlockForm.{BlockForm}
+use Rattle.office_types.specs.declared.block.BlockForm.TheVariants as block
 use Rattle.office_types.specs.declared.command.Action.{Action}
 use Rattle.office_types.specs.declared.command.Action.TheVariants as act
 use Rattle.office_types.specs.declared.command.Command.{Command}
 use Rattle.office_types.specs.declared.command.NetKind.{NetKind}
+use Rattle.office_types.specs.declared.command.NetKind.TheVariants.{Can}
 use Rattle.office_types.specs.declared.command.NewMessage.{NewMessage}
 use Rattle.office_types.specs.declared.command.Pdu.{Pdu}
 use Rattle.office_types.specs.declared.command.SignalPath.{SignalPath}
+use Rattle.office_types.specs.declared.command.TakeBits.{TakeBits}
 use Rattle.office_types.specs.declared.command.Task.TheVariants.{Act, Import}
 use Rattle.office_types.specs.declared.reply.Reply.{Reply}
 use Rattle.office_types.specs.declared.state.Office.{Office}
@@ -46,8 +50,14 @@ office = codes "office"
 abbrev pub engine : List ℕ
 engine = codes "engine"
 
+abbrev pub brake : List ℕ
+brake = codes "brake"
+
 abbrev pub truck : List ℕ
 truck = codes "truck"
+
+abbrev pub bus : List ℕ
+bus = codes "bus"
 
 abbrev pub asks : List ℕ → Action → Asked
 asks team action = record { team = team; reading = Reading empty_sheet; command = record { net = truck; task = Act action } }
@@ -55,17 +65,31 @@ asks team action = record { team = team; reading = Reading empty_sheet; command 
 abbrev pub imports : List ℕ → Sheet → Asked
 imports team s = record { team = team; reading = Reading s; command = record { net = truck; task = Import [] } }
 
+-- the same request on the other network
+abbrev pub on_bus : Asked → Asked
+on_bus q = record q { command = record q.command { net = bus } }
+
 abbrev pub opens : NetKind → ℕ → Asked
 opens kind reviews = asks office (act.OpenNet (record { kind = kind; reviews = reviews }))
 
 abbrev pub grants : List ℕ → BlockForm → ℕ → ℕ → Asked
 grants team form first last = asks office (act.Grant (record { team = team; block = record { form = form; first = first; last = last } }))
 
+-- a network with a block of three identifiers
+abbrev pub setup : List Asked → List Asked
+setup qs = opens Can 0 ∷ grants engine block.Std 256 258 ∷ qs
+
+abbrev pub adds : List ℕ → Asked
+adds node = asks office (act.AddNode node)
+
 abbrev pub named : List ℕ → NewMessage
 named name = record { name = name; length = 8; node = None }
 
 abbrev pub takes : List ℕ → List ℕ → Option ℕ → Asked
 takes team name want = asks team (act.TakeIdent (record { form = Standard; message = named name; want = want }))
+
+abbrev pub takes_ext : List ℕ → Option ℕ → Asked
+takes_ext name want = asks engine (act.TakeIdent (record { form = Extended; message = named name; want = want }))
 
 abbrev pub takes_group : List ℕ → Pdu → Asked
 takes_group name pdu = asks engine (act.TakePgn (record { message = named name; pdu = pdu; priority = 6; source = 0 }))
@@ -76,8 +100,8 @@ path message signal = record { message = message; signal = signal }
 abbrev pub number : ℕ → Number
 number n = record { mantissa = pos n; exponent = pos 0 }
 
-abbrev pub takes_bits : List ℕ → ℕ → Order → Mux → Option ℕ → Asked
-takes_bits signal size order mux start = asks engine (act.TakeBits (record {
+abbrev pub bits : List ℕ → ℕ → Order → Mux → Option ℕ → TakeBits
+bits signal size order mux start = record {
   path = path (codes "E1") signal;
   size = size;
   order = order;
@@ -90,10 +114,19 @@ takes_bits signal size order mux start = asks engine (act.TakeBits (record {
   unit = [];
   receivers = [];
   start = start;
-}))
+}
+
+abbrev pub takes_bits : List ℕ → ℕ → Order → Mux → Option ℕ → Asked
+takes_bits signal size order mux start = asks engine (act.TakeBits (bits signal size order mux start))
 
 abbrev pub takes_spn : List ℕ → Option ℕ → Asked
 takes_spn signal same = asks engine (act.TakeSpn (record { path = path (codes "E1") signal; same = same }))
 
 abbrev pub message : Ident → List ℕ → List Signal → Message
 message i name signals = record { ident = i; name = name; length = 8; transmitter = None; comment = []; signals = signals }
+
+abbrev pub sets_values : List ℕ → List ValueText → Asked
+sets_values signal values = asks engine (act.SetValues (record { path = path (codes "E1") signal; values = values }))
+
+abbrev pub removes : List ℕ → Asked
+removes signal = asks engine (act.RemoveSignal (path (codes "E1") signal))

@@ -1,17 +1,21 @@
--- Worked examples, computed from the definitions.
-use Rattle.std.proofs.Common.{◌≡◌, ℕ, false, List, [], ◌∷◌, map, Some, None, refl}
+-- Worked examples of commands without a file, computed from the definitions.
+use Rattle.std.proofs.Common.{◌≡◌, ◌+◌, ◌/◌, ℕ, false, List, [], ◌∷◌, map, Some, None, refl}
 use Rattle.std.proofs.lemmas.Bool.{true≢false}
-use Rattle.std.specs.Prelude.{codes}
+use Rattle.std.specs.List.{range_with_len}
+use Rattle.std.specs.Prelude.{◌%◌, codes}
 use Rattle.bitlayout.specs.Bits.{walk, shares_bit, is_inside}
 use Rattle.bitlayout.specs.Clash.{clash_after}
 use Rattle.bitlayout.specs.First.{first_answer}
 use Rattle.bitlayout.specs.declared.layout.Order.TheVariants.{Intel, Motorola}
 use Rattle.bitlayout.specs.declared.place.Mux.TheVariants.{Always, Multiplexor, Under}
+use Rattle.can_id.specs.declared.form.IdentForm.TheVariants.{Standard}
+use Rattle.can_id.specs.declared.ident.Ident.{Ident}
 use Rattle.can_id.specs.declared.ident.Ident.TheVariants as id
-use Rattle.catalogue.specs.Sheet.{empty_sheet}
+use Rattle.catalogue.specs.Limits.{roster_limit}
+use Rattle.catalogue.specs.Sheet.{empty_sheet, node_name}
+use Rattle.catalogue.specs.declared.node.Node.{Node}
 use Rattle.catalogue.specs.declared.sheet.Sheet.{Sheet}
-use Rattle.catalogue.specs.declared.signal.Signal.{Signal}
-use Rattle.catalogue.specs.declared.value_type.ValueType.TheVariants.{Integer}
+use Rattle.catalogue.specs.declared.value_texts.ValueText.{ValueText}
 use Rattle.office_types.specs.declared.block.BlockForm.TheVariants as block
 use Rattle.office_types.specs.declared.change.Change.TheVariants.{SetBlock}
 use Rattle.office_types.specs.declared.command.Action.TheVariants as act
@@ -22,13 +26,8 @@ use Rattle.office_types.specs.declared.reply.Reply.{Reply}
 use Rattle.office_types.specs.declared.reply.Reply.TheVariants.{Done, Number, Start, Counts, Release, Refused}
 use Rattle.office_types.specs.declared.state.Net.{Net}
 use Rattle.office_rules.specs.Change.{HaveOwnBlocks}
-use Rattle.office_rules.specs.Importing.{Unreadable}
-use Rattle.office_rules.specs.Facts.{taken_groups}
 use Rattle.office_rules.specs.Step.{opening}
-use Rattle.office_rules.proofs.Asking.{Asked, replies_to, left_by, office, engine, asks, imports, opens, grants, takes, takes_group, path, number, takes_bits, takes_spn, message}
-
-abbrev setup : List Asked → List Asked
-setup qs = opens Can 0 ∷ grants engine block.Std 256 258 ∷ qs
+use Rattle.office_rules.proofs.Asking.{Asked, adds, asks, bits, brake, engine, grants, imports, left_by, named, number, office, on_bus, opens, path, removes, replies_to, sets_values, setup, takes, takes_bits, takes_ext, takes_group, takes_spn}
 
 full : replies_to opening (setup (takes engine (codes "E1") None ∷ takes engine (codes "E2") None ∷ takes engine (codes "E3") None ∷ takes engine (codes "E4") None ∷ []))
     ≡ Done ∷ Done ∷ Number 256 ∷ Number 257 ∷ Number 258 ∷ Refused no.BlockFull ∷ []
@@ -38,7 +37,7 @@ blocks : replies_to opening (setup (grants engine block.Std 258 300 ∷ grants e
     ≡ Done ∷ Done ∷ Refused no.BlockTaken ∷ Done ∷ Refused no.NotJ1939 ∷ Done ∷ Refused no.BlockTaken ∷ []
 blocks = refl
 
-wanted : replies_to opening (setup (takes engine (codes "E1") (Some 300) ∷ takes engine (codes "E1") (Some 257) ∷ takes engine (codes "E2") (Some 257) ∷ takes engine (codes "E1") None ∷ takes (codes "brake") (codes "E3") None ∷ takes engine (codes "E3") None ∷ []))
+wanted : replies_to opening (setup (takes engine (codes "E1") (Some 300) ∷ takes engine (codes "E1") (Some 257) ∷ takes engine (codes "E2") (Some 257) ∷ takes engine (codes "E1") None ∷ takes brake (codes "E3") None ∷ takes engine (codes "E3") None ∷ []))
     ≡ Done ∷ Done ∷ Refused no.OutsideBlock ∷ Number 257 ∷ Refused no.IdentTaken ∷ Refused no.NameTaken ∷ Refused no.NoBlock ∷ Number 256 ∷ []
 wanted = refl
 
@@ -66,84 +65,108 @@ groups : replies_to opening (
     ≡ Done ∷ Done ∷ Number 61184 ∷ Number 61440 ∷ Refused no.BlockFull ∷ Refused no.BlockFull ∷ []
 groups = refl
 
--- Files.
+-- identifiers of 29 bits have blocks and numbers of their own, and no wanted number is of the other form
+extended : replies_to opening (setup (
+    grants engine block.Ext 256 257
+    ∷ grants engine block.Ext 4096 4097
+    ∷ takes engine (codes "E1") None
+    ∷ takes_ext (codes "E2") None
+    ∷ takes_ext (codes "E3") (Some 4096)
+    ∷ takes engine (codes "E4") (Some 4096)
+    ∷ takes_ext (codes "E4") (Some 258)
+    ∷ takes_ext (codes "E4") None
+    ∷ takes_ext (codes "E5") None
+    ∷ takes_ext (codes "E6") None ∷ []))
+    ≡ Done ∷ Done ∷ Done ∷ Done ∷ Number 256 ∷ Number 256 ∷ Number 4096 ∷ Refused no.OutsideBlock ∷ Refused no.OutsideBlock ∷ Number 257 ∷ Number 4097 ∷ Refused no.BlockFull ∷ []
+extended = refl
 
-abbrev three : Sheet
-three = record empty_sheet { messages = message (id.Std 256) (codes "A") [] ∷ message (id.Std 257) (codes "B") [] ∷ message (id.Std 258) (codes "C") [] ∷ [] }
+-- nor is one above the form given, if a block had it (no value of the type of blocks has)
+above_the_form : replies_to opening (opens Can 0 ∷ grants engine block.Std 2047 2050 ∷ takes engine (codes "E1") (Some 2048) ∷ takes engine (codes "E1") None ∷ takes engine (codes "E2") None ∷ [])
+    ≡ Done ∷ Done ∷ Refused no.OutsideBlock ∷ Number 2047 ∷ Refused no.BlockFull ∷ []
+above_the_form = refl
 
-abbrev live_names : List Net → List (List (List ℕ))
-live_names nets = map (λ net. map (λ m. m.message.name) net.live) nets
+abbrev idents_of : List Net → List (List Ident)
+idents_of nets = map (λ net. map (λ m. m.message.ident) net.live) nets
 
--- a message of the file that isn't as the live one of its number refuses the whole
-taken_by_another : replies_to opening (setup (takes engine (codes "E3") (Some 258) ∷ imports engine three ∷ []))
-    ≡ Done ∷ Done ∷ Number 258 ∷ Refused no.IdentTaken ∷ []
-unfolding walk shares_bit is_inside clash_after first_answer
-taken_by_another = refl
+-- the identifiers of priority 6 and source 0 (SAE J1939-21): 18EF2100 goes to address 33, 18EFFF00 and 18F00000 to all
+built : idents_of (left_by opening (
+    opens J1939 0
+    ∷ grants engine block.Pgn 61184 61184
+    ∷ takes_group (codes "A") (Addressed (Some 33)) ∷ [])).nets
+    ≡ (id.Ext 418324736 ∷ []) ∷ []
+built = refl
 
-nothing_added : live_names (left_by opening (setup (takes engine (codes "E3") (Some 258) ∷ imports engine three ∷ []))).nets
-    ≡ (codes "E3" ∷ []) ∷ []
-unfolding walk shares_bit is_inside clash_after first_answer
-nothing_added = refl
+built_for_all : idents_of (left_by opening (
+    opens J1939 0
+    ∷ grants engine block.Pgn 61184 61440
+    ∷ takes_group (codes "A") (Addressed None)
+    ∷ takes_group (codes "B") Broadcast ∷ [])).nets
+    ≡ (id.Ext 418381568 ∷ id.Ext 418381824 ∷ []) ∷ []
+built_for_all = refl
 
-imported_twice : replies_to opening (setup (imports engine three ∷ imports engine three ∷ imports (codes "brake") (record three { messages = message (id.Std 300) (codes "Z") [] ∷ [] }) ∷ []))
-    ≡ Done ∷ Done ∷ Counts 3 0 ∷ Counts 0 3 ∷ Refused no.OutsideBlock ∷ []
-unfolding walk shares_bit is_inside clash_after first_answer
-imported_twice = refl
+-- one destination more is no other group
+one_group : replies_to opening (
+    opens J1939 0
+    ∷ grants engine block.Pgn 61184 61184
+    ∷ takes_group (codes "A") (Addressed (Some 33))
+    ∷ takes_group (codes "B") (Addressed (Some 34)) ∷ [])
+    ≡ Done ∷ Done ∷ Number 61184 ∷ Refused no.BlockFull ∷ []
+one_group = refl
 
--- a file that reads as no sheet is refused with its fault, but in review it isn't read
-unreadable : replies_to opening (setup (
-    record (imports engine three) { reading = Unreadable (record { fault = 30; at = 565 }) }
+-- Networks and nodes.
+
+-- each command wants its network
+no_net : replies_to opening (
+    grants engine block.Std 1 2
+    ∷ adds (codes "ECU")
+    ∷ takes engine (codes "E1") None
+    ∷ takes_group (codes "E1") Broadcast
+    ∷ takes_spn (codes "P") None
+    ∷ takes_bits (codes "P") 8 Intel Always None
+    ∷ sets_values (codes "P") []
+    ∷ removes (codes "P")
+    ∷ asks engine (act.Retire (codes "E1"))
+    ∷ imports engine empty_sheet
     ∷ asks engine act.Submit
-    ∷ record (imports engine three) { reading = Unreadable (record { fault = 30; at = 565 }) } ∷ []))
-    ≡ Done ∷ Done ∷ Refused (no.FileFault (record { fault = 30; at = 565 })) ∷ Done ∷ Refused no.InReview ∷ []
-unreadable = refl
+    ∷ asks engine act.Approve
+    ∷ asks engine act.Reject
+    ∷ asks office act.Release ∷ [])
+    ≡ map Refused (no.NoNet ∷ no.NoNet ∷ no.NoNet ∷ no.NoNet ∷ no.NoNet ∷ no.NoNet ∷ no.NoNet ∷ no.NoNet ∷ no.NoNet ∷ no.NoNet ∷ no.NoNet ∷ no.NoNet ∷ no.NoNet ∷ no.NoNet ∷ [])
+no_net = refl
 
-abbrev temperature : Signal
-temperature = record {
-  name = codes "Temp";
-  layout = record { start = 16; size = 8; order = Intel };
-  signed = false;
-  mux = Always;
-  factor = number 1;
-  offset = number 0;
-  minimum = number 0;
-  maximum = number 210;
-  unit = codes "C";
-  receivers = codes "Dash" ∷ [];
-  comment = [];
-  spn = 500;
-  values = [];
-  value_type = Integer;
+opened_twice : replies_to opening (opens Can 0 ∷ opens J1939 2 ∷ record (opens Can 0) { team = engine } ∷ on_bus (opens J1939 2) ∷ [])
+    ≡ Done ∷ Refused no.NetThere ∷ Refused no.NotOffice ∷ Done ∷ []
+opened_twice = refl
+
+abbrev node_names : List Net → List (List (List ℕ))
+node_names nets = map (λ net. map node_name net.head.frame.nodes) nets
+
+abbrev from_ecu : Asked
+from_ecu = asks engine (act.TakeIdent (record { form = Standard; message = record (named (codes "E1")) { node = Some (codes "ECU") }; want = None }))
+
+nodes_added : replies_to opening (setup (
+    from_ecu
+    ∷ adds (codes "ECU")
+    ∷ adds (codes "ECU")
+    ∷ adds (codes "Dash")
+    ∷ from_ecu
+    ∷ asks engine act.Submit
+    ∷ adds (codes "Lamp") ∷ []))
+    ≡ Done ∷ Done ∷ Refused no.NoNode ∷ Done ∷ Refused no.NameTaken ∷ Done ∷ Number 256 ∷ Done ∷ Refused no.InReview ∷ []
+nodes_added = refl
+
+nodes_left : node_names (left_by opening (setup (adds (codes "ECU") ∷ adds (codes "Dash") ∷ []))).nets ≡ (codes "ECU" ∷ codes "Dash" ∷ []) ∷ []
+nodes_left = refl
+
+-- as many nodes as a network can have: NAAA, NAAB, .. NPPP
+abbrev full_roster : Sheet
+full_roster = record empty_sheet {
+  nodes = map (λ (n : ℕ). record { name = 78 ∷ (65 + n / 256) ∷ (65 + (n / 16) % 16) ∷ (65 + n % 16) ∷ []; comment = [] }) (range_with_len 0 roster_limit);
 }
 
-abbrev engine_file : Sheet
-engine_file = record empty_sheet { messages = message (id.Ext 217056510) (codes "Msg1") (temperature ∷ []) ∷ [] }
-
--- the group 61444 is live from another source
-groups_of_live : replies_to opening (
-    opens J1939 0
-    ∷ imports office engine_file
-    ∷ grants engine block.Pgn 61444 61445
-    ∷ takes_group (codes "Eng") Broadcast
-    ∷ takes_group (codes "Eng2") Broadcast ∷ [])
-    ≡ Done ∷ Counts 1 0 ∷ Done ∷ Number 61445 ∷ Refused no.BlockFull ∷ []
-unfolding walk shares_bit is_inside clash_after first_answer
-groups_of_live = refl
-
-used_by_file : (left_by opening (opens J1939 0 ∷ imports office engine_file ∷ [])).book.used ≡ 500 ∷ []
-unfolding walk shares_bit is_inside clash_after first_answer
-used_by_file = refl
-
-groups_taken : map taken_groups (left_by opening (opens J1939 0 ∷ imports office engine_file ∷ grants engine block.Pgn 61444 61445 ∷ takes_group (codes "Eng") Broadcast ∷ [])).nets
-    ≡ (61444 ∷ 61445 ∷ []) ∷ []
-unfolding walk shares_bit is_inside clash_after first_answer
-groups_taken = refl
-
--- a file whose signals share bits is refused with the first unclear message's number
-unclear : replies_to opening (opens Can 0 ∷ imports office (record empty_sheet { messages = message (id.Std 5) (codes "M") (temperature ∷ record temperature { name = codes "Oil" } ∷ []) ∷ [] }) ∷ [])
-    ≡ Done ∷ Refused (no.FileFault (record { fault = 23; at = 5 })) ∷ []
-unfolding walk shares_bit is_inside clash_after first_answer
-unclear = refl
+no_node_more : replies_to opening (opens Can 0 ∷ imports office full_roster ∷ adds (codes "NPPP") ∷ adds (codes "ECU") ∷ [])
+    ≡ Done ∷ Counts 0 0 ∷ Refused no.NameTaken ∷ Refused no.TooMany ∷ []
+no_node_more = refl
 
 -- Reviews.
 
@@ -154,12 +177,50 @@ reviewed : replies_to opening (
     ∷ asks engine act.Approve
     ∷ asks office act.Release
     ∷ takes engine (codes "E1") None
-    ∷ asks (codes "brake") act.Approve
+    ∷ asks brake act.Approve
     ∷ asks engine act.Release
     ∷ asks office act.Release
     ∷ asks office act.Release ∷ [])
     ≡ Done ∷ Done ∷ Done ∷ Refused no.OwnReview ∷ Refused no.NeedsMore ∷ Refused no.InReview ∷ Done ∷ Refused no.NotOffice ∷ Release 1 ∷ Refused no.NotInReview ∷ []
 reviewed = refl
+
+-- a review that is turned down leaves a draft, and no approval
+turned_down : replies_to opening (
+    opens Can 1
+    ∷ grants engine block.Std 256 258
+    ∷ asks brake act.Reject
+    ∷ asks engine act.Submit
+    ∷ asks (codes "body") act.Approve
+    ∷ asks engine act.Reject
+    ∷ asks brake act.Reject
+    ∷ takes engine (codes "E1") None
+    ∷ asks engine act.Submit
+    ∷ asks office act.Release
+    ∷ asks brake act.Approve
+    ∷ asks office act.Release ∷ [])
+    ≡ Done ∷ Done ∷ Refused no.NotInReview ∷ Done ∷ Done ∷ Refused no.OwnReview ∷ Done ∷ Number 256 ∷ Done ∷ Refused no.NeedsMore ∷ Done ∷ Release 1 ∷ []
+turned_down = refl
+
+-- two approvals are those of two teams
+approved_by_two : replies_to opening (
+    opens Can 2
+    ∷ asks engine act.Submit
+    ∷ asks brake act.Approve
+    ∷ asks brake act.Approve
+    ∷ asks office act.Release
+    ∷ asks (codes "body") act.Approve
+    ∷ asks office act.Release ∷ [])
+    ≡ Done ∷ Done ∷ Done ∷ Done ∷ Refused no.NeedsMore ∷ Done ∷ Release 1 ∷ []
+approved_by_two = refl
+
+approvals_left : map (λ net. net.approvals) (left_by opening (
+    opens Can 2
+    ∷ asks engine act.Submit
+    ∷ asks brake act.Approve
+    ∷ asks brake act.Approve
+    ∷ asks (codes "body") act.Approve ∷ [])).nets
+    ≡ (codes "body" ∷ brake ∷ []) ∷ []
+approvals_left = refl
 
 -- Signals: a message, four signals of it, and what is refused after them.
 
@@ -197,6 +258,84 @@ spns_taken : replies_to opening (with_bits (
     ≡ bits_given (Done ∷ Number 500 ∷ Number 501 ∷ Refused no.BlockFull ∷ Refused no.NoSpn ∷ Number 500 ∷ [])
 unfolding walk shares_bit is_inside clash_after first_answer
 spns_taken = refl
+
+-- the message, the signal and the team must be there and right
+signals_refused : replies_to opening (with_bits (
+    asks engine (act.RemoveSignal (path (codes "E9") (codes "P")))
+    ∷ asks engine (act.Retire (codes "E9"))
+    ∷ record (takes_bits (codes "T") 8 Intel Always None) { team = brake }
+    ∷ record (removes (codes "P")) { team = brake }
+    ∷ asks brake (act.Retire (codes "E1"))
+    ∷ takes_spn (codes "X") None
+    ∷ sets_values (codes "X") []
+    ∷ removes (codes "X")
+    ∷ takes_bits (codes "P") 8 Intel Always None ∷ []))
+    ≡ bits_given (Refused no.NoMessage ∷ Refused no.NoMessage ∷ Refused no.NotOwner ∷ Refused no.NotOwner ∷ Refused no.NotOwner ∷ Refused no.NoSignal ∷ Refused no.NoSignal ∷ Refused no.NoSignal ∷ Refused no.NameTaken ∷ [])
+unfolding walk shares_bit is_inside clash_after first_answer
+signals_refused = refl
+
+abbrev received : Asked
+received = asks engine (act.TakeBits (record (bits (codes "S") 4 Intel Always None) { receivers = codes "Dash" ∷ [] }))
+
+receiver_wanted : replies_to opening (setup (takes engine (codes "E1") None ∷ received ∷ adds (codes "Dash") ∷ received ∷ []))
+    ≡ Done ∷ Done ∷ Number 256 ∷ Refused no.NoNode ∷ Done ∷ Start 0 ∷ []
+unfolding walk shares_bit is_inside clash_after first_answer
+receiver_wanted = refl
+
+-- a signal that is taken out gives its bits free; the multiplexor goes after the signals under it
+signals_removed : replies_to opening (with_bits (
+    removes (codes "P")
+    ∷ removes (codes "Sel")
+    ∷ removes (codes "Q")
+    ∷ removes (codes "Sel")
+    ∷ takes_bits (codes "T") 8 Intel Always None
+    ∷ takes_bits (codes "P") 8 Intel (Under 0) None ∷ []))
+    ≡ bits_given (Done ∷ Refused no.NoMultiplexor ∷ Done ∷ Done ∷ Start 0 ∷ Refused no.NoMultiplexor ∷ [])
+unfolding walk shares_bit is_inside clash_after first_answer
+signals_removed = refl
+
+abbrev signal_names : List Net → List (List (List (List ℕ)))
+signal_names nets = map (λ net. map (λ m. map (λ s. s.name) m.message.signals) net.live) nets
+
+signals_left : signal_names (left_by opening (with_bits (removes (codes "P") ∷ []))).nets
+    ≡ ((codes "Sel" ∷ codes "Q" ∷ codes "R" ∷ []) ∷ []) ∷ []
+unfolding walk shares_bit is_inside clash_after first_answer
+signals_left = refl
+
+abbrev off_on : List ValueText
+off_on = record { value = number 0; text = codes "Off" } ∷ record { value = number 1; text = codes "On" } ∷ []
+
+abbrev value_texts : List Net → List (List (List (List ValueText)))
+value_texts nets = map (λ net. map (λ m. map (λ s. s.values) m.message.signals) net.live) nets
+
+-- value texts come in place of those that were there, of the named signal alone
+values_set : value_texts (left_by opening (with_bits (sets_values (codes "P") off_on ∷ sets_values (codes "Q") off_on ∷ sets_values (codes "P") [] ∷ []))).nets
+    ≡ (([] ∷ [] ∷ off_on ∷ [] ∷ []) ∷ []) ∷ []
+unfolding walk shares_bit is_inside clash_after first_answer
+values_set = refl
+
+values_answered : replies_to opening (with_bits (sets_values (codes "P") off_on ∷ asks engine act.Submit ∷ sets_values (codes "P") [] ∷ []))
+    ≡ bits_given (Done ∷ Done ∷ Refused no.InReview ∷ [])
+unfolding walk shares_bit is_inside clash_after first_answer
+values_answered = refl
+
+-- blocks of suspect parameter numbers are the whole office's, and a team takes from those of the network alone
+spns_of_two_nets : replies_to opening (with_bits (
+    on_bus (opens Can 0)
+    ∷ grants engine block.Spn 500 501
+    ∷ on_bus (grants engine block.Spn 501 509)
+    ∷ on_bus (grants engine block.Spn 502 509)
+    ∷ takes_spn (codes "P") None
+    ∷ takes_spn (codes "Q") None
+    ∷ takes_spn (codes "R") None ∷ []))
+    ≡ bits_given (Done ∷ Done ∷ Refused no.BlockTaken ∷ Done ∷ Number 500 ∷ Number 501 ∷ Refused no.BlockFull ∷ [])
+unfolding walk shares_bit is_inside clash_after first_answer
+spns_of_two_nets = refl
+
+block_elsewhere : replies_to opening (with_bits (on_bus (opens Can 0) ∷ on_bus (grants engine block.Spn 500 501) ∷ takes_spn (codes "P") None ∷ []))
+    ≡ bits_given (Done ∷ Done ∷ Refused no.NoBlock ∷ [])
+unfolding walk shares_bit is_inside clash_after first_answer
+block_elsewhere = refl
 
 block_of_identifiers : HaveOwnBlocks (SetBlock (record { block = record { form = block.Std; first = 256; last = 258 }; team = engine }) ∷ [])
 block_of_identifiers = (refl, tt)

@@ -1,5 +1,3 @@
-pub mod Adding
-pub mod Starting
-pub mod Switches
-pub mod Together
+pub mod Added
+pub mod Reordered
 pub mod Used

@@ -1,2 +1,3 @@
+pub mod Adding
 pub mod Given
-pub mod Together
+pub mod Sorted

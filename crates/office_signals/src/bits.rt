@@ -12,7 +12,7 @@ ghost use Rattle.office_types.specs.declared.state.Net.{Net};
 ghost use Rattle.office_rules.specs.Change.{Decides};
 ghost use Rattle.office_rules.specs.Facts.{has_node, message_facts};
 ghost use Rattle.office_rules.specs.Signals.{new_signal, start_tests, take_bits, take_bits_tests, with_last_signal};
-ghost use Rattle.office_signals.specs.Together.{MayHaveMux};
+ghost use Rattle.office_signals.specs.Adding.{IsNewSignal};
 
 use crate::own::own_message;
 use crate::start::{place_at, start_for};
@@ -57,7 +57,6 @@ fn message_for<'a>(
         first_refusal (take_bits_tests team.now (message_facts_of facts.now) command.now)
         ≡ first_refusal (start_tests (places_of live.now.message.signals) live.now.message.length command.now)) }
     ensures room { IfOk result (λ live. (start : ℕ) → first_refusal (signal_tests live.now.message.signals (new_signal command.now start)) ≡ None) }
-    ensures mux { IfOk result (λ live. MayHaveMux (places_of live.now.message.signals) command.now.mux) }
     ensures refused { IfErr result (λ refusal.
         first_refusal (take_bits_tests team.now (message_facts_of facts.now) command.now)
         ≡ Some refusal) }
@@ -102,17 +101,15 @@ fn new_signal(alloc: Global, command: &TakeBits, start: u16) -> Result<Signal, A
     })
 }
 
-/// The message with the signal from a start, last. The error is out of memory.
+/// The message with the signal last. The error is out of memory.
 fn with_new_signal(
     alloc: Global,
     live: &LiveMessage,
-    command: &TakeBits,
-    start: u16,
+    signal: Signal,
 ) -> Result<LiveMessage, AllocError>
-    requires { first_refusal (signal_tests live.now.message.signals (new_signal command.now start)) ≡ None }
-    ensures { IfOk result (λ m. m ≡ with_last_signal live.now (new_signal command.now start)) }
+    requires { first_refusal (signal_tests live.now.message.signals signal) ≡ None }
+    ensures { IfOk result (λ m. m ≡ with_last_signal live.now signal) }
 {
-    let signal = new_signal(alloc, command, start)?;
     let mut with = live.duplicate(alloc)?;
     match with.message.signals.add(alloc, signal) {
         Ok(()) => Ok(with),
@@ -121,18 +118,33 @@ fn with_new_signal(
     }
 }
 
-fn bits_taken(
-    alloc: Global,
-    live: &LiveMessage,
-    command: &TakeBits,
-    start: u16,
-) -> Result<Decision, AllocError>
-    requires { first_refusal (signal_tests live.now.message.signals (new_signal command.now start)) ≡ None }
-    ensures changes { IfOk result (λ d. d.changes ≡ SetMessage (with_last_signal live.now (new_signal command.now start)) ∷ []) }
-    ensures reply { IfOk result (λ d. d.reply ≡ Start start) }
+fn bits_taken(alloc: Global, live: &LiveMessage, signal: Signal) -> Result<Decision, AllocError>
+    requires { first_refusal (signal_tests live.now.message.signals signal) ≡ None }
+    ensures changes { IfOk result (λ d. d.changes ≡ SetMessage (with_last_signal live.now signal) ∷ []) }
+    ensures reply { IfOk result (λ d. d.reply ≡ Start signal.layout.start) }
 {
-    let with = with_new_signal(alloc, live, command, start)?;
+    let start = signal.layout.start;
+    let with = with_new_signal(alloc, live, signal)?;
     one_change(alloc, Change::SetMessage(with), Reply::Start(start))
+}
+
+/// The signal that the team's `take_bits` adds to its message, as the last one, on a network that has these facts for it,
+/// or the first refusal. Nothing is changed here. The error is out of memory.
+pub fn new_signal_for(
+    alloc: Global,
+    team: &Team,
+    facts: &MessageFacts<'_>,
+    command: &TakeBits,
+) -> Result<Result<Signal, Refusal>, AllocError>
+    ensures { IfOk result (IsNewSignal team.now (message_facts_of facts.now) command.now) }
+{
+    match message_for(team, facts, command) {
+        Err(refusal) => Ok(Err(refusal)),
+        Ok(live) => match start_for(alloc, &live.message, command)? {
+            Err(refusal) => Ok(Err(refusal)),
+            Ok(start) => Ok(Ok(new_signal(alloc, command, start)?)),
+        },
+    }
 }
 
 /// Decides the team's `take_bits` on a network that has these facts for the command's message. The error is out of
@@ -147,11 +159,11 @@ pub fn decide_take_bits(
         message_facts_of facts.now ≡ message_facts net command.now.path.message →
         Decides name (record { net = Some net; book = book }) (take_bits team.now (Some net) command.now) d) }
 {
-    match message_for(team, facts, command) {
+    match new_signal_for(alloc, team, facts, command)? {
         Err(refusal) => Ok(refusal_decision(alloc, refusal)),
-        Ok(live) => match start_for(alloc, &live.message, command)? {
-            Err(refusal) => Ok(refusal_decision(alloc, refusal)),
-            Ok(start) => bits_taken(alloc, live, command, start),
+        Ok(signal) => match facts.found {
+            Some(live) => bits_taken(alloc, live, signal),
+            None => unreachable!(),
         },
     }
 }

@@ -3,6 +3,7 @@
 //! Five commands: taking bits for a new signal ([`decide_take_bits`]), taking a suspect parameter number for a signal
 //! ([`decide_take_spn`]), setting the texts of a signal's values ([`decide_set_values`]), removing a signal
 //! ([`decide_remove_signal`]), and taking the whole message out ([`decide_retire`]).
+//! [`new_signal_for`] gives the signal that bits are taken for, where it is added to its message in place.
 //!
 //! Each takes what it reads of the network and no more: the facts for the message that the command names, and the book or
 //! the releases where it reads them. Its contract speaks of every network that has these facts, so a decision by rows of
@@ -11,7 +12,6 @@
 #![tactic(auto)]
 
 mod bits;
-mod clearance;
 mod own;
 mod removing;
 mod retiring;
@@ -19,7 +19,7 @@ mod spn;
 mod start;
 mod values;
 
-pub use bits::decide_take_bits;
+pub use bits::{decide_take_bits, new_signal_for};
 pub use removing::decide_remove_signal;
 pub use retiring::{decide_retire, decide_retire_by_facts};
 pub use spn::decide_take_spn;

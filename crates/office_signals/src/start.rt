@@ -1,17 +1,19 @@
 //! Where a new signal starts.
-ghost use Rattle.std.specs.Prelude.{◌≡◌, ◌≤◌, ◌||◌, ◌++◌, ◌∷◌, [], IfOk, None, Some, filter, is_some};
-ghost use Rattle.bitlayout.specs.Clash.{first_clash_among, first_clash_of, has_multiplexor};
-ghost use Rattle.bitlayout.specs.Mux.{is_multiplexor, meets};
+//!
+//! [`bitlayout`] searches by masks, and passes over all earlier places where the value of the multiplexor falls from
+//! one place to the next. So the places are sorted by value first: the order makes no difference to whether they are
+//! clear.
+ghost use Rattle.std.specs.Prelude.{◌≡◌, ◌++◌, ◌∷◌, [], IfOk, None, Some, is_some};
+ghost use Rattle.std.specs.List.Sorted.{IsNonDecreasingBy, IsPermutation};
+ghost use Rattle.bitlayout.specs.Clash.{first_clash_of};
 ghost use Rattle.bitlayout.specs.Start.{least_start_of};
-ghost use Rattle.catalogue.specs.Limits.{length_limit};
 ghost use Rattle.catalogue.specs.Signals.{places_of};
 ghost use Rattle.office_rules.specs.Signals.{place_at, start_given, start_tests};
 ghost use Rattle.office_signals.specs.Given.{IsGiven};
-ghost use Rattle.office_signals.specs.Together.{MayHaveMux};
+ghost use Rattle.office_signals.specs.Sorted.{mux_rank, place_rank};
 
-use crate::clearance::{any_multiplexor, are_clear, fits};
-use bitlayout::{Layout, Mux, Place, inside, meet};
-use catalogue::Message;
+use bitlayout::{Layout, Mux, Place, first_clash, inside, least_start};
+use catalogue::{Message, Signals};
 use office_types::{Refusal, TakeBits};
 use std::alloc::{AllocError, Global};
 
@@ -29,82 +31,47 @@ pub(crate) fn place_at(command: &TakeBits, start: u16) -> Place
     }
 }
 
-/// Whether the places with that of the signal have a multiplexor.
-fn multiplexes(places: &[Place], command: &TakeBits) -> bool
-    ensures { result ≡ (is_multiplexor command.now.mux || has_multiplexor places.now) }
+/// What places are sorted by: 0 where the place is present in every message, else one more than its value.
+fn mux_rank(mux: Mux) -> u64
+    ensures { result ≡ mux_rank mux }
 {
-    command.mux.is_multiplexor() || any_multiplexor(places)
+    match mux {
+        Mux::Always | Mux::Multiplexor => 0,
+        Mux::Under(value) => u64::from(value) + 1,
+    }
 }
 
-/// The places that may be present with a signal that is present as `mux` says. The error is out of memory.
-fn places_met(alloc: Global, places: &[Place], mux: Mux) -> Result<Vec<Place>, AllocError>
-    ensures { IfOk result (λ met. met.items ≡ filter (λ other. meets other.mux mux) places.now) }
+/// The places of the signals, those that are present in every message first and the others by their value. The error
+/// is out of memory.
+fn sorted_places(alloc: Global, signals: &Signals) -> Result<Vec<Place>, AllocError>
+    ensures sorted { IfOk result (λ v. IsNonDecreasingBy place_rank v.items) }
+    ensures same { IfOk result (λ v. IsPermutation (places_of signals.now) v.items) }
 {
-    places
-        .iter()
-        .filter(|other| meet(other.mux, mux))
-        .copied()
-        .collect(alloc)
+    let mut places = signals.places(alloc)?;
+    places.sort_unstable_by_key(|place| mux_rank(place.mux));
+    Ok(places)
 }
 
-/// The least start from which the signal is clear with the places, which have no clash. The error is out of memory.
-fn least_start(
+/// Whether the message has a clash with one more place. The error is out of memory.
+fn clashes(alloc: Global, message: &Message, place: Place) -> Result<bool, AllocError>
+    ensures { IfOk result (λ clash. clash ≡ is_some (first_clash_of (places_of message.now.signals ++ place ∷ []) message.now.length)) }
+{
+    let mut places = sorted_places(alloc, &message.signals)?;
+    places.push(place)?;
+    Ok(first_clash(&places, message.length.bytes()).is_some())
+}
+
+/// The least start from which the signal leaves the message clear, if there is one. The error is out of memory.
+fn least_start_in(
     alloc: Global,
-    places: &[Place],
-    length: u16,
+    message: &Message,
     command: &TakeBits,
 ) -> Result<Option<u16>, AllocError>
-    requires few { length ≤ length_limit }
-    requires mux { MayHaveMux places.now command.now.mux }
-    requires clear { first_clash_among length (is_multiplexor command.now.mux || has_multiplexor places.now) places.now ≡ None }
-    ensures { IfOk result (λ start. start ≡ least_start_of places.now length command.now.size command.now.order command.now.mux) }
+    ensures { IfOk result (λ start. start ≡ least_start_of (places_of message.now.signals) message.now.length command.now.size command.now.order command.now.mux) }
 {
-    if u16::from(command.size.bits()) > 8 * length {
-        return Ok(None);
-    }
-    let met = places_met(alloc, places, command.mux)?;
-    for start in 0..8 * length {
-        if fits(&met, place_at(command, start), length) {
-            return Ok(Some(start));
-        }
-    }
-    Ok(None)
-}
-
-/// Whether the signal from a start leaves the places with a clash. The error is out of memory.
-fn clashes(
-    alloc: Global,
-    places: &[Place],
-    length: u16,
-    command: &TakeBits,
-    start: u16,
-) -> Result<bool, AllocError>
-    requires { MayHaveMux places.now command.now.mux }
-    ensures { IfOk result (λ clash. clash ≡ is_some (first_clash_of (places.now ++ place_at command.now start ∷ []) length)) }
-{
-    if !fits(places, place_at(command, start), length) {
-        return Ok(true);
-    }
-    let clear = are_clear(alloc, places, length, multiplexes(places, command))?;
-    Ok(!clear)
-}
-
-/// The least start from which the signal leaves the places clear, if there is one. The error is out of memory.
-fn start_among(
-    alloc: Global,
-    places: &[Place],
-    length: u16,
-    command: &TakeBits,
-) -> Result<Option<u16>, AllocError>
-    requires few { length ≤ length_limit }
-    requires mux { MayHaveMux places.now command.now.mux }
-    ensures { IfOk result (λ start. start ≡ least_start_of places.now length command.now.size command.now.order command.now.mux) }
-{
-    if are_clear(alloc, places, length, multiplexes(places, command))? {
-        least_start(alloc, places, length, command)
-    } else {
-        Ok(None)
-    }
+    let places = sorted_places(alloc, &message.signals)?;
+    let length = message.length.bytes();
+    Ok(least_start(&places, length, command.size, command.order, command.mux))
 }
 
 /// The start that is wanted, or why the signal can't have it. The error is out of memory.
@@ -114,18 +81,15 @@ fn wanted_start(
     command: &TakeBits,
     start: u16,
 ) -> Result<Result<u16, Refusal>, AllocError>
-    requires wanted { command.now.start ≡ Some start }
-    requires mux { MayHaveMux (places_of message.now.signals) command.now.mux }
+    requires { command.now.start ≡ Some start }
     ensures { IfOk result (IsGiven (start_tests (places_of message.now.signals) message.now.length command.now)
         (start_given (places_of message.now.signals) message.now.length command.now)) }
 {
-    let length = message.length.bytes();
     let place = place_at(command, start);
-    if !inside(place.layout, length) {
+    if !inside(place.layout, message.length.bytes()) {
         return Ok(Err(Refusal::OutsidePayload));
     }
-    let places = message.signals.places(alloc)?;
-    if clashes(alloc, &places, length, command, start)? {
+    if clashes(alloc, message, place)? {
         Ok(Err(Refusal::Clash))
     } else {
         Ok(Ok(start))
@@ -138,14 +102,11 @@ fn free_start(
     message: &Message,
     command: &TakeBits,
 ) -> Result<Result<u16, Refusal>, AllocError>
-    requires free { command.now.start ≡ None }
-    requires mux { MayHaveMux (places_of message.now.signals) command.now.mux }
+    requires { command.now.start ≡ None }
     ensures { IfOk result (IsGiven (start_tests (places_of message.now.signals) message.now.length command.now)
         (start_given (places_of message.now.signals) message.now.length command.now)) }
 {
-    let places = message.signals.places(alloc)?;
-    let length = message.length.bytes();
-    match start_among(alloc, &places, length, command)? {
+    match least_start_in(alloc, message, command)? {
         Some(start) => Ok(Ok(start)),
         None => Ok(Err(Refusal::NoRoom)),
     }
@@ -157,7 +118,6 @@ pub(crate) fn start_for(
     message: &Message,
     command: &TakeBits,
 ) -> Result<Result<u16, Refusal>, AllocError>
-    requires { MayHaveMux (places_of message.now.signals) command.now.mux }
     ensures { IfOk result (IsGiven (start_tests (places_of message.now.signals) message.now.length command.now)
         (start_given (places_of message.now.signals) message.now.length command.now)) }
 {

@@ -19,4 +19,4 @@ pub use creating::{
     create_approval, create_block, create_frozen, create_held, create_message, create_net,
     create_profile, create_reply, create_spn, make_tables,
 };
-pub use opening::{is_new, knows_schema};
+pub use opening::{is_new, knows_none, knows_schema};

@@ -1,7 +1,8 @@
 //! What a connection that was just opened tells of the tables.
-ghost use Rattle.std.specs.Prelude.{◌≡◌, ◌↔◌, IsTrue};
+ghost use Rattle.std.specs.Prelude.{◌≡◌, ◌↔◌, [], IsTrue};
 ghost use Rattle.office_tables.specs.Schema.{no_schema, office_schema};
 ghost use Rattle.sqlite_catalog.specs.Listing.{IsSound};
+ghost use Rattle.sqlite_trees.specs.Objects.{catalog_tree};
 ghost use Rattle.sqlite.specs.Held.{state};
 
 use sqlite::{Alter, Connection};
@@ -18,6 +19,14 @@ pub fn is_new<S: Alter>(conn: &Connection<S>) -> bool
 /// office's schema, since no other has the same list.
 pub fn knows_schema<S: Alter>(conn: &Connection<S>)
     ensures { IsTrue (state S.Store conn.now).is_open → IsSound office_schema (state S.Store conn.now).now.trees → (state S.Store conn.now).now.schema ≡ office_schema }
+{
+    let _schema = conn.schema();
+}
+
+/// Does nothing. Its contract is a law: where the trees list no table, as those of a blank file, the connection has
+/// none.
+pub fn knows_none<S: Alter>(conn: &Connection<S>)
+    ensures { IsTrue (state S.Store conn.now).is_open → (state S.Store conn.now).now.trees catalog_tree ≡ [] → (state S.Store conn.now).now.schema ≡ no_schema }
 {
     let _schema = conn.schema();
 }

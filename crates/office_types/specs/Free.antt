@@ -1,5 +1,5 @@
 -- The least number of some blocks that has a form and isn't taken.
-use Rattle.std.specs.Prelude.{ℕ, ◌+◌, ◌-◌, ◌%◌, ◌<◌, ◌≤◌, Bool, true, not, ◌&&◌, ◌==◌, nat_le, List, [], ◌∷◌, length, min, Option, Some, None, slice_index}
+use Rattle.std.specs.Prelude.{◌≡◌, ℕ, ◌+◌, ◌-◌, ◌%◌, ◌<◌, ◌≤◌, Bool, true, not, ◌&&◌, ◌==◌, nat_le, List, [], ◌∷◌, length, min, Option, Some, None, slice_index}
 use Rattle.std.specs.List.{list_any}
 use Rattle.can_id.specs.Form as identifiers
 use Rattle.can_id.specs.declared.form.IdentForm.{IdentForm}
@@ -36,6 +36,16 @@ is_formed Spn n = nat_le 1 n
 
 abbrev pub has_form : Form → ℕ → Bool
 has_form form n = nat_le n (greatest_number form) && is_formed form n
+
+-- the number is the least from `from` on that the form allows, but for its greatest number
+pub record IsNextFormed (form : Form) (from n : ℕ) : Type 0 where
+  pub above : from ≤ n
+  pub formed : is_formed form n ≡ true
+  pub least : (m : ℕ) → from ≤ m → is_formed form m ≡ true → n ≤ m
+
+-- the answer is the least number from `from` on that has the form, or there is none
+abbrev pub IsNextOf : Form → ℕ → Option ℕ → Type 0
+IsNextOf form from = IsLeastOf (λ n. nat_le from n && has_form form n)
 
 abbrev pub is_taken : ℕ → List ℕ → Bool
 is_taken n taken = list_any (λ t. t == n) taken

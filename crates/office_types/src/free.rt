@@ -1,9 +1,12 @@
 //! The allocator: the least free number of some blocks.
-ghost use Rattle.std.specs.Prelude.{◌≡◌, ℕ, ◌<◌, ◌≤◌, ◌↔◌, ◌∷◌, [], ◌&&◌, ◌==◌, nat_lt, IsTrue, List, length, slice_index};
+ghost use Rattle.std.specs.Prelude.{◌≡◌, ℕ, ◌+◌, ◌*◌, ◌^◌, ◌<◌, ◌≤◌, ◌↔◌, ◌∷◌, [], ◌&&◌, ◌==◌, nat_le, nat_lt, IsTrue, IfSome, List, length, slice_index};
 ghost use Rattle.std.specs.List.Sorted.{IsStrictlyIncreasing};
-ghost use Rattle.office_types.specs.Free.{has_form, greatest_number, is_taken, lesser_of, IsLeastFree, SplitsAt, least_free};
+ghost use Rattle.office_types.specs.Free.{has_form, greatest_number, lesser_of, IsLeastFree, IsNextFormed, IsNextOf, SplitsAt, least_free};
+ghost use Rattle.office_types.specs.Least.{IsLeastOf};
 ghost use Rattle.office_types.specs.declared.block.Block.{Block};
+ghost use Rattle.office_types.specs.declared.block.TheConstants.{GREATEST_PGN};
 ghost use Rattle.office_types.specs.declared.free.Form.{Form};
+ghost use Rattle.office_types.specs.declared.free.Form.TheVariants.{Pdu1, Pdu2};
 
 use crate::block::{Block, GREATEST_PGN};
 use can_id::{IdentForm, has_destination};
@@ -91,31 +94,96 @@ fn count_below(taken: &[u32], number: u32) -> usize
     }
 }
 
-/// Whether the number is the one after the lesser ones.
-fn is_at(taken: &[u32], below: usize, number: u32) -> bool
-    requires rising { IsStrictlyIncreasing taken.now }
-    requires split { SplitsAt taken.now below number }
-    ensures { result ≡ is_taken number taken.now }
+/// The least number from `from` on that is a parameter group with a destination address.
+fn next_addressed(from: u32) -> u32
+    requires { from ≤ GREATEST_PGN }
+    ensures { IsNextFormed Pdu1 from result }
 {
-    below < taken.len() && taken[below] == number
+    let row = (from + 255) / 256;
+    if has_destination(256 * row) {
+        256 * row
+    } else {
+        65_536 * (row / 256 + 1)
+    }
 }
 
-/// The least number of the block that has the form and isn't taken.
-fn least_in(taken: &[u32], block: Block, form: Form) -> Option<u32>
-    requires { IsStrictlyIncreasing taken.now }
-    ensures { IsLeastFree taken.now (block ∷ []) form result }
+/// The least number from `from` on that is a parameter group without a destination address.
+fn next_broadcast(from: u32) -> u32
+    requires { from ≤ GREATEST_PGN }
+    ensures { IsNextFormed Pdu2 from result }
 {
-    let last = block.last.min(form.greatest());
-    let mut below = count_below(taken, block.first);
-    for wide in u64::from(block.first)..u64::from(last) + 1 {
-        let number = wide as u32;
-        if is_at(taken, below, number) {
-            below += 1;
-        } else if form.has(number) {
-            return Some(number);
+    if has_destination(from) {
+        65_536 * (from / 65_536) + 61_440
+    } else {
+        from
+    }
+}
+
+/// The least number from `from` on that the form allows, but for the greatest number of the form.
+fn next_formed(form: Form, from: u32) -> u32
+    requires { from ≤ greatest_number form }
+    ensures { IsNextFormed form from result }
+{
+    match form {
+        Form::Std | Form::Ext => from,
+        Form::Pdu1 => next_addressed(from),
+        Form::Pdu2 => next_broadcast(from),
+        Form::Spn => from.max(1),
+    }
+}
+
+/// The least number from `from` on that has the form, or `None` where there is none. For `Pdu1` and `Pdu2` these are
+/// parameter group numbers, 0 to 131071, whose PDU format is below 240 or not (SAE J1939-21).
+pub fn next_of(form: Form, from: u32) -> Option<u32>
+    ensures { IsNextOf form from result }
+{
+    if from > form.greatest() {
+        return None;
+    }
+    let next = next_formed(form, from);
+    if next <= form.greatest() {
+        Some(next)
+    } else {
+        None
+    }
+}
+
+/// The least number from `from` to `last` that has the form.
+fn next_until(form: Form, from: u32, last: u32) -> Option<u32>
+    ensures next { IsLeastOf (λ n. (nat_le from n && nat_le n last) && has_form form n) result }
+    ensures small { IfSome result (λ n. n < 2 ^ 30) }
+{
+    match next_of(form, from) {
+        Some(next) => { if next <= last { Some(next) } else { None } }
+        None => None,
+    }
+}
+
+/// The least number of the block that has the form and isn't taken, and the turns of its search. A turn compares a taken
+/// number with the candidate, the least number of the form that may still be free, or ends the block.
+fn least_in(taken: &[u32], block: Block, form: Form) -> (Option<u32>, u128)
+    requires { IsStrictlyIncreasing taken.now }
+    ensures least { IsLeastFree taken.now (block ∷ []) form result.0 }
+    ensures turns { result.1 ≤ length taken.now + 1 }
+{
+    let Some(first) = next_until(form, block.first, block.last) else {
+        return (None, 1);
+    };
+    let mut number = first;
+    let mut turns = 1u128;
+    for index in count_below(taken, first)..taken.len() {
+        turns += 1;
+        if number < taken[index] {
+            return (Some(number), turns);
+        }
+        if number == taken[index] {
+            match next_until(form, number + 1, block.last) {
+                Some(next) => number = next,
+                None => return (None, turns),
+            }
         }
     }
-    None
+    (Some(number), turns)
 }
 
 fn lesser(a: Option<u32>, b: Option<u32>) -> Option<u32>
@@ -128,6 +196,24 @@ fn lesser(a: Option<u32>, b: Option<u32>) -> Option<u32>
     }
 }
 
+/// [`least_free`], and the turns of its search. A turn compares a number of `taken` with the candidate, the least number of
+/// a block and the form that may still be free, or ends a block: so the turns don't grow with the size of the blocks.
+pub fn least_free_counted(taken: &[u32], blocks: &[Block], form: Form) -> (Option<u32>, u128)
+    requires { IsStrictlyIncreasing taken.now }
+    ensures least { IsLeastFree taken.now blocks.now form result.0 }
+    ensures computed { result.0 ≡ least_free taken.now blocks.now form }
+    ensures turns { result.1 ≤ (length taken.now + 1) * length blocks.now }
+{
+    let mut least = None;
+    let mut turns = 0;
+    for block in blocks {
+        let (found, more) = least_in(taken, *block, form);
+        least = lesser(least, found);
+        turns += more;
+    }
+    (least, turns)
+}
+
 /// The least number that lies in one of the blocks, has the form and isn't taken; `None` where there is none.
 ///
 /// `taken` rises, which [`is_ascending`] tells. The blocks need not be in any order, nor apart.
@@ -136,10 +222,5 @@ pub fn least_free(taken: &[u32], blocks: &[Block], form: Form) -> Option<u32>
     ensures least { IsLeastFree taken.now blocks.now form result }
     ensures computed { result ≡ least_free taken.now blocks.now form }
 {
-    let mut least = None;
-    for block in blocks {
-        let found = least_in(taken, *block, form);
-        least = lesser(least, found);
-    }
-    least
+    least_free_counted(taken, blocks, form).0
 }

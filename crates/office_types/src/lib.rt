@@ -36,7 +36,9 @@ pub use command::{
     Action, Command, Grant, NetKind, NewMessage, OpenNet, Pdu, SetValues, SignalPath, TakeBits,
     TakeIdent, TakePgn, TakeSpn, Task,
 };
-pub use free::{Form, is_ascending, least_free, least_numbers_are_least};
+pub use free::{
+    Form, is_ascending, least_free, least_free_counted, least_numbers_are_least, next_of,
+};
 pub use net_name::NetName;
 pub use quantity::{Priority, ReviewCount};
 pub use range::command_is_in_range;

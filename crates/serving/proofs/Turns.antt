@@ -1,13 +1,17 @@
 -- One connection after others.
-use Rattle.std.proofs.Common.{◌≡◌, ◌∙◌, ◌⊎◌, ℕ, List, [], ◌∷◌, ◌++◌, map, Bool, Option, None, Some, inl, inr, refl, sym, ap, subst, append_assoc, append-nil}
-use Rattle.std.proofs.lemmas.List.{map-append}
-use Rattle.std.proofs.lemmas.List.Elements.{All-nil, All-push}
+use Rattle.std.proofs.Common.{◌≡◌, ◌∙◌, ◌⊎◌, ℕ, List, [], ◌∷◌, ◌++◌, map, Bool, true, false, Option, None, Some, Result, Ok, Err, inl, inr, refl, sym, ap, subst, append_assoc, append-nil, take, drop, codes}
+use Rattle.std.proofs.KnownBytes.{Appends-kept, Appends-nil}
+use Rattle.std.proofs.lemmas.List.{map-append, take-append-drop}
+use Rattle.std.proofs.lemmas.List.Elements.{All-nil, All-push, Contains-append_left, Contains-push}
 use Rattle.std.specs.Prelude.{All, IsTrue, IsFalse}
+use Rattle.std.specs.Io.KnownBytes.{WriteAppends}
 use Rattle.sqlite.specs.State.{State}
+use Rattle.sqlite.specs.Tree.{Trees}
 use Rattle.office_history.specs.History.{Answered}
-use Rattle.store.specs.Holding.{Holding}
-use Rattle.serving.specs.Serving.{Came, Ended, Ending, FailsOnce, Follows, IsDeclined, Leads, Ran, Visit, written_to}
-use Rattle.serving.proofs.Visits.{LedTo, decides, legal_of, not_both}
+use Rattle.store.specs.Holding.{Holding, Leaves}
+use Rattle.desk_types.specs.Moved.{AppendsFront}
+use Rattle.serving.specs.Serving.{Came, Ended, Ending, FailsOnce, Follows, IsDeclined, KeepsWithOne, Leads, LedTo, Ran, SaysFailure, Visit, written_to}
+use Rattle.serving.proofs.Visits.{LeavesNow, decides, left_now, legal_of, not_both, ranged_of}
 
 follows_then : (h : List Answered) (vs : List Visit) (v : Visit) (h1 h2 : List Answered) → Follows h vs h1 → Leads h1 v h2 → Follows h (vs ++ v ∷ []) h2
 follows_then h [] v h1 h2 is leads = (h2, subst (λ (k : List Answered). Leads k v h2) is leads, refl)
@@ -18,6 +22,39 @@ pub fails_then : (before : Bool) (vs : List Visit) (v : Visit) (now next : Bool)
 fails_then before [] v now next is came stays = (came ∙ is, next, λ failed. stays (subst IsTrue (sym is) failed), refl)
 fails_then before (w ∷ vs) v now next f came stays = (f.0, f.1, f.2, fails_then f.1 vs v now next f.3 came stays)
 
+-- one write took a beginning of the text
+written_front : {E : Type 0} (old new : Option (List ℕ)) (call : Result ℕ E) (text : List ℕ) → WriteAppends old new call text → AppendsFront old new text
+written_front old new (Ok n) text appends = (take n text, drop n text, sym (take-append-drop n text), appends)
+written_front old new (Err e) text keeps = ([], text, refl, Appends-kept old old new [] (Appends-nil old) keeps)
+
+-- that the office fails is said by one write
+pub says_by : {E : Type 0} (had has : Bool) (old new : Option (List ℕ)) (call : Result ℕ E) → has ≡ true → had ≡ false → WriteAppends old new call (codes "lost 72\n")
+    → SaysFailure had has old new
+says_by false true old new call fails sound writes = written_front old new call (codes "lost 72\n") writes
+says_by false false old new call fails sound writes = cc
+says_by true has old new call fails sound writes = cc
+
+-- an office that has failed has failed after later connections too
+stays_failed : (before : Bool) (vs : List Visit) (after : Bool) → FailsOnce before vs after → IsTrue before → IsTrue after
+stays_failed before [] after is failed = subst IsTrue (sym is) failed
+stays_failed before (w ∷ vs) after f failed = stays_failed f.1 vs after f.3 (f.2 failed)
+
+-- that the office fails is said once
+says_on : (a b c : Bool) (first mid last : Option (List ℕ)) → SaysFailure a b first mid → SaysFailure b c mid last → (IsTrue a → IsTrue b) → (IsTrue b → IsTrue c) → SaysFailure a c first last
+says_on true true c first mid last x y ab bc = y ∙ x
+says_on true false c first mid last x y ab bc = absurd (not_both false (ab refl) refl)
+says_on false true true first mid last x y ab bc = subst (λ (o : Option (List ℕ)). SaysFailure false true first o) (sym y) x
+says_on false true false first mid last x y ab bc = absurd (not_both false (bc refl) refl)
+says_on false false true first mid last x y ab bc = subst (λ (o : Option (List ℕ)). SaysFailure false true o last) x y
+says_on false false false first mid last x y ab bc = y ∙ x
+
+pub says_then : (a b c : Bool) (vs : List Visit) (first mid last : Option (List ℕ)) → FailsOnce a vs b → SaysFailure a b first mid → SaysFailure b c mid last → (IsTrue b → IsTrue c) → SaysFailure a c first last
+says_then a b c vs first mid last fails x y stays = says_on a b c first mid last x y (stays_failed a vs b fails) stays
+
+pub says_nothing : (b : Bool) (told : Option (List ℕ)) → SaysFailure b b told told
+says_nothing true told = refl
+says_nothing false told = refl
+
 pub declined_then : (vs : List Visit) (v : Visit) → All IsDeclined vs → IsDeclined v → All IsDeclined (vs ++ v ∷ [])
 declined_then vs v all one = All-push IsDeclined vs v all one
 
@@ -25,8 +62,21 @@ pub declined_none : All IsDeclined []
 declined_none = All-nil IsDeclined
 
 -- nothing was served yet
-pub ran_none : (h : List Answered) (failed : Bool) (s : State) → Holding h s → Ran h [] failed s
-ran_none h failed s holding = (h, refl, legal_of h s holding, λ sound. holding.is_open, λ opened. holding)
+pub ran_none : (h : List Answered) (failed : Bool) (s : State) → LeavesNow s → Holding h s → Ran h [] failed s
+ran_none h failed s law holding = record {
+  after = h;
+  follows = refl;
+  legal = legal_of h s holding;
+  in_range = ranged_of h s holding;
+  is_open = λ sound. holding.is_open;
+  held = λ opened. holding;
+  left = λ db may. inl (left_now h s law holding db may);
+}
+
+-- one of the connections is one of more of them
+still_one : (h : List Answered) (vs : List Visit) (v : Visit) (db : Trees) → KeepsWithOne h vs db → KeepsWithOne h (vs ++ v ∷ []) db
+still_one h vs v db (inl keeps) = inl keeps
+still_one h vs v db (inr one) = inr (one.0, Contains-append_left vs (v ∷ []) one.0 one.1, one.2)
 
 -- what a connection is served on, and what becomes of it
 pub record Turn (failed_old : Bool) (old : State) (v : Visit) (failed_new : Bool) (new : State) : Type 1 where
@@ -39,17 +89,28 @@ ran_on : (h : List Answered) (vs : List Visit) (v : Visit) (failed_old : Bool) (
     → Ran h vs failed_old old → IsTrue failed_old ⊎ IsFalse failed_old → Ran h (vs ++ v ∷ []) failed_new new
 ran_on h vs v failed_old old failed_new new turn r (inl failed) =
     let same = turn.refused failed in
-    let not_sound : IsFalse failed_new → ⊥ = λ sound. not_both failed_old failed (subst IsFalse same.0 sound) in (
-      r.0,
-      follows_then h vs v r.0 r.0 r.1 (inl (subst IsTrue (sym turn.came) failed, refl)),
-      r.2,
-      λ sound. absurd (not_sound sound),
-      subst (λ (t : State). IsTrue t.is_open → Holding r.0 t) (sym same.1) r.4,
-    )
+    let not_sound : IsFalse failed_new → ⊥ = λ sound. not_both failed_old failed (subst IsFalse same.0 sound) in
+    record {
+      after = r.after;
+      follows = follows_then h vs v r.after r.after r.follows (inl (subst IsTrue (sym turn.came) failed, refl));
+      legal = r.legal;
+      in_range = r.in_range;
+      is_open = λ sound. absurd (not_sound sound);
+      held = subst (λ (t : State). IsTrue t.is_open → Holding r.after t) (sym same.1) r.held;
+      left = subst (λ (t : State). Leaves (KeepsWithOne r.after (vs ++ v ∷ [])) t) (sym same.1) (λ db may. still_one r.after vs v db (r.left db may));
+    }
 ran_on h vs v failed_old old failed_new new turn r (inr sound) =
-    let holding = r.4 (r.3 sound) in
-    let led = turn.leads r.0 holding in
-    (led.0, follows_then h vs v r.0 led.0 r.1 (inr (subst IsFalse (sym turn.came) sound, led.1)), led.2, turn.opened r.0 holding, led.3)
+    let holding = r.held (r.is_open sound) in
+    let led = turn.leads r.after holding in
+    record {
+      after = led.after;
+      follows = follows_then h vs v r.after led.after r.follows (inr (subst IsFalse (sym turn.came) sound, led.leads));
+      legal = led.legal;
+      in_range = led.in_range;
+      is_open = turn.opened r.after holding;
+      held = led.held;
+      left = λ db may. elim (led.left db may) [ inl keeps ↦ inl keeps | inr one ↦ inr (v, Contains-push vs v, one) ];
+    }
 
 -- one more connection was served
 pub ran_then : (h : List Answered) (vs : List Visit) (v : Visit) (failed_old : Bool) (old : State) (failed_new : Bool) (new : State)

@@ -1,18 +1,22 @@
 -- What comes of one connection, from what is known of the desk.
-use Rattle.std.proofs.Common.{◌≡◌, ◌∙◌, ◌⊎◌, ℕ, List, [], ◌∷◌, ◌++◌, Bool, true, false, Option, None, Some, Result, Ok, Err, OnOk, IsErrOf, inl, inr, refl, sym, ap, subst}
-use Rattle.std.specs.Prelude.{◌+◌, IfSome, IsTrue, IsFalse, option_map}
+use Rattle.std.proofs.Common.{◌≡◌, ◌∙◌, ◌⊎◌, ℕ, List, [], ◌∷◌, ◌++◌, Bool, true, false, Option, None, Some, Result, Ok, Err, OnOk, IsErrOf, inl, inr, refl, sym, ap, subst, append-nil}
+use Rattle.std.specs.Prelude.{All, ◌+◌, IfSome, IsTrue, IsFalse, option_map}
 use Rattle.std.specs.Io.KnownBytes.{Appends, Consumes}
 use Rattle.sqlite.specs.State.{State}
+use Rattle.sqlite.specs.Tree.{Trees}
 use Rattle.office_history.specs.History.{Answered, IsLegalHistory}
-use Rattle.store.specs.Holding.{Holding}
+use Rattle.office_history.specs.Laws.{IsInRange}
+use Rattle.store.specs.Holding.{Holding, Keeps, Leaves}
 use Rattle.desk_types.specs.Moved.{AppendsFront}
 use Rattle.desk_types.specs.declared.fault.DeskFault.{DeskFault}
 use Rattle.desk_types.specs.declared.fault.DeskFault.TheVariants.{Read, Write, Memory}
 use Rattle.desk_call.specs.Call.{Asked, Asking, arrives}
+use Rattle.desk_types.specs.declared.problem.Problem.TheVariants.{TryAgain}
+use Rattle.desk_reply.specs.Response.{problem_response}
 use Rattle.desk_call.specs.Read.{IsNotWhole}
 use Rattle.office_history.specs.declared.arrival.Answer.{Answer}
-use Rattle.desk.specs.Serving.{HasBegun, HasBegunRefusal, HasGivenUp, HasRefused, HasServed, IsAsked, MayHaveTaken, Responds, answered_as}
-use Rattle.serving.specs.Serving.{Came, Comes, DeclinesBy, Ended, Ending, Ends, IsCause, IsCutShort, IsReply, LeadsBy, MayGoOn, Starts, Visit, Wrote, WroteFront, fault_of}
+use Rattle.desk.specs.Serving.{FollowsAsked, HasBegun, HasBegunRefusal, HasGivenUp, HasRefused, HasServed, IsAsked, MayHaveTaken, Responds, answered_as}
+use Rattle.serving.specs.Serving.{Came, Comes, DeclinesBy, Ended, Ending, Ends, IsCause, IsCutShort, IsReply, KeepsOneMore, LeadsBy, LedTo, MayGoOn, Starts, Visit, Wrote, WroteFront, fault_of}
 
 -- ---- what was written
 
@@ -71,35 +75,108 @@ not_both b holds fails = cc
 pub legal_of : (h : List Answered) (s : State) → Holding h s → IsLegalHistory h
 legal_of h s holding = (holding.keeps.holds.office, holding.keeps.holds.legal)
 
-replied : (h : List Answered) (sent : Option (List ℕ)) (asked : Asked) (text : List ℕ) (s : State) → IsLegalHistory h → IsAsked sent asked → Responds h asked text s
-    → (h2 : List Answered) × IsReply h sent text h2 × IsLegalHistory h2 × (IsTrue s.is_open → Holding h2 s)
-replied h sent asked text s legal is_asked (inl r) = (r.0, (asked, is_asked, inl r.1), legal_of r.0 s r.2, λ opened. r.2)
-replied h sent asked text s legal is_asked (inr r) = (h, (asked, is_asked, inr (refl, r.0)), legal, r.1)
+pub ranged_of : (h : List Answered) (s : State) → Holding h s → All IsInRange h
+ranged_of h s holding = holding.keeps.holds.in_range
 
-gone_on : (h : List Answered) (sent : Option (List ℕ)) (asked : Asked) (s : State) → IsAsked sent asked
+-- the law of an open connection: a crash leaves what it shows
+abbrev pub LeavesNow : State → Type 0
+LeavesNow s = IsTrue s.is_open → (db : Trees) → s.may_leave db → db ≡ s.now.trees
+
+pub left_now : (h : List Answered) (s : State) → LeavesNow s → Holding h s → Leaves (Keeps h) s
+left_now h s law holding db may = subst (Keeps h) (sym (law holding.is_open db may)) holding.keeps
+
+-- a legal history that the tables hold if they are open; a crash leaves it, or what else is said
+pub record Led (Leading : List Answered → Type 0) (Else : List Answered → Trees → Type 0) (s : State) : Type 0 where
+  pub after : List Answered
+  pub leads : Leading after
+  pub legal : IsLegalHistory after
+  pub in_range : All IsInRange after
+  pub held : IsTrue s.is_open → Holding after s
+  pub left : Leaves (λ db. Keeps after db ⊎ Else after db) s
+
+-- it is the history that is held
+held_to : (Leading : List Answered → Type 0) (Else : List Answered → Trees → Type 0) (h2 : List Answered) (s : State) → Leading h2 → Holding h2 s → Leaves (Keeps h2) s → Led Leading Else s
+held_to Leading Else h2 s leads holding left = record {
+  after = h2;
+  leads = leads;
+  legal = legal_of h2 s holding;
+  in_range = ranged_of h2 s holding;
+  held = λ opened. holding;
+  left = λ db may. inl (left db may);
+}
+
+-- where the text that was written says to try again, one more arrival may be left
+abbrev AsksAgain : Option (List ℕ) → List ℕ → List Answered → Trees → Type 0
+AsksAgain sent text h2 db = (a : Asking) × IsAsked sent (arrives a) × (text ≡ problem_response TryAgain) × (answer : Answer) × Keeps (h2 ++ answered_as a answer ∷ []) db
+
+asked_more : (h : List Answered) (sent : Option (List ℕ)) (asked : Asked) (text : List ℕ) (db : Trees) → IsAsked sent asked → text ≡ problem_response TryAgain → FollowsAsked h asked db
+    → Keeps h db ⊎ AsksAgain sent text h db
+asked_more h sent asked text db is_asked again (inl keeps) = inl keeps
+asked_more h sent asked text db is_asked again (inr one) = inr (one.0, subst (λ (k : Asked). IsAsked sent k) one.1 is_asked, again, one.2, one.3)
+
+replied : (h : List Answered) (sent : Option (List ℕ)) (asked : Asked) (text : List ℕ) (s : State) → IsLegalHistory h → All IsInRange h → IsAsked sent asked → Responds h asked text s
+    → Led (IsReply h sent text) (AsksAgain sent text) s
+replied h sent asked text s legal ranged is_asked (inl r) = held_to (IsReply h sent text) (AsksAgain sent text) r.0 s (asked, is_asked, inl r.1) r.2 r.3
+replied h sent asked text s legal ranged is_asked (inr r) = record {
+  after = h;
+  leads = (asked, is_asked, inr (refl, r.0));
+  legal = legal;
+  in_range = ranged;
+  held = r.1;
+  left = λ db may. asked_more h sent asked text db is_asked r.0 (r.2 db may);
+}
+
+gone_on : (h : List Answered) (sent : Option (List ℕ)) (asked : Asked) (s : State) → LeavesNow s → IsAsked sent asked
     → Holding h s ⊎ ((a : Asking) × (asked ≡ arrives a) × ((answer : Answer) × Holding (h ++ answered_as a answer ∷ []) s))
-    → (h2 : List Answered) × MayGoOn h sent h2 × IsLegalHistory h2 × (IsTrue s.is_open → Holding h2 s)
-gone_on h sent asked s is_asked (inl holding) = (h, inl refl, legal_of h s holding, λ opened. holding)
-gone_on h sent asked s is_asked (inr t) =
+    → Led (MayGoOn h sent) (AsksAgain sent (problem_response TryAgain)) s
+gone_on h sent asked s law is_asked (inl holding) = held_to (MayGoOn h sent) (AsksAgain sent (problem_response TryAgain)) h s (inl refl) holding (left_now h s law holding)
+gone_on h sent asked s law is_asked (inr t) =
     let h2 = h ++ answered_as t.0 t.2.0 ∷ [] in
-    (h2, inr (t.0, t.2.0, subst (λ (k : Asked). IsAsked sent k) t.1 is_asked, refl), legal_of h2 s t.2.1, λ opened. t.2.1)
+    held_to (MayGoOn h sent) (AsksAgain sent (problem_response TryAgain)) h2 s (inr (t.0, t.2.0, subst (λ (k : Asked). IsAsked sent k) t.1 is_asked, refl)) t.2.1 (left_now h2 s law t.2.1)
 
-may_have : (h : List Answered) (sent : Option (List ℕ)) (asked : Asked) (s : State) → IsLegalHistory h → IsAsked sent asked → MayHaveTaken h asked s
-    → IsTrue s.is_open ⊎ IsFalse s.is_open → (h2 : List Answered) × MayGoOn h sent h2 × IsLegalHistory h2 × (IsTrue s.is_open → Holding h2 s)
-may_have h sent asked s legal is_asked taken (inl opened) = gone_on h sent asked s is_asked (taken opened)
-may_have h sent asked s legal is_asked taken (inr shut) = (h, inl refl, legal, λ opened. absurd (not_both s.is_open opened shut))
+may_have : (h : List Answered) (sent : Option (List ℕ)) (asked : Asked) (s : State) → LeavesNow s → IsLegalHistory h → All IsInRange h → IsAsked sent asked → MayHaveTaken h asked s
+    → IsTrue s.is_open ⊎ IsFalse s.is_open → Led (MayGoOn h sent) (AsksAgain sent (problem_response TryAgain)) s
+may_have h sent asked s law legal ranged is_asked taken (inl opened) = gone_on h sent asked s law is_asked (taken.0 opened)
+may_have h sent asked s law legal ranged is_asked taken (inr shut) = record {
+  after = h;
+  leads = inl refl;
+  legal = legal;
+  in_range = ranged;
+  held = λ opened. absurd (not_both s.is_open opened shut);
+  left = λ db may. asked_more h sent asked (problem_response TryAgain) db is_asked refl (taken.1 db may);
+}
 
-given_up : (h : List Answered) (sent : Option (List ℕ)) (s : State) → IsLegalHistory h → HasGivenUp h sent s
-    → (h2 : List Answered) × MayGoOn h sent h2 × IsLegalHistory h2 × (IsTrue s.is_open → Holding h2 s)
-given_up h sent s legal (inl holding) = (h, inl refl, legal, λ opened. holding)
-given_up h sent s legal (inr g) = may_have h sent g.0 s legal g.1 g.2 (decides s.is_open)
+given_up : (h : List Answered) (sent : Option (List ℕ)) (s : State) → LeavesNow s → IsLegalHistory h → All IsInRange h → HasGivenUp h sent s
+    → Led (MayGoOn h sent) (AsksAgain sent (problem_response TryAgain)) s
+given_up h sent s law legal ranged (inl it) = held_to (MayGoOn h sent) (AsksAgain sent (problem_response TryAgain)) h s (inl refl) it.0 it.1
+given_up h sent s law legal ranged (inr g) = may_have h sent g.0 s law legal ranged g.1 g.2 (decides s.is_open)
 
 -- ---- a connection
 
--- a legal history to which a connection leads, and that the tables hold if they are open
-abbrev pub LedTo : List Answered → Option DeskFault → Option (List ℕ) → Option (List ℕ) → State → Type 0
-LedTo h fault sent written s =
-    (h2 : List Answered) × LeadsBy fault h sent written h2 × IsLegalHistory h2 × (IsTrue s.is_open → Holding h2 s)
+led_to : (h : List Answered) (fault : Option DeskFault) (sent written : Option (List ℕ)) (s : State) → Led (LeadsBy fault h sent written) (λ h2 db. KeepsOneMore h2 sent written db) s
+    → LedTo h fault sent written s
+led_to h fault sent written s it = record { after = it.after; leads = it.leads; legal = it.legal; in_range = it.in_range; held = it.held; left = it.left }
+
+-- it leads on by what was written
+on : {Leading Leading2 : List Answered → Type 0} (sent written : Option (List ℕ)) (text : List ℕ) (s : State) → WroteFront written text → ((h2 : List Answered) → Leading h2 → Leading2 h2)
+    → Led Leading (AsksAgain sent text) s → Led Leading2 (λ h2 db. KeepsOneMore h2 sent written db) s
+on sent written text s front more it = record {
+  after = it.after;
+  leads = more it.after it.leads;
+  legal = it.legal;
+  in_range = it.in_range;
+  held = it.held;
+  left = λ db may. elim (it.left db may) [ inl keeps ↦ inl keeps | inr one ↦ inr (one.0, one.1, subst (WroteFront written) one.2 front, one.3, one.4) ];
+}
+
+-- what was written is a beginning of itself
+is_front : (written : Option (List ℕ)) (text : List ℕ) → Wrote written text → WroteFront written text
+is_front None text wrote = tt
+is_front (Some bytes) text wrote = ([], sym wrote ∙ sym (append-nil bytes))
+
+no_front : (written : Option (List ℕ)) (text : List ℕ) → Wrote written [] → WroteFront written text
+no_front None text wrote = tt
+no_front (Some bytes) text wrote = (text, subst (λ (l : List ℕ). text ≡ l ++ text) (sym wrote) refl)
 
 -- what is known of a connection that was served
 pub record Service {T : Type 0} (r : Result T DeskFault) (h : List Answered) (sent old new : Option (List ℕ)) (s : State) : Type 0 where
@@ -109,21 +186,27 @@ pub record Service {T : Type 0} (r : Result T DeskFault) (h : List Answered) (se
   pub lacking : IsErrOf r Memory → HasGivenUp h sent s × (new ≡ old)
 
 pub led : {T : Type 0} (r : Result T DeskFault) (h : List Answered) (ended : Option (List Ending)) (sent old new : Option (List ℕ)) (s : State)
-    → Starts ended old → IsLegalHistory h → Service r h sent old new s → LedTo h (fault_of r) sent (written_of ended new) s
-led (Ok v) h ended sent old new s starts legal known =
+    → LeavesNow s → Starts ended old → IsLegalHistory h → All IsInRange h → Service r h sent old new s → LedTo h (fault_of r) sent (written_of ended new) s
+led (Ok v) h ended sent old new s law starts legal ranged known =
     let w = known.whole in
-    let r = replied h sent w.0 w.1 s legal w.2 w.3 in
-    (r.0, (w.1, r.1, wrote ended old new w.1 starts w.4), r.2, r.3)
-led (Err Read) h ended sent old new s starts legal known =
-    let k = known.unread refl in (h, (refl, wrote_nothing ended old new starts k.1), legal, λ opened. k.0)
-led (Err Write) h ended sent old new s starts legal known =
+    let text = wrote ended old new w.1 starts w.4 in
+    led_to h None sent (written_of ended new) s
+    (on sent (written_of ended new) w.1 s (is_front (written_of ended new) w.1 text) (λ h2 reply. (w.1, reply, text)) (replied h sent w.0 w.1 s legal ranged w.2 w.3))
+led (Err Read) h ended sent old new s law starts legal ranged known =
+    let k = known.unread refl in
+    led_to h (Some Read) sent (written_of ended new) s
+    (held_to (LeadsBy (Some Read) h sent (written_of ended new)) (λ h2 db. KeepsOneMore h2 sent (written_of ended new) db) h s
+    (refl, wrote_nothing ended old new starts k.1) k.0 (left_now h s law k.0))
+led (Err Write) h ended sent old new s law starts legal ranged known =
     let w = known.unwritten refl in
-    let r = replied h sent w.0 w.1 s legal w.2 w.3 in
-    (r.0, (w.1, r.1, wrote_front ended old new w.1 starts w.4), r.2, r.3)
-led (Err Memory) h ended sent old new s starts legal known =
+    let text = wrote_front ended old new w.1 starts w.4 in
+    led_to h (Some Write) sent (written_of ended new) s
+    (on sent (written_of ended new) w.1 s text (λ h2 reply. (w.1, reply, text)) (replied h sent w.0 w.1 s legal ranged w.2 w.3))
+led (Err Memory) h ended sent old new s law starts legal ranged known =
     let k = known.lacking refl in
-    let g = given_up h sent s legal k.0 in
-    (g.0, (g.1, wrote_nothing ended old new starts k.1), g.2, g.3)
+    let none = wrote_nothing ended old new starts k.1 in
+    led_to h (Some Memory) sent (written_of ended new) s
+    (on sent (written_of ended new) (problem_response TryAgain) s (no_front (written_of ended new) (problem_response TryAgain) none) (λ h2 goes. (goes, none)) (given_up h sent s law legal ranged k.0))
 
 -- what is known of a connection to an office that has failed
 pub record Refusal {T : Type 0} (r : Result T DeskFault) (sent old new : Option (List ℕ)) : Type 0 where
@@ -147,6 +230,7 @@ pub record Calls {T : Type 0} (r : Result T DeskFault) (sent after : Option (Lis
   pub unread : IsErrOf r Read → (bytes : List ℕ) × Consumes sent after bytes × IsNotWhole bytes
   pub read_failed : IsErrOf r Read → reads ≡ reads_old + 1
   pub write_failed : IsErrOf r Write → writes ≡ writes_old + 1
+  pub lacking : IsErrOf r Memory → (reads ≡ reads_old) × (writes ≡ writes_old)
 
 cut_short : (sent after : Option (List ℕ)) (bytes : List ℕ) → Consumes sent after bytes → IsNotWhole bytes → IsCutShort sent
 cut_short None after bytes consumes is = tt
@@ -168,7 +252,9 @@ caused (Err Read) ended told sent after reads_old reads writes_old writes no_rea
     (cut_short sent after u.0 u.1 u.2, of_ending (λ e. e.failed_reads ≡ 1) ended told reads writes (λ bytes. known.read_failed refl ∙ ap (λ n. n + 1) no_read))
 caused (Err Write) ended told sent after reads_old reads writes_old writes no_read no_write known =
     of_ending (λ e. e.failed_writes ≡ 1) ended told reads writes (λ bytes. known.write_failed refl ∙ ap (λ n. n + 1) no_write)
-caused (Err Memory) ended told sent after reads_old reads writes_old writes no_read no_write known = tt
+caused (Err Memory) ended told sent after reads_old reads writes_old writes no_read no_write known =
+    let k = known.lacking refl in
+    of_ending (λ e. (e.failed_reads ≡ 0) × (e.failed_writes ≡ 0)) ended told reads writes (λ bytes. (k.0 ∙ no_read, k.1 ∙ no_write))
 
 -- ---- the listener
 

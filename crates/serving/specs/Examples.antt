@@ -8,7 +8,7 @@ use Rattle.desk_call.specs.Call.{fails, shows}
 use Rattle.desk_call.specs.declared.call.Look.TheVariants.{Release}
 use Rattle.desk_reply.specs.Response.{problem_response}
 use Rattle.desk.specs.Serving.{failed_response}
-use Rattle.serving.specs.Serving.{Came, Ended, Ending, FailsOnce, Follows, HasCause, Visit}
+use Rattle.serving.specs.Serving.{Came, Ended, Ending, FailsOnce, Follows, HasCause, SaysFailure, Visit}
 
 -- one read failed, and nothing was written
 abbrev unanswered : Ending
@@ -47,3 +47,10 @@ answered_still = refl
 
 told_to_try_again : (net : List ℕ) → failed_response (shows (Release net 1)) ≡ problem_response TryAgain
 told_to_try_again net = refl
+
+-- the office fails, and the line that says so is the whole text; later nothing more is written
+says_lost : SaysFailure false true (Some (codes "listening\n")) (Some (codes "listening\nlost 72\n"))
+says_lost = (codes "lost 72\n", [], refl, refl)
+
+says_it_once : SaysFailure true true (Some (codes "lost 72\n")) (Some (codes "lost 72\n"))
+says_it_once = refl

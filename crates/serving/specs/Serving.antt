@@ -1,9 +1,12 @@
 -- Connections that are served one after the other.
-use Rattle.std.specs.Prelude.{◌≡◌, ◌⊎◌, ℕ, List, [], ◌∷◌, ◌++◌, map, Bool, Option, None, Some, option_map, IfSome, IsTrue, IsFalse, Result, Ok, Err, ⊤}
+use Rattle.std.specs.Prelude.{◌≡◌, ◌⊎◌, ℕ, List, [], ◌∷◌, ◌++◌, All, Contains, map, Bool, true, false, Option, None, Some, option_map, IfSome, IsTrue, IsFalse, Result, Ok, Err, ⊤, codes}
 use Rattle.sqlite.specs.State.{State}
+use Rattle.sqlite.specs.Tree.{Trees}
 use Rattle.office_history.specs.History.{Answered, IsLegalHistory}
 use Rattle.office_history.specs.declared.arrival.Answer.{Answer}
-use Rattle.store.specs.Holding.{Holding}
+use Rattle.office_history.specs.Laws.{IsInRange}
+use Rattle.store.specs.Holding.{Holding, Keeps, Leaves}
+use Rattle.desk_types.specs.Moved.{AppendsFront}
 use Rattle.desk_types.specs.declared.fault.DeskFault.{DeskFault}
 use Rattle.desk_types.specs.declared.fault.DeskFault.TheVariants.{Read, Write, Memory}
 use Rattle.desk_types.specs.declared.problem.Problem.TheVariants.{TryAgain}
@@ -39,13 +42,13 @@ fault_of (Err fault) = Some fault
 abbrev pub IsCutShort : Option (List ℕ) → Type 0
 IsCutShort sent = IfSome sent (λ input. (bytes : List ℕ) × (rest : List ℕ) × (input ≡ bytes ++ rest) × IsNotWhole bytes)
 
--- What ended the connection so. Without a fault no read and no write failed. `Read` is that of a read that failed before the
--- request was whole, and `Write` that of a write that failed. `Memory` has no such cause.
+-- What ended the connection so. Without a fault no read and no write failed. `Read` is that of a read that failed
+-- before the request was whole, and `Write` that of a write that failed. With `Memory` no read and no write failed.
 abbrev pub IsCause : Option DeskFault → Option (List ℕ) → Option Ending → Type 0
 IsCause None sent ending = IfSome ending (λ e. (e.failed_reads ≡ 0) × (e.failed_writes ≡ 0))
 IsCause (Some Read) sent ending = IsCutShort sent × IfSome ending (λ e. e.failed_reads ≡ 1)
 IsCause (Some Write) sent ending = IfSome ending (λ e. e.failed_writes ≡ 1)
-IsCause (Some Memory) sent ending = ⊤
+IsCause (Some Memory) sent ending = IfSome ending (λ e. (e.failed_reads ≡ 0) × (e.failed_writes ≡ 0))
 
 abbrev pub HasCause : Visit → Type 0
 HasCause v = IsCause v.fault v.sent v.ending
@@ -84,11 +87,37 @@ abbrev pub Follows : List Answered → List Visit → List Answered → Type 0
 Follows h [] h2 = h2 ≡ h
 Follows h (v ∷ later) h2 = (h1 : List Answered) × Leads h v h1 × Follows h1 later h2
 
--- The connections lead to a legal history, which the tables hold as long as they are open. They are, unless the office has
--- failed.
-abbrev pub Ran : List Answered → List Visit → Bool → State → Type 0
-Ran h visits failed s =
-    (h2 : List Answered) × Follows h visits h2 × IsLegalHistory h2 × (IsFalse failed → IsTrue s.is_open) × (IsTrue s.is_open → Holding h2 s)
+-- the trees keep the history with an arrival that was asked, and of whose answer nothing was written but a beginning of
+-- the text that says to try again
+abbrev pub KeepsOneMore : List Answered → Option (List ℕ) → Option (List ℕ) → Trees → Type 0
+KeepsOneMore h sent written db =
+    (a : Asking) × IsAsked sent (arrives a) × WroteFront written (problem_response TryAgain) × (answer : Answer) × Keeps (h ++ answered_as a answer ∷ []) db
+
+-- the trees keep the history, or it with the arrival of one of the connections, which had no answer
+abbrev pub KeepsWithOne : List Answered → List Visit → Trees → Type 0
+KeepsWithOne h visits db = Keeps h db ⊎ ((v : Visit) × Contains visits v × KeepsOneMore h v.sent (written_to v) db)
+
+-- A connection that ended so leads to a legal history, whose commands are in range, and which the tables hold as long
+-- as they are open. A crash leaves that history, or it and the arrival, if that had no answer.
+pub record LedTo (h : List Answered) (fault : Option DeskFault) (sent written : Option (List ℕ)) (s : State) : Type 0 where
+  pub after : List Answered
+  pub leads : LeadsBy fault h sent written after
+  pub legal : IsLegalHistory after
+  pub in_range : All IsInRange after
+  pub held : IsTrue s.is_open → Holding after s
+  pub left : Leaves (λ db. Keeps after db ⊎ KeepsOneMore after sent written db) s
+
+-- The connections lead to a legal history, whose commands are in range, and which the tables hold as long as they are
+-- open. They are, unless the office has failed. A crash leaves that history, or it and one arrival that had no
+-- answer.
+pub record Ran (h : List Answered) (visits : List Visit) (failed : Bool) (s : State) : Type 0 where
+  pub after : List Answered
+  pub follows : Follows h visits after
+  pub legal : IsLegalHistory after
+  pub in_range : All IsInRange after
+  pub is_open : IsFalse failed → IsTrue s.is_open
+  pub held : IsTrue s.is_open → Holding after s
+  pub left : Leaves (KeepsWithOne after visits) s
 
 -- ---- an office that has failed
 
@@ -108,6 +137,11 @@ IsDeclined v = IsTrue v.office_failed → DeclinesBy v.fault v.sent (written_to 
 abbrev pub FailsOnce : Bool → List Visit → Bool → Type 0
 FailsOnce before [] after = after ≡ before
 FailsOnce before (v ∷ later) after = (v.office_failed ≡ before) × (next : Bool) × (IsTrue before → IsTrue next) × FailsOnce next later after
+
+-- where the office fails, that is written to the standard error, or a beginning of it; else nothing is written there
+abbrev pub SaysFailure : Bool → Bool → Option (List ℕ) → Option (List ℕ) → Type 0
+SaysFailure false true old new = AppendsFront old new (codes "lost 72\n")
+SaysFailure before after old new = new ≡ old
 
 -- ---- the connections of a listener
 

@@ -5,17 +5,17 @@ use crate::fault::ServeFault;
 use crate::line::{Line, Timed};
 use crate::listener::Listener;
 use desk::Failed;
-use std::io;
+use std::io::{self, Read};
 use std::net::{Ipv4Addr, Net, Shutdown, SocketAddr, TcpListener, TcpStream};
 use std::time::{Clock, Duration, Instant};
 
-/// For how many seconds one read or write of a connection may wait for the peer.
-const TURN_SECONDS: u64 = 10;
+/// For how many seconds what a peer still sends after its response is read: no read begins later.
+const DRAIN_SECONDS: u64 = 2;
 
-/// For how many seconds a read may wait for what a peer still sends after its response.
-const DRAIN_SECONDS: u64 = 1;
+/// For how many seconds such a read may wait for the peer.
+const DRAIN_TURN_SECONDS: u64 = 1;
 
-/// How many reads there are at most of what a peer still sends, each of at most 4096 bytes.
+/// How many such reads there are at most, each of at most 4096 bytes.
 const DRAIN_TURNS: u32 = 4096;
 
 /// A TCP port of this machine that is listened on, with the clock that bounds the time of connections.
@@ -48,35 +48,38 @@ impl<C: Clock> LocalPort<'_, C> {
     }
 }
 
-/// Two handles of the connection, whose reads and writes have time limits.
-fn timed_handles<C: Clock>(stream: TcpStream, clock: &C) -> io::Result<(Timed, Timed)> {
-    let turn = Duration::from_secs(TURN_SECONDS);
-    stream.set_read_timeout(Some(turn))?;
-    stream.set_write_timeout(Some(turn))?;
+/// Two handles of the connection, one to read and one to write, which have time limits.
+fn timed_handles(stream: TcpStream) -> io::Result<(Timed, Timed)> {
     let other = stream.try_clone()?;
-    let accepted = Instant::now(clock)?;
-    let reading = Timed { stream, accepted };
-    let writing = Timed {
-        stream: other,
-        accepted,
-    };
+    let reading = Timed::reading(stream)?;
+    let writing = Timed::writing(other)?;
     Ok((reading, writing))
 }
 
-/// Reads what the peer still sends, so that it gets its response instead of a reset: at most 16 MiB, by at most
-/// `DRAIN_TURNS` reads, as long as the connection has time.
-fn drain<C: Clock>(reading: &mut Timed, clock: &C) {
-    let turn = Duration::from_secs(DRAIN_SECONDS);
-    if reading.stream.set_read_timeout(Some(turn)).is_err() {
-        return;
+/// Whether the peer has sent bytes that are unread, as it is now. They are thrown away, up to 4096.
+fn has_unread(stream: &mut TcpStream) -> bool {
+    let mut unread = [0u8; 4096];
+    if stream.set_nonblocking(true).is_err() {
+        return false;
     }
+    let read = stream.read(&mut unread);
+    stream.set_nonblocking(false).is_ok() && matches!(read, Ok(n) if n > 0)
+}
+
+/// Reads what the peer still sends, so that it gets its response instead of a reset: at most 16 MiB, by at most
+/// `DRAIN_TURNS` reads, up to its end, or until it has sent nothing for a while or sends too long.
+fn drain<C: Clock>(stream: &mut TcpStream, clock: &C) -> io::Result<()> {
+    let began = Instant::now(clock)?;
+    let turn = Duration::from_secs(DRAIN_TURN_SECONDS);
+    stream.set_read_timeout(Some(turn))?;
     let mut unread = [0u8; 4096];
     for _turn in 0..DRAIN_TURNS {
-        match reading.read(clock, &mut unread) {
-            Ok(0) | Err(Failed) => return,
-            Ok(_) => {}
+        let taken = began.elapsed(clock)?;
+        if taken >= Duration::from_secs(DRAIN_SECONDS) || stream.read(&mut unread)? == 0 {
+            return Ok(());
         }
     }
+    Ok(())
 }
 
 impl<'r, C: Clock> Listener for LocalPort<'r, C> {
@@ -93,7 +96,7 @@ impl<'r, C: Clock> Listener for LocalPort<'r, C> {
         let Ok((stream, _)) = self.listener.accept() else {
             return Err(Failed);
         };
-        let (reading, writing) = match timed_handles(stream, self.clock) {
+        let (reading, writing) = match timed_handles(stream) {
             Ok((reading, writing)) => (Some(reading), Some(writing)),
             Err(_) => (None, None),
         };
@@ -103,13 +106,14 @@ impl<'r, C: Clock> Listener for LocalPort<'r, C> {
         ))
     }
 
-    /// Tells the peer that nothing more comes, and reads what it still sends.
+    /// Tells the peer that nothing more comes. If it has sent bytes that are unread, what it still sends is read.
     fn finish(&mut self, mut request: Line<'r, C>, response: Line<'r, C>) {
         let (Some(reading), Some(writing)) = (&mut request.timed, &response.timed) else {
             return;
         };
-        if writing.stream.shutdown(Shutdown::Write).is_ok() {
-            drain(reading, self.clock);
+        if writing.stream.shutdown(Shutdown::Write).is_ok() && has_unread(&mut reading.stream) {
+            // Whether all of it can be read changes nothing of what was served.
+            let _drained = drain(&mut reading.stream, self.clock);
         }
     }
 }

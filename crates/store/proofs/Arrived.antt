@@ -19,11 +19,11 @@ use Rattle.office_history.specs.History.{Answered, IsAnsweredAs, first_of}
 use Rattle.office_history.specs.Laws.{HistoriesLeaveOffices, IsInRange}
 use Rattle.office_history.proofs.Histories.{histories_grow}
 use Rattle.store_net.specs.Kept.{AreKept, kept_row}
+use Rattle.store_net.proofs.Kept.{again_kept, first_kept}
 use Rattle.store_rows.specs.Follows.{Follows}
 use Rattle.store_rows.specs.Rows.{IsBookIn, IsNetAt}
 use Rattle.store_rows.proofs.Changes.{others_follow, same_net}
 use Rattle.store.specs.Holds.{Holds}
-use Rattle.store.proofs.Kept.{kept_again, kept_first}
 
 -- ---- a first arrival
 
@@ -77,7 +77,7 @@ first_holds laws h a d t u v holds ranged new told decision followed kept =
       in_range = All-push IsInRange h a holds.in_range ranged;
       book = record { blocks = book.blocks; used = book.used };
       nets = λ other. same_net other u (with_reply a d u) (net_named after other) refl (nets other);
-      replies = subst (λ rows. AreKept (h ++ a ∷ []) (rows ++ kept_row a.team a.key a.content d.reply ∷ [])) (sym follows.replies) (kept_first h a d.reply t.reply new told holds.replies);
+      replies = subst (λ rows. AreKept (h ++ a ∷ []) (rows ++ kept_row a.team a.key a.content d.reply ∷ [])) (sym follows.replies) (first_kept h a d.reply t.reply new told holds.replies);
       profile = follows.profile ∙ holds.profile;
     })
 
@@ -95,6 +95,6 @@ again_holds h a first t holds ranged found told = record {
   in_range = All-push IsInRange h a holds.in_range ranged;
   book = holds.book;
   nets = holds.nets;
-  replies = kept_again h a first t.reply found holds.replies;
+  replies = again_kept h a first t.reply found holds.replies;
   profile = holds.profile;
 }

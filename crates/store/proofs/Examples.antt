@@ -1,14 +1,17 @@
 -- Worked examples, computed from the definitions.
-use Rattle.std.proofs.Common.{◌≡◌, [], ◌∷◌, Err, Ok, refl}
+use Rattle.std.proofs.Common.{◌≡◌, true, false, [], ◌∷◌, Err, Ok, refl}
+use Rattle.std.specs.Prelude.{Result}
+use Rattle.std.proofs.lemmas.Bool.{false≢true}
 use Rattle.sqlite.specs.declared.error.Error.TheVariants.{InvalidQuery, SqliteFailure}
 use Rattle.sqlite.specs.declared.error.ErrorCode.TheVariants.{DiskFull, OutOfMemory}
 use Rattle.office_history.specs.declared.arrival.Answer.{Answer}
 use Rattle.office_history.specs.declared.arrival.Answer.TheVariants.{KeyReused}
 use Rattle.office_history.specs.declared.arrival.Arrival.{Arrival}
+use Rattle.store.specs.declared.lost.Lost.{Lost}
 use Rattle.store.specs.declared.lost.Lost.TheVariants.{Memory, Store}
 use Rattle.store.specs.Lost.{lost_by, lost_number}
 use Rattle.office_history.specs.Answering.{told}
-use Rattle.store.specs.Running.{answered_of, lost_of}
+use Rattle.store.specs.Running.{FailsBy, answered_of, lost_of}
 
 -- a lost arrival isn't in the history, one that is sent again is there twice, with both answers
 the_answered : (a b : Arrival) (x : Answer) → answered_of (a ∷ b ∷ a ∷ b ∷ []) (Err Memory ∷ Ok x ∷ Ok x ∷ Ok KeyReused ∷ []) ≡ told b x ∷ told a x ∷ told b KeyReused ∷ []
@@ -16,6 +19,14 @@ the_answered a b x = refl
 
 the_lost : (a b : Arrival) (x : Answer) → lost_of (a ∷ b ∷ a ∷ []) (Err Memory ∷ Ok x ∷ Err Store ∷ []) ≡ a ∷ a ∷ []
 the_lost a b x = refl
+
+-- after the first failure each arrival is lost by it, and the office has failed; out of memory is no failure
+the_failed : (x : Answer) → FailsBy false (Err Memory ∷ Ok x ∷ Err Store ∷ Err Store ∷ []) true
+the_failed x = ((λ was. absurd (false≢true was)), ((λ was. absurd (false≢true was)), ((λ was. absurd (false≢true was)), ((λ was. refl), refl))))
+
+-- it answers nothing after that, nor is it well again
+never_again : (x : Answer) → FailsBy true (Ok x ∷ []) false → ⊥
+never_again x by = let wrong : ◌≡◌ {A = Result Answer Lost} (Ok x) (Err Store) = by.0 refl in cc
 
 by_memory : lost_by (SqliteFailure OutOfMemory) ≡ Memory
 by_memory = refl

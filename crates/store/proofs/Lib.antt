@@ -1,5 +1,4 @@
 pub mod Opened
-pub mod Kept
 pub mod Arrived
 pub mod Left
 pub mod Ran

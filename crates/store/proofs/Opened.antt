@@ -16,6 +16,7 @@ use Rattle.office_rows.specs.Shown.{profile_order, profile_shown}
 use Rattle.office_history.specs.Laws.{IsInRange}
 use Rattle.office_history.proofs.Histories.{histories_grow}
 use Rattle.store_rows.proofs.Listing.{none_listed}
+use Rattle.store_net.proofs.Kept.{none_kept}
 use Rattle.store.specs.Holds.{Holds}
 use Rattle.store.specs.Holding.{Holding, Keeps}
 use Rattle.store.specs.Opening.{IsNew, new_tables}
@@ -55,7 +56,7 @@ new_hold = record {
   in_range = All-nil IsInRange;
   book = record { blocks = none_listed; used = none_listed };
   nets = λ name. refl;
-  replies = tt;
+  replies = none_kept;
   profile = refl;
 }
 

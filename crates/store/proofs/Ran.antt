@@ -1,8 +1,8 @@
 -- A list of arrivals, and one more.
 use Rattle.std.proofs.Common.{◌≡◌, ◌≢◌, ◌⊎◌, inl, inr, true, false, List, [], ◌∷◌, ◌++◌, length, Ok, Err, Result, refl, sym, ap, subst, ◌∙◌, arith, append_assoc, append-nil, length-append}
-use Rattle.std.specs.Prelude.{Bool, ◌↔◌, IfErr, IfOk, IsTrue, OnErr}
+use Rattle.std.specs.Prelude.{All, Bool, ◌↔◌, IfErr, IfOk, IsTrue, OnErr}
 use Rattle.std.proofs.lemmas.Bool.{cases_Bool}
-use Rattle.std.proofs.lemmas.List.Elements.{Contains-append_left, Contains-push}
+use Rattle.std.proofs.lemmas.List.Elements.{All-push, Contains-append_left, Contains-push}
 use Rattle.sqlite.specs.Held.{state}
 use Rattle.sqlite.specs.State.{State}
 use Rattle.sqlite.specs.Tree.{Trees}
@@ -10,13 +10,14 @@ use Rattle.sqlite_trees.specs.declared.store.Store.{Ghosts}
 use Rattle.office_history.specs.declared.arrival.Answer.{Answer}
 use Rattle.office_history.specs.declared.arrival.Arrival.{Arrival}
 use Rattle.office_history.specs.History.{Answered, IsLegalHistory}
+use Rattle.office_history.specs.Laws.{IsInRange}
 use Rattle.store.specs.declared.lost.Lost.{Lost}
 use Rattle.store.specs.declared.lost.Lost.TheVariants.{Memory, NewerProfile, Store}
 use Rattle.store.specs.Holding.{Holding, Keeps, Leaves}
 use Rattle.store.specs.Office.{StoredOffice}
 use Rattle.store.specs.Headline.{HasRun}
 use Rattle.office_history.specs.Answering.{told}
-use Rattle.store.specs.Running.{KeepsWithOne, answered_of, lost_of}
+use Rattle.store.specs.Running.{FailsBy, IsNotNewer, KeepsWithOne, answered_of, is_failure, lost_of}
 
 -- ---- one more arrival
 
@@ -56,6 +57,33 @@ still_one h lost a db (inr one) = inr (one.0, Contains-append_left lost (a ∷ [
 legal_of : (h : List Answered) (s : State) → Holding h s → IsLegalHistory h
 legal_of h s holding = (holding.keeps.holds.office, holding.keeps.holds.legal)
 
+ranged_of : (h : List Answered) (s : State) → Holding h s → All IsInRange h
+ranged_of h s holding = holding.keeps.holds.in_range
+
+-- ---- whether it has failed
+
+is_failure_by : (r : Result Answer Lost) (after : Bool) → (IsTrue after ↔ (r ≡ Err Store)) → after ≡ is_failure r
+is_failure_by (Ok answer) true failed = absurd (let e = failed.0 refl in cc)
+is_failure_by (Ok answer) false failed = refl
+is_failure_by (Err Store) true failed = refl
+is_failure_by (Err Store) false failed = absurd (let e = failed.1 refl in cc)
+is_failure_by (Err Memory) true failed = absurd (let e = failed.0 refl in cc)
+is_failure_by (Err Memory) false failed = refl
+is_failure_by (Err NewerProfile) true failed = absurd (let e = failed.0 refl in cc)
+is_failure_by (Err NewerProfile) false failed = refl
+
+pub fails_more : (before mid after : Bool) (rs : List (Result Answer Lost)) (r : Result Answer Lost) → FailsBy before rs mid → (IsTrue after ↔ (r ≡ Err Store)) → (IsTrue mid → IsTrue after)
+    → FailsBy before (rs ++ r ∷ []) after
+fails_more before mid after [] r same failed stays = (λ was. failed.0 (stays (same ∙ was)), is_failure_by r after failed)
+fails_more before mid after (x ∷ rs) r by failed stays = (by.0, fails_more (is_failure x) mid after rs r by.1 failed stays)
+
+pub named_more : (rs : List (Result Answer Lost)) (r : Result Answer Lost) → All IsNotNewer rs → IfErr r (λ lost. lost ≢ NewerProfile) → All IsNotNewer (rs ++ r ∷ [])
+named_more rs r all named = All-push IsNotNewer rs r all (is_named r named)
+  where
+    is_named : (r : Result Answer Lost) → IfErr r (λ lost. lost ≢ NewerProfile) → IsNotNewer r
+    is_named (Ok answer) named = λ e. cc
+    is_named (Err lost) named = λ e. named (let it : lost ≡ NewerProfile = cc in it)
+
 -- ---- what is held after it
 
 -- no arrival leaves the history as it is
@@ -63,6 +91,7 @@ pub run_none : (h : List Answered) (failed : Bool) (s : State) → (failed ≡ f
 run_none h failed s is_open holding left = record {
   each = refl;
   legal = subst IsLegalHistory (sym (append-nil h)) (legal_of h s holding);
+  in_range = subst (All IsInRange) (sym (append-nil h)) (ranged_of h s holding);
   is_open = is_open;
   held = λ now. subst (λ l. Holding l s) (sym (append-nil h)) holding;
   left = λ db may. inl (subst (λ l. Keeps l db) (sym (append-nil h)) (left db may));
@@ -74,6 +103,7 @@ module _ {S : Type 0} (g : Ghosts S) (h : List Answered) (xs : List Arrival) (rs
   failed_more lost failed = record {
     each = each_more xs rs a (Err lost) before.each;
     legal = subst (λ l. IsLegalHistory (h ++ l)) (sym (answered_same xs rs a lost before.each)) before.legal;
+    in_range = subst (λ l. All IsInRange (h ++ l)) (sym (answered_same xs rs a lost before.each)) before.in_range;
     is_open = λ working. absurd (let both : true ≡ false = sym failed ∙ working in cc);
     held = λ now. subst (λ l. Holding (h ++ l) (state g old.conn)) (sym (answered_same xs rs a lost before.each)) (before.held now);
     left = λ db may. subst (λ l. KeepsWithOne (h ++ l) (lost_of (xs ++ a ∷ []) (rs ++ Err lost ∷ [])) db) (sym (answered_same xs rs a lost before.each))
@@ -88,6 +118,7 @@ module _ {S : Type 0} (g : Ghosts S) (h : List Answered) (xs : List Arrival) (rs
       record {
         each = each_more xs rs a (Ok answer) before.each;
         legal = subst IsLegalHistory line (legal_of ((h ++ answered_of xs rs) ++ told a answer ∷ []) (state g new.conn) holding);
+        in_range = subst (All IsInRange) line (ranged_of ((h ++ answered_of xs rs) ++ told a answer ∷ []) (state g new.conn) holding);
         is_open = λ _. holding.is_open;
         held = λ now. subst (λ l. Holding l (state g new.conn)) line holding;
         left = λ db may. inl (subst (λ l. Keeps l db) line (left db may));
@@ -102,6 +133,7 @@ module _ {S : Type 0} (g : Ghosts S) (h : List Answered) (xs : List Arrival) (rs
       record {
         each = each_more xs rs a (Err lost) before.each;
         legal = subst (λ l. IsLegalHistory (h ++ l)) (sym same) before.legal;
+        in_range = subst (λ l. All IsInRange (h ++ l)) (sym same) before.in_range;
         is_open = is_open;
         held = λ now. subst (λ l. Holding (h ++ l) (state g new.conn)) (sym same) (held now);
         left = λ db may. subst (λ l. KeepsWithOne (h ++ l) (lost_of (xs ++ a ∷ []) (rs ++ Err lost ∷ [])) db) (sym same)

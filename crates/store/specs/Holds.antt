@@ -10,7 +10,8 @@ use Rattle.store_rows.specs.Rows.{IsBookIn, IsNetAt}
 use Rattle.store_net.specs.Kept.{AreKept}
 
 -- The history is legal, and leaves an office. The rows stand for that office: for the network of each name, if it is
--- there, and for the book. There is one kept reply for each first arrival, and the row of the profile.
+-- there, and for the book. There is one kept reply for each first arrival, in whatever order, and the row of the
+-- profile.
 pub record Holds (h : List Answered) (t : Tables) : Type 0 where
   pub office : Office
   pub legal : IsLegal h office

@@ -1,5 +1,5 @@
 -- What holds of the tables after every history.
-use Rattle.std.specs.Prelude.{◌≡◌, ◌≢◌, ℕ, pos, List, Some, filter, map, AllPairs, Contains, IsPermutation}
+use Rattle.std.specs.Prelude.{◌≡◌, ◌≢◌, ℕ, false, pos, List, [], ◌∷◌, ◌++◌, Some, filter, map, AllPairs, Contains, IsPermutation}
 use Rattle.std.specs.List.Sorted.{IsStrictlySortedBy}
 use Rattle.sqlite.specs.Order.{column}
 use Rattle.sqlite.specs.declared.types.Value.TheVariants.{Int}
@@ -12,10 +12,11 @@ use Rattle.office_types.specs.State.{live_messages, sheet_of}
 use Rattle.office_types.specs.declared.state.Net.{Net}
 use Rattle.office_types.specs.declared.state.Office.{Office}
 use Rattle.office_rules.specs.Step.{net_named}
+use Rattle.office_law.specs.Apart.{asks_book}
 use Rattle.office_tables.specs.Tables.{Tables}
 use Rattle.office_rows.specs.Rows.{is_of_net}
-use Rattle.office_history.specs.History.{Answered, IsLegal}
-use Rattle.office_history.specs.Laws.{new_spns}
+use Rattle.office_history.specs.History.{Answered, IsLegal, IsLegalHistory}
+use Rattle.office_history.specs.Laws.{HaveOneNetwork, is_on, new_spns}
 use Rattle.store.specs.Holds.{Holds}
 
 -- Of a network with these rows: no two live messages have one identifier, and no message has two signals that share a bit
@@ -37,3 +38,11 @@ pub record HeldNumbersMeanOneThing : Type 0 where
   pub names : (h : List Answered) (t : Tables) (office : Office) (net : Net) (r s : Sheet) (m n : Message) → Holds h t → IsLegal h office
       → Contains office.nets net → Contains net.releases r → Contains net.releases s → Contains r.messages m → Contains s.messages n
       → number_of m ≡ number_of n → m.name ≡ n.name
+
+-- Some tables hold a history that ends with an arrival, and other tables hold a history with the same arrivals before
+-- it on its network, answered the same. Then it may be answered the same there, whatever else either history has: if
+-- the command doesn't ask the book, and with this arrival no pair of team and key names two networks in either.
+abbrev pub HeldNetworksAreApart : Type 0
+HeldNetworksAreApart =
+    (h g : List Answered) (a : Answered) (t u : Tables) → Holds (h ++ a ∷ []) t → Holds g u → asks_book a.command.task ≡ false
+    → HaveOneNetwork (h ++ a ∷ []) → HaveOneNetwork (g ++ a ∷ []) → filter (is_on a.command.net) h ≡ filter (is_on a.command.net) g → IsLegalHistory (g ++ a ∷ [])

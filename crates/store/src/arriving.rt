@@ -1,5 +1,5 @@
 //! Arrivals.
-ghost use Rattle.std.specs.Prelude.{◌≡◌, ◌≢◌, ◌≤◌, ◌⊎◌, ◌↔◌, ◌++◌, ◌∷◌, [], List, None, Err, false, IsTrue, IfOk, IfErr, OnOk, OnErr};
+ghost use Rattle.std.specs.Prelude.{◌≡◌, ◌≢◌, ◌≤◌, ◌⊎◌, ◌↔◌, ◌++◌, ◌∷◌, [], List, None, Err, false, IsTrue, IfOk, IfErr, IsSome, OnOk, OnErr};
 ghost use Rattle.sqlite.specs.Held.{state};
 ghost use Rattle.sqlite.specs.State.{HasCleanDisk, KeepsCommit, Survives};
 ghost use Rattle.sqlite_trees.specs.View.{doubt};
@@ -9,6 +9,7 @@ ghost use Rattle.office_history.specs.History.{Answered, first_of};
 ghost use Rattle.office_history.specs.Answering.{answered};
 ghost use Rattle.store.specs.Holding.{Holding, Keeps, Leaves};
 ghost use Rattle.store.specs.Holds.{Holds};
+ghost use Rattle.store.specs.Opening.{HasTables};
 
 use crate::losing::loss_by;
 use crate::lost::Lost;
@@ -66,6 +67,8 @@ fn arrive_inside<S: Alter>(
     ensures office { HasCleanDisk (state S.Store tx.new.conn.now) → IsOffice (state S.Store tx.old.conn.now).now → OnOk result (IsOffice (state S.Store tx.new.conn.now).now) }
     ensures held { HasCleanDisk (state S.Store tx.new.conn.now) → IsOffice (state S.Store tx.old.conn.now).now → IfOk result (λ answer. (h : List Answered) → Holds h (tables_of (state S.Store tx.old.conn.now).now.trees)
         → Holds (h ++ answered team.now key.now request.now answer ∷ []) (tables_of (state S.Store tx.new.conn.now).now.trees)) }
+    ensures repeated { HasCleanDisk (state S.Store tx.new.conn.now) → IsOffice (state S.Store tx.old.conn.now).now → IfOk result (λ answer. (h : List Answered) → Holds h (tables_of (state S.Store tx.old.conn.now).now.trees)
+        → IsSome (first_of h (answered team.now key.now request.now answer)) → (state S.Store tx.new.conn.now).now ≡ (state S.Store tx.old.conn.now).now) }
 {
     team.as_bytes();
     command_is_in_range(&request.command);
@@ -90,6 +93,10 @@ pub(crate) fn transact<S: Alter>(
     ensures answered { HasCleanDisk (state S.Store conn.new) → (h : List Answered) → Holding h (state S.Store conn.old)
         → IfOk result (λ answer. Holding (h ++ answered team.now key.now request.now answer ∷ []) (state S.Store conn.new) × Leaves (Keeps (h ++ answered team.now key.now request.now answer ∷ [])) (state S.Store conn.new)) }
     ensures lost { HasCleanDisk (state S.Store conn.new) → (h : List Answered) → Holding h (state S.Store conn.old) → IsTrue (state S.Store conn.new).is_open → OnErr result (Holding h (state S.Store conn.new)) }
+    ensures lost_same { HasCleanDisk (state S.Store conn.new) → HasTables (state S.Store conn.old) → IsTrue (state S.Store conn.new).is_open
+        → OnErr result (((state S.Store conn.new).now ≡ (state S.Store conn.old).now) × ((state S.Store conn.new).committed ≡ (state S.Store conn.old).committed)) }
+    ensures repeated { HasCleanDisk (state S.Store conn.new) → (h : List Answered) → Holding h (state S.Store conn.old)
+        → IfOk result (λ answer. IsSome (first_of h (answered team.now key.now request.now answer)) → ((state S.Store conn.new).now ≡ (state S.Store conn.old).now) × ((state S.Store conn.new).committed ≡ (state S.Store conn.old).committed)) }
     ensures left { HasCleanDisk (state S.Store conn.new) → (h : List Answered) → Holding h (state S.Store conn.old)
         → OnErr result (Leaves (λ db. Keeps h db ⊎ ((answer : Told) × Keeps (h ++ answered team.now key.now request.now answer ∷ []) db)) (state S.Store conn.new)) }
 {
@@ -127,6 +134,10 @@ impl<S: Alter> Office<S> {
             → IfOk result (λ answer. Holding (h ++ answered team.now key.now request.now answer ∷ []) (state S.Store self.new.conn) × Leaves (Keeps (h ++ answered team.now key.now request.now answer ∷ [])) (state S.Store self.new.conn)) }
         ensures lost { HasCleanDisk (state S.Store self.new.conn) → (h : List Answered) → Holding h (state S.Store self.old.conn) → IsTrue (state S.Store self.new.conn).is_open
             → OnErr result (Holding h (state S.Store self.new.conn)) }
+        ensures lost_same { HasCleanDisk (state S.Store self.new.conn) → HasTables (state S.Store self.old.conn) → IsTrue (state S.Store self.new.conn).is_open
+            → OnErr result (((state S.Store self.new.conn).now ≡ (state S.Store self.old.conn).now) × ((state S.Store self.new.conn).committed ≡ (state S.Store self.old.conn).committed)) }
+        ensures repeated { HasCleanDisk (state S.Store self.new.conn) → (h : List Answered) → Holding h (state S.Store self.old.conn)
+            → IfOk result (λ answer. IsSome (first_of h (answered team.now key.now request.now answer)) → ((state S.Store self.new.conn).now ≡ (state S.Store self.old.conn).now) × ((state S.Store self.new.conn).committed ≡ (state S.Store self.old.conn).committed)) }
         ensures memory { HasCleanDisk (state S.Store self.new.conn) → IfErr result (λ lost. lost ≡ Lost.Memory → IsTrue (state S.Store self.new.conn).is_open) }
         ensures left { HasCleanDisk (state S.Store self.new.conn) → (h : List Answered) → Holding h (state S.Store self.old.conn)
             → OnErr result (Leaves (λ db. Keeps h db ⊎ ((answer : Told) × Keeps (h ++ answered team.now key.now request.now answer ∷ []) db)) (state S.Store self.new.conn)) }

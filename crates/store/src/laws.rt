@@ -1,7 +1,9 @@
 //! Laws of tables that hold a history. Each is the contract of a function that does nothing.
-ghost use Rattle.store.specs.Laws.{HeldNetworksAreClear, HeldNumbersMeanOneThing};
+ghost use Rattle.store.specs.Laws.{HeldNetworksAreApart, HeldNetworksAreClear, HeldNumbersMeanOneThing};
 
-use office_history::{histories_leave_offices, numbers_keep_their_names, spns_are_given_once};
+use office_history::{
+    answers_are_apart, histories_leave_offices, numbers_keep_their_names, spns_are_given_once,
+};
 
 /// After every history that tables hold, no two live messages of a network have one identifier, no message has two
 /// signals that share a bit, and `message` has one row for each live message and no other.
@@ -19,4 +21,14 @@ pub fn held_numbers_mean_one_thing()
 {
     spns_are_given_once();
     numbers_keep_their_names();
+}
+
+/// After every history that tables hold, networks are apart: what the last arrival on a network was answered depends
+/// on the arrivals on that network alone, with what they were answered. So it may be answered the same where other
+/// tables hold the same arrivals on it, whatever they hold of other networks. This is so of each command but
+/// `take_spn` and a grant of suspect parameter numbers, which ask the book of the whole office.
+pub fn held_networks_are_apart()
+    ensures { HeldNetworksAreApart }
+{
+    answers_are_apart();
 }

@@ -8,7 +8,8 @@
 //! is one kept reply for each first arrival. The main theorem is the contract of [`Office::run`]
 //! (`specs/Headline.antt`): for every list of arrivals, the history that the tables held before, followed by the
 //! arrivals that were answered, in order and with their answers, is what they hold after. [`held_networks_are_clear`]
-//! says what then holds of each network.
+//! says what then holds of each network, [`held_numbers_mean_one_thing`] of numbers that were given out, and
+//! [`held_networks_are_apart`] of an answer after other histories.
 //!
 //! The other definitions are in `specs/`: `Holding.antt` (connections, and what a crash leaves, that hold a history),
 //! `Opening.antt`, `Running.antt`, `Looking.antt` and `Laws.antt` by the names of the modules,
@@ -25,7 +26,7 @@ mod question;
 mod running;
 mod stored_office;
 
-pub use laws::{held_networks_are_clear, held_numbers_mean_one_thing};
+pub use laws::{held_networks_are_apart, held_networks_are_clear, held_numbers_mean_one_thing};
 pub use lost::Lost;
 pub use office_history::{Answer, Arrival, Key, Request};
 pub use question::Question;

@@ -10,6 +10,7 @@ ghost use Rattle.office_history.specs.History.{Answered, IsLegal};
 ghost use Rattle.store.specs.Holding.{Holding, Keeps, Leaves};
 ghost use Rattle.store.specs.Holds.{Holds};
 ghost use Rattle.store.specs.Looking.{IsShown};
+ghost use Rattle.store.specs.Opening.{HasTables};
 
 use crate::losing::loss_by;
 use crate::lost::Lost;
@@ -58,6 +59,9 @@ fn ask<S: Alter>(
         → IfOk result (λ text. IsShown holding.keeps.holds.office question.now (option_map (λ bytes. bytes.items) text)) }
     ensures held { HasCleanDisk (state S.Store conn.new) → (h : List Answered) → Holding h (state S.Store conn.old) → OnOk result (Holding h (state S.Store conn.new)) }
     ensures lost { HasCleanDisk (state S.Store conn.new) → (h : List Answered) → Holding h (state S.Store conn.old) → IsTrue (state S.Store conn.new).is_open → OnErr result (Holding h (state S.Store conn.new)) }
+    ensures same { HasCleanDisk (state S.Store conn.new) → HasTables (state S.Store conn.old) → OnOk result (((state S.Store conn.new).now ≡ (state S.Store conn.old).now) × ((state S.Store conn.new).committed ≡ (state S.Store conn.old).committed)) }
+    ensures lost_same { HasCleanDisk (state S.Store conn.new) → HasTables (state S.Store conn.old) → IsTrue (state S.Store conn.new).is_open
+        → OnErr result (((state S.Store conn.new).now ≡ (state S.Store conn.old).now) × ((state S.Store conn.new).committed ≡ (state S.Store conn.old).committed)) }
     ensures left { HasCleanDisk (state S.Store conn.new) → (h : List Answered) → Holding h (state S.Store conn.old) → Leaves (Keeps h) (state S.Store conn.new) }
 {
     knows_schema(conn);
@@ -84,6 +88,9 @@ impl<S: Alter> Office<S> {
             → IfOk result (λ text. IsShown office question.now (option_map (λ bytes. bytes.items) text)) }
         ensures held { HasCleanDisk (state S.Store self.new.conn) → (h : List Answered) → Holding h (state S.Store self.old.conn) → OnOk result (Holding h (state S.Store self.new.conn)) }
         ensures lost { HasCleanDisk (state S.Store self.new.conn) → (h : List Answered) → Holding h (state S.Store self.old.conn) → IsTrue (state S.Store self.new.conn).is_open → OnErr result (Holding h (state S.Store self.new.conn)) }
+        ensures same { HasCleanDisk (state S.Store self.new.conn) → HasTables (state S.Store self.old.conn) → OnOk result (((state S.Store self.new.conn).now ≡ (state S.Store self.old.conn).now) × ((state S.Store self.new.conn).committed ≡ (state S.Store self.old.conn).committed)) }
+        ensures lost_same { HasCleanDisk (state S.Store self.new.conn) → HasTables (state S.Store self.old.conn) → IsTrue (state S.Store self.new.conn).is_open
+            → OnErr result (((state S.Store self.new.conn).now ≡ (state S.Store self.old.conn).now) × ((state S.Store self.new.conn).committed ≡ (state S.Store self.old.conn).committed)) }
         ensures memory { HasCleanDisk (state S.Store self.new.conn) → IfErr result (λ lost. lost ≡ Lost.Memory → IsTrue (state S.Store self.new.conn).is_open) }
         ensures left { HasCleanDisk (state S.Store self.new.conn) → (h : List Answered) → Holding h (state S.Store self.old.conn) → Leaves (Keeps h) (state S.Store self.new.conn) }
     {

@@ -125,6 +125,7 @@ fn make_ready<S: Alter>(conn: &mut Connection<S>) -> Result<(), Lost>
         → OnOk result (IsUnchanged (state S.Store conn.old) (state S.Store conn.new) × IsFirstProfile (tables_of (state S.Store conn.old).now.trees)) }
     ensures newer { HasCleanDisk (state S.Store conn.new) → (state S.Store conn.old).now.schema ≡ office_schema
         → IfErr result (λ lost. lost ≡ Lost.NewerProfile → ¬ IsFirstProfile (tables_of (state S.Store conn.old).now.trees)) }
+    ensures named { (state S.Store conn.old).now.schema ≡ no_schema → IfErr result (λ lost. lost ≢ Lost.NewerProfile) }
     ensures back { HasCleanDisk (state S.Store conn.new) → ((state S.Store conn.old).now.schema ≡ no_schema) ⊎ ((state S.Store conn.old).now.schema ≡ office_schema) → IsTrue (state S.Store conn.new).is_open
         → OnErr result ((state S.Store conn.new).committed ≡ (state S.Store conn.old).committed) }
     ensures new_survives { (state S.Store conn.old).now.schema ≡ no_schema → Survives (state S.Store conn.old) (state S.Store conn.new) (λ trees. (db : Database) × IsNew db × (trees ≡ db.trees)) }
@@ -154,7 +155,8 @@ impl<S: Alter> Office<S> {
         ensures first { IfOk result (λ office. HasCleanDisk (state S.Store office.conn) → HasTables (state S.Store conn) → IsFirstProfile (tables_of (state S.Store conn).now.trees)) }
         ensures held { IfOk result (λ office. HasCleanDisk (state S.Store office.conn) → (h : List Answered) → Holding h (state S.Store conn) → Holding h (state S.Store office.conn)) }
         ensures newer { IfErr result (λ lost. HasCleanDisk (state S.Store lost.1) → HasTables (state S.Store conn) → lost.0 ≡ Lost.NewerProfile → ¬ IsFirstProfile (tables_of (state S.Store conn).now.trees)) }
-        ensures back { IfErr result (λ lost. HasCleanDisk (state S.Store lost.1) → HasTables (state S.Store conn) → IsTrue (state S.Store lost.1).is_open → (state S.Store lost.1).committed ≡ (state S.Store conn).committed) }
+        ensures named { IfErr result (λ lost. HasNone (state S.Store conn) → lost.0 ≢ Lost.NewerProfile) }
+        ensures back { IfErr result (λ lost. HasCleanDisk (state S.Store lost.1) → HasTables (state S.Store conn) ⊎ HasNone (state S.Store conn) → IsTrue (state S.Store lost.1).is_open → (state S.Store lost.1).committed ≡ (state S.Store conn).committed) }
         ensures survives { HasTables (state S.Store conn) → MatchResult result (λ office. Survives (state S.Store conn) (state S.Store office.conn) (λ _. ⊥)) (λ lost. Survives (state S.Store conn) (state S.Store lost.1) (λ _. ⊥)) }
         ensures left { (h : List Answered) → Holding h (state S.Store conn)
             → MatchResult result (λ office. HasCleanDisk (state S.Store office.conn) → Leaves (Keeps h) (state S.Store office.conn)) (λ lost. HasCleanDisk (state S.Store lost.1) → Leaves (Keeps h) (state S.Store lost.1)) }

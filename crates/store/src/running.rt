@@ -1,11 +1,12 @@
 //! Lists of arrivals.
-ghost use Rattle.std.specs.Prelude.{◌≡◌, ◌≤◌, List, IfOk, OnErr};
+ghost use Rattle.std.specs.Prelude.{◌≡◌, ◌≤◌, List, All, IsTrue, IfOk, OnErr};
 ghost use Rattle.sqlite.specs.Held.{state};
 ghost use Rattle.sqlite.specs.State.{HasCleanDisk};
 ghost use Rattle.sqlite_trees.specs.View.{doubt};
 ghost use Rattle.office_history.specs.History.{Answered};
 ghost use Rattle.store.specs.Holding.{Holding};
 ghost use Rattle.store.specs.Headline.{HasRun};
+ghost use Rattle.store.specs.Running.{FailsBy, IsNotNewer};
 
 use crate::lost::Lost;
 use crate::stored_office::Office;
@@ -23,6 +24,9 @@ impl<S: Alter> Office<S> {
     ) -> Result<Vec<Result<Answer, Lost>>, AllocError>
         ensures ran { HasCleanDisk (state S.Store self.new.conn) → (h : List Answered) → Holding h (state S.Store self.old.conn)
             → IfOk result (λ results. HasRun h arrivals.now results.items self.new.failed (state S.Store self.new.conn)) }
+        ensures refused { IsTrue self.old.failed → self.new ≡ self.old }
+        ensures failed { IfOk result (λ results. FailsBy self.old.failed results.items self.new.failed) }
+        ensures named { IfOk result (λ results. All IsNotNewer results.items) }
         ensures clean { doubt (state S.Store self.old.conn).is_clean ≤ doubt (state S.Store self.new.conn).is_clean }
         ensures err { OnErr result (self.new ≡ self.old) }
     {

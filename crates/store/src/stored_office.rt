@@ -36,7 +36,7 @@ impl<S: Alter> Office<S> {
     }
 
     /// Does nothing. Its contract is a law: while the connection is open, a crash leaves what it shows.
-    pub(crate) fn leaves_now(&self)
+    pub fn leaves_now(&self)
         ensures { IsTrue (state S.Store self.now.conn).is_open → (db : Trees) → (state S.Store self.now.conn).may_leave db → db ≡ (state S.Store self.now.conn).now.trees }
     {
         leaves_committed(&self.conn);

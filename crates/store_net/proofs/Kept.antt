@@ -3,7 +3,8 @@ use Rattle.std.proofs.Common.{◌≡◌, ℕ, ◌&&◌, List, [], ◌∷◌, ◌
 use Rattle.std.specs.Prelude.{IsPermutation, slice_get}
 use Rattle.std.specs.Option.{option_to_list}
 use Rattle.std.specs.Str.{bytes_eq}
-use Rattle.std.proofs.lemmas.List.Sorted.{length_permutation}
+use Rattle.std.proofs.lemmas.List.Sorted.{length_permutation, IsPermutation-append, IsPermutation-refl, IsPermutation-sym, IsPermutation-trans}
+use Rattle.sqlite_trees.proofs.ListLemmas.{IsPermutation-filter}
 use Rattle.sqlite.specs.declared.types.Value.TheVariants.{Blob}
 use Rattle.sqlite.specs.Order.{Row, column}
 use Rattle.sqlite.proofs.Callers.{one_permutation}
@@ -23,16 +24,21 @@ use Rattle.store_net.specs.Kept.{AreKept, IsKept, ShowsKept, ShowsReply, kept_ro
 -- ---- how the rows go on with a history
 
 pub none_kept : AreKept [] []
-none_kept = tt
+none_kept = record { found = []; same = IsPermutation-refl []; each = tt }
 
 pub first_kept : (h : List Answered) (a : Answered) (reply : Reply) (rows : List Row) → first_of h a ≡ None → a.answer ≡ answer.Reply reply → AreKept h rows
     → AreKept (h ++ a ∷ []) (rows ++ kept_row a.team a.key a.content reply ∷ [])
 first_kept h a reply rows none told kept =
-    subst (λ l. AreShown IsKept l (rows ++ kept_row a.team a.key a.content reply ∷ [])) (sym (first_new h a none))
-    (last_shown IsKept a (kept_row a.team a.key a.content reply) (first_arrivals h) rows (reply, told, refl) kept)
+    let row = kept_row a.team a.key a.content reply in
+    record {
+      found = kept.found ++ row ∷ [];
+      same = IsPermutation-append rows kept.found (row ∷ []) (row ∷ []) kept.same (IsPermutation-refl (row ∷ []));
+      each = subst (λ l. AreShown IsKept l (kept.found ++ row ∷ [])) (sym (first_new h a none)) (last_shown IsKept a row (first_arrivals h) kept.found (reply, told, refl) kept.each);
+    }
 
 pub again_kept : (h : List Answered) (a first : Answered) (rows : List Row) → first_of h a ≡ Some first → AreKept h rows → AreKept (h ++ a ∷ []) rows
-again_kept h a first rows found kept = subst (λ l. AreShown IsKept l rows) (sym (first_again h a first found)) kept
+again_kept h a first rows found kept =
+    record { found = kept.found; same = kept.same; each = subst (λ l. AreShown IsKept l kept.found) (sym (first_again h a first found)) kept.each }
 
 -- ---- what the query of a pair's row shows
 
@@ -64,8 +70,10 @@ module _ (a : Answered) where
   pair_shown : (h : List Answered) (table rows : List Row) → AreKept h table → IsSelected (has_two_texts a.team a.key) reply_shown reply_order table rows
       → AreShown ShowsKept (option_to_list (first_of h a)) rows
   pair_shown h table rows kept sel =
-      let alone = subst (λ l. AreShown IsKept l (filter (has_two_texts a.team a.key) table)) (pair_alone a h) (filter_shown (has_pair a) (has_two_texts a.team a.key) wanted (first_arrivals h) table kept) in
-      subst (AreShown ShowsKept (option_to_list (first_of h a))) (sym sel.is) (alone_shown (first_of h a) (filter (has_two_texts a.team a.key) table) sel.found alone sel.same)
+      let asked = has_two_texts a.team a.key in
+      let alone = subst (λ l. AreShown IsKept l (filter asked kept.found)) (pair_alone a h) (filter_shown (has_pair a) asked wanted (first_arrivals h) kept.found kept.each) in
+      let same = IsPermutation-trans (filter asked kept.found) (filter asked table) sel.found (IsPermutation-sym (filter asked table) (filter asked kept.found) (IsPermutation-filter asked table kept.found kept.same)) sel.same in
+      subst (AreShown ShowsKept (option_to_list (first_of h a))) (sym sel.is) (alone_shown (first_of h a) (filter asked kept.found) sel.found alone same)
 
   -- where no row is shown, none of the pair came first
   pub not_kept : (h : List Answered) (team key : List ℕ) (table rows : List Row) → AreKept h table → IsSelected (has_two_texts team key) reply_shown reply_order table rows

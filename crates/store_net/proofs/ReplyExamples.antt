@@ -8,6 +8,7 @@ use Rattle.office_types.specs.declared.reply.Reply.TheVariants.{Counts, Number, 
 use Rattle.office_types.specs.declared.state.Net.{Net}
 use Rattle.office_types.specs.declared.state.Phase.TheVariants.{Draft}
 use Rattle.office_rules.specs.Opening.{bare_net}
+use Rattle.std.proofs.lemmas.List.Sorted.{IsPermutation-refl, IsPermutation-to_front}
 use Rattle.office_history.specs.declared.arrival.Answer.TheVariants as answer
 use Rattle.office_history.specs.History.{Answered}
 use Rattle.office_rules.proofs.Asking.{engine, takes}
@@ -34,7 +35,18 @@ asked = record { team = engine; key = codes "a1"; content = codes "take E1"; com
 
 -- a request that came twice has one row
 repeat_kept : AreKept (asked ∷ asked ∷ []) (kept_row engine (codes "a1") (codes "take E1") (Number 256) ∷ [])
-repeat_kept = ((Number 256, refl, refl), tt)
+repeat_kept = record { found = kept_row engine (codes "a1") (codes "take E1") (Number 256) ∷ []; same = IsPermutation-refl _; each = ((Number 256, refl, refl), tt) }
+
+-- the rows of two keys are kept in either order
+abbrev other : Answered
+other = record asked { key = codes "a2" }
+
+either_order : AreKept (asked ∷ other ∷ []) (kept_row engine (codes "a2") (codes "take E1") (Number 256) ∷ kept_row engine (codes "a1") (codes "take E1") (Number 256) ∷ [])
+either_order = record {
+  found = kept_row engine (codes "a1") (codes "take E1") (Number 256) ∷ kept_row engine (codes "a2") (codes "take E1") (Number 256) ∷ [];
+  same = IsPermutation-to_front (kept_row engine (codes "a2") (codes "take E1") (Number 256) ∷ []) (kept_row engine (codes "a1") (codes "take E1") (Number 256));
+  each = ((Number 256, refl, refl), ((Number 256, refl, refl), tt));
+}
 
 first_release : next_number None ≡ 1
 first_release = refl

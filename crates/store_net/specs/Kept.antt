@@ -1,5 +1,5 @@
 -- The rows of answered requests.
-use Rattle.std.specs.Prelude.{◌≡◌, ℕ, pos, List, [], ◌∷◌}
+use Rattle.std.specs.Prelude.{◌≡◌, ℕ, pos, List, [], ◌∷◌, IsPermutation}
 use Rattle.sqlite.specs.declared.types.Value.TheVariants.{Int, Text, Blob}
 use Rattle.sqlite.specs.Order.{Row, column}
 use Rattle.office_types.specs.Reply.{reply_numbers}
@@ -20,9 +20,11 @@ kept_row team key content reply = row_of_numbers team key content (reply_numbers
 abbrev pub IsKept : Answered → Row → Type 0
 IsKept a row = (reply : Reply) × (a.answer ≡ answer.Reply reply) × (row ≡ kept_row a.team a.key a.content reply)
 
--- the rows are those of the first arrivals, in order
-abbrev pub AreKept : List Answered → List Row → Type 0
-AreKept h rows = AreShown IsKept (first_arrivals h) rows
+-- the rows, whatever their order in the table, are those of the first arrivals
+pub record AreKept (h : List Answered) (rows : List Row) : Type 0 where
+  pub found : List Row
+  pub same : IsPermutation rows found
+  pub each : AreShown IsKept (first_arrivals h) found
 
 -- ---- what the query of a reply shows: content, kind, a, b, c
 

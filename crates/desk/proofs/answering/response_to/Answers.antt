@@ -1,8 +1,10 @@
 use Rattle.std.proofs.Common.{ℕ, Global, Vec, IfOk, OnErr, sym, subst}
 use Rattle.sqlite.specs.Held.{state}
-use Rattle.desk_call.specs.Call.{seen}
+use Rattle.desk_call.specs.Call.{fails, seen}
 use Rattle.desk_call.specs.declared.call.Call.{Call}
+use Rattle.desk_reply.specs.Response.{problem_response}
 use Rattle.desk.specs.Serving.{MayHaveTaken, Responds}
+use Rattle.desk.proofs.Responses.{fails_so, left_now, may_same, on_err, on_text}
 use Rattle.desk.proofs.answering.response_to.Goals as goal
 
 pub returns-in-Shows-clause-ok : goal.returns-in-Shows-clause-ok
@@ -20,3 +22,16 @@ returns-in-Arrives-clause-ok g c clean h holds =
 pub returns-in-Arrives-clause-err : goal.returns-in-Arrives-clause-err
 returns-in-Arrives-clause-err g c clean h holds =
     subst (λ (call : Call). OnErr c.arrived.result (MayHaveTaken h (seen call) (state g.S.Store c.arrived.new.office.conn))) (sym c.in-Arrives.is) (c.arrived.ensures.err clean h holds)
+
+pub returns-in-Fails-clause-ok : goal.returns-in-Fails-clause-ok
+returns-in-Fails-clause-ok g c clean h holds =
+    let s = state g.S.Store c.args.office.now.conn in
+    let problem = c.in-Fails.problem in
+    subst (λ (call : Call). IfOk c.problem_response.result (λ (v : Vec ℕ Global). Responds h (seen call) v.items s)) (sym c.in-Fails.is)
+    (on_text (λ (v : Vec ℕ Global). v.items) c.problem_response.result (problem_response problem) (λ t. Responds h (fails problem) t s) c.problem_response.ensures
+    (fails_so h problem s holds (left_now h s c.leaves_now.ensures holds)))
+
+pub returns-in-Fails-clause-err : goal.returns-in-Fails-clause-err
+returns-in-Fails-clause-err g c clean h holds =
+    let s = state g.S.Store c.args.office.now.conn in
+    on_err c.problem_response.result (MayHaveTaken h (seen c.args.call) s) (may_same h (seen c.args.call) s holds (left_now h s c.leaves_now.ensures holds))

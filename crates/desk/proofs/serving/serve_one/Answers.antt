@@ -1,11 +1,11 @@
-use Rattle.std.proofs.Common.{◌∙◌, ℕ, List, inr, sym, subst}
+use Rattle.std.proofs.Common.{◌∙◌, ℕ, List, inl, inr, sym, subst}
 use Rattle.std.specs.Io.KnownBytes.{Appends}
 use Rattle.sqlite.specs.Held.{state}
 use Rattle.desk_types.specs.Moved.{AppendsFront}
 use Rattle.desk_types.specs.declared.fault.DeskFault.TheVariants.{Write}
 use Rattle.desk_call.specs.Call.{seen}
 use Rattle.desk.specs.Serving.{HasRefused, HasServed, Responds}
-use Rattle.desk.proofs.Responses.{err_of, on_ok}
+use Rattle.desk.proofs.Responses.{err_of, left_now, on_ok}
 use Rattle.desk.proofs.serving.serve_one.Goals as goal
 
 pub returns-in_default-clause-memory : goal.returns-in_default-clause-memory
@@ -53,3 +53,7 @@ returns-clause-failed_write g c failed is_write =
     let refusal = c.deref.ensures.value ∙ c.in-Ok.ensures.failed failed in
     let front = err_of c.put_all.result Write (AppendsFront (told c.args.sink.now) (told c.put_all.new.sink) c.deref.result.now) is_write c.put_all.ensures.front in
     (asked, c.in_ok-call.ensures.ok, subst (AppendsFront (told c.args.sink.now) (told c.put_all.new.sink)) refusal front)
+
+pub returns-in_err-call-clause-memory : goal.returns-in_err-call-clause-memory
+returns-in_err-call-clause-memory g c clean h holds is_memory =
+    inl (holds, left_now h (state g.S.Store c.args.office.now.conn) c.leaves_now.ensures holds)

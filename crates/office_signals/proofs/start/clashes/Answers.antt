@@ -1,18 +1,15 @@
-use Rattle.std.proofs.Common.{◌≡◌, ◌↔◌, true, None, sym, ap, subst, ◌∙◌}
-use Rattle.bitlayout.specs.Clash.{first_clash_among}
-use Rattle.office_signals.specs.Together.{fits}
-use Rattle.office_signals.proofs.Starting.{clash_if_fits, clash_if_unfit}
+use Rattle.std.proofs.Common.{List, ◌∙◌, ap, sym}
+use Rattle.std.specs.Option.{is_some}
+use Rattle.bitlayout.specs.Clash.{first_clash_of}
+use Rattle.bitlayout.specs.declared.place.Place.{Place}
+use Rattle.catalogue.specs.Signals.{places_of}
+use Rattle.office_signals.proofs.Reordered.{added_reordered}
 use Rattle.office_signals.proofs.start.clashes.Goals as goal
-
-pub returns-then-not-fits : goal.returns-then-not-fits
-returns-then-not-fits c =
-    let places = c.args.places.now in
-    let unfit = ap (fits places c.args.length) (sym c.place_at.ensures) ∙ sym c.fits.ensures ∙ c.if-not-fits.true in
-    sym (clash_if_unfit places c.args.length c.args.command.now c.requires c.args.start unfit)
 
 pub returns : goal.returns
 returns c =
-    let places = c.args.places.now in
-    let fit = ap (fits places c.args.length) (sym c.place_at.ensures) ∙ sym c.fits.ensures ∙ c.if-not-fits.false in
-    let clear = subst (λ m. (c.in_ok-clear.clear ≡ true) ↔ (first_clash_among c.args.length m places ≡ None)) c.multiplexes.ensures c.in_ok-clear.ensures in
-    clash_if_fits places c.args.length c.args.command.now c.requires c.args.start c.in_ok-clear.clear clear fit
+    let message = c.args.message.now in
+    let all = c.deref.ensures.value ∙ c.in_ok-push.ensures.items in
+    c.is_some.ensures ∙ ap is_some (c.first_clash.ensures.computed ∙ ap (first_clash_of c.deref.result.now) c.bytes.ensures.value)
+    ∙ ap (λ (ps : List Place). is_some (first_clash_of ps message.length)) all
+    ∙ sym (added_reordered (places_of message.signals) _ c.in_ok-places.ensures.same message.length c.args.place)

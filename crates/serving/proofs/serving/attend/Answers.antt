@@ -1,8 +1,8 @@
 use Rattle.std.proofs.Common.{ℕ, List, [], ◌∷◌, Option, refl, sym, ap, subst}
 use Rattle.sqlite.specs.Held.{state}
 use Rattle.store.specs.Holding.{Holding}
-use Rattle.serving.specs.Serving.{Came, DeclinesBy, Ending, Ends, Visit, fault_of}
-use Rattle.serving.proofs.Visits.{LedTo, caused, declined, ending_told, led, legal_of, one_came, one_ended, written_is}
+use Rattle.serving.specs.Serving.{Came, DeclinesBy, Ending, Ends, LedTo, Visit, fault_of}
+use Rattle.serving.proofs.Visits.{caused, declined, ending_told, led, legal_of, one_came, one_ended, ranged_of, written_is}
 use Rattle.serving.proofs.serving.attend.Goals as goal
 
 pub returns-clause-served : goal.returns-clause-served
@@ -36,6 +36,7 @@ returns-clause-served g c =
             unread = one.read;
             read_failed = one.read_failed;
             write_failed = one.write_failed;
+            lacking = one.memory_counts;
           }),
       λ is. subst (λ (o : Option (List ℕ)). DeclinesBy fault sent o) is_written (declined c.serve_one-ended.result before sent first last accepted.starts (record {
         whole = one.failed is;
@@ -43,7 +44,7 @@ returns-clause-served g c =
         unread = λ is. ap told (one.read_kept is).1;
         lacking = λ is. ap told (one.memory_kept is);
       })),
-      λ clean h holding. subst (λ (o : Option (List ℕ)). LedTo h fault sent o s) is_written (led c.serve_one-ended.result h before sent first last s accepted.starts (legal_of h _ holding) (record {
+      λ clean h holding. subst (λ (o : Option (List ℕ)). LedTo h fault sent o s) is_written (led c.serve_one-ended.result h before sent first last s c.leaves_now.ensures accepted.starts (legal_of h _ holding) (ranged_of h _ holding) (record {
         whole = one.served clean h holding;
         unread = λ is. (subst (λ o. Holding h (state g.S.Store o.conn)) (sym (one.read_kept is).0) holding, ap told (one.read_kept is).1);
         unwritten = one.write clean h holding;

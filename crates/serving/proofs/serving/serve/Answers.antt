@@ -3,14 +3,15 @@ use Rattle.sqlite.specs.Held.{state}
 use Rattle.sqlite.specs.State.{HasCleanDisk}
 use Rattle.std.specs.Prelude.{IsTrue}
 use Rattle.std.proofs.lemmas.List.Elements.{All-nil, All-push}
-use Rattle.serving.specs.Serving.{Came, Ended, Ending, FailsOnce, HasCause, NoneComes, Ran}
-use Rattle.serving.proofs.Turns.{came_none, came_then, declined_none, declined_then, ended_none, ended_then, fails_then, ran_none, ran_then}
+use Rattle.serving.specs.Serving.{Came, Ended, Ending, FailsOnce, HasCause, NoneComes, Ran, SaysFailure}
+use Rattle.serving.proofs.Turns.{came_none, came_then, declined_none, declined_then, ended_none, ended_then, fails_then, ran_none, ran_then, says_nothing, says_then}
 use Rattle.serving.proofs.serving.serve.Goals as goal
 
 pub loop-served-init : goal.loop-served-init
 loop-served-init g c = record {
   clean = omega arith;
-  so_far = ([], refl, came_none _, ended_none _, All-nil HasCause, refl, declined_none, λ clean h holding. ran_none h _ _ holding);
+  said = says_nothing c.args.office.now.failed (g.E.Write.contents c.args.errors.now);
+  so_far = ([], refl, came_none _, ended_none _, All-nil HasCause, refl, declined_none, λ clean h holding. ran_none h _ _ c.leaves_now.ensures holding);
 }
 
 pub loop-served-preserved : goal.loop-served-preserved
@@ -23,6 +24,8 @@ loop-served-preserved g c =
     let now = state g.S.Store c.attend.new.office.conn in
     record {
       clean = let early = i.clean in omega (arith, early, a.clean);
+      said = says_then c.args.office.now.failed c.loop-served.office.failed c.attend.new.office.failed w.0 _ _ _ w.5 i.said
+          (rw (← c.is_failed-had_failed.ensures) (rw (← c.is_failed.ensures) c.say_failure.ensures)) (λ is. subst IsTrue (sym (ap (λ o. o.failed) (a.refused is))) is);
       so_far = (
         w.0 ++ one.0 ∷ [],
         let all = length-append w.0 (one.0 ∷ []) in let n = w.1 in omega (arith, all, n),
@@ -41,6 +44,11 @@ loop-served-preserved g c =
             }) (w.7 early h holding),
       );
     }
+
+pub returns-in-Err-clause-said : goal.returns-in-Err-clause-said
+returns-in-Err-clause-said g c =
+    let told = g.E.Write.contents in
+    subst (λ o. SaysFailure c.args.office.now.failed o.failed (told c.args.errors.now) (told c.loop-served.errors)) (sym c.in-Err.ensures.kept) c.loop-served.invariant.said
 
 pub returns-in-Err-clause-served : goal.returns-in-Err-clause-served
 returns-in-Err-clause-served g c =

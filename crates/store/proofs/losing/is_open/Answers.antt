@@ -17,6 +17,10 @@ pub returns-clause-was_open : goal.returns-clause-was_open
 returns-clause-was_open g c clean is_open =
     (prepared_keeps _ _ (state g.S.Store c.args.conn.now) (state g.S.Store c.prepare-prepared.new.self) c.prepare-prepared.result (c.prepare-prepared.ensures.ok clean) (c.prepare-prepared.ensures.err clean)).was_open is_open
 
+pub returns-clause-committed : goal.returns-clause-committed
+returns-clause-committed g c clean is_open =
+    (prepared_keeps _ _ (state g.S.Store c.args.conn.now) (state g.S.Store c.prepare-prepared.new.self) c.prepare-prepared.result (c.prepare-prepared.ensures.ok clean) (c.prepare-prepared.ensures.err clean)).committed is_open
+
 pub returns-clause-same : goal.returns-clause-same
 returns-clause-same g c clean is_open =
     let keeps = prepared_keeps _ _ (state g.S.Store c.args.conn.now) (state g.S.Store c.prepare-prepared.new.self) c.prepare-prepared.result (c.prepare-prepared.ensures.ok clean) (c.prepare-prepared.ensures.err clean) in

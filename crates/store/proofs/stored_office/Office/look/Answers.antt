@@ -1,4 +1,4 @@
-use Rattle.std.proofs.Common.{◌≡◌, ℕ, Global, Vec, inl, inr, refl, sym, subst, arith}
+use Rattle.std.proofs.Common.{◌≡◌, ℕ, Global, Vec, inl, inr, refl, sym, subst, ◌∙◌, arith}
 use Rattle.std.specs.Option.{option_map}
 use Rattle.sqlite.specs.Effect.{Database}
 use Rattle.sqlite.specs.Held.{state}
@@ -7,6 +7,7 @@ use Rattle.office_types.specs.declared.state.Office.{Office}
 use Rattle.store.specs.Holding.{Holding, Keeps}
 use Rattle.store.specs.Looking.{IsShown}
 use Rattle.store.specs.Office.{StoredOffice}
+use Rattle.store.specs.Opening.{HasTables}
 use Rattle.store.proofs.stored_office.Office.look.Goals as goal
 
 pub returns-in-Ok-clause-shown : goal.returns-in-Ok-clause-shown
@@ -33,3 +34,12 @@ returns-in-Err-clause-left g c clean h holds db left =
     let before : HasCleanDisk (state g.S.Store c.ask.new.conn) = omega (arith, c.loss_by-lost.ensures.survives.clean, clean) in
     let begun = subst (λ (o : StoredOffice _). Holding h (state g.S.Store o.conn)) (sym c.self.view_is) holds in
     elim (c.loss_by-lost.ensures.survives.crash clean db left) [ inl was ↦ c.in-Err.ensures.left before h begun db was | inr none ↦ absurd none ]
+
+pub returns-in-Err-clause-lost_same : goal.returns-in-Err-clause-lost_same
+returns-in-Err-clause-lost_same g c clean tables is_open =
+    let now = state g.S.Store c.loss_by-lost.new.conn in
+    let before : HasCleanDisk (state g.S.Store c.ask.new.conn) = omega (arith, c.loss_by-lost.ensures.survives.clean, clean) in
+    let begun = subst (λ (o : StoredOffice _). HasTables (state g.S.Store o.conn)) (sym c.self.view_is) tables in
+    let same = c.in-Err.ensures.lost_same before begun (c.loss_by-lost.ensures.was_open clean is_open) in
+    subst (λ (o : StoredOffice _). (now.now ≡ (state g.S.Store o.conn).now) × (now.committed ≡ (state g.S.Store o.conn).committed)) c.self.view_is
+    (c.loss_by-lost.ensures.same clean is_open ∙ same.0, c.loss_by-lost.ensures.committed clean is_open ∙ same.1)

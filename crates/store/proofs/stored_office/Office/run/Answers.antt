@@ -1,10 +1,13 @@
-use Rattle.std.proofs.Common.{◌≡◌, ◌+◌, ◌<◌, ◌++◌, ◌∷◌, [], length, take, sym, subst, arith, take_all}
+use Rattle.std.proofs.Common.{◌≡◌, ◌+◌, ◌<◌, ◌++◌, ◌∷◌, [], length, take, refl, sym, ap, subst, ◌∙◌, arith, take_all}
+use Rattle.std.specs.Prelude.{All, IsTrue}
 use Rattle.std.proofs.lemmas.List.{take_more}
+use Rattle.std.proofs.lemmas.List.Elements.{All-nil}
 use Rattle.sqlite.specs.Held.{state}
 use Rattle.sqlite.specs.State.{HasCleanDisk}
 use Rattle.store.specs.Holding.{Keeps}
 use Rattle.store.specs.Headline.{HasRun}
-use Rattle.store.proofs.Ran.{run_more, run_none}
+use Rattle.store.specs.Running.{FailsBy, IsNotNewer}
+use Rattle.store.proofs.Ran.{fails_more, named_more, run_more, run_none}
 use Rattle.store.proofs.stored_office.Office.run.Goals as goal
 
 pub loop-arrival-preserved : goal.loop-arrival-preserved
@@ -22,6 +25,10 @@ loop-arrival-preserved g c =
     record {
       len = let len = i.len in let more = c.push_reserved.ensures.len in omega (arith, len, more);
       room = let room = i.room in let same = c.push_reserved.ensures.capacity in omega (arith, room, same);
+      refused = λ was. arrive.refused (subst IsTrue (ap (λ o. o.failed) (sym (i.refused was))) was) ∙ i.refused was;
+      failed = subst (λ l. FailsBy c.args.self.now.failed l c.arrive-answered.new.self.failed) (sym c.push_reserved.ensures.items)
+          (fails_more _ c.loop-arrival.self.failed _ c.loop-arrival.results.items c.arrive-answered.result i.failed arrive.failed (λ was. subst IsTrue (ap (λ o. o.failed) (sym (arrive.refused was))) was));
+      named = subst (All IsNotNewer) (sym c.push_reserved.ensures.items) (named_more c.loop-arrival.results.items c.arrive-answered.result i.named arrive.named);
       clean = let early = i.clean in omega (arith, early, arrive.clean);
       ran = λ clean h holding.
           let early : HasCleanDisk mid = omega (arith, arrive.clean, clean) in
@@ -47,6 +54,9 @@ loop-arrival-init g c =
     record {
       len = c.in_ok-results.ensures.len;
       room = let room = c.in_ok-results.ensures.capacity in omega (arith, room);
+      refused = λ was. refl;
+      failed = subst (λ l. FailsBy c.args.self.now.failed l c.args.self.now.failed) (sym c.in_ok-results.ensures.items) refl;
+      named = subst (All IsNotNewer) (sym c.in_ok-results.ensures.items) (All-nil IsNotNewer);
       clean = omega arith;
       ran = λ clean h holding.
           subst (λ l. HasRun h [] l c.args.self.now.failed old) (sym c.in_ok-results.ensures.items)

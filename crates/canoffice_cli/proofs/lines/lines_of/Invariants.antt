@@ -1,6 +1,0 @@
-use Rattle.std.proofs.Common.{◌≡◌, ◌++◌, drop, string_bytes}
-use Rattle.std.specs.List.{flat_map}
-use Rattle.canoffice_cli.proofs.lines.lines_of.Given as goal
-
-abbrev pub invariant-loop-value : goal.invariant-loop-value
-invariant-loop-value g l = string_bytes l.text ++ flat_map g.T.Line.line (drop l.value-index l.values) ≡ flat_map g.T.Line.line l.values

@@ -3,7 +3,8 @@ ghost use Rattle.std.specs.Prelude.{◌≡◌, Err, IfOk, IsFalse, IsOk, IsTrue,
 ghost use Rattle.sqlite.specs.Files.{file_state};
 
 use canoffice_cli::{
-    Answers, Databases, Progress, ServeEnd, answer_on, look_on, lost_at_once, told_and_closed,
+    Answers, Databases, Progress, ServeEnd, answer_on, look_on, lost_at_once, migrate_on,
+    told_and_closed,
 };
 use office_history::Arrival;
 use serving::{ServeFault, listen, serve};
@@ -126,6 +127,19 @@ impl Databases for HostDatabases<'_> {
         let text = shown?;
         closed?;
         Ok(text)
+    }
+
+    fn migrate<W: Write>(
+        &mut self,
+        alloc: Global,
+        path: &str,
+        progress: &mut Progress<W>,
+    ) -> Result<(), Lost> {
+        let conn = opened(self.rt, path)?;
+        let (done, conn) = migrate_on(alloc, conn, progress);
+        let closed = closed(conn);
+        done?;
+        closed
     }
 
     fn serve(&mut self, _alloc: Global, path: &str, port: u16, count: u32) -> Result<(), ServeEnd> {

@@ -12,7 +12,7 @@ use Rattle.office_script.specs.declared.keys.Dash.{Dash}
 use Rattle.office_script.specs.declared.script.ScriptFault.{ScriptFault}
 use Rattle.office_script.specs.declared.script.ScriptFault.TheVariants.{BadLine, Unreadable, Memory}
 use Rattle.store.specs.declared.lost.Lost.{Lost}
-use Rattle.canoffice_cli.specs.Answered.{AreAnswered, answered_with, answers_outcome}
+use Rattle.canoffice_cli.specs.Answered.{answered_with, answers_outcome}
 use Rattle.canoffice_cli.specs.Applied.{IsScriptOutcome, Reports}
 use Rattle.canoffice_cli.specs.Outcome.{outcome_of}
 use Rattle.canoffice_cli.specs.declared.report.Report.{Report}

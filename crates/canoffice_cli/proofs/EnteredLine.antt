@@ -54,21 +54,25 @@ own_entered s called rest (inr (inr (inr (inr (inl same))))) answers no_help pas
     let file = needed s rest (codes "FILE") passes (ap (λ x. needs_value x.rules (codes "FILE")) same) in
     subst (λ n. IsEntered (Some (n, rows_after s.rules [] rest))) (sym name) ((λ never. absurd (true≢false (sym never))), ((λ _. file), tt))
 own_entered s called rest (inr (inr (inr (inr (inr (inl same)))))) answers no_help passes =
+    let name : s.name ≡ codes "migrate" = ap (λ x. x.name) same in
+    let database = needed s rest (codes "db") passes (ap (λ x. needs_value x.rules (codes "db")) same) in
+    subst (λ n. IsEntered (Some (n, rows_after s.rules [] rest))) (sym name) ((λ _. database), tt)
+own_entered s called rest (inr (inr (inr (inr (inr (inr (inl same))))))) answers no_help passes =
     let name : s.name ≡ codes "serve" = ap (λ x. x.name) same in
     let database = needed s rest (codes "db") passes (ap (λ x. needs_value x.rules (codes "db")) same) in
     subst (λ n. IsEntered (Some (n, rows_after s.rules [] rest))) (sym name) ((λ _. database), ((λ never. absurd (true≢false (sym never))), ((λ never. absurd (true≢false (sym never))), tt)))
-own_entered s called rest (inr (inr (inr (inr (inr (inr (inl same))))))) answers no_help passes =
+own_entered s called rest (inr (inr (inr (inr (inr (inr (inr (inl same)))))))) answers no_help passes =
     let name : s.name ≡ codes "table" = ap (λ x. x.name) same in
     let file = needed s rest (codes "FILE") passes (ap (λ x. needs_value x.rules (codes "FILE")) same) in
     subst (λ n. IsEntered (Some (n, rows_after s.rules [] rest))) (sym name) ((λ _. file), tt)
-own_entered s called rest (inr (inr (inr (inr (inr (inr (inr (inl same)))))))) answers no_help passes =
+own_entered s called rest (inr (inr (inr (inr (inr (inr (inr (inr (inl same))))))))) answers no_help passes =
     let called_help = help_called called (subst (λ (x : Shape). answers_to called (label_of x) ≡ true) same answers) in
     absurd (true≢false (sym called_help ∙ and_true _ no_help))
   where
     and_true : (b : Bool) → (b && true) ≡ false → b ≡ false
     and_true true e = e
     and_true false e = refl
-own_entered s called rest (inr (inr (inr (inr (inr (inr (inr (inr none)))))))) answers no_help passes = absurd none
+own_entered s called rest (inr (inr (inr (inr (inr (inr (inr (inr (inr none))))))))) answers no_help passes = absurd none
 
 pub line_is_entered : (words : List Text) → line_faults words ≡ [] → IsEntered (subcommand_of canoffice_app words)
 line_is_entered words e =

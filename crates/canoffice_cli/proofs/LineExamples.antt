@@ -83,6 +83,14 @@ an_export : line_faults (codes "canoffice" ∷ codes "export" ∷ codes "--db" �
 unfolding clap_on_literals
 an_export = refl
 
+migrate_no_database : line_faults (codes "canoffice" ∷ codes "migrate" ∷ []) ≡ MissingRequiredArgument ∷ []
+unfolding clap_on_literals
+migrate_no_database = refl
+
+a_migrate : line_faults (codes "canoffice" ∷ codes "migrate" ∷ codes "--db" ∷ codes "office.db" ∷ []) ≡ []
+unfolding clap_on_literals
+a_migrate = refl
+
 serve_no_database : line_faults (codes "canoffice" ∷ codes "serve" ∷ codes "--port" ∷ codes "8080" ∷ []) ≡ MissingRequiredArgument ∷ []
 unfolding clap_on_literals
 serve_no_database = refl

@@ -1,7 +1,8 @@
 -- A database that was opened, used and closed.
 use Rattle.std.proofs.Common.{◌≡◌, ◌⊎◌, ◌≤◌, inl, inr, List, ℕ, [], ◌++◌, Option, Result, Ok, Err, refl, sym, ap, subst, ◌∙◌, arith, append-nil}
-use Rattle.std.specs.Prelude.{IfOk, IsSome, IsTrue, OnErr, OnOk}
+use Rattle.std.specs.Prelude.{IfOk, IsSome, IsTrue, OnErr, OnOk, ⊤}
 use Rattle.std.specs.Result.{result_map_both}
+use Rattle.std.proofs.lemmas.Result.{on_err_weaker, on_ok_weaker}
 use Rattle.sqlite.specs.State.{HasCleanDisk, State}
 use Rattle.sqlite_trees.specs.View.{doubt}
 use Rattle.office_types.specs.declared.state.Office.{Office}
@@ -10,14 +11,15 @@ use Rattle.store.specs.declared.lost.Lost.{Lost}
 use Rattle.store.specs.declared.question.Question.{Question}
 use Rattle.store.specs.Holding.{Holding}
 use Rattle.store.specs.Looking.{IsShown}
-use Rattle.store.specs.Opening.{HasNone}
+use Rattle.store.specs.Opening.{HasNone, HoldingInSomeForm}
 use Rattle.canoffice_cli.specs.Answered.{InDatabase}
 use Rattle.canoffice_cli.specs.Databases.{AreKept, Begins, Databases, nothing_known}
 use Rattle.canoffice_cli.specs.Exported.{IsLookedUp}
+use Rattle.canoffice_cli.specs.Migrated.{IsMigrated}
 
 -- what is known stays known where nothing is done
 pub kept_same : (known : Databases) → AreKept known known
-kept_same known = record { holds = λ path h holds. holds; is_new = λ path new. new }
+kept_same known = record { holds = λ path h holds. holds; holds_in_form = λ path h holds. holds; is_new = λ path new. new }
 
 pub ok_of : {A E : Type 0} (P : A → Type 0) (r : Result A E) (x : A) → r ≡ Ok x → IfOk r P → P x
 ok_of P r x is h = subst (λ q. IfOk q P) is h
@@ -91,6 +93,20 @@ module _ (before after : Databases) (path : List ℕ) (begin end : State) (opene
       → IsLookedUp before after path question (result_map_both text_of (λ lost. lost) shown)
   looked text_of question (Ok x) shows held begun = looked_up question (text_of x) shows begun
   looked text_of question (Err lost) shows held begun = looked_lost question lost held
+
+  -- the tables were made those of this version, or were left
+  pub migrated_at : (HasCleanDisk begin → (h : List Answered) → before.holds_in_form path h → HoldingInSomeForm h begin)
+      → (after.is_sound → (h : List Answered) → HoldingInSomeForm h end → after.holds_in_form path h) → (done : Result ⊤ Lost)
+      → (HasCleanDisk end → (h : List Answered) → HoldingInSomeForm h begin → OnOk done (Holding h end))
+      → (HasCleanDisk end → IsTrue end.is_open → (h : List Answered) → HoldingInSomeForm h begin → OnErr done (HoldingInSomeForm h end))
+      → (HasCleanDisk end → IsTrue end.is_open → (h : List Answered) → Holding h begin → Holding h end) → (HasCleanDisk end → HasNone begin → OnOk done (Holding [] end))
+      → IsMigrated before after path done
+  migrated_at opened_form closed_form done carried left held made = record {
+    carried = λ h holds sound. on_ok_weaker done (closed_held sound h) (carried (closed_sound sound).0 h (opened_form (early sound) h holds));
+    left = λ h holds sound. let s = closed_sound sound in on_err_weaker done (closed_form sound h) (left s.0 s.1 h (opened_form (early sound) h holds));
+    held = λ h holds sound. let s = closed_sound sound in closed_held sound h (held s.0 s.1 h (opened_held (early sound) h holds));
+    made = λ new sound. on_ok_weaker done (closed_held sound []) (made (closed_sound sound).0 (opened_none (early sound) new));
+  }
 
 -- a database that was not opened
 pub not_opened : (known : Databases) (path : List ℕ) (question : Question) (lost : Lost) → IsLookedUp known known path question (Err lost)

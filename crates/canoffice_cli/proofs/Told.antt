@@ -1,17 +1,17 @@
 -- Arrivals with their answers, and the histories that go on with them.
-use Rattle.std.proofs.Common.{◌≡◌, ◌⊎◌, ◌+◌, ◌≤◌, ◌<◌, ℕ, zero, suc, inl, inr, List, [], ◌∷◌, ◌++◌, length, take, map, Option, Some, None, Ok, refl, sym, ap, subst, ◌∙◌, arith, append_assoc, append-nil}
-use Rattle.std.specs.Prelude.{IsSome, IsTrue}
+use Rattle.std.proofs.Common.{◌≡◌, ◌+◌, ◌≤◌, ◌<◌, ℕ, zero, suc, inl, inr, List, [], ◌∷◌, ◌++◌, length, take, refl, sym, ap, subst, ◌∙◌, arith, append_assoc, append-nil}
+use Rattle.std.specs.Prelude.{IsTrue}
 use Rattle.sqlite.specs.State.{State}
 use Rattle.office_history.specs.Answering.{told}
 use Rattle.office_history.specs.declared.arrival.Answer.{Answer}
 use Rattle.office_history.specs.declared.arrival.Arrival.{Arrival}
-use Rattle.office_history.specs.History.{Answered, IsLegal, IsLegalHistory}
+use Rattle.office_history.specs.History.{Answered, IsLegalHistory}
 use Rattle.office_history.specs.Laws.{HistoriesGrow}
-use Rattle.store.specs.declared.lost.Lost.{Lost}
 use Rattle.store.specs.Holding.{Holding, Keeps}
-use Rattle.store.specs.Opening.{HasNone, HasTables}
-use Rattle.canoffice_cli.specs.Answered.{InDatabase, answered_with}
-use Rattle.canoffice_cli.specs.Databases.{Begins, Databases}
+use Rattle.store.specs.Opening.{HasNone, HasOffice, HoldingInSomeForm, KeepsInSomeForm}
+use Rattle.store.proofs.InForm.{has_office, office_in_form}
+use Rattle.canoffice_cli.specs.Answered.{answered_with}
+use Rattle.canoffice_cli.specs.Databases.{Begins}
 
 -- one more arrival, with its answer
 told_more : (xs : List Arrival) (ys : List Answer) (a : Arrival) (answer : Answer) → length ys ≡ length xs → answered_with (xs ++ a ∷ []) (ys ++ answer ∷ []) ≡ answered_with xs ys ++ told a answer ∷ []
@@ -47,7 +47,7 @@ history_at_first h xs ys none = sym (ap (λ l. h ++ l) (ap (answered_with xs) no
 
 -- what tables hold is a legal history
 pub held_is_legal : (h : List Answered) (s : State) → Holding h s → IsLegalHistory h
-held_is_legal h s holding = (holding.keeps.holds.office, holding.keeps.holds.legal)
+held_is_legal h s holding = (holding.keeps.holds.holds.office, holding.keeps.holds.holds.legal)
 
 -- the history with which an office begins is a legal one
 pub begun_is_legal : HistoriesGrow → (h : List Answered) (s : State) → Begins h s → IsLegalHistory h
@@ -61,11 +61,17 @@ begins_held old new made held h (inr none) = subst (λ k. Holding k new) (sym no
 
 -- where opening is lost, what was last committed is shown still
 pub still_held : (old new : State) → (IsTrue old.is_open → old.now ≡ old.committed) → (IsTrue new.is_open → new.now ≡ new.committed)
-    → (HasTables old → IsTrue new.is_open → new.committed ≡ old.committed) → IsTrue new.is_open → (h : List Answered) → Holding h old → Holding h new
+    → (HasOffice old → IsTrue new.is_open → new.committed ≡ old.committed) → IsTrue new.is_open → (h : List Answered) → Holding h old → Holding h new
 still_held old new settled_old settled_new back opened h holding =
-    let tables : HasTables old = record { is_open = holding.is_open; office = holding.keeps.office } in
-    let same : new.now ≡ old.now = settled_new opened ∙ back tables opened ∙ sym (settled_old holding.is_open) in
+    let office : HasOffice old = has_office old (record { is_open = holding.is_open; office = holding.keeps.office }) in
+    let same : new.now ≡ old.now = settled_new opened ∙ back office opened ∙ sym (settled_old holding.is_open) in
     record { is_open = opened; keeps = subst (λ db. Keeps h db.trees) (sym same) holding.keeps }
+
+pub still_in_form : (old new : State) → (IsTrue old.is_open → old.now ≡ old.committed) → (IsTrue new.is_open → new.now ≡ new.committed)
+    → (HasOffice old → IsTrue new.is_open → new.committed ≡ old.committed) → IsTrue new.is_open → (h : List Answered) → HoldingInSomeForm h old → HoldingInSomeForm h new
+still_in_form old new settled_old settled_new back opened h holding =
+    let same : new.now ≡ old.now = settled_new opened ∙ back (office_in_form h old holding) opened ∙ sym (settled_old holding.is_open) in
+    record { is_open = opened; keeps = subst (λ db. KeepsInSomeForm h db.trees) (sym same) holding.keeps }
 
 length_first : (k : ℕ) (xs : List Arrival) → k ≤ length xs → length (take k xs) ≡ k
 length_first zero xs within = refl

@@ -18,7 +18,7 @@ use Rattle.canoffice_cli.specs.Outcome.{Outcome, unreadable, wrong_line}
 -- can't be read, and its path is printed.
 abbrev pub IsAmiss : Files → Dash → List ℕ → Outcome → Type 0
 IsAmiss files dash script o =
-    ((number : ℕ) × IsFirstAmiss files dash (IsWrong dash) (lines_of script) number × (o ≡ wrong_line number))
+    ((number : ℕ) × IsFirstAmiss files dash (IsWrong files dash) (lines_of script) number × (o ≡ wrong_line number))
     ⊎ ((path : List ℕ) × (number : ℕ) × IsFirstAmiss files dash (NamesUnreadable files dash path) (lines_of script) number × (o ≡ unreadable path))
 
 -- what is reported of a fault; out of memory has a report of its own

@@ -10,7 +10,7 @@ use Rattle.clap.specs.declared.error.kind.ErrorKind.{ErrorKind}
 use Rattle.clap.specs.declared.error.kind.ErrorKind.TheVariants.{DisplayHelp, DisplayVersion, OutOfMemory}
 use Rattle.chart.specs.Word.{length_of}
 use Rattle.canoffice_cli.specs.declared.job.Job.{Job}
-use Rattle.canoffice_cli.specs.declared.job.Job.TheVariants.{Apply, Chart, Check, Export, Format, Serve, Table}
+use Rattle.canoffice_cli.specs.declared.job.Job.TheVariants.{Apply, Chart, Check, Export, Format, Migrate, Serve, Table}
 use Rattle.canoffice_cli.specs.declared.job.LineFault.{LineFault}
 use Rattle.canoffice_cli.specs.declared.job.LineFault.TheVariants.{Help, Usage, Memory}
 use Rattle.canoffice_cli.specs.declared.job.ValueFault.{ValueFault}
@@ -59,6 +59,10 @@ export_app = with_rule (with_rule (with_rule (new_app (codes "export")) (require
 abbrev pub format_app : App
 format_app = with_rule (with_rule (new_app (codes "format")) explain_flag) (required_word (codes "FILE"))
 
+-- migrate --db FILE
+abbrev pub migrate_app : App
+migrate_app = with_rule (new_app (codes "migrate")) (required_option (codes "db"))
+
 -- serve --db FILE [--port N] [--count N]
 abbrev pub serve_app : App
 serve_app = with_rule (with_rule (with_rule (new_app (codes "serve")) (required_option (codes "db"))) (option_word (codes "port"))) (option_word (codes "count"))
@@ -75,7 +79,7 @@ with_version = on_top (λ s. record s { has_version = true })
 abbrev pub wants_subcommand : App → App
 wants_subcommand = on_top (λ s. record s { subcommand_required = true; arg_required_else_help = true })
 
--- canoffice apply .., chart .., check .., export .., format .., serve .., table ..
+-- canoffice apply .., chart .., check .., export .., format .., migrate .., serve .., table ..
 abbrev pub canoffice_app : App
 canoffice_app =
     let to_apply = with_subcommand (wants_subcommand (with_version (new_app (codes "canoffice")))) apply_app.top in
@@ -83,7 +87,8 @@ canoffice_app =
     let to_check = with_subcommand to_chart check_app.top in
     let to_export = with_subcommand to_check export_app.top in
     let to_format = with_subcommand to_export format_app.top in
-    let to_serve = with_subcommand to_format serve_app.top in
+    let to_migrate = with_subcommand to_format migrate_app.top in
+    let to_serve = with_subcommand to_migrate serve_app.top in
     with_subcommand to_serve table_app.top
 
 -- the kinds of fault that clap finds in the words
@@ -116,6 +121,7 @@ IsJobOf (Export database net number) name rows =
     (name ≡ codes "export") × HasValue rows (codes "db") database.now × HasValue rows (codes "NET") net.now
     × (option_and_then release_number (first_of (codes "N") rows) ≡ Some number)
 IsJobOf (Format file explain) name rows = (name ≡ codes "format") × HasValue rows (codes "FILE") file.now × (explain ≡ is_set rows (codes "explain"))
+IsJobOf (Migrate database) name rows = (name ≡ codes "migrate") × HasValue rows (codes "db") database.now
 IsJobOf (Serve database port count) name rows =
     (name ≡ codes "serve") × HasValue rows (codes "db") database.now
     × (port_given (first_of (codes "port") rows) ≡ Some port) × (count_given (first_of (codes "count") rows) ≡ Some count)

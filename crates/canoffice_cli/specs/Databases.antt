@@ -6,12 +6,13 @@ use Rattle.sqlite.specs.Steps.{over_memory}
 use Rattle.sqlite_trees.specs.declared.memory.MemStore.{MemStore}
 use Rattle.office_history.specs.History.{Answered}
 use Rattle.store.specs.Holding.{Holding}
-use Rattle.store.specs.Opening.{HasNone}
+use Rattle.store.specs.Opening.{HasNone, HoldingInSomeForm}
 
--- at one moment: the history that the tables of a path hold, that a path has no table, and that no disk has failed and
--- nobody else has written
+-- at one moment: the history that the tables of a path hold, the one that they hold in the form of this version or of an
+-- earlier one, that a path has no table, and that no disk has failed and nobody else has written
 pub record Databases : Type 1 where
   pub holds : List ℕ → List Answered → Type 0
+  pub holds_in_form : List ℕ → List Answered → Type 0
   pub is_new : List ℕ → Type 0
   pub is_sound : Type 0
 
@@ -22,17 +23,19 @@ Begins h s = Holding h s ⊎ ((h ≡ []) × HasNone s)
 -- what was known is known still
 pub record AreKept (before after : Databases) : Type 0 where
   pub holds : (path : List ℕ) (h : List Answered) → before.holds path h → after.holds path h
+  pub holds_in_form : (path : List ℕ) (h : List Answered) → before.holds_in_form path h → after.holds_in_form path h
   pub is_new : (path : List ℕ) → before.is_new path → after.is_new path
 
 -- nothing is known of any database, and none is known to be sound
 abbrev pub nothing_known : Databases
-nothing_known = record { holds = λ path h. ⊥; is_new = λ path. ⊥; is_sound = ⊥ }
+nothing_known = record { holds = λ path h. ⊥; holds_in_form = λ path h. ⊥; is_new = λ path. ⊥; is_sound = ⊥ }
 
 -- a database in memory shows the same under every path
 abbrev pub known_of : Option (Held MemStore) → Databases
 known_of None = nothing_known
 known_of (Some conn) = record {
   holds = λ path h. Holding h (state over_memory conn);
+  holds_in_form = λ path h. HoldingInSomeForm h (state over_memory conn);
   is_new = λ path. HasNone (state over_memory conn);
   is_sound = ⊤;
 }

@@ -8,10 +8,11 @@ use Rattle.dbc_advice.specs.LeftOut.{left_out}
 use Rattle.dbc_read.specs.Passed.{start_and_keyword}
 use Rattle.dbc_read.specs.Reading.{ReadsAsNothing}
 use Rattle.dbc_read.specs.declared.passed.Passed.{Passed}
+use Rattle.office_script.specs.Files.{Files}
 use Rattle.office_script.specs.Lines.{lines_of}
 use Rattle.office_script.specs.declared.keys.Dash.{Dash}
 use Rattle.office_script.specs.declared.keys.Dash.TheVariants.{LineNumber, Wrong}
-use Rattle.script_advice.specs.Explained.{told_of}
+use Rattle.script_advice.specs.Explained.{IsSaidOf}
 use Rattle.canoffice_cli.specs.Outcome.{Outcome, and_errors}
 use Rattle.canoffice_cli.specs.declared.file_jobs.FileTask.{FileTask}
 use Rattle.canoffice_cli.specs.declared.file_jobs.FileTask.TheVariants as task
@@ -27,13 +28,13 @@ abbrev pub dash_of : Option (Bor (List ℕ)) → Dash
 dash_of None = LineNumber
 dash_of (Some path) = Wrong
 
--- What is said of the file of this name with these bytes. Of a script the first wrong line is told, whatever can't be read
--- before it.
-abbrev pub IsSaid : FileTask → List ℕ → List ℕ → List ℕ → Type 0
-IsSaid (task.Apply database) name bytes said = said ≡ told_of name (dash_of database) 1 (lines_of bytes)
-IsSaid task.Check name bytes said = IsExplained name bytes said
-IsSaid task.Format name bytes said = IsSaidOfFormat name bytes said
-IsSaid task.Table name bytes said = said ≡ []
+-- What is said of the file of this name with these bytes. Of a script that is its first wrong line, whatever can't be read
+-- before it, or the first wrong line of a bundle's file.
+abbrev pub IsSaid : Files → FileTask → List ℕ → List ℕ → List ℕ → Type 0
+IsSaid files (task.Apply database) name bytes said = IsSaidOf files name (dash_of database) 1 (lines_of bytes) said
+IsSaid files task.Check name bytes said = IsExplained name bytes said
+IsSaid files task.Format name bytes said = IsSaidOfFormat name bytes said
+IsSaid files task.Table name bytes said = said ≡ []
 
 -- the output and the status are the plain ones, and something is said after the plain errors
 pub record Explains (IsSaid : List ℕ → Type 0) (plain o : Outcome) : Type 0 where

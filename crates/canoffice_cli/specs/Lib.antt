@@ -6,6 +6,7 @@ pub mod Databases
 pub mod Answered
 pub mod Applied
 pub mod Exported
+pub mod Migrated
 pub mod Served
 pub mod Charted
 pub mod WordFault

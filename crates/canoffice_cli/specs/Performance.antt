@@ -11,6 +11,7 @@ use Rattle.canoffice_cli.specs.Charted.{IsChartOutcome}
 use Rattle.canoffice_cli.specs.Checked.{IsCheckOutcome}
 use Rattle.canoffice_cli.specs.Exported.{IsExportOutcome}
 use Rattle.canoffice_cli.specs.Formatted.{IsFormatOutcome}
+use Rattle.canoffice_cli.specs.Migrated.{IsMigrateOutcome}
 use Rattle.canoffice_cli.specs.Served.{IsServeOutcome}
 use Rattle.canoffice_cli.specs.Tabled.{IsTableOutcome}
 use Rattle.canoffice_cli.specs.Delivery.{IsDelivered, Writing}
@@ -19,7 +20,7 @@ use Rattle.canoffice_cli.specs.declared.file_jobs.FileJob.{FileJob}
 use Rattle.canoffice_cli.specs.declared.file_jobs.FileTask.{FileTask}
 use Rattle.canoffice_cli.specs.declared.file_jobs.FileTask.TheVariants as task
 use Rattle.canoffice_cli.specs.declared.job.Job.{Job}
-use Rattle.canoffice_cli.specs.declared.job.Job.TheVariants.{Apply, Chart, Check, Export, Format, Serve, Table}
+use Rattle.canoffice_cli.specs.declared.job.Job.TheVariants.{Apply, Chart, Check, Export, Format, Migrate, Serve, Table}
 use Rattle.canoffice_cli.specs.declared.job.LineFault.{LineFault}
 use Rattle.canoffice_cli.specs.declared.job.LineFault.TheVariants.{Help, Usage, Memory}
 
@@ -39,7 +40,7 @@ ComesTo files before after task.Table bytes o = IsTableOutcome bytes o × AreKep
 -- the same for a job, which may explain
 abbrev pub IsOfBytes : Files → Databases → Databases → FileJob → List ℕ → Outcome → Type 0
 IsOfBytes files before after job bytes o =
-    (plain : Outcome) × ComesTo files before after job.task bytes plain × MayExplain job.explain (IsSaid job.task job.path.now bytes) plain o
+    (plain : Outcome) × ComesTo files before after job.task bytes plain × MayExplain job.explain (IsSaid files job.task job.path.now bytes) plain o
 
 abbrev pub IsFileOutcome : Files → Holding → Databases → Databases → FileJob → Outcome → Type 0
 IsFileOutcome files input before after job o =
@@ -53,6 +54,7 @@ IsDone files input before after (Chart length signals) o = IsChartOutcome length
 IsDone files input before after (Check file explain) o = IsFileOutcome files input before after (record { task = task.Check; path = file; explain = explain }) o
 IsDone files input before after (Export database net number) o = IsExportOutcome before after database.now net.now number o
 IsDone files input before after (Format file explain) o = IsFileOutcome files input before after (record { task = task.Format; path = file; explain = explain }) o
+IsDone files input before after (Migrate database) o = IsMigrateOutcome before after database.now o
 IsDone files input before after (Serve database port count) o = IsServeOutcome before after database.now count o
 IsDone files input before after (Table file) o = IsFileOutcome files input before after (record { task = task.Table; path = file; explain = false }) o
 

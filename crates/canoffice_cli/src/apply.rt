@@ -37,7 +37,7 @@ fn apply_in_memory<F: FileSource, W: Write>(
 {
     match arrivals_of(alloc, script, Dash::LineNumber, files) {
         Ok(arrivals) => {
-            // First of all, so that no answer is lost for want of memory for its line.
+            // Room first, so that no answer is lost because memory for its line runs out.
             let room = Room::for_answers(alloc, arrivals.len())?;
             let told = answer_in_memory(alloc, script, &arrivals, progress);
             progress.ends();
@@ -60,7 +60,7 @@ fn apply_in_database<F: FileSource, D: Databases, W: Write>(
 {
     match arrivals_of(alloc, script, Dash::Wrong, files) {
         Ok(arrivals) => {
-            // First of all, so that no answer is lost for want of memory for its line.
+            // Room first, so that no answer is lost because memory for its line runs out.
             let room = Room::for_answers(alloc, arrivals.len())?;
             let told = databases.answer(alloc, path, script, &arrivals, progress);
             progress.ends();

@@ -2,7 +2,7 @@
 ghost use Rattle.std.specs.Prelude.{◌≡◌, IfOk, codes, false};
 ghost use Rattle.clap.specs.Words.{app_of, new_app, rule_of};
 ghost use Rattle.clap.specs.declared.builder.command.Command.TheViews.{out-Command as fields_of};
-ghost use Rattle.canoffice_cli.specs.CommandLine.{apply_app, canoffice_app, chart_app, check_app, explain_flag, export_app, format_app, option_word, required_option, required_word, required_words, serve_app, table_app, wants_subcommand, with_version};
+ghost use Rattle.canoffice_cli.specs.CommandLine.{apply_app, canoffice_app, chart_app, check_app, explain_flag, export_app, format_app, migrate_app, option_word, required_option, required_word, required_words, serve_app, table_app, wants_subcommand, with_version};
 
 use clap::{Arg, ArgAction, Command};
 use std::alloc::{AllocError, Global};
@@ -81,7 +81,7 @@ fn chart_command<'a>(alloc: Global) -> Result<Command<'a>, AllocError>
     let named = Command::new(alloc, "chart").about(
         "Prints which signal has which bit of a message, and the first clash",
     );
-    let length = "How many bytes the message has, 0 to 64";
+    let length = "How many bytes the message has, 0 to 1785";
     let signal = "A signal: name=start|size@order, then nothing, ,M or ,mN";
     let with_length = named.arg(required_argument(alloc, "LENGTH", length))?;
     let chart = with_length.arg(required_arguments(alloc, "SIGNAL", signal))?;
@@ -125,6 +125,18 @@ fn format_command<'a>(alloc: Global) -> Result<Command<'a>, AllocError>
     let with_explain = named.arg(explain(alloc, more))?;
     let format = with_explain.arg(required_argument(alloc, "FILE", DBC_FILE))?;
     Ok(format)
+}
+
+/// `migrate --db FILE`
+fn migrate_command<'a>(alloc: Global) -> Result<Command<'a>, AllocError>
+    ensures app { IfOk result (λ c. app_of c ≡ migrate_app) }
+    ensures local { IfOk result (λ c. (fields_of c).has_globals ≡ false) }
+{
+    let named = Command::new(alloc, "migrate").about(
+        "Makes a database of an earlier version one of this version",
+    );
+    let migrate = named.arg(required_option(alloc, "db", "FILE", "The office's database"))?;
+    Ok(migrate)
 }
 
 /// `serve --db FILE [--port N] [--count N]`
@@ -176,7 +188,8 @@ pub fn canoffice_command<'a>(alloc: Global) -> Result<Command<'a>, AllocError>
     let with_check = with_chart.subcommand(check_command(alloc)?)?;
     let with_export = with_check.subcommand(export_command(alloc)?)?;
     let with_format = with_export.subcommand(format_command(alloc)?)?;
-    let with_serve = with_format.subcommand(serve_command(alloc)?)?;
+    let with_migrate = with_format.subcommand(migrate_command(alloc)?)?;
+    let with_serve = with_migrate.subcommand(serve_command(alloc)?)?;
     let with_table = with_serve.subcommand(table_command(alloc)?)?;
     Ok(with_table)
 }

@@ -5,6 +5,7 @@ ghost use Rattle.std.specs.Result.{result_map_both};
 ghost use Rattle.canoffice_cli.specs.Answered.{InDatabase, answered_with};
 ghost use Rattle.canoffice_cli.specs.Databases.{Databases as Known};
 ghost use Rattle.canoffice_cli.specs.Exported.{IsLookedUp};
+ghost use Rattle.canoffice_cli.specs.Migrated.{IsMigrated};
 ghost use Rattle.canoffice_cli.specs.Served.{IsServed};
 
 mod memory;
@@ -46,6 +47,16 @@ pub trait Databases {
         question: &Question,
     ) -> Result<Option<Vec<u8>>, Lost>
         ensures { IsLookedUp (known self.old) (known self.new) path.now question.now (result_map_both (option_map (λ text. text.items)) (λ lost. lost) result) };
+
+    /// Makes the database at the path one of this version, with the history that it holds. It is shown which message is carried
+    /// over. The error is why that was lost.
+    fn migrate<W: Write>(
+        &mut self,
+        alloc: Global,
+        path: &str,
+        progress: &mut Progress<W>,
+    ) -> Result<(), Lost>
+        ensures { IsMigrated (known self.old) (known self.new) path.now result };
 
     /// Serves `count` connections of the port of this machine by the office in the database at the path, and tells on the
     /// machine's standard error when it listens, and when the office fails. The error is why it ended before that, or that

@@ -3,6 +3,7 @@ ghost use Rattle.std.specs.Prelude.{◌≡◌, IfOk};
 ghost use Rattle.canoffice_cli.specs.Explaining.{IsSaid, IsSaidOfFormat, dash_of};
 
 use crate::file_jobs::FileTask;
+use crate::files::FileSource;
 use dbc_advice::{Source, explained, left_out};
 use dbc_read::{ReadCode, read};
 use office_script::Dash;
@@ -32,14 +33,20 @@ fn dash_of(database: Option<&str>) -> Dash
 }
 
 /// What is said of a file, by what is done with its bytes. The error is out of memory.
-pub(crate) fn said(alloc: Global, task: FileTask<'_>, source: Source) -> Result<Vec<u8>, AllocError>
-    ensures { IfOk result (λ said. IsSaid task.entry source.entry.name.now source.entry.text.now said.items) }
+pub(crate) fn said<F: FileSource>(
+    alloc: Global,
+    task: FileTask<'_>,
+    source: Source,
+    files: &F,
+) -> Result<Vec<u8>, AllocError>
+    ensures { IfOk result (λ said. IsSaid (F.held files.now) task.entry source.entry.name.now source.entry.text.now said.items) }
 {
     match task {
         FileTask::Check => explained(alloc, source),
         FileTask::Format => said_of_format(alloc, source),
         FileTask::Apply(database) => {
-            script_advice::explained(alloc, source.name, source.text, dash_of(database))
+            let dash = dash_of(database);
+            script_advice::explained(alloc, source.name, source.text, dash, files)
         }
         FileTask::Table => Ok(Vec::new(alloc)),
     }

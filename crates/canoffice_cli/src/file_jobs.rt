@@ -97,8 +97,8 @@ fn bytes_report<F: FileSource, D: Databases, W: Write>(
             name: job.path.as_bytes(),
             text: bytes,
         };
-        // First of all, so that what a database answers can't be lost for want of memory for this.
-        let said = said(alloc, job.task, source)?;
+        // First of all, so that memory for this can't run out after a database has answered.
+        let said = said(alloc, job.task, source, files)?;
         let report = task_report(alloc, job.task, bytes, files, databases, progress)?;
         report.and_errors(&said)
     } else {

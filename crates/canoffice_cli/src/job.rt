@@ -23,7 +23,7 @@ pub enum Job<'a> {
     },
     /// Print the chart of the signals that the words describe, in a message of this length.
     Chart {
-        /// The length, 0 to 64 bytes.
+        /// The length, 0 to 1785 bytes.
         length: u16,
         /// The words that describe the signals.
         signals: Vec<&'a str>,
@@ -50,6 +50,11 @@ pub enum Job<'a> {
         file: &'a str,
         /// Whether faults are explained, and told what is left out.
         explain: bool,
+    },
+    /// Make a database of an earlier version one of this version.
+    Migrate {
+        /// The path of the office's database.
+        database: &'a str,
     },
     /// Serve the office over HTTP.
     Serve {
@@ -181,6 +186,9 @@ fn job_in<'a>(alloc: Global, matches: &ArgMatches<'a>) -> Result<Job<'a>, ValueF
     if name == "format" {
         return Ok(format_job(found));
     }
+    if name == "migrate" {
+        return Ok(migrate_job(found));
+    }
     if name == "serve" {
         return serve_job(found);
     }
@@ -278,6 +286,16 @@ fn format_job<'a>(found: &ArgMatches<'a>) -> Job<'a>
     let file = found.get_str("FILE").unwrap();
     let explain = is_set(found, "explain");
     Job::Format { file, explain }
+}
+
+/// `migrate --db FILE`
+#[tactic(auto, using(crate::proofs::CommandLine::value_in_rows, crate::proofs::CommandLine::text_is_given))]
+fn migrate_job<'a>(found: &ArgMatches<'a>) -> Job<'a>
+    requires { HasSome (rows_of (found_of found.now)) (codes "db") }
+    ensures { IsJobOf result (codes "migrate") (rows_of (found_of found.now)) }
+{
+    let database = found.get_str("db").unwrap();
+    Job::Migrate { database }
 }
 
 /// `serve --db FILE [--port N] [--count N]`

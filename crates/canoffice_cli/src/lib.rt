@@ -4,7 +4,7 @@
 //!   or a `LineFault`. `numbers` has the ranges of the numbers that words give.
 //! - `files` reads files and standard input: those of the machine, or those of a list in memory. `databases` has the offices
 //!   in databases, of which one in memory is here; those of the machine are in the program itself.
-//! - `apply`, `exporting`, `serving`, `charting`, `checking`, `formatting` and `tabling` do the jobs. `answering` answers
+//! - `apply`, `exporting`, `migrating`, `serving`, `charting`, `checking`, `formatting` and `tabling` do the jobs. `answering` answers
 //!   the arrivals of a script, by an office in memory or on a connection to a database, `progress` shows how far it is,
 //!   and `room` is taken before for what is printed after.
 //! - `file_jobs` does the jobs that read a file, and `explaining` says what `--explain` adds to them.
@@ -30,6 +30,7 @@ mod files;
 mod formatting;
 mod job;
 mod lines;
+mod migrating;
 mod numbers;
 mod program;
 mod progress;
@@ -50,6 +51,7 @@ pub use files::{
 };
 pub use formatting::format_report;
 pub use job::{Job, LineFault, job_of, not_utf8_fault};
+pub use migrating::{migrate_on, migrate_report};
 pub use program::{fault_report, perform, report_of};
 pub use progress::Progress;
 pub use report::{LOST_MEMORY, Report, Status, bad_line, bad_word, cannot_read, help, usage};

@@ -46,7 +46,7 @@ impl Number {
     /// Its range, as clap writes it.
     fn range(self) -> &'static str {
         match self {
-            Number::Length => "0..=64",
+            Number::Length => "0..=1785",
             Number::Release => "0..=65535",
             Number::Port => "1..=65535",
             Number::Count => "1..=1000000",
@@ -61,7 +61,7 @@ impl Number {
     }
 }
 
-/// The length of a message that the word gives: 0 to 64 bytes, as [`length_of`] of the crate `chart` reads it.
+/// The length of a message that the word gives: 0 to 1785 bytes, as [`length_of`] of the crate `chart` reads it.
 pub(crate) fn length_given(word: &str) -> Option<u16>
     ensures { result ≡ length_of word.now }
 {

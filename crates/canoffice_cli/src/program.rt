@@ -10,6 +10,7 @@ use crate::exporting::export_report;
 use crate::file_jobs::{FileJob, FileTask, file_report};
 use crate::files::{FileSource, StandardInput};
 use crate::job::{Job, LineFault, job_of};
+use crate::migrating::migrate_report;
 use crate::progress::Progress;
 use crate::report::{Report, Status, help, usage};
 use crate::serving::serve_report;
@@ -97,6 +98,7 @@ pub fn report_of<F: FileSource + StandardInput, D: Databases, W: Write>(
             let job = FileJob::new(FileTask::Format, file, *explain);
             file_report(alloc, job, files, databases, progress)
         }
+        Job::Migrate { database } => migrate_report(alloc, databases, database, progress),
         Job::Serve {
             database,
             port,

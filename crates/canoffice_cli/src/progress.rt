@@ -1,10 +1,13 @@
-//! How far a script is, for whoever waits for it.
+//! How far a script is, or a database that is carried over, for whoever waits for it.
 ghost use Rattle.std.specs.Prelude.{◌≤◌, length};
 
+use catalogue::Name;
 use office_script::{first_line, says_nothing};
-use std::io::Write;
+use office_types::NetName;
+use std::io::{self, Write};
+use store::Watch;
 
-/// Where it is shown how far a script is: on a terminal, or nowhere.
+/// Where it is shown how far the work is: on a terminal, or nowhere.
 pub struct Progress<W> {
     /// The terminal, if there is one.
     pub to: Option<W>,
@@ -52,6 +55,22 @@ impl<W: Write> Progress<W> {
     pub(crate) fn ends(&mut self) {
         if let Some(to) = &mut self.to {
             let _shown = write!(to, "\r\x1b[K");
+        }
+    }
+}
+
+/// Shows the network and the message in the place of what was shown before.
+fn show_message<W: Write>(to: &mut W, net: &NetName, message: &Name) -> io::Result<()> {
+    to.write_all(b"\r\x1b[K")?;
+    to.write_all(net.as_bytes())?;
+    to.write_all(b" ")?;
+    to.write_all(message.as_bytes())
+}
+
+impl<W: Write> Watch for Progress<W> {
+    fn shows(&mut self, net: &NetName, message: &Name) {
+        if let Some(to) = &mut self.to {
+            let _shown = show_message(to, net, message);
         }
     }
 }

@@ -268,7 +268,7 @@ idents : map ident_of (0 ∷ 2047 ∷ 2048 ∷ 2147483647 ∷ 2147483648 ∷ 236
 idents = refl
 
 messages : AreAll (
-    is (codes "BO_ 2047 A : 64 Vector__XXX") (one Message (MessageIs (message (Std 2047) (codes "A") 64 None []))) ∷
+    is (codes "BO_ 2047 A : 1785 Vector__XXX") (one Message (MessageIs (message (Std 2047) (codes "A") 1785 None []))) ∷
     is (codes "BO_ 2364540158 Msg : 8 ECU SG_ T : 16 | 8 @ 1 + ( 1 , - 40 ) [ - 40 | 210 ] \"C\" Dash")
     (one Message (MessageIs (message (Ext 217056510) (codes "Msg") 8 (Some (codes "ECU")) (temperature ∷ [])))) ∷
     is (codes "BO_ 1 A : 8 Vector__XXX SG_ S M : 0 | 8 @ 1 + ( 1 , 0 ) [ 0 | 0 ] \"\" SG_ m1 m007 : 0 | 64 @ 00 - ( 1 , 0 ) [ 0 | 0 ] \"\"")
@@ -288,7 +288,7 @@ no_messages : IsntAny (
     codes "BO_ 2048 A : 8 ECU" ∷
     codes "BO_ 2684354560 A : 8 ECU" ∷
     codes "BO_ 1 CM_ : 8 ECU" ∷
-    codes "BO_ 1 A : 65 ECU" ∷
+    codes "BO_ 1 A : 1786 ECU" ∷
     codes "BO_ 1 A : 8.0 ECU" ∷
     codes "BO_ 1 A : 8" ∷
     codes "BO_ 1 A : 8 BU_" ∷ [])

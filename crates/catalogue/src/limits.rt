@@ -13,7 +13,7 @@ pub const VALUE_TEXT_LIMIT: usize = 65_536;
 pub const NAME_LIMIT: usize = 128;
 
 /// The greatest length of a message, in bytes.
-pub const LENGTH_LIMIT: u16 = 64;
+pub const LENGTH_LIMIT: u16 = 1_785;
 
 /// The greatest suspect parameter number, which has 19 bits (SAE J1939).
 pub const SPN_LIMIT: u32 = 524_287;

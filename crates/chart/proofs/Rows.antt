@@ -86,5 +86,5 @@ no_order = refl
 no_value : place_of (codes "0|1@1,m") ≡ None
 no_value = refl
 
-too_long : length_of (codes "65") ≡ None
+too_long : length_of (codes "1786") ≡ None
 too_long = refl

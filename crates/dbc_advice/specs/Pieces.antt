@@ -8,7 +8,7 @@ use Rattle.dbc_advice.specs.Lines.{line_start}
 
 -- the heading of a message, after which a signal may come
 abbrev pub heading : List ℕ
-heading = codes "BO_ 0 Message: 64 Vector__XXX\n"
+heading = codes "BO_ 0 Message: 1785 Vector__XXX\n"
 
 -- a piece of text, with a heading before it where it begins with a signal
 unfoldable pub alone : List ℕ → List ℕ

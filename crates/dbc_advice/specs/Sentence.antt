@@ -60,7 +60,7 @@ plain_meaning ExtendedMultiplexing = codes ", but extended multiplexing can't be
 plain_meaning Number = codes ", out of range: at most 36 digits, powers of ten -400 to 400; a type is 0 to 2, m is m0 to m4294967295"
 plain_meaning Identifier = codes ", no message's number: 0 to 2047, or 2147483648 more than 29 bits"
 plain_meaning Name = codes ", which can't be a name here: a keyword, Vector__XXX or over 128 bytes"
-plain_meaning Length = codes ", but a length is 0 to 64 bytes: take out messages that are longer"
+plain_meaning Length = codes ", but a length is 0 to 1785 bytes: take out messages that are longer"
 plain_meaning Size = codes ", but a start is 0 to 65535, and a size 1 to 64 bits: split a longer signal"
 plain_meaning Memory = codes ", and memory ran out"
 

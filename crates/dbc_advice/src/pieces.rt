@@ -15,7 +15,7 @@ use dbc_read::read;
 use std::alloc::{AllocError, Global};
 
 /// The heading of a message, which makes a signal's line a text of its own.
-const HEADING: &[u8] = b"BO_ 0 Message: 64 Vector__XXX\n";
+const HEADING: &[u8] = b"BO_ 0 Message: 1785 Vector__XXX\n";
 
 /// Whether the text reads as a sheet, or is only ended too early. The error is out of memory.
 pub(crate) fn goes_on(alloc: Global, text: &[u8]) -> Result<bool, AllocError>

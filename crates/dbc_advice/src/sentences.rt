@@ -71,7 +71,7 @@ fn plain_meaning(code: ReadCode) -> &'static str
         }
         ReadCode::Identifier => ", no message's number: 0 to 2047, or 2147483648 more than 29 bits",
         ReadCode::Name => ", which can't be a name here: a keyword, Vector__XXX or over 128 bytes",
-        ReadCode::Length => ", but a length is 0 to 64 bytes: take out messages that are longer",
+        ReadCode::Length => ", but a length is 0 to 1785 bytes: take out messages that are longer",
         ReadCode::Size => {
             ", but a start is 0 to 65535, and a size 1 to 64 bits: split a longer signal"
         }

@@ -38,7 +38,7 @@ pub enum ReadCode {
     Identifier,
     /// 37: a keyword, `Vector__XXX` or a name of more than 128 bytes where something is named.
     Name,
-    /// 38: a payload length that is no whole number of 0 to 64 bytes.
+    /// 38: a payload length that is no whole number of 0 to 1785 bytes.
     Length,
     /// 39: a signal's start that is no whole number of 0 to 65,535, or a size that is no whole number of 1 to 64 bits.
     Size,

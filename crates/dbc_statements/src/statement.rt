@@ -65,7 +65,7 @@ pub struct MessageLine {
     pub ident: Ident,
     /// Its name.
     pub name: Name,
-    /// Its length in bytes, 0 to 64.
+    /// Its length in bytes, 0 to 1785.
     pub length: PayloadLength,
     /// The node that sends it, if one is named.
     pub transmitter: Option<Name>,

@@ -4,6 +4,7 @@ use Rattle.std.specs.Io.KnownBytes.{Appends}
 use Rattle.sqlite.specs.State.{State}
 use Rattle.sqlite.specs.Tree.{Trees}
 use Rattle.office_types.specs.declared.state.Office.{Office}
+use Rattle.office_rules.specs.Profile.{Two}
 use Rattle.office_history.specs.History.{Answered, IsLegal}
 use Rattle.office_history.specs.declared.arrival.Answer.{Answer}
 use Rattle.store.specs.Holding.{Holding, Keeps, Leaves}
@@ -43,9 +44,9 @@ shown_response content (Some text) = text_response content text
 abbrev pub IsLookResponse : Office → Look → List ℕ → Type 0
 IsLookResponse office l text = (found : Option (List ℕ)) × IsShown office (question_of l) found × (text ≡ shown_response (content_of l) found)
 
--- the arrival with its answer
+-- the arrival, which comes today, with its answer
 abbrev pub answered_as : Asking → Answer → Answered
-answered_as a answer = record { team = a.team; key = a.key; content = a.content; command = a.command; answer = answer }
+answered_as a answer = record { profile = Two; team = a.team; key = a.key; content = a.content; command = a.command; answer = answer }
 
 -- The text is the response to what is asked, on the history h, and h2 is the history after it: with the arrival and
 -- the answer that the text tells, or the same. Where the tables hold h2, it is legal: so the answer is the office's.
@@ -54,7 +55,7 @@ IsResponse h (fails problem) text h2 = (h2 ≡ h) × (text ≡ problem_response 
 IsResponse h (shows l) text h2 = (h2 ≡ h) × ((office : Office) → IsLegal h office → IsLookResponse office l text)
 IsResponse h (arrives a) text h2 = (answer : Answer) × (h2 ≡ h ++ answered_as a answer ∷ []) × (text ≡ answer_response answer)
 
--- the trees keep the history, or it with the arrival that is asked
+-- the trees keep the history, or it with the arrival that was requested
 abbrev pub FollowsAsked : List Answered → Asked → Trees → Type 0
 FollowsAsked h asked db =
     Keeps h db ⊎ ((a : Asking) × (asked ≡ arrives a) × (answer : Answer) × Keeps (h ++ answered_as a answer ∷ []) db)

@@ -22,13 +22,13 @@ use store::Office;
 /// follows one that failed. Whatever the source has, no more is read of it than a greatest head and a greatest body.
 ///
 /// `Read` if the source failed before the request was whole: nothing was written, and the office is as before.
-/// `Write` if the sink failed: a beginning of the response was written, and what was asked is done as if it had all
+/// `Write` if the sink failed: a beginning of the response was written, and the request is carried out as if it had all
 /// been. `Memory` if memory ran out: nothing was written, and an arrival may have been taken. A request that is sent
-/// again under its key is answered as it would have been. An office that has failed stays as it is, and what comes to
+/// again under its key is answered as it would have been. An office that has failed stays as it is, and each request to
 /// it is answered by 503.
 ///
 /// A crash leaves the history after the response. After a 503, or where memory ran out, it leaves the history from
-/// before, or that one with the arrival that was asked.
+/// before, or that one with the arrival that was requested.
 pub fn serve_one<S: Alter, R: Source, W: Sink>(
     alloc: Global,
     office: &mut Office<S>,

@@ -14,7 +14,7 @@ use std::str::from_utf8;
 
 /// The JSON value that the bytes are the text of, or `None` where they are no text of one.
 #[tactic(auto, unfolding(crate::specs::Body::json_in))]
-fn json_in(alloc: Global, bytes: &[u8]) -> Result<Option<Value>, AllocError>
+pub(crate) fn json_in(alloc: Global, bytes: &[u8]) -> Result<Option<Value>, AllocError>
     ensures { IfOk result (λ found. option_map view found ≡ json_in bytes.now) }
 {
     let Ok(text) = from_utf8(bytes) else {

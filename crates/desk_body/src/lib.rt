@@ -9,7 +9,9 @@
 #![tactic(auto)]
 
 mod body;
+mod bundle;
 mod members;
 mod values;
 
 pub use body::command_in;
+pub use bundle::bundle_in;

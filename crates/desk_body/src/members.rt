@@ -87,7 +87,7 @@ fn given_by(
 }
 
 /// What the members of an object give for the fields, in order.
-fn given_in(
+pub(crate) fn given_in(
     alloc: Global,
     fields: &[Field],
     value: &Value,
@@ -107,7 +107,8 @@ fn given_in(
     Ok(Some(list))
 }
 
-fn is_name_of(fields: &[Field], name: &str) -> bool
+/// Whether one of the fields has the name.
+pub(crate) fn is_name_of(fields: &[Field], name: &str) -> bool
     ensures { result ≡ is_name_of fields.now name.now }
 {
     fields.iter().any(|field| json_name(*field) == name)

@@ -19,10 +19,11 @@ use Rattle.desk_head.specs.Target.{first_parameter, second_parameter}
 use Rattle.desk_head.specs.declared.ahead.Ahead.{Ahead}
 use Rattle.desk_head.specs.declared.ahead.Ahead.TheVariants as ahead
 use Rattle.desk_head.specs.declared.endpoint.Posting.{Posting}
-use Rattle.desk_head.specs.declared.endpoint.Posting.TheVariants.{Act, Import}
+use Rattle.desk_head.specs.declared.endpoint.Posting.TheVariants.{Act, Import, Bundle}
 use Rattle.desk_head.specs.declared.endpoint.Showing.{Showing}
 use Rattle.desk_head.specs.declared.endpoint.Showing.TheVariants as showing
 use Rattle.desk_body.specs.Body.{command_in}
+use Rattle.desk_body.specs.Bundle.{bundle_in}
 use Rattle.desk_call.specs.declared.call.Call as declared
 use Rattle.desk_call.specs.declared.call.Call.TheVariants as call
 use Rattle.desk_call.specs.declared.call.Look.{Look}
@@ -85,9 +86,13 @@ key_of bytes = where_true (is_key bytes) (Some bytes)
 abbrev pub import_of : List ℕ → List ℕ → Option Command
 import_of target body = option_map (λ net. record { net = net; task = task.Import body }) (net_in target)
 
+abbrev pub bundle_of : List ℕ → List ℕ → Option Command
+bundle_of target body = net_in target >>= λ net. option_map (λ parts. record { net = net; task = task.Bundle parts }) (bundle_in body)
+
 abbrev pub command_of : Posting → List ℕ → List ℕ → Option Command
 command_of (Act k) target body = command_in k body
 command_of Import target body = import_of target body
+command_of Bundle target body = bundle_of target body
 
 -- the bytes by which a repeat is told: the target, a space and the body
 abbrev pub content_of : List ℕ → List ℕ → List ℕ

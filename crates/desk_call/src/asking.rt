@@ -5,12 +5,12 @@ ghost use Rattle.office_fields.specs.Given.{read_once};
 ghost use Rattle.office_fields.specs.Reading.{Reads};
 ghost use Rattle.office_fields.specs.Value.{plain_name_of};
 ghost use Rattle.desk_head.specs.Fields.{named};
-ghost use Rattle.desk_call.specs.Call.{asking_of, command_of, content_of, import_of, key_of};
+ghost use Rattle.desk_call.specs.Call.{asking_of, bundle_of, command_of, content_of, import_of, key_of};
 ghost use Rattle.desk_call.specs.Read.{ReadsArrival};
 
 use crate::values::{key_of, net_in};
 use catalogue::Items;
-use desk_body::command_in;
+use desk_body::{bundle_in, command_in};
 use desk_head::{Header, Posting, header_named};
 use httparse::spans::HeaderSpan;
 use office_fields::{Unread, team_of};
@@ -55,6 +55,17 @@ fn import_of(alloc: Global, target: &[u8], body: &[u8]) -> Result<Command, Unrea
     })
 }
 
+fn bundle_of(alloc: Global, target: &[u8], body: &[u8]) -> Result<Command, Unread>
+    ensures { Reads (bundle_of target.now body.now) result }
+{
+    let net = net_in(alloc, target)?;
+    let parts = bundle_in(alloc, body)?;
+    Ok(Command {
+        net,
+        task: Task::Bundle(parts),
+    })
+}
+
 fn command_of(
     alloc: Global,
     posting: Posting,
@@ -66,6 +77,7 @@ fn command_of(
     match posting {
         Posting::Act(kind) => command_in(alloc, kind, body),
         Posting::Import => import_of(alloc, target, body),
+        Posting::Bundle => bundle_of(alloc, target, body),
     }
 }
 

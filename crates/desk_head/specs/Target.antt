@@ -13,7 +13,7 @@ use Rattle.office_fields.specs.declared.kind.CommandKind.{CommandKind}
 use Rattle.office_fields.specs.declared.kind.CommandKind.TheVariants as command
 use Rattle.desk_head.specs.declared.endpoint.Endpoint.{Endpoint}
 use Rattle.desk_head.specs.declared.endpoint.Endpoint.TheVariants.{Shows, Does}
-use Rattle.desk_head.specs.declared.endpoint.Posting.TheVariants.{Act, Import}
+use Rattle.desk_head.specs.declared.endpoint.Posting.TheVariants.{Act, Import, Bundle}
 use Rattle.desk_head.specs.declared.endpoint.Showing.TheVariants as shown
 use Rattle.desk_head.specs.declared.routes.Route.{Route}
 use Rattle.desk_head.specs.declared.routes.Route.TheVariants as route
@@ -52,7 +52,7 @@ added value (Err e) rows = rows
 unfoldable pub with_route : List ℕ → Route → RowsOf (RouteOf Route) → RowsOf (RouteOf Route)
 with_route text value rows = added value (parse_route text) rows
 
--- the seven routes; a parameter is one or more bytes other than a slash
+-- the eight routes; a parameter is one or more bytes other than a slash
 unfoldable pub the_routes : RowsOf (RouteOf Route)
 the_routes =
     with_route (codes "/nets/{net}/messages/{message}") route.Message
@@ -60,21 +60,24 @@ the_routes =
     (with_route (codes "/nets/{net}/live") route.Live
     (with_route (codes "/nets/{net}") route.Net
     (with_route (codes "/nets") route.Nets
+    (with_route (codes "/bundle/{net}") route.Bundle
     (with_route (codes "/import/{net}") route.Import
-    (with_route (codes "/do/{command}") route.Do []))))))
+    (with_route (codes "/do/{command}") route.Do [])))))))
 
 -- the route that the whole target matches
 abbrev pub route_of : List ℕ → Option Route
 route_of target = option_map (λ r. r.value) (first the_routes target)
 
--- a command has the route of commands, but `import` a route of its own
+-- a command has the route of commands, but `import` and `bundle` routes of their own
 abbrev pub done_by : CommandKind → Option Endpoint
 done_by (command.Act kind) = Some (Does (Act kind))
 done_by command.Import = None
+done_by command.Bundle = None
 
 abbrev pub endpoint_at : Route → List ℕ → Option Endpoint
 endpoint_at route.Do target = option_and_then done_by (kind_of_word (first_parameter target))
 endpoint_at route.Import target = Some (Does Import)
+endpoint_at route.Bundle target = Some (Does Bundle)
 endpoint_at route.Nets target = Some (Shows shown.Nets)
 endpoint_at route.Net target = Some (Shows shown.Table)
 endpoint_at route.Live target = Some (Shows shown.Live)

@@ -23,6 +23,8 @@ pub enum Posting {
     Act(ActionKind),
     /// `/import/{net}`: imports the body as a file.
     Import,
+    /// `/bundle/{net}`: carries out the commands in the body, all of them or none.
+    Bundle,
 }
 
 /// What is at a target.

@@ -16,6 +16,8 @@ pub(crate) enum Route {
     Do,
     /// `/import/{net}`
     Import,
+    /// `/bundle/{net}`
+    Bundle,
     /// `/nets`
     Nets,
     /// `/nets/{net}`
@@ -35,7 +37,7 @@ fn add(router: &mut Router<Route>, text: &str, route: Route) -> Result<(), Inser
     router.insert(text, route)
 }
 
-/// The router of the seven routes.
+/// The router of the eight routes.
 #[tactic(auto, unfolding(crate::specs::Target::the_routes))]
 fn router(alloc: Global) -> Result<Router<Route>, InsertError>
     ensures { IfOk result (λ r. r ≡ the_routes) }
@@ -43,6 +45,7 @@ fn router(alloc: Global) -> Result<Router<Route>, InsertError>
     let mut router = Router::new(alloc);
     add(&mut router, "/do/{command}", Route::Do)?;
     add(&mut router, "/import/{net}", Route::Import)?;
+    add(&mut router, "/bundle/{net}", Route::Bundle)?;
     add(&mut router, "/nets", Route::Nets)?;
     add(&mut router, "/nets/{net}", Route::Net)?;
     add(&mut router, "/nets/{net}/live", Route::Live)?;
@@ -77,7 +80,7 @@ fn done_by(kind: CommandKind) -> Option<Endpoint>
 {
     match kind {
         CommandKind::Act(kind) => Some(Endpoint::Does(Posting::Act(kind))),
-        CommandKind::Import => None,
+        CommandKind::Import | CommandKind::Bundle => None,
     }
 }
 
@@ -93,6 +96,7 @@ fn endpoint_at(route: Route, target: &[u8]) -> Option<Endpoint>
     match route {
         Route::Do => command_at(target),
         Route::Import => Some(Endpoint::Does(Posting::Import)),
+        Route::Bundle => Some(Endpoint::Does(Posting::Bundle)),
         Route::Nets => Some(Endpoint::Shows(Showing::Nets)),
         Route::Net => Some(Endpoint::Shows(Showing::Table)),
         Route::Live => Some(Endpoint::Shows(Showing::Live)),

@@ -77,7 +77,7 @@ pub fn problem_response(alloc: Global, problem: Problem) -> Result<Vec<u8>, Allo
 
 /// The response to an arrival that was answered so: 404 where there is no such network, 409 where the office refused
 /// it otherwise or its key was used, else 200.
-#[tactic(auto, unfolding(crate::specs::Response::answer_response))]
+#[tactic(auto, unfolding(crate::specs::Response::answer_response), using(crate::proofs::Floats::answer_float))]
 pub fn answer_response(alloc: Global, answer: &Answer) -> Result<Vec<u8>, AllocError>
     ensures { IfOk result (λ text. text.items ≡ answer_response answer.now) }
 {

@@ -15,10 +15,14 @@ use Rattle.office_types.specs.State.{by_name}
 use Rattle.office_types.specs.declared.book.SpnBlock.{SpnBlock}
 use Rattle.office_types.specs.declared.book.SpnBook.{SpnBook}
 use Rattle.office_types.specs.declared.change.Change.{Change}
-use Rattle.office_types.specs.declared.change.Change.TheVariants.{SetHead, SetMessage, RemoveMessage, SetBlock, SetSpnBlock, Hold, EnterSpn, SetApproval, ClearApprovals, AddRelease}
+use Rattle.office_types.specs.declared.change.Change.TheVariants.{SetHead, SetMessage, RemoveMessage, AddSignal, RemoveSignal, SetBlock, SetSpnBlock, Hold, EnterSpn, SetApproval, ClearApprovals, AddRelease}
+use Rattle.office_types.specs.declared.state.LiveMessage.{LiveMessage}
 use Rattle.office_types.specs.declared.state.Net.{Net}
 use Rattle.office_types.specs.declared.state.Office.{Office}
 use Rattle.office_rules.specs.Change.{changed_book, changed_net, net_changed}
+use Rattle.office_rules.specs.Facts.{live_named}
+use Rattle.office_rules.specs.Numbers.{with_message}
+use Rattle.office_rules.specs.Signals.{with_last_signal, with_signal_out}
 use Rattle.office_rules.specs.Step.{net_named}
 use Rattle.office_law.proofs.OrderedNets.{has, put_found, put_there}
 use Rattle.office.specs.Carried.{IsIndexOf, carried, with_both}
@@ -64,12 +68,18 @@ pub index_found : (o : Office) (name : List ℕ) (index : Option ℕ) → IsInde
 index_found o name None h = sym h
 index_found o name (Some i) h = h.1
 
+-- so is the one at its index
+pub index_names : (o : Office) (name : List ℕ) (i : ℕ) (y : Net) → IsIndexOf o name (Some i) → y ≡ get_or o.nets i y → net_named o name ≡ Some y
+index_names o name i y h is = sym h.1 ∙ slice_get-get_or o.nets i y h.0 ∙ ap Some (sym is)
+
 -- Changes.
 
 changed_there : (name : List ℕ) (c : Change) (n : Net) → changed_net name c (Some n) ≡ Some (net_changed c n)
 changed_there name (SetHead h) n = refl
 changed_there name (SetMessage m) n = refl
 changed_there name (RemoveMessage i) n = refl
+changed_there name (AddSignal message s) n = refl
+changed_there name (RemoveSignal path) n = refl
 changed_there name (SetBlock g) n = refl
 changed_there name (SetSpnBlock b) n = refl
 changed_there name (Hold i) n = refl
@@ -78,11 +88,17 @@ changed_there name (SetApproval team) n = refl
 changed_there name ClearApprovals n = refl
 changed_there name (AddRelease s) n = refl
 
+name_kept_at : (n : Net) (f : LiveMessage → LiveMessage) (o : Option LiveMessage) → ◌≡◌ {A = List ℕ} (let after : Net = elim o [ None ↦ n | Some m ↦ with_message n (f m) ] in after.name) n.name
+name_kept_at n f None = refl
+name_kept_at n f (Some m) = refl
+
 -- a network keeps its name
 name_kept : (c : Change) (n : Net) → (net_changed c n).name ≡ n.name
 name_kept (SetHead h) n = refl
 name_kept (SetMessage m) n = refl
 name_kept (RemoveMessage i) n = refl
+name_kept (AddSignal message s) n = name_kept_at n (λ m. with_last_signal m s) (live_named n.live message)
+name_kept (RemoveSignal path) n = name_kept_at n (λ m. with_signal_out m path.signal) (live_named n.live path.message)
 name_kept (SetBlock g) n = refl
 name_kept (SetSpnBlock b) n = refl
 name_kept (Hold i) n = refl
@@ -96,6 +112,8 @@ book_kept : (c : Change) (book : SpnBook) → ((b : SpnBlock) → c ≡ SetSpnBl
 book_kept (SetHead h) book x y = refl
 book_kept (SetMessage m) book x y = refl
 book_kept (RemoveMessage i) book x y = refl
+book_kept (AddSignal message s) book x y = refl
+book_kept (RemoveSignal path) book x y = refl
 book_kept (SetBlock g) book x y = refl
 book_kept (SetSpnBlock b) book x y = absurd (x b refl)
 book_kept (Hold i) book x y = refl
@@ -135,7 +153,7 @@ module _ (o : Office) (name : List ℕ) (sorted : IsStrictlySortedBy by_name o.n
   pub net_carried : (i : ℕ) (y : Net) (c : Change) → IsIndexOf o name (Some i) → y ≡ get_or o.nets i y → ((b : SpnBlock) → c ≡ SetSpnBlock b → ⊥) → ((k : ℕ) → c ≡ EnterSpn k → ⊥)
       → ◌≡◌ {A = Office} (record { nets = set o.nets i (net_changed c y); book = o.book }) (carried o name (c ∷ []))
   net_carried i y c h is x z =
-      let found : net_named o name ≡ Some y = sym h.1 ∙ slice_get-get_or o.nets i y h.0 ∙ ap Some (sym is) in
+      let found = index_names o name i y h is in
       ap (λ (ns : List Net). record { nets = ns; book = o.book }) (sym (put_there o.nets i (net_changed c y) y sorted h.0 is (name_kept c y)))
       ∙ ap (λ (p : Option Net × SpnBook). with_both o (record { net = p.0; book = p.1 }))
       (λ j. (sym (ap (changed_net name c) found ∙ changed_there name c y) j, sym (book_kept c o.book x z) j))

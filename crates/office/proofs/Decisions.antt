@@ -1,5 +1,5 @@
 -- What is decided on a command, by what is decided on its action or its import.
-use Rattle.std.proofs.Common.{◌≡◌, ℕ, List, Option, Some, None, Contains, refl, sym, subst, arith}
+use Rattle.std.proofs.Common.{◌≡◌, ℕ, Bool, true, false, List, Option, Some, None, Contains, refl, sym, subst, arith}
 use Rattle.dbc_lex.specs.Fault.{code_number}
 use Rattle.dbc_lex.specs.declared.fault.ReadCode.{ReadCode}
 use Rattle.dbc_lex.specs.declared.fault.ReadCode.TheVariants.{DoubleNumber, DoubleName, TwoMultiplexors, TooMany, UnclosedText, StrayByte, Unexpected, UnknownStatement, ExtendedMultiplexing, Number, Identifier, Name, Length, Size, Memory}
@@ -7,13 +7,16 @@ use Rattle.office_types.specs.declared.change.Decision.{Decision}
 use Rattle.office_types.specs.declared.command.Action.{Action}
 use Rattle.office_types.specs.declared.command.Command.{Command}
 use Rattle.office_types.specs.declared.command.Task.{Task}
-use Rattle.office_types.specs.declared.command.Task.TheVariants.{Act, Import}
+use Rattle.office_types.specs.declared.command.Task.TheVariants.{Act, Import, Bundle}
 use Rattle.office_types.specs.declared.state.Net.{Net}
 use Rattle.office_types.specs.declared.state.Phase.{Phase}
 use Rattle.office_types.specs.declared.state.Phase.TheVariants.{Draft, Review}
+use Rattle.office_rules.specs.Bundling.{bundle_outcome}
+use Rattle.office_rules.specs.Facts.{in_review}
 use Rattle.office_rules.specs.Change.{Decides, IsDecision, NetAndBook}
-use Rattle.office_rules.specs.Commands.{acted, done_task}
+use Rattle.office_rules.specs.Commands.{acted, done_task, parts_done}
 use Rattle.office_rules.specs.Importing.{FileReading, Reading, Unreadable}
+use Rattle.office_rules.specs.Profile.{Two}
 use Rattle.office_rules.specs.Step.{IsRead, IsUnreadable, fault_codes, file_wanted}
 use Rattle.office_types.specs.declared.refusal.FileFault.{FileFault}
 use Rattle.office.specs.Imported.{IsCommandDecision, IsImportDecision, IsToldFault, IsWantedReading}
@@ -30,14 +33,30 @@ unwanted : (a : Action) (net : Option Net) → file_wanted net (Act a) ≡ None
 unwanted a None = refl
 unwanted a (Some net) = phase_unwanted a net net.head.phase refl
 
-pub none_read : (net : Option Net) (t : Task) (a : Action) → t ≡ Act a → IsRead (file_wanted net t) no_reading
-none_read net t a is = subst (λ u. IsRead (file_wanted net u) no_reading) (sym is) (subst (λ o. IsRead o no_reading) (sym (unwanted a net)) (tt {0}))
+pub none_read : (net : Option Net) (t : Task) (a : Action) → t ≡ Act a → IsRead Two (file_wanted net t) no_reading
+none_read net t a is = subst (λ u. IsRead Two (file_wanted net u) no_reading) (sym is) (subst (λ o. IsRead Two o no_reading) (sym (unwanted a net)) (tt {0}))
 
 pub action_decided : (team : List ℕ) (before : NetAndBook) (c : Command) (a : Action) (d : Decision) → c.task ≡ Act a
     → Decides c.net before (acted team c.net before.net before.book a) d → IsCommandDecision team before c d
 action_decided team before c a d is h = record {
   reading = no_reading;
   read = subst (λ t. IsWantedReading (file_wanted before.net t) no_reading) (sym is) (subst (λ o. IsWantedReading o no_reading) (sym (unwanted a before.net)) (tt {0}));
+  decides = subst (λ t. Decides c.net before (done_task team c.net no_reading before.net before.book t) d) (sym is) h;
+}
+
+bundle_unwanted : (parts : List Action) (net : Option Net) → file_wanted net (Bundle parts) ≡ None
+bundle_unwanted parts None = refl
+bundle_unwanted parts (Some net) = by_phase (in_review net.head.phase)
+  where
+    by_phase : (b : Bool) → ◌≡◌ {A = Option (List ℕ)} (elim b [ true ↦ None | false ↦ None ]) None
+    by_phase true = refl
+    by_phase false = refl
+
+pub bundle_decided : (team : List ℕ) (before : NetAndBook) (c : Command) (parts : List Action) (d : Decision) → c.task ≡ Bundle parts
+    → Decides c.net before (bundle_outcome (parts_done team c.net 1 before.net before.book parts)) d → IsCommandDecision team before c d
+bundle_decided team before c parts d is h = record {
+  reading = no_reading;
+  read = subst (λ t. IsWantedReading (file_wanted before.net t) no_reading) (sym is) (subst (λ o. IsWantedReading o no_reading) (sym (bundle_unwanted parts before.net)) (tt {0}));
   decides = subst (λ t. Decides c.net before (done_task team c.net no_reading before.net before.book t) d) (sym is) h;
 }
 
@@ -68,16 +87,16 @@ code_told Size other = (13, omega arith, refl)
 code_told Memory other = absurd (other refl)
 
 -- a fault that `read` gives is one that the step allows
-unreadable_if_told : (file : List ℕ) (told : FileFault) → IsToldFault file told → IsUnreadable file told
+unreadable_if_told : (file : List ℕ) (told : FileFault) → IsToldFault file told → IsUnreadable Two file told
 unreadable_if_told file told h = record {
-  unread = h.given.nothing;
+  unread = λ s reads. h.given.nothing s reads.0;
   code = subst (Contains fault_codes) (sym h.tells.code) (code_told h.fault.code h.tells.other);
   offset = (let is = h.tells.offset in let within = h.given.within in omega (arith, is, within));
 }
 
-read_if_wanted : (wanted : Option (List ℕ)) (reading : FileReading) → IsWantedReading wanted reading → IsRead wanted reading
+read_if_wanted : (wanted : Option (List ℕ)) (reading : FileReading) → IsWantedReading wanted reading → IsRead Two wanted reading
 read_if_wanted None reading h = tt
-read_if_wanted (Some file) (Reading s) h = h
+read_if_wanted (Some file) (Reading s) h = (h, tt)
 read_if_wanted (Some file) (Unreadable told) h = unreadable_if_told file told h
 
 pub decision_if_read : (team : List ℕ) (before : NetAndBook) (c : Command) (d : Decision) → IsCommandDecision team before c d → IsDecision team before c d

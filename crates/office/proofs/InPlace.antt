@@ -8,7 +8,7 @@ use Rattle.std.specs.Prelude.{IfSome, slice_get, slice_set}
 use Rattle.std.specs.Str.{bytes_eq}
 use Rattle.std.specs.declared.cmp.Ordering.TheVariants.{Less, Equal}
 use Rattle.std.proofs.lemmas.List.{set-get_or}
-use Rattle.std.proofs.lemmas.Option.{get_or_from_slice_get, none-some, slice_get-get_or}
+use Rattle.std.proofs.lemmas.Option.{get_or_from_slice_get, none-some}
 use Rattle.can_id.specs.Ident.{dbc_number}
 use Rattle.catalogue.specs.Keyed.{put}
 use Rattle.catalogue.specs.Messages.{by_number as message_order}
@@ -33,6 +33,7 @@ use Rattle.office_rules.specs.Kept.{IsNet}
 use Rattle.office_rules.specs.Numbers.{with_message}
 use Rattle.office_rules.specs.Outcome.{Entries, Outcome, Refusing, Changing, given_or, no_entries, on_net, reply_of}
 use Rattle.office_rules.specs.Signals.{new_signal, start_given, take_bits, take_bits_tests, with_last_signal}
+use Rattle.office_rules.specs.Profile.{Two}
 use Rattle.office_rules.specs.Step.{Step, net_named, office_after, step_outcome}
 use Rattle.office_law.proofs.OrderedNets.{put_there}
 use Rattle.office.proofs.PutThere.{put_same}
@@ -40,7 +41,7 @@ use Rattle.office_law.proofs.Passing.{Leaves, leaves_given, leaves_unless}
 use Rattle.office_signals.specs.Adding.{AddsSignal}
 use Rattle.office_signals.proofs.Added.{bits_added, bits_refused}
 use Rattle.office.specs.Carried.{IsDone, IsIndexOf}
-use Rattle.office.proofs.CarriedOut.{found_at, not_found}
+use Rattle.office.proofs.CarriedOut.{found_at, index_names, not_found}
 use Rattle.office.proofs.Decisions.{no_reading, none_read}
 
 -- Live messages are in the order of their numbers, so one of a number that is there is put in its place.
@@ -125,7 +126,7 @@ module _ (o : Office) (i : ℕ) (y n : Net) (sorted : IsStrictlySortedBy by_name
   )
 
   pub bits_step : (team : List ℕ) (c : Command) (take : TakeBits) (reply : Reply) → c.task ≡ Act (BitsTaken take) → net_named o c.net ≡ Some y
-      → IsDone y (take_bits team (Some y) take) reply n → Step o team c reply (record { nets = set o.nets i n; book = o.book })
+      → IsDone y (take_bits team (Some y) take) reply n → Step Two o team c reply (record { nets = set o.nets i n; book = o.book })
   bits_step team c take reply task found done =
       let out : step_outcome o team no_reading c ≡ take_bits team (Some y) take =
       ap (done_task team c.net no_reading (net_named o c.net) o.book) task ∙ ap (λ (f : Option Net). take_bits team f take) found in
@@ -140,6 +141,6 @@ module _ (o : Office) (i : ℕ) (y n : Net) (sorted : IsStrictlySortedBy by_name
 -- the same where the network of the command is found by its index
 pub bits_step_at : (o : Office) (i : ℕ) (y n : Net) (team : List ℕ) (c : Command) (take : TakeBits) (reply : Reply) → IsStrictlySortedBy by_name o.nets
     → IsIndexOf o c.net (Some i) → y ≡ get_or o.nets i y → c.task ≡ Act (BitsTaken take) → IsDone y (take_bits team (Some y) take) reply n
-    → Step o team c reply (record { nets = set o.nets i n; book = o.book })
+    → Step Two o team c reply (record { nets = set o.nets i n; book = o.book })
 bits_step_at o i y n team c take reply sorted at is task done =
-    bits_step o i y n sorted at.0 is team c take reply task (sym at.1 ∙ slice_get-get_or o.nets i y at.0 ∙ ap Some (sym is)) done
+    bits_step o i y n sorted at.0 is team c take reply task (index_names o c.net i y at is) done

@@ -1,5 +1,7 @@
 mod CarriedOut
+mod BundleDecided
 mod Decisions
 mod InPlace
+mod Excerpts
 mod Runs
 mod PutThere

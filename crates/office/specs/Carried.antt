@@ -1,10 +1,11 @@
 -- What a list of changes, decided for the network of a name, leaves of the whole office.
-use Rattle.std.specs.Prelude.{◌≡◌, ℕ, ◌<◌, List, length, Option, Some, None, slice_get}
+use Rattle.std.specs.Prelude.{◌≡◌, ℕ, ◌<◌, List, length, Option, Some, None, Result, Ok, Err, slice_get}
 use Rattle.catalogue.specs.Keyed.{put}
 use Rattle.office_types.specs.State.{by_name}
 use Rattle.office_types.specs.declared.change.Change.{Change}
+use Rattle.office_types.specs.declared.refusal.Refusal.{Refusal}
 use Rattle.office_types.specs.declared.reply.Reply.{Reply}
-use Rattle.office_types.specs.declared.reply.Reply.TheVariants.{Refused}
+use Rattle.office_types.specs.declared.reply.Reply.TheVariants.{Refused, Start}
 use Rattle.office_types.specs.declared.state.Net.{Net}
 use Rattle.office_types.specs.declared.state.Office.{Office}
 use Rattle.office_rules.specs.Change.{NetAndBook, all_applied}
@@ -18,8 +19,12 @@ with_both o both = elim both.net [
   | Some net ↦ record { nets = put by_name net o.nets; book = both.book }
 ]
 
+-- its network of the name, and its book
+abbrev pub both_of : Office → List ℕ → NetAndBook
+both_of o name = record { net = net_named o name; book = o.book }
+
 abbrev pub carried : Office → List ℕ → List Change → Office
-carried o name changes = with_both o (all_applied name changes (record { net = net_named o name; book = o.book }))
+carried o name changes = with_both o (all_applied name changes (both_of o name))
 
 -- the index of the network of the name, if it is there
 abbrev pub IsIndexOf : Office → List ℕ → Option ℕ → Type 0
@@ -30,3 +35,8 @@ IsIndexOf o name (Some i) = (i < length o.nets) × (slice_get o.nets i ≡ net_n
 abbrev pub IsDone : Net → Outcome → Reply → Net → Type 0
 IsDone before (Refusing r) reply after = (reply ≡ Refused r) × (after ≡ before)
 IsDone before (Changing r net e) reply after = (reply ≡ r) × (after ≡ net)
+
+-- the reply to a `take_bits` that was given this start, or refused
+abbrev pub bits_reply : Result ℕ Refusal → Reply
+bits_reply (Ok start) = Start start
+bits_reply (Err r) = Refused r

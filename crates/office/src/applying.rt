@@ -1,8 +1,9 @@
 //! Applying changes to a network and the book.
-ghost use Rattle.std.specs.Prelude.{◌≡◌, IfOk, OnOk, OnErr};
-ghost use Rattle.office_rules.specs.Change.{net_changed, applied, all_applied};
+ghost use Rattle.std.specs.Prelude.{◌≡◌, Some, IfOk, OnOk, OnErr};
+ghost use Rattle.office_rules.specs.Change.{AllFit, Fits, net_changed, applied, all_applied};
 ghost use Rattle.office_rules.specs.Opening.{bare_net};
 
+use crate::one_signal::{add_signal, remove_signal};
 use catalogue::{Copying, Items, put_item};
 use office_net::same_ident;
 use office_types::{Change, Head, Net, NetName, SpnBook};
@@ -53,9 +54,10 @@ pub(crate) fn bare_net(alloc: Global, name: &NetName, head: Head) -> Result<Net,
     })
 }
 
-/// Applies a change to a network that is there; one of the book does nothing to it. When memory runs out, nothing
-/// changes.
+/// Applies a change that fits to a network that is there; one of the book does nothing to it. When memory runs out,
+/// nothing changes.
 pub(crate) fn change_net(alloc: Global, net: &mut Net, change: Change) -> Result<(), AllocError>
+    requires { Fits change (Some net.old) }
     ensures ok { OnOk result (net.new ≡ net_changed change net.old) }
     ensures err { OnErr result (net.new ≡ net.old) }
 {
@@ -70,6 +72,8 @@ pub(crate) fn change_net(alloc: Global, net: &mut Net, change: Change) -> Result
                 .retain(|live| !same_ident(live.message.ident, ident));
             Ok(())
         }
+        Change::AddSignal(message, signal) => add_signal(alloc, net, &message, signal),
+        Change::RemoveSignal(path) => remove_signal(alloc, net, &path),
         Change::SetBlock(block) => put_item(&mut net.blocks, block),
         Change::SetSpnBlock(_) | Change::EnterSpn(_) => Ok(()),
         Change::Hold(ident) => put_item(&mut net.held, ident),
@@ -82,12 +86,14 @@ pub(crate) fn change_net(alloc: Global, net: &mut Net, change: Change) -> Result
     }
 }
 
+/// Applies a change that fits.
 fn change_draft(
     alloc: Global,
     name: &NetName,
     draft: &mut Draft,
     change: Change,
 ) -> Result<(), AllocError>
+    requires { Fits change draft.old.net }
     ensures { OnOk result (draft.new ≡ applied name.now change draft.old) }
 {
     match change {
@@ -106,13 +112,14 @@ fn change_draft(
     }
 }
 
-/// Applies changes in order.
+/// Applies changes in order, each of which fits after those before it.
 pub(crate) fn change_all(
     alloc: Global,
     name: &NetName,
     draft: &mut Draft,
     changes: Items<Change>,
 ) -> Result<(), AllocError>
+    requires { AllFit name.now changes draft.old }
     ensures { OnOk result (draft.new ≡ all_applied name.now changes draft.old) }
 {
     for change in changes.into_vec() {

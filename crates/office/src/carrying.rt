@@ -7,7 +7,9 @@ ghost use Rattle.catalogue.specs.Keyed.{put};
 ghost use Rattle.office_types.specs.State.{by_name};
 ghost use Rattle.office_types.specs.declared.state.Net.{Net};
 ghost use Rattle.office_types.specs.declared.state.Office.{Office};
-ghost use Rattle.office.specs.Carried.{IsIndexOf, carried};
+ghost use Rattle.office_rules.specs.Change.{AllFit, Fits};
+ghost use Rattle.office_rules.specs.Step.{net_named};
+ghost use Rattle.office.specs.Carried.{IsIndexOf, both_of, carried};
 
 use crate::applying::{Draft, bare_net, change_all, change_net};
 use catalogue::{Copying, Items, Slot, put_item, slot_of};
@@ -54,7 +56,7 @@ fn put_net(nets: &mut Vec<Net>, net: Net) -> Result<(), AllocError>
     }
 }
 
-/// Makes one change in place. When memory runs out, nothing changes.
+/// Makes one change, which fits, in place. When memory runs out, nothing changes.
 fn carry_one_out(
     alloc: Global,
     name: &NetName,
@@ -65,6 +67,7 @@ fn carry_one_out(
 ) -> Result<(), AllocError>
     requires sorted { IsStrictlySortedBy by_name nets.old.items }
     requires index { IsIndexOf (record { nets = nets.old.items; book = book.old }) name.now index }
+    requires fits { Fits change (net_named (record { nets = nets.old.items; book = book.old }) name.now) }
     ensures ok { OnOk result (◌≡◌ {A = Office} (record { nets = nets.new.items; book = book.new }) (carried (record { nets = nets.old.items; book = book.old }) name.now (change ∷ []))) }
     ensures err { OnErr result ((nets.new.items ≡ nets.old.items) × (book.new ≡ book.old)) }
 {
@@ -84,7 +87,12 @@ fn carry_one_out(
     }
 }
 
-fn draft_of(alloc: Global, found: Option<&Net>, book: &SpnBook) -> Result<Draft, AllocError>
+/// A copy of the network, if it is there, and of the book.
+pub(crate) fn draft_of(
+    alloc: Global,
+    found: Option<&Net>,
+    book: &SpnBook,
+) -> Result<Draft, AllocError>
     ensures { IfOk result (λ draft. draft ≡ record { net = option_copied found.entry; book = book.now }) }
 {
     let net = match found {
@@ -97,7 +105,8 @@ fn draft_of(alloc: Global, found: Option<&Net>, book: &SpnBook) -> Result<Draft,
     })
 }
 
-/// Makes several changes, on copies first. When memory runs out, nothing changes.
+/// Makes several changes, each of which fits after those before it, on copies first. When memory runs out, nothing
+/// changes.
 fn carry_all_out(
     alloc: Global,
     name: &NetName,
@@ -107,6 +116,7 @@ fn carry_all_out(
     changes: Items<Change>,
 ) -> Result<(), AllocError>
     requires index { IsIndexOf (record { nets = nets.old.items; book = book.old }) name.now index }
+    requires fit { AllFit name.now changes (both_of (record { nets = nets.old.items; book = book.old }) name.now) }
     ensures ok { OnOk result (◌≡◌ {A = Office} (record { nets = nets.new.items; book = book.new }) (carried (record { nets = nets.old.items; book = book.old }) name.now changes)) }
     ensures err { OnErr result ((nets.new.items ≡ nets.old.items) × (book.new ≡ book.old)) }
 {
@@ -120,8 +130,9 @@ fn carry_all_out(
     Ok(())
 }
 
-/// Carries the changes out that were decided for the network of the name. One change is made in place; for more, the
-/// network and the book are copied first, so that when memory runs out nothing changes.
+/// Carries out the changes that were decided for the network of the name, each of which fits after those before it. One
+/// change is made in place; for more, the network and the book are copied first, so that when memory runs out nothing
+/// changes.
 pub(crate) fn carry_out(
     alloc: Global,
     name: &NetName,
@@ -132,6 +143,7 @@ pub(crate) fn carry_out(
 ) -> Result<(), AllocError>
     requires sorted { IsStrictlySortedBy by_name nets.old.items }
     requires index { IsIndexOf (record { nets = nets.old.items; book = book.old }) name.now index }
+    requires fit { AllFit name.now changes (both_of (record { nets = nets.old.items; book = book.old }) name.now) }
     ensures ok { OnOk result (◌≡◌ {A = Office} (record { nets = nets.new.items; book = book.new }) (carried (record { nets = nets.old.items; book = book.old }) name.now changes)) }
     ensures err { OnErr result ((nets.new.items ≡ nets.old.items) × (book.new ≡ book.old)) }
 {

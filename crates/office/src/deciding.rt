@@ -5,6 +5,7 @@ ghost use Rattle.office_rules.specs.Change.{Decides, IsDecision};
 ghost use Rattle.office_rules.specs.Commands.{acted};
 ghost use Rattle.office.specs.Imported.{IsCommandDecision};
 
+use crate::bundling::decide_bundle;
 use crate::importing::decide_import_of;
 use crate::on_message::{remove_signal, retire, set_values, take_bits, take_spn};
 use office_import::decide_release;
@@ -15,7 +16,8 @@ use office_take::{
 use office_types::{Action, Command, Decision, Net, NetName, SpnBook, Task, Team};
 use std::alloc::{AllocError, Global};
 
-fn decide_action(
+/// Decides an action.
+pub(crate) fn decide_action(
     alloc: Global,
     team: &Team,
     name: &NetName,
@@ -60,5 +62,6 @@ pub fn decide(
     match &command.task {
         Task::Act(action) => decide_action(alloc, team, &command.net, net, book, action),
         Task::Import(file) => decide_import_of(alloc, team, net, file.as_slice()),
+        Task::Bundle(parts) => decide_bundle(alloc, team, &command.net, net, book, parts),
     }
 }

@@ -1,19 +1,19 @@
 //! Taking bits in place.
 //!
-//! The change of a decision carries the whole message, as a row of a table does. Where the network is in memory, that
-//! would be a copy of all signals for one more, so here the signal is added to the live message itself.
+//! A change is carried out on a copy of its message. Where the network is in memory, that would be a copy of all signals
+//! for one more, so here the signal is added to the live message itself.
 ghost use Rattle.std.specs.Prelude.{◌≡◌, ◌<◌, None, Some, IfOk, IfSome, OnOk, OnErr, length, position, slice_get, slice_set};
 ghost use Rattle.std.specs.Str.{bytes_eq};
 ghost use Rattle.catalogue.specs.Refusing.{first_refusal};
 ghost use Rattle.catalogue.specs.Signals.{signal_tests};
 ghost use Rattle.office_rules.specs.Kept.{IsNet};
 ghost use Rattle.office_rules.specs.Signals.{take_bits, with_last_signal};
-ghost use Rattle.office.specs.Carried.{IsDone};
+ghost use Rattle.office.specs.Carried.{IsDone, bits_reply};
 
 use catalogue::{Items, Name, SheetCode, Signal};
 use office_net::message_facts;
 use office_signals::new_signal_for;
-use office_types::{LiveMessage, Net, Reply, TakeBits, Team};
+use office_types::{LiveMessage, Net, Refusal, Reply, TakeBits, Team};
 use std::alloc::{AllocError, Global};
 
 /// The index of the live message of the name.
@@ -24,7 +24,11 @@ fn index_of_live(live: &[LiveMessage], name: &Name) -> Option<usize>
 }
 
 /// Adds a signal, which isn't refused, as the last one of a message. When memory runs out, nothing changes.
-fn add_last(alloc: Global, live: &mut LiveMessage, signal: Signal) -> Result<(), AllocError>
+pub(crate) fn add_last(
+    alloc: Global,
+    live: &mut LiveMessage,
+    signal: Signal,
+) -> Result<(), AllocError>
     requires { first_refusal (signal_tests live.old.message.signals signal) ≡ None }
     ensures ok { OnOk result (live.new ≡ with_last_signal live.old signal) }
     ensures err { OnErr result (live.new ≡ live.old) }
@@ -54,28 +58,38 @@ fn add_at(
     added
 }
 
-/// Carries the team's `take_bits` out on its network: the signal is added to its message, or the command is refused and
-/// nothing changes. When memory runs out, nothing changes.
+/// The reply to a `take_bits`: the start that it was given, or why it was refused.
+pub(crate) fn bits_reply(given: Result<u16, Refusal>) -> Reply
+    ensures { result ≡ bits_reply given }
+{
+    match given {
+        Ok(start) => Reply::Start(start),
+        Err(refusal) => Reply::Refused(refusal),
+    }
+}
+
+/// Carries the team's `take_bits` out on its network: the signal is added to its message, of which the start is given, or
+/// the command is refused and nothing changes. When memory runs out, nothing changes.
 pub(crate) fn take_bits_in_place(
     alloc: Global,
     team: &Team,
     net: &mut Net,
     take: &TakeBits,
-) -> Result<Reply, AllocError>
+) -> Result<Result<u16, Refusal>, AllocError>
     requires { IsNet net.old }
-    ensures ok { IfOk result (λ reply. IsDone net.old (take_bits team.now (Some net.old) take.now) reply net.new) }
+    ensures ok { IfOk result (λ given. IsDone net.old (take_bits team.now (Some net.old) take.now) (bits_reply given) net.new) }
     ensures err { OnErr result (net.new ≡ net.old) }
 {
     let index = index_of_live(net.live.as_slice(), &take.path.message);
     let facts = message_facts(net, &take.path.message);
     match new_signal_for(alloc, team, &facts, take)? {
-        Err(refusal) => Ok(Reply::Refused(refusal)),
+        Err(refusal) => Ok(Err(refusal)),
         Ok(signal) => match index {
             None => unreachable!(),
             Some(index) => {
                 let start = signal.layout.start;
                 add_at(alloc, &mut net.live, index, signal)?;
-                Ok(Reply::Start(start))
+                Ok(Ok(start))
             }
         },
     }

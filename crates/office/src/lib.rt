@@ -11,18 +11,23 @@
 //! `take_bits` alone goes another way here (`in_place.rt`): its signal is added to the live message, which a change would
 //! copy.
 //!
-//! The definitions are in `office_rules/specs`: `Commands.antt` and `Step.antt` what a command comes to, `Change.antt`
+//! The definitions are in `office_rules/specs`: `Commands.antt` and `Step.antt` the outcome of a command, `Change.antt`
 //! what changes do. `specs/Carried.antt` here has what they do to a whole office.
 #![tactic(auto)]
 
 mod applying;
+mod bundling;
 mod carrying;
 mod deciding;
+mod excerpt;
 mod importing;
 mod in_place;
 mod on_message;
+mod one_signal;
 mod plain;
 mod stepping;
 
 pub use deciding::decide;
+pub use excerpt::{decide_excerpt, goes_by_excerpt};
+pub use office_net::Excerpt;
 pub use plain::PlainOffice;

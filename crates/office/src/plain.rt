@@ -1,6 +1,7 @@
 //! An office in memory.
 ghost use Rattle.std.specs.Prelude.{◌≡◌, IfOk, OnOk, OnErr};
 ghost use Rattle.office_rules.specs.Kept.{IsOffice};
+ghost use Rattle.office_rules.specs.Profile.{Two};
 ghost use Rattle.office_rules.specs.Step.{opening, Step, HasRun, HasBegun};
 
 use crate::stepping::step;
@@ -56,7 +57,23 @@ impl PlainOffice {
         team: &Team,
         command: &Command,
     ) -> Result<Reply, AllocError>
-        ensures step { IfOk result (λ reply. Step self.old team.now command.now reply self.new) }
+        ensures step { IfOk result (λ reply. Step Two self.old team.now command.now reply self.new) }
+        ensures err { OnErr result (self.new ≡ self.old) }
+    {
+        let (reply, _copy) = self.step_with_copy(alloc, team, command)?;
+        Ok(reply)
+    }
+
+    /// One step as [`PlainOffice::step`] takes it, with its reply twice: the memory for the second one is taken before
+    /// anything changes.
+    pub fn step_with_copy(
+        &mut self,
+        alloc: Global,
+        team: &Team,
+        command: &Command,
+    ) -> Result<(Reply, Reply), AllocError>
+        ensures step { IfOk result (λ both. Step Two self.old team.now command.now both.0 self.new) }
+        ensures copy { IfOk result (λ both. both.1 ≡ both.0) }
         ensures err { OnErr result (self.new ≡ self.old) }
     {
         team.as_bytes();

@@ -2,7 +2,7 @@
 use Rattle.std.proofs.Common.{◌≡◌, Some, refl}
 use Rattle.office_fields.specs.declared.kind.ActionKind.TheVariants as act
 use Rattle.office_fields.specs.declared.kind.CommandKind.{CommandKind}
-use Rattle.office_fields.specs.declared.kind.CommandKind.TheVariants.{Act, Import}
+use Rattle.office_fields.specs.declared.kind.CommandKind.TheVariants.{Act, Import, Bundle}
 use Rattle.office_fields.specs.Kind.{kind_of_word, word_of}
 
 pub named_back : (kind : CommandKind) → kind_of_word (word_of kind) ≡ Some kind
@@ -21,3 +21,4 @@ named_back (Act act.Approve) = refl
 named_back (Act act.Reject) = refl
 named_back (Act act.Release) = refl
 named_back Import = refl
+named_back Bundle = refl

@@ -29,11 +29,11 @@ numbers : map (value_from kind.Number) (codes "0" ∷ codes "007" ∷ codes "429
     ≡ Some 0 ∷ Some 7 ∷ Some 4294967295 ∷ Some 4294967295 ∷ None ∷ None ∷ None ∷ None ∷ None ∷ None ∷ None ∷ []
 numbers = refl
 
-ranges : value_from kind.Reviews (codes "9") ∷ value_from kind.Reviews (codes "10") ∷ value_from kind.Length (codes "64") ∷ value_from kind.Length (codes "65")
+ranges : value_from kind.Reviews (codes "9") ∷ value_from kind.Reviews (codes "10") ∷ value_from kind.Length (codes "1785") ∷ value_from kind.Length (codes "1786")
     ∷ value_from kind.Priority (codes "7") ∷ value_from kind.Priority (codes "8") ∷ value_from kind.Address (codes "255") ∷ value_from kind.Address (codes "256")
     ∷ value_from kind.Size (codes "1") ∷ value_from kind.Size (codes "0") ∷ value_from kind.Size (codes "64") ∷ value_from kind.Size (codes "65")
     ∷ value_from kind.Start (codes "65535") ∷ value_from kind.Start (codes "65536") ∷ []
-    ≡ Some 9 ∷ None ∷ Some 64 ∷ None ∷ Some 7 ∷ None ∷ Some 255 ∷ None ∷ Some 1 ∷ None ∷ Some 64 ∷ None ∷ Some 65535 ∷ None ∷ []
+    ≡ Some 9 ∷ None ∷ Some 1785 ∷ None ∷ Some 7 ∷ None ∷ Some 255 ∷ None ∷ Some 1 ∷ None ∷ Some 64 ∷ None ∷ Some 65535 ∷ None ∷ []
 ranges = refl
 
 truths : map (value_from kind.Truth) (codes "true" ∷ codes "false" ∷ codes "1" ∷ codes "True" ∷ [] ∷ []) ≡ Some true ∷ Some false ∷ None ∷ None ∷ None ∷ []

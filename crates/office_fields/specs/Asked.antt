@@ -1,6 +1,7 @@
 -- The command that named values give.
 use Rattle.std.specs.Prelude.{List, Option, Some}
 use Rattle.std.specs.Option.{option_map}
+use Rattle.office_types.specs.declared.command.Action.{Action}
 use Rattle.office_types.specs.declared.command.Command.{Command}
 use Rattle.office_types.specs.declared.command.Task.TheVariants as task
 use Rattle.office_fields.specs.declared.asked.Asked.{Asked}
@@ -9,9 +10,9 @@ use Rattle.office_fields.specs.declared.asked.FileImport.{FileImport}
 use Rattle.office_fields.specs.declared.field.Field.TheVariants as field
 use Rattle.office_fields.specs.declared.kind.ActionKind.{ActionKind}
 use Rattle.office_fields.specs.declared.kind.CommandKind.{CommandKind}
-use Rattle.office_fields.specs.declared.kind.CommandKind.TheVariants.{Act, Import}
+use Rattle.office_fields.specs.declared.kind.CommandKind.TheVariants.{Act, Import, Bundle}
 use Rattle.office_fields.specs.Action.{action_of}
-use Rattle.office_fields.specs.Field.{fields_of}
+use Rattle.office_fields.specs.Field.{fields_of, part_fields}
 use Rattle.office_fields.specs.Given.{NamedValue, are_known, given}
 use Rattle.office_fields.specs.Value.{◌>>=◌, where_true}
 
@@ -22,7 +23,11 @@ command_of k values = where_true (are_known (fields_of (Act k)) values) do
   action ← action_of k values
   Some (record { net = net; task = task.Act action })
 
--- the import of a file that is still to be read
+-- a part of a bundle: a command without its network
+abbrev pub part_of : ActionKind → List NamedValue → Option Action
+part_of k values = where_true (are_known (part_fields k) values) (action_of k values)
+
+-- the import of a file that is still to be read, or the bundle of the parts in one
 abbrev pub file_import_of : List NamedValue → Option FileImport
 file_import_of values = where_true (are_known (fields_of Import) values) do
   net ← given field.Net values
@@ -32,3 +37,4 @@ file_import_of values = where_true (are_known (fields_of Import) values) do
 abbrev pub asked_of : CommandKind → List NamedValue → Option Asked
 asked_of (Act k) values = option_map asked.Command (command_of k values)
 asked_of Import values = option_map asked.Import (file_import_of values)
+asked_of Bundle values = option_map asked.Bundle (file_import_of values)

@@ -9,7 +9,7 @@ use Rattle.office_fields.specs.declared.field.Occurrence.TheVariants.{Required, 
 use Rattle.office_fields.specs.declared.kind.ActionKind.{ActionKind}
 use Rattle.office_fields.specs.declared.kind.ActionKind.TheVariants as act
 use Rattle.office_fields.specs.declared.kind.CommandKind.{CommandKind}
-use Rattle.office_fields.specs.declared.kind.CommandKind.TheVariants.{Act, Import}
+use Rattle.office_fields.specs.declared.kind.CommandKind.TheVariants.{Act, Import, Bundle}
 
 -- a field: its name, the kind of its values, and how often it may be given
 pub record Row : Type 0 where
@@ -87,3 +87,8 @@ action_fields act.Release = []
 abbrev pub fields_of : CommandKind → List Field
 fields_of (Act k) = field.Net ∷ action_fields k
 fields_of Import = field.Net ∷ field.File ∷ []
+fields_of Bundle = field.Net ∷ field.File ∷ []
+
+-- those of a part of a bundle, which doesn't name its network
+abbrev pub part_fields : ActionKind → List Field
+part_fields k = action_fields k

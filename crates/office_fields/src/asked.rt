@@ -1,6 +1,6 @@
 //! The command that named values give.
 ghost use Rattle.std.specs.Prelude.{◌≡◌};
-ghost use Rattle.office_fields.specs.Asked.{asked_of, command_of, file_import_of};
+ghost use Rattle.office_fields.specs.Asked.{asked_of, command_of, file_import_of, part_of};
 ghost use Rattle.office_fields.specs.Given.{named_values};
 ghost use Rattle.office_fields.specs.Reading.{Reads};
 
@@ -11,7 +11,7 @@ use crate::kind::{ActionKind, CommandKind};
 use crate::path::FilePath;
 use crate::unread::Unread;
 use catalogue::Items;
-use office_types::{Command, NetName, Task};
+use office_types::{Action, Command, NetName, Parts, Task};
 use std::alloc::Global;
 
 /// What named values ask for.
@@ -21,6 +21,8 @@ pub enum Asked {
     Command(Command),
     /// To import a file, which is still to be read.
     Import(FileImport),
+    /// To carry out the parts in a file, which is still to be read.
+    Bundle(FileImport),
 }
 
 /// The import of a file that is still to be read.
@@ -32,7 +34,7 @@ pub struct FileImport {
 }
 
 impl FileImport {
-    ghost use Rattle.office_types.specs.declared.command.Task.TheVariants.{Import};
+    ghost use Rattle.office_types.specs.declared.command.Task.TheVariants.{Bundle, Import};
 
     /// The command that imports these bytes, which are those of the file. Takes no memory.
     pub fn with_bytes(self, bytes: Vec<u8>) -> Command
@@ -42,6 +44,17 @@ impl FileImport {
         Command {
             net,
             task: Task::Import(Items::from_vec(bytes)),
+        }
+    }
+
+    /// The command that carries these parts out, which are those in the file. Takes no memory.
+    pub fn with_parts(self, parts: Parts<Action>) -> Command
+        ensures { result ≡ record { net = self.net; task = Bundle parts } }
+    {
+        let FileImport { net, file: _file } = self;
+        Command {
+            net,
+            task: Task::Bundle(parts),
         }
     }
 
@@ -75,7 +88,18 @@ pub fn command_of(
     })
 }
 
-/// The import with these values, in any order. `Wrong` as for [`command_of`].
+/// The part of a bundle with these values, in any order: as [`command_of`], but without the network, which the bundle
+/// names.
+pub fn part_of(alloc: Global, kind: ActionKind, values: &[GivenValue<'_>]) -> Result<Action, Unread>
+    ensures { Reads (part_of kind (named_values values.now)) result }
+{
+    if !are_known(kind.part_fields(), values) {
+        return Err(Unread::Wrong);
+    }
+    action_of(alloc, kind, values)
+}
+
+/// The import or the bundle with these values, in any order. `Wrong` as for [`command_of`].
 fn file_import_of(alloc: Global, values: &[GivenValue<'_>]) -> Result<FileImport, Unread>
     ensures { Reads (file_import_of (named_values values.now)) result }
 {
@@ -98,6 +122,7 @@ pub fn asked_of(
     match kind {
         CommandKind::Act(kind) => Ok(Asked::Command(command_of(alloc, kind, values)?)),
         CommandKind::Import => Ok(Asked::Import(file_import_of(alloc, values)?)),
+        CommandKind::Bundle => Ok(Asked::Bundle(file_import_of(alloc, values)?)),
     }
 }
 

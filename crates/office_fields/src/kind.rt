@@ -44,10 +44,12 @@ pub enum CommandKind {
     Act(ActionKind),
     /// `import`, which reads one.
     Import,
+    /// `bundle`, which reads the commands of a file.
+    Bundle,
 }
 
 /// All commands.
-const COMMANDS: [CommandKind; 15] = [
+const COMMANDS: [CommandKind; 16] = [
     CommandKind::Act(ActionKind::OpenNet),
     CommandKind::Act(ActionKind::Grant),
     CommandKind::Act(ActionKind::AddNode),
@@ -63,6 +65,7 @@ const COMMANDS: [CommandKind; 15] = [
     CommandKind::Act(ActionKind::Approve),
     CommandKind::Act(ActionKind::Reject),
     CommandKind::Act(ActionKind::Release),
+    CommandKind::Bundle,
 ];
 
 impl ActionKind {
@@ -91,6 +94,31 @@ impl ActionKind {
     }
 }
 
+impl ActionKind {
+    ghost use Rattle.office_fields.specs.Kind.{action_of_word};
+    ghost use Rattle.office_fields.specs.Field.{part_fields};
+
+    /// The command without a file that the word names, or `None` where it names none.
+    pub fn of_word(word: &[u8]) -> Option<ActionKind>
+        ensures { result ≡ action_of_word word.now }
+    {
+        match CommandKind::of_word(word) {
+            Some(CommandKind::Act(kind)) => Some(kind),
+            _ => None,
+        }
+    }
+
+    /// The fields of a part of a bundle: those of the command without its network, which the bundle names.
+    pub fn part_fields(self) -> &'static [Field]
+        ensures { result.now ≡ part_fields self }
+    {
+        match action_fields(self) {
+            [_net, others @ ..] => others,
+            [] => &[],
+        }
+    }
+}
+
 impl CommandKind {
     ghost use Rattle.office_fields.specs.Kind.{all_kinds, kind_of_word, word_of};
     ghost use Rattle.office_fields.specs.Field.{fields_of};
@@ -110,6 +138,7 @@ impl CommandKind {
         match self {
             CommandKind::Act(kind) => kind.word(),
             CommandKind::Import => "import",
+            CommandKind::Bundle => "bundle",
         }
     }
 
@@ -129,7 +158,7 @@ impl CommandKind {
     {
         match self {
             CommandKind::Act(kind) => action_fields(kind),
-            CommandKind::Import => &[Field::Net, Field::File],
+            CommandKind::Import | CommandKind::Bundle => &[Field::Net, Field::File],
         }
     }
 }

@@ -26,7 +26,7 @@ mod texts;
 mod unread;
 mod values;
 
-pub use asked::{Asked, FileImport, asked_of, command_of};
+pub use asked::{Asked, FileImport, asked_of, command_of, part_of};
 pub use field::{Field, FieldKind, Occurrence};
 pub use given::GivenValue;
 pub use kind::{ActionKind, CommandKind};

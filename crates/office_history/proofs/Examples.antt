@@ -13,6 +13,7 @@ use Rattle.office_types.specs.declared.refusal.Refusal.TheVariants.{BlockFull}
 use Rattle.office_types.specs.declared.reply.Reply.TheVariants.{Done, Number, Refused}
 use Rattle.office_types.specs.declared.state.Office.{Office}
 use Rattle.office_rules.specs.Outcome.{reply_of}
+use Rattle.office_rules.specs.Profile.{Two}
 use Rattle.office_rules.specs.Step.{IsRead, Step, file_wanted, net_named, office_after, opening, step_outcome}
 use Rattle.office_rules.proofs.Asking.{Asked, asks, bus, engine, grants, left_by, office, on_bus, opens, takes, takes_spn, truck}
 use Rattle.office_history.specs.declared.arrival.Answer.{Answer}
@@ -23,7 +24,7 @@ use Rattle.office_law.specs.Apart.{asks_book}
 use Rattle.office_history.specs.Laws.{HaveOneNetwork, is_on, new_spns}
 
 abbrev answered : Asked → List ℕ → List ℕ → Answer → Answered
-answered q key content answer = record { team = q.team; key = key; content = content; command = q.command; answer = answer }
+answered q key content answer = record { profile = Two; team = q.team; key = key; content = content; command = q.command; answer = answer }
 
 abbrev take_1 : Asked
 take_1 = takes engine (codes "E1") None
@@ -51,8 +52,8 @@ asked_first = opens Can 0 ∷ grants engine block.Std 256 258 ∷ take_1 ∷ ret
 the_first : first_arrivals moved_on ≡ take 5 moved_on
 the_first = refl
 
-step_of : (o : Office) (q : Asked) → IsRead (file_wanted (net_named o q.command.net) q.command.task) q.reading
-    → Step o q.team q.command (reply_of (step_outcome o q.team q.reading q.command)) (office_after o (step_outcome o q.team q.reading q.command))
+step_of : (o : Office) (q : Asked) → IsRead Two (file_wanted (net_named o q.command.net) q.command.task) q.reading
+    → Step Two o q.team q.command (reply_of (step_outcome o q.team q.reading q.command)) (office_after o (step_outcome o q.team q.reading q.command))
 step_of o q read = record { reading = q.reading; read = read; answered = refl; left = refl }
 
 abbrev pub after : ℕ → Office

@@ -107,7 +107,7 @@ own_again h a f is answered =
 -- ---- legal histories
 
 legal_first : (h : List Answered) (before after : Office) (a : Answered) (reply : Reply) → IsLegal h before → first_of h a ≡ None
-    → a.answer ≡ answer.Reply reply → Step before a.team a.command reply after → IsLegal (h ++ a ∷ []) after
+    → a.answer ≡ answer.Reply reply → Step a.profile before a.team a.command reply after → IsLegal (h ++ a ∷ []) after
 legal_first h before after a reply legal none told step =
     let firsts = first_new h a none in
     record {

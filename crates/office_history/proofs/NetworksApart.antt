@@ -16,6 +16,7 @@ use Rattle.office_types.specs.declared.state.Office.{Office}
 use Rattle.office_rules.specs.Commands.{outcome}
 use Rattle.office_rules.specs.Importing.{FileReading}
 use Rattle.office_rules.specs.Outcome.{reply_of}
+use Rattle.office_rules.specs.Profile.{Profile}
 use Rattle.office_rules.specs.Step.{IsRead, Run, Step, file_wanted, net_named, office_after, opening, step_outcome}
 use Rattle.office_law.specs.Apart.{asks_book}
 use Rattle.office_law.specs.Histories.{history}
@@ -148,8 +149,8 @@ module _ (name : List ℕ) where
   reply_in (answer.Reply r) = r
   reply_in KeyReused = Done
 
-  abbrev entry : Answered → List ℕ × Command × Reply
-  entry a = (a.team, a.command, reply_in a.answer)
+  abbrev entry : Answered → Profile × List ℕ × Command × Reply
+  entry a = (a.profile, a.team, a.command, reply_in a.answer)
 
   first_answer : (a : Answered) (list : List Answered) (r : Reply) (rs : List Reply) → map answer_of (a ∷ list) ≡ map answer.Reply (r ∷ rs) → a.answer ≡ answer.Reply r
   first_answer a list r rs e = cc
@@ -167,12 +168,12 @@ module _ (name : List ℕ) where
       let below : rest ≡ map entry (filter (is_on name) list) = history_is list rs (later_answers a list r rs told) in
       elim (cases_Bool (is_on name a)) [
         | inl on ↦
-            ap (λ t. if t then (a.team, a.command, r) ∷ rest else rest) on
-            ∙ ap (λ s. (a.team, a.command, reply_in s) ∷ rest) (sym (first_answer a list r rs told))
+            ap (λ t. if t then (a.profile, a.team, a.command, r) ∷ rest else rest) on
+            ∙ ap (λ s. (a.profile, a.team, a.command, reply_in s) ∷ rest) (sym (first_answer a list r rs told))
             ∙ ap (λ l. entry a ∷ l) below
             ∙ sym (ap (map entry) (filter_by (is_on name) a list true on))
         | inr off ↦
-            ap (λ t. if t then (a.team, a.command, r) ∷ rest else rest) off
+            ap (λ t. if t then (a.profile, a.team, a.command, r) ∷ rest else rest) off
             ∙ below
             ∙ sym (ap (map entry) (filter_by (is_on name) a list false off))
       ]
@@ -202,7 +203,7 @@ record Ends (o : Office) (list : List Answered) (a : Answered) (after : Office) 
   replied : map answer_of list ≡ map answer.Reply told
   run : Run o (map request_of list) told mid
   answered : a.answer ≡ answer.Reply reply
-  step : Step mid a.team a.command reply after
+  step : Step a.profile mid a.team a.command reply after
 
 only_answer : (a : Answered) (r : Reply) → map answer_of (a ∷ []) ≡ map answer.Reply (r ∷ []) → a.answer ≡ answer.Reply r
 only_answer a r e = cc
@@ -217,7 +218,7 @@ ends [] a (r ∷ []) o after told run = record {
   replied = refl;
   run = refl;
   answered = only_answer a r told;
-  step = subst (Step o a.team a.command r) (sym run.2) run.1;
+  step = subst (Step a.profile o a.team a.command r) (sym run.2) run.1;
 }
 ends [] a (r ∷ s ∷ rs) o after told run = absurd run.2
 ends (b ∷ list) a [] o after told run = absurd run
@@ -234,15 +235,15 @@ ends (b ∷ list) a (r ∷ rs) o after told run =
     }
 
 -- a step in an office with the same network, where the book isn't asked
-module _ (o p after : Office) (team : List ℕ) (c : Command) (r : Reply) (unasked : asks_book c.task ≡ false) (same : net_named o c.net ≡ net_named p c.net)
-    (step : Step o team c r after) where
+module _ (profile : Profile) (o p after : Office) (team : List ℕ) (c : Command) (r : Reply) (unasked : asks_book c.task ≡ false) (same : net_named o c.net ≡ net_named p c.net)
+    (step : Step profile o team c r after) where
   abbrev left_there : Office
   left_there = office_after p (step_outcome p team step.reading c)
 
-  step_there : Step p team c r left_there
+  step_there : Step profile p team c r left_there
   step_there = record {
     reading = step.reading;
-    read = subst (λ n. IsRead (file_wanted n c.task) step.reading) same step.read;
+    read = subst (λ n. IsRead profile (file_wanted n c.task) step.reading) same step.read;
     answered = step.answered
         ∙ ap reply_of (task_alike team c.net step.reading (net_named o c.net) o.book p.book c.task unasked
         ∙ ap (λ n. outcome team step.reading n p.book c) same);
@@ -277,9 +278,9 @@ module _ (once : ReadsAsOneAtMost) (h g : List Answered) (a : Answered) (unasked
       (subst (λ list. Run opening (map request_of list) legal.replies office) firsts legal.run) in
       let net_is = one_network once name h g way.mid p (pairs_before NamesOneNetwork h a one_h) (pairs_before NamesOneNetwork g a one_g) same
       (record { replies = way.told; replied = way.replied; run = way.run }) (record { replies = other.replies; replied = other.replied; run = other.run }) in (
-        left_there way.mid p office a.team a.command way.reply unasked net_is way.step,
-        histories_grow.first g p (left_there way.mid p office a.team a.command way.reply unasked net_is way.step) a way.reply other (one_first ∙ new) way.answered
-            (step_there way.mid p office a.team a.command way.reply unasked net_is way.step),
+        left_there a.profile way.mid p office a.team a.command way.reply unasked net_is way.step,
+        histories_grow.first g p (left_there a.profile way.mid p office a.team a.command way.reply unasked net_is way.step) a way.reply other (one_first ∙ new) way.answered
+            (step_there a.profile way.mid p office a.team a.command way.reply unasked net_is way.step),
       )
 
   repeated : (first : Answered) → first_of h a ≡ Some first → IsLegalHistory (g ++ a ∷ [])

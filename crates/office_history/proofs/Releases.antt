@@ -1,5 +1,5 @@
 -- The releases of a legal history that goes on.
-use Rattle.std.proofs.Common.{◌≡◌, ◌∙◌, ℕ, List, [], ◌∷◌, ◌++◌, append-nil, Option, Some, map, filter, refl, sym, ap, subst, inl, inr}
+use Rattle.std.proofs.Common.{◌≡◌, ◌∙◌, ◌⊎◌, ℕ, List, [], ◌∷◌, ◌++◌, append-nil, Option, Some, map, filter, refl, sym, ap, subst, inl, inr}
 use Rattle.std.specs.Str.{bytes_eq}
 use Rattle.std.proofs.lemmas.Bool.{cases_Bool}
 use Rattle.std.proofs.lemmas.List.{append_assoc, map-append}
@@ -7,14 +7,19 @@ use Rattle.std.proofs.lemmas.List.Elements.{filter-append}
 use Rattle.catalogue.specs.declared.sheet.Sheet.{Sheet}
 use Rattle.office_types.specs.State.{sheet_of}
 use Rattle.office_types.specs.declared.book.SpnBook.{SpnBook}
+use Rattle.office_types.specs.declared.command.Action.TheVariants as act
 use Rattle.office_types.specs.declared.command.Command.{Command}
+use Rattle.office_types.specs.declared.command.Task.{Task}
+use Rattle.office_types.specs.declared.command.Task.TheVariants.{Act, Import, Bundle}
 use Rattle.office_types.specs.declared.reply.Reply.{Reply}
 use Rattle.office_types.specs.declared.state.Net.{Net}
 use Rattle.office_types.specs.declared.state.Office.{Office}
 use Rattle.office_rules.specs.Commands.{outcome}
 use Rattle.office_rules.specs.Importing.{FileReading}
 use Rattle.office_rules.specs.Outcome.{Outcome, Refusing, Changing}
-use Rattle.office_rules.specs.Step.{Run, Step, net_named, opening, step_outcome}
+use Rattle.office_rules.specs.Profile.{Profile}
+use Rattle.office_rules.specs.Step.{Asking, Run, Step, net_named, opening, step_outcome}
+use Rattle.office_law.specs.Apart.{KeepsReleases}
 use Rattle.office_law.specs.Agree.{StepsAgree}
 use Rattle.office_law.specs.Histories.{AreInOrder, net_after}
 use Rattle.office_law.proofs.Apart.{networks_are_apart}
@@ -36,14 +41,14 @@ firsts_go_on (a ∷ h) more =
     (filter (others a) below.0, ap (λ firsts. a ∷ filter (others a) firsts) below.1 ∙ ap (λ rest. a ∷ rest) (filter-append (others a) (first_arrivals h) below.0))
 
 -- a run comes by the office that its first requests leave
-record ComesBy (o : Office) (qs ps : List (List ℕ × Command)) (after : Office) : Type 0 where
+record ComesBy (o : Office) (qs ps : List Asking) (after : Office) : Type 0 where
   mid : Office
   told : List Reply
   later : List Reply
   to_there : Run o qs told mid
   from_there : Run mid ps later after
 
-comes_by : (qs ps : List (List ℕ × Command)) (rs : List Reply) (o after : Office) → Run o (qs ++ ps) rs after → ComesBy o qs ps after
+comes_by : (qs ps : List Asking) (rs : List Reply) (o after : Office) → Run o (qs ++ ps) rs after → ComesBy o qs ps after
 comes_by [] ps rs o after run = record { mid = o; told = []; later = rs; to_there = refl; from_there = run }
 comes_by (q ∷ qs) ps [] o after run = absurd run
 comes_by (q ∷ qs) ps (r ∷ rs) o after run =
@@ -52,14 +57,14 @@ comes_by (q ∷ qs) ps (r ∷ rs) o after run =
 
 -- ---- networks stay in order
 
-step_in_order : (o after : Office) (team : List ℕ) (c : Command) (r : Reply) → AreInOrder o → Step o team c r after → AreInOrder after
-step_in_order o after team c r sorted step = subst AreInOrder (sym step.left) (sorted_after o (step_outcome o team step.reading c) sorted)
+pub step_in_order : (profile : Profile) (o after : Office) (team : List ℕ) (c : Command) (r : Reply) → AreInOrder o → Step profile o team c r after → AreInOrder after
+step_in_order profile o after team c r sorted step = subst AreInOrder (sym step.left) (sorted_after o (step_outcome o team step.reading c) sorted)
 
-run_in_order : (qs : List (List ℕ × Command)) (rs : List Reply) (o after : Office) → AreInOrder o → Run o qs rs after → AreInOrder after
+run_in_order : (qs : List Asking) (rs : List Reply) (o after : Office) → AreInOrder o → Run o qs rs after → AreInOrder after
 run_in_order [] [] o after sorted run = subst AreInOrder (sym run) sorted
 run_in_order [] (r ∷ rs) o after sorted run = absurd run
 run_in_order (q ∷ qs) [] o after sorted run = absurd run
-run_in_order (q ∷ qs) (r ∷ rs) o after sorted run = run_in_order qs rs run.0 after (step_in_order o run.0 q.0 q.1 r sorted run.1) run.2
+run_in_order (q ∷ qs) (r ∷ rs) o after sorted run = run_in_order qs rs run.0 after (step_in_order q.0 o run.0 q.1 q.2 r sorted run.1) run.2
 
 -- ---- releases
 
@@ -78,15 +83,21 @@ and_then net mid last first next =
 after_outcome : (team : List ℕ) (reading : FileReading) (net : Net) (book : SpnBook) (c : Command) (out : Outcome) → outcome team reading (Some net) book c ≡ out
     → IsThereStill net (net_after (Some net) out)
 after_outcome team reading net book c (Refusing r) is = as_it_was net
-after_outcome team reading net book c (Changing r n e) is = elim (networks_are_apart.releases team reading net n book c r e is).1 [
-  | inl same ↦ (n, refl, [], same ∙ sym (append-nil net.releases))
-  | inr more ↦ (n, refl, sheet_of net ∷ [], more.1)
-]
+after_outcome team reading net book c (Changing r n e) is = by_task c.task (networks_are_apart.releases team reading net n book c r e is).1
+  where
+    or_released : (task : Task) → (n.releases ≡ net.releases) ⊎ ((task ≡ Act act.Release) × (n.releases ≡ net.releases ++ sheet_of net ∷ [])) → IsThereStill net (Some n)
+    or_released task (inl same) = (n, refl, [], same ∙ sym (append-nil net.releases))
+    or_released task (inr more) = (n, refl, sheet_of net ∷ [], more.1)
+
+    by_task : (task : Task) → KeepsReleases task net n → IsThereStill net (Some n)
+    by_task (Bundle parts) kept = (n, refl, kept.0, kept.1)
+    by_task (Act a) kept = or_released (Act a) kept
+    by_task (Import file) kept = or_released (Import file) kept
 
 module _ (name : List ℕ) where
-  after_step : (o after : Office) (team : List ℕ) (c : Command) (r : Reply) (net : Net) → AreInOrder o → Step o team c r after → net_named o name ≡ Some net
+  after_step : (profile : Profile) (o after : Office) (team : List ℕ) (c : Command) (r : Reply) (net : Net) → AreInOrder o → Step profile o team c r after → net_named o name ≡ Some net
       → IsThereStill net (net_named after name)
-  after_step o after team c r net sorted step is = elim (cases_Bool (bytes_eq c.net name)) [
+  after_step profile o after team c r net sorted step is = elim (cases_Bool (bytes_eq c.net name)) [
     | inl own ↦
         let named : c.net ≡ name = equal_texts c.net name own in
         let found : net_named o c.net ≡ Some net = ap (net_named o) named ∙ is in
@@ -95,17 +106,17 @@ module _ (name : List ℕ) where
         ∙ outcomes_are_left o team step.reading c sorted
         ∙ ap (λ n. net_after n (outcome team step.reading n o.book c)) found in
         subst (IsThereStill net) (sym left ∙ ap (net_named after) named) (after_outcome team step.reading net o.book c (outcome team step.reading (Some net) o.book c) refl)
-    | inr apart ↦ subst (IsThereStill net) (sym (networks_are_apart.others o after team c r name step apart ∙ is)) (as_it_was net)
+    | inr apart ↦ subst (IsThereStill net) (sym (networks_are_apart.others profile o after team c r name step apart ∙ is)) (as_it_was net)
   ]
 
-  after_run : (qs : List (List ℕ × Command)) (rs : List Reply) (o after : Office) (net : Net) → AreInOrder o → Run o qs rs after → net_named o name ≡ Some net
+  after_run : (qs : List Asking) (rs : List Reply) (o after : Office) (net : Net) → AreInOrder o → Run o qs rs after → net_named o name ≡ Some net
       → IsThereStill net (net_named after name)
   after_run [] [] o after net sorted run is = subst (IsThereStill net) (sym (ap (λ x. net_named x name) run ∙ is)) (as_it_was net)
   after_run [] (r ∷ rs) o after net sorted run is = absurd run
   after_run (q ∷ qs) [] o after net sorted run is = absurd run
   after_run (q ∷ qs) (r ∷ rs) o after net sorted run is =
-      and_then net (net_named run.0 name) (net_named after name) (after_step o run.0 q.0 q.1 r net sorted run.1 is)
-      (λ n there. after_run qs rs run.0 after n (step_in_order o run.0 q.0 q.1 r sorted run.1) run.2 there)
+      and_then net (net_named run.0 name) (net_named after name) (after_step q.0 o run.0 q.1 q.2 r net sorted run.1 is)
+      (λ n there. after_run qs rs run.0 after n (step_in_order q.0 o run.0 q.1 q.2 r sorted run.1) run.2 there)
 
 pub releases_stay : StepsAgree → ReleasesStay
 releases_stay agree h more before after name net legal goes_on is =

@@ -1,29 +1,39 @@
 -- Suspect parameter numbers that first arrivals are given.
-use Rattle.std.proofs.Common.{◌≡◌, ◌≢◌, ◌∙◌, ℕ, true, List, [], ◌∷◌, map, filter_map, All, Contains, Option, Some, None, refl, sym, ap, subst, arith, cond, inl, inr}
-use Rattle.std.specs.Prelude.{AllPairs, is_none}
-use Rattle.std.specs.List.{cons_option}
+use Rattle.std.proofs.Common.{◌≡◌, ◌≢◌, ◌∙◌, ℕ, zero, suc, Bool, true, false, List, ◌++◌, [], ◌∷◌, map, All, Contains, Option, Some, None, refl, sym, ap, subst, arith, cond, inl, inr}
+use Rattle.std.specs.Prelude.{AllPairs, is_none, if◌then◌else◌}
+use Rattle.std.specs.List.{flat_map}
 use Rattle.std.proofs.lemmas.Bool.{cases_Bool, false≢true}
-use Rattle.std.proofs.lemmas.List.Elements.{All-cons, All-nil, All-weaker}
+use Rattle.std.proofs.lemmas.List.Elements.{All-append, All-cons, All-head, All-nil, All-tail, All-weaker}
 use Rattle.std.proofs.lemmas.List.Kept.{AllPairs-cons}
 use Rattle.office_types.specs.declared.book.SpnBook.{SpnBook}
+use Rattle.office_types.specs.Reply.{whole_reply}
+use Rattle.office_types.specs.declared.command.Action.{Action}
 use Rattle.office_types.specs.declared.command.Action.TheVariants as act
 use Rattle.office_types.specs.declared.command.Command.{Command}
 use Rattle.office_types.specs.declared.command.Task.{Task}
-use Rattle.office_types.specs.declared.command.Task.TheVariants.{Act}
+use Rattle.office_types.specs.declared.command.Task.TheVariants.{Act, Import, Bundle}
 use Rattle.office_types.specs.declared.command.TakeSpn.{TakeSpn}
+use Rattle.office_types.specs.declared.reply.PartReply.{PartReply}
 use Rattle.office_types.specs.declared.reply.Reply.{Reply}
 use Rattle.office_types.specs.declared.reply.Reply.TheVariants.{Counts, Done, Number, Refused, Release, Start}
+use Rattle.office_types.specs.declared.reply.Reply.TheVariants.{Bundle as Bundled}
 use Rattle.office_types.specs.declared.state.Net.{Net}
 use Rattle.office_types.specs.declared.state.Office.{Office}
-use Rattle.office_rules.specs.Commands.{done_task}
+use Rattle.office_rules.specs.Commands.{acted}
 use Rattle.office_rules.specs.Importing.{FileReading}
 use Rattle.office_rules.specs.Outcome.{Outcome, Refusing, Changing, entered, reply_of}
 use Rattle.office_rules.specs.Signals.{take_spn}
-use Rattle.office_rules.specs.Step.{Run, Step, net_named, office_after, opening, step_outcome}
+use Rattle.office_rules.specs.Profile.{Profile}
+use Rattle.office_rules.specs.Step.{Asking, Run, Step, net_named, office_after, opening, step_outcome}
+use Rattle.office_law.specs.Bundles.{bundle_of, command_of, requests_of}
+use Rattle.office_law.specs.Histories.{AreInOrder}
+use Rattle.office_law.proofs.BundleRuns.{bundles_run_their_parts}
+use Rattle.office_law.proofs.KeptOffice.{offices_are_kept}
 use Rattle.office_law.proofs.FreshNumbers.{numbers_are_fresh}
 use Rattle.office_history.specs.declared.arrival.Answer.TheVariants as answer
 use Rattle.office_history.specs.History.{Answered, answer_of, first_arrivals, request_of}
-use Rattle.office_history.specs.Laws.{SpnsAreGivenOnce, asks_new_spn, new_spn, told_number}
+use Rattle.office_history.specs.Laws.{SpnsAreGivenOnce, action_spns, answer_spns, asks_new_spn, part_spns, spns_given, task_spns}
+use Rattle.office_history.proofs.Releases.{step_in_order}
 
 -- ---- one outcome
 
@@ -57,10 +67,10 @@ module _ (team name : List ℕ) (book : SpnBook) (c : TakeSpn) (n : ℕ) where
   on_network None none told = no_number ⊥ _ n told
   on_network (Some net) none told = spn_outcome net (take_spn team name (Some net) book c) none refl told
 
-task_outcome : (team name : List ℕ) (reading : FileReading) (net : Option Net) (book : SpnBook) (t : Task) (n : ℕ) → asks_new_spn t ≡ true
-    → reply_of (done_task team name reading net book t) ≡ Number n → GivesNew book (done_task team name reading net book t) n
-task_outcome team name reading net book (Act (act.TakeSpn c)) n asks told = on_network team name book c n net (none_is c.same asks) told
-task_outcome team name reading net book t n asks told = absurd (false≢true asks)
+act_outcome : (team name : List ℕ) (net : Option Net) (book : SpnBook) (a : Action) (n : ℕ) → asks_new_spn a ≡ true
+    → reply_of (acted team name net book a) ≡ Number n → GivesNew book (acted team name net book a) n
+act_outcome team name net book (act.TakeSpn c) n asks told = on_network team name book c n net (none_is c.same asks) told
+act_outcome team name net book a n asks told = absurd (false≢true asks)
 
 -- ---- one step
 
@@ -72,50 +82,106 @@ left_used : (o : Office) (out : Outcome) (n : ℕ) → Contains o.book.used n �
 left_used o (Refusing r) n there = there
 left_used o (Changing r net e) n there = numbers_are_fresh.stay_used o.book e n there
 
-step_new : (o after : Office) (team : List ℕ) (c : Command) (r : Reply) (n : ℕ) → Step o team c r after → asks_new_spn c.task ≡ true → r ≡ Number n → IsNewIn o.book after.book n
-step_new o after team c r n step asks told =
-    let out = step_outcome o team step.reading c in
+act_new : (profile : Profile) (o after : Office) (team name : List ℕ) (a : Action) (r : Reply) (n : ℕ) → Step profile o team (command_of name a) r after → asks_new_spn a ≡ true → r ≡ Number n → IsNewIn o.book after.book n
+act_new profile o after team name a r n step asks told =
     subst (λ (x : Office). IsNewIn o.book x.book n) (sym step.left)
-    (left_new o out n (task_outcome team c.net step.reading (net_named o c.net) o.book c.task n asks (sym step.answered ∙ told)))
+    (left_new o (acted team name (net_named o name) o.book a) n (act_outcome team name (net_named o name) o.book a n asks (sym step.answered ∙ told)))
 
-step_used : (o after : Office) (team : List ℕ) (c : Command) (r : Reply) (n : ℕ) → Step o team c r after → Contains o.book.used n → Contains after.book.used n
-step_used o after team c r n step there = subst (λ (x : Office). Contains x.book.used n) (sym step.left) (left_used o (step_outcome o team step.reading c) n there)
+step_used : (profile : Profile) (o after : Office) (team : List ℕ) (c : Command) (r : Reply) (n : ℕ) → Step profile o team c r after → Contains o.book.used n → Contains after.book.used n
+step_used profile o after team c r n step there = subst (λ (x : Office). Contains x.book.used n) (sym step.left) (left_used o (step_outcome o team step.reading c) n there)
 
--- ---- a run
+-- ---- several numbers
 
--- none of the numbers was used before, and no two are the same
-record AreNew (used given : List ℕ) : Type 0 where
-  unused : All (λ n. Contains used n → ⊥) given
+-- none of the numbers was used before, all are used after, and no two are the same
+record AreNew (before after given : List ℕ) : Type 0 where
+  unused : All (λ n. Contains before n → ⊥) given
+  entered : All (Contains after) given
   apart : AllPairs (λ m n. m ≢ n) given
 
-told_is : (r : Reply) (n : ℕ) → told_number (answer.Reply r) ≡ Some n → r ≡ Number n
-told_is Done n e = absurd cc
-told_is (Number m) n e = cc
-told_is (Start s) n e = absurd cc
-told_is (Counts new same) n e = absurd cc
-told_is (Release k) n e = absurd cc
-told_is (Refused r) n e = absurd cc
+abbrev Stays : List ℕ → List ℕ → Type 0
+Stays before after = (n : ℕ) → Contains before n → Contains after n
 
-asked_and_told : (a : Answered) (n : ℕ) → new_spn a ≡ Some n → (asks_new_spn a.command.task ≡ true) × (told_number a.answer ≡ Some n)
-asked_and_told a n is = elim (cases_Bool (asks_new_spn a.command.task)) [
-  | inl asks ↦ (asks, sym (ap (λ b. cond b (told_number a.answer) None) asks) ∙ is)
-  | inr not_asked ↦ absurd (let none : None ≡ Some n = sym (ap (λ b. cond b (told_number a.answer) None) not_asked) ∙ is in cc)
-]
+none_new : (before after : List ℕ) → AreNew before after []
+none_new before after = record { unused = All-nil (λ n. Contains before n → ⊥); entered = All-nil (Contains after); apart = λ i j d lt within. absurd (omega (arith, within)) }
 
-one_more : (given : Option ℕ) (used then rest : List ℕ) → ((n : ℕ) → given ≡ Some n → (Contains used n → ⊥) × Contains then n)
-    → ((n : ℕ) → Contains used n → Contains then n) → AreNew then rest → AreNew used (cons_option given rest)
-one_more None used then rest new kept below = record {
-  unused = All-weaker (λ n. Contains then n → ⊥) (λ n. Contains used n → ⊥) (λ n absent there. absent (kept n there)) rest below.unused;
-  apart = below.apart;
+one_new : (before after : List ℕ) (n : ℕ) → (Contains before n → ⊥) → Contains after n → AreNew before after (n ∷ [])
+one_new before after n new used = record {
+  unused = All-cons (λ m. Contains before m → ⊥) n [] new (All-nil (λ m. Contains before m → ⊥));
+  entered = All-cons (Contains after) n [] used (All-nil (Contains after));
+  apart = λ i j d lt within. absurd (omega (arith, lt, within));
 }
-one_more (Some n) used then rest new kept below =
-    let own = new n refl in
-    record {
-      unused = All-cons (λ m. Contains used m → ⊥) n rest own.0
-          (All-weaker (λ m. Contains then m → ⊥) (λ m. Contains used m → ⊥) (λ m absent there. absent (kept m there)) rest below.unused);
-      apart = AllPairs-cons (λ k m. k ≢ m) n rest
-          (All-weaker (λ m. Contains then m → ⊥) (λ m. n ≢ m) (λ m absent same. absent (subst (Contains then) same own.1)) rest below.unused) below.apart;
-    }
+
+pairs_head : (x : ℕ) (xs : List ℕ) → AllPairs (λ m n. m ≢ n) (x ∷ xs) → All (λ n. x ≢ n) xs
+pairs_head x xs h = λ k d w. h zero (suc k) d (omega arith) (omega arith)
+
+pairs_tail : (x : ℕ) (xs : List ℕ) → AllPairs (λ m n. m ≢ n) (x ∷ xs) → AllPairs (λ m n. m ≢ n) xs
+pairs_tail x xs h = λ i j d l w. h (suc i) (suc j) d (omega arith) (omega arith)
+
+-- the numbers of an earlier list are used, those of a later one weren't
+apart_both : (mid : List ℕ) (xs ys : List ℕ) → All (Contains mid) xs → AllPairs (λ m n. m ≢ n) xs → All (λ n. Contains mid n → ⊥) ys → AllPairs (λ m n. m ≢ n) ys
+    → AllPairs (λ m n. m ≢ n) (xs ++ ys)
+apart_both mid [] ys used apart unused later = later
+apart_both mid (x ∷ xs) ys used apart unused later =
+    AllPairs-cons (λ m n. m ≢ n) x (xs ++ ys)
+    (All-append (λ n. x ≢ n) xs ys (pairs_head x xs apart)
+    (All-weaker (λ n. Contains mid n → ⊥) (λ n. x ≢ n) (λ n absent same. absent (subst (Contains mid) same (All-head (Contains mid) x xs used))) ys unused))
+    (apart_both mid xs ys (All-tail (Contains mid) x xs used) (pairs_tail x xs apart) unused later)
+
+both_new : (before mid after xs ys : List ℕ) → Stays before mid → Stays mid after → AreNew before mid xs → AreNew mid after ys → AreNew before after (xs ++ ys)
+both_new before mid after xs ys first second a b = record {
+  unused = All-append (λ n. Contains before n → ⊥) xs ys a.unused (All-weaker (λ n. Contains mid n → ⊥) (λ n. Contains before n → ⊥) (λ n absent there. absent (first n there)) ys b.unused);
+  entered = All-append (Contains after) xs ys (All-weaker (Contains mid) (Contains after) second xs a.entered) b.entered;
+  apart = apart_both mid xs ys a.entered a.apart b.unused b.apart;
+}
+
+-- ---- a step
+
+by_asking : (profile : Profile) (o after : Office) (team name : List ℕ) (a : Action) (n : ℕ) (b : Bool) → asks_new_spn a ≡ b → Step profile o team (command_of name a) (Number n) after
+    → AreNew o.book.used after.book.used (if b then n ∷ [] else [])
+by_asking profile o after team name a n false asks step = none_new o.book.used after.book.used
+by_asking profile o after team name a n true asks step =
+    let new = act_new profile o after team name a (Number n) n step asks refl in one_new o.book.used after.book.used n new.0 new.1
+
+by_action : (profile : Profile) (o after : Office) (team name : List ℕ) (a : Action) (r : Reply) → Step profile o team (command_of name a) r after → AreNew o.book.used after.book.used (action_spns a r)
+by_action profile o after team name a (Number n) step = by_asking profile o after team name a n (asks_new_spn a) refl step
+by_action profile o after team name a Done step = none_new o.book.used after.book.used
+by_action profile o after team name a (Start s) step = none_new o.book.used after.book.used
+by_action profile o after team name a (Counts new same) step = none_new o.book.used after.book.used
+by_action profile o after team name a (Release k) step = none_new o.book.used after.book.used
+by_action profile o after team name a (Refused q) step = none_new o.book.used after.book.used
+by_action profile o after team name a (Bundled told) step = none_new o.book.used after.book.used
+
+run_used : (qs : List Asking) (rs : List Reply) (o after : Office) → Run o qs rs after → Stays o.book.used after.book.used
+run_used [] [] o after run = λ n there. subst (λ (x : Office). Contains x.book.used n) (sym run) there
+run_used [] (r ∷ rs) o after run = absurd run
+run_used (q ∷ qs) [] o after run = absurd run
+run_used (q ∷ qs) (r ∷ rs) o after run = λ n there. run_used qs rs run.0 after run.2 n (step_used q.0 o run.0 q.1 q.2 r n run.1 there)
+
+by_parts : (profile : Profile) (team name : List ℕ) (parts : List Action) (told : List PartReply) (o after : Office) → Run o (requests_of profile team name parts) (map whole_reply told) after
+    → AreNew o.book.used after.book.used (part_spns parts told)
+by_parts profile team name [] told o after run = none_new o.book.used after.book.used
+by_parts profile team name (a ∷ parts) [] o after run = absurd run
+by_parts profile team name (a ∷ parts) (p ∷ told) o after run =
+    both_new o.book.used run.0.book.used after.book.used (action_spns a (whole_reply p)) (part_spns parts told)
+    (λ n there. step_used profile o run.0 team (command_of name a) (whole_reply p) n run.1 there) (run_used (requests_of profile team name parts) (map whole_reply told) run.0 after run.2)
+    (by_action profile o run.0 team name a (whole_reply p) run.1) (by_parts profile team name parts told run.0 after run.2)
+
+by_bundle : (profile : Profile) (o after : Office) (team name : List ℕ) (parts : List Action) (r : Reply) → AreInOrder o → Step profile o team (bundle_of name parts) r after
+    → AreNew o.book.used after.book.used (task_spns (Bundle parts) r)
+by_bundle profile o after team name parts (Bundled told) sorted step = by_parts profile team name parts told o after (bundles_run_their_parts.done profile o after team name parts told sorted step)
+by_bundle profile o after team name parts Done sorted step = none_new o.book.used after.book.used
+by_bundle profile o after team name parts (Number n) sorted step = none_new o.book.used after.book.used
+by_bundle profile o after team name parts (Start s) sorted step = none_new o.book.used after.book.used
+by_bundle profile o after team name parts (Counts new same) sorted step = none_new o.book.used after.book.used
+by_bundle profile o after team name parts (Release k) sorted step = none_new o.book.used after.book.used
+by_bundle profile o after team name parts (Refused q) sorted step = none_new o.book.used after.book.used
+
+by_task : (profile : Profile) (o after : Office) (team name : List ℕ) (t : Task) (r : Reply) → AreInOrder o → Step profile o team (record { net = name; task = t }) r after → AreNew o.book.used after.book.used (task_spns t r)
+by_task profile o after team name (Act a) r sorted step = by_action profile o after team name a r step
+by_task profile o after team name (Bundle parts) r sorted step = by_bundle profile o after team name parts r sorted step
+by_task profile o after team name (Import file) r sorted step = none_new o.book.used after.book.used
+
+-- ---- a run
 
 first_answer : (a : Answered) (list : List Answered) (r : Reply) (rs : List Reply) → map answer_of (a ∷ list) ≡ map answer.Reply (r ∷ rs) → a.answer ≡ answer.Reply r
 first_answer a list r rs e = cc
@@ -124,17 +190,16 @@ later_answers : (a : Answered) (list : List Answered) (r : Reply) (rs : List Rep
     → map answer_of list ≡ map answer.Reply rs
 later_answers a list r rs e = cc
 
-given_by_run : (list : List Answered) (rs : List Reply) (o after : Office) → map answer_of list ≡ map answer.Reply rs → Run o (map request_of list) rs after
-    → AreNew o.book.used (filter_map new_spn list)
-given_by_run [] rs o after told run = record { unused = All-nil (λ n. Contains o.book.used n → ⊥); apart = λ i j d lt within. absurd (omega (arith, within)) }
-given_by_run (a ∷ list) [] o after told run = absurd run
-given_by_run (a ∷ list) (r ∷ rs) o after told run =
-    one_more (new_spn a) o.book.used run.0.book.used (filter_map new_spn list)
-    (λ n is. (
-    let both = asked_and_told a n is in
-    step_new o run.0 a.team a.command r n run.1 both.0 (told_is r n (sym (ap told_number (first_answer a list r rs told)) ∙ both.1))))
-    (λ n there. step_used o run.0 a.team a.command r n run.1 there)
-    (given_by_run list rs run.0 after (later_answers a list r rs told) run.2)
+given_by_run : (list : List Answered) (rs : List Reply) (o after : Office) → AreInOrder o → map answer_of list ≡ map answer.Reply rs → Run o (map request_of list) rs after
+    → AreNew o.book.used after.book.used (flat_map spns_given list)
+given_by_run [] rs o after sorted told run = none_new o.book.used after.book.used
+given_by_run (a ∷ list) [] o after sorted told run = absurd run
+given_by_run (a ∷ list) (r ∷ rs) o after sorted told run =
+    both_new o.book.used run.0.book.used after.book.used (spns_given a) (flat_map spns_given list)
+    (λ n there. step_used a.profile o run.0 a.team a.command r n run.1 there) (run_used (map request_of list) rs run.0 after run.2)
+    (subst (λ given. AreNew o.book.used run.0.book.used (answer_spns a.command.task given)) (sym (first_answer a list r rs told)) (by_task a.profile o run.0 a.team a.command.net a.command.task r sorted run.1))
+    (given_by_run list rs run.0 after (step_in_order a.profile o run.0 a.team a.command r sorted run.1) (later_answers a list r rs told) run.2)
 
 pub spns_are_given_once : SpnsAreGivenOnce
-spns_are_given_once h office legal = (given_by_run (first_arrivals h) legal.replies opening office legal.replied legal.run).apart
+spns_are_given_once h office legal =
+    (given_by_run (first_arrivals h) legal.replies opening office offices_are_kept.opening_is.rising legal.replied legal.run).apart

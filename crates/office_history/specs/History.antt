@@ -4,13 +4,15 @@ use Rattle.std.specs.Str.{bytes_eq}
 use Rattle.office_types.specs.declared.command.Command.{Command}
 use Rattle.office_types.specs.declared.reply.Reply.{Reply}
 use Rattle.office_types.specs.declared.state.Office.{Office}
-use Rattle.office_rules.specs.Step.{Run, opening}
+use Rattle.office_rules.specs.Profile.{Profile}
+use Rattle.office_rules.specs.Step.{Asking, Run, opening}
 use Rattle.office_history.specs.declared.arrival.Answer.{Answer}
 use Rattle.office_history.specs.declared.arrival.Answer.TheVariants as answer
 use Rattle.office_history.specs.declared.arrival.Answer.TheVariants.{KeyReused}
 
--- an arrival, and what it was answered
+-- an arrival, with the profile under which it came, and what it was answered
 pub record Answered : Type 0 where
+  pub profile : Profile
   pub team : List ℕ
   pub key : List ℕ
   pub content : List ℕ
@@ -37,8 +39,8 @@ answer_again first content = if bytes_eq first.content content then first.answer
 abbrev pub IsAnsweredAs : Answered → Answered → Type 0
 IsAnsweredAs a first = a.answer ≡ answer_again first a.content
 
-abbrev pub request_of : Answered → List ℕ × Command
-request_of a = (a.team, a.command)
+abbrev pub request_of : Answered → Asking
+request_of a = (a.profile, a.team, a.command)
 
 abbrev pub answer_of : Answered → Answer
 answer_of a = a.answer

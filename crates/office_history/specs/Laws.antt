@@ -1,16 +1,21 @@
 -- How legal histories go on, and what they leave.
-use Rattle.std.specs.Prelude.{◌≡◌, ◌≢◌, ℕ, Bool, true, false, if◌then◌else◌, List, [], ◌∷◌, ◌++◌, map, filter, filter_map, All, AllPairs, Contains, Option, None, Some, is_none}
+use Rattle.std.specs.Prelude.{◌≡◌, ◌≢◌, ℕ, Bool, true, false, if◌then◌else◌, List, [], ◌∷◌, ◌++◌, map, filter, All, AllPairs, Contains, Option, None, Some, is_none}
+use Rattle.std.specs.List.{flat_map}
 use Rattle.std.specs.Str.{bytes_eq}
 use Rattle.catalogue.specs.Messages.{number_of}
 use Rattle.catalogue.specs.declared.message.Message.{Message}
 use Rattle.catalogue.specs.declared.sheet.Sheet.{Sheet}
 use Rattle.office_types.specs.Command.{IsCommand}
 use Rattle.office_types.specs.PlainName.{IsPlainName}
+use Rattle.office_types.specs.Reply.{whole_reply}
+use Rattle.office_types.specs.declared.command.Action.{Action}
 use Rattle.office_types.specs.declared.command.Action.TheVariants as act
 use Rattle.office_types.specs.declared.command.Task.{Task}
-use Rattle.office_types.specs.declared.command.Task.TheVariants.{Act}
+use Rattle.office_types.specs.declared.command.Task.TheVariants.{Act, Bundle}
 use Rattle.office_types.specs.declared.reply.Reply.{Reply}
+use Rattle.office_types.specs.declared.reply.PartReply.{PartReply}
 use Rattle.office_types.specs.declared.reply.Reply.TheVariants.{Number}
+use Rattle.office_types.specs.declared.reply.Reply.TheVariants.{Bundle as Bundled}
 use Rattle.office_types.specs.declared.state.Net.{Net}
 use Rattle.office_types.specs.declared.state.Office.{Office}
 use Rattle.office_rules.specs.Kept.{IsOffice}
@@ -18,13 +23,14 @@ use Rattle.office_rules.specs.Step.{Step, net_named, opening}
 use Rattle.office_law.specs.Apart.{asks_book}
 use Rattle.office_history.specs.declared.arrival.Answer.{Answer}
 use Rattle.office_history.specs.declared.arrival.Answer.TheVariants as answer
+use Rattle.office_history.specs.declared.arrival.Answer.TheVariants.{KeyReused}
 use Rattle.office_history.specs.History.{Answered, IsAnsweredAs, IsLegal, IsLegalHistory, first_arrivals, first_of, request_of, same_pair}
 
 -- One more arrival leaves a history legal: a first one, by a step of the office, and a repeat, by the answer of the first one.
 pub record HistoriesGrow : Type 0 where
   pub begins : IsLegal [] opening
   pub first : (h : List Answered) (before after : Office) (a : Answered) (reply : Reply) → IsLegal h before → first_of h a ≡ None
-      → a.answer ≡ answer.Reply reply → Step before a.team a.command reply after → IsLegal (h ++ a ∷ []) after
+      → a.answer ≡ answer.Reply reply → Step a.profile before a.team a.command reply after → IsLegal (h ++ a ∷ []) after
   pub again : (h : List Answered) (office : Office) (a first : Answered) → IsLegal h office → first_of h a ≡ Some first
       → IsAnsweredAs a first → IsLegal (h ++ a ∷ []) office
 
@@ -48,24 +54,40 @@ abbrev pub NumbersKeepTheirNames : Type 0
 NumbersKeepTheirNames = (h : List Answered) (office : Office) (net : Net) (s t : Sheet) (m n : Message) → All IsInRange h → IsLegal h office
     → Contains office.nets net → Contains net.releases s → Contains net.releases t → Contains s.messages m → Contains t.messages n → number_of m ≡ number_of n → m.name ≡ n.name
 
--- whether a command asks for a suspect parameter number of its own, and not for one to share
-abbrev pub asks_new_spn : Task → Bool
-asks_new_spn (Act (act.TakeSpn c)) = is_none c.same
-asks_new_spn task = false
+-- whether an action requests a suspect parameter number of its own, and not one to share
+abbrev pub asks_new_spn : Action → Bool
+asks_new_spn (act.TakeSpn c) = is_none c.same
+asks_new_spn a = false
 
-abbrev pub told_number : Answer → Option ℕ
-told_number (answer.Reply (Number n)) = Some n
-told_number a = None
+-- the number that an action was given so
+abbrev pub action_spns : Action → Reply → List ℕ
+action_spns a (Number n) = if asks_new_spn a then n ∷ [] else []
+action_spns a r = []
 
--- the number that an arrival was given so
-abbrev pub new_spn : Answered → Option ℕ
-new_spn a = if asks_new_spn a.command.task then told_number a.answer else None
+-- those that the parts of a bundle were
+abbrev pub part_spns : List Action → List PartReply → List ℕ
+part_spns [] told = []
+part_spns (a ∷ parts) [] = []
+part_spns (a ∷ parts) (p ∷ told) = action_spns a (whole_reply p) ++ part_spns parts told
+
+abbrev pub task_spns : Task → Reply → List ℕ
+task_spns (Act a) r = action_spns a r
+task_spns (Bundle parts) (Bundled told) = part_spns parts told
+task_spns task r = []
+
+-- those that an arrival was
+abbrev pub answer_spns : Task → Answer → List ℕ
+answer_spns task (answer.Reply r) = task_spns task r
+answer_spns task KeyReused = []
+
+abbrev pub spns_given : Answered → List ℕ
+spns_given a = answer_spns a.command.task a.answer
 
 -- those that first arrivals were given so, in order
 abbrev pub new_spns : List Answered → List ℕ
-new_spns h = filter_map new_spn (first_arrivals h)
+new_spns h = flat_map spns_given (first_arrivals h)
 
--- No two first arrivals are given one suspect parameter number of their own.
+-- No suspect parameter number is given twice to first arrivals, or to parts of them, that request one of their own.
 abbrev pub SpnsAreGivenOnce : Type 0
 SpnsAreGivenOnce = (h : List Answered) (office : Office) → IsLegal h office → AllPairs (λ m n. m ≢ n) (new_spns h)
 

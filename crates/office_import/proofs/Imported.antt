@@ -5,10 +5,10 @@ use Rattle.catalogue.specs.declared.message.Message.{Message}
 use Rattle.catalogue.specs.declared.sheet.Sheet.{Sheet}
 use Rattle.office_types.specs.declared.book.SpnBook.{SpnBook}
 use Rattle.office_types.specs.declared.change.Change.{Change}
-use Rattle.office_types.specs.declared.change.Change.TheVariants.{SetMessage, EnterSpn}
+use Rattle.office_types.specs.declared.change.Change.TheVariants.{SetHead, SetMessage, EnterSpn}
 use Rattle.office_types.specs.declared.change.Decision.{Decision}
 use Rattle.office_types.specs.declared.state.Net.{Net}
-use Rattle.office_rules.specs.Change.{Decides, HaveOwnBlocks, NetAndBook, all_applied, applied}
+use Rattle.office_rules.specs.Change.{AllFit, Decides, HaveOwnBlocks, NetAndBook, all_applied, applied}
 use Rattle.office_rules.specs.Importing.{import_sheet, new_messages, owned_by, spns_of, widened, with_frame, with_messages}
 use Rattle.office_rules.specs.Lists.{put_all}
 use Rattle.office_rules.specs.Numbers.{with_message}
@@ -39,6 +39,12 @@ no_blocks team [] [] = tt
 no_blocks team [] (n ∷ ns) = no_blocks team [] ns
 no_blocks team (m ∷ ms) ns = no_blocks team ms ns
 
+-- and no signal is added to a message
+no_signals : (name team : List ℕ) (ms : List Message) (ns : List ℕ) (e : NetAndBook) → AllFit name (map (λ m. SetMessage (owned_by team m)) ms ++ map EnterSpn ns) e
+no_signals name team [] [] e = tt
+no_signals name team [] (n ∷ ns) e = (tt, no_signals name team [] ns (applied name (EnterSpn n) e))
+no_signals name team (m ∷ ms) ns e = (tt, no_signals name team ms ns (applied name (SetMessage (owned_by team m)) e))
+
 -- a head, then messages, then numbers
 pub Decides-imported : (name team : List ℕ) (net : Net) (book : SpnBook) (s : Sheet) (d : Decision)
     → d.changes ≡ import_changes team net s → d.reply ≡ import_reply net s
@@ -57,4 +63,5 @@ Decides-imported name team net book s d changes reply =
       quiet = tt;
       head_first = tt;
       own_blocks = subst (λ (cs : List Change). HaveOwnBlocks cs) (sym changes) (no_blocks team new (spns_of new));
+      fit = subst (λ (cs : List Change). AllFit name cs before) (sym changes) (tt, no_signals name team new (spns_of new) (applied name (SetHead wide.head) before));
     }

@@ -100,7 +100,7 @@ last_kept h a es e new is same =
 
 -- a first arrival is answered by a step, and its entry comes last
 pub first_holds : HistoriesGrow → (h : List Answered) (a : Answered) (reply : Reply) (before after : Office) (es left : List (Pair × First)) (e : Pair × First)
-    → Holds h (record { office = before; kept = map entry_kept es }) → first_of h a ≡ None → a.answer ≡ answer.Reply reply → Step before a.team a.command reply after
+    → Holds h (record { office = before; kept = map entry_kept es }) → first_of h a ≡ None → a.answer ≡ answer.Reply reply → Step a.profile before a.team a.command reply after
     → entry_kept e ≡ kept_of a → left ≡ es ++ e ∷ [] → Holds (h ++ a ∷ []) (record { office = after; kept = map entry_kept left })
 first_holds grow h a reply before after es left e holds new told step is last = record {
   legal = grow.first h before after a reply holds.legal new told step;

@@ -93,45 +93,30 @@ impl Drop for First {
     }
 }
 
-/// The same reply once more.
-pub(crate) fn same_reply(reply: &Reply) -> Reply
-    ensures { result ≡ reply.now }
-{
-    match reply {
-        Reply::Done => Reply::Done,
-        Reply::Number(number) => Reply::Number(*number),
-        Reply::Start(start) => Reply::Start(*start),
-        Reply::Counts { new, same } => Reply::Counts {
-            new: *new,
-            same: *same,
-        },
-        Reply::Release(number) => Reply::Release(*number),
-        Reply::Refused(refusal) => Reply::Refused(*refusal),
-    }
-}
-
-/// What a request of this content is answered whose pair came first so.
-fn answer_again(first: &First, content: &[u8]) -> Answer
-    ensures { (came : Answered) → came.content ≡ first.now.content.items → came.answer ≡ answer.Reply first.now.reply → result ≡ answer_again came content.now }
+/// What a request of this content is answered whose pair came first so. The error is out of memory.
+fn answer_again(alloc: Global, first: &First, content: &[u8]) -> Result<Answer, AllocError>
+    ensures { IfOk result (λ again. (came : Answered) → came.content ≡ first.now.content.items → came.answer ≡ answer.Reply first.now.reply → again ≡ answer_again came content.now) }
 {
     if first.content.as_slice() == content {
-        Answer::Reply(same_reply(&first.reply))
+        Ok(Answer::Reply(first.reply.duplicate(alloc)?))
     } else {
-        Answer::KeyReused
+        Ok(Answer::KeyReused)
     }
 }
 
-/// What a request of this content is answered under the pair, where one came before. `None` where none came.
+/// What a request of this content is answered under the pair, where one came before. `None` where none came. The
+/// error is out of memory.
 pub(crate) fn answer_at(
+    alloc: Global,
     firsts: &IndexMap<Pair, First>,
     pair: &Pair,
     content: &[u8],
-) -> Option<Answer>
-    ensures { (h : List Answered) → map entry_kept firsts.now.entries ≡ map kept_of (first_arrivals h) → (a : Answered) → a.team ≡ pair.now.team → a.key ≡ pair.now.key
-        → MatchOption result (first_of h a ≡ None) (λ answer. (first : Answered) × (first_of h a ≡ Some first) × (answer ≡ answer_again first content.now)) }
+) -> Result<Option<Answer>, AllocError>
+    ensures { IfOk result (λ found. (h : List Answered) → map entry_kept firsts.now.entries ≡ map kept_of (first_arrivals h) → (a : Answered) → a.team ≡ pair.now.team → a.key ≡ pair.now.key
+        → MatchOption found (first_of h a ≡ None) (λ answer. (first : Answered) × (first_of h a ≡ Some first) × (answer ≡ answer_again first content.now))) }
 {
     match firsts.get(pair) {
-        None => None,
-        Some(first) => Some(answer_again(first, content)),
+        None => Ok(None),
+        Some(first) => Ok(Some(answer_again(alloc, first, content)?)),
     }
 }

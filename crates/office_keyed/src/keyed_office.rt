@@ -5,7 +5,7 @@ ghost use Rattle.office_history.specs.History.{Answered, first_of};
 ghost use Rattle.office_keyed.specs.Keyed.{Holds};
 ghost use Rattle.office_keyed.specs.Running.{HasBegun, HasRun};
 
-use crate::first::{First, Pair, answer_at, same_reply};
+use crate::first::{First, Pair, answer_at};
 use indexmap::IndexMap;
 use office::PlainOffice;
 use office_history::{Answer, Arrival, Key, Request, histories_grow};
@@ -63,8 +63,10 @@ impl KeyedOffice {
         histories_grow();
         let content = Vec::from_slice(alloc, request.content.as_slice())?;
         self.firsts.reserve(1)?;
-        let reply = self.office.step(alloc, &pair.team, &request.command)?;
-        let answer = Answer::Reply(same_reply(&reply));
+        let (reply, copy) = self
+            .office
+            .step_with_copy(alloc, &pair.team, &request.command)?;
+        let answer = Answer::Reply(copy);
         self.firsts.insert(pair, First { content, reply }).unwrap();
         Ok(answer)
     }
@@ -85,7 +87,7 @@ impl KeyedOffice {
     {
         histories_grow();
         let pair = Pair::of(alloc, team, key)?;
-        match answer_at(&self.firsts, &pair, request.content.as_slice()) {
+        match answer_at(alloc, &self.firsts, &pair, request.content.as_slice())? {
             Some(answer) => Ok(answer),
             None => self.first_arrival(alloc, pair, request),
         }

@@ -4,7 +4,7 @@ use Rattle.office_types.specs.declared.book.SpnBook.{SpnBook}
 use Rattle.office_types.specs.declared.command.Action.TheVariants as act
 use Rattle.office_types.specs.declared.command.Command.{Command}
 use Rattle.office_types.specs.declared.command.Task.{Task}
-use Rattle.office_types.specs.declared.command.Task.TheVariants.{Act}
+use Rattle.office_types.specs.declared.command.Task.TheVariants.{Act, Bundle}
 use Rattle.office_types.specs.declared.reply.Reply.{Reply}
 use Rattle.office_types.specs.declared.state.Net.{Net}
 use Rattle.office_rules.specs.Commands.{outcome}
@@ -14,11 +14,12 @@ use Rattle.office_rules.specs.Step.{net_named}
 use Rattle.office_law.specs.Apart.{KeepsReleases, NetworksAreApart}
 use Rattle.office_law.proofs.ApartBook.{task_alike}
 use Rattle.office_law.proofs.ApartReplies.{Agree, agree_task}
-use Rattle.office_law.proofs.Left.{IsLeft, left_task, releases_after}
+use Rattle.office_law.proofs.Left.{AreReleasesAfter, IsLeft, left_task}
 use Rattle.office_law.proofs.NetsApart.{nets_apart}
 use Rattle.office_law.proofs.Passing.{Leaves}
 
-keeps : (t : Task) (net n : Net) → n.releases ≡ releases_after (Some net) t → KeepsReleases t net n
+keeps : (t : Task) (net n : Net) → AreReleasesAfter (Some net) t n.releases → KeepsReleases t net n
+keeps (Bundle parts) net n h = h
 keeps (Act act.Release) net n h = inr (refl, h)
 keeps t net n h = inl h
 
@@ -38,5 +39,5 @@ networks_are_apart = record {
   without_book = λ team reading net book other c e. task_alike team c.net reading net book other c.task e;
   one_net = one_net;
   releases = λ team reading net n book c reply e h. let left = left_so team reading net n book c reply e h in (left.named, keeps c.task net n left.releases);
-  others = λ before after team c reply name step other. ap (λ o. net_named o name) step.left ∙ (nets_apart before team step.reading c).others name other;
+  others = λ profile before after team c reply name step other. ap (λ o. net_named o name) step.left ∙ (nets_apart before team step.reading c).others name other;
 }

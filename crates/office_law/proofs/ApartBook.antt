@@ -1,7 +1,8 @@
--- What a command comes to depends on the book only where it asks it.
-use Rattle.std.proofs.Common.{◌≡◌, ℕ, Bool, true, false, List, [], ◌∷◌, Option, Some, None, refl, sym, ap}
+-- What a command gives depends on the book only where it reads it.
+use Rattle.std.proofs.Common.{◌≡◌, ℕ, Bool, true, false, List, [], ◌∷◌, Option, Some, None, ◌+◌, ◌∙◌, refl, sym, ap}
 use Rattle.std.specs.Prelude.{if◌then◌else◌, not, ◌&&◌}
-use Rattle.std.proofs.lemmas.Bool.{false≢true}
+use Rattle.std.specs.List.{list_any}
+use Rattle.std.proofs.lemmas.Bool.{false≢true, or_parts}
 use Rattle.office_types.specs.Block.{is_spn, same_form}
 use Rattle.office_types.specs.PlainName.{is_office}
 use Rattle.office_types.specs.declared.block.BlockForm.TheVariants.{Pgn}
@@ -10,15 +11,16 @@ use Rattle.office_types.specs.declared.command.Action.{Action}
 use Rattle.office_types.specs.declared.command.Action.TheVariants as act
 use Rattle.office_types.specs.declared.command.Grant.{Grant}
 use Rattle.office_types.specs.declared.command.Task.{Task}
-use Rattle.office_types.specs.declared.command.Task.TheVariants.{Act, Import}
+use Rattle.office_types.specs.declared.command.Task.TheVariants.{Act, Import, Bundle}
 use Rattle.office_types.specs.declared.refusal.Refusal.TheVariants as no
 use Rattle.office_types.specs.declared.state.Net.{Net}
-use Rattle.office_rules.specs.Commands.{acted, done_task}
+use Rattle.office_rules.specs.Bundling.{PartsOutcome, bundle_outcome, part_then, with_part}
+use Rattle.office_rules.specs.Commands.{acted, done_task, parts_done}
 use Rattle.office_rules.specs.Facts.{is_granted, is_j1939, is_spn_granted}
 use Rattle.office_rules.specs.Importing.{FileReading}
 use Rattle.office_rules.specs.Opening.{grant, granted}
-use Rattle.office_rules.specs.Outcome.{on_net, unless, when}
-use Rattle.office_law.specs.Apart.{asks_book}
+use Rattle.office_rules.specs.Outcome.{Entries, Outcome, Refusing, Changing, entered, on_net, unless, when}
+use Rattle.office_law.specs.Apart.{action_asks_book, asks_book}
 
 taken_alike : (b p q r : Bool) → b ≡ false → ◌≡◌ {A = Bool} (if b then p else r) (if b then q else r)
 taken_alike true p q r h = absurd (false≢true (sym h))
@@ -30,13 +32,29 @@ grant_alike team name (Some n) book other c h =
     ap (λ taken. unless (when (not (is_office team)) no.NotOffice ∷ on_net (Some n) (λ n. when (same_form c.block.form Pgn && not (is_j1939 n.head.kind)) no.NotJ1939 ∷ when taken no.BlockTaken ∷ [])) (granted name n c))
     (taken_alike (is_spn c.block.form) (is_spn_granted book c.block) (is_spn_granted other c.block) (is_granted n c.block) h)
 
-act_alike : (team name : List ℕ) (net : Option Net) (book other : SpnBook) (a : Action) → asks_book (Act a) ≡ false → acted team name net book a ≡ acted team name net other a
+act_alike : (team name : List ℕ) (net : Option Net) (book other : SpnBook) (a : Action) → action_asks_book a ≡ false → acted team name net book a ≡ acted team name net other a
 act_alike team name net book other (act.Grant c) h = grant_alike team name net book other c h
 act_alike team name net book other (act.TakeSpn c) h = absurd (false≢true (sym h))
 act_alike team name net book other a h = refl
+
+-- and the parts of a bundle, none of which does
+
+same_then : (place : ℕ) (out : Outcome) (f g : Net → Entries → PartsOutcome) → ((n : Net) (e : Entries) → f n e ≡ g n e) → part_then place out f ≡ part_then place out g
+same_then place (Refusing r) f g h = refl
+same_then place (Changing r n e) f g h = ap (with_part r e) (h n e)
+
+parts_alike : (team name : List ℕ) (place : ℕ) (net : Option Net) (book other : SpnBook) (parts : List Action) → list_any action_asks_book parts ≡ false
+    → parts_done team name place net book parts ≡ parts_done team name place net other parts
+parts_alike team name place net book other [] h = refl
+parts_alike team name place net book other (a ∷ parts) h =
+    let none = or_parts (action_asks_book a) (list_any action_asks_book parts) h in
+    same_then place (acted team name net book a) (λ n e. parts_done team name (place + 1) (Some n) (entered book e) parts) (λ n e. parts_done team name (place + 1) (Some n) (entered other e) parts)
+    (λ n e. parts_alike team name (place + 1) (Some n) (entered book e) (entered other e) parts none.1)
+    ∙ ap (λ out. part_then place out (λ n e. parts_done team name (place + 1) (Some n) (entered other e) parts)) (act_alike team name net book other a none.0)
 
 -- a command that doesn't ask the book comes to the same with any two books
 pub task_alike : (team name : List ℕ) (reading : FileReading) (net : Option Net) (book other : SpnBook) (t : Task) → asks_book t ≡ false
     → done_task team name reading net book t ≡ done_task team name reading net other t
 task_alike team name reading net book other (Act a) h = act_alike team name net book other a h
 task_alike team name reading net book other (Import file) h = refl
+task_alike team name reading net book other (Bundle parts) h = ap bundle_outcome (parts_alike team name 1 net book other parts h)

@@ -1,5 +1,5 @@
 -- What a command takes from the book and writes into its network is in its reply.
-use Rattle.std.proofs.Common.{◌≡◌, ℕ, List, Option, Some, None, refl, sym, ap, subst}
+use Rattle.std.proofs.Common.{◌≡◌, ◌∙◌, ◌+◌, ℕ, List, [], ◌∷◌, Option, Some, None, refl, sym, ap, subst}
 use Rattle.catalogue.specs.Refusing.{Test, first_refusal}
 use Rattle.office_types.specs.declared.book.SpnBook.{SpnBook}
 use Rattle.office_types.specs.declared.command.Action.{Action}
@@ -7,21 +7,24 @@ use Rattle.office_types.specs.declared.command.Action.TheVariants as act
 use Rattle.office_types.specs.declared.command.Grant.{Grant}
 use Rattle.office_types.specs.declared.command.TakeSpn.{TakeSpn}
 use Rattle.office_types.specs.declared.command.Task.{Task}
-use Rattle.office_types.specs.declared.command.Task.TheVariants.{Act, Import}
+use Rattle.office_types.specs.declared.command.Task.TheVariants.{Act, Import, Bundle}
 use Rattle.office_types.specs.declared.refusal.Refusal.{Refusal}
 use Rattle.office_types.specs.declared.refusal.Refusal.TheVariants as no
 use Rattle.office_types.specs.declared.reply.Reply.{Reply}
 use Rattle.office_types.specs.declared.reply.Reply.TheVariants.{Number}
+use Rattle.office_types.specs.declared.reply.PartReply.{PartReply}
 use Rattle.office_types.specs.declared.state.Net.{Net}
-use Rattle.office_rules.specs.Commands.{acted, done_task}
+use Rattle.office_types.specs.Reply.{part_reply, whole_reply}
+use Rattle.office_rules.specs.Bundling.{PartsOutcome, RefusedAt, AllDone, bundle_outcome, part_then, with_part}
+use Rattle.office_rules.specs.Commands.{acted, done_task, parts_done}
 use Rattle.office_rules.specs.Facts.{live_named, message_facts}
 use Rattle.office_rules.specs.Importing.{FileReading}
 use Rattle.office_rules.specs.Numbers.{with_message}
 use Rattle.office_rules.specs.Opening.{grant, grant_tests, granted}
-use Rattle.office_rules.specs.Outcome.{Outcome, Refusing, Changing, given_or, on_net, refused_or, reply_of, unless}
+use Rattle.office_rules.specs.Outcome.{Entries, Outcome, Refusing, Changing, entered, given_or, on_net, refused_or, reply_of, unless}
 use Rattle.office_rules.specs.Signals.{spn_given, take_spn, take_spn_tests, with_spn}
 use Rattle.office_law.specs.Histories.{net_after}
-use Rattle.office_law.proofs.Left.{IsAnswer, IsLeft, left_task}
+use Rattle.office_law.proofs.Left.{IsAnswer, IsLeft, left_act, left_task}
 use Rattle.office_law.proofs.Passing.{Leaves}
 
 -- where both are answered, and alike, they leave one network
@@ -76,8 +79,54 @@ module _ (team name : List ℕ) (book other : SpnBook) where
   agree_act net (act.TakeSpn c) = agree_spn net c
   agree_act net a = agree_same (acted team name net book a)
 
+-- the same of the parts of a bundle
+abbrev AgreeAll : PartsOutcome → PartsOutcome → Type 0
+AgreeAll (AllDone rs n d) (AllDone ss m e) = rs ≡ ss → n ≡ m
+AgreeAll a b = Unit {0}
+
+same_first : (r s : Reply) (rs ss : List PartReply) → whole_reply (part_reply r) ≡ r → whole_reply (part_reply s) ≡ s → part_reply r ∷ rs ≡ part_reply s ∷ ss → (r ≡ s) × (rs ≡ ss)
+same_first r s rs ss pr ps e = (sym pr ∙ ap whole_reply (let same : part_reply r ≡ part_reply s = cc in same) ∙ ps, cc)
+
+agree_with_part : (r s : Reply) (n m : Net) (d e : Entries) (a b : PartsOutcome) → whole_reply (part_reply r) ≡ r → whole_reply (part_reply s) ≡ s → (r ≡ s → n ≡ m)
+    → (n ≡ m → AgreeAll a b) → AgreeAll (with_part r d a) (with_part s e b)
+agree_with_part r s n m d e (RefusedAt i q) b pr ps one later = tt
+agree_with_part r s n m d e (AllDone rs k x) (RefusedAt i q) pr ps one later = tt
+agree_with_part r s n m d e (AllDone rs k x) (AllDone ss l y) pr ps one later =
+    λ same. let both = same_first r s rs ss pr ps same in later (one both.0) both.1
+
+agree_then : (name : List ℕ) (t : Action) (net : Option Net) (place : ℕ) (a b : Outcome) (f g : Net → Entries → PartsOutcome) → Agree a b
+    → Leaves (λ r n e. IsLeft name (Act t) net r n) a → Leaves (λ r n e. IsLeft name (Act t) net r n) b
+    → ((n : Net) (d e : Entries) → AgreeAll (f n d) (g n e)) → AgreeAll (part_then place a f) (part_then place b g)
+agree_then name t net place (Refusing q) b f g h ha hb later = tt
+agree_then name t net place (Changing r n d) (Refusing q) f g h ha hb later = agree_refused_all (with_part r d (f n d)) place q
+  where
+    agree_refused_all : (a : PartsOutcome) (place : ℕ) (q : Refusal) → AgreeAll a (RefusedAt place q)
+    agree_refused_all (RefusedAt i r) place q = tt
+    agree_refused_all (AllDone rs k x) place q = tt
+agree_then name t net place (Changing r n d) (Changing s m e) f g h ha hb later =
+    agree_with_part r s n m d e (f n d) (g m e) ha.part hb.part h (λ same. subst (λ v. AgreeAll (f n d) (g v e)) same (later n d e))
+
+agree_parts : (team name : List ℕ) (place : ℕ) (net : Option Net) (book other : SpnBook) (parts : List Action) → AgreeAll (parts_done team name place net book parts) (parts_done team name place net other parts)
+agree_parts team name place net book other [] = λ same. refl
+agree_parts team name place net book other (a ∷ parts) =
+    agree_then name a net place (acted team name net book a) (acted team name net other a) _ _ (agree_act team name book other net a) (left_act team name book net a) (left_act team name other net a)
+    (λ n d e. agree_parts team name (place + 1) (Some n) (entered book d) (entered other e) parts)
+
+agree_bundle : (a b : PartsOutcome) → AgreeAll a b → Agree (bundle_outcome a) (bundle_outcome b)
+agree_bundle (RefusedAt i r) b h = tt
+agree_bundle (AllDone rs None d) b h = tt
+agree_bundle (AllDone rs (Some n) d) (RefusedAt i r) h = tt
+agree_bundle (AllDone rs (Some n) d) (AllDone ss None e) h = tt
+agree_bundle (AllDone rs (Some n) d) (AllDone ss (Some m) e) h =
+    λ same. same_net n m (h (let parts : rs ≡ ss = cc in parts))
+  where
+    same_net : (n m : Net) → ◌≡◌ {A = Option Net} (Some n) (Some m) → n ≡ m
+    same_net n m e = cc
+
+module _ (team name : List ℕ) (book other : SpnBook) where
   pub agree_task : (reading : FileReading) (net : Option Net) (t : Task) → Agree (done_task team name reading net book t) (done_task team name reading net other t)
-  agree_task reading net (Act a) = agree_act net a
+  agree_task reading net (Act a) = agree_act team name book other net a
+  agree_task reading net (Bundle parts) = agree_bundle (parts_done team name 1 net book parts) (parts_done team name 1 net other parts) (agree_parts team name 1 net book other parts)
   agree_task reading net (Import file) = agree_same (done_task team name reading net book (Import file))
 
 module _ (name : List ℕ) (t : Task) (net : Option Net) where

@@ -12,17 +12,18 @@ use Rattle.office_types.specs.declared.book.SpnBook.{SpnBook}
 use Rattle.office_types.specs.declared.command.Action.{Action}
 use Rattle.office_types.specs.declared.command.Action.TheVariants as act
 use Rattle.office_types.specs.declared.command.Task.{Task}
-use Rattle.office_types.specs.declared.command.Task.TheVariants.{Act, Import}
+use Rattle.office_types.specs.declared.command.Task.TheVariants.{Act, Import, Bundle}
 use Rattle.office_types.specs.declared.free.Form.TheVariants.{Spn}
 use Rattle.office_types.specs.declared.refusal.Refusal.{Refusal}
 use Rattle.office_types.specs.declared.refusal.Refusal.TheVariants as no
 use Rattle.office_types.specs.declared.state.Net.{Net}
-use Rattle.office_rules.specs.Commands.{acted, done_task}
+use Rattle.office_rules.specs.Bundling.{PartsOutcome, RefusedAt, AllDone, bundle_outcome}
+use Rattle.office_rules.specs.Commands.{acted, done_task, parts_done}
 use Rattle.office_rules.specs.Facts.{blocks_of, live_named, spn_blocks_of, taken_numbers}
 use Rattle.office_rules.specs.Importing.{FileReading, Reading, Unreadable, file_imported, file_tests}
 use Rattle.office_rules.specs.Opening.{granted}
 use Rattle.office_rules.specs.Outcome.{Outcome, Refusing, Changing, asked_of, given_or, on_net, refused_or, unless, when}
-use Rattle.office_law.specs.Deciding.{IsDecidedBy, TestsDecide, action_tests, task_tests}
+use Rattle.office_law.specs.Deciding.{IsDecidedBy, TestsDecide, action_tests, bundle_tests, task_tests}
 use Rattle.office_law.proofs.Left.{either}
 use Rattle.office_law.proofs.Passing.{NoneHolds, NoneHolds-from_none}
 
@@ -92,9 +93,15 @@ module _ (team name : List ℕ) (book : SpnBook) where
   answered_file (Reading s) n none = tt
   answered_file (Unreadable f) n none = absurd (false≢true (sym none.0))
 
+  decided_bundle : (out : PartsOutcome) → IsDecidedBy (first_refusal (bundle_tests out)) (bundle_outcome out)
+  decided_bundle (RefusedAt place r) = refl
+  decided_bundle (AllDone replies (Some net) e) = refl
+  decided_bundle (AllDone replies None e) = refl
+
   decided_task : (reading : FileReading) (net : Option Net) (t : Task) → IsDecidedBy (first_refusal (task_tests team name reading net book t)) (done_task team name reading net book t)
   decided_task reading net (Act a) = decided_act net a
   decided_task reading net (Import file) = decided_net _ _ net (λ n none. answered_file reading n none.1)
+  decided_task reading net (Bundle parts) = decided_bundle (parts_done team name 1 net book parts)
 
 pub tests_decide : TestsDecide
 tests_decide team reading net book c = decided_task team c.net book reading net c.task

@@ -13,7 +13,8 @@ use Rattle.office_types.specs.declared.state.Net.{Net}
 use Rattle.office_types.specs.declared.state.Office.{Office}
 use Rattle.office_rules.specs.Commands.{outcome}
 use Rattle.office_rules.specs.Outcome.{Outcome, Refusing, Changing, reply_of}
-use Rattle.office_rules.specs.Step.{IsRead, Run, Step, file_wanted, net_named, office_after, step_outcome}
+use Rattle.office_rules.specs.Profile.{Profile}
+use Rattle.office_rules.specs.Step.{Asking, IsRead, Run, Step, file_wanted, net_named, office_after, step_outcome}
 use Rattle.office_law.specs.Agree.{IsFileRefused}
 use Rattle.office_law.specs.Apart.{asks_book}
 use Rattle.office_law.specs.Histories.{AreInOrder, OneHistoryOneNetwork, RepliesApart, history, net_after}
@@ -36,7 +37,7 @@ module _ (name : List ℕ) (t : Task) (net : Option Net) (r : Refusal) where
   refused_office o (Changing s n entries) left e = absurd (subst IsAnswer e left.answer)
 
 -- Two offices with one network of the command's name.
-module _ (once : ReadsAsOneAtMost) (o p a b : Office) (team : List ℕ) (c : Command) (r s : Reply) (first : Step o team c r a) (second : Step p team c s b)
+module _ (once : ReadsAsOneAtMost) (profile : Profile) (o p a b : Office) (team : List ℕ) (c : Command) (r s : Reply) (first : Step profile o team c r a) (second : Step profile p team c s b)
     (same : net_named o c.net ≡ net_named p c.net) where
   -- what the command comes to in each of them by the second's reading
   abbrev here : Outcome
@@ -61,11 +62,11 @@ module _ (once : ReadsAsOneAtMost) (o p a b : Office) (team : List ℕ) (c : Com
       ∙ sym (ap (λ n. net_after n (outcome team second.reading n p.book c)) same)
 
   -- the first office, by the second's reading
-  middle : Step o team c (reply_of here) (office_after o here)
-  middle = record { reading = second.reading; read = subst (λ n. IsRead (file_wanted n c.task) second.reading) (sym same) second.read; answered = refl; left = refl }
+  middle : Step profile o team c (reply_of here) (office_after o here)
+  middle = record { reading = second.reading; read = subst (λ n. IsRead profile (file_wanted n c.task) second.reading) (sym same) second.read; answered = refl; left = refl }
 
-  agreed : ((r ≡ reply_of here) × (a ≡ office_after o here)) ⊎ (IsFileRefused o c r a × IsFileRefused o c (reply_of here) (office_after o here))
-  agreed = steps_agree once o a (office_after o here) team c r (reply_of here) first middle
+  agreed : ((r ≡ reply_of here) × (a ≡ office_after o here)) ⊎ (IsFileRefused profile o c r a × IsFileRefused profile o c (reply_of here) (office_after o here))
+  agreed = steps_agree once profile o a (office_after o here) team c r (reply_of here) first middle
 
   one_reply : AreInOrder o → AreInOrder p → r ≡ s → net_named a c.net ≡ net_named b c.net
   one_reply sorted sorted_too e = elim agreed [
@@ -80,7 +81,7 @@ module _ (once : ReadsAsOneAtMost) (o p a b : Office) (team : List ℕ) (c : Com
         ∙ sym (net_there sorted_too)
   ]
 
-  one_answer : asks_book c.task ≡ false → (r ≡ s) ⊎ (IsFileRefused o c r a × IsFileRefused p c s b)
+  one_answer : asks_book c.task ≡ false → (r ≡ s) ⊎ (IsFileRefused profile o c r a × IsFileRefused profile p c s b)
   one_answer unasked =
       let alike : here ≡ there = task_alike team c.net second.reading (net_named o c.net) o.book p.book c.task unasked in
       elim agreed [
@@ -101,52 +102,52 @@ module _ (once : ReadsAsOneAtMost) (o p a b : Office) (team : List ℕ) (c : Com
       ]
 
 pub replies_apart : ReadsAsOneAtMost → RepliesApart
-replies_apart once o p a b team c r s first second same unasked = one_answer once o p a b team c r s first second same unasked
+replies_apart once profile o p a b team c r s first second same unasked = one_answer once profile o p a b team c r s first second same unasked
 
-in_order_after : (o a : Office) (team : List ℕ) (c : Command) (r : Reply) → AreInOrder o → Step o team c r a → AreInOrder a
-in_order_after o a team c r sorted step =
+in_order_after : (profile : Profile) (o a : Office) (team : List ℕ) (c : Command) (r : Reply) → AreInOrder o → Step profile o team c r a → AreInOrder a
+in_order_after profile o a team c r sorted step =
     subst AreInOrder (sym step.left) (sorted_after o (step_outcome o team step.reading c) sorted)
 
 module _ (name : List ℕ) where
   -- in some office the command led from one network to the other
-  record StepsTo (before : Option Net) (e : List ℕ × Command × Reply) (after : Option Net) : Type 0 where
+  record StepsTo (before : Option Net) (e : Profile × List ℕ × Command × Reply) (after : Option Net) : Type 0 where
     pub office : Office
     pub later : Office
-    pub step : Step office e.0 e.1 e.2 later
+    pub step : Step e.0 office e.1 e.2 e.3 later
     pub sorted : AreInOrder office
     pub was : net_named office name ≡ before
     pub is : net_named later name ≡ after
-    pub on : bytes_eq e.1.net name ≡ true
+    pub on : bytes_eq e.2.net name ≡ true
 
-  abbrev Leads : Option Net → List (List ℕ × Command × Reply) → Option Net → Type 0
+  abbrev Leads : Option Net → List (Profile × List ℕ × Command × Reply) → Option Net → Type 0
   Leads net [] last = net ≡ last
   Leads net (e ∷ es) last = (mid : Option Net) × StepsTo net e mid × Leads mid es last
 
-  leads_more : (o mid : Office) (q : List ℕ × Command) (r : Reply) (es : List (List ℕ × Command × Reply)) (last : Option Net) (b : Bool) → bytes_eq q.1.net name ≡ b
-      → AreInOrder o → Step o q.0 q.1 r mid → Leads (net_named mid name) es last → Leads (net_named o name) (if b then (q.0, q.1, r) ∷ es else es) last
+  leads_more : (o mid : Office) (q : Asking) (r : Reply) (es : List (Profile × List ℕ × Command × Reply)) (last : Option Net) (b : Bool) → bytes_eq q.2.net name ≡ b
+      → AreInOrder o → Step q.0 o q.1 q.2 r mid → Leads (net_named mid name) es last → Leads (net_named o name) (if b then (q.0, q.1, q.2, r) ∷ es else es) last
   leads_more o mid q r es last true on sorted step rest = (net_named mid name, record { office = o; later = mid; step = step; sorted = sorted; was = refl; is = refl; on = on }, rest)
   leads_more o mid q r es last false on sorted step rest =
-      subst (λ n. Leads n es last) (ap (λ x. net_named x name) step.left ∙ (nets_apart o q.0 step.reading q.1).others name on) rest
+      subst (λ n. Leads n es last) (ap (λ x. net_named x name) step.left ∙ (nets_apart o q.1 step.reading q.2).others name on) rest
 
   -- a run's commands on the network lead from what it was to what it is
-  leads : (qs : List (List ℕ × Command)) (rs : List Reply) (o a : Office) → AreInOrder o → Run o qs rs a → Leads (net_named o name) (history name qs rs) (net_named a name)
+  leads : (qs : List Asking) (rs : List Reply) (o a : Office) → AreInOrder o → Run o qs rs a → Leads (net_named o name) (history name qs rs) (net_named a name)
   leads [] [] o a sorted h = sym (ap (λ x. net_named x name) h)
   leads [] (r ∷ rs) o a sorted h = absurd h
   leads (q ∷ qs) [] o a sorted h = absurd h
   leads (q ∷ qs) (r ∷ rs) o a sorted h =
-      let later : AreInOrder h.0 = in_order_after o h.0 q.0 q.1 r sorted h.1 in
-      leads_more o h.0 q r (history name qs rs) (net_named a name) (bytes_eq q.1.net name) refl sorted h.1 (leads qs rs h.0 a later h.2)
+      let later : AreInOrder h.0 = in_order_after q.0 o h.0 q.1 q.2 r sorted h.1 in
+      leads_more o h.0 q r (history name qs rs) (net_named a name) (bytes_eq q.2.net name) refl sorted h.1 (leads qs rs h.0 a later h.2)
 
   module _ (once : ReadsAsOneAtMost) where
-    one_step : (e : List ℕ × Command × Reply) (x y l m : Option Net) → x ≡ y → StepsTo x e l → StepsTo y e m → l ≡ m
+    one_step : (e : Profile × List ℕ × Command × Reply) (x y l m : Option Net) → x ≡ y → StepsTo x e l → StepsTo y e m → l ≡ m
     one_step e x y l m same s t =
-        let named : e.1.net ≡ name = equal_texts e.1.net name s.on in
-        let before : net_named s.office e.1.net ≡ net_named t.office e.1.net = subst (λ n. net_named s.office n ≡ net_named t.office n) (sym named) (s.was ∙ same ∙ sym t.was) in
+        let named : e.2.net ≡ name = equal_texts e.2.net name s.on in
+        let before : net_named s.office e.2.net ≡ net_named t.office e.2.net = subst (λ n. net_named s.office n ≡ net_named t.office n) (sym named) (s.was ∙ same ∙ sym t.was) in
         sym s.is
-        ∙ subst (λ n. net_named s.later n ≡ net_named t.later n) named (one_reply once s.office t.office s.later t.later e.0 e.1 e.2 e.2 s.step t.step before s.sorted t.sorted refl)
+        ∙ subst (λ n. net_named s.later n ≡ net_named t.later n) named (one_reply once e.0 s.office t.office s.later t.later e.1 e.2 e.3 e.3 s.step t.step before s.sorted t.sorted refl)
         ∙ t.is
 
-    leads_once : (es : List (List ℕ × Command × Reply)) (x y l m : Option Net) → x ≡ y → Leads x es l → Leads y es m → l ≡ m
+    leads_once : (es : List (Profile × List ℕ × Command × Reply)) (x y l m : Option Net) → x ≡ y → Leads x es l → Leads y es m → l ≡ m
     leads_once [] x y l m same s t = sym s ∙ same ∙ t
     leads_once (e ∷ es) x y l m same s t = leads_once es s.0 t.0 l m (one_step e x y s.0 t.0 same s.1 t.1) s.2 t.2
 

@@ -10,16 +10,17 @@ use Rattle.office_types.specs.declared.free.Form.TheVariants.{Std}
 use Rattle.office_types.specs.declared.refusal.Refusal.TheVariants as no
 use Rattle.office_types.specs.declared.reply.Reply.TheVariants.{Done, Refused}
 use Rattle.office_rules.specs.Outcome.{Refusing}
-use Rattle.office_rules.specs.Step.{opening}
+use Rattle.office_rules.specs.Profile.{Two}
+use Rattle.office_rules.specs.Step.{Asking, opening}
 use Rattle.office_law.specs.Deciding.{action_tests}
 use Rattle.office_law.specs.Histories.{history, net_after}
 
-submits : List ℕ → List ℕ × Command
-submits net = (codes "engine", record { net = net; task = Act act.Submit })
+submits : List ℕ → Asking
+submits net = (Two, codes "engine", record { net = net; task = Act act.Submit })
 
 -- the history of one of two networks
 one_of_two : history (codes "truck") (submits (codes "truck") ∷ submits (codes "bus") ∷ submits (codes "truck") ∷ []) (Done ∷ Done ∷ Refused no.InReview ∷ [])
-    ≡ (codes "engine", record { net = codes "truck"; task = Act act.Submit }, Done) ∷ (codes "engine", record { net = codes "truck"; task = Act act.Submit }, Refused no.InReview) ∷ []
+    ≡ (Two, codes "engine", record { net = codes "truck"; task = Act act.Submit }, Done) ∷ (Two, codes "engine", record { net = codes "truck"; task = Act act.Submit }, Refused no.InReview) ∷ []
 unfolding submits
 one_of_two = refl
 

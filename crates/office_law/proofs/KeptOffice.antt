@@ -9,7 +9,7 @@ use Rattle.std.specs.declared.cmp.Ordering.{Ordering}
 use Rattle.std.specs.declared.cmp.Ordering.TheVariants.{Equal}
 use Rattle.std.proofs.lemmas.Bool.{cond_both, false≢true}
 use Rattle.std.proofs.lemmas.Cmp.{nat_list_cmp_total, on_total}
-use Rattle.std.proofs.lemmas.List.Elements.{All-cons, All-filter, All-head, All-nil, All-tail, All-weaker}
+use Rattle.std.proofs.lemmas.List.Elements.{All-append, All-cons, All-filter, All-head, All-nil, All-tail, All-weaker}
 use Rattle.std.proofs.lemmas.List.Folds.{Any-from_list_any, list_any_at}
 use Rattle.std.proofs.lemmas.Map.Text.{is_eq-slice_cmp}
 use Rattle.std.proofs.lemmas.Slice.Eq.{bytes_eq-Decides}
@@ -21,16 +21,19 @@ use Rattle.office_types.specs.declared.command.Action.{Action}
 use Rattle.office_types.specs.declared.command.Action.TheVariants as act
 use Rattle.office_types.specs.declared.command.Command.{Command}
 use Rattle.office_types.specs.declared.command.Task.{Task}
-use Rattle.office_types.specs.declared.command.Task.TheVariants.{Act, Import}
+use Rattle.office_types.specs.declared.command.Task.TheVariants.{Act, Import, Bundle}
 use Rattle.office_types.specs.declared.refusal.Refusal.{Refusal}
 use Rattle.office_types.specs.declared.refusal.Refusal.TheVariants as no
+use Rattle.office_types.specs.declared.reply.PartReply.{PartReply}
 use Rattle.office_types.specs.declared.reply.Reply.{Reply}
 use Rattle.office_types.specs.declared.reply.Reply.TheVariants.{Done, Release}
-use Rattle.office_rules.specs.Commands.{acted, done_task}
+use Rattle.office_rules.specs.Bundling.{both_entries}
+use Rattle.office_rules.specs.Commands.{acted, done_task, parts_done}
 use Rattle.office_rules.specs.Numbers.{take_ident, take_pgn}
 use Rattle.office_rules.specs.Reviewing.{approve, in_phase, reject, release, release_tests, submit, with_release}
 use Rattle.office_rules.specs.Signals.{remove_signal, set_values, take_bits, take_spn}
 use Rattle.office_law.proofs.OnSignals.{IsText-empty}
+use Rattle.office_law.proofs.Parts.{LeavesAll, entered_both, leaves_bundle, leaves_then, leaves_with}
 use Rattle.office_law.proofs.Passing.{Leaves, leaves_unless}
 use Rattle.office_types.specs.Book.{by_net}
 use Rattle.office_types.specs.Command.{IsAction, IsCommand, IsTask}
@@ -48,7 +51,8 @@ use Rattle.office_rules.specs.Lists.{put_all}
 use Rattle.office_rules.specs.Opening.{add_node, bare_net, grant, grant_tests, granted, new_head, open_net, open_net_tests}
 use Rattle.office_rules.specs.Outcome.{Entries, no_entries, entered, Outcome, Refusing, Changing, given_or, unless}
 use Rattle.office_rules.specs.Retiring.{retire, retired, with_held, without_message}
-use Rattle.office_rules.specs.Step.{IsRead, IsReadingOf, file_wanted, net_named, office_after, opening, Run, Step, step_outcome}
+use Rattle.office_rules.specs.Profile.{Profile}
+use Rattle.office_rules.specs.Step.{Asking, IsRead, IsReadingOf, file_wanted, net_named, office_after, opening, Run, Step, step_outcome}
 use Rattle.office_law.specs.Kept.{AreRequests, OfficesAreKept}
 use Rattle.office_law.proofs.Going.{Allowed, Goes, IsReadingSheet, goes_approve, goes_bits, goes_grant, goes_ident, goes_import, goes_node, goes_pgn, goes_reject, goes_release, goes_removal, goes_retire, goes_spn, goes_submit, goes_values}
 use Rattle.office_law.proofs.KeptBlocks.{IsNet-approved, IsNet-granted, IsNet-in_phase, IsNet-noded}
@@ -224,19 +228,56 @@ module _ (team name : List ℕ) (book : SpnBook) (plain : IsPlainName team) (nam
   well_acted None act.Release fields found =
       nowhere (release_tests team None) (λ n. Changing (Release (length n.releases + 1)) (in_phase (with_release n (sheet_of n)) Draft) no_entries)
 
-  pub well_done : (net : Option Net) (task : Task) (reading : FileReading) → IsTask task → IsRead (file_wanted net task) reading → IfSome net (IsFound name book)
-      → Well (done_task team name reading net book task)
-  well_done net (Act a) reading fields read found = well_acted net a fields found
-  well_done None (Import file) reading fields read found = tt
-  well_done (Some net) (Import file) reading fields read found =
-      along net _ (import team (Some net) reading) found (λ draft. read_sheet file reading (in_draft file reading (in_review net.head.phase) draft read)) (goes_import team name book net reading)
+-- The parts of a bundle, one after the other.
+
+found_left : (name : List ℕ) (book : SpnBook) (n : Net) (e : Entries) → IsWellLeft name book n e → IsFound name (entered book e) n
+found_left name book n e w = record { net_is = w.net; named = w.named; numbers = w.numbers }
+
+-- what is left after a part and then after the others is left by both
+left_both : (name : List ℕ) (book : SpnBook) (n m : Net) (e f : Entries) → IsWellLeft name book n e → IsWellLeft name (entered book e) m f → IsWellLeft name book m (both_entries e f)
+left_both name book n m e f w v = record {
+  net = v.net;
+  named = v.named;
+  book_is = subst IsBook (sym (entered_both book e f)) v.book_is;
+  numbers = subst (λ (b : SpnBook). IsEntered b.used m) (sym (entered_both book e f)) v.numbers;
+  home = All-append (λ b. b.net ≡ name) e.blocks f.blocks w.home v.home;
+}
+
+module _ (team name : List ℕ) (plain : IsPlainName team) (named : IsPlainName name) where
+  joined : (book : SpnBook) (r : Reply) (n : Net) (e : Entries) → IsWellLeft name book n e → (rs : List PartReply) (m : Option Net) (f : Entries)
+      → IfSome m (λ k. IsWellLeft name (entered book e) k f) → IfSome m (λ k. IsWellLeft name book k (both_entries e f))
+  joined book r n e w rs None f v = tt
+  joined book r n e w rs (Some m) f v = left_both name book n m e f w v
+
+  well_parts : (place : ℕ) (net : Option Net) (book : SpnBook) (parts : List Action) → IsBook book → All IsAction parts → IfSome net (IsFound name book)
+      → LeavesAll (λ rs m e. IfSome m (λ n. IsWellLeft name book n e)) (parts_done team name place net book parts)
+  well_parts place None book [] b fields found = tt
+  well_parts place (Some n) book [] b fields found = quiet name book n found.net_is found.named b found.numbers
+  well_parts place net book (a ∷ parts) b fields found =
+      leaves_then (λ r n e. IsWellLeft name book n e) (λ rs m e. IfSome m (λ n. IsWellLeft name book n e)) place (acted team name net book a)
+      (λ n e. parts_done team name (place + 1) (Some n) (entered book e) parts)
+      (well_acted team name book plain named b net a (All-head IsAction a parts fields) found)
+      (λ r n e w.
+      leaves_with r e (λ rs m f. IfSome m (λ k. IsWellLeft name (entered book e) k f)) (λ rs m f. IfSome m (λ k. IsWellLeft name book k f)) (joined book r n e w)
+      (parts_done team name (place + 1) (Some n) (entered book e) parts)
+      (well_parts (place + 1) (Some n) (entered book e) parts w.book_is (All-tail IsAction a parts fields) (found_left name book n e w)))
+
+module _ (team name : List ℕ) (book : SpnBook) (plain : IsPlainName team) (named : IsPlainName name) (book_is : IsBook book) where
+  pub well_done : (profile : Profile) (net : Option Net) (task : Task) (reading : FileReading) → IsTask task → IsRead profile (file_wanted net task) reading → IfSome net (IsFound name book)
+      → Leaves (λ r n e. IsWellLeft name book n e) (done_task team name reading net book task)
+  well_done profile net (Act a) reading fields read found = well_acted team name book plain named book_is net a fields found
+  well_done profile net (Bundle parts) reading fields read found =
+      leaves_bundle (λ r n e. IsWellLeft name book n e) (parts_done team name 1 net book parts) (well_parts team name plain named 1 net book parts book_is fields.1 found)
+  well_done profile None (Import file) reading fields read found = tt
+  well_done profile (Some net) (Import file) reading fields read found =
+      along team name book plain named book_is net _ (import team (Some net) reading) found (λ draft. read_sheet file reading (in_draft file reading (in_review net.head.phase) draft read)) (goes_import team name book net reading)
     where
-      in_draft : (bytes : List ℕ) (r : FileReading) (b : Bool) → b ≡ false → IsRead (elim b [ true ↦ None | false ↦ Some bytes ]) r → IsReadingOf bytes r
+      in_draft : (bytes : List ℕ) (r : FileReading) (b : Bool) → b ≡ false → IsRead profile (elim b [ true ↦ None | false ↦ Some bytes ]) r → IsReadingOf profile bytes r
       in_draft bytes r true e h = absurd (false≢true (sym e))
       in_draft bytes r false e h = h
 
-      read_sheet : (bytes : List ℕ) (r : FileReading) → IsReadingOf bytes r → IsReadingSheet r
-      read_sheet bytes (Reading s) h = h.1.says.is_sheet
+      read_sheet : (bytes : List ℕ) (r : FileReading) → IsReadingOf profile bytes r → IsReadingSheet r
+      read_sheet bytes (Reading s) h = h.0.1.says.is_sheet
       read_sheet bytes (Unreadable f) h = tt
 
 -- The whole office.
@@ -310,21 +351,21 @@ after_outcome : (o : Office) (name : List ℕ) (out : Outcome) → IsOffice o �
 after_outcome o name (Refusing r) h w = h
 after_outcome o name (Changing r n e) h w = IsOffice-after o name n e h w
 
-IsOffice-step : (before after : Office) (team : List ℕ) (c : Command) (reply : Reply) → IsOffice before → IsPlainName team → IsCommand c → Step before team c reply after → IsOffice after
-IsOffice-step before after team c reply h plain command step =
+IsOffice-step : (profile : Profile) (before after : Office) (team : List ℕ) (c : Command) (reply : Reply) → IsOffice before → IsPlainName team → IsCommand c → Step profile before team c reply after → IsOffice after
+IsOffice-step profile before after team c reply h plain command step =
     subst IsOffice (sym step.left)
     (after_outcome before c.net (step_outcome before team step.reading c) h
-    (well_done team c.net before.book plain command.net h.book (net_named before c.net) c.task step.reading command.task step.read
+    (well_done team c.net before.book plain command.net h.book profile (net_named before c.net) c.task step.reading command.task step.read
     (found_named c.net before.book before.nets h.nets h.entered)))
 
-IsOffice-run : (before after : Office) (requests : List (List ℕ × Command)) (replies : List Reply) → IsOffice before → AreRequests requests → Run before requests replies after → IsOffice after
+IsOffice-run : (before after : Office) (requests : List Asking) (replies : List Reply) → IsOffice before → AreRequests requests → Run before requests replies after → IsOffice after
 IsOffice-run before after [] [] h all run = subst IsOffice (sym run) h
 IsOffice-run before after [] (r ∷ replies) h all run = absurd run
 IsOffice-run before after (q ∷ requests) [] h all run = absurd run
 IsOffice-run before after (q ∷ requests) (r ∷ replies) h all run =
-    let first = All-head (λ (p : List ℕ × Command). IsPlainName p.0 × IsCommand p.1) q requests all in
-    IsOffice-run run.0 after requests replies (IsOffice-step before run.0 q.0 q.1 r h first.0 first.1 run.1)
-    (All-tail (λ (p : List ℕ × Command). IsPlainName p.0 × IsCommand p.1) q requests all) run.2
+    let first = All-head (λ (p : Asking). IsPlainName p.1 × IsCommand p.2) q requests all in
+    IsOffice-run run.0 after requests replies (IsOffice-step q.0 before run.0 q.1 q.2 r h first.0 first.1 run.1)
+    (All-tail (λ (p : Asking). IsPlainName p.1 × IsCommand p.2) q requests all) run.2
 
 pub offices_are_kept : OfficesAreKept
 offices_are_kept = record { opening_is = IsOffice-opening; step = IsOffice-step; run = IsOffice-run }

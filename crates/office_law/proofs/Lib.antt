@@ -1,4 +1,5 @@
 pub mod Passing
+pub mod Parts
 pub mod Ways
 pub mod Lists
 pub mod Replaced
@@ -29,5 +30,9 @@ pub mod Left
 pub mod OrderedNets
 pub mod NetsApart
 pub mod HistoriesApart
+pub mod PutAgain
+pub mod BundleRuns
 pub mod Decided
 mod HistoryRows
+pub mod Unreleased
+pub mod OtherReleases

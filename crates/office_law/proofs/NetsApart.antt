@@ -20,7 +20,7 @@ found_first name x true later h rest = equal_texts x.name name h
 found_first name x false later h rest = rest
 
 -- what is found has the name
-name_of_found : (name : List ℕ) (xs : List Net) → name_of name (find (has name) xs) ≡ name
+pub name_of_found : (name : List ℕ) (xs : List Net) → name_of name (find (has name) xs) ≡ name
 name_of_found name [] = refl
 name_of_found name (x ∷ xs) = found_first name x (has name x) (find (has name) xs) refl (name_of_found name xs)
 

@@ -38,7 +38,7 @@ above_all x y [] same h = refl
 above_all x y (z ∷ zs) same h =
     ap (λ b. b && are_above by_name x zs) (ap (λ n. is_lt (text_cmp n z.name)) same ∙ ap is_lt h.0) ∙ above_all x y zs same h.1
 
-equal_order : (x y : Net) → x.name ≡ y.name → by_name x y ≡ Equal
+pub equal_order : (x y : Net) → x.name ≡ y.name → by_name x y ≡ Equal
 equal_order x y same = by_test (by_name x y) (order_tells x y ∙ (bytes_eq-Decides x.name y.name).1 same)
   where
     by_test : (r : Ordering) → is_eq r ≡ true → r ≡ Equal

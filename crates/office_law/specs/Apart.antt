@@ -1,31 +1,42 @@
 -- Networks are apart: a command reads and changes its own network alone, and but for suspect parameter numbers the book
 -- doesn't matter to it.
 use Rattle.std.specs.Prelude.{◌≡◌, ◌⊎◌, ℕ, Bool, true, false, List, [], ◌∷◌, ◌++◌, Option, Some}
+use Rattle.std.specs.List.{list_any}
 use Rattle.std.specs.Str.{bytes_eq}
+use Rattle.catalogue.specs.declared.sheet.Sheet.{Sheet}
 use Rattle.office_types.specs.Block.{is_spn}
 use Rattle.office_types.specs.State.{sheet_of}
 use Rattle.office_types.specs.declared.book.SpnBook.{SpnBook}
+use Rattle.office_types.specs.declared.command.Action.{Action}
 use Rattle.office_types.specs.declared.command.Action.TheVariants as act
 use Rattle.office_types.specs.declared.command.Command.{Command}
 use Rattle.office_types.specs.declared.command.Task.{Task}
-use Rattle.office_types.specs.declared.command.Task.TheVariants.{Act, Import}
+use Rattle.office_types.specs.declared.command.Task.TheVariants.{Act, Import, Bundle}
 use Rattle.office_types.specs.declared.reply.Reply.{Reply}
 use Rattle.office_types.specs.declared.state.Net.{Net}
 use Rattle.office_types.specs.declared.state.Office.{Office}
 use Rattle.office_rules.specs.Commands.{outcome}
 use Rattle.office_rules.specs.Importing.{FileReading}
 use Rattle.office_rules.specs.Outcome.{Entries, Changing}
+use Rattle.office_rules.specs.Profile.{Profile}
 use Rattle.office_rules.specs.Step.{Step, net_named}
 
--- the commands that look into the book
-abbrev pub asks_book : Task → Bool
-asks_book (Act (act.TakeSpn c)) = true
-asks_book (Act (act.Grant c)) = is_spn c.block.form
-asks_book (Act a) = false
-asks_book (Import file) = false
+-- the actions that look into the book
+abbrev pub action_asks_book : Action → Bool
+action_asks_book (act.TakeSpn c) = true
+action_asks_book (act.Grant c) = is_spn c.block.form
+action_asks_book a = false
 
--- A network's releases after a command: those before it, and by `release` alone the live sheet too, as the last one.
+-- and the commands; a bundle where one of its parts does
+abbrev pub asks_book : Task → Bool
+asks_book (Act a) = action_asks_book a
+asks_book (Import file) = false
+asks_book (Bundle parts) = list_any action_asks_book parts
+
+-- A network's releases after a command: those before it, and by `release` alone the live sheet too, as the last one. A
+-- bundle adds those of its parts.
 abbrev pub KeepsReleases : Task → Net → Net → Type 0
+KeepsReleases (Bundle parts) net after = (new : List Sheet) × (after.releases ≡ net.releases ++ new)
 KeepsReleases task net after =
     (after.releases ≡ net.releases) ⊎ ((task ≡ Act act.Release) × (after.releases ≡ net.releases ++ sheet_of net ∷ []))
 
@@ -40,5 +51,5 @@ pub record NetworksAreApart : Type 0 where
   pub releases : (team : List ℕ) (reading : FileReading) (net n : Net) (book : SpnBook) (c : Command) (reply : Reply) (e : Entries)
       → outcome team reading (Some net) book c ≡ Changing reply n e → (n.name ≡ net.name) × KeepsReleases c.task net n
   -- a step leaves every other network as it was
-  pub others : (before after : Office) (team : List ℕ) (c : Command) (reply : Reply) (name : List ℕ)
-      → Step before team c reply after → bytes_eq c.net name ≡ false → net_named after name ≡ net_named before name
+  pub others : (profile : Profile) (before after : Office) (team : List ℕ) (c : Command) (reply : Reply) (name : List ℕ)
+      → Step profile before team c reply after → bytes_eq c.net name ≡ false → net_named after name ≡ net_named before name

@@ -1,20 +1,22 @@
 -- A command's list of tests decides: the first that holds refuses it, and where none holds it is answered.
-use Rattle.std.specs.Prelude.{◌≡◌, ℕ, List, Option, Some, None}
+use Rattle.std.specs.Prelude.{◌≡◌, true, ℕ, List, [], ◌∷◌, Option, Some, None}
 use Rattle.catalogue.specs.Refusing.{Test, first_refusal}
 use Rattle.office_types.specs.declared.book.SpnBook.{SpnBook}
 use Rattle.office_types.specs.declared.command.Action.{Action}
 use Rattle.office_types.specs.declared.command.Action.TheVariants as act
 use Rattle.office_types.specs.declared.command.Command.{Command}
 use Rattle.office_types.specs.declared.command.Task.{Task}
-use Rattle.office_types.specs.declared.command.Task.TheVariants.{Act, Import}
+use Rattle.office_types.specs.declared.command.Task.TheVariants.{Act, Import, Bundle}
 use Rattle.office_types.specs.declared.refusal.Refusal.{Refusal}
 use Rattle.office_types.specs.declared.state.Net.{Net}
-use Rattle.office_rules.specs.Commands.{outcome}
+use Rattle.office_types.specs.declared.refusal.Refusal.TheVariants as no
+use Rattle.office_rules.specs.Bundling.{PartsOutcome, RefusedAt, AllDone, refused_part}
+use Rattle.office_rules.specs.Commands.{outcome, parts_done}
 use Rattle.office_rules.specs.Facts.{group_facts, ident_facts, message_facts}
 use Rattle.office_rules.specs.Importing.{FileReading, import_tests}
 use Rattle.office_rules.specs.Numbers.{take_ident_tests, take_pgn_tests}
 use Rattle.office_rules.specs.Opening.{add_node_tests, grant_tests, open_net_tests}
-use Rattle.office_rules.specs.Outcome.{Outcome, Refusing, Changing, on_net}
+use Rattle.office_rules.specs.Outcome.{Outcome, Refusing, Changing, on_net, when}
 use Rattle.office_rules.specs.Retiring.{retire_tests}
 use Rattle.office_rules.specs.Reviewing.{release_tests, review_tests, submit_tests}
 use Rattle.office_rules.specs.Signals.{remove_signal_tests, set_values_tests, take_bits_tests, take_spn_tests}
@@ -36,10 +38,17 @@ action_tests team name net book act.Approve = review_tests team net
 action_tests team name net book act.Reject = review_tests team net
 action_tests team name net book act.Release = release_tests team net
 
+-- The tests of a bundle: it is refused where one of its parts is.
+abbrev pub bundle_tests : PartsOutcome → List (Test Refusal)
+bundle_tests (RefusedAt place r) = when true (no.BundleRefused (refused_part place r)) ∷ []
+bundle_tests (AllDone replies (Some net) e) = []
+bundle_tests (AllDone replies None e) = when true no.NoNet ∷ []
+
 -- the tests of a command
 abbrev pub task_tests : List ℕ → List ℕ → FileReading → Option Net → SpnBook → Task → List (Test Refusal)
 task_tests team name reading net book (Act a) = action_tests team name net book a
 task_tests team name reading net book (Import file) = import_tests team net reading
+task_tests team name reading net book (Bundle parts) = bundle_tests (parts_done team name 1 net book parts)
 
 abbrev pub IsDecidedBy : Option Refusal → Outcome → Type 0
 IsDecidedBy first (Refusing r) = first ≡ Some r

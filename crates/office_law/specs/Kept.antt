@@ -6,16 +6,17 @@ use Rattle.office_types.specs.declared.command.Command.{Command}
 use Rattle.office_types.specs.declared.state.Office.{Office}
 use Rattle.office_types.specs.declared.reply.Reply.{Reply}
 use Rattle.office_rules.specs.Kept.{IsOffice}
-use Rattle.office_rules.specs.Step.{opening, Step, Run}
+use Rattle.office_rules.specs.Profile.{Profile}
+use Rattle.office_rules.specs.Step.{Asking, opening, Step, Run}
 
--- commands of teams, as the types of both keep them
-abbrev pub AreRequests : List (List ℕ × Command) → Type 0
-AreRequests requests = All (λ q. IsPlainName q.0 × IsCommand q.1) requests
+-- commands of teams, as the types of both keep them, whatever the profile
+abbrev pub AreRequests : List Asking → Type 0
+AreRequests requests = All (λ q. IsPlainName q.1 × IsCommand q.2) requests
 
 -- The opening office is as every office is; a step leaves it so, and so does each run of steps.
 pub record OfficesAreKept : Type 0 where
   pub opening_is : IsOffice opening
-  pub step : (before after : Office) (team : List ℕ) (c : Command) (reply : Reply)
-      → IsOffice before → IsPlainName team → IsCommand c → Step before team c reply after → IsOffice after
-  pub run : (before after : Office) (requests : List (List ℕ × Command)) (replies : List Reply)
+  pub step : (profile : Profile) (before after : Office) (team : List ℕ) (c : Command) (reply : Reply)
+      → IsOffice before → IsPlainName team → IsCommand c → Step profile before team c reply after → IsOffice after
+  pub run : (before after : Office) (requests : List Asking) (replies : List Reply)
       → IsOffice before → AreRequests requests → Run before requests replies after → IsOffice after

@@ -6,3 +6,5 @@ pub mod Refusals
 pub mod Missing
 pub mod Histories
 pub mod Deciding
+pub mod Bundles
+pub mod Released

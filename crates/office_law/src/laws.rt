@@ -4,6 +4,7 @@ ghost use Rattle.office_law.specs.Apart.{NetworksAreApart};
 ghost use Rattle.office_law.specs.Fresh.{NumbersAreFresh};
 ghost use Rattle.office_law.specs.Kept.{OfficesAreKept};
 ghost use Rattle.office_law.specs.Missing.{NothingIsMissing};
+ghost use Rattle.office_law.specs.Released.{ReleasesDontCount};
 ghost use Rattle.office_law.specs.Refusals.{LeastInsideBlocks, NeverTwoMultiplexors, RefusedForWant};
 
 use catalogue::texts_read_as_one_sheet;
@@ -25,6 +26,12 @@ pub fn numbers_are_fresh()
 /// numbers doesn't depend on the book.
 pub fn networks_are_apart()
     ensures { NetworksAreApart }
+{}
+
+/// Only `retire` depends on what the releases of its network have, and only `release` on how many there are. Any other
+/// command has the same outcome whatever they are, and adds none: so it is decided without them.
+pub fn releases_dont_count()
+    ensures { ReleasesDontCount }
 {}
 
 /// A step is a function: two steps of one office by one command of one team are the same. Only where an imported file

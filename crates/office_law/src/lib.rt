@@ -5,6 +5,7 @@
 //! - [`offices_are_kept`]: what every office keeps is kept by each step and each run.
 //! - [`numbers_are_fresh`]: a number that is given out is live nowhere on its network, isn't held, and was never used.
 //! - [`networks_are_apart`]: a command reads and changes its own network alone, and leaves its releases.
+//! - [`releases_dont_count`]: what a network released counts for `retire` and `release` alone.
 //! - [`steps_agree`]: a step is a function, but for the fault that is told of a file that reads as no sheet.
 //! - [`outcomes_are_left`], [`replies_are_apart`], [`one_history_leaves_one_network`]: so what becomes of a network depends
 //!   on its own history alone.
@@ -14,13 +15,16 @@
 //! - [`numbers_elsewhere_do_not_count`] and [`sheets_have_one_multiplexor`]: what an allocator and an import needn't look at.
 #![tactic(auto)]
 
+mod bundles;
 mod deciding;
 mod histories;
 mod laws;
 
+pub use bundles::bundles_run_their_parts;
 pub use deciding::tests_decide_commands;
 pub use histories::{one_history_leaves_one_network, outcomes_are_left, replies_are_apart};
 pub use laws::{
     networks_are_apart, nothing_is_missing, numbers_are_fresh, numbers_elsewhere_do_not_count,
-    offices_are_kept, sheets_have_one_multiplexor, steps_agree, wants_are_real,
+    offices_are_kept, releases_dont_count, sheets_have_one_multiplexor, steps_agree,
+    wants_are_real,
 };

@@ -6,14 +6,14 @@ use Rattle.office_types.specs.declared.change.Decision.{Decision}
 use Rattle.office_types.specs.declared.refusal.Refusal.{Refusal}
 use Rattle.office_types.specs.declared.reply.Reply.TheVariants.{Refused}
 use Rattle.office_types.specs.declared.state.Net.{Net}
-use Rattle.office_rules.specs.Change.{Decides, HaveOwnBlocks, IsHeadFirst, NetAndBook, all_applied}
+use Rattle.office_rules.specs.Change.{AllFit, Decides, HaveOwnBlocks, IsHeadFirst, NetAndBook, all_applied}
 use Rattle.office_rules.specs.Outcome.{Outcome, refused_or, unless}
 
 nothing_first : (net : Option Net) → IsHeadFirst net []
 nothing_first None = tt
 nothing_first (Some net) = tt
 
--- the first refusal of the tests is told, and nothing changes
+-- the first refusal of the tests is the reply, and nothing changes
 pub Decides-refused : (name : List ℕ) (before : NetAndBook) (tests : List (Test Refusal)) (out : Outcome) (d : Decision) (r : Refusal)
     → Some r ≡ first_refusal tests → d.reply ≡ Refused r → d.changes ≡ [] → Decides name before (unless tests out) d
 Decides-refused name before tests out d r first reply quiet =
@@ -23,6 +23,7 @@ Decides-refused name before tests out d r first reply quiet =
       quiet = quiet;
       head_first = subst (λ (cs : List Change). IsHeadFirst before.net cs) (sym quiet) (nothing_first before.net);
       own_blocks = subst (λ (cs : List Change). HaveOwnBlocks cs) (sym quiet) tt;
+      fit = subst (λ (cs : List Change). AllFit name cs before) (sym quiet) tt;
     })
 
 -- no test refuses, and the decision is that of what comes after the tests

@@ -110,7 +110,7 @@ approvals_columns = col 1 2 ∷ []
 abbrev approvals_by : List (Term × Key)
 approvals_by = (col 1 2, ascending) ∷ []
 
-approvals_asks : (params : Row) → Asks approvals_text 11 one_test approvals_columns approvals_by (codes "team" ∷ []) params
+approvals_asks : (params : Row) → Asks office_schema approvals_text 11 one_test approvals_columns approvals_by (codes "team" ∷ []) params
 unfolding understood everything office_schema
 approvals_asks params = record { command = refl; listing = refl; plain = (refl, refl) }
 
@@ -123,7 +123,7 @@ approvals_means net = record {
 
 pub approvals_found : {X : Type 0} (rows_of : X → List Row) (net : List ℕ) (old new : State) (r : Result X Error) → old.now.schema ≡ office_schema
     → IfOk r (λ x. Shown approvals_text (Text net ∷ []) old new (rows_of x)) → IfOk r (λ x. IsSelected (is_of_net net) approvals_shown approvals_order (tables_of old.now.trees).approval (rows_of x))
-approvals_found rows_of net = finds approvals_text 11 one_test approvals_columns approvals_by _ (Text net ∷ []) (approvals_asks (Text net ∷ [])) values (is_of_net net) approvals_shown approvals_order (approvals_means net) rows_of
+approvals_found rows_of net = finds office_schema approvals_text 11 one_test approvals_columns approvals_by _ (Text net ∷ []) (approvals_asks (Text net ∷ [])) values (is_of_net net) approvals_shown approvals_order (approvals_means net) rows_of
 
 pub approvals_plain : (s : Schema) → s ≡ office_schema → IsPlain (understood s approvals_text)
 approvals_plain = plain_in approvals_text (approvals_asks []).plain

@@ -1,16 +1,21 @@
 -- What WHERE asks of a row of the tree is what the definitions ask of the row as it is shown.
-use Rattle.std.proofs.Common.{◌≡◌, ℕ, pos, List, [], ◌∷◌, sym, ◌∙◌}
+use Rattle.std.proofs.Common.{◌≡◌, ℕ, pos, List, [], ◌∷◌, refl, ap, sym, ◌∙◌}
 use Rattle.std.specs.List.{list_all}
-use Rattle.sqlite.specs.declared.types.Value.TheVariants.{Int, Text}
-use Rattle.sqlite.specs.Order.{Row}
+use Rattle.std.specs.Prelude.{◌&&◌, filter, not}
+use Rattle.std.specs.Ordering.{is_ge, is_le}
+use Rattle.sqlite.specs.Ops.{binary, is_true}
+use Rattle.sqlite_value.proofs.OrderLemmas.{value_cmp-Null}
+use Rattle.sqlite.specs.declared.types.Value.{Value}
+use Rattle.sqlite.specs.declared.types.Value.TheVariants.{Null, Int, Real, Text, Blob}
+use Rattle.sqlite.specs.Order.{Row, column, value_cmp}
 use Rattle.sqlite.specs.Term.{Term, col, op2, holds}
 use Rattle.sqlite.specs.Collation.TheVariants.{Binary}
 use Rattle.sqlite_sql.specs.declared.ops.BinaryOp.TheVariants.{Compare}
-use Rattle.sqlite_sql.specs.declared.ops.CompareOp.TheVariants.{Eq}
+use Rattle.sqlite_sql.specs.declared.ops.CompareOp.TheVariants.{Eq, Ge, Le}
 use Rattle.office_tables.specs.Tables.{values, keyed_values}
-use Rattle.office_tables.proofs.Selecting.{and_true}
-use Rattle.office_tables.proofs.Columns.{text_asked, number_asked, key_asked}
-use Rattle.office_rows.specs.Rows.{is_of_net, has_net_and_number, is_block, is_of_form, has_two_texts, is_number}
+use Rattle.office_tables.proofs.Selecting.{and_true, truth_of}
+use Rattle.office_tables.proofs.Columns.{column_is, text_asked, number_asked, key_asked}
+use Rattle.office_rows.specs.Rows.{is_of_net, has_net_and_name, has_net_and_number, has_number_between, has_place_of, is_between, is_block, is_of_form, has_two_texts, is_any, is_number}
 
 -- the column of the table is the parameter of this place
 abbrev pub is_parameter : ℕ → ℕ → Term
@@ -21,6 +26,9 @@ one_test = is_parameter 1 0 ∷ []
 
 abbrev pub two_tests : List Term
 two_tests = is_parameter 1 0 ∷ is_parameter 2 1 ∷ []
+
+abbrev pub name_tests : List Term
+name_tests = is_parameter 1 0 ∷ is_parameter 3 1 ∷ []
 
 abbrev pub three_tests : List Term
 three_tests = is_parameter 1 0 ∷ is_parameter 2 1 ∷ is_parameter 3 2 ∷ []
@@ -47,6 +55,9 @@ block_asked net form first r =
     let c = number_asked 2 first r ∙ sym (and_true _) in
     rw (a, b, c)
 
+pub place_asked : (net : List ℕ) (number place : ℕ) (r : Row) → has_place_of net number place (values r) ≡ list_all (holds ((Text net ∷ Int (pos number) ∷ Int (pos place) ∷ []) ∷ r ∷ [])) three_tests
+place_asked net number place r = block_asked net number place r
+
 pub form_asked : (form : ℕ) (r : Row) → is_of_form form (values r) ≡ list_all (holds ((Int (pos form) ∷ []) ∷ r ∷ [])) form_test
 form_asked form r = number_asked 1 form r ∙ sym (and_true _)
 
@@ -58,3 +69,36 @@ texts_asked one other r =
 
 pub number_asked_alone : (number : ℕ) (r : Row) → is_number number (keyed_values r) ≡ list_all (holds ((Int (pos number) ∷ []) ∷ r ∷ [])) key_test
 number_asked_alone number r = key_asked number r ∙ sym (and_true _)
+
+pub named_asked : (net name : List ℕ) (r : Row) → has_net_and_name net name (values r) ≡ list_all (holds ((Text net ∷ Text name ∷ []) ∷ r ∷ [])) name_tests
+named_asked net name r =
+    let first = text_asked 0 net r in
+    let second = text_asked 2 name r ∙ sym (and_true _) in
+    rw (first, second)
+
+abbrev pub range_tests : List Term
+range_tests = is_parameter 1 0 ∷ op2 (Compare Ge Binary) (col 1 2) (col 0 1) ∷ op2 (Compare Le Binary) (col 1 2) (col 0 2) ∷ []
+
+between_asked : (first last : ℕ) (v : Value) → is_between first last v ≡ (is_true (binary (Compare Ge Binary) v (Int (pos first))) && is_true (binary (Compare Le Binary) v (Int (pos last))))
+unfolding binary
+between_asked first last Null = rw (value_cmp-Null (Int (pos first))) refl
+between_asked first last (Int n) = rw (truth_of (is_ge (value_cmp (Int n) (Int (pos first)))), truth_of (is_le (value_cmp (Int n) (Int (pos last))))) refl
+between_asked first last (Real x) = rw (truth_of (is_ge (value_cmp (Real x) (Int (pos first)))), truth_of (is_le (value_cmp (Real x) (Int (pos last))))) refl
+between_asked first last (Text s) = rw (truth_of (is_ge (value_cmp (Text s) (Int (pos first)))), truth_of (is_le (value_cmp (Text s) (Int (pos last))))) refl
+between_asked first last (Blob b) = rw (truth_of (is_ge (value_cmp (Blob b) (Int (pos first)))), truth_of (is_le (value_cmp (Blob b) (Int (pos last))))) refl
+
+pub range_asked : (net : List ℕ) (first last : ℕ) (r : Row) → has_number_between net first last (values r) ≡ list_all (holds ((Text net ∷ Int (pos first) ∷ Int (pos last) ∷ []) ∷ r ∷ [])) range_tests
+range_asked net first last r =
+    let a = text_asked 0 net r in
+    let b = ap (is_between first last) (column_is r 1) ∙ between_asked first last (column r 2) in
+    rw (a, b, and_true (is_true (binary (Compare Le Binary) (column r 2) (Int (pos last))))) refl
+
+-- ---- every row
+
+pub none_left : (rows : List Row) → filter (λ row. not (is_any row)) rows ≡ []
+none_left [] = refl
+none_left (r ∷ rows) = none_left rows
+
+pub all_wanted : (rows : List Row) → filter is_any rows ≡ rows
+all_wanted [] = refl
+all_wanted (r ∷ rows) = ap (λ l. r ∷ l) (all_wanted rows)

@@ -92,7 +92,7 @@ blocks_columns = col 1 2 ∷ col 1 3 ∷ col 1 4 ∷ col 1 5 ∷ []
 abbrev blocks_by : List (Term × Key)
 blocks_by = (col 1 2, ascending) ∷ (col 1 3, ascending) ∷ []
 
-blocks_asks : (params : Row) → Asks blocks_text 6 one_test blocks_columns blocks_by (codes "form" ∷ codes "first" ∷ codes "last" ∷ codes "team" ∷ []) params
+blocks_asks : (params : Row) → Asks office_schema blocks_text 6 one_test blocks_columns blocks_by (codes "form" ∷ codes "first" ∷ codes "last" ∷ codes "team" ∷ []) params
 unfolding understood everything office_schema
 blocks_asks params = record { command = refl; listing = refl; plain = (refl, refl) }
 
@@ -105,7 +105,7 @@ blocks_means net = record {
 
 pub blocks_found : {X : Type 0} (rows_of : X → List Row) (net : List ℕ) (old new : State) (r : Result X Error) → old.now.schema ≡ office_schema
     → IfOk r (λ x. Shown blocks_text (Text net ∷ []) old new (rows_of x)) → IfOk r (λ x. IsSelected (is_of_net net) blocks_shown blocks_order (tables_of old.now.trees).block (rows_of x))
-blocks_found rows_of net = finds blocks_text 6 one_test blocks_columns blocks_by _ (Text net ∷ []) (blocks_asks (Text net ∷ [])) values (is_of_net net) blocks_shown blocks_order (blocks_means net) rows_of
+blocks_found rows_of net = finds office_schema blocks_text 6 one_test blocks_columns blocks_by _ (Text net ∷ []) (blocks_asks (Text net ∷ [])) values (is_of_net net) blocks_shown blocks_order (blocks_means net) rows_of
 
 pub blocks_plain : (s : Schema) → s ≡ office_schema → IsPlain (understood s blocks_text)
 blocks_plain = plain_in blocks_text (blocks_asks []).plain
@@ -121,7 +121,7 @@ blocks_of_form_columns = col 1 1 ∷ col 1 3 ∷ col 1 4 ∷ col 1 5 ∷ []
 abbrev blocks_of_form_by : List (Term × Key)
 blocks_of_form_by = (col 1 1, ascending) ∷ (col 1 3, ascending) ∷ []
 
-blocks_of_form_asks : (params : Row) → Asks blocks_of_form_text 6 form_test blocks_of_form_columns blocks_of_form_by (codes "net" ∷ codes "first" ∷ codes "last" ∷ codes "team" ∷ []) params
+blocks_of_form_asks : (params : Row) → Asks office_schema blocks_of_form_text 6 form_test blocks_of_form_columns blocks_of_form_by (codes "net" ∷ codes "first" ∷ codes "last" ∷ codes "team" ∷ []) params
 unfolding understood everything office_schema
 blocks_of_form_asks params = record { command = refl; listing = refl; plain = (refl, refl) }
 
@@ -134,7 +134,7 @@ blocks_of_form_means form = record {
 
 pub blocks_of_form_found : {X : Type 0} (rows_of : X → List Row) (form : ℕ) (old new : State) (r : Result X Error) → old.now.schema ≡ office_schema
     → IfOk r (λ x. Shown blocks_of_form_text (Int (pos form) ∷ []) old new (rows_of x)) → IfOk r (λ x. IsSelected (is_of_form form) blocks_of_form_shown blocks_of_form_order (tables_of old.now.trees).block (rows_of x))
-blocks_of_form_found rows_of form = finds blocks_of_form_text 6 form_test blocks_of_form_columns blocks_of_form_by _ (Int (pos form) ∷ []) (blocks_of_form_asks (Int (pos form) ∷ [])) values (is_of_form form) blocks_of_form_shown blocks_of_form_order (blocks_of_form_means form) rows_of
+blocks_of_form_found rows_of form = finds office_schema blocks_of_form_text 6 form_test blocks_of_form_columns blocks_of_form_by _ (Int (pos form) ∷ []) (blocks_of_form_asks (Int (pos form) ∷ [])) values (is_of_form form) blocks_of_form_shown blocks_of_form_order (blocks_of_form_means form) rows_of
 
 pub blocks_of_form_plain : (s : Schema) → s ≡ office_schema → IsPlain (understood s blocks_of_form_text)
 blocks_of_form_plain = plain_in blocks_of_form_text (blocks_of_form_asks []).plain

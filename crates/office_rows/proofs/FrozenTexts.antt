@@ -70,7 +70,7 @@ releases_columns = col 1 2 ∷ col 1 3 ∷ []
 abbrev releases_by : List (Term × Key)
 releases_by = (col 1 2, ascending) ∷ []
 
-releases_asks : (params : Row) → Asks releases_text 13 one_test releases_columns releases_by (codes "number" ∷ codes "body" ∷ []) params
+releases_asks : (params : Row) → Asks office_schema releases_text 13 one_test releases_columns releases_by (codes "number" ∷ codes "body" ∷ []) params
 unfolding understood everything office_schema
 releases_asks params = record { command = refl; listing = refl; plain = (refl, refl) }
 
@@ -83,7 +83,7 @@ releases_means net = record {
 
 pub releases_found : {X : Type 0} (rows_of : X → List Row) (net : List ℕ) (old new : State) (r : Result X Error) → old.now.schema ≡ office_schema
     → IfOk r (λ x. Shown releases_text (Text net ∷ []) old new (rows_of x)) → IfOk r (λ x. IsSelected (is_of_net net) releases_shown releases_order (tables_of old.now.trees).frozen (rows_of x))
-releases_found rows_of net = finds releases_text 13 one_test releases_columns releases_by _ (Text net ∷ []) (releases_asks (Text net ∷ [])) values (is_of_net net) releases_shown releases_order (releases_means net) rows_of
+releases_found rows_of net = finds office_schema releases_text 13 one_test releases_columns releases_by _ (Text net ∷ []) (releases_asks (Text net ∷ [])) values (is_of_net net) releases_shown releases_order (releases_means net) rows_of
 
 pub releases_plain : (s : Schema) → s ≡ office_schema → IsPlain (understood s releases_text)
 releases_plain = plain_in releases_text (releases_asks []).plain
@@ -99,7 +99,7 @@ release_numbers_columns = col 1 2 ∷ []
 abbrev release_numbers_by : List (Term × Key)
 release_numbers_by = (col 1 2, ascending) ∷ []
 
-release_numbers_asks : (params : Row) → Asks release_numbers_text 13 one_test release_numbers_columns release_numbers_by (codes "number" ∷ []) params
+release_numbers_asks : (params : Row) → Asks office_schema release_numbers_text 13 one_test release_numbers_columns release_numbers_by (codes "number" ∷ []) params
 unfolding understood everything office_schema
 release_numbers_asks params = record { command = refl; listing = refl; plain = (refl, refl) }
 
@@ -112,7 +112,7 @@ release_numbers_means net = record {
 
 pub release_numbers_found : {X : Type 0} (rows_of : X → List Row) (net : List ℕ) (old new : State) (r : Result X Error) → old.now.schema ≡ office_schema
     → IfOk r (λ x. Shown release_numbers_text (Text net ∷ []) old new (rows_of x)) → IfOk r (λ x. IsSelected (is_of_net net) release_numbers_shown release_numbers_order (tables_of old.now.trees).frozen (rows_of x))
-release_numbers_found rows_of net = finds release_numbers_text 13 one_test release_numbers_columns release_numbers_by _ (Text net ∷ []) (release_numbers_asks (Text net ∷ [])) values (is_of_net net) release_numbers_shown release_numbers_order (release_numbers_means net) rows_of
+release_numbers_found rows_of net = finds office_schema release_numbers_text 13 one_test release_numbers_columns release_numbers_by _ (Text net ∷ []) (release_numbers_asks (Text net ∷ [])) values (is_of_net net) release_numbers_shown release_numbers_order (release_numbers_means net) rows_of
 
 pub release_numbers_plain : (s : Schema) → s ≡ office_schema → IsPlain (understood s release_numbers_text)
 release_numbers_plain = plain_in release_numbers_text (release_numbers_asks []).plain
@@ -128,7 +128,7 @@ release_columns = col 1 3 ∷ []
 abbrev release_by : List (Term × Key)
 release_by = (col 1 2, ascending) ∷ []
 
-release_asks : (params : Row) → Asks release_text 13 two_tests release_columns release_by (codes "body" ∷ []) params
+release_asks : (params : Row) → Asks office_schema release_text 13 two_tests release_columns release_by (codes "body" ∷ []) params
 unfolding understood everything office_schema
 release_asks params = record { command = refl; listing = refl; plain = (refl, refl) }
 
@@ -141,7 +141,7 @@ release_means net number = record {
 
 pub release_found : {X : Type 0} (rows_of : X → List Row) (net : List ℕ) (number : ℕ) (old new : State) (r : Result X Error) → old.now.schema ≡ office_schema
     → IfOk r (λ x. Shown release_text (Text net ∷ Int (pos number) ∷ []) old new (rows_of x)) → IfOk r (λ x. IsSelected (has_net_and_number net number) release_shown release_order (tables_of old.now.trees).frozen (rows_of x))
-release_found rows_of net number = finds release_text 13 two_tests release_columns release_by _ (Text net ∷ Int (pos number) ∷ []) (release_asks (Text net ∷ Int (pos number) ∷ [])) values (has_net_and_number net number) release_shown release_order (release_means net number) rows_of
+release_found rows_of net number = finds office_schema release_text 13 two_tests release_columns release_by _ (Text net ∷ Int (pos number) ∷ []) (release_asks (Text net ∷ Int (pos number) ∷ [])) values (has_net_and_number net number) release_shown release_order (release_means net number) rows_of
 
 pub release_plain : (s : Schema) → s ≡ office_schema → IsPlain (understood s release_text)
 release_plain = plain_in release_text (release_asks []).plain

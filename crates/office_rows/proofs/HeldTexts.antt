@@ -90,7 +90,7 @@ held_columns = col 1 2 ∷ []
 abbrev held_by : List (Term × Key)
 held_by = (col 1 2, ascending) ∷ []
 
-held_asks : (params : Row) → Asks held_text 8 one_test held_columns held_by (codes "number" ∷ []) params
+held_asks : (params : Row) → Asks office_schema held_text 8 one_test held_columns held_by (codes "number" ∷ []) params
 unfolding understood everything office_schema
 held_asks params = record { command = refl; listing = refl; plain = (refl, refl) }
 
@@ -103,7 +103,7 @@ held_means net = record {
 
 pub held_found : {X : Type 0} (rows_of : X → List Row) (net : List ℕ) (old new : State) (r : Result X Error) → old.now.schema ≡ office_schema
     → IfOk r (λ x. Shown held_text (Text net ∷ []) old new (rows_of x)) → IfOk r (λ x. IsSelected (is_of_net net) held_shown held_order (tables_of old.now.trees).held (rows_of x))
-held_found rows_of net = finds held_text 8 one_test held_columns held_by _ (Text net ∷ []) (held_asks (Text net ∷ [])) values (is_of_net net) held_shown held_order (held_means net) rows_of
+held_found rows_of net = finds office_schema held_text 8 one_test held_columns held_by _ (Text net ∷ []) (held_asks (Text net ∷ [])) values (is_of_net net) held_shown held_order (held_means net) rows_of
 
 pub held_plain : (s : Schema) → s ≡ office_schema → IsPlain (understood s held_text)
 held_plain = plain_in held_text (held_asks []).plain

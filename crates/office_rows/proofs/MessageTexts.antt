@@ -1,5 +1,5 @@
 -- What the texts on `message` make of it, and show of it.
-use Rattle.std.proofs.Common.{◌≡◌, ℕ, pos, List, [], ◌∷◌, ◌++◌, codes, false, not, Err, Result, refl, ◌∙◌}
+use Rattle.std.proofs.Common.{◌≡◌, ℕ, pos, List, [], ◌∷◌, ◌++◌, codes, false, not, Ok, Err, Result, refl, ap, ◌∙◌}
 use Rattle.std.specs.Prelude.{IfOk, IsTrue, filter, length}
 use Rattle.sqlite.specs.declared.types.Value.TheVariants.{Null, Int, Text}
 use Rattle.sqlite.specs.declared.error.Error.{Error}
@@ -19,7 +19,7 @@ use Rattle.sqlite_value.specs.declared.keys.Key.{Key}
 use Rattle.sqlite_value.proofs.OrderLemmas.{then-Equal}
 use Rattle.sqlite_tied.specs.Compute.{everything}
 use Rattle.sqlite.specs.Listing.{understood}
-use Rattle.sqlite.specs.State.{State, ExecutesInside, Shown}
+use Rattle.sqlite.specs.State.{State, Executes, ExecutesInside, Shown}
 use Rattle.sqlite.proofs.Callers.{IsPlain, command_of}
 use Rattle.office_tables.specs.Schema.{office_schema}
 use Rattle.office_tables.specs.Tables.{tables_of, values, IsOffice}
@@ -32,9 +32,9 @@ use Rattle.office_tables.proofs.Places.{message, message_placed, message_only}
 use Rattle.office_tables.proofs.Selecting.{query}
 use Rattle.office_tables.proofs.Finding.{ascending, Asks, Means, finds}
 use Rattle.office_rows.specs.declared.row.MessageRow.{MessageRow}
-use Rattle.office_rows.specs.Rows.{has_net_and_number, is_of_net, message_row}
+use Rattle.office_rows.specs.Rows.{has_net_and_number, is_any, is_of_net, message_row}
 use Rattle.office_rows.specs.Shown.{messages_order, messages_shown}
-use Rattle.office_rows.proofs.Asked.{net_asked, numbered_asked, one_test, two_tests}
+use Rattle.office_rows.proofs.Asked.{all_wanted, net_asked, none_left, numbered_asked, one_test, two_tests}
 
 -- ---- insert_message
 
@@ -80,6 +80,31 @@ delete_messages net number old new r office ended ran =
     makes delete_message_text (Text net ∷ Int (pos number) ∷ []) _ _ old new r
     (removes 2 message message_placed message_only delete_message_text (Text net ∷ Int (pos number) ∷ []) two_tests (delete_message_is (Text net ∷ Int (pos number) ∷ [])) delete_message_plain (has_net_and_number net number) (numbered_asked net number) message_placed old new office) ended ran
 
+-- ---- clear_messages
+
+abbrev clear_messages_text : List ℕ
+clear_messages_text = codes "DELETE FROM message"
+
+clear_messages_is : command_of (understood office_schema clear_messages_text) ≡ Delete 2 (record { lets = []; body = query 3 [] (col 1 0 ∷ []) [] [] })
+unfolding understood everything office_schema
+clear_messages_is = refl
+
+clear_messages_plain : IsPlain (understood office_schema clear_messages_text)
+unfolding understood everything office_schema
+clear_messages_plain = (refl, refl)
+
+pub clears : (old new : State) (r : Result ℕ Error) → IsOffice old.now → (old.in_transaction ≡ false → r ≡ Err (SqliteFailure TransactionState)) → (IsTrue old.in_transaction → ExecutesInside 0 clear_messages_text [] old new r)
+    → IfOk r (λ rows. Makes (λ t. record t { message = [] }) old new × (rows ≡ length (tables_of old.now.trees).message))
+unfolding office_schema
+clears old new r office ended ran = makes clear_messages_text [] _ _ old new r does ended ran
+  where
+    does : (count : ℕ) → Executes clear_messages_text [] old new (Ok count)
+        → IsOffice new.now × (tables_of new.now.trees ≡ record (tables_of old.now.trees) { message = [] }) × (count ≡ length (tables_of old.now.trees).message)
+    does count h =
+        let rows = (tables_of old.now.trees).message in
+        let it = removes 2 message message_placed message_only clear_messages_text [] [] clear_messages_is clear_messages_plain is_any (λ r. refl) message_placed old new office count h in
+        (it.0, it.1 ∙ ap (λ (l : List Row). record (tables_of old.now.trees) { message = l }) (none_left rows), it.2 ∙ ap (λ l. length l) (all_wanted rows))
+
 -- ---- select_messages
 
 abbrev pub messages_text : List ℕ
@@ -91,7 +116,7 @@ messages_columns = col 1 4 ∷ col 1 5 ∷ []
 abbrev messages_by : List (Term × Key)
 messages_by = (col 1 2, ascending) ∷ []
 
-messages_asks : (params : Row) → Asks messages_text 3 one_test messages_columns messages_by (codes "owner" ∷ codes "body" ∷ []) params
+messages_asks : (params : Row) → Asks office_schema messages_text 3 one_test messages_columns messages_by (codes "owner" ∷ codes "body" ∷ []) params
 unfolding understood everything office_schema
 messages_asks params = record { command = refl; listing = refl; plain = (refl, refl) }
 
@@ -104,7 +129,7 @@ messages_means net = record {
 
 pub messages_found : {X : Type 0} (rows_of : X → List Row) (net : List ℕ) (old new : State) (r : Result X Error) → old.now.schema ≡ office_schema
     → IfOk r (λ x. Shown messages_text (Text net ∷ []) old new (rows_of x)) → IfOk r (λ x. IsSelected (is_of_net net) messages_shown messages_order (tables_of old.now.trees).message (rows_of x))
-messages_found rows_of net = finds messages_text 3 one_test messages_columns messages_by _ (Text net ∷ []) (messages_asks (Text net ∷ [])) values (is_of_net net) messages_shown messages_order (messages_means net) rows_of
+messages_found rows_of net = finds office_schema messages_text 3 one_test messages_columns messages_by _ (Text net ∷ []) (messages_asks (Text net ∷ [])) values (is_of_net net) messages_shown messages_order (messages_means net) rows_of
 
 pub messages_plain : (s : Schema) → s ≡ office_schema → IsPlain (understood s messages_text)
 messages_plain = plain_in messages_text (messages_asks []).plain

@@ -90,7 +90,7 @@ spns_columns = col 1 0 ∷ []
 abbrev spns_by : List (Term × Key)
 spns_by = (col 1 0, ascending) ∷ []
 
-spns_asks : (params : Row) → Asks spns_text 10 [] spns_columns spns_by (codes "number" ∷ []) params
+spns_asks : (params : Row) → Asks office_schema spns_text 10 [] spns_columns spns_by (codes "number" ∷ []) params
 unfolding understood everything office_schema
 spns_asks params = record { command = refl; listing = refl; plain = (refl, refl) }
 
@@ -103,7 +103,7 @@ spns_means = record {
 
 pub spns_found : {X : Type 0} (rows_of : X → List Row) (old new : State) (r : Result X Error) → old.now.schema ≡ office_schema
     → IfOk r (λ x. Shown spns_text [] old new (rows_of x)) → IfOk r (λ x. IsSelected is_any spns_shown spns_order (tables_of old.now.trees).spn (rows_of x))
-spns_found rows_of = finds spns_text 10 [] spns_columns spns_by _ [] (spns_asks []) keyed_values is_any spns_shown spns_order spns_means rows_of
+spns_found rows_of = finds office_schema spns_text 10 [] spns_columns spns_by _ [] (spns_asks []) keyed_values is_any spns_shown spns_order spns_means rows_of
 
 pub spns_plain : (s : Schema) → s ≡ office_schema → IsPlain (understood s spns_text)
 spns_plain = plain_in spns_text (spns_asks []).plain

@@ -1,2 +1,3 @@
+pub mod Mux
 pub mod Rows
 pub mod Shown

@@ -1,16 +1,28 @@
 -- The rows of the tables, by the names of their columns, and which rows a statement asks for.
 use Rattle.std.specs.Prelude.{ℕ, List, [], ◌∷◌, Bool, true, ◌&&◌, pos}
 use Rattle.sqlite.specs.declared.types.Value.TheVariants.{Int, Text, Blob}
-use Rattle.sqlite.specs.Order.{Row}
+use Rattle.std.specs.Ordering.{is_ge, is_le}
+use Rattle.sqlite.specs.declared.types.Value.{Value}
+use Rattle.sqlite.specs.Order.{Row, column, value_cmp}
 use Rattle.office_tables.specs.Selected.{has_text, has_number}
 use Rattle.office_rows.specs.declared.row.NetRow.{NetRow}
 use Rattle.office_rows.specs.declared.row.MessageRow.{MessageRow}
 use Rattle.office_rows.specs.declared.row.BlockRow.{BlockRow}
 use Rattle.office_rows.specs.declared.row.FrozenRow.{FrozenRow}
 use Rattle.office_rows.specs.declared.row.ReplyRow.{ReplyRow}
+use Rattle.office_rows.specs.Mux.{mux_number}
+use Rattle.office_rows.specs.declared.row.MsgRow.{MsgRow}
+use Rattle.office_rows.specs.declared.row.SigRow.{SigRow}
+use Rattle.office_rows.specs.declared.row.ReceiverRow.{ReceiverRow}
+use Rattle.office_rows.specs.declared.row.SigValueRow.{SigValueRow}
+use Rattle.office_rows.specs.declared.row.PartRow.{PartRow}
+
+-- a row of `profile`: 1 and the number of the profile, or 2 and 2 where live messages have rows of their own
+abbrev pub mark_row : ℕ → ℕ → Row
+mark_row one number = Int (pos one) ∷ Int (pos number) ∷ []
 
 abbrev pub profile_row : Row
-profile_row = Int (pos 1) ∷ Int (pos 1) ∷ []
+profile_row = mark_row 1 1
 
 abbrev pub net_row : NetRow → Row
 net_row it = Text it.name.now ∷ Int (pos it.kind) ∷ Int (pos it.reviews) ∷ Int (pos it.phase) ∷ Text it.submitter.now ∷ Blob it.frame.now ∷ []
@@ -36,7 +48,29 @@ frozen_row it = Text it.net.now ∷ Int (pos it.number) ∷ Blob it.body.now ∷
 abbrev pub reply_row : ReplyRow → Row
 reply_row it = Text it.team.now ∷ Text it.key.now ∷ Blob it.content.now ∷ Int (pos it.kind) ∷ Int (pos it.a) ∷ Int (pos it.b) ∷ Int (pos it.c) ∷ []
 
+abbrev pub msg_row : MsgRow → Row
+msg_row it =
+    Text it.net.now ∷ Int (pos it.number) ∷ Text it.name.now ∷ Text it.owner.now ∷ Int (pos it.length) ∷ Text it.sender.now ∷ Blob it.comment.now ∷ []
+
+abbrev pub sig_row : SigRow → Row
+sig_row it =
+    Text it.net.now ∷ Int (pos it.number) ∷ Int (pos it.place) ∷ Text it.name.now ∷ Int (pos it.start) ∷ Int (pos it.size) ∷ Int (pos it.motorola) ∷ Int (pos it.signed) ∷ Int (mux_number it.mux) ∷ Text it.factor.now ∷ Text it.shift.now ∷ Text it.least.now ∷ Text it.most.now ∷ Blob it.unit.now ∷ Blob it.comment.now ∷ Int (pos it.spn) ∷ Int (pos it.label) ∷ []
+
+abbrev pub receiver_row : ReceiverRow → Row
+receiver_row it =
+    Text it.net.now ∷ Int (pos it.number) ∷ Int (pos it.place) ∷ Int (pos it.seat) ∷ Text it.name.now ∷ []
+
+abbrev pub sigvalue_row : SigValueRow → Row
+sigvalue_row it =
+    Text it.net.now ∷ Int (pos it.number) ∷ Int (pos it.place) ∷ Int (pos it.seat) ∷ Text it.value.now ∷ Blob it.words.now ∷ []
+
+abbrev pub part_row : PartRow → Row
+part_row it = Text it.team.now ∷ Text it.key.now ∷ Int (pos it.place) ∷ Int (pos it.kind) ∷ Int (pos it.a) ∷ Int (pos it.b) ∷ []
+
 -- ---- which rows a statement asks for
+
+abbrev pub is_between : ℕ → ℕ → Value → Bool
+is_between first last v = is_ge (value_cmp v (Int (pos first))) && is_le (value_cmp v (Int (pos last)))
 
 -- the row of a network, or a row that is the network's: its first column has the name
 abbrev pub is_of_net : List ℕ → Row → Bool
@@ -44,6 +78,18 @@ is_of_net name row = has_text 0 name row
 
 abbrev pub has_net_and_number : List ℕ → ℕ → Row → Bool
 has_net_and_number net number row = has_text 0 net row && has_number 1 number row
+
+-- a row of a signal: its message's network and number, and its place
+abbrev pub has_place_of : List ℕ → ℕ → ℕ → Row → Bool
+has_place_of net number place row = has_text 0 net row && (has_number 1 number row && has_number 2 place row)
+
+-- a live message's network and name
+abbrev pub has_net_and_name : List ℕ → List ℕ → Row → Bool
+has_net_and_name net name row = has_text 0 net row && has_text 2 name row
+
+-- a row of the network with a number from the first to the last
+abbrev pub has_number_between : List ℕ → ℕ → ℕ → Row → Bool
+has_number_between net first last row = has_text 0 net row && is_between first last (column row 1)
 
 abbrev pub is_block : List ℕ → ℕ → ℕ → Row → Bool
 is_block net form first row = has_text 0 net row && (has_number 1 form row && has_number 2 first row)

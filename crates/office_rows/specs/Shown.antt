@@ -95,3 +95,52 @@ profile_shown row = column row 0 ∷ column row 1 ∷ []
 
 abbrev pub profile_order : Row → Row → Ordering
 profile_order = by_column 0
+
+-- number, name, owner, length, sender, comment; by number
+abbrev pub msg_named_shown : Row → Row
+msg_named_shown row = column row 1 ∷ column row 2 ∷ column row 3 ∷ column row 4 ∷ column row 5 ∷ column row 6 ∷ []
+
+abbrev pub msg_named_order : Row → Row → Ordering
+msg_named_order = by_column 1
+
+-- number, name, owner, length, sender, comment; by number
+abbrev pub msgs_shown : Row → Row
+msgs_shown row = column row 1 ∷ column row 2 ∷ column row 3 ∷ column row 4 ∷ column row 5 ∷ column row 6 ∷ []
+
+abbrev pub msgs_order : Row → Row → Ordering
+msgs_order = by_column 1
+
+-- place, name, start, size, motorola, signed, mux, factor, shift, least, most, unit, comment, spn, label; by place
+abbrev pub sigs_shown : Row → Row
+sigs_shown row = column row 2 ∷ column row 3 ∷ column row 4 ∷ column row 5 ∷ column row 6 ∷ column row 7 ∷ column row 8 ∷ column row 9 ∷ column row 10 ∷ column row 11 ∷ column row 12 ∷ column row 13 ∷ column row 14 ∷ column row 15 ∷ column row 16 ∷ []
+
+abbrev pub sigs_order : Row → Row → Ordering
+sigs_order = by_column 2
+
+-- place, name; by place, seat
+abbrev pub receivers_shown : Row → Row
+receivers_shown row = column row 2 ∷ column row 4 ∷ []
+
+abbrev pub receivers_order : Row → Row → Ordering
+receivers_order = then_cmp (by_column 2) (by_column 3)
+
+-- place, value, words; by place, seat
+abbrev pub sigvalues_shown : Row → Row
+sigvalues_shown row = column row 2 ∷ column row 4 ∷ column row 5 ∷ []
+
+abbrev pub sigvalues_order : Row → Row → Ordering
+sigvalues_order = then_cmp (by_column 2) (by_column 3)
+
+-- number; by number
+abbrev pub msg_numbers_shown : Row → Row
+msg_numbers_shown row = column row 1 ∷ []
+
+abbrev pub msg_numbers_order : Row → Row → Ordering
+msg_numbers_order = by_column 1
+
+-- kind, a; by place
+abbrev pub parts_shown : Row → Row
+parts_shown row = column row 3 ∷ column row 4 ∷ []
+
+abbrev pub parts_order : Row → Row → Ordering
+parts_order = by_column 2

@@ -1,8 +1,8 @@
 //! The statements of the office: one function for each fixed text, over the tables of `office_tables`.
 //!
 //! `insert_..` adds one row, `delete_..` removes the rows of a key or of the beginning of one, and `select_..` reads rows
-//! of one table in the order of its key. A row is changed by removing and adding it. No text changes or removes
-//! a release, a reply or the profile.
+//! of one table in the order of its key; `clear_..` removes all rows of a table, and only the carrying over of an earlier
+//! office's tables calls it. A row is changed by removing and adding it. No text changes or removes a release or a reply.
 //!
 //! Each is called in a transaction and binds texts as bytes. On tables that are the office's, its contract gives the
 //! exact tables that it leaves, or the exact rows that it reads; on any other tables it is safe. Each answers `sqlite`'s
@@ -18,19 +18,34 @@ mod block;
 mod frozen;
 mod held;
 mod message;
+mod msg;
 mod net;
+mod part;
 mod profile;
+mod receiver;
 mod reply;
 mod row;
+mod sig;
+mod sigvalue;
 mod spn;
 
 pub use approval::{delete_approval, delete_approvals, insert_approval, select_approvals};
 pub use block::{delete_block, insert_block, select_blocks, select_blocks_of_form};
 pub use frozen::{insert_frozen, select_release, select_release_numbers, select_releases};
 pub use held::{delete_held, insert_held, select_held};
-pub use message::{delete_message, insert_message, select_messages};
+pub use message::{clear_messages, delete_message, insert_message, select_messages};
+pub use msg::{
+    count_msgs, delete_msgs, insert_msg, select_msg_named, select_msg_numbers, select_msgs,
+};
 pub use net::{delete_net, insert_net, select_net, select_net_names};
-pub use profile::{insert_profile, select_profile};
+pub use part::{insert_part, select_parts};
+pub use profile::{clear_profile, insert_profile, select_profile};
+pub use receiver::{delete_receivers, delete_receivers_at, insert_receiver, select_receivers};
 pub use reply::{insert_reply, select_reply};
-pub use row::{BlockRow, FrozenRow, MessageRow, NetRow, ReplyRow};
+pub use row::{
+    BlockRow, FrozenRow, MessageRow, MsgRow, MuxColumn, NetRow, PartRow, ReceiverRow, ReplyRow,
+    SigRow, SigValueRow,
+};
+pub use sig::{delete_sig_at, delete_sigs, insert_sig, select_sigs};
+pub use sigvalue::{delete_sigvalues, delete_sigvalues_at, insert_sigvalue, select_sigvalues};
 pub use spn::{delete_spn, insert_spn, select_spns};

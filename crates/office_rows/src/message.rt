@@ -1,4 +1,4 @@
-//! Live messages.
+//! Live messages as bodies, the form of profile 1.
 ghost use Rattle.std.specs.Prelude.{IfOk, OnOk, [], filter, length, not, ◌++◌, ◌∷◌, ◌≡◌};
 ghost use Rattle.office_tables.specs.Tables.{tables_of, IsOffice};
 ghost use Rattle.office_tables.specs.Statements.{Makes};
@@ -54,6 +54,19 @@ pub fn delete_message<S: Alter>(
         "DELETE FROM message WHERE net = ?1 AND number = ?2",
         &[ValueRef::Text(net), number.to_sql()],
     )
+}
+
+/// Removes all messages of all networks. Gives how many rows it removed.
+pub fn clear_messages<S: Alter>(tx: &mut Transaction<'_, S>) -> Result<usize, Error>
+    ensures same_reference { tx.new.conn.ghost_name ≡ tx.old.conn.ghost_name }
+    ensures removed { HasCleanDisk (state S.Store tx.new.conn.now) → IsOffice (state S.Store tx.old.conn.now).now
+        → OnOk result (Makes (λ t. record t { message = [] }) (state S.Store tx.old.conn.now) (state S.Store tx.new.conn.now)) }
+    ensures rows { HasCleanDisk (state S.Store tx.new.conn.now) → IsOffice (state S.Store tx.old.conn.now).now
+        → IfOk result (λ rows. rows ≡ length (tables_of (state S.Store tx.old.conn.now).now.trees).message) }
+    ensures kept { HasCleanDisk (state S.Store tx.new.conn.now) → KeepsCommit (state S.Store tx.old.conn.now) (state S.Store tx.new.conn.now) }
+    ensures survives { Survives (state S.Store tx.old.conn.now) (state S.Store tx.new.conn.now) (λ _. ⊥) }
+{
+    tx.execute("DELETE FROM message", &[])
 }
 
 /// The live messages of the network (`owner`, `body`; the body has the number and the name), in the order of their numbers.

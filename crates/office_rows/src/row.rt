@@ -1,4 +1,10 @@
 //! Rows as they are added.
+ghost use Rattle.std.specs.Prelude.{◌≡◌};
+ghost use Rattle.sqlite.specs.declared.types.Value.TheVariants.{Int};
+ghost use Rattle.sqlite_value.specs.Value.{owned};
+ghost use Rattle.office_rows.specs.Mux.{mux_number};
+
+use sqlite::types::{ToSql, ValueRef};
 
 /// A row of `net`: a network.
 #[derive(Clone, Copy)]
@@ -75,4 +81,135 @@ pub struct ReplyRow<'a> {
     pub b: u32,
     /// The third number of the reply, 0 if it has none.
     pub c: u32,
+}
+
+/// A row of `msg`: a live message of a network, without its signals.
+#[derive(Clone, Copy)]
+pub struct MsgRow<'a> {
+    /// The network.
+    pub net: &'a [u8],
+    /// The DBC number; with the network, the key.
+    pub number: u32,
+    /// Its name; no two messages of a network have the same.
+    pub name: &'a [u8],
+    /// The team that made it.
+    pub owner: &'a [u8],
+    /// How many bytes its payload has.
+    pub length: u32,
+    /// The node that sends it; empty if there is none.
+    pub sender: &'a [u8],
+    /// Its comment.
+    pub comment: &'a [u8],
+}
+
+/// When a signal is there: -2 always, -1 as the multiplexor, and else the value of the multiplexor.
+#[derive(Clone, Copy)]
+pub enum MuxColumn {
+    /// It is there in every frame.
+    Always,
+    /// It is there in every frame, and is the multiplexor.
+    Multiplexor,
+    /// It is there if the multiplexor has this value.
+    Under(u32),
+}
+
+impl MuxColumn {
+    /// The number in the column.
+    pub(crate) fn value<'a>(self) -> ValueRef<'a>
+        ensures { owned result ≡ Int (mux_number self) }
+    {
+        match self {
+            MuxColumn::Always => ValueRef::Int(-2),
+            MuxColumn::Multiplexor => ValueRef::Int(-1),
+            MuxColumn::Under(value) => value.to_sql(),
+        }
+    }
+}
+
+/// A row of `sig`: a signal of a live message, without its receivers and value texts.
+#[derive(Clone, Copy)]
+pub struct SigRow<'a> {
+    /// The network.
+    pub net: &'a [u8],
+    /// The DBC number of the message.
+    pub number: u32,
+    /// Its place among the message's signals; with the network and the number, the key.
+    pub place: u32,
+    /// Its name; no two signals of a message have the same.
+    pub name: &'a [u8],
+    /// The number of its first bit.
+    pub start: u32,
+    /// How many bits it has.
+    pub size: u32,
+    /// Whether its bits go in Motorola's order (1) or Intel's (0).
+    pub motorola: u32,
+    /// Whether its raw value is signed (1).
+    pub signed: u32,
+    /// When it is there.
+    pub mux: MuxColumn,
+    /// The text of its factor.
+    pub factor: &'a [u8],
+    /// The text of its offset.
+    pub shift: &'a [u8],
+    /// The text of its minimum.
+    pub least: &'a [u8],
+    /// The text of its maximum.
+    pub most: &'a [u8],
+    /// Its unit.
+    pub unit: &'a [u8],
+    /// Its comment.
+    pub comment: &'a [u8],
+    /// Its suspect parameter number, 0 if it has none.
+    pub spn: u32,
+    /// The number of its value type.
+    pub label: u32,
+}
+
+/// A row of `receiver`: a receiver of a signal.
+#[derive(Clone, Copy)]
+pub struct ReceiverRow<'a> {
+    /// The network.
+    pub net: &'a [u8],
+    /// The DBC number of the message.
+    pub number: u32,
+    /// The place of the signal.
+    pub place: u32,
+    /// Its place among the signal's receivers; with the others, the key.
+    pub seat: u32,
+    /// The node.
+    pub name: &'a [u8],
+}
+
+/// A row of `sigvalue`: the text of a value of a signal.
+#[derive(Clone, Copy)]
+pub struct SigValueRow<'a> {
+    /// The network.
+    pub net: &'a [u8],
+    /// The DBC number of the message.
+    pub number: u32,
+    /// The place of the signal.
+    pub place: u32,
+    /// Its place among the signal's value texts; with the others, the key.
+    pub seat: u32,
+    /// The text of the value.
+    pub value: &'a [u8],
+    /// What the value means.
+    pub words: &'a [u8],
+}
+
+/// A row of `part`: what a part of a bundle is answered.
+#[derive(Clone, Copy)]
+pub struct PartRow<'a> {
+    /// The team.
+    pub team: &'a [u8],
+    /// The key of the team's request.
+    pub key: &'a [u8],
+    /// The place of the part among those of the bundle; with the team and the key, the key.
+    pub place: u32,
+    /// The kind of the answer.
+    pub kind: u32,
+    /// The number that it tells.
+    pub a: u32,
+    /// 0, as no part tells two numbers.
+    pub b: u32,
 }

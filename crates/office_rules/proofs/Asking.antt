@@ -1,5 +1,5 @@
 -- Requests, one after the other, and what they are answered: for worked examples.
-use Rattle.std.proofs.Common.{ℕ, false, List, [], ◌∷◌, Option, None}
+use Rattle.std.proofs.Common.{ℕ, false, List, [], ◌∷◌, map, Option, None}
 use Rattle.std.specs.Prelude.{pos, codes}
 use Rattle.bitlayout.specs.declared.layout.Order.{Order}
 use Rattle.bitlayout.specs.declared.place.Mux.{Mux}
@@ -22,7 +22,8 @@ use Rattle.office_types.specs.declared.command.NewMessage.{NewMessage}
 use Rattle.office_types.specs.declared.command.Pdu.{Pdu}
 use Rattle.office_types.specs.declared.command.SignalPath.{SignalPath}
 use Rattle.office_types.specs.declared.command.TakeBits.{TakeBits}
-use Rattle.office_types.specs.declared.command.Task.TheVariants.{Act, Import}
+use Rattle.office_types.specs.declared.command.Task.{Task}
+use Rattle.office_types.specs.declared.command.Task.TheVariants.{Act, Import, Bundle}
 use Rattle.office_types.specs.declared.reply.Reply.{Reply}
 use Rattle.office_types.specs.declared.state.Office.{Office}
 use Rattle.office_rules.specs.Importing.{FileReading, Reading}
@@ -130,3 +131,11 @@ sets_values signal values = asks engine (act.SetValues (record { path = path (co
 
 abbrev pub removes : List ℕ → Asked
 removes signal = asks engine (act.RemoveSignal (path (codes "E1") signal))
+
+abbrev asked_action : Task → Action
+asked_action (Act a) = a
+asked_action task = act.Submit
+
+-- the requests as one bundle
+abbrev pub bundles : List ℕ → List Asked → Asked
+bundles team qs = record { team = team; reading = Reading empty_sheet; command = record { net = truck; task = Bundle (map (λ q. asked_action q.command.task) qs) } }

@@ -1,5 +1,5 @@
 -- Worked examples of commands without a file, computed from the definitions.
-use Rattle.std.proofs.Common.{◌≡◌, ◌+◌, ◌/◌, ℕ, false, List, [], ◌∷◌, map, Some, None, refl}
+use Rattle.std.proofs.Common.{◌≡◌, ◌+◌, ◌/◌, ℕ, false, List, [], ◌∷◌, map, Option, Some, None, refl, subst, sym}
 use Rattle.std.proofs.lemmas.Bool.{true≢false}
 use Rattle.std.specs.List.{range_with_len}
 use Rattle.std.specs.Prelude.{◌%◌, codes}
@@ -12,22 +12,32 @@ use Rattle.can_id.specs.declared.form.IdentForm.TheVariants.{Standard}
 use Rattle.can_id.specs.declared.ident.Ident.{Ident}
 use Rattle.can_id.specs.declared.ident.Ident.TheVariants as id
 use Rattle.catalogue.specs.Limits.{roster_limit}
+use Rattle.catalogue.specs.Refusing.{first_refusal}
 use Rattle.catalogue.specs.Sheet.{empty_sheet, node_name}
+use Rattle.catalogue.specs.Signals.{signal_tests}
+use Rattle.catalogue.specs.declared.fault.SheetCode.{SheetCode}
+use Rattle.catalogue.specs.declared.fault.SheetCode.TheVariants.{DoubleName}
 use Rattle.catalogue.specs.declared.node.Node.{Node}
 use Rattle.catalogue.specs.declared.sheet.Sheet.{Sheet}
+use Rattle.catalogue.specs.declared.signal.Signal.{Signal}
 use Rattle.catalogue.specs.declared.value_texts.ValueText.{ValueText}
 use Rattle.office_types.specs.declared.block.BlockForm.TheVariants as block
-use Rattle.office_types.specs.declared.change.Change.TheVariants.{SetBlock}
+use Rattle.office_types.specs.declared.change.Change.TheVariants.{AddSignal, RemoveSignal, SetBlock}
 use Rattle.office_types.specs.declared.command.Action.TheVariants as act
 use Rattle.office_types.specs.declared.command.NetKind.TheVariants.{Can, J1939}
 use Rattle.office_types.specs.declared.command.Pdu.TheVariants.{Addressed, Broadcast}
 use Rattle.office_types.specs.declared.refusal.Refusal.TheVariants as no
 use Rattle.office_types.specs.declared.reply.Reply.{Reply}
-use Rattle.office_types.specs.declared.reply.Reply.TheVariants.{Done, Number, Start, Counts, Release, Refused}
+use Rattle.office_types.specs.declared.reply.Reply.TheVariants.{Done, Number, Start, Counts, Release, Refused, Bundle}
+use Rattle.office_types.specs.declared.reply.PartReply.TheVariants as part
+use Rattle.office_types.specs.declared.state.LiveMessage.{LiveMessage}
 use Rattle.office_types.specs.declared.state.Net.{Net}
-use Rattle.office_rules.specs.Change.{HaveOwnBlocks}
+use Rattle.office_types.specs.declared.state.Phase.TheVariants.{Draft}
+use Rattle.office_rules.specs.Change.{Fits, HaveOwnBlocks, net_changed}
+use Rattle.office_rules.specs.Opening.{bare_net}
+use Rattle.office_rules.specs.Signals.{new_signal}
 use Rattle.office_rules.specs.Step.{opening}
-use Rattle.office_rules.proofs.Asking.{Asked, adds, asks, bits, brake, engine, grants, imports, left_by, named, number, office, on_bus, opens, path, removes, replies_to, sets_values, setup, takes, takes_bits, takes_ext, takes_group, takes_spn}
+use Rattle.office_rules.proofs.Asking.{Asked, adds, asks, bits, brake, bundles, engine, grants, imports, left_by, message, named, number, office, on_bus, opens, path, removes, replies_to, sets_values, setup, takes, takes_bits, takes_ext, takes_group, takes_spn, truck}
 
 full : replies_to opening (setup (takes engine (codes "E1") None ∷ takes engine (codes "E2") None ∷ takes engine (codes "E3") None ∷ takes engine (codes "E4") None ∷ []))
     ≡ Done ∷ Done ∷ Number 256 ∷ Number 257 ∷ Number 258 ∷ Refused no.BlockFull ∷ []
@@ -342,3 +352,62 @@ block_of_identifiers = (refl, tt)
 
 block_of_spns : HaveOwnBlocks (SetBlock (record { block = record { form = block.Spn; first = 500; last = 501 }; team = engine }) ∷ []) → ⊥
 block_of_spns blocks = true≢false blocks.0
+
+-- Changes of one signal, on a network of one message.
+
+abbrev byte_at : List ℕ → ℕ → Signal
+byte_at name start = new_signal (bits name 8 Intel Always None) start
+
+abbrev with_e1 : List Signal → Net
+with_e1 signals = record (bare_net truck (record { kind = Can; reviews = 0; phase = Draft; frame = empty_sheet })) {
+  live = record { message = message (id.Std 256) (codes "E1") signals; owner = engine } ∷ [];
+}
+
+signal_added : net_changed (AddSignal (codes "E1") (byte_at (codes "Q") 8)) (with_e1 (byte_at (codes "P") 0 ∷ [])) ≡ with_e1 (byte_at (codes "P") 0 ∷ byte_at (codes "Q") 8 ∷ [])
+signal_added = refl
+
+signal_out : net_changed (RemoveSignal (path (codes "E1") (codes "P"))) (with_e1 (byte_at (codes "P") 0 ∷ byte_at (codes "Q") 8 ∷ [])) ≡ with_e1 (byte_at (codes "Q") 8 ∷ [])
+signal_out = refl
+
+-- nothing changes where the message isn't there
+not_there : net_changed (AddSignal (codes "E2") (byte_at (codes "P") 0)) (with_e1 []) ≡ with_e1 []
+not_there = refl
+
+not_there_either : net_changed (RemoveSignal (path (codes "E2") (codes "P"))) (with_e1 (byte_at (codes "P") 0 ∷ [])) ≡ with_e1 (byte_at (codes "P") 0 ∷ [])
+not_there_either = refl
+
+-- a signal fits a message that is there and has no signal of its name
+signal_fits : Fits (AddSignal (codes "E1") (byte_at (codes "Q") 8)) (Some (with_e1 (byte_at (codes "P") 0 ∷ [])))
+signal_fits = (record { message = message (id.Std 256) (codes "E1") (byte_at (codes "P") 0 ∷ []); owner = engine }, refl, refl)
+
+no_message : Fits (AddSignal (codes "E2") (byte_at (codes "P") 0)) (Some (with_e1 [])) → ⊥
+no_message fits = let none : ◌≡◌ {A = Option LiveMessage} None (Some fits.0) = fits.1 in cc
+
+of_one_name : Fits (AddSignal (codes "E1") (byte_at (codes "P") 8)) (Some (with_e1 (byte_at (codes "P") 0 ∷ []))) → ⊥
+of_one_name fits =
+    let m : LiveMessage = record { message = message (id.Std 256) (codes "E1") (byte_at (codes "P") 0 ∷ []); owner = engine } in
+    let found : ◌≡◌ {A = Option LiveMessage} (Some m) (Some fits.0) = fits.1 in
+    let same : m ≡ fits.0 = cc in
+    let passed : ◌≡◌ {A = Option SheetCode} (Some DoubleName) None = subst (λ (l : LiveMessage). first_refusal (signal_tests l.message.signals (byte_at (codes "P") 8)) ≡ None) (sym same) fits.2 in
+    cc
+
+-- Bundles: all parts or none, and a part finds what the earlier ones left.
+
+bundle : replies_to opening (setup (bundles engine (takes engine (codes "E1") None ∷ takes_bits (codes "P") 8 Intel Always None ∷ []) ∷ takes engine (codes "E2") None ∷ []))
+    ≡ Done ∷ Done ∷ Bundle (part.Number 256 ∷ part.Start 0 ∷ []) ∷ Number 257 ∷ []
+unfolding walk shares_bit is_inside clash_after first_answer
+bundle = refl
+
+-- the third part has the name of the first; then nothing has changed
+bundle_refused : replies_to opening (setup (bundles engine (takes engine (codes "E1") None ∷ takes engine (codes "E2") None ∷ takes engine (codes "E1") None ∷ []) ∷ takes engine (codes "E9") None ∷ []))
+    ≡ Done ∷ Done ∷ Refused (no.BundleRefused (record { fault = 50; at = 3 })) ∷ Number 256 ∷ []
+bundle_refused = refl
+
+bundle_too_large : replies_to opening (setup (bundles engine (takes engine (codes "E1") None ∷ takes engine (codes "E2") None ∷ takes engine (codes "E3") None ∷ takes engine (codes "E4") None ∷ []) ∷ []))
+    ≡ Done ∷ Done ∷ Refused (no.BundleRefused (record { fault = 48; at = 4 })) ∷ []
+bundle_too_large = refl
+
+-- a bundle may open its network
+opened : replies_to opening (bundles office (opens Can 0 ∷ grants engine block.Std 256 258 ∷ []) ∷ takes engine (codes "E1") None ∷ [])
+    ≡ Bundle (part.Done ∷ part.Done ∷ []) ∷ Number 256 ∷ []
+opened = refl

@@ -1,24 +1,30 @@
 -- What a list of changes does at a network and in the book.
-use Rattle.std.specs.Prelude.{◌≡◌, false, ℕ, List, [], ◌∷◌, Option, Some, None}
+use Rattle.std.specs.Prelude.{◌≡◌, Bool, true, false, ℕ, List, [], ◌∷◌, Option, Some, None}
 use Rattle.std.specs.Option.{option_map}
 use Rattle.std.specs.Ordering.{nat_cmp}
 use Rattle.catalogue.specs.Keyed.{put}
+use Rattle.catalogue.specs.Refusing.{first_refusal}
+use Rattle.catalogue.specs.Signals.{signal_tests}
 use Rattle.office_types.specs.Block.{is_spn}
 use Rattle.office_types.specs.Book.{by_net}
 use Rattle.office_types.specs.declared.book.SpnBook.{SpnBook}
 use Rattle.office_types.specs.declared.change.Change.{Change}
-use Rattle.office_types.specs.declared.change.Change.TheVariants.{SetHead, SetMessage, RemoveMessage, SetBlock, SetSpnBlock, Hold, EnterSpn, SetApproval, ClearApprovals, AddRelease}
+use Rattle.office_types.specs.declared.change.Change.TheVariants.{SetHead, SetMessage, RemoveMessage, AddSignal, RemoveSignal, SetBlock, SetSpnBlock, Hold, EnterSpn, SetApproval, ClearApprovals, AddRelease}
 use Rattle.office_types.specs.declared.change.Decision.{Decision}
 use Rattle.office_types.specs.declared.command.Command.{Command}
 use Rattle.office_types.specs.declared.state.Head.{Head}
+use Rattle.office_types.specs.declared.state.LiveMessage.{LiveMessage}
 use Rattle.office_types.specs.declared.state.Net.{Net}
 use Rattle.office_rules.specs.Commands.{outcome}
+use Rattle.office_rules.specs.Facts.{live_named}
 use Rattle.office_rules.specs.Importing.{FileReading}
 use Rattle.office_rules.specs.Numbers.{with_message}
 use Rattle.office_rules.specs.Opening.{bare_net, with_block}
 use Rattle.office_rules.specs.Outcome.{Outcome, Refusing, Changing, entered, reply_of}
+use Rattle.office_rules.specs.Profile.{Two}
 use Rattle.office_rules.specs.Retiring.{without_message, with_held}
 use Rattle.office_rules.specs.Reviewing.{with_approval, with_release}
+use Rattle.office_rules.specs.Signals.{with_last_signal, with_signal_out}
 use Rattle.office_rules.specs.Step.{IsRead, file_wanted}
 
 -- the command's network, if it is there, and the book
@@ -31,11 +37,20 @@ abbrev pub headed : List ℕ → Head → Option Net → Net
 headed name h None = bare_net name h
 headed name h (Some net) = record net { head = h }
 
+-- what becomes of the live message of a name, if it is there
+abbrev pub at_message : List ℕ → (LiveMessage → LiveMessage) → Net → Net
+at_message message f net = elim (live_named net.live message) [
+  | None ↦ net
+  | Some m ↦ with_message net (f m)
+]
+
 -- what a change does at a network that is there
 abbrev pub net_changed : Change → Net → Net
 net_changed (SetHead h) net = record net { head = h }
 net_changed (SetMessage m) net = with_message net m
 net_changed (RemoveMessage i) net = without_message net i
+net_changed (AddSignal message s) net = at_message message (λ m. with_last_signal m s) net
+net_changed (RemoveSignal path) net = at_message path.message (λ m. with_signal_out m path.signal) net
 net_changed (SetBlock g) net = with_block net g
 net_changed (SetSpnBlock b) net = net
 net_changed (Hold i) net = with_held net i
@@ -84,16 +99,32 @@ HaveOwnBlocks [] = Unit {0}
 HaveOwnBlocks (SetBlock g ∷ cs) = (is_spn g.block.form ≡ false) × HaveOwnBlocks cs
 HaveOwnBlocks (c ∷ cs) = HaveOwnBlocks cs
 
--- the decision tells the outcome's reply, and its changes lead to what the outcome leaves
+abbrev pub is_release : Change → Bool
+is_release (AddRelease s) = true
+is_release c = false
+
+-- A signal is added to a message that is there and doesn't refuse it.
+abbrev pub Fits : Change → Option Net → Type 0
+Fits (AddSignal message s) None = ⊥
+Fits (AddSignal message s) (Some net) = (m : LiveMessage) × (live_named net.live message ≡ Some m) × (first_refusal (signal_tests m.message.signals s) ≡ None)
+Fits c net = Unit {0}
+
+-- so does each of the changes, after those before it
+abbrev pub AllFit : List ℕ → List Change → NetAndBook → Type 0
+AllFit name [] e = Unit {0}
+AllFit name (c ∷ cs) e = Fits c e.net × AllFit name cs (applied name c e)
+
+-- the decision has the outcome's reply, and its changes lead to what the outcome leaves
 pub record Decides (name : List ℕ) (before : NetAndBook) (out : Outcome) (d : Decision) : Type 0 where
   pub reply : d.reply ≡ reply_of out
   pub changes : all_applied name d.changes before ≡ left_after before out
   pub quiet : IsQuiet out d.changes
   pub head_first : IsHeadFirst before.net d.changes
   pub own_blocks : HaveOwnBlocks d.changes
+  pub fit : AllFit name d.changes before
 
--- what the office decides, by a reading of the file where one is wanted
+-- what the office decides on a command that comes today, by a reading of the file where one is wanted
 pub record IsDecision (team : List ℕ) (before : NetAndBook) (c : Command) (d : Decision) : Type 0 where
   pub reading : FileReading
-  pub read : IsRead (file_wanted before.net c.task) reading
+  pub read : IsRead Two (file_wanted before.net c.task) reading
   pub decides : Decides c.net before (outcome team reading before.net before.book c) d

@@ -7,6 +7,8 @@ pub mod Signals
 pub mod Retiring
 pub mod Importing
 pub mod Reviewing
+pub mod Profile
+pub mod Bundling
 pub mod Commands
 pub mod Step
 pub mod Change

@@ -1,5 +1,5 @@
 -- The arrival of a line that asks for something.
-use Rattle.std.proofs.Common.{◌≡◌, ℕ, false, List, [], ◌∷◌, Some, Err, refl}
+use Rattle.std.proofs.Common.{◌≡◌, ℕ, false, List, [], ◌∷◌, Some, Err, inr, refl}
 use Rattle.office_history.specs.declared.arrival.Arrival.{Arrival}
 use Rattle.office_script.specs.declared.filling.LineFault.{LineFault}
 use Rattle.office_script.specs.declared.filling.LineFault.TheVariants as why
@@ -26,7 +26,11 @@ line_filled files dash number line r arrival some made arrived = record {
 -- no arrival, for this reason
 pub line_unfilled : (files : Files) (dash : Dash) (number : ℕ) (line : List ℕ) (r : LineRequest) (fault : LineFault) → says_nothing line ≡ false → request_of dash number line ≡ Some r
     → Fills files r.text r.asked (Err fault) → IsLineFault files dash number line fault
-line_unfilled files dash number line r why.Wrong some made h = absurd h
+line_unfilled files dash number line r why.Wrong some made h = inr (record {
+  request = r;
+  made = one_request dash number line r some made;
+  names = h;
+})
 line_unfilled files dash number line r (why.Unreadable path) some made h = record {
   request = r;
   made = one_request dash number line r some made;

@@ -1,13 +1,16 @@
 -- What is known of the files at paths, what reading one may give, and the arrival of a request with the bytes of its file.
-use Rattle.std.specs.Prelude.{◌≡◌, ℕ, List, ◌∷◌, ◌++◌}
+use Rattle.std.specs.Prelude.{◌≡◌, ℕ, List, ◌∷◌, ◌++◌, Some}
 use Rattle.std.specs.List.{AllZip}
+use Rattle.office_types.specs.declared.command.Action.{Action}
 use Rattle.office_types.specs.declared.command.Task.TheVariants as task
 use Rattle.office_fields.specs.declared.asked.Asked.{Asked}
 use Rattle.office_fields.specs.declared.asked.Asked.TheVariants as asked
+use Rattle.office_fields.specs.declared.asked.FileImport.{FileImport}
 use Rattle.office_history.specs.declared.arrival.Arrival.{Arrival}
 use Rattle.office_history.specs.declared.arrival.Request.{Request}
 use Rattle.office_script.specs.declared.files.FileFault.{FileFault}
 use Rattle.office_script.specs.declared.files.FileFault.TheVariants.{Memory}
+use Rattle.office_script.specs.Bundles.{parts_in}
 use Rattle.office_script.specs.declared.requests.LineRequest.{LineRequest}
 
 -- what is known of the file of a path: nothing, or that no file can be read there, or its bytes
@@ -32,12 +35,20 @@ FailsWith unknown fault = Unit {0}
 FailsWith absent fault = Unit {0}
 FailsWith (holding known) fault = fault ≡ Memory
 
+-- the request of a bundle whose file has these bytes
+pub record IsBundleRequest (text : List ℕ) (i : FileImport) (bytes : List ℕ) (request : Request) : Type 0 where
+  pub parts : List Action
+  pub found : parts_in bytes ≡ Some parts
+  pub command : request.command ≡ record { net = i.net; task = task.Bundle parts }
+  pub content : request.content.items ≡ text ++ (10 ∷ bytes)
+
 -- the request is of the text that a line has after its team, for what the text asks for; an import has the bytes of its
--- file too, and in its content, after a line feed
+-- file too, and in its content, after a line feed; a bundle has the parts in its file, and in its content those bytes
 abbrev pub IsRequestFor : Files → List ℕ → Asked → Request → Type 0
 IsRequestFor files text (asked.Command c) request = (request.command ≡ c) × (request.content.items ≡ text)
 IsRequestFor files text (asked.Import i) request =
     (bytes : List ℕ) × Gives (files i.file) bytes × (request.command ≡ record { net = i.net; task = task.Import bytes }) × (request.content.items ≡ text ++ (10 ∷ bytes))
+IsRequestFor files text (asked.Bundle i) request = (bytes : List ℕ) × Gives (files i.file) bytes × IsBundleRequest text i bytes request
 
 -- the arrival of what a line asks for
 pub record IsArrivalOf (files : Files) (r : LineRequest) (a : Arrival) : Type 0 where

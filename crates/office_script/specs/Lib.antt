@@ -3,6 +3,7 @@ pub mod Words
 pub mod Escapes
 pub mod Fields
 pub mod Keys
+pub mod Bundles
 pub mod Requests
 pub mod Files
 pub mod Script

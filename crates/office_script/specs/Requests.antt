@@ -1,11 +1,12 @@
 -- Which request a line makes.
 use Rattle.std.specs.Prelude.{ℕ, List, [], ◌∷◌, Option, Some, None, if◌then◌else◌}
 use Rattle.std.specs.List.{join_with_byte}
-use Rattle.std.specs.Option.{option_map}
+use Rattle.std.specs.Option.{option_and_then, option_map}
 use Rattle.office_fields.specs.Asked.{asked_of}
 use Rattle.office_fields.specs.Kind.{kind_of_word}
 use Rattle.office_fields.specs.Value.{◌>>=◌, plain_name_of}
 use Rattle.office_fields.specs.declared.asked.Asked.{Asked}
+use Rattle.office_fields.specs.declared.asked.Asked.TheVariants as asked
 use Rattle.office_script.specs.declared.keys.Dash.{Dash}
 use Rattle.office_script.specs.declared.requests.LineRequest.{LineRequest}
 use Rattle.office_script.specs.Fields.{fields_of}
@@ -37,3 +38,11 @@ request_of dash number line = request_of_words dash number (words_of line)
 -- what the line of this number asks for: nothing, or one thing; `None` if it is wrong
 abbrev pub requests_of_line : Dash → ℕ → List ℕ → Option (List LineRequest)
 requests_of_line dash number line = if says_nothing line then Some [] else option_map (λ r. r ∷ []) (request_of dash number line)
+
+-- the file of a bundle that is requested, by what is asked for and by the line of this number
+abbrev pub asked_bundle : Asked → Option (List ℕ)
+asked_bundle (asked.Bundle i) = Some i.file
+asked_bundle a = None
+
+abbrev pub bundle_file : Dash → ℕ → List ℕ → Option (List ℕ)
+bundle_file dash number line = if says_nothing line then None else option_and_then (λ r. asked_bundle r.asked) (request_of dash number line)

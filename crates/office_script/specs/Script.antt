@@ -1,8 +1,9 @@
 -- What a script asks for, over the files that it names.
-use Rattle.std.specs.Prelude.{◌≡◌, ℕ, ◌+◌, List, [], ◌∷◌, ◌++◌, length, Option, Some, None, Result, Ok, Err, ⊤}
+use Rattle.std.specs.Prelude.{◌≡◌, ◌⊎◌, ℕ, ◌+◌, List, [], ◌∷◌, ◌++◌, length, Option, Some, None, Result, Ok, Err, ⊤}
 use Rattle.std.specs.Option.{option_map, option_and_then}
 use Rattle.office_fields.specs.declared.asked.Asked.{Asked}
 use Rattle.office_fields.specs.declared.asked.Asked.TheVariants as asked
+use Rattle.office_fields.specs.declared.asked.FileImport.{FileImport}
 use Rattle.office_fields.specs.declared.unread.Unread.{Unread}
 use Rattle.office_fields.specs.declared.unread.Unread.TheVariants as unread
 use Rattle.office_history.specs.declared.arrival.Arrival.{Arrival}
@@ -14,7 +15,8 @@ use Rattle.office_script.specs.declared.keys.Dash.{Dash}
 use Rattle.office_script.specs.declared.requests.LineRequest.{LineRequest}
 use Rattle.office_script.specs.declared.script.ScriptFault.{ScriptFault}
 use Rattle.office_script.specs.declared.script.ScriptFault.TheVariants as script
-use Rattle.office_script.specs.Files.{FailsWith, Files, HaveArrived, IsRequestFor}
+use Rattle.office_script.specs.Files.{FailsWith, Files, Gives, HaveArrived, IsRequestFor}
+use Rattle.office_script.specs.Bundles.{parts_in}
 use Rattle.office_script.specs.Lines.{lines_of}
 use Rattle.office_script.specs.Requests.{requests_of_line}
 
@@ -41,14 +43,33 @@ pub record IsFirstAmiss (files : Files) (dash : Dash) (IsAmiss : ℕ → List �
   pub sound : AreArrivalsOf files dash before arrivals
   pub amiss : IsAmiss number line
 
--- the line of this number is wrong
-abbrev pub IsWrong : Dash → ℕ → List ℕ → Type 0
-IsWrong dash number line = requests_of_line dash number line ≡ None
+-- the file that is asked for, of an import or a bundle
+abbrev pub file_asked : Asked → Option (List ℕ)
+file_asked (asked.Command c) = None
+file_asked (asked.Import i) = Some i.file
+file_asked (asked.Bundle i) = Some i.file
 
--- what is asked for is to import the file of this path, which may be unreadable
+-- what is asked for is a bundle whose file has a wrong line, no part, or too many
+pub record AsksWrongParts (files : Files) (a : Asked) : Type 0 where
+  pub bundle : FileImport
+  pub asked : a ≡ asked.Bundle bundle
+  pub bytes : List ℕ
+  pub given : Gives (files bundle.file) bytes
+  pub wrong : parts_in bytes ≡ None
+
+-- the line of this number asks so
+pub record NamesWrongParts (files : Files) (dash : Dash) (number : ℕ) (line : List ℕ) : Type 0 where
+  pub request : LineRequest
+  pub made : requests_of_line dash number line ≡ Some (request ∷ [])
+  pub names : AsksWrongParts files request.asked
+
+-- the line of this number is wrong, or the file of its bundle is
+abbrev pub IsWrong : Files → Dash → ℕ → List ℕ → Type 0
+IsWrong files dash number line = (requests_of_line dash number line ≡ None) ⊎ NamesWrongParts files dash number line
+
+-- what is asked for names the file of this path, which may be unreadable
 pub record AsksUnreadable (files : Files) (path : List ℕ) (a : Asked) : Type 0 where
-  pub net : List ℕ
-  pub asked : a ≡ asked.Import (record { net = net; file = path })
+  pub named : file_asked a ≡ Some path
   pub unreadable : FailsWith (files path) file.Unreadable
 
 -- the line of this number asks so
@@ -59,7 +80,7 @@ pub record NamesUnreadable (files : Files) (dash : Dash) (path : List ℕ) (numb
 
 -- the fault is that of the first line at which something is amiss; out of memory states nothing
 abbrev pub IsScriptFault : Files → Dash → List ℕ → ScriptFault → Type 0
-IsScriptFault files dash text (script.BadLine number) = IsFirstAmiss files dash (IsWrong dash) (lines_of text) number
+IsScriptFault files dash text (script.BadLine number) = IsFirstAmiss files dash (IsWrong files dash) (lines_of text) number
 IsScriptFault files dash text (script.Unreadable path) = (number : ℕ) × IsFirstAmiss files dash (NamesUnreadable files dash path) (lines_of text) number
 IsScriptFault files dash text script.Memory = ⊤
 
@@ -72,13 +93,13 @@ pub record AreArrivalsOfLine (files : Files) (dash : Dash) (number : ℕ) (line 
 -- the request for what a text asks for, or the file that can't be read; out of memory states nothing
 abbrev pub Fills : Files → List ℕ → Asked → Result Request LineFault → Type 0
 Fills files text a (Ok request) = IsRequestFor files text a request
-Fills files text a (Err why.Wrong) = ⊥
+Fills files text a (Err why.Wrong) = AsksWrongParts files a
 Fills files text a (Err (why.Unreadable path)) = AsksUnreadable files path a
 Fills files text a (Err why.Memory) = ⊤
 
 -- why a line has no arrival
 abbrev pub IsLineFault : Files → Dash → ℕ → List ℕ → LineFault → Type 0
-IsLineFault files dash number line why.Wrong = IsWrong dash number line
+IsLineFault files dash number line why.Wrong = IsWrong files dash number line
 IsLineFault files dash number line (why.Unreadable path) = NamesUnreadable files dash path number line
 IsLineFault files dash number line why.Memory = ⊤
 

@@ -1,9 +1,12 @@
 //! The arrival of a line: what it asks for, with the bytes of the file that it names.
-ghost use Rattle.std.specs.Prelude.{◌≡◌, ◌++◌, ◌∷◌, Err, IfErr, IfOk};
+ghost use Rattle.std.specs.Prelude.{◌≡◌, ◌++◌, ◌∷◌, None, Err, IfErr, IfOk, IsErrOf};
+ghost use Rattle.office_fields.specs.declared.unread.Unread.TheVariants as unread;
 ghost use Rattle.office_types.specs.declared.command.Task.TheVariants as task;
-ghost use Rattle.office_script.specs.Files.{IsArrivalOf};
+ghost use Rattle.office_script.specs.Bundles.{parts_in};
+ghost use Rattle.office_script.specs.Files.{IsArrivalOf, IsBundleRequest};
 ghost use Rattle.office_script.specs.Script.{AddsArrivals, Fills};
 
+use crate::bundles::parts_in;
 use crate::files::{FileFault, FileSource};
 use crate::keys::Dash;
 use crate::lines::says_nothing;
@@ -100,6 +103,38 @@ fn read_import<F: FileSource>(
     }
 }
 
+/// The request of a bundle, with the parts in its file.
+fn bundle_request(
+    alloc: Global,
+    text: Items<u8>,
+    bundle: FileImport,
+    bytes: &[u8],
+) -> Result<Request, Unread>
+    ensures ok { IfOk result (IsBundleRequest text bundle bytes.now) }
+    ensures wrong { IsErrOf result unread.Wrong → parts_in bytes.now ≡ None }
+{
+    let parts = parts_in(alloc, bytes)?;
+    let content = import_content(text, bytes)?;
+    let command = bundle.with_parts(parts);
+    Ok(Request { content, command })
+}
+
+/// The request of a bundle, whose file is read.
+fn read_bundle<F: FileSource>(
+    alloc: Global,
+    text: Items<u8>,
+    bundle: FileImport,
+    files: &F,
+) -> Result<Request, LineFault>
+    ensures { Fills (F.held files.now) text (Asked.Bundle bundle) result }
+{
+    match files.read(alloc, bundle.file.as_str()) {
+        Ok(bytes) => Ok(bundle_request(alloc, text, bundle, &bytes)?),
+        Err(FileFault::Unreadable) => Err(LineFault::Unreadable(bundle.into_path())),
+        Err(FileFault::Memory) => Err(LineFault::Memory),
+    }
+}
+
 /// The request for what the text asks for, with the bytes of its file.
 fn filled<F: FileSource>(
     alloc: Global,
@@ -115,6 +150,7 @@ fn filled<F: FileSource>(
             Ok(Request { content, command })
         }
         Asked::Import(import) => read_import(alloc, text, import, files),
+        Asked::Bundle(bundle) => read_bundle(alloc, text, bundle, files),
     }
 }
 

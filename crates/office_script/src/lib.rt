@@ -4,7 +4,8 @@
 //! with `#` asks for nothing. Any other line consists of words with exactly one space between them (`words`): a key, the
 //! team, the command and its fields `name=value`, where in a value `%` and two hexadecimal digits stand for a byte
 //! (`escapes`, `fields`). As a key `-` stands for the number of its line, or is wrong ([`Dash`], `keys`). What the fields give
-//! is the matter of `office_fields`. An import names a file, which is read from a [`FileSource`] (`files`, `filling`).
+//! is the matter of `office_fields`. An import and a bundle name a file, which is read from a [`FileSource`] (`files`,
+//! `filling`); that of a bundle has a line for each of its parts (`bundles`).
 //! [`arrivals_of`] gives each line's arrival, with its content, or what is amiss at the first line at which something is.
 //!
 //! The grammar is in `specs/`: `Lines.antt`, `Words.antt`, `Escapes.antt`, `Keys.antt` and `Fields.antt` define the parts of
@@ -12,6 +13,7 @@
 //! request, and `Script.antt` what a whole script asks for.
 #![tactic(auto)]
 
+mod bundles;
 mod escapes;
 mod fields;
 mod files;
@@ -22,10 +24,12 @@ mod requests;
 mod script;
 mod words;
 
+pub use bundles::parts_in;
 pub use escapes::unescape;
 pub use fields::read_fields;
 pub use files::{FileFault, FileSource};
 pub use keys::{Dash, key_of};
 pub use lines::{FirstLine, first_line, says_nothing};
+pub use requests::bundle_file;
 pub use script::{ScriptFault, arrivals_of};
 pub use words::{FirstWord, first_word};

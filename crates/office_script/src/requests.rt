@@ -3,13 +3,14 @@ ghost use Rattle.std.specs.Prelude.{◌≡◌, ◌∷◌, ℕ, IfOk, IfSome, Non
 ghost use Rattle.office_fields.specs.Kind.{kind_of_word};
 ghost use Rattle.office_fields.specs.Reading.{Reads};
 ghost use Rattle.office_script.specs.Words.{words_of, words_after};
-ghost use Rattle.office_script.specs.Requests.{asked_by, request_of_words, request_of};
+ghost use Rattle.office_script.specs.Requests.{asked_bundle, asked_by, bundle_file, request_of_words, request_of};
 
 use crate::fields::read_fields;
 use crate::keys::{Dash, key_of};
+use crate::lines::says_nothing;
 use crate::words::first_word;
 use catalogue::Items;
-use office_fields::{Asked, CommandKind, Unread, asked_of, team_of};
+use office_fields::{Asked, CommandKind, FilePath, Unread, asked_of, team_of};
 use office_history::Key;
 use office_types::Team;
 use std::alloc::{AllocError, Global};
@@ -112,5 +113,35 @@ pub(crate) fn request_of(
     match line_parts(line) {
         Some(parts) => request_of_parts(alloc, dash, number, &parts),
         None => Err(Unread::Wrong),
+    }
+}
+
+/// The file of a bundle that is requested.
+fn asked_bundle(asked: Asked) -> Option<FilePath>
+    ensures { result ≡ asked_bundle asked }
+{
+    match asked {
+        Asked::Bundle(bundle) => Some(bundle.into_path()),
+        Asked::Command(_) | Asked::Import(_) => None,
+    }
+}
+
+/// The file of the bundle that the line of this number, from 1, requests; `None` where it requests something else or nothing,
+/// or is wrong. The error is out of memory.
+pub fn bundle_file(
+    alloc: Global,
+    dash: Dash,
+    number: usize,
+    line: &[u8],
+) -> Result<Option<FilePath>, AllocError>
+    ensures { IfOk result (λ file. file ≡ bundle_file dash number line.now) }
+{
+    if says_nothing(line) {
+        return Ok(None);
+    }
+    match request_of(alloc, dash, number, line) {
+        Ok(request) => Ok(asked_bundle(request.asked)),
+        Err(Unread::Wrong) => Ok(None),
+        Err(Unread::Memory) => Err(AllocError),
     }
 }

@@ -1,4 +1,4 @@
--- What a command comes to where it adds a signal, and where it is refused.
+-- The outcome of a command that adds a signal, and of one that is refused.
 use Rattle.std.proofs.Common.{◌≡◌, ◌∙◌, ℕ, List, Option, Some, None, sym, ap}
 use Rattle.catalogue.specs.Refusing.{first_refusal}
 use Rattle.catalogue.specs.Signals.{places_of}

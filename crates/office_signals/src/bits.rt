@@ -6,20 +6,19 @@ ghost use Rattle.catalogue.specs.Refusing.{first_refusal};
 ghost use Rattle.catalogue.specs.Signals.{has_multiplexor, places_of, signal_tests};
 ghost use Rattle.office_net.specs.Told.{message_facts_of};
 ghost use Rattle.office_types.specs.declared.book.SpnBook.{SpnBook};
-ghost use Rattle.office_types.specs.declared.change.Change.TheVariants.{SetMessage};
+ghost use Rattle.office_types.specs.declared.change.Change.TheVariants.{AddSignal};
 ghost use Rattle.office_types.specs.declared.reply.Reply.TheVariants.{Start};
 ghost use Rattle.office_types.specs.declared.state.Net.{Net};
 ghost use Rattle.office_rules.specs.Change.{Decides};
 ghost use Rattle.office_rules.specs.Facts.{has_node, message_facts};
-ghost use Rattle.office_rules.specs.Signals.{new_signal, start_tests, take_bits, take_bits_tests, with_last_signal};
+ghost use Rattle.office_rules.specs.Signals.{new_signal, start_tests, take_bits, take_bits_tests};
 ghost use Rattle.office_signals.specs.Adding.{IsNewSignal};
 
 use crate::own::own_message;
 use crate::start::{place_at, start_for};
 use bitlayout::Mux;
 use catalogue::{
-    Copying, Name, Node, ROSTER_LIMIT, Receivers, SheetCode, Signal, Signals, Spn, Text,
-    ValueTexts, ValueType,
+    Copying, Name, Node, ROSTER_LIMIT, Receivers, Signal, Signals, Spn, Text, ValueTexts, ValueType,
 };
 use office_net::{MessageFacts, has_node, has_signal, one_change, refusal_decision};
 use office_types::{Change, Decision, LiveMessage, Refusal, Reply, TakeBits, Team};
@@ -101,31 +100,18 @@ fn new_signal(alloc: Global, command: &TakeBits, start: u16) -> Result<Signal, A
     })
 }
 
-/// The message with the signal last. The error is out of memory.
-fn with_new_signal(
-    alloc: Global,
-    live: &LiveMessage,
-    signal: Signal,
-) -> Result<LiveMessage, AllocError>
-    requires { first_refusal (signal_tests live.now.message.signals signal) ≡ None }
-    ensures { IfOk result (λ m. m ≡ with_last_signal live.now signal) }
-{
-    let mut with = live.duplicate(alloc)?;
-    match with.message.signals.add(alloc, signal) {
-        Ok(()) => Ok(with),
-        Err(SheetCode::Memory) => Err(AllocError),
-        Err(_) => unreachable!(),
-    }
-}
-
-fn bits_taken(alloc: Global, live: &LiveMessage, signal: Signal) -> Result<Decision, AllocError>
-    requires { first_refusal (signal_tests live.now.message.signals signal) ≡ None }
-    ensures changes { IfOk result (λ d. d.changes ≡ SetMessage (with_last_signal live.now signal) ∷ []) }
+/// The decision that adds the signal to the message of the name. The error is out of memory.
+fn bits_taken(alloc: Global, message: &Name, signal: Signal) -> Result<Decision, AllocError>
+    ensures changes { IfOk result (λ d. d.changes ≡ AddSignal message.now signal ∷ []) }
     ensures reply { IfOk result (λ d. d.reply ≡ Start signal.layout.start) }
 {
     let start = signal.layout.start;
-    let with = with_new_signal(alloc, live, signal)?;
-    one_change(alloc, Change::SetMessage(with), Reply::Start(start))
+    let message = message.duplicate(alloc)?;
+    one_change(
+        alloc,
+        Change::AddSignal(message, signal),
+        Reply::Start(start),
+    )
 }
 
 /// The signal that the team's `take_bits` adds to its message, as the last one, on a network that has these facts for it,
@@ -161,9 +147,6 @@ pub fn decide_take_bits(
 {
     match new_signal_for(alloc, team, facts, command)? {
         Err(refusal) => Ok(refusal_decision(alloc, refusal)),
-        Ok(signal) => match facts.found {
-            Some(live) => bits_taken(alloc, live, signal),
-            None => unreachable!(),
-        },
+        Ok(signal) => bits_taken(alloc, &command.path.message, signal),
     }
 }

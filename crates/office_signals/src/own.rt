@@ -1,4 +1,4 @@
-//! The team's own live message on a network in draft, which every command on a message asks for first.
+//! The team's own live message on a network in draft, which every command on a message needs first.
 ghost use Rattle.std.specs.Prelude.{◌≡◌, IfErr, IfOk};
 ghost use Rattle.catalogue.specs.Refusing.{first_refusal};
 ghost use Rattle.office_net.specs.Told.{message_facts_of};

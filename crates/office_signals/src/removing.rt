@@ -6,17 +6,17 @@ ghost use Rattle.bitlayout.specs.Mux.{is_under};
 ghost use Rattle.catalogue.specs.Signals.{signal_is_multiplexor};
 ghost use Rattle.office_net.specs.Told.{message_facts_of};
 ghost use Rattle.office_types.specs.declared.book.SpnBook.{SpnBook};
-ghost use Rattle.office_types.specs.declared.change.Change.TheVariants.{SetMessage};
+ghost use Rattle.office_types.specs.declared.change.Change.TheVariants.{RemoveSignal};
 ghost use Rattle.office_types.specs.declared.reply.Reply.TheVariants.{Done};
 ghost use Rattle.office_types.specs.declared.state.Net.{Net};
 ghost use Rattle.office_rules.specs.Change.{Decides};
 ghost use Rattle.office_rules.specs.Facts.{message_facts};
-ghost use Rattle.office_rules.specs.Signals.{is_needed, remove_signal, with_signal_out};
+ghost use Rattle.office_rules.specs.Signals.{is_needed, remove_signal};
 
 use crate::own::own_message;
 use catalogue::{Copying, Name, Signal};
 use office_net::{MessageFacts, has_signal, one_change, refusal_decision};
-use office_types::{Change, Decision, LiveMessage, Refusal, Reply, SignalPath, Team};
+use office_types::{Change, Decision, Refusal, Reply, SignalPath, Team};
 use std::alloc::{AllocError, Global};
 
 /// Whether the signal of the name is the multiplexor.
@@ -40,29 +40,13 @@ fn is_needed(signals: &[Signal], name: &Name) -> bool
     is_the_multiplexor(signals, name) && some_multiplexed(signals)
 }
 
-/// The message without the signal of the name. The error is out of memory.
-fn with_signal_out(
-    alloc: Global,
-    live: &LiveMessage,
-    name: &Name,
-) -> Result<LiveMessage, AllocError>
-    ensures { IfOk result (λ m. m ≡ with_signal_out live.now name.now) }
-{
-    let mut without = live.duplicate(alloc)?;
-    let _removed = without.message.signals.remove(name);
-    Ok(without)
-}
-
-fn signal_removed(
-    alloc: Global,
-    live: &LiveMessage,
-    path: &SignalPath,
-) -> Result<Decision, AllocError>
-    ensures changes { IfOk result (λ d. d.changes ≡ SetMessage (with_signal_out live.now path.now.signal) ∷ []) }
+/// The decision that removes the signal. The error is out of memory.
+fn signal_removed(alloc: Global, path: &SignalPath) -> Result<Decision, AllocError>
+    ensures changes { IfOk result (λ d. d.changes ≡ RemoveSignal path.now ∷ []) }
     ensures reply { IfOk result (λ d. d.reply ≡ Done) }
 {
-    let without = with_signal_out(alloc, live, &path.signal)?;
-    one_change(alloc, Change::SetMessage(without), Reply::Done)
+    let removed = Change::RemoveSignal(path.duplicate(alloc)?);
+    one_change(alloc, removed, Reply::Done)
 }
 
 /// Decides the team's `remove_signal` on a network that has these facts for the path's message. The error is out of
@@ -86,7 +70,7 @@ pub fn decide_remove_signal(
             } else if is_needed(signals, &path.signal) {
                 Ok(refusal_decision(alloc, Refusal::NoMultiplexor))
             } else {
-                signal_removed(alloc, live, path)
+                signal_removed(alloc, path)
             }
         }
     }

@@ -32,31 +32,12 @@ use Rattle.sqlite.specs.State.{State, Executes, ExecutesInside}
 use Rattle.sqlite_catalog.specs.Listing.{IsSound}
 use Rattle.sqlite.proofs.Callers.{IsPlain, command_of, runs_as}
 use Rattle.office_tables.specs.Schema.{office_schema}
-use Rattle.office_tables.specs.Tables.{Tables, tables_of, values, keyed_values, IsOffice}
-use Rattle.office_tables.specs.Statements.{Makes}
+use Rattle.office_tables.specs.Tables.{Tables, tables_of, named, row_by, values, keyed_values, IsOffice}
+use Rattle.office_tables.specs.Statements.{Makes, rows_in}
 use Rattle.office_tables.proofs.Numbering.{put_next}
-use Rattle.office_tables.proofs.Columns.{row_by}
 use Rattle.office_tables.proofs.Inserting.{RefersToNone, inserts, uncounted}
 use Rattle.office_tables.proofs.Deleting.{deletes, leaves_others}
 use Rattle.office_tables.proofs.Selecting.{query, answers, wanted, filter_map_is}
-
--- the rows of each table, in the order of the tables
-abbrev pub rows_in : List Table → Trees → List (List Row)
-rows_in tables db = map (λ t. map (row_by t.key) (db t.tree)) tables
-
--- the same by the names of the tables
-abbrev pub named : List (List Row) → Tables
-named rows = record {
-  profile = get_or rows 0 [];
-  net = get_or rows 1 [];
-  message = get_or rows 2 [];
-  block = get_or rows 3 [];
-  held = get_or rows 4 [];
-  spn = get_or rows 5 [];
-  approval = get_or rows 6 [];
-  frozen = get_or rows 7 [];
-  reply = get_or rows 8 [];
-}
 
 -- the table at this place has this tree, and no other has it
 abbrev pub is_only : List Table → ℕ → ℕ → Bool

@@ -1,5 +1,5 @@
 -- Columns of a row without its rowid, and values that a column takes as they are.
-use Rattle.std.proofs.Common.{◌≡◌, ℕ, suc, pos, List, [], ◌∷◌, cond, Bool, true, false, Option, None, Some, refl, sym, ap, ◌∙◌}
+use Rattle.std.proofs.Common.{◌≡◌, ℕ, ℤ, suc, pos, List, [], ◌∷◌, cond, Bool, true, false, Option, None, Some, refl, sym, ap, ◌∙◌}
 use Rattle.std.specs.Ordering.{is_eq}
 use Rattle.sqlite.specs.declared.types.Value.{Value}
 use Rattle.sqlite.specs.declared.types.Value.TheVariants.{Null, Int, Text}
@@ -13,11 +13,6 @@ use Rattle.sqlite.specs.Collation.TheVariants.{Binary}
 use Rattle.office_tables.specs.Tables.{values, keyed_values}
 use Rattle.office_tables.specs.Selected.{has_text, has_number}
 use Rattle.office_tables.proofs.Selecting.{holds_text, holds_int}
-
--- how a table with such a key shows the rows of its tree
-abbrev pub row_by : Option ℕ → Row → Row
-row_by None = values
-row_by (Some at) = keyed_values
 
 -- the columns come after the rowid
 pub column_is : (r : Row) (at : ℕ) → column (values r) at ≡ column r (suc at)
@@ -41,6 +36,10 @@ cast_null = either _ Null
 pub cast_number : (n : ℕ) → cast Integer (Int (pos n)) ≡ Int (pos n)
 unfolding unary
 cast_number n = either _ (Int (pos n))
+
+pub cast_int : (n : ℤ) → cast Integer (Int n) ≡ Int n
+unfolding unary
+cast_int n = either _ (Int n)
 
 -- what WHERE asks of a column is what the definition asks
 pub text_asked : (at : ℕ) (text : List ℕ) (r : Row) → has_text at text (values r) ≡ is_true (binary (Compare Eq Binary) (column r (suc at)) (Text text))

@@ -8,11 +8,11 @@ use Rattle.office_tables.specs.Tables.{values, keyed_values}
 
 -- the tables in their order, and the trees that they get; those between are indexes of their keys
 names : map (λ (t : Table). t.name) office_schema.tables
-    ≡ codes "profile" ∷ codes "net" ∷ codes "message" ∷ codes "block" ∷ codes "held" ∷ codes "spn" ∷ codes "approval" ∷ codes "frozen" ∷ codes "reply" ∷ []
+    ≡ codes "profile" ∷ codes "net" ∷ codes "message" ∷ codes "block" ∷ codes "held" ∷ codes "spn" ∷ codes "approval" ∷ codes "frozen" ∷ codes "reply" ∷ codes "msg" ∷ codes "sig" ∷ codes "receiver" ∷ codes "sigvalue" ∷ codes "part" ∷ []
 unfolding office_schema
 names = refl
 
-trees : map (λ (t : Table). t.tree) office_schema.tables ≡ 0 ∷ 1 ∷ 3 ∷ 6 ∷ 8 ∷ 10 ∷ 11 ∷ 13 ∷ 15 ∷ []
+trees : map (λ (t : Table). t.tree) office_schema.tables ≡ 0 ∷ 1 ∷ 3 ∷ 6 ∷ 8 ∷ 10 ∷ 11 ∷ 13 ∷ 15 ∷ 17 ∷ 20 ∷ 23 ∷ 25 ∷ 27 ∷ []
 unfolding office_schema
 trees = refl
 

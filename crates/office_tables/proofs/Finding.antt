@@ -14,7 +14,7 @@ use Rattle.sqlite.specs.Command.TheVariants.{Select}
 use Rattle.sqlite.specs.Listing.{understood, reads_listing}
 use Rattle.sqlite.specs.State.{State, Shown}
 use Rattle.sqlite.proofs.Callers.{IsPlain, command_of, reads_as}
-use Rattle.office_tables.specs.Schema.{office_schema}
+use Rattle.sqlite.specs.Schema.{Schema}
 use Rattle.office_tables.specs.Selected.{IsSelected}
 use Rattle.office_tables.proofs.Changing.{plain_trees}
 use Rattle.office_tables.proofs.Selecting.{query, answers, wanted, shown, keys, IsFound, selects}
@@ -23,11 +23,11 @@ use Rattle.office_tables.proofs.Selecting.{query, answers, wanted, shown, keys, 
 abbrev pub ascending : Key
 ascending = record { collation = Binary; descending = false }
 
--- what the text of a SELECT means under the office's schema
-pub record Asks (sql : List ℕ) (t : ℕ) (tests project : List Term) (order : List (Term × Key)) (names : List (List ℕ)) (params : Row) : Type 0 where
-  pub command : command_of (understood office_schema sql) ≡ Select (record { lets = []; body = query t tests project order params }) names
-  pub listing : reads_listing office_schema sql ≡ false
-  pub plain : IsPlain (understood office_schema sql)
+-- what the text of a SELECT means under a schema
+pub record Asks (schema : Schema) (sql : List ℕ) (t : ℕ) (tests project : List Term) (order : List (Term × Key)) (names : List (List ℕ)) (params : Row) : Type 0 where
+  pub command : command_of (understood schema sql) ≡ Select (record { lets = []; body = query t tests project order params }) names
+  pub listing : reads_listing schema sql ≡ false
+  pub plain : IsPlain (understood schema sql)
 
 -- and what that is of the rows as they are shown
 pub record Means (values : Row → Row) (t : ℕ) (tests project : List Term) (order : List (Term × Key)) (params : Row) (test : Row → Bool) (show : Row → Row) (by : Row → Row → Ordering) : Type 0 where
@@ -35,16 +35,16 @@ pub record Means (values : Row → Row) (t : ℕ) (tests project : List Term) (o
   pub shows_same : (r : Row) → show (values r) ≡ shown t tests project order params r
   pub orders_same : (x y : Row) → key_cmp 0 (map (λ k. k.1) order) (keys t tests project order params x) (keys t tests project order params y) ≡ by (values x) (values y)
 
-module _ (sql : List ℕ) (t : ℕ) (tests project : List Term) (order : List (Term × Key)) (names : List (List ℕ)) (params : Row) (asks : Asks sql t tests project order names params)
+module _ (schema : Schema) (sql : List ℕ) (t : ℕ) (tests project : List Term) (order : List (Term × Key)) (names : List (List ℕ)) (params : Row) (asks : Asks schema sql t tests project order names params)
     (values : Row → Row) (test : Row → Bool) (show : Row → Row) (by : Row → Row → Ordering) (means : Means values t tests project order params test show by) where
-  finds_these : (old new : State) (rows : List Row) → old.now.schema ≡ office_schema → Shown sql params old new rows → IsSelected test show by (map values (old.now.trees t)) rows
-  finds_these old new rows schema h =
-      let read = reads_as sql params old new office_schema schema _ asks.command asks.plain asks.listing rows h in
+  finds_these : (old new : State) (rows : List Row) → old.now.schema ≡ schema → Shown sql params old new rows → IsSelected test show by (map values (old.now.trees t)) rows
+  finds_these old new rows has h =
+      let read = reads_as sql params old new schema has _ asks.command asks.plain asks.listing rows h in
       let f = answers t tests project order params (overlay old.now.trees []) rows (read.answer Null) in
       selects values t tests project order params test show by means.tests_same means.shows_same means.orders_same (old.now.trees t) rows
       (subst (λ table. IsFound t tests project order params table rows) (plain_trees old.now.trees t) f)
 
-  pub finds : {X : Type 0} (rows_of : X → List Row) (old new : State) (r : Result X Error) → old.now.schema ≡ office_schema
+  pub finds : {X : Type 0} (rows_of : X → List Row) (old new : State) (r : Result X Error) → old.now.schema ≡ schema
       → IfOk r (λ x. Shown sql params old new (rows_of x)) → IfOk r (λ x. IsSelected test show by (map values (old.now.trees t)) (rows_of x))
-  finds rows_of old new (Err e) schema h = tt
-  finds rows_of old new (Ok x) schema h = finds_these old new (rows_of x) schema h
+  finds rows_of old new (Err e) has h = tt
+  finds rows_of old new (Ok x) has h = finds_these old new (rows_of x) has h

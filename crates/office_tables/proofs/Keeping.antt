@@ -1,14 +1,14 @@
 -- What a query leaves of a connection, and what follows for the last commit.
-use Rattle.std.proofs.Common.{◌≡◌, ◌⊎◌, inl, inr, ℕ, List, Option, None, Some, Result, Ok, Err, sym, subst}
-use Rattle.std.specs.Prelude.{IfErr, OnOk, IfOk}
+use Rattle.std.proofs.Common.{◌≡◌, ◌⊎◌, inl, inr, ℕ, List, false, Option, None, Some, Result, Ok, Err, refl, sym, subst}
+use Rattle.std.specs.Prelude.{IfErr, IsTrue, OnOk, IfOk}
+use Rattle.std.proofs.lemmas.Bool.{cases_Bool}
 use Rattle.sqlite.specs.declared.error.Error.{Error}
 use Rattle.sqlite.specs.Order.{Row}
 use Rattle.sqlite.specs.Clock.{timed}
 use Rattle.sqlite.specs.Listing.{understood}
-use Rattle.sqlite.specs.State.{State, IsUnchanged, IsRolledBack, KeepsCommit, Fails, IsNotRun, FailsToQuery, FailsToShow, RunsCommand, Shown, ShowsRows, IsTooLate, Survives, CommitsShowing}
+use Rattle.sqlite.specs.State.{State, IsUnchanged, IsRolledBack, KeepsCommit, Fails, IsNotRun, ExecutesInside, FailsToQuery, FailsToShow, RunsCommand, Shown, ShowsRows, IsTooLate, Survives, CommitsShowing}
 use Rattle.sqlite.specs.Schema.{Schema}
 use Rattle.sqlite.proofs.Callers.{IsPlain, never_commits}
-use Rattle.office_tables.specs.Schema.{office_schema}
 use Rattle.sqlite_resolve.specs.declared.compiled.Compiled.{Compiled}
 use Rattle.sqlite_schema.specs.declared.command.Returning.{Returning}
 
@@ -59,7 +59,7 @@ pub query_inside_same : {X : Type 0} (rows_of : X → List Row) (sql : List ℕ)
 query_inside_same rows_of sql params old new (Ok rows) plain h = shows_unchanged sql params old new (rows_of rows) plain h
 query_inside_same rows_of sql params old new (Err e) plain h = tt
 
-pub plain_in : (sql : List ℕ) → IsPlain (understood office_schema sql) → (s : Schema) → s ≡ office_schema → IsPlain (understood s sql)
+pub plain_in : {schema : Schema} (sql : List ℕ) → IsPlain (understood schema sql) → (s : Schema) → s ≡ schema → IsPlain (understood s sql)
 plain_in sql plain s has = subst (λ s. IsPlain (understood s sql)) (sym has) plain
 
 -- a query outside a transaction keeps the last commit, also where it fails
@@ -77,3 +77,18 @@ query_survives sql params old new plain s = record {
   closes = s.closes;
   crash = λ clean db left. elim (s.crash clean db left) [ inl was ↦ inl was | inr made ↦ inr (never_commits sql params old db plain made) ];
 }
+
+inside_keeps : (sql : List ℕ) (params : Row) (old new : State) (r : Result ℕ Error) → ExecutesInside 0 sql params old new r → KeepsCommit old new
+inside_keeps sql params old new (Ok count) h = record { was_open = λ _. h.1.was_open; committed = λ _. h.1.committed_is }
+inside_keeps sql params old new (Err e) (inl (ran, inl same)) = unchanged_keeps old new same
+inside_keeps sql params old new (Err e) (inl (ran, inr back)) = rolled_keeps old new back
+inside_keeps sql params old new (Err e) (inr ends) = unchanged_keeps old new ends.2
+
+-- what a statement inside a transaction leaves of the last commit, whatever its text: `search` reads a long text letter by
+-- letter, and gives up
+pub execute_keeps : (sql : List ℕ) (params : Row) (old new : State) (r : Result ℕ Error) → (old.in_transaction ≡ false → new ≡ old)
+    → (IsTrue old.in_transaction → ExecutesInside 0 sql params old new r) → KeepsCommit old new
+execute_keeps sql params old new r ended ran = elim (cases_Bool old.in_transaction) [
+  | inl mode ↦ inside_keeps sql params old new r (ran mode)
+  | inr none ↦ subst (KeepsCommit old) (sym (ended none)) (record { was_open = λ o. o; committed = λ _. refl })
+]

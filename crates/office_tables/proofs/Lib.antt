@@ -10,3 +10,5 @@ pub mod Places
 pub mod OneSchema
 pub mod Making
 mod Examples
+pub mod Counting
+pub mod Growing

@@ -19,9 +19,11 @@ use Rattle.sqlite.specs.State.{State, Runs, Executes, ExecutesInside}
 use Rattle.sqlite_tied.specs.Compute.{everything}
 use Rattle.sqlite_catalog.specs.Listing.{IsSound}
 use Rattle.sqlite.proofs.Callers.{IsPlain, command_of, statement_of, runs_as}
-use Rattle.office_tables.specs.Schema.{no_schema, schema_1, schema_2, schema_3, schema_4, schema_5, schema_6, schema_7, schema_8, office_schema, profile, net, message, block, held, spn, approval, frozen, reply}
-use Rattle.office_tables.specs.Tables.{IsEmptyWith}
-use Rattle.office_tables.specs.Statements.{AreMade, IsEmptyOffice}
+use Rattle.office_tables.specs.Schema.{no_schema, schema_1, schema_2, schema_3, schema_4, schema_5, schema_6, schema_7, schema_8, schema_9, schema_10, schema_11, schema_12, schema_13, office_schema, profile, net, message, block, held, spn, approval, frozen, reply, msg, sig, receiver, sigvalue, part}
+use Rattle.sqlite_trees.specs.View.{IsShaped}
+use Rattle.sqlite_trees.specs.declared.store.Shape.TheVariants as shape
+use Rattle.office_tables.specs.Tables.{AreNumbered, IsEmptyWith}
+use Rattle.office_tables.specs.Statements.{AreMade, IsAdded, IsAt, IsEmptyOffice}
 use Rattle.office_tables.proofs.Inserting.{went, same_value}
 
 all_then : {X : Type 0} (P : X → Type 0) (xs : List X) (x : X) → AllByRecursion P xs → P x → AllByRecursion P (xs ++ x ∷ [])
@@ -77,13 +79,54 @@ counts schema sql table it old new (Ok count) has none ended ran =
     let mode : IsTrue old.in_transaction = elim (cases_Bool old.in_transaction) [ inl t ↦ t | inr f ↦ absurd (let e = ended f in cc) ] in
     (made schema sql table it old new count has none (ran mode).0).2
 
+-- ---- a table that is made beside others, whose rows stay
+
+-- inside a transaction, a table was added to those of the schema: it has no row, and the others have those that they had
+added : (schema : Schema) (sql : List ℕ) (table : Table) → Defines schema sql table → (old new : State) (count : ℕ) → old.now.schema ≡ schema → Executes sql [] old new (Ok count)
+    → IsAdded schema table old.now.trees new.now
+added schema sql table it old new count has h =
+    let w = subst (λ t. Runs old new None CreateTable t [] count) it.whole (runs_as sql [] old new schema has CreateTable it.command it.plain count h) in
+    let all = went w.changed in
+    let first = went all.1 in
+    let made = first.1 in
+    let both : Ok made.table ≡ Ok table = sym made.defined ∙ it.defined in
+    let same : made.table ≡ table = cc in
+    let after : first.0.schema ≡ created schema table = made.is ∙ ap (λ s. created s made.table) has ∙ ap (created schema) same in
+    let plain : lacks_sequence first.0.schema ≡ false = ap lacks_sequence after ∙ it.counts in
+    let now : new.now ≡ first.0 = ap (λ (p : Tally × Database). p.1) (same_value all.2) ∙ same_value (rw plain at first.2) in
+    let kept : KeepsRows schema.tables old.now.trees first.0.trees = subst (λ (s : Schema). KeepsRows s.tables old.now.trees first.0.trees) has made.others in
+    let fresh : first.0.trees (next_tree schema) ≡ [] = subst (λ s. first.0.trees (next_tree s) ≡ []) has made.empty in
+    let is : IsAt schema table old.now.trees first.0 = record { schema_is = after; others = kept; empty = fresh } in
+    let here : IsAt schema table old.now.trees new.now = subst (IsAt schema table old.now.trees) (sym now) is in
+    record { at = here; sound = subst (λ s. IsSound s new.now.trees) here.schema_is w.sound }
+
+pub adds : (schema : Schema) (sql : List ℕ) (table : Table) → Defines schema sql table → (old new : State) (r : Result ℕ Error) → old.now.schema ≡ schema
+    → (old.in_transaction ≡ false → r ≡ Err (SqliteFailure TransactionState)) → (IsTrue old.in_transaction → ExecutesInside 0 sql [] old new r)
+    → OnOk r (IsAdded schema table old.now.trees new.now × IsTrue new.in_transaction)
+adds schema sql table it old new (Err e) has ended ran = tt
+adds schema sql table it old new (Ok count) has ended ran =
+    let mode : IsTrue old.in_transaction = elim (cases_Bool old.in_transaction) [ inl t ↦ t | inr f ↦ absurd (let e = ended f in cc) ] in
+    let all = ran mode in
+    (added schema sql table it old new count has all.0, all.1.mode)
+
+-- the rowids of all tables ascend still
+numbered_still : (old new : Trees) (tables : List Table) → AllByRecursion (λ (t : Table). new t.tree ≡ old t.tree) tables → AllByRecursion (λ (t : Table). IsShaped shape.Table (old t.tree)) tables
+    → AllByRecursion (λ (t : Table). IsShaped shape.Table (new t.tree)) tables
+numbered_still old new [] same numbered = tt
+numbered_still old new (t ∷ tables) same numbered = (subst (IsShaped shape.Table) (sym same.0) numbered.0, numbered_still old new tables same.1 numbered.1)
+
+pub numbered_with : (schema : Schema) (table : Table) (old : Trees) (new : Database) → IsAdded schema table old new → AreNumbered schema old → AreNumbered (created schema table) new.trees
+numbered_with schema table old new h numbered =
+    all_then (λ (t : Table). IsShaped shape.Table (new.trees t.tree)) schema.tables _ (numbered_still old new.trees schema.tables h.at.others numbered)
+    (subst (IsShaped shape.Table) (sym h.at.empty) (tt, tt))
+
 empty_rows : (old : State) → AreMade office_schema old → IsEmptyOffice old
 unfolding office_schema
 empty_rows old made =
     let h = made.empty.empty in
     record {
-      office = record { schema = made.empty.schema_is; trees = record { sound = made.sound; numbered = (rw h.0 (tt, tt), (rw h.1.0 (tt, tt), (rw h.1.1.0 (tt, tt), (rw h.1.1.1.0 (tt, tt), (rw h.1.1.1.1.0 (tt, tt), (rw h.1.1.1.1.1.0 (tt, tt), (rw h.1.1.1.1.1.1.0 (tt, tt), (rw h.1.1.1.1.1.1.1.0 (tt, tt), (rw h.1.1.1.1.1.1.1.1.0 (tt, tt), tt))))))))) } };
-      tables_are = rw (h.0, h.1.0, h.1.1.0, h.1.1.1.0, h.1.1.1.1.0, h.1.1.1.1.1.0, h.1.1.1.1.1.1.0, h.1.1.1.1.1.1.1.0, h.1.1.1.1.1.1.1.1.0) refl;
+      office = record { schema = made.empty.schema_is; trees = record { sound = made.sound; numbered = (rw h.0 (tt, tt), (rw h.1.0 (tt, tt), (rw h.1.1.0 (tt, tt), (rw h.1.1.1.0 (tt, tt), (rw h.1.1.1.1.0 (tt, tt), (rw h.1.1.1.1.1.0 (tt, tt), (rw h.1.1.1.1.1.1.0 (tt, tt), (rw h.1.1.1.1.1.1.1.0 (tt, tt), (rw h.1.1.1.1.1.1.1.1.0 (tt, tt), (rw h.1.1.1.1.1.1.1.1.1.0 (tt, tt), (rw h.1.1.1.1.1.1.1.1.1.1.0 (tt, tt), (rw h.1.1.1.1.1.1.1.1.1.1.1.0 (tt, tt), (rw h.1.1.1.1.1.1.1.1.1.1.1.1.0 (tt, tt), (rw h.1.1.1.1.1.1.1.1.1.1.1.1.1.0 (tt, tt), tt)))))))))))))) } };
+      tables_are = rw (h.0, h.1.0, h.1.1.0, h.1.1.1.0, h.1.1.1.1.0, h.1.1.1.1.1.0, h.1.1.1.1.1.1.0, h.1.1.1.1.1.1.1.0, h.1.1.1.1.1.1.1.1.0, h.1.1.1.1.1.1.1.1.1.0, h.1.1.1.1.1.1.1.1.1.1.0, h.1.1.1.1.1.1.1.1.1.1.1.0, h.1.1.1.1.1.1.1.1.1.1.1.1.0, h.1.1.1.1.1.1.1.1.1.1.1.1.1.0) refl;
       inside = made.inside;
     }
 
@@ -196,6 +239,66 @@ unfolding understood everything schema_8
 reply_defined = record { command = refl; whole = refl; plain = (refl, refl); defined = refl; counts = refl }
 
 pub makes_reply : (old new : State) (r : Result ℕ Error) → old.now.schema ≡ schema_8 → AllByRecursion (λ (t : Table). old.now.trees t.tree ≡ []) schema_8.tables
-    → (old.in_transaction ≡ false → r ≡ Err (SqliteFailure TransactionState)) → (IsTrue old.in_transaction → ExecutesInside 0 reply_text [] old new r) → OnOk r (AreMade office_schema new)
-unfolding office_schema
+    → (old.in_transaction ≡ false → r ≡ Err (SqliteFailure TransactionState)) → (IsTrue old.in_transaction → ExecutesInside 0 reply_text [] old new r) → OnOk r (AreMade schema_9 new)
+unfolding schema_9
 makes_reply = makes schema_8 reply_text reply reply_defined
+
+abbrev pub msg_text : List ℕ
+msg_text = codes "CREATE TABLE msg (net TEXT, number INTEGER, name TEXT, owner TEXT, length INTEGER, sender TEXT, comment BLOB, PRIMARY KEY (net, number), UNIQUE (net, name)) STRICT"
+
+pub msg_defined : Defines schema_9 msg_text msg
+unfolding understood everything schema_9
+msg_defined = record { command = refl; whole = refl; plain = (refl, refl); defined = refl; counts = refl }
+
+pub makes_msg : (old new : State) (r : Result ℕ Error) → old.now.schema ≡ schema_9 → AllByRecursion (λ (t : Table). old.now.trees t.tree ≡ []) schema_9.tables
+    → (old.in_transaction ≡ false → r ≡ Err (SqliteFailure TransactionState)) → (IsTrue old.in_transaction → ExecutesInside 0 msg_text [] old new r) → OnOk r (AreMade schema_10 new)
+unfolding schema_10
+makes_msg = makes schema_9 msg_text msg msg_defined
+
+abbrev pub sig_text : List ℕ
+sig_text = codes "CREATE TABLE sig (net TEXT, number INTEGER, place INTEGER, name TEXT, start INTEGER, size INTEGER, motorola INTEGER, signed INTEGER, mux INTEGER, factor TEXT, shift TEXT, least TEXT, most TEXT, unit BLOB, comment BLOB, spn INTEGER, label INTEGER, PRIMARY KEY (net, number, place), UNIQUE (net, number, name)) STRICT"
+
+pub sig_defined : Defines schema_10 sig_text sig
+unfolding understood everything schema_10
+sig_defined = record { command = refl; whole = refl; plain = (refl, refl); defined = refl; counts = refl }
+
+pub makes_sig : (old new : State) (r : Result ℕ Error) → old.now.schema ≡ schema_10 → AllByRecursion (λ (t : Table). old.now.trees t.tree ≡ []) schema_10.tables
+    → (old.in_transaction ≡ false → r ≡ Err (SqliteFailure TransactionState)) → (IsTrue old.in_transaction → ExecutesInside 0 sig_text [] old new r) → OnOk r (AreMade schema_11 new)
+unfolding schema_11
+makes_sig = makes schema_10 sig_text sig sig_defined
+
+abbrev pub receiver_text : List ℕ
+receiver_text = codes "CREATE TABLE receiver (net TEXT, number INTEGER, place INTEGER, seat INTEGER, name TEXT, PRIMARY KEY (net, number, place, seat)) STRICT"
+
+pub receiver_defined : Defines schema_11 receiver_text receiver
+unfolding understood everything schema_11
+receiver_defined = record { command = refl; whole = refl; plain = (refl, refl); defined = refl; counts = refl }
+
+pub makes_receiver : (old new : State) (r : Result ℕ Error) → old.now.schema ≡ schema_11 → AllByRecursion (λ (t : Table). old.now.trees t.tree ≡ []) schema_11.tables
+    → (old.in_transaction ≡ false → r ≡ Err (SqliteFailure TransactionState)) → (IsTrue old.in_transaction → ExecutesInside 0 receiver_text [] old new r) → OnOk r (AreMade schema_12 new)
+unfolding schema_12
+makes_receiver = makes schema_11 receiver_text receiver receiver_defined
+
+abbrev pub sigvalue_text : List ℕ
+sigvalue_text = codes "CREATE TABLE sigvalue (net TEXT, number INTEGER, place INTEGER, seat INTEGER, value TEXT, words BLOB, PRIMARY KEY (net, number, place, seat)) STRICT"
+
+pub sigvalue_defined : Defines schema_12 sigvalue_text sigvalue
+unfolding understood everything schema_12
+sigvalue_defined = record { command = refl; whole = refl; plain = (refl, refl); defined = refl; counts = refl }
+
+pub makes_sigvalue : (old new : State) (r : Result ℕ Error) → old.now.schema ≡ schema_12 → AllByRecursion (λ (t : Table). old.now.trees t.tree ≡ []) schema_12.tables
+    → (old.in_transaction ≡ false → r ≡ Err (SqliteFailure TransactionState)) → (IsTrue old.in_transaction → ExecutesInside 0 sigvalue_text [] old new r) → OnOk r (AreMade schema_13 new)
+unfolding schema_13
+makes_sigvalue = makes schema_12 sigvalue_text sigvalue sigvalue_defined
+
+abbrev pub part_text : List ℕ
+part_text = codes "CREATE TABLE part (team TEXT, key TEXT, place INTEGER, kind INTEGER, a INTEGER, b INTEGER, PRIMARY KEY (team, key, place)) STRICT"
+
+pub part_defined : Defines schema_13 part_text part
+unfolding understood everything schema_13
+part_defined = record { command = refl; whole = refl; plain = (refl, refl); defined = refl; counts = refl }
+
+pub makes_part : (old new : State) (r : Result ℕ Error) → old.now.schema ≡ schema_13 → AllByRecursion (λ (t : Table). old.now.trees t.tree ≡ []) schema_13.tables
+    → (old.in_transaction ≡ false → r ≡ Err (SqliteFailure TransactionState)) → (IsTrue old.in_transaction → ExecutesInside 0 part_text [] old new r) → OnOk r (AreMade office_schema new)
+unfolding office_schema
+makes_part = makes schema_13 part_text part part_defined

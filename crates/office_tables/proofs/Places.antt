@@ -103,3 +103,58 @@ reply_placed = refl
 pub reply_only : is_only office_schema.tables 8 15 ≡ true
 unfolding office_schema
 reply_only = refl
+
+abbrev pub msg : Table
+msg = record tables.msg { tree = 17 }
+
+pub msg_placed : slice_get office_schema.tables 9 ≡ Some msg
+unfolding office_schema
+msg_placed = refl
+
+pub msg_only : is_only office_schema.tables 9 17 ≡ true
+unfolding office_schema
+msg_only = refl
+
+abbrev pub sig : Table
+sig = record tables.sig { tree = 20 }
+
+pub sig_placed : slice_get office_schema.tables 10 ≡ Some sig
+unfolding office_schema
+sig_placed = refl
+
+pub sig_only : is_only office_schema.tables 10 20 ≡ true
+unfolding office_schema
+sig_only = refl
+
+abbrev pub receiver : Table
+receiver = record tables.receiver { tree = 23 }
+
+pub receiver_placed : slice_get office_schema.tables 11 ≡ Some receiver
+unfolding office_schema
+receiver_placed = refl
+
+pub receiver_only : is_only office_schema.tables 11 23 ≡ true
+unfolding office_schema
+receiver_only = refl
+
+abbrev pub sigvalue : Table
+sigvalue = record tables.sigvalue { tree = 25 }
+
+pub sigvalue_placed : slice_get office_schema.tables 12 ≡ Some sigvalue
+unfolding office_schema
+sigvalue_placed = refl
+
+pub sigvalue_only : is_only office_schema.tables 12 25 ≡ true
+unfolding office_schema
+sigvalue_only = refl
+
+abbrev pub part : Table
+part = record tables.part { tree = 27 }
+
+pub part_placed : slice_get office_schema.tables 13 ≡ Some part
+unfolding office_schema
+part_placed = refl
+
+pub part_only : is_only office_schema.tables 13 27 ≡ true
+unfolding office_schema
+part_only = refl

@@ -1,6 +1,6 @@
 -- The tables of the office, in the order in which they are made. A new table is made last: the number of each tree hangs
 -- on this order.
-use Rattle.std.specs.Prelude.{false, true, [], ◌∷◌, None, Some, codes, List, ℕ}
+use Rattle.std.specs.Prelude.{◌≡◌, ◌⊎◌, false, true, [], ◌∷◌, None, Some, codes, List, ℕ}
 use Rattle.sqlite.specs.declared.types.Value.TheVariants.{Null}
 use Rattle.sqlite.specs.Collation.TheVariants.{Binary}
 use Rattle.sqlite.specs.Table.{Table}
@@ -105,6 +105,36 @@ reply = keyed_table (codes "reply")
     (keyed (text (codes "team")) ∷ keyed (text (codes "key")) ∷ blob (codes "content") ∷ integer (codes "kind") ∷ integer (codes "a") ∷ integer (codes "b") ∷ integer (codes "c") ∷ [])
     (1 ∷ 2 ∷ [])
 
+-- a live message of a network, without its signals
+abbrev pub msg : Table
+msg = strict_table (codes "msg")
+    (keyed (text (codes "net")) ∷ keyed (integer (codes "number")) ∷ text (codes "name") ∷ text (codes "owner") ∷ integer (codes "length") ∷ text (codes "sender") ∷ blob (codes "comment") ∷ [])
+    (1 ∷ 2 ∷ []) ((1 ∷ 2 ∷ []) ∷ (1 ∷ 3 ∷ []) ∷ []) (ascending ∷ ascending ∷ [])
+
+-- a signal of a live message, without its receivers and value texts
+abbrev pub sig : Table
+sig = strict_table (codes "sig")
+    (keyed (text (codes "net")) ∷ keyed (integer (codes "number")) ∷ keyed (integer (codes "place")) ∷ text (codes "name") ∷ integer (codes "start") ∷ integer (codes "size") ∷ integer (codes "motorola") ∷ integer (codes "signed") ∷ integer (codes "mux") ∷ text (codes "factor") ∷ text (codes "shift") ∷ text (codes "least") ∷ text (codes "most") ∷ blob (codes "unit") ∷ blob (codes "comment") ∷ integer (codes "spn") ∷ integer (codes "label") ∷ [])
+    (1 ∷ 2 ∷ 3 ∷ []) ((1 ∷ 2 ∷ 3 ∷ []) ∷ (1 ∷ 2 ∷ 4 ∷ []) ∷ []) (ascending ∷ ascending ∷ [])
+
+-- a receiver of a signal
+abbrev pub receiver : Table
+receiver = keyed_table (codes "receiver")
+    (keyed (text (codes "net")) ∷ keyed (integer (codes "number")) ∷ keyed (integer (codes "place")) ∷ keyed (integer (codes "seat")) ∷ text (codes "name") ∷ [])
+    (1 ∷ 2 ∷ 3 ∷ 4 ∷ [])
+
+-- the text of a value of a signal
+abbrev pub sigvalue : Table
+sigvalue = keyed_table (codes "sigvalue")
+    (keyed (text (codes "net")) ∷ keyed (integer (codes "number")) ∷ keyed (integer (codes "place")) ∷ keyed (integer (codes "seat")) ∷ text (codes "value") ∷ blob (codes "words") ∷ [])
+    (1 ∷ 2 ∷ 3 ∷ 4 ∷ [])
+
+-- the reply to a part of a bundle of commands
+abbrev pub part : Table
+part = keyed_table (codes "part")
+    (keyed (text (codes "team")) ∷ keyed (text (codes "key")) ∷ keyed (integer (codes "place")) ∷ integer (codes "kind") ∷ integer (codes "a") ∷ integer (codes "b") ∷ [])
+    (1 ∷ 2 ∷ 3 ∷ [])
+
 -- ---- the schema, table by table
 
 abbrev pub no_schema : Schema
@@ -141,7 +171,33 @@ unfoldable pub schema_8 : Schema
 unfolding schema_7
 schema_8 = created schema_7 frozen
 
+-- the tables of profile 1 as they were before messages had rows of their own
+unfoldable pub schema_9 : Schema
+unfolding schema_8
+schema_9 = created schema_8 reply
+
+unfoldable pub schema_10 : Schema
+unfolding schema_9
+schema_10 = created schema_9 msg
+
+unfoldable pub schema_11 : Schema
+unfolding schema_10
+schema_11 = created schema_10 sig
+
+unfoldable pub schema_12 : Schema
+unfolding schema_11
+schema_12 = created schema_11 receiver
+
+unfoldable pub schema_13 : Schema
+unfolding schema_12
+schema_13 = created schema_12 sigvalue
+
 -- all tables
 unfoldable pub office_schema : Schema
-unfolding schema_8
-office_schema = created schema_8 reply
+unfolding schema_13
+office_schema = created schema_13 part
+
+-- the tables that an office of some time has: those before messages had rows of their own, those before there were bundles,
+-- or all
+abbrev pub IsOfficeSchema : Schema → Type 0
+IsOfficeSchema schema = (schema ≡ schema_9) ⊎ (schema ≡ schema_13) ⊎ (schema ≡ office_schema)

@@ -1,5 +1,5 @@
 -- The rows of the tables, as the values of their columns.
-use Rattle.std.specs.Prelude.{◌≡◌, List, [], ◌∷◌, map, drop}
+use Rattle.std.specs.Prelude.{◌≡◌, ℕ, List, [], ◌∷◌, map, drop, slice_index_or, Option, Some, None}
 use Rattle.std.specs.List.{AllByRecursion}
 use Rattle.sqlite.specs.Order.{Row, column}
 use Rattle.sqlite.specs.Tree.{Trees}
@@ -18,6 +18,11 @@ values row = drop 1 row
 abbrev pub keyed_values : Row → Row
 keyed_values row = column row 0 ∷ drop 2 row
 
+-- how a table with such a key shows the rows of its tree
+abbrev pub row_by : Option ℕ → Row → Row
+row_by None = values
+row_by (Some at) = keyed_values
+
 -- each table's rows, in the order of their rowids
 pub record Tables : Type 0 where
   pub profile : List Row
@@ -29,6 +34,11 @@ pub record Tables : Type 0 where
   pub approval : List Row
   pub frozen : List Row
   pub reply : List Row
+  pub msg : List Row
+  pub sig : List Row
+  pub receiver : List Row
+  pub sigvalue : List Row
+  pub part : List Row
 
 -- the tables that some trees keep; the trees between them are indexes
 abbrev pub tables_of : Trees → Tables
@@ -42,10 +52,34 @@ tables_of db = record {
   approval = map values (db 11);
   frozen = map values (db 13);
   reply = map values (db 15);
+  msg = map values (db 17);
+  sig = map values (db 20);
+  receiver = map values (db 23);
+  sigvalue = map values (db 25);
+  part = map values (db 27);
+}
+
+-- lists of rows by the names of the tables, in their order
+abbrev pub named : List (List Row) → Tables
+named rows = record {
+  profile = slice_index_or rows 0 [];
+  net = slice_index_or rows 1 [];
+  message = slice_index_or rows 2 [];
+  block = slice_index_or rows 3 [];
+  held = slice_index_or rows 4 [];
+  spn = slice_index_or rows 5 [];
+  approval = slice_index_or rows 6 [];
+  frozen = slice_index_or rows 7 [];
+  reply = slice_index_or rows 8 [];
+  msg = slice_index_or rows 9 [];
+  sig = slice_index_or rows 10 [];
+  receiver = slice_index_or rows 11 [];
+  sigvalue = slice_index_or rows 12 [];
+  part = slice_index_or rows 13 [];
 }
 
 abbrev pub no_rows : Tables
-no_rows = record { profile = []; net = []; message = []; block = []; held = []; spn = []; approval = []; frozen = []; reply = [] }
+no_rows = record { profile = []; net = []; message = []; block = []; held = []; spn = []; approval = []; frozen = []; reply = []; msg = []; sig = []; receiver = []; sigvalue = []; part = [] }
 
 -- the rowids of each of the tables are integers and ascend
 abbrev pub AreNumbered : Schema → Trees → Type 0

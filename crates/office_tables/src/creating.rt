@@ -3,8 +3,8 @@
 //! Each answers the error of `sqlite` if there is one (memory ran out, the disk failed, the table is there). Then nothing
 //! is committed, and the transaction is to be dropped, which rolls it back.
 ghost use Rattle.std.specs.Prelude.{◌≡◌, IfOk, OnOk};
-ghost use Rattle.office_tables.specs.Schema.{no_schema, schema_1, schema_2, schema_3, schema_4, schema_5, schema_6, schema_7, schema_8, office_schema};
-ghost use Rattle.office_tables.specs.Statements.{AreMade, IsEmptyOffice};
+ghost use Rattle.office_tables.specs.Schema.{no_schema, schema_1, schema_2, schema_3, schema_4, schema_5, schema_6, schema_7, schema_8, schema_9, schema_10, schema_11, schema_12, schema_13, office_schema};
+ghost use Rattle.office_tables.specs.Statements.{AreMade, Grows, IsEmptyOffice, IsOfficeWith};
 ghost use Rattle.sqlite.specs.Held.{state};
 ghost use Rattle.sqlite.specs.State.{HasCleanDisk, Survives, KeepsCommit};
 
@@ -122,13 +122,88 @@ pub fn create_frozen<S: Alter>(tx: &mut Transaction<'_, S>) -> Result<usize, Err
 /// Makes `reply` where the tables up to `frozen` were just made. Gives 0: no row was written.
 pub fn create_reply<S: Alter>(tx: &mut Transaction<'_, S>) -> Result<usize, Error>
     ensures same_reference { tx.new.conn.ghost_name ≡ tx.old.conn.ghost_name }
-    ensures made { HasCleanDisk (state S.Store tx.new.conn.now) → AreMade schema_8 (state S.Store tx.old.conn.now) → OnOk result (AreMade office_schema (state S.Store tx.new.conn.now)) }
+    ensures made { HasCleanDisk (state S.Store tx.new.conn.now) → AreMade schema_8 (state S.Store tx.old.conn.now) → OnOk result (AreMade schema_9 (state S.Store tx.new.conn.now)) }
     ensures rows { HasCleanDisk (state S.Store tx.new.conn.now) → AreMade schema_8 (state S.Store tx.old.conn.now) → IfOk result (λ rows. rows ≡ 0) }
     ensures kept { HasCleanDisk (state S.Store tx.new.conn.now) → KeepsCommit (state S.Store tx.old.conn.now) (state S.Store tx.new.conn.now) }
     ensures survives { Survives (state S.Store tx.old.conn.now) (state S.Store tx.new.conn.now) (λ _. ⊥) }
 {
     tx.execute(
         "CREATE TABLE reply (team TEXT, key TEXT, content BLOB, kind INTEGER, a INTEGER, b INTEGER, c INTEGER, PRIMARY KEY (team, key)) STRICT",
+        &[],
+    )
+}
+
+/// Makes `msg` where the tables up to `reply` were just made. Gives 0: no row was written.
+pub fn create_msg<S: Alter>(tx: &mut Transaction<'_, S>) -> Result<usize, Error>
+    ensures same_reference { tx.new.conn.ghost_name ≡ tx.old.conn.ghost_name }
+    ensures made { HasCleanDisk (state S.Store tx.new.conn.now) → AreMade schema_9 (state S.Store tx.old.conn.now) → OnOk result (AreMade schema_10 (state S.Store tx.new.conn.now)) }
+    ensures grown { HasCleanDisk (state S.Store tx.new.conn.now) → IsOfficeWith schema_9 (state S.Store tx.old.conn.now).now → OnOk result (Grows schema_9 schema_10 (state S.Store tx.old.conn.now) (state S.Store tx.new.conn.now)) }
+    ensures rows { HasCleanDisk (state S.Store tx.new.conn.now) → AreMade schema_9 (state S.Store tx.old.conn.now) → IfOk result (λ rows. rows ≡ 0) }
+    ensures kept { HasCleanDisk (state S.Store tx.new.conn.now) → KeepsCommit (state S.Store tx.old.conn.now) (state S.Store tx.new.conn.now) }
+    ensures survives { Survives (state S.Store tx.old.conn.now) (state S.Store tx.new.conn.now) (λ _. ⊥) }
+{
+    tx.execute(
+        "CREATE TABLE msg (net TEXT, number INTEGER, name TEXT, owner TEXT, length INTEGER, sender TEXT, comment BLOB, PRIMARY KEY (net, number), UNIQUE (net, name)) STRICT",
+        &[],
+    )
+}
+
+/// Makes `sig` where the tables up to `msg` were just made. Gives 0: no row was written.
+pub fn create_sig<S: Alter>(tx: &mut Transaction<'_, S>) -> Result<usize, Error>
+    ensures same_reference { tx.new.conn.ghost_name ≡ tx.old.conn.ghost_name }
+    ensures made { HasCleanDisk (state S.Store tx.new.conn.now) → AreMade schema_10 (state S.Store tx.old.conn.now) → OnOk result (AreMade schema_11 (state S.Store tx.new.conn.now)) }
+    ensures grown { HasCleanDisk (state S.Store tx.new.conn.now) → IsOfficeWith schema_10 (state S.Store tx.old.conn.now).now → OnOk result (Grows schema_10 schema_11 (state S.Store tx.old.conn.now) (state S.Store tx.new.conn.now)) }
+    ensures rows { HasCleanDisk (state S.Store tx.new.conn.now) → AreMade schema_10 (state S.Store tx.old.conn.now) → IfOk result (λ rows. rows ≡ 0) }
+    ensures kept { HasCleanDisk (state S.Store tx.new.conn.now) → KeepsCommit (state S.Store tx.old.conn.now) (state S.Store tx.new.conn.now) }
+    ensures survives { Survives (state S.Store tx.old.conn.now) (state S.Store tx.new.conn.now) (λ _. ⊥) }
+{
+    tx.execute(
+        "CREATE TABLE sig (net TEXT, number INTEGER, place INTEGER, name TEXT, start INTEGER, size INTEGER, motorola INTEGER, signed INTEGER, mux INTEGER, factor TEXT, shift TEXT, least TEXT, most TEXT, unit BLOB, comment BLOB, spn INTEGER, label INTEGER, PRIMARY KEY (net, number, place), UNIQUE (net, number, name)) STRICT",
+        &[],
+    )
+}
+
+/// Makes `receiver` where the tables up to `sig` were just made. Gives 0: no row was written.
+pub fn create_receiver<S: Alter>(tx: &mut Transaction<'_, S>) -> Result<usize, Error>
+    ensures same_reference { tx.new.conn.ghost_name ≡ tx.old.conn.ghost_name }
+    ensures made { HasCleanDisk (state S.Store tx.new.conn.now) → AreMade schema_11 (state S.Store tx.old.conn.now) → OnOk result (AreMade schema_12 (state S.Store tx.new.conn.now)) }
+    ensures grown { HasCleanDisk (state S.Store tx.new.conn.now) → IsOfficeWith schema_11 (state S.Store tx.old.conn.now).now → OnOk result (Grows schema_11 schema_12 (state S.Store tx.old.conn.now) (state S.Store tx.new.conn.now)) }
+    ensures rows { HasCleanDisk (state S.Store tx.new.conn.now) → AreMade schema_11 (state S.Store tx.old.conn.now) → IfOk result (λ rows. rows ≡ 0) }
+    ensures kept { HasCleanDisk (state S.Store tx.new.conn.now) → KeepsCommit (state S.Store tx.old.conn.now) (state S.Store tx.new.conn.now) }
+    ensures survives { Survives (state S.Store tx.old.conn.now) (state S.Store tx.new.conn.now) (λ _. ⊥) }
+{
+    tx.execute(
+        "CREATE TABLE receiver (net TEXT, number INTEGER, place INTEGER, seat INTEGER, name TEXT, PRIMARY KEY (net, number, place, seat)) STRICT",
+        &[],
+    )
+}
+
+/// Makes `sigvalue` where the tables up to `receiver` were just made. Gives 0: no row was written.
+pub fn create_sigvalue<S: Alter>(tx: &mut Transaction<'_, S>) -> Result<usize, Error>
+    ensures same_reference { tx.new.conn.ghost_name ≡ tx.old.conn.ghost_name }
+    ensures made { HasCleanDisk (state S.Store tx.new.conn.now) → AreMade schema_12 (state S.Store tx.old.conn.now) → OnOk result (AreMade schema_13 (state S.Store tx.new.conn.now)) }
+    ensures grown { HasCleanDisk (state S.Store tx.new.conn.now) → IsOfficeWith schema_12 (state S.Store tx.old.conn.now).now → OnOk result (Grows schema_12 schema_13 (state S.Store tx.old.conn.now) (state S.Store tx.new.conn.now)) }
+    ensures rows { HasCleanDisk (state S.Store tx.new.conn.now) → AreMade schema_12 (state S.Store tx.old.conn.now) → IfOk result (λ rows. rows ≡ 0) }
+    ensures kept { HasCleanDisk (state S.Store tx.new.conn.now) → KeepsCommit (state S.Store tx.old.conn.now) (state S.Store tx.new.conn.now) }
+    ensures survives { Survives (state S.Store tx.old.conn.now) (state S.Store tx.new.conn.now) (λ _. ⊥) }
+{
+    tx.execute(
+        "CREATE TABLE sigvalue (net TEXT, number INTEGER, place INTEGER, seat INTEGER, value TEXT, words BLOB, PRIMARY KEY (net, number, place, seat)) STRICT",
+        &[],
+    )
+}
+
+/// Makes `part` where the tables up to `sigvalue` were just made. Gives 0: no row was written.
+pub fn create_part<S: Alter>(tx: &mut Transaction<'_, S>) -> Result<usize, Error>
+    ensures same_reference { tx.new.conn.ghost_name ≡ tx.old.conn.ghost_name }
+    ensures made { HasCleanDisk (state S.Store tx.new.conn.now) → AreMade schema_13 (state S.Store tx.old.conn.now) → OnOk result (AreMade office_schema (state S.Store tx.new.conn.now)) }
+    ensures grown { HasCleanDisk (state S.Store tx.new.conn.now) → IsOfficeWith schema_13 (state S.Store tx.old.conn.now).now → OnOk result (Grows schema_13 office_schema (state S.Store tx.old.conn.now) (state S.Store tx.new.conn.now)) }
+    ensures rows { HasCleanDisk (state S.Store tx.new.conn.now) → AreMade schema_13 (state S.Store tx.old.conn.now) → IfOk result (λ rows. rows ≡ 0) }
+    ensures kept { HasCleanDisk (state S.Store tx.new.conn.now) → KeepsCommit (state S.Store tx.old.conn.now) (state S.Store tx.new.conn.now) }
+    ensures survives { Survives (state S.Store tx.old.conn.now) (state S.Store tx.new.conn.now) (λ _. ⊥) }
+{
+    tx.execute(
+        "CREATE TABLE part (team TEXT, key TEXT, place INTEGER, kind INTEGER, a INTEGER, b INTEGER, PRIMARY KEY (team, key, place)) STRICT",
         &[],
     )
 }
@@ -162,7 +237,7 @@ fn make_second<S: Alter>(tx: &mut Transaction<'_, S>) -> Result<(), Error>
 /// Makes `approval`, `frozen`, `reply`.
 fn make_third<S: Alter>(tx: &mut Transaction<'_, S>) -> Result<(), Error>
     ensures same_reference { tx.new.conn.ghost_name ≡ tx.old.conn.ghost_name }
-    ensures made { HasCleanDisk (state S.Store tx.new.conn.now) → AreMade schema_6 (state S.Store tx.old.conn.now) → OnOk result (AreMade office_schema (state S.Store tx.new.conn.now)) }
+    ensures made { HasCleanDisk (state S.Store tx.new.conn.now) → AreMade schema_6 (state S.Store tx.old.conn.now) → OnOk result (AreMade schema_9 (state S.Store tx.new.conn.now)) }
     ensures kept { HasCleanDisk (state S.Store tx.new.conn.now) → KeepsCommit (state S.Store tx.old.conn.now) (state S.Store tx.new.conn.now) }
     ensures survives { Survives (state S.Store tx.old.conn.now) (state S.Store tx.new.conn.now) (λ _. ⊥) }
 {
@@ -170,6 +245,45 @@ fn make_third<S: Alter>(tx: &mut Transaction<'_, S>) -> Result<(), Error>
     create_frozen(tx)?;
     create_reply(tx)?;
     Ok(())
+}
+
+/// Makes `msg`, `sig`, `receiver`.
+fn make_fourth<S: Alter>(tx: &mut Transaction<'_, S>) -> Result<(), Error>
+    ensures same_reference { tx.new.conn.ghost_name ≡ tx.old.conn.ghost_name }
+    ensures made { HasCleanDisk (state S.Store tx.new.conn.now) → AreMade schema_9 (state S.Store tx.old.conn.now) → OnOk result (AreMade schema_12 (state S.Store tx.new.conn.now)) }
+    ensures grown { HasCleanDisk (state S.Store tx.new.conn.now) → IsOfficeWith schema_9 (state S.Store tx.old.conn.now).now → OnOk result (Grows schema_9 schema_12 (state S.Store tx.old.conn.now) (state S.Store tx.new.conn.now)) }
+    ensures kept { HasCleanDisk (state S.Store tx.new.conn.now) → KeepsCommit (state S.Store tx.old.conn.now) (state S.Store tx.new.conn.now) }
+    ensures survives { Survives (state S.Store tx.old.conn.now) (state S.Store tx.new.conn.now) (λ _. ⊥) }
+{
+    create_msg(tx)?;
+    create_sig(tx)?;
+    create_receiver(tx)?;
+    Ok(())
+}
+
+/// Makes `sigvalue`, `part`.
+fn make_fifth<S: Alter>(tx: &mut Transaction<'_, S>) -> Result<(), Error>
+    ensures same_reference { tx.new.conn.ghost_name ≡ tx.old.conn.ghost_name }
+    ensures made { HasCleanDisk (state S.Store tx.new.conn.now) → AreMade schema_12 (state S.Store tx.old.conn.now) → OnOk result (AreMade office_schema (state S.Store tx.new.conn.now)) }
+    ensures grown { HasCleanDisk (state S.Store tx.new.conn.now) → IsOfficeWith schema_12 (state S.Store tx.old.conn.now).now → OnOk result (Grows schema_12 office_schema (state S.Store tx.old.conn.now) (state S.Store tx.new.conn.now)) }
+    ensures kept { HasCleanDisk (state S.Store tx.new.conn.now) → KeepsCommit (state S.Store tx.old.conn.now) (state S.Store tx.new.conn.now) }
+    ensures survives { Survives (state S.Store tx.old.conn.now) (state S.Store tx.new.conn.now) (λ _. ⊥) }
+{
+    create_sigvalue(tx)?;
+    create_part(tx)?;
+    Ok(())
+}
+
+/// Makes the tables of live messages and of bundles, after the others.
+pub fn make_last<S: Alter>(tx: &mut Transaction<'_, S>) -> Result<(), Error>
+    ensures same_reference { tx.new.conn.ghost_name ≡ tx.old.conn.ghost_name }
+    ensures made { HasCleanDisk (state S.Store tx.new.conn.now) → AreMade schema_9 (state S.Store tx.old.conn.now) → OnOk result (AreMade office_schema (state S.Store tx.new.conn.now)) }
+    ensures grown { HasCleanDisk (state S.Store tx.new.conn.now) → IsOfficeWith schema_9 (state S.Store tx.old.conn.now).now → OnOk result (Grows schema_9 office_schema (state S.Store tx.old.conn.now) (state S.Store tx.new.conn.now)) }
+    ensures kept { HasCleanDisk (state S.Store tx.new.conn.now) → KeepsCommit (state S.Store tx.old.conn.now) (state S.Store tx.new.conn.now) }
+    ensures survives { Survives (state S.Store tx.old.conn.now) (state S.Store tx.new.conn.now) (λ _. ⊥) }
+{
+    make_fourth(tx)?;
+    make_fifth(tx)
 }
 
 /// Makes the tables, each after those before it.
@@ -181,7 +295,8 @@ fn make_each<S: Alter>(tx: &mut Transaction<'_, S>) -> Result<(), Error>
 {
     make_first(tx)?;
     make_second(tx)?;
-    make_third(tx)
+    make_third(tx)?;
+    make_last(tx)
 }
 
 /// Makes all tables where there is none: they are the office's, with no row.

@@ -1,9 +1,10 @@
 //! The tables of the office: their schema, the rows that they keep, and making them.
 //!
 //! [`make_tables`] makes all tables on an empty store, in one fixed order: `profile`, `net`, `message`, `block`, `held`,
-//! `spn`, `approval`, `frozen`, `reply`. A table that comes later is made last. docs/DESIGN.md says what each row means.
+//! `spn`, `approval`, `frozen`, `reply`, `msg`, `sig`, `receiver`, `sigvalue`, `part`. A table that comes later is made last. docs/DESIGN.md says what each row means.
 //!
-//! [`is_new`] tells whether there is a table yet, and [`knows_schema`] that trees of the office are read with its schema.
+//! [`is_new`] tells whether there is a table yet, and [`knows_schema`] that trees of the office are read with its schema;
+//! [`knows_tables`] says so of every schema, as those of earlier times (`IsOfficeSchema`).
 //!
 //! The statements that read and write rows are in the crate `office_rows`. What a statement of each form makes of the
 //! tables is proved here once, for any table: `proofs/Changing.antt` has INSERT and DELETE, `proofs/Selecting.antt` SELECT.
@@ -16,7 +17,8 @@ mod creating;
 mod opening;
 
 pub use creating::{
-    create_approval, create_block, create_frozen, create_held, create_message, create_net,
-    create_profile, create_reply, create_spn, make_tables,
+    create_approval, create_block, create_frozen, create_held, create_message, create_msg,
+    create_net, create_part, create_profile, create_receiver, create_reply, create_sig,
+    create_sigvalue, create_spn, make_last, make_tables,
 };
-pub use opening::{is_new, knows_none, knows_schema};
+pub use opening::{is_new, knows_none, knows_schema, knows_tables};

@@ -1,6 +1,7 @@
 //! What a connection that was just opened tells of the tables.
 ghost use Rattle.std.specs.Prelude.{◌≡◌, ◌↔◌, [], IsTrue};
 ghost use Rattle.office_tables.specs.Schema.{no_schema, office_schema};
+ghost use Rattle.sqlite.specs.Schema.{Schema as Tables};
 ghost use Rattle.sqlite_catalog.specs.Listing.{IsSound};
 ghost use Rattle.sqlite_trees.specs.Objects.{catalog_tree};
 ghost use Rattle.sqlite.specs.Held.{state};
@@ -19,6 +20,14 @@ pub fn is_new<S: Alter>(conn: &Connection<S>) -> bool
 /// office's schema, since no other has the same list.
 pub fn knows_schema<S: Alter>(conn: &Connection<S>)
     ensures { IsTrue (state S.Store conn.now).is_open → IsSound office_schema (state S.Store conn.now).now.trees → (state S.Store conn.now).now.schema ≡ office_schema }
+{
+    let _schema = conn.schema();
+}
+
+/// Does nothing. Its contract is a law, the same of every schema: where the trees list its tables and keep to them, it is
+/// the connection's. So an office's tables of an earlier time are known.
+pub fn knows_tables<S: Alter>(conn: &Connection<S>)
+    ensures { IsTrue (state S.Store conn.now).is_open → (schema : Tables) → IsSound schema (state S.Store conn.now).now.trees → (state S.Store conn.now).now.schema ≡ schema }
 {
     let _schema = conn.schema();
 }

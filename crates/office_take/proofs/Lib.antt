@@ -2,3 +2,4 @@ pub mod Full
 pub mod Least
 mod Rows
 pub mod Shown
+pub mod Inside

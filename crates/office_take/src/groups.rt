@@ -7,14 +7,15 @@ ghost use Rattle.office_types.specs.Free.{has_form};
 ghost use Rattle.office_types.specs.declared.book.SpnBook.{SpnBook};
 ghost use Rattle.office_types.specs.declared.state.Net.{Net};
 ghost use Rattle.office_rules.specs.Change.{Decides};
-ghost use Rattle.office_rules.specs.Facts.{group_facts, group_of, taken_groups};
+ghost use Rattle.office_rules.specs.Facts.{group_facts, taken_groups};
 ghost use Rattle.office_rules.specs.Numbers.{address_of, group_given, ident_with, take_pgn, take_pgn_tests};
+ghost use Rattle.office_net.specs.By.{take_pgn_by};
 ghost use Rattle.office_take.specs.Told.{number_facts_of, refused_or_full};
 
 use crate::numbers::{NumberFacts, group_facts, message_taken, name_refusal, taken_idents};
 use crate::taken::{Taken, ascending, least_of_team};
 use can_id::{Ident, J1939};
-use office_net::{has_block, is_j1939, refusal_decision};
+use office_net::{group_of, has_block, is_j1939, refusal_decision};
 use office_types::{BlockForm, Decision, Net, Pdu, Refusal, TakePgn, Team};
 use std::alloc::{AllocError, Global};
 
@@ -25,16 +26,6 @@ const EVERY_NODE: u8 = 255;
 #[derive(Drop)]
 struct TakenGroups<'a> {
     net: &'a Net,
-}
-
-/// The identifier's parameter group, if it has 29 bits.
-fn group_of(ident: Ident) -> Option<u32>
-    ensures { result ≡ group_of ident }
-{
-    match J1939::of(ident) {
-        None => None,
-        Some(fields) => Some(fields.pgn()),
-    }
 }
 
 /// The parameter groups of the live and the held identifiers.
@@ -106,7 +97,7 @@ pub fn decide_take_pgn_on<T: Taken>(
     taken: &T,
     command: &TakePgn,
 ) -> Result<Decision, AllocError>
-    ensures { IfOk result (λ d. (name : List ℕ) (net : Net) (book : SpnBook) → group_facts net command.now.message.name ≡ number_facts_of facts.now (T.numbers taken.now) → Decides name (record { net = Some net; book = book }) (take_pgn team.now (Some net) command.now) d) }
+    ensures { IfOk result (λ d. (name : List ℕ) (net : Net) (book : SpnBook) → Decides name (record { net = Some net; book = book }) (take_pgn_by team.now (number_facts_of facts.now (T.numbers taken.now)) net command.now) d) }
 {
     if let Some(refusal) = take_pgn_refusal(team, facts, command) {
         return Ok(refusal_decision(alloc, refusal));

@@ -7,14 +7,15 @@ ghost use Rattle.office_types.specs.Free.{has_form, number_form};
 ghost use Rattle.office_types.specs.declared.book.SpnBook.{SpnBook};
 ghost use Rattle.office_types.specs.declared.state.Net.{Net};
 ghost use Rattle.office_rules.specs.Change.{Decides};
-ghost use Rattle.office_rules.specs.Facts.{ident_facts, number_in, taken_numbers};
+ghost use Rattle.office_rules.specs.Facts.{ident_facts, taken_numbers};
 ghost use Rattle.office_rules.specs.Numbers.{number_given, take_ident, take_ident_tests, want_tests};
+ghost use Rattle.office_net.specs.By.{take_ident_by};
 ghost use Rattle.office_take.specs.Told.{number_facts_of, refused_or_full};
 
 use crate::numbers::{NumberFacts, ident_facts, message_taken, name_refusal, taken_idents};
 use crate::taken::{Taken, ascending, least_of_team};
 use can_id::{Ident, IdentForm};
-use office_net::{has_block, has_number, refusal_decision};
+use office_net::{has_block, has_number, number_in, refusal_decision};
 use office_types::{BlockForm, Decision, Form, Net, Refusal, TakeIdent, Team};
 use std::alloc::{AllocError, Global};
 
@@ -23,17 +24,6 @@ use std::alloc::{AllocError, Global};
 struct TakenIdents<'a> {
     net: &'a Net,
     form: IdentForm,
-}
-
-/// The identifier's number, if it has the form.
-fn number_in(form: IdentForm, ident: Ident) -> Option<u32>
-    ensures { result ≡ number_in form ident }
-{
-    match (form, ident) {
-        (IdentForm::Standard, Ident::Std(id)) => Some(u32::from(id.number())),
-        (IdentForm::Extended, Ident::Ext(id)) => Some(id.number()),
-        _ => None,
-    }
 }
 
 /// The numbers of the live and the held identifiers of the form.
@@ -136,7 +126,7 @@ pub fn decide_take_ident_on<T: Taken>(
     taken: &T,
     command: &TakeIdent,
 ) -> Result<Decision, AllocError>
-    ensures { IfOk result (λ d. (name : List ℕ) (net : Net) (book : SpnBook) → ident_facts net command.now.message.name command.now.form command.now.want ≡ number_facts_of facts.now (T.numbers taken.now) → Decides name (record { net = Some net; book = book }) (take_ident team.now (Some net) command.now) d) }
+    ensures { IfOk result (λ d. (name : List ℕ) (net : Net) (book : SpnBook) → Decides name (record { net = Some net; book = book }) (take_ident_by team.now (number_facts_of facts.now (T.numbers taken.now)) net command.now) d) }
 {
     if let Some(refusal) = take_ident_refusal(team, facts, command) {
         return Ok(refusal_decision(alloc, refusal));

@@ -4,13 +4,13 @@ ghost use Rattle.can_id.specs.Ident.{ident_of};
 ghost use Rattle.catalogue.specs.Refusing.{first_refusal};
 ghost use Rattle.office_types.specs.declared.change.Change.TheVariants.{SetMessage};
 ghost use Rattle.office_types.specs.declared.reply.Reply.TheVariants.{Number};
-ghost use Rattle.office_rules.specs.Facts.{group_facts, ident_facts, is_held, is_live, same_ident, taken_groups, taken_idents, taken_numbers};
+ghost use Rattle.office_rules.specs.Facts.{group_facts, ident_facts, is_held, is_live, taken_groups, taken_idents, taken_numbers};
 ghost use Rattle.office_rules.specs.Numbers.{name_tests, new_message};
 ghost use Rattle.office_take.specs.Told.{number_facts_of};
 
 use can_id::{Ident, IdentForm};
 use catalogue::{Copying, MESSAGE_LIMIT, Message, Name, Node, Signals, Text};
-use office_net::{in_review, is_named, knows_node, one_change};
+use office_net::{has_ident, ident_is, in_review, is_named, knows_node, one_change};
 use office_types::{
     Change, Decision, GrantedBlock, LiveMessage, Net, NetKind, NewMessage, Phase, Refusal, Reply,
     TakeIdent, Team,
@@ -38,17 +38,6 @@ pub struct NumberFacts<'a> {
     pub want_held: bool,
 }
 
-/// Whether the identifier has the form and the number, which may be too great for the form.
-fn ident_is(ident: Ident, form: IdentForm, number: u32) -> bool
-    ensures { result ≡ same_ident ident (ident_of form number) }
-{
-    match (form, ident) {
-        (IdentForm::Standard, Ident::Std(id)) => u32::from(id.number()) == number,
-        (IdentForm::Extended, Ident::Ext(id)) => id.number() == number,
-        _ => false,
-    }
-}
-
 /// Whether a live message has the identifier of this form and number.
 fn number_is_live(net: &Net, form: IdentForm, number: u32) -> bool
     ensures { result ≡ is_live net.now (ident_of form number) }
@@ -63,10 +52,7 @@ fn number_is_live(net: &Net, form: IdentForm, number: u32) -> bool
 fn number_is_held(net: &Net, form: IdentForm, number: u32) -> bool
     ensures { result ≡ is_held net.now (ident_of form number) }
 {
-    net.held
-        .as_slice()
-        .iter()
-        .any(|held| ident_is(*held, form, number))
+    has_ident(net.held.as_slice(), form, number)
 }
 
 /// The identifiers of the live messages, and then these held ones.

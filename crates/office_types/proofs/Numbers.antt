@@ -32,3 +32,4 @@ refusal_back (no.FileFault f) = refl
 refusal_back no.NoSpn = refl
 refusal_back no.NoRoom = refl
 refusal_back no.NotJ1939 = refl
+refusal_back (no.BundleRefused f) = refl

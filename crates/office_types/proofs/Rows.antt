@@ -7,7 +7,9 @@ use Rattle.office_types.specs.Refusal.{all_refusals}
 use Rattle.office_types.specs.Reply.{reply_text}
 use Rattle.office_types.specs.declared.block.Block.{Block}
 use Rattle.office_types.specs.declared.free.Form.TheVariants.{Std, Ext, Pdu1, Pdu2, Spn}
-use Rattle.office_types.specs.declared.reply.Reply.TheVariants.{Done, Number, Start, Counts, Release, Refused}
+use Rattle.office_types.specs.declared.refusal.Refusal.TheVariants as no
+use Rattle.office_types.specs.declared.reply.PartReply.TheVariants as part
+use Rattle.office_types.specs.declared.reply.Reply.TheVariants.{Done, Number, Start, Counts, Release, Refused, Bundle}
 
 replies : map reply_text (Done ∷ Number 256 ∷ Number 0 ∷ Start 16 ∷ Counts 3 0 ∷ Release 1 ∷ [])
     ≡ codes "done" ∷ codes "number 256" ∷ codes "number 0" ∷ codes "start 16" ∷ codes "counts 3 0" ∷ codes "release 1" ∷ []
@@ -42,9 +44,15 @@ refusals : map (λ r. reply_text (Refused r)) (all_refusals (record { fault = 30
     ∷ codes "refused 59 NoSpn"
     ∷ codes "refused 60 NoRoom"
     ∷ codes "refused 61 NotJ1939"
+    ∷ codes "refused 62 BundleRefused 30 565"
     ∷ []
 unfolding digits
 refusals = refl
+
+bundles : map reply_text (Bundle (part.Number 256 ∷ part.Start 0 ∷ []) ∷ Bundle (part.Done ∷ []) ∷ Refused (no.BundleRefused (record { fault = 50; at = 3 })) ∷ [])
+    ≡ codes "bundle number 256; start 0" ∷ codes "bundle done" ∷ codes "refused 62 BundleRefused 50 3" ∷ []
+unfolding digits
+bundles = refl
 
 names : map is_plain_name (codes "engine" ∷ codes "-" ∷ codes "a-0" ∷ codes "zzzzzzzzzzzzzzzzzzzzzzzzzzzzzzzz" ∷ codes "zzzzzzzzzzzzzzzzzzzzzzzzzzzzzzzzz" ∷ [] ∷ codes "Engine" ∷ codes "a b" ∷ [])
     ≡ true ∷ true ∷ true ∷ true ∷ false ∷ false ∷ false ∷ false ∷ []

@@ -7,6 +7,7 @@ use Rattle.catalogue.specs.Text.{IsText}
 use Rattle.decimal.specs.Number.{IsDecimal}
 use Rattle.office_types.specs.PlainName.{IsPlainName}
 use Rattle.office_types.specs.Block.{IsRange}
+use Rattle.office_types.specs.Parts.{AreParts}
 use Rattle.office_types.specs.declared.free.Form.{Form}
 use Rattle.office_types.specs.declared.free.Form.TheVariants.{Pdu1, Pdu2}
 use Rattle.office_types.specs.declared.command.Action.{Action}
@@ -20,7 +21,7 @@ use Rattle.office_types.specs.declared.command.Pdu.TheVariants.{Addressed, Broad
 use Rattle.office_types.specs.declared.command.SignalPath.{SignalPath}
 use Rattle.office_types.specs.declared.command.TakeBits.{TakeBits}
 use Rattle.office_types.specs.declared.command.Task.{Task}
-use Rattle.office_types.specs.declared.command.Task.TheVariants.{Act, Import}
+use Rattle.office_types.specs.declared.command.Task.TheVariants.{Act, Import, Bundle}
 
 -- the number of a kind of network
 abbrev pub kind_number : NetKind → ℕ
@@ -79,10 +80,11 @@ IsAction act.Approve = ⊤
 IsAction act.Reject = ⊤
 IsAction act.Release = ⊤
 
--- a file's bytes
+-- a file's bytes; the parts of a bundle
 abbrev pub IsTask : Task → Type 0
 IsTask (Act a) = IsAction a
 IsTask (Import file) = All (λ b. b < 256) file
+IsTask (Bundle parts) = AreParts parts × All IsAction parts
 
 -- every value of the type `Command` is so
 pub record IsCommand (c : Command) : Type 0 where

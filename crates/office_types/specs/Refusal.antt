@@ -32,6 +32,7 @@ refusal_number (no.FileFault f) = 58
 refusal_number no.NoSpn = 59
 refusal_number no.NoRoom = 60
 refusal_number no.NotJ1939 = 61
+refusal_number (no.BundleRefused f) = 62
 
 abbrev pub refusal_name : Refusal → List ℕ
 refusal_name no.OutsidePayload = codes "OutsidePayload"
@@ -61,10 +62,12 @@ refusal_name (no.FileFault f) = codes "FileFault"
 refusal_name no.NoSpn = codes "NoSpn"
 refusal_name no.NoRoom = codes "NoRoom"
 refusal_name no.NotJ1939 = codes "NotJ1939"
+refusal_name (no.BundleRefused f) = codes "BundleRefused"
 
--- what is wrong with the file; zeros where the refusal isn't of a file
+-- what is wrong with the file, or with the bundle; zeros where the refusal is of neither
 abbrev pub fault_of : Refusal → FileFault
 fault_of (no.FileFault f) = f
+fault_of (no.BundleRefused f) = f
 fault_of r = record { fault = 0; at = 0 }
 
 -- all refusals, by number; that of a file tells this fault
@@ -96,7 +99,8 @@ all_refusals f =
     no.FileFault f ∷
     no.NoSpn ∷
     no.NoRoom ∷
-    no.NotJ1939 ∷ []
+    no.NotJ1939 ∷
+    no.BundleRefused f ∷ []
 
 -- the refusal of a number
 abbrev pub refusal_at : ℕ → FileFault → Option Refusal

@@ -1,11 +1,13 @@
 //! What a command changes, and the decision on it.
 use crate::book::{SpnBlock, UsableSpn};
+use crate::command::SignalPath;
 use crate::release::FrozenSheet;
 use crate::reply::Reply;
 use crate::state::{GrantedBlock, Head, LiveMessage};
 use crate::team::Team;
 use can_id::Ident;
-use catalogue::Items;
+use catalogue::{Copying, Items, Name, Signal};
+use std::alloc::{AllocError, Global};
 
 /// One thing that a command sets or removes: a row that is written or removed by its key. A change that isn't of the
 /// book is made at the command's network.
@@ -17,6 +19,10 @@ pub enum Change {
     SetMessage(LiveMessage),
     /// Removes the live message of the identifier.
     RemoveMessage(Ident),
+    /// Adds the signal as the last one of the live message of the name.
+    AddSignal(Name, Signal),
+    /// Removes the signal from the live message.
+    RemoveSignal(SignalPath),
     /// Sets the block of a form and a first number.
     SetBlock(GrantedBlock),
     /// Sets the block of suspect parameter numbers of a network and a first number, in the book.
@@ -40,4 +46,26 @@ pub struct Decision {
     pub changes: Items<Change>,
     /// The answer.
     pub reply: Reply,
+}
+
+impl Copying for Change {
+    fn duplicate(&self, alloc: Global) -> Result<Self, AllocError> {
+        match self {
+            Change::SetHead(head) => Ok(Change::SetHead(head.duplicate(alloc)?)),
+            Change::SetMessage(message) => Ok(Change::SetMessage(message.duplicate(alloc)?)),
+            Change::RemoveMessage(ident) => Ok(Change::RemoveMessage(*ident)),
+            Change::AddSignal(message, signal) => Ok(Change::AddSignal(
+                message.duplicate(alloc)?,
+                signal.duplicate(alloc)?,
+            )),
+            Change::RemoveSignal(path) => Ok(Change::RemoveSignal(path.duplicate(alloc)?)),
+            Change::SetBlock(block) => Ok(Change::SetBlock(block.duplicate(alloc)?)),
+            Change::SetSpnBlock(block) => Ok(Change::SetSpnBlock(block.duplicate(alloc)?)),
+            Change::Hold(ident) => Ok(Change::Hold(*ident)),
+            Change::EnterSpn(spn) => Ok(Change::EnterSpn(*spn)),
+            Change::SetApproval(team) => Ok(Change::SetApproval(team.duplicate(alloc)?)),
+            Change::ClearApprovals => Ok(Change::ClearApprovals),
+            Change::AddRelease(sheet) => Ok(Change::AddRelease(sheet.duplicate(alloc)?)),
+        }
+    }
 }

@@ -4,12 +4,14 @@ ghost use Rattle.std.specs.Prelude.{◌≡◌};
 use crate::block::FormBlock;
 use crate::free::Form;
 use crate::net_name::NetName;
+use crate::parts::Parts;
 use crate::quantity::{Priority, ReviewCount};
 use crate::team::Team;
 use bitlayout::{Mux, Order, Size};
 use can_id::IdentForm;
-use catalogue::{Items, Name, PayloadLength, Text, ValueText};
+use catalogue::{Copying, Items, Name, PayloadLength, Text, ValueText};
 use decimal::Decimal;
+use std::alloc::{AllocError, Global};
 
 /// A command on one network.
 pub struct Command {
@@ -19,12 +21,14 @@ pub struct Command {
     pub task: Task,
 }
 
-/// What is asked of a network: an action, or to import a file, which alone is read.
+/// What a command requests of its network: an action, to import a file, which alone is read, or a bundle of actions.
 pub enum Task {
     /// Carry the action out.
     Act(Action),
     /// Add the messages of a DBC file, of which these are the bytes.
     Import(Items<u8>),
+    /// Carry the actions out in order, all of them or none.
+    Bundle(Parts<Action>),
 }
 
 /// The things that are asked of a network without a file.
@@ -226,6 +230,15 @@ impl Pdu {
     }
 }
 
+impl Copying for SignalPath {
+    fn duplicate(&self, alloc: Global) -> Result<Self, AllocError> {
+        Ok(SignalPath {
+            message: self.message.duplicate(alloc)?,
+            signal: self.signal.duplicate(alloc)?,
+        })
+    }
+}
+
 impl Drop for Command {
     fn drop(self) {
         let Command {
@@ -240,6 +253,7 @@ impl Drop for Task {
         match self {
             Task::Act(_action) => {}
             Task::Import(_file) => {}
+            Task::Bundle(_parts) => {}
         }
     }
 }

@@ -19,6 +19,7 @@ mod change;
 mod command;
 mod free;
 mod net_name;
+mod parts;
 mod plain_name;
 mod quantity;
 mod range;
@@ -40,10 +41,11 @@ pub use free::{
     Form, is_ascending, least_free, least_free_counted, least_numbers_are_least, next_of,
 };
 pub use net_name::NetName;
+pub use parts::{PART_LIMIT, Parts};
 pub use quantity::{Priority, ReviewCount};
 pub use range::command_is_in_range;
 pub use refusal::{FileFault, Refusal, refusals_are_numbered};
 pub use release::{FrozenSheet, RELEASE_LIMIT};
-pub use reply::{Reply, ReplyNumbers, replies_are_numbered};
+pub use reply::{PartNumbers, PartReply, Reply, ReplyNumbers, replies_are_numbered};
 pub use state::{GrantedBlock, Head, LiveMessage, Net, Office, Phase};
 pub use team::{Team, is_office};

@@ -122,6 +122,7 @@ impl Formed for Task {
         match self {
             Task::Act(action) => action.has_form(),
             Task::Import(file) => bytes_are_small(file.as_slice()),
+            Task::Bundle(parts) => each_has_form(parts.as_slice()),
         }
     }
 }

@@ -4,7 +4,8 @@ ghost use Rattle.office_types.specs.Refusal.{all_refusals, refusal_number, refus
 ghost use Rattle.office_types.specs.declared.refusal.Refusal.{Refusal};
 
 /// What is wrong with an imported file: the number of a fault of reading, and its byte offset; or 22, 23 or 24, and the
-/// DBC number of the first message whose signals don't fit together.
+/// DBC number of the first message whose signals don't fit together. Or with a bundle: the number of the refusal of its
+/// first refused part, and that part's place, from 1.
 #[derive(Clone, Copy, Debug, PartialEq, Eq)]
 pub struct FileFault {
     /// The fault's number.
@@ -70,6 +71,8 @@ pub enum Refusal {
     NoRoom,
     /// 61: J1939 parameter groups aren't allotted on the network.
     NotJ1939,
+    /// 62: a part of the bundle is refused.
+    BundleRefused(FileFault),
 }
 
 impl Refusal {
@@ -105,6 +108,7 @@ impl Refusal {
             Refusal::NoSpn => 59,
             Refusal::NoRoom => 60,
             Refusal::NotJ1939 => 61,
+            Refusal::BundleRefused(_) => 62,
         }
     }
 
@@ -140,15 +144,16 @@ impl Refusal {
             Refusal::NoSpn => "NoSpn",
             Refusal::NoRoom => "NoRoom",
             Refusal::NotJ1939 => "NotJ1939",
+            Refusal::BundleRefused(_) => "BundleRefused",
         }
     }
 
-    /// What is wrong with the file, and zeros where the refusal isn't of a file.
+    /// What is wrong with the file or the bundle, and zeros where the refusal is of neither.
     pub fn file_fault(self) -> FileFault
         ensures { result ≡ fault_of self }
     {
         match self {
-            Refusal::FileFault(fault) => fault,
+            Refusal::FileFault(fault) | Refusal::BundleRefused(fault) => fault,
             _ => FileFault { fault: 0, at: 0 },
         }
     }
@@ -165,7 +170,7 @@ impl Refusal {
 }
 
 /// All refusals, by number, with the fault for that of a file.
-fn all_refusals(fault: FileFault) -> [Refusal; 27]
+fn all_refusals(fault: FileFault) -> [Refusal; 28]
     ensures { result ≡ all_refusals fault }
 {
     [
@@ -196,6 +201,7 @@ fn all_refusals(fault: FileFault) -> [Refusal; 27]
         Refusal::NoSpn,
         Refusal::NoRoom,
         Refusal::NotJ1939,
+        Refusal::BundleRefused(fault),
     ]
 }
 

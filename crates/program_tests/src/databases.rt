@@ -47,8 +47,17 @@ const APPLIED: Run = Run {
     status: Status::Success,
 };
 
-const RUNS: [Run; 7] = [
+const MIGRATED: Run = Run {
+    words: &["canoffice", "migrate", "--db", "office"],
+    output: b"profile 2\n",
+    errors: b"",
+    status: Status::Success,
+};
+
+const RUNS: [Run; 9] = [
+    MIGRATED,
     APPLIED,
+    MIGRATED,
     APPLIED,
     Run {
         words: &["canoffice", "export", "--db", "office", "truck", "1"],
@@ -83,7 +92,7 @@ const RUNS: [Run; 7] = [
 ];
 
 /// Runs on a database that can't be opened.
-const LOST: [Run; 2] = [
+const LOST: [Run; 3] = [
     Run {
         words: &["canoffice", "apply", "--db", "office", "script"],
         output: b"",
@@ -92,6 +101,12 @@ const LOST: [Run; 2] = [
     },
     Run {
         words: &["canoffice", "export", "--db", "office", "truck", "1"],
+        output: b"",
+        errors: b"lost 72\n",
+        status: Status::Failed,
+    },
+    Run {
+        words: &["canoffice", "migrate", "--db", "office"],
         output: b"",
         errors: b"lost 72\n",
         status: Status::Failed,

@@ -1,20 +1,23 @@
 -- Worked examples of the definitions.
-use Rattle.std.proofs.Common.{◌≡◌, ℕ, List, [], ◌∷◌, Option, Some, None, map, codes, refl}
+use Rattle.std.proofs.Common.{◌≡◌, ℕ, List, [], ◌∷◌, Option, Some, None, map, codes, inr, refl}
 use Rattle.std.specs.Fmt.{digits}
 use Rattle.catalogue.specs.Name.{is_name}
 use Rattle.office_fields.specs.declared.field.Field.TheVariants as field
 use Rattle.office_fields.specs.declared.field.FieldKind.TheVariants as kind
 use Rattle.office_fields.specs.declared.kind.ActionKind.TheVariants as act
 use Rattle.office_fields.specs.declared.kind.CommandKind.TheVariants.{Act}
+use Rattle.office_script.specs.Files.{Files, absent}
 use Rattle.office_script.specs.Lines.{lines_of}
+use Rattle.office_script.specs.Requests.{asked_by}
 use Rattle.office_script.specs.Words.{words_of}
 use Rattle.office_script.specs.declared.keys.Dash.TheVariants as dash
-use Rattle.script_advice.specs.Cause.{wrong_at, wrong_of}
-use Rattle.script_advice.specs.Explained.{told_of}
+use Rattle.script_advice.specs.Cause.{part_wrong, wrong_at, wrong_of}
+use Rattle.script_advice.specs.Explained.{IsSaidOf, wrong_parts}
 use Rattle.script_advice.specs.Phrase.{phrase_of}
 use Rattle.script_advice.specs.Places.{offset_of, word_of}
 use Rattle.script_advice.specs.Sentence.{sentence_of}
-use Rattle.script_advice.specs.declared.cause.Cause.TheVariants.{Short, Key, Team, Command, NoField, Escape, Unknown, Doubled, WrongValue, Missing, Apart}
+use Rattle.script_advice.specs.declared.cause.Cause.TheVariants.{Short, Key, Team, Command, PartCommand, NoField, Escape, Unknown, Doubled, WrongValue, Missing, Apart}
+use Rattle.script_advice.specs.declared.cause.LineCommand.TheVariants.{Part, Whole}
 use Rattle.script_advice.specs.declared.cause.Wrong.{Wrong}
 
 -- ---- places
@@ -49,7 +52,7 @@ forms : wrongs (codes "k1 engine submit" ∷ codes "k1 engine submit net" ∷ co
 forms = refl
 
 unknown_field : wrongs (codes "k1 engine retire net=truck mesage=E1" ∷ codes "k1 engine submit Net=truck" ∷ [])
-    ≡ Some (wrong_at 4 (Unknown (Act act.Retire))) ∷ Some (wrong_at 3 (Unknown (Act act.Submit))) ∷ []
+    ≡ Some (wrong_at 4 (Unknown (Whole (Act act.Retire)))) ∷ Some (wrong_at 3 (Unknown (Whole (Act act.Submit)))) ∷ []
 unknown_field = refl
 
 -- the second one is to blame, and a receiver may be given again
@@ -74,11 +77,11 @@ apart = refl
 
 -- ---- sentences
 
-phrases : map phrase_of (kind.Length ∷ kind.Size ∷ kind.NetKind ∷ []) ≡ codes "a whole number from 0 to 64" ∷ codes "a whole number from 1 to 64" ∷ codes "can or j1939" ∷ []
+phrases : map phrase_of (kind.Length ∷ kind.Size ∷ kind.NetKind ∷ []) ≡ codes "a whole number from 0 to 1785" ∷ codes "a whole number from 1 to 64" ∷ codes "can or j1939" ∷ []
 unfolding digits
 phrases = refl
 
-missing : sentence_of (Missing field.Length) (codes "take_ident") ≡ codes "found 'take_ident', but length is missing: length is a whole number from 0 to 64"
+missing : sentence_of (Missing field.Length) (codes "take_ident") ≡ codes "found 'take_ident', but length is missing: length is a whole number from 0 to 1785"
 unfolding digits
 missing = refl
 
@@ -90,13 +93,37 @@ carriage_return : sentence_of (Doubled field.Net) (116 ∷ 114 ∷ 117 ∷ 99 �
     ≡ codes "found 'truck?', but net is given before, and may be given once only; end lines with a line feed alone, without a carriage return"
 carriage_return = refl
 
+-- ---- bundles
+
+parts : map part_wrong (codes "submit" ∷ codes "# submit" ∷ codes "retire message=E1" ∷ []) ≡ None ∷ None ∷ None ∷ []
+unfolding is_name
+parts = refl
+
+wrong_part_words : map part_wrong (codes "submit net=truck" ∷ codes "import file=a.dbc" ∷ codes "k1 engine submit" ∷ codes "retire" ∷ [])
+    ≡ Some (wrong_at 1 (Unknown (Part act.Submit))) ∷ Some (wrong_at 0 PartCommand) ∷ Some (wrong_at 0 PartCommand) ∷ Some (wrong_at 0 (Missing field.Message)) ∷ []
+wrong_part_words = refl
+
 -- ---- scripts
 
-first_wrong_line : told_of (codes "a.txt") dash.LineNumber 1 (lines_of (codes "- engine submit net=truck\n\n- engine retire mesage=E1\n- engine fly\n"))
-    ≡ codes "a.txt:3:17: bad line: found 'mesage=E1', but the fields of retire are net, message\n"
-unfolding digits
-first_wrong_line = refl
+abbrev no_files : Files
+no_files path = absent
 
-no_wrong_line : told_of (codes "a.txt") dash.LineNumber 1 (lines_of (codes "# nothing\n- engine submit net=truck")) ≡ []
+first_wrong_line : IsSaidOf no_files (codes "a.txt") dash.LineNumber 1 (lines_of (codes "- engine submit net=truck\n\n- engine retire mesage=E1\n- engine fly\n"))
+    (codes "a.txt:3:17: bad line: found 'mesage=E1', but the fields of retire are net, message\n")
+unfolding digits asked_by
+first_wrong_line = inr (tt, inr (tt, refl))
+
+no_wrong_line : IsSaidOf no_files (codes "a.txt") dash.LineNumber 1 (lines_of (codes "# nothing\n- engine submit net=truck")) []
+unfolding digits asked_by
+no_wrong_line = inr (tt, inr (tt, refl))
+
+-- of a bundle's file, and of one that has no command
+wrong_part : wrong_parts (codes "a.txt") 1 (codes "- engine bundle net=truck file=b.txt") (codes "b.txt") (codes "# a message\nretire mesage=E1\n")
+    ≡ codes "b.txt:2:8: bad line: found 'mesage=E1', but the fields of retire are message\n"
 unfolding digits
-no_wrong_line = refl
+wrong_part = refl
+
+no_part : wrong_parts (codes "a.txt") 1 (codes "- engine bundle net=truck file=b.txt") (codes "b.txt") (codes "# a message\n")
+    ≡ codes "a.txt:1:10: bad line: found 'bundle', but the file of a bundle has 1 to 64 commands\n"
+unfolding digits
+no_part = refl

@@ -1,14 +1,16 @@
 -- A line is told to be wrong exactly if it is.
-use Rattle.std.proofs.Common.{◌≡◌, ◌==◌, ℕ, ◌+◌, Bool, true, false, List, [], ◌∷◌, Option, Some, None, refl}
+use Rattle.std.proofs.Common.{◌≡◌, ◌==◌, ℕ, ◌+◌, ◌∙◌, ◌||◌, Bool, true, false, List, [], ◌∷◌, Option, Some, None, refl}
 use Rattle.std.specs.Prelude.{is_none, is_some, if◌then◌else◌}
 use Rattle.std.specs.List.{after_first, before_first, join_with_byte, list_any}
 use Rattle.std.specs.Option.{option_and_then, option_map, option_map_or}
-use Rattle.office_fields.specs.Asked.{asked_of}
+use Rattle.office_fields.specs.Asked.{asked_of, part_of}
 use Rattle.office_fields.specs.Given.{NamedValue}
-use Rattle.office_fields.specs.Kind.{kind_of_word}
+use Rattle.office_fields.specs.Kind.{action_of_word, kind_of_word}
 use Rattle.office_fields.specs.Value.{plain_name_of}
 use Rattle.office_fields.specs.declared.asked.Asked.{Asked}
+use Rattle.office_fields.specs.declared.kind.ActionKind.{ActionKind}
 use Rattle.office_fields.specs.declared.kind.CommandKind.{CommandKind}
+use Rattle.office_script.specs.Bundles.{part_by, part_of_words}
 use Rattle.office_script.specs.Escapes.{unescaped}
 use Rattle.office_script.specs.Fields.{field_of, fields_of}
 use Rattle.office_script.specs.Keys.{key_of}
@@ -17,9 +19,11 @@ use Rattle.office_script.specs.Requests.{asked_by, request_of, request_of_words,
 use Rattle.office_script.specs.Words.{words_of}
 use Rattle.office_script.specs.declared.keys.Dash.{Dash}
 use Rattle.office_script.specs.declared.requests.LineRequest.{LineRequest}
-use Rattle.script_advice.specs.Cause.{asked_wrong, command_wrong, fields_wrong, first_field, form_cause, form_wrong, words_wrong, wrong_at, wrong_of}
+use Rattle.script_advice.specs.Cause.{can_be_had, command_wrong, fields_wrong, first_field, form_cause, form_wrong, part_command_wrong, part_words_wrong, part_wrong, values_wrong, words_wrong, wrong_at, wrong_of}
 use Rattle.script_advice.specs.declared.cause.Cause.{Cause}
 use Rattle.script_advice.specs.declared.cause.Cause.TheVariants.{Escape, NoField}
+use Rattle.script_advice.specs.declared.cause.LineCommand.{LineCommand}
+use Rattle.script_advice.specs.declared.cause.LineCommand.TheVariants.{Part, Whole}
 use Rattle.script_advice.specs.declared.cause.Wrong.{Wrong}
 
 -- ---- fields by their form
@@ -52,23 +56,46 @@ form_law index (word ∷ words) =
 
 -- ---- the command
 
-asked_step : (kind : CommandKind) (values : List NamedValue) (asked : Option Asked) → is_none (asked_wrong kind values asked) ≡ is_some asked
-asked_step kind values None = refl
-asked_step kind values (Some asked) = refl
+had_step : (b : Bool) (w : Wrong) → is_none (if b then None else Some w) ≡ b
+had_step true w = refl
+had_step false w = refl
 
-fields_step : (kind : CommandKind) (words : List (List ℕ)) (fields : Option (List NamedValue)) → is_none (form_wrong first_field words) ≡ is_some fields
-    → is_none (fields_wrong kind words fields) ≡ is_some (option_and_then (λ values. asked_of kind values) fields)
-fields_step kind words None e = e
-fields_step kind words (Some values) e = asked_step kind values (asked_of kind values)
+fields_step : (c : LineCommand) (words : List (List ℕ)) (fields : Option (List NamedValue)) → is_none (form_wrong (first_field c) words) ≡ is_some fields
+    → is_none (fields_wrong c words fields) ≡ option_map_or (can_be_had c) fields false
+fields_step c words None e = e
+fields_step c words (Some values) e = had_step (can_be_had c values) (values_wrong c values)
+
+read_step : {A B : Type 0} (read : A → Option B) (fields : Option A) → option_map_or (λ values. is_some (read values)) fields false ≡ is_some (option_and_then read fields)
+read_step read None = refl
+read_step read (Some values) = refl
 
 command_step : (kind : Option CommandKind) (words : List (List ℕ))
     → is_none (command_wrong kind words) ≡ is_some (option_and_then (λ k. option_and_then (λ values. asked_of k values) (fields_of words)) kind)
 command_step None words = refl
-command_step (Some kind) words = fields_step kind words (fields_of words) (form_law first_field words)
+command_step (Some kind) words = fields_step (Whole kind) words (fields_of words) (form_law (first_field (Whole kind)) words) ∙ read_step (asked_of kind) (fields_of words)
 
 command_law : (word : List ℕ) (words : List (List ℕ)) → is_none (command_wrong (kind_of_word word) words) ≡ is_some (asked_by word words)
 unfolding asked_by
 command_law word words = command_step (kind_of_word word) words
+
+-- ---- the command of a bundle
+
+part_step : (kind : Option ActionKind) (words : List (List ℕ))
+    → is_none (part_command_wrong kind words) ≡ is_some (option_and_then (λ k. option_and_then (λ values. part_of k values) (fields_of words)) kind)
+part_step None words = refl
+part_step (Some kind) words = fields_step (Part kind) words (fields_of words) (form_law (first_field (Part kind)) words) ∙ read_step (part_of kind) (fields_of words)
+
+part_words_law : (words : List (List ℕ)) → is_none (part_words_wrong words) ≡ is_some (part_of_words words)
+unfolding part_by
+part_words_law [] = refl
+part_words_law (word ∷ words) = part_step (action_of_word word) words
+
+nothing_step : (nothing : Bool) (wrong : Option Wrong) (b : Bool) → is_none wrong ≡ b → is_none (if nothing then None else wrong) ≡ (nothing || b)
+nothing_step true wrong b e = refl
+nothing_step false wrong b e = e
+
+pub part_law : (line : List ℕ) → is_none (part_wrong line) ≡ (says_nothing line || is_some (part_of_words (words_of line)))
+part_law line = nothing_step (says_nothing line) (part_words_wrong (words_of line)) (is_some (part_of_words (words_of line))) (part_words_law (words_of line))
 
 -- ---- lines
 

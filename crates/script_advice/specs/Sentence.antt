@@ -2,7 +2,7 @@
 use Rattle.std.specs.Prelude.{ℕ, ◌==◌, Bool, List, [], ◌∷◌, ◌++◌, length, map, if◌then◌else◌, codes, decimal}
 use Rattle.std.specs.List.{list_any}
 use Rattle.dbc_advice.specs.Sentence.{quoted}
-use Rattle.office_fields.specs.Field.{fields_of, row_of}
+use Rattle.office_fields.specs.Field.{row_of}
 use Rattle.office_fields.specs.Kind.{all_kinds, word_of}
 use Rattle.office_fields.specs.declared.field.Field.{Field}
 use Rattle.office_fields.specs.declared.field.Field.TheVariants as field
@@ -11,9 +11,10 @@ use Rattle.office_script.specs.declared.keys.Dash.TheVariants as dash
 use Rattle.office_types.specs.Block.{greatest_of, least_of}
 use Rattle.office_types.specs.declared.block.BlockForm.{BlockForm}
 use Rattle.office_types.specs.declared.block.BlockForm.TheVariants as block
+use Rattle.script_advice.specs.Cause.{command_fields, command_word}
 use Rattle.script_advice.specs.Phrase.{phrase_of}
 use Rattle.script_advice.specs.declared.cause.Cause.{Cause}
-use Rattle.script_advice.specs.declared.cause.Cause.TheVariants.{Short, Key, Team, Command, NoField, Escape, Unknown, Doubled, WrongValue, Missing, Apart}
+use Rattle.script_advice.specs.declared.cause.Cause.TheVariants.{Short, Key, Team, Command, PartCommand, Count, NoField, Escape, Unknown, Doubled, WrongValue, Missing, Apart}
 
 -- `a, b, c`
 abbrev pub listed : List (List ℕ) → List ℕ
@@ -56,9 +57,11 @@ meaning_of Short = codes ", but a line is a key, a team, a command and its field
 meaning_of (Key dash) = key_meaning dash
 meaning_of Team = codes ", but a team is 1 to 32 bytes of a to z, 0 to 9 and -"
 meaning_of Command = codes ", but the commands are " ++ listed (map word_of all_kinds)
+meaning_of PartCommand = codes ", but a line of a bundle's file is a command other than import and bundle, and its fields but net"
+meaning_of Count = codes ", but the file of a bundle has 1 to 64 commands"
 meaning_of NoField = codes ", but a field is name=value"
 meaning_of Escape = codes ", but in a value % and two hexadecimal digits stand for a byte: write %25 for %"
-meaning_of (Unknown kind) = codes ", but the fields of " ++ (word_of kind ++ (codes " are " ++ field_names (fields_of kind)))
+meaning_of (Unknown c) = codes ", but the fields of " ++ (command_word c ++ (codes " are " ++ field_names (command_fields c)))
 meaning_of (Doubled f) = codes ", but " ++ (field_name f ++ codes " is given before, and may be given once only")
 meaning_of (WrongValue f) = codes ", but " ++ is_text f
 meaning_of (Missing f) = codes ", but " ++ (field_name f ++ (codes " is missing: " ++ is_text f))

@@ -1,12 +1,64 @@
-//! Why a line of a script is wrong.
+//! Why a line of a script, or of a bundle's file, is wrong.
 
-use office_fields::{CommandKind, Field};
+ghost use Rattle.std.specs.Prelude.{◌≡◌};
+
+use office_fields::{ActionKind, CommandKind, Field};
 use office_script::Dash;
+
+/// The command of a line.
+#[derive(Clone, Copy)]
+pub enum LineCommand {
+    /// That of a line of a script, after its key and its team.
+    Whole(CommandKind),
+    /// That of a line of a bundle's file, which has no key, team and network.
+    Part(ActionKind),
+}
+
+impl LineCommand {
+    ghost use Rattle.script_advice.specs.Cause.{command_fields, command_index, command_word, first_field};
+
+    /// Its word.
+    pub(crate) fn word(self) -> &'static str
+        ensures { result.now ≡ command_word self }
+    {
+        match self {
+            LineCommand::Whole(kind) => kind.word(),
+            LineCommand::Part(kind) => kind.word(),
+        }
+    }
+
+    /// Its fields.
+    pub(crate) fn fields(self) -> &'static [Field]
+        ensures { result.now ≡ command_fields self }
+    {
+        match self {
+            LineCommand::Whole(kind) => kind.fields(),
+            LineCommand::Part(kind) => kind.part_fields(),
+        }
+    }
+
+    /// The index of its word in the line, from 0.
+    pub(crate) fn index(self) -> usize
+        ensures { result ≡ command_index self }
+    {
+        match self {
+            LineCommand::Whole(_) => 2,
+            LineCommand::Part(_) => 0,
+        }
+    }
+
+    /// The index of its first field.
+    pub(crate) fn first_field(self) -> usize
+        ensures { result ≡ first_field self }
+    {
+        self.index() + 1
+    }
+}
 
 /// Why a line is wrong, of one of its words.
 #[derive(Clone, Copy)]
 pub enum Cause {
-    /// The line has fewer than three words. This is told of the first.
+    /// The line has fewer than three words. This is said of the first.
     Short,
     /// The word is no key, where `-` means this.
     Key(Dash),
@@ -14,17 +66,21 @@ pub enum Cause {
     Team,
     /// The word is no command.
     Command,
+    /// The word is no command of a bundle.
+    PartCommand,
+    /// The bundle's file has no command, or too many.
+    Count,
     /// The word has no `=`, so it is no field.
     NoField,
     /// A `%` of the value isn't followed by two hexadecimal digits.
     Escape,
     /// The command has no field of that name.
-    Unknown(CommandKind),
+    Unknown(LineCommand),
     /// The field is given before, and may be given once only.
     Doubled(Field),
     /// The value isn't one of the field's.
     WrongValue(Field),
-    /// The field must be given, and isn't. This is told of the command.
+    /// The field must be given, and isn't. This is said of the command.
     Missing(Field),
     /// The field's value does not go with those of other fields.
     Apart(Field),

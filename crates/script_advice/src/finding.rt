@@ -1,19 +1,19 @@
 //! The word of a line that is to blame.
-ghost use Rattle.std.specs.Prelude.{◌≡◌, ◌∷◌, IfOk, is_some};
-ghost use Rattle.office_fields.specs.Asked.{asked_of};
+ghost use Rattle.std.specs.Prelude.{◌≡◌, ◌∷◌, IfOk, None, Some, is_some, if◌then◌else◌};
+ghost use Rattle.office_fields.specs.Asked.{asked_of, part_of};
 ghost use Rattle.office_fields.specs.Given.{named_values};
 ghost use Rattle.office_fields.specs.Value.{plain_name_of};
 ghost use Rattle.office_script.specs.Keys.{key_of};
 ghost use Rattle.office_script.specs.Fields as script;
 ghost use Rattle.office_script.specs.Words.{words_after};
-ghost use Rattle.script_advice.specs.Cause.{asked_wrong, fields_wrong, words_wrong, wrong_of};
+ghost use Rattle.script_advice.specs.Cause.{can_be_had, fields_wrong, part_wrong, values_wrong, words_wrong, wrong_of};
 
-use crate::cause::{Cause, Wrong};
-use crate::forms::{COMMAND, form_wrong};
+use crate::cause::{Cause, LineCommand, Wrong};
+use crate::forms::form_wrong;
 use crate::places::{LineParts, line_parts};
 use crate::values::values_wrong;
-use office_fields::{CommandKind, GivenValue, Unread, asked_of, team_of};
-use office_script::{Dash, key_of, read_fields, says_nothing};
+use office_fields::{ActionKind, CommandKind, GivenValue, Unread, asked_of, part_of, team_of};
+use office_script::{Dash, first_word, key_of, read_fields, says_nothing};
 use std::alloc::{AllocError, Global};
 
 /// Whether the word is a key.
@@ -38,33 +38,77 @@ fn is_team(alloc: Global, word: &[u8]) -> Result<bool, AllocError>
     }
 }
 
-/// What is wrong with these values of the command, if the command can't be had of them.
-fn asked_wrong(
+/// Whether the command of a script can be had of the values.
+fn whole_can_be_had(
     alloc: Global,
     kind: CommandKind,
     values: &[GivenValue<'_>],
-) -> Result<Option<Wrong>, AllocError>
-    ensures { IfOk result (λ found. found ≡ asked_wrong kind (named_values values.now) (asked_of kind (named_values values.now))) }
+) -> Result<bool, AllocError>
+    ensures { IfOk result (λ can. can ≡ is_some (asked_of kind (named_values values.now))) }
 {
     match asked_of(alloc, kind, values) {
-        Ok(_asked) => Ok(None),
-        Err(Unread::Wrong) => Ok(Some(values_wrong(alloc, kind, values)?)),
+        Ok(_asked) => Ok(true),
+        Err(Unread::Wrong) => Ok(false),
         Err(Unread::Memory) => Err(AllocError),
+    }
+}
+
+/// Whether the command of a bundle can be had of the values.
+fn part_can_be_had(
+    alloc: Global,
+    kind: ActionKind,
+    values: &[GivenValue<'_>],
+) -> Result<bool, AllocError>
+    ensures { IfOk result (λ can. can ≡ is_some (part_of kind (named_values values.now))) }
+{
+    match part_of(alloc, kind, values) {
+        Ok(_part) => Ok(true),
+        Err(Unread::Wrong) => Ok(false),
+        Err(Unread::Memory) => Err(AllocError),
+    }
+}
+
+/// Whether the command can be had of the values.
+fn can_be_had(
+    alloc: Global,
+    command: LineCommand,
+    values: &[GivenValue<'_>],
+) -> Result<bool, AllocError>
+    ensures { IfOk result (λ can. can ≡ can_be_had command (named_values values.now)) }
+{
+    match command {
+        LineCommand::Whole(kind) => whole_can_be_had(alloc, kind, values),
+        LineCommand::Part(kind) => part_can_be_had(alloc, kind, values),
+    }
+}
+
+/// What is wrong with these values of the command, if the command can't be had of them.
+fn had_wrong(
+    alloc: Global,
+    command: LineCommand,
+    values: &[GivenValue<'_>],
+) -> Result<Option<Wrong>, AllocError>
+    ensures { IfOk result (λ found. found ≡ (if can_be_had command (named_values values.now) then None else Some (values_wrong command (named_values values.now)))) }
+{
+    if can_be_had(alloc, command, values)? {
+        Ok(None)
+    } else {
+        Ok(Some(values_wrong(alloc, command, values)?))
     }
 }
 
 /// What is wrong with the words of `rest` as fields of the command.
 fn fields_wrong(
     alloc: Global,
-    kind: CommandKind,
+    command: LineCommand,
     rest: Option<&[u8]>,
 ) -> Result<Option<Wrong>, AllocError>
-    ensures { IfOk result (λ found. found ≡ fields_wrong kind (words_after rest.entry) (script.fields_of (words_after rest.entry))) }
+    ensures { IfOk result (λ found. found ≡ fields_wrong command (words_after rest.entry) (script.fields_of (words_after rest.entry))) }
 {
     match read_fields(alloc, rest)? {
-        Some(values) => asked_wrong(alloc, kind, &values),
+        Some(values) => had_wrong(alloc, command, &values),
         None => match rest {
-            Some(words) => form_wrong(alloc, words),
+            Some(words) => form_wrong(alloc, command.first_field(), words),
             None => Ok(None),
         },
     }
@@ -88,9 +132,9 @@ fn parts_wrong(
         return Ok(Some(Wrong { word: 1, cause }));
     }
     match CommandKind::of_word(parts.command) {
-        Some(kind) => fields_wrong(alloc, kind, parts.rest),
+        Some(kind) => fields_wrong(alloc, LineCommand::Whole(kind), parts.rest),
         None => Ok(Some(Wrong {
-            word: COMMAND,
+            word: 2,
             cause: Cause::Command,
         })),
     }
@@ -113,6 +157,23 @@ pub(crate) fn wrong_of(
         None => Ok(Some(Wrong {
             word: 0,
             cause: Cause::Short,
+        })),
+    }
+}
+
+/// Why a line of a bundle's file is wrong, if it is.
+pub(crate) fn part_wrong(alloc: Global, line: &[u8]) -> Result<Option<Wrong>, AllocError>
+    ensures { IfOk result (λ found. found ≡ part_wrong line.now) }
+{
+    if says_nothing(line) {
+        return Ok(None);
+    }
+    let first = first_word(line);
+    match ActionKind::of_word(first.word) {
+        Some(kind) => fields_wrong(alloc, LineCommand::Part(kind), first.rest),
+        None => Ok(Some(Wrong {
+            word: 0,
+            cause: Cause::PartCommand,
         })),
     }
 }

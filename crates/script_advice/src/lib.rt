@@ -7,6 +7,7 @@
 //! wrong is the matter of `office_script`, and by the contract of [`explained`] what is told here agrees with it.
 #![tactic(auto)]
 
+mod bundles;
 mod cause;
 mod explaining;
 mod finding;
@@ -17,6 +18,6 @@ mod places;
 mod sentences;
 mod values;
 
-pub use cause::{Cause, Wrong};
+pub use cause::{Cause, LineCommand, Wrong};
 pub use explaining::explained;
 pub use phrases::{NumberRange, range_of};

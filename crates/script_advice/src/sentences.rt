@@ -3,7 +3,7 @@ ghost use Rattle.std.specs.Prelude.{◌≡◌, ◌++◌, IfOk, OnOk};
 ghost use Rattle.script_advice.specs.declared.cause.Cause.TheVariants as why;
 ghost use Rattle.script_advice.specs.Sentence.{apart_text, block_range, block_text, field_name, has_carriage_return, hint_of, is_text, key_meaning, meaning_of, sentence_of};
 
-use crate::cause::Cause;
+use crate::cause::{Cause, LineCommand};
 use crate::lists::{command_words, field_names};
 use crate::phrases::phrase_of;
 use dbc_advice::quoted;
@@ -87,13 +87,13 @@ fn commands_text(alloc: Global) -> Result<Vec<u8>, AllocError>
 }
 
 /// The fields of the command, after what was found.
-fn fields_text(alloc: Global, kind: CommandKind) -> Result<Vec<u8>, AllocError>
-    ensures { IfOk result (λ text. text.items ≡ meaning_of (why.Unknown kind)) }
+fn fields_text(alloc: Global, command: LineCommand) -> Result<Vec<u8>, AllocError>
+    ensures { IfOk result (λ text. text.items ≡ meaning_of (why.Unknown command)) }
 {
     let mut text = Vec::from_slice(alloc, b", but the fields of ")?;
-    text.extend_from_slice(kind.word().as_bytes())?;
+    text.extend_from_slice(command.word().as_bytes())?;
     text.extend_from_slice(b" are ")?;
-    text.extend_from_slice(&field_names(alloc, kind.fields())?)?;
+    text.extend_from_slice(&field_names(alloc, command.fields())?)?;
     Ok(text)
 }
 
@@ -142,12 +142,19 @@ fn meaning_of(alloc: Global, cause: Cause) -> Result<Vec<u8>, AllocError>
             b", but a team is 1 to 32 bytes of a to z, 0 to 9 and -",
         ),
         Cause::Command => commands_text(alloc),
+        Cause::PartCommand => Vec::from_slice(
+            alloc,
+            b", but a line of a bundle's file is a command other than import and bundle, and its fields but net",
+        ),
+        Cause::Count => {
+            Vec::from_slice(alloc, b", but the file of a bundle has 1 to 64 commands")
+        }
         Cause::NoField => Vec::from_slice(alloc, b", but a field is name=value"),
         Cause::Escape => Vec::from_slice(
             alloc,
             b", but in a value % and two hexadecimal digits stand for a byte: write %25 for %",
         ),
-        Cause::Unknown(kind) => fields_text(alloc, kind),
+        Cause::Unknown(command) => fields_text(alloc, command),
         Cause::Doubled(field) => doubled_text(alloc, field),
         Cause::WrongValue(field) => value_text(alloc, field),
         Cause::Missing(field) => missing_text(alloc, field),

@@ -2,10 +2,9 @@
 ghost use Rattle.std.specs.Prelude.{◌≡◌, IfOk};
 ghost use Rattle.office_fields.specs.Field.{row_of};
 ghost use Rattle.office_fields.specs.Given.{named_value, named_values};
-ghost use Rattle.script_advice.specs.Cause.{apart_wrong, field_cause, field_named, first_field, index_of, is_given, is_missing, may_repeat, missing_field, must_be_given, named_cause, tied_field, value_cause, value_wrong, values_wrong};
+ghost use Rattle.script_advice.specs.Cause.{apart_wrong, field_cause, field_named, first_field, index_of, is_given, is_missing, may_repeat, missing_field, must_be_given, named_cause, tied_field, tied_of, value_cause, value_wrong, values_wrong};
 
-use crate::cause::{Cause, Wrong};
-use crate::forms::{COMMAND, FIRST_FIELD};
+use crate::cause::{Cause, LineCommand, Wrong};
 use office_fields::{ActionKind, CommandKind, Field, GivenValue, Occurrence, is_value};
 use std::alloc::{AllocError, Global};
 
@@ -42,10 +41,11 @@ fn must_be_given(field: Field) -> bool
 }
 
 /// The field of the command that has the name.
-fn field_named(kind: CommandKind, name: &[u8]) -> Option<Field>
-    ensures { result ≡ field_named kind name.now }
+fn field_named(command: LineCommand, name: &[u8]) -> Option<Field>
+    ensures { result ≡ field_named command name.now }
 {
-    kind.fields()
+    command
+        .fields()
         .iter()
         .copied()
         .find(|field| field.name().as_bytes() == name)
@@ -73,29 +73,29 @@ fn field_cause(
 /// What is wrong with a given value of the command, after these values.
 fn value_cause(
     alloc: Global,
-    kind: CommandKind,
+    command: LineCommand,
     earlier: &[GivenValue<'_>],
     given: &GivenValue<'_>,
 ) -> Result<Option<Cause>, AllocError>
-    ensures { IfOk result (λ found. found ≡ value_cause kind (named_values earlier.now) (named_value given.now)) }
+    ensures { IfOk result (λ found. found ≡ value_cause command (named_values earlier.now) (named_value given.now)) }
 {
-    match field_named(kind, given.name) {
+    match field_named(command, given.name) {
         Some(field) => field_cause(alloc, field, earlier, &given.value),
-        None => Ok(Some(Cause::Unknown(kind))),
+        None => Ok(Some(Cause::Unknown(command))),
     }
 }
 
 /// The first of the values that is wrong by itself or after those before it.
 fn value_wrong(
     alloc: Global,
-    kind: CommandKind,
+    command: LineCommand,
     values: &[GivenValue<'_>],
 ) -> Result<Option<Wrong>, AllocError>
-    ensures { IfOk result (λ found. found ≡ value_wrong kind (named_values values.now) 0 (named_values values.now)) }
+    ensures { IfOk result (λ found. found ≡ value_wrong command (named_values values.now) 0 (named_values values.now)) }
 {
     for (index, given) in values.iter().enumerate() {
-        if let Some(cause) = value_cause(alloc, kind, &values[..index], given)? {
-            let word = index + FIRST_FIELD;
+        if let Some(cause) = value_cause(alloc, command, &values[..index], given)? {
+            let word = index + command.first_field();
             return Ok(Some(Wrong { word, cause }));
         }
     }
@@ -110,45 +110,56 @@ fn is_missing(values: &[GivenValue<'_>], field: Field) -> bool
 }
 
 /// The first field of the command that must be given and isn't.
-fn missing_field(kind: CommandKind, values: &[GivenValue<'_>]) -> Option<Field>
-    ensures { result ≡ missing_field kind (named_values values.now) }
+fn missing_field(command: LineCommand, values: &[GivenValue<'_>]) -> Option<Field>
+    ensures { result ≡ missing_field command (named_values values.now) }
 {
-    kind.fields()
+    command
+        .fields()
         .iter()
         .copied()
         .find(|field| is_missing(values, *field))
 }
 
-/// The field whose value may not go with those of others.
-fn tied_field(kind: CommandKind) -> Field
-    ensures { result ≡ tied_field kind }
+/// The field of the command whose value may not go with those of others.
+fn tied_of(kind: ActionKind) -> Field
+    ensures { result ≡ tied_of kind }
 {
     match kind {
-        CommandKind::Act(ActionKind::Grant) => Field::Last,
-        CommandKind::Act(ActionKind::TakePgn) => Field::Destination,
+        ActionKind::Grant => Field::Last,
+        ActionKind::TakePgn => Field::Destination,
         _ => Field::Net,
     }
 }
 
+/// The same of the command of a line.
+fn tied_field(command: LineCommand) -> Field
+    ensures { result ≡ tied_field command }
+{
+    match command {
+        LineCommand::Whole(CommandKind::Act(kind)) | LineCommand::Part(kind) => tied_of(kind),
+        LineCommand::Whole(_) => Field::Net,
+    }
+}
+
 /// The index of the word that gives the first value under the name, or the command's.
-fn index_of(values: &[GivenValue<'_>], name: &str) -> usize
-    ensures { result ≡ index_of name.now first_field (named_values values.now) }
+fn index_of(command: LineCommand, values: &[GivenValue<'_>], name: &str) -> usize
+    ensures { result ≡ index_of command name.now (first_field command) (named_values values.now) }
 {
     for (index, given) in values.iter().enumerate() {
         if given.name == name.as_bytes() {
-            return index + FIRST_FIELD;
+            return index + command.first_field();
         }
     }
-    COMMAND
+    command.index()
 }
 
 /// That the command can't be had of values each of which is right.
-fn apart_wrong(kind: CommandKind, values: &[GivenValue<'_>]) -> Wrong
-    ensures { result ≡ apart_wrong kind (named_values values.now) }
+fn apart_wrong(command: LineCommand, values: &[GivenValue<'_>]) -> Wrong
+    ensures { result ≡ apart_wrong command (named_values values.now) }
 {
-    let field = tied_field(kind);
+    let field = tied_field(command);
     Wrong {
-        word: index_of(values, field.name()),
+        word: index_of(command, values, field.name()),
         cause: Cause::Apart(field),
     }
 }
@@ -156,19 +167,19 @@ fn apart_wrong(kind: CommandKind, values: &[GivenValue<'_>]) -> Wrong
 /// What is wrong with values of which the command can't be had.
 pub(crate) fn values_wrong(
     alloc: Global,
-    kind: CommandKind,
+    command: LineCommand,
     values: &[GivenValue<'_>],
 ) -> Result<Wrong, AllocError>
-    ensures { IfOk result (λ wrong. wrong ≡ values_wrong kind (named_values values.now)) }
+    ensures { IfOk result (λ wrong. wrong ≡ values_wrong command (named_values values.now)) }
 {
-    if let Some(wrong) = value_wrong(alloc, kind, values)? {
+    if let Some(wrong) = value_wrong(alloc, command, values)? {
         return Ok(wrong);
     }
-    match missing_field(kind, values) {
+    match missing_field(command, values) {
         Some(field) => Ok(Wrong {
-            word: COMMAND,
+            word: command.index(),
             cause: Cause::Missing(field),
         }),
-        None => Ok(apart_wrong(kind, values)),
+        None => Ok(apart_wrong(command, values)),
     }
 }

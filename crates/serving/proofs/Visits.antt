@@ -73,10 +73,10 @@ pub not_both : (b : Bool) → IsTrue b → IsFalse b → ⊥
 not_both b holds fails = cc
 
 pub legal_of : (h : List Answered) (s : State) → Holding h s → IsLegalHistory h
-legal_of h s holding = (holding.keeps.holds.office, holding.keeps.holds.legal)
+legal_of h s holding = (holding.keeps.holds.holds.office, holding.keeps.holds.holds.legal)
 
 pub ranged_of : (h : List Answered) (s : State) → Holding h s → All IsInRange h
-ranged_of h s holding = holding.keeps.holds.in_range
+ranged_of h s holding = holding.keeps.holds.holds.in_range
 
 -- the law of an open connection: a crash leaves what it shows
 abbrev pub LeavesNow : State → Type 0

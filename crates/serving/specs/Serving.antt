@@ -66,7 +66,7 @@ abbrev pub IsReply : List Answered → Option (List ℕ) → List ℕ → List A
 IsReply h sent text h2 =
     (asked : Asked) × IsAsked sent asked × (IsResponse h asked text h2 ⊎ ((h2 ≡ h) × (text ≡ problem_response TryAgain)))
 
--- the history is as before, or goes on with the arrival that is asked
+-- the history is as before, or goes on with the arrival that was requested
 abbrev pub MayGoOn : List Answered → Option (List ℕ) → List Answered → Type 0
 MayGoOn h sent h2 =
     (h2 ≡ h) ⊎ ((a : Asking) × (answer : Answer) × IsAsked sent (arrives a) × (h2 ≡ h ++ answered_as a answer ∷ []))
@@ -121,7 +121,7 @@ pub record Ran (h : List Answered) (visits : List Visit) (failed : Bool) (s : St
 
 -- ---- an office that has failed
 
--- from a connection to an office that has failed, which ended so: what comes to that office is told to try again
+-- from a connection to an office that has failed, which ended so: a request to that office gets the answer to try again
 abbrev pub DeclinesBy : Option DeskFault → Option (List ℕ) → Option (List ℕ) → Type 0
 DeclinesBy None sent written = (asked : Asked) × IsAsked sent asked × Wrote written (failed_response asked)
 DeclinesBy (Some Read) sent written = Wrote written []

@@ -5,11 +5,13 @@ use Rattle.std.specs.Str.{bytes_eq}
 use Rattle.std.proofs.lemmas.Bool.{cases_Bool}
 use Rattle.std.proofs.lemmas.List.Elements.{All-push}
 use Rattle.std.proofs.lemmas.Slice.Eq.{bytes_eq-Decides}
+use Rattle.office_types.specs.Reply.{reply_parts}
 use Rattle.office_types.specs.declared.change.Change.{Change}
 use Rattle.office_types.specs.declared.change.Decision.{Decision}
 use Rattle.office_types.specs.declared.state.Office.{Office}
 use Rattle.office_rules.specs.Change.{HaveOwnBlocks, IsDecision, IsHeadFirst, NetAndBook, all_applied, left_after}
 use Rattle.office_rules.specs.Outcome.{Changing, Outcome, Refusing}
+use Rattle.office_rules.specs.Profile.{Profile, Two}
 use Rattle.office_rules.specs.Step.{Step, net_named, office_after, step_outcome}
 use Rattle.office_law.specs.Histories.{net_after}
 use Rattle.office_law.proofs.NetsApart.{nets_apart}
@@ -18,10 +20,11 @@ use Rattle.office_history.specs.declared.arrival.Answer.TheVariants as answer
 use Rattle.office_history.specs.History.{Answered, IsAnsweredAs, first_of}
 use Rattle.office_history.specs.Laws.{HistoriesLeaveOffices, IsInRange}
 use Rattle.office_history.proofs.Histories.{histories_grow}
-use Rattle.store_net.specs.Kept.{AreKept, kept_row}
-use Rattle.store_net.proofs.Kept.{again_kept, first_kept}
+use Rattle.store_net.specs.Kept.{AreKept, AreKeptParts, kept_row, part_rows}
+use Rattle.store_net.proofs.Kept.{again_kept, again_parts, first_kept, first_parts}
 use Rattle.store_rows.specs.Follows.{Follows}
-use Rattle.store_rows.specs.Rows.{IsBookIn, IsNetAt}
+use Rattle.store_rows.specs.NetIn.{IsNetAt}
+use Rattle.store_rows.specs.Rows.{IsBookIn}
 use Rattle.store_rows.proofs.Changes.{others_follow, same_net}
 use Rattle.store.specs.Holds.{Holds}
 
@@ -49,36 +52,41 @@ nets_after o after name t u changed follows own others nets other = elim (cases_
 ]
 
 abbrev pub with_reply : Answered → Decision → Tables → Tables
-with_reply a d t = record t { reply = t.reply ++ kept_row a.team a.key a.content d.reply ∷ [] }
+with_reply a d t = record t { reply = t.reply ++ kept_row a.team a.key a.content d.reply ∷ []; part = t.part ++ part_rows a.team a.key 1 (reply_parts d.reply) }
 
 -- the changes were written, from the network and the book on which they were decided
 abbrev pub AreFollowed : List ℕ → NetAndBook → List Change → Tables → Tables → Type 0
 AreFollowed name before changes t u = IsHeadFirst before.net changes → HaveOwnBlocks changes → Follows name t u before (all_applied name changes before)
 
-pub first_holds : HistoriesLeaveOffices → (h : List Answered) (a : Answered) (d : Decision) (t u v : Tables) (holds : Holds h t) → IsInRange a → first_of h a ≡ None → a.answer ≡ answer.Reply d.reply
-    → IsDecision a.team (before_of holds.office a.command.net) a.command d → AreFollowed a.command.net (before_of holds.office a.command.net) d.changes t u
+pub first_holds : HistoriesLeaveOffices → (h : List Answered) (a : Answered) (d : Decision) (t u v : Tables) (holds : Holds h t) → a.profile ≡ Two → IsInRange a → first_of h a ≡ None → a.answer ≡ answer.Reply d.reply
+    → IsDecision a.team (before_of holds.holds.office a.command.net) a.command d → AreFollowed a.command.net (before_of holds.holds.office a.command.net) d.changes t u
     → v ≡ with_reply a d u → Holds (h ++ a ∷ []) v
-first_holds laws h a d t u v holds ranged new told decision followed kept =
-    let o = holds.office in
+first_holds laws h a d t u v holds today ranged new told decision followed kept =
+    let o = holds.holds.office in
     let name = a.command.net in
     let decides = decision.decides in
     let out = step_outcome o a.team decision.reading a.command in
     let after = office_after o out in
     let follows = followed decides.head_first decides.own_blocks in
     let apart = nets_apart o a.team decision.reading a.command in
-    let sorted = (laws.kept h o holds.in_range holds.legal).rising in
-    let step : Step o a.team a.command d.reply after = record { reading = decision.reading; read = decision.read; answered = decides.reply; left = refl } in
+    let sorted = (laws.kept h o holds.holds.in_range holds.holds.legal).rising in
+    let step : Step Two o a.team a.command d.reply after = record { reading = decision.reading; read = decision.read; answered = decides.reply; left = refl } in
     let own = ap (λ (e : NetAndBook). e.net) decides.changes ∙ net_left o name out ∙ sym (apart.own sorted) in
-    let nets = nets_after o after name t u _ follows own apart.others holds.nets in
-    let book = subst (IsBookIn u) (ap (λ (e : NetAndBook). e.book) decides.changes ∙ book_left o name out) (follows.book holds.book) in
+    let nets = nets_after o after name t u _ follows own apart.others holds.holds.nets in
+    let book = subst (IsBookIn u) (ap (λ (e : NetAndBook). e.book) decides.changes ∙ book_left o name out) (follows.book holds.holds.book) in
     subst (Holds (h ++ a ∷ [])) (sym kept) (record {
-      office = after;
-      legal = histories_grow.first h o after a d.reply holds.legal new told step;
-      in_range = All-push IsInRange h a holds.in_range ranged;
-      book = record { blocks = book.blocks; used = book.used };
-      nets = λ other. same_net other u (with_reply a d u) (net_named after other) refl (nets other);
-      replies = subst (λ rows. AreKept (h ++ a ∷ []) (rows ++ kept_row a.team a.key a.content d.reply ∷ [])) (sym follows.replies) (first_kept h a d.reply t.reply new told holds.replies);
-      profile = follows.profile ∙ holds.profile;
+      holds = record {
+        office = after;
+        legal = histories_grow.first h o after a d.reply holds.holds.legal new told (subst (λ (p : Profile). Step p o a.team a.command d.reply after) (sym today) step);
+        in_range = All-push IsInRange h a holds.holds.in_range ranged;
+        book = record { blocks = book.blocks; used = book.used };
+        nets = λ other. same_net other u (with_reply a d u) (net_named after other) (record { rest = refl; live = refl }) (nets other);
+        replies = subst (λ rows. AreKept (h ++ a ∷ []) (rows ++ kept_row a.team a.key a.content d.reply ∷ [])) (sym follows.replies) (first_kept h a d.reply t.reply new told holds.holds.replies);
+        parts = subst (λ rows. AreKeptParts (h ++ a ∷ []) (rows ++ part_rows a.team a.key 1 (reply_parts d.reply))) (sym follows.parts) (first_parts h a d.reply t.part new told holds.holds.parts);
+        profile = follows.profile ∙ holds.holds.profile;
+      };
+      emptied = follows.bodies ∙ holds.emptied;
+      came = tt;
     })
 
 -- ---- a repeat
@@ -90,11 +98,16 @@ some_of f (Some x) y is = (x, refl, cc)
 
 pub again_holds : (h : List Answered) (a first : Answered) (t : Tables) → Holds h t → IsInRange a → first_of h a ≡ Some first → IsAnsweredAs a first → Holds (h ++ a ∷ []) t
 again_holds h a first t holds ranged found told = record {
-  office = holds.office;
-  legal = histories_grow.again h holds.office a first holds.legal found told;
-  in_range = All-push IsInRange h a holds.in_range ranged;
-  book = holds.book;
-  nets = holds.nets;
-  replies = again_kept h a first t.reply found holds.replies;
-  profile = holds.profile;
+  holds = record {
+    office = holds.holds.office;
+    legal = histories_grow.again h holds.holds.office a first holds.holds.legal found told;
+    in_range = All-push IsInRange h a holds.holds.in_range ranged;
+    book = holds.holds.book;
+    nets = holds.holds.nets;
+    replies = again_kept h a first t.reply found holds.holds.replies;
+    parts = again_parts h a first t.part found holds.holds.parts;
+    profile = holds.holds.profile;
+  };
+  emptied = holds.emptied;
+  came = tt;
 }

@@ -17,3 +17,14 @@ either_left old last new Before After clean inside ends leaves after db left = e
   | inl earlier ↦ elim (inside.crash (omega (arith, ends.clean, clean)) db earlier) [ inl first ↦ inl (leaves db first) | inr none ↦ absurd none ]
   | inr is ↦ inr (subst After (sym is) after)
 ]
+
+-- what a crash may leave, said with less
+pub survives_more : (old new : State) (P Q : Trees → Type 0) → ((db : Trees) → P db → Q db) → Survives old new P → Survives old new Q
+survives_more old new P Q more s = record {
+  clean = s.clean;
+  shield = s.shield;
+  counts = s.counts;
+  limit = s.limit;
+  closes = s.closes;
+  crash = λ clean db left. elim (s.crash clean db left) [ inl was ↦ inl was | inr made ↦ inr (more db made) ];
+}

@@ -1,6 +1,8 @@
 pub mod Opened
+pub mod InForm
 pub mod Arrived
 pub mod Left
 pub mod Ran
 pub mod Clear
 mod Examples
+pub mod Decided

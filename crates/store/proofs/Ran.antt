@@ -1,5 +1,5 @@
 -- A list of arrivals, and one more.
-use Rattle.std.proofs.Common.{◌≡◌, ◌≢◌, ◌⊎◌, inl, inr, true, false, List, [], ◌∷◌, ◌++◌, length, Ok, Err, Result, refl, sym, ap, subst, ◌∙◌, arith, append_assoc, append-nil, length-append}
+use Rattle.std.proofs.Common.{◌≡◌, ◌⊎◌, inl, inr, true, false, List, [], ◌∷◌, ◌++◌, length, Ok, Err, Result, refl, sym, ap, subst, ◌∙◌, arith, append_assoc, append-nil, length-append}
 use Rattle.std.specs.Prelude.{All, Bool, ◌↔◌, IfErr, IfOk, IsTrue, OnErr}
 use Rattle.std.proofs.lemmas.Bool.{cases_Bool}
 use Rattle.std.proofs.lemmas.List.Elements.{All-push, Contains-append_left, Contains-push}
@@ -12,12 +12,13 @@ use Rattle.office_history.specs.declared.arrival.Arrival.{Arrival}
 use Rattle.office_history.specs.History.{Answered, IsLegalHistory}
 use Rattle.office_history.specs.Laws.{IsInRange}
 use Rattle.store.specs.declared.lost.Lost.{Lost}
-use Rattle.store.specs.declared.lost.Lost.TheVariants.{Memory, NewerProfile, Store}
+use Rattle.store.specs.declared.lost.Lost.TheVariants.{Memory, NewerProfile, OlderProfile, Store}
+use Rattle.store.specs.Lost.{IsOfCall}
 use Rattle.store.specs.Holding.{Holding, Keeps, Leaves}
 use Rattle.store.specs.Office.{StoredOffice}
 use Rattle.store.specs.Headline.{HasRun}
 use Rattle.office_history.specs.Answering.{told}
-use Rattle.store.specs.Running.{FailsBy, IsNotNewer, KeepsWithOne, answered_of, is_failure, lost_of}
+use Rattle.store.specs.Running.{FailsBy, IsNoProfile, KeepsWithOne, answered_of, is_failure, lost_of}
 
 -- ---- one more arrival
 
@@ -55,10 +56,10 @@ still_one h lost a db (inr one) = inr (one.0, Contains-append_left lost (a ∷ [
 
 -- a history that tables hold is legal
 legal_of : (h : List Answered) (s : State) → Holding h s → IsLegalHistory h
-legal_of h s holding = (holding.keeps.holds.office, holding.keeps.holds.legal)
+legal_of h s holding = (holding.keeps.holds.holds.office, holding.keeps.holds.holds.legal)
 
 ranged_of : (h : List Answered) (s : State) → Holding h s → All IsInRange h
-ranged_of h s holding = holding.keeps.holds.in_range
+ranged_of h s holding = holding.keeps.holds.holds.in_range
 
 -- ---- whether it has failed
 
@@ -71,18 +72,20 @@ is_failure_by (Err Memory) true failed = absurd (let e = failed.0 refl in cc)
 is_failure_by (Err Memory) false failed = refl
 is_failure_by (Err NewerProfile) true failed = absurd (let e = failed.0 refl in cc)
 is_failure_by (Err NewerProfile) false failed = refl
+is_failure_by (Err OlderProfile) true failed = absurd (let e = failed.0 refl in cc)
+is_failure_by (Err OlderProfile) false failed = refl
 
 pub fails_more : (before mid after : Bool) (rs : List (Result Answer Lost)) (r : Result Answer Lost) → FailsBy before rs mid → (IsTrue after ↔ (r ≡ Err Store)) → (IsTrue mid → IsTrue after)
     → FailsBy before (rs ++ r ∷ []) after
 fails_more before mid after [] r same failed stays = (λ was. failed.0 (stays (same ∙ was)), is_failure_by r after failed)
 fails_more before mid after (x ∷ rs) r by failed stays = (by.0, fails_more (is_failure x) mid after rs r by.1 failed stays)
 
-pub named_more : (rs : List (Result Answer Lost)) (r : Result Answer Lost) → All IsNotNewer rs → IfErr r (λ lost. lost ≢ NewerProfile) → All IsNotNewer (rs ++ r ∷ [])
-named_more rs r all named = All-push IsNotNewer rs r all (is_named r named)
+pub named_more : (rs : List (Result Answer Lost)) (r : Result Answer Lost) → All IsNoProfile rs → IfErr r IsOfCall → All IsNoProfile (rs ++ r ∷ [])
+named_more rs r all named = All-push IsNoProfile rs r all (is_named r named)
   where
-    is_named : (r : Result Answer Lost) → IfErr r (λ lost. lost ≢ NewerProfile) → IsNotNewer r
-    is_named (Ok answer) named = λ e. cc
-    is_named (Err lost) named = λ e. named (let it : lost ≡ NewerProfile = cc in it)
+    is_named : (r : Result Answer Lost) → IfErr r IsOfCall → IsNoProfile r
+    is_named (Ok answer) named = ((λ e. cc), (λ e. cc))
+    is_named (Err lost) named = ((λ e. named.0 (let it : lost ≡ NewerProfile = cc in it)), (λ e. named.1 (let it : lost ≡ OlderProfile = cc in it)))
 
 -- ---- what is held after it
 
@@ -144,12 +147,13 @@ module _ {S : Type 0} (g : Ghosts S) (h : List Answered) (xs : List Arrival) (rs
       }
 
   -- unless the office has failed, a loss is that memory ran out
-  by_memory : (lost : Lost) → (IsTrue new.failed ↔ (◌≡◌ {A = Result Answer Lost} (Err lost) (Err Store))) → lost ≢ NewerProfile → new.failed ≡ false → lost ≡ Memory
+  by_memory : (lost : Lost) → (IsTrue new.failed ↔ (◌≡◌ {A = Result Answer Lost} (Err lost) (Err Store))) → IsOfCall lost → new.failed ≡ false → lost ≡ Memory
   by_memory Memory failed named working = refl
   by_memory Store failed named working = absurd (let both : true ≡ false = sym (failed.1 refl) ∙ working in cc)
-  by_memory NewerProfile failed named working = absurd (named refl)
+  by_memory NewerProfile failed named working = absurd (named.0 refl)
+  by_memory OlderProfile failed named working = absurd (named.1 refl)
 
-  pub run_more : (r : Result Answer Lost) → (IsTrue new.failed ↔ (r ≡ Err Store)) → (IsTrue old.failed → new ≡ old) → IfErr r (λ lost. lost ≢ NewerProfile)
+  pub run_more : (r : Result Answer Lost) → (IsTrue new.failed ↔ (r ≡ Err Store)) → (IsTrue old.failed → new ≡ old) → IfErr r IsOfCall
       → ((k : List Answered) → Holding k (state g old.conn) → IfOk r (λ answer. Holding (k ++ told a answer ∷ []) (state g new.conn) × Leaves (Keeps (k ++ told a answer ∷ [])) (state g new.conn)))
       → ((k : List Answered) → Holding k (state g old.conn) → IsTrue (state g new.conn).is_open → OnErr r (Holding k (state g new.conn)))
       → IfErr r (λ lost. lost ≡ Memory → IsTrue (state g new.conn).is_open)

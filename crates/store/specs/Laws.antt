@@ -20,11 +20,11 @@ use Rattle.office_history.specs.Laws.{HaveOneNetwork, is_on, new_spns}
 use Rattle.store.specs.Holds.{Holds}
 
 -- Of a network with these rows: no two live messages have one identifier, and no message has two signals that share a bit
--- when both are present. Its rows of `message` have the numbers of the live messages, each once, and no other.
+-- when both are present. Its rows of `msg` have the numbers of the live messages, each once, and no other.
 pub record IsClearInRows (name : List ℕ) (t : Tables) (net : Net) : Type 0 where
   pub clear : IsClearSheet (sheet_of net)
   pub ascending : IsStrictlySortedBy by_number (live_messages net.live)
-  pub numbers : IsPermutation (map (λ row. column row 1) (filter (is_of_net name) t.message)) (map (λ m. Int (pos (dbc_number m.message.ident))) net.live)
+  pub numbers : IsPermutation (map (λ row. column row 1) (filter (is_of_net name) t.msg)) (map (λ m. Int (pos (dbc_number m.message.ident))) net.live)
 
 -- after every history that tables hold, each network of the office is so
 abbrev pub HeldNetworksAreClear : Type 0

@@ -1,11 +1,21 @@
 -- Connections as an office is opened on them.
-use Rattle.std.specs.Prelude.{◌≡◌, [], ◌∷◌, map, IsTrue}
+use Rattle.std.specs.Prelude.{◌≡◌, ◌≢◌, ◌⊎◌, List, IsTrue}
 use Rattle.sqlite.specs.Effect.{Database}
 use Rattle.sqlite.specs.State.{State}
-use Rattle.office_tables.specs.Schema.{no_schema}
-use Rattle.office_tables.specs.Tables.{AreOffice, IsOffice, Tables, no_rows, tables_of}
-use Rattle.office_rows.specs.Rows.{profile_row}
-use Rattle.office_rows.specs.Shown.{profile_shown}
+use Rattle.sqlite.specs.Tree.{Trees}
+use Rattle.sqlite_catalog.specs.Listing.{IsSound}
+use Rattle.office_rules.specs.Profile.{One, Profile, Two}
+use Rattle.office_tables.specs.Schema.{no_schema, office_schema, schema_13, schema_9}
+use Rattle.office_tables.specs.Statements.{IsOfficeWith, tables_in}
+use Rattle.office_tables.specs.Tables.{AreNumbered, AreOffice, IsOffice, Tables, no_rows, tables_of}
+use Rattle.office_history.specs.History.{Answered}
+use Rattle.store_carry.specs.FormSchema.{schema_of}
+use Rattle.store_carry.specs.Forms.{HoldsAsRows, row_marks}
+use Rattle.store_carry.specs.InForm.{KeepsAs}
+use Rattle.store_carry.specs.Marks.{HasMarks}
+use Rattle.store_carry.specs.declared.forms.Form.{Form}
+use Rattle.store_carry.specs.declared.forms.Form.TheVariants.{Foreign}
+use Rattle.store_carry.specs.declared.marks.Marks.TheVariants.{Bodies, First, Second}
 
 -- the connection has no table
 pub record HasNone (s : State) : Type 0 where
@@ -17,14 +27,62 @@ pub record HasTables (s : State) : Type 0 where
   pub is_open : IsTrue s.is_open
   pub office : AreOffice s.now.trees
 
--- the tables as they are made: the row of the profile, and no other
+-- the same of an office of some time
+pub record HasOffice (s : State) : Type 0 where
+  pub is_open : IsTrue s.is_open
+  pub form : Form
+  pub known : form ≢ Foreign
+  pub sound : IsSound (schema_of form) s.now.trees
+  pub numbered : AreNumbered (schema_of form) s.now.trees
+
+-- the tables as they are made: the rows of profile 2, and no other
 abbrev pub new_tables : Tables
-new_tables = record no_rows { profile = profile_row ∷ [] }
+new_tables = record no_rows { profile = row_marks Two }
 
 pub record IsNew (db : Database) : Type 0 where
   pub office : IsOffice db
   pub tables_are : tables_of db.trees ≡ new_tables
 
--- the table of the profile, as it is read, has one row, and that is the row of profile 1
-abbrev pub IsFirstProfile : Tables → Type 0
-IsFirstProfile t = map profile_shown t.profile ≡ profile_row ∷ []
+-- all tables of an office, with the rows of an office that had none for the parts of bundles
+pub record IsGrown (before : Trees) (db : Database) : Type 0 where
+  pub office : IsOffice db
+  pub tables_are : tables_of db.trees ≡ tables_in schema_13 before
+
+-- all tables of an office, which hold each history that older ones held
+pub record IsCarried (form : Form) (before : Trees) (db : Database) : Type 0 where
+  pub office : IsOffice db
+  pub holds : (h : List Answered) → KeepsAs One form h before → HoldsAsRows Two h (tables_of db.trees)
+
+-- What a crash may leave beside the tables from before: those with the table of parts, where that alone was missing.
+pub record MayGrow (before : Database) (after : Trees) : Type 0 where
+  pub not_first : before.schema ≢ schema_9
+  pub not_all : before.schema ≢ office_schema
+  pub grown : IsOfficeWith schema_13 before → (db : Database) × IsGrown before.trees db × (after ≡ db.trees)
+
+-- The same of carrying over: those that hold each history that older ones held.
+abbrev pub MayCarry : Database → Trees → Type 0
+MayCarry before after = (form : Form) → form ≢ Foreign → IsOfficeWith (schema_of form) before → (db : Database) × IsCarried form before.trees db × (after ≡ db.trees)
+
+-- what a crash may leave of either; only tables whose profile isn't the second are carried over
+abbrev pub MayMigrate : Database → Trees → Type 0
+MayMigrate before after = MayGrow before after ⊎ ((¬ HasMarks (tables_of before.trees) Second) × MayCarry before after)
+
+-- the trees hold the history in the tables of some profile and form, or in those of the first profile
+abbrev pub KeepsInSomeForm : List Answered → Trees → Type 0
+KeepsInSomeForm h db = (p : Profile) × (form : Form) × KeepsAs p form h db
+
+abbrev pub KeepsOlder : List Answered → Trees → Type 0
+KeepsOlder h db = (form : Form) × KeepsAs One form h db
+
+-- a connection that shows such trees
+pub record HoldingInSomeForm (h : List Answered) (s : State) : Type 0 where
+  pub is_open : IsTrue s.is_open
+  pub keeps : KeepsInSomeForm h s.now.trees
+
+pub record HoldingOlder (h : List Answered) (s : State) : Type 0 where
+  pub is_open : IsTrue s.is_open
+  pub keeps : KeepsOlder h s.now.trees
+
+-- the profile is the first
+abbrev pub HasOlderMarks : Tables → Type 0
+HasOlderMarks t = HasMarks t Bodies ⊎ HasMarks t First

@@ -5,7 +5,7 @@ use Rattle.office_history.specs.declared.arrival.Answer.{Answer}
 use Rattle.office_history.specs.declared.arrival.Arrival.{Arrival}
 use Rattle.office_history.specs.History.{Answered}
 use Rattle.store.specs.declared.lost.Lost.{Lost}
-use Rattle.store.specs.declared.lost.Lost.TheVariants.{NewerProfile, Store}
+use Rattle.store.specs.declared.lost.Lost.TheVariants.{NewerProfile, OlderProfile, Store}
 use Rattle.office_history.specs.Answering.{told}
 use Rattle.store.specs.Holding.{Keeps}
 
@@ -29,8 +29,8 @@ is_failure (Err Store) = true
 is_failure r = false
 
 -- the result isn't that the tables are of another profile
-abbrev pub IsNotNewer : Result Answer Lost → Type 0
-IsNotNewer r = r ≢ Err NewerProfile
+abbrev pub IsNoProfile : Result Answer Lost → Type 0
+IsNoProfile r = (r ≢ Err NewerProfile) × (r ≢ Err OlderProfile)
 
 -- Whether the office has failed goes from each result to the next: so before the first of them, and so after the last.
 -- Once it has failed, each later result is that failure.

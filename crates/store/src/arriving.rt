@@ -1,5 +1,5 @@
 //! Arrivals.
-ghost use Rattle.std.specs.Prelude.{◌≡◌, ◌≢◌, ◌≤◌, ◌⊎◌, ◌↔◌, ◌++◌, ◌∷◌, [], List, None, Err, false, IsTrue, IfOk, IfErr, IsSome, OnOk, OnErr};
+ghost use Rattle.std.specs.Prelude.{◌≡◌, ◌≤◌, ◌⊎◌, ◌↔◌, ◌++◌, ◌∷◌, [], List, None, Err, false, IsTrue, IfOk, IfErr, IsSome, OnOk, OnErr};
 ghost use Rattle.sqlite.specs.Held.{state};
 ghost use Rattle.sqlite.specs.State.{HasCleanDisk, KeepsCommit, Survives};
 ghost use Rattle.sqlite_trees.specs.View.{doubt};
@@ -10,18 +10,19 @@ ghost use Rattle.office_history.specs.Answering.{answered};
 ghost use Rattle.store.specs.Holding.{Holding, Keeps, Leaves};
 ghost use Rattle.store.specs.Holds.{Holds};
 ghost use Rattle.store.specs.Opening.{HasTables};
+ghost use Rattle.store.specs.Lost.{IsOfCall};
 
+use crate::deciding::decide_on_tables;
 use crate::losing::loss_by;
 use crate::lost::Lost;
 use crate::opening::leaves_committed;
 use crate::stored_office::Office;
-use office::decide;
 use office_history::{Answer, Key, Request, histories_leave_offices};
 use office_tables::knows_schema;
 use office_types::{Decision, Team, command_is_in_range};
 use sqlite::{Alter, Connection, Error, Transaction};
 use std::alloc::Global;
-use store_net::{answer_at, book_of, keep_reply, net_at, write_changes};
+use store_net::{answer_at, keep_reply, write_changes};
 
 /// Carries out an arrival whose pair of team and key is new: a step of the office.
 fn first_arrival<S: Alter>(
@@ -43,11 +44,9 @@ fn first_arrival<S: Alter>(
     team.as_bytes();
     command_is_in_range(&request.command);
     let name = &request.command.net;
-    let net = net_at(alloc, tx, name)?;
-    let book = book_of(alloc, tx)?;
-    let decision = decide(alloc, team, net.as_ref(), &book, &request.command)?;
+    let (decision, next) = decide_on_tables(alloc, tx, team, &request.command)?;
     let Decision { changes, reply } = decision;
-    write_changes(alloc, tx, name, net.as_ref(), changes.as_slice())?;
+    write_changes(alloc, tx, name, next, changes.as_slice())?;
     keep_reply(tx, team, key, request.content.as_slice(), &reply)?;
     Ok(Answer::Reply(reply))
 }
@@ -72,7 +71,7 @@ fn arrive_inside<S: Alter>(
 {
     team.as_bytes();
     command_is_in_range(&request.command);
-    match answer_at(tx, team, key, request.content.as_slice())? {
+    match answer_at(alloc, tx, team, key, request.content.as_slice())? {
         Some(answer) => Ok(answer),
         None => first_arrival(alloc, tx, team, key, request),
     }
@@ -128,7 +127,7 @@ impl<S: Alter> Office<S> {
     ) -> Result<Answer, Lost>
         ensures failed { IsTrue self.new.failed ↔ (result ≡ Err Lost.Store) }
         ensures refused { IsTrue self.old.failed → self.new ≡ self.old }
-        ensures named { IfErr result (λ lost. lost ≢ Lost.NewerProfile) }
+        ensures named { IfErr result IsOfCall }
         ensures clean { doubt (state S.Store self.old.conn).is_clean ≤ doubt (state S.Store self.new.conn).is_clean }
         ensures answered { HasCleanDisk (state S.Store self.new.conn) → (h : List Answered) → Holding h (state S.Store self.old.conn)
             → IfOk result (λ answer. Holding (h ++ answered team.now key.now request.now answer ∷ []) (state S.Store self.new.conn) × Leaves (Keeps (h ++ answered team.now key.now request.now answer ∷ [])) (state S.Store self.new.conn)) }

@@ -17,10 +17,12 @@
 #![tactic(auto)]
 
 mod arriving;
+mod deciding;
 mod laws;
 mod looking;
 mod losing;
 mod lost;
+mod migrating;
 mod opening;
 mod question;
 mod running;
@@ -30,4 +32,5 @@ pub use laws::{held_networks_are_apart, held_networks_are_clear, held_numbers_me
 pub use lost::Lost;
 pub use office_history::{Answer, Arrival, Key, Request};
 pub use question::Question;
+pub use store_carry::Watch;
 pub use stored_office::Office;

@@ -1,5 +1,5 @@
 //! Looking things up.
-ghost use Rattle.std.specs.Prelude.{◌≡◌, ◌≢◌, ◌≤◌, ◌↔◌, List, Err, ℕ, false, IsTrue, IfOk, IfErr, OnOk, OnErr};
+ghost use Rattle.std.specs.Prelude.{◌≡◌, ◌≤◌, ◌↔◌, List, Err, ℕ, false, IsTrue, IfOk, IfErr, OnOk, OnErr};
 ghost use Rattle.std.specs.Option.{option_map};
 ghost use Rattle.sqlite.specs.Held.{state};
 ghost use Rattle.sqlite.specs.State.{HasCleanDisk, IsUnchanged, KeepsCommit, Survives};
@@ -11,6 +11,7 @@ ghost use Rattle.store.specs.Holding.{Holding, Keeps, Leaves};
 ghost use Rattle.store.specs.Holds.{Holds};
 ghost use Rattle.store.specs.Looking.{IsShown};
 ghost use Rattle.store.specs.Opening.{HasTables};
+ghost use Rattle.store.specs.Lost.{IsOfCall};
 
 use crate::losing::loss_by;
 use crate::lost::Lost;
@@ -31,7 +32,7 @@ fn look_inside<S: Alter>(
 ) -> Result<Option<Vec<u8>>, Error>
     ensures same_reference { tx.new.conn.ghost_name ≡ tx.old.conn.ghost_name }
     ensures found { HasCleanDisk (state S.Store tx.new.conn.now) → IsOffice (state S.Store tx.old.conn.now).now
-        → IfOk result (λ text. (h : List Answered) → (holds : Holds h (tables_of (state S.Store tx.old.conn.now).now.trees)) → IsShown holds.office question.now (option_map (λ bytes. bytes.items) text)) }
+        → IfOk result (λ text. (h : List Answered) → (holds : Holds h (tables_of (state S.Store tx.old.conn.now).now.trees)) → IsShown holds.holds.office question.now (option_map (λ bytes. bytes.items) text)) }
     ensures same { HasCleanDisk (state S.Store tx.new.conn.now) → IsOffice (state S.Store tx.old.conn.now).now → OnOk result (IsUnchanged (state S.Store tx.old.conn.now) (state S.Store tx.new.conn.now)) }
     ensures kept { HasCleanDisk (state S.Store tx.new.conn.now) → IsOffice (state S.Store tx.old.conn.now).now → KeepsCommit (state S.Store tx.old.conn.now) (state S.Store tx.new.conn.now) }
     ensures survives { Survives (state S.Store tx.old.conn.now) (state S.Store tx.new.conn.now) (λ _. ⊥) }
@@ -56,7 +57,7 @@ fn ask<S: Alter>(
     ensures autocommit { (state S.Store conn.new).in_transaction ≡ false }
     ensures clean { doubt (state S.Store conn.old).is_clean ≤ doubt (state S.Store conn.new).is_clean }
     ensures found { HasCleanDisk (state S.Store conn.new) → (h : List Answered) → (holding : Holding h (state S.Store conn.old))
-        → IfOk result (λ text. IsShown holding.keeps.holds.office question.now (option_map (λ bytes. bytes.items) text)) }
+        → IfOk result (λ text. IsShown holding.keeps.holds.holds.office question.now (option_map (λ bytes. bytes.items) text)) }
     ensures held { HasCleanDisk (state S.Store conn.new) → (h : List Answered) → Holding h (state S.Store conn.old) → OnOk result (Holding h (state S.Store conn.new)) }
     ensures lost { HasCleanDisk (state S.Store conn.new) → (h : List Answered) → Holding h (state S.Store conn.old) → IsTrue (state S.Store conn.new).is_open → OnErr result (Holding h (state S.Store conn.new)) }
     ensures same { HasCleanDisk (state S.Store conn.new) → HasTables (state S.Store conn.old) → OnOk result (((state S.Store conn.new).now ≡ (state S.Store conn.old).now) × ((state S.Store conn.new).committed ≡ (state S.Store conn.old).committed)) }
@@ -82,7 +83,7 @@ impl<S: Alter> Office<S> {
     pub fn look(&mut self, alloc: Global, question: &Question) -> Result<Option<Vec<u8>>, Lost>
         ensures failed { IsTrue self.new.failed ↔ (result ≡ Err Lost.Store) }
         ensures refused { IsTrue self.old.failed → self.new ≡ self.old }
-        ensures named { IfErr result (λ lost. lost ≢ Lost.NewerProfile) }
+        ensures named { IfErr result IsOfCall }
         ensures clean { doubt (state S.Store self.old.conn).is_clean ≤ doubt (state S.Store self.new.conn).is_clean }
         ensures shown { HasCleanDisk (state S.Store self.new.conn) → (h : List Answered) → (office : Whole) → Holding h (state S.Store self.old.conn) → IsLegal h office
             → IfOk result (λ text. IsShown office question.now (option_map (λ bytes. bytes.items) text)) }

@@ -1,7 +1,8 @@
 //! Calls that are lost.
-ghost use Rattle.std.specs.Prelude.{◌≡◌, ◌≢◌, false, IsTrue};
+ghost use Rattle.std.specs.Prelude.{◌≡◌, false, IsTrue};
 ghost use Rattle.sqlite.specs.Held.{state};
 ghost use Rattle.sqlite.specs.State.{HasCleanDisk, Survives};
+ghost use Rattle.store.specs.Lost.{IsOfCall};
 
 use crate::lost::Lost;
 use sqlite::{Alter, Connection, Error};
@@ -27,7 +28,7 @@ fn is_open<S: Alter>(conn: &mut Connection<S>) -> bool
 pub(crate) fn loss_by<S: Alter>(conn: &mut Connection<S>, error: Error) -> Lost
     requires { (state S.Store conn.old).in_transaction ≡ false }
     ensures autocommit { (state S.Store conn.new).in_transaction ≡ false }
-    ensures named { result ≢ Lost.NewerProfile }
+    ensures named { IsOfCall result }
     ensures open { HasCleanDisk (state S.Store conn.new) → result ≡ Lost.Memory → IsTrue (state S.Store conn.new).is_open }
     ensures was_open { HasCleanDisk (state S.Store conn.new) → IsTrue (state S.Store conn.new).is_open → IsTrue (state S.Store conn.old).is_open }
     ensures same { HasCleanDisk (state S.Store conn.new) → IsTrue (state S.Store conn.new).is_open → (state S.Store conn.new).now ≡ (state S.Store conn.old).now }

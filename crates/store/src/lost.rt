@@ -12,12 +12,14 @@ pub enum Lost {
     Memory,
     /// The database failed, or its rows are no office's. The office is to be opened anew.
     Store,
-    /// The tables are of another profile. Only opening is lost so.
+    /// The tables are of a profile that isn't known here. Only opening is lost so.
     NewerProfile,
+    /// The tables are of the first profile, and aren't carried over yet. Only opening is lost so.
+    OlderProfile,
 }
 
 impl Lost {
-    /// Its number: 71, 72 or 73.
+    /// Its number: 71 to 74.
     pub fn number(self) -> u8
         ensures { result ≡ lost_number self }
     {
@@ -25,6 +27,7 @@ impl Lost {
             Lost::Memory => 71,
             Lost::Store => 72,
             Lost::NewerProfile => 73,
+            Lost::OlderProfile => 74,
         }
     }
 }

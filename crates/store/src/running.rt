@@ -6,7 +6,7 @@ ghost use Rattle.sqlite_trees.specs.View.{doubt};
 ghost use Rattle.office_history.specs.History.{Answered};
 ghost use Rattle.store.specs.Holding.{Holding};
 ghost use Rattle.store.specs.Headline.{HasRun};
-ghost use Rattle.store.specs.Running.{FailsBy, IsNotNewer};
+ghost use Rattle.store.specs.Running.{FailsBy, IsNoProfile};
 
 use crate::lost::Lost;
 use crate::stored_office::Office;
@@ -26,7 +26,7 @@ impl<S: Alter> Office<S> {
             → IfOk result (λ results. HasRun h arrivals.now results.items self.new.failed (state S.Store self.new.conn)) }
         ensures refused { IsTrue self.old.failed → self.new ≡ self.old }
         ensures failed { IfOk result (λ results. FailsBy self.old.failed results.items self.new.failed) }
-        ensures named { IfOk result (λ results. All IsNotNewer results.items) }
+        ensures named { IfOk result (λ results. All IsNoProfile results.items) }
         ensures clean { doubt (state S.Store self.old.conn).is_clean ≤ doubt (state S.Store self.new.conn).is_clean }
         ensures err { OnErr result (self.new ≡ self.old) }
     {

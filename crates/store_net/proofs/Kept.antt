@@ -1,14 +1,18 @@
 -- The rows of answered requests: of one pair of team and key there is one at most, that of its first arrival.
-use Rattle.std.proofs.Common.{◌≡◌, ℕ, ◌&&◌, List, [], ◌∷◌, ◌++◌, map, filter, Option, Some, None, refl, sym, ap, subst, ◌∙◌, arith}
+use Rattle.std.proofs.Common.{◌≡◌, ℕ, ◌&&◌, List, [], ◌∷◌, ◌++◌, append-nil, map, filter, Option, Some, None, refl, sym, ap, subst, ◌∙◌, arith}
 use Rattle.std.specs.Prelude.{IsPermutation, slice_get}
+use Rattle.std.specs.List.{flat_map}
 use Rattle.std.specs.Option.{option_to_list}
 use Rattle.std.specs.Str.{bytes_eq}
+use Rattle.std.proofs.lemmas.List.Concat.{flat_map-append}
 use Rattle.std.proofs.lemmas.List.Sorted.{length_permutation, IsPermutation-append, IsPermutation-refl, IsPermutation-sym, IsPermutation-trans}
 use Rattle.sqlite_trees.proofs.ListLemmas.{IsPermutation-filter}
 use Rattle.sqlite.specs.declared.types.Value.TheVariants.{Blob}
 use Rattle.sqlite.specs.Order.{Row, column}
 use Rattle.sqlite.proofs.Callers.{one_permutation}
+use Rattle.office_types.specs.Reply.{reply_parts}
 use Rattle.office_types.specs.declared.reply.Reply.{Reply}
+use Rattle.office_history.specs.declared.arrival.Answer.{Answer}
 use Rattle.office_history.specs.declared.arrival.Answer.TheVariants as answer
 use Rattle.office_history.specs.History.{Answered, first_arrivals, first_of}
 use Rattle.office_history.proofs.Histories.{first_again, first_new}
@@ -19,7 +23,7 @@ use Rattle.office_rows.specs.Shown.{reply_order, reply_shown}
 use Rattle.store_rows.specs.Listed.{AreShown}
 use Rattle.store_rows.proofs.Keys.{text_test}
 use Rattle.store_rows.proofs.Listing.{filter_shown, last_shown}
-use Rattle.store_net.specs.Kept.{AreKept, IsKept, ShowsKept, ShowsReply, kept_row}
+use Rattle.store_net.specs.Kept.{AreKept, AreKeptParts, IsKept, ShowsKept, ShowsReply, answer_parts, kept_parts, kept_row, part_rows}
 
 -- ---- how the rows go on with a history
 
@@ -39,6 +43,21 @@ first_kept h a reply rows none told kept =
 pub again_kept : (h : List Answered) (a first : Answered) (rows : List Row) → first_of h a ≡ Some first → AreKept h rows → AreKept (h ++ a ∷ []) rows
 again_kept h a first rows found kept =
     record { found = kept.found; same = kept.same; each = subst (λ l. AreShown IsKept l kept.found) (sym (first_again h a first found)) kept.each }
+
+-- the rows of the parts of a bundle's reply, too
+pub first_parts : (h : List Answered) (a : Answered) (reply : Reply) (rows : List Row) → first_of h a ≡ None → a.answer ≡ answer.Reply reply → AreKeptParts h rows
+    → AreKeptParts (h ++ a ∷ []) (rows ++ part_rows a.team a.key 1 (reply_parts reply))
+first_parts h a reply rows none told kept =
+    let own = part_rows a.team a.key 1 (reply_parts reply) in
+    let earlier = flat_map kept_parts (first_arrivals h) in
+    subst (IsPermutation (rows ++ own))
+    (ap (λ (l : List Row). earlier ++ l) (sym (append-nil own) ∙ ap (λ (x : Answer). part_rows a.team a.key 1 (answer_parts x) ++ []) (sym told))
+    ∙ sym (flat_map-append kept_parts (first_arrivals h) (a ∷ []))
+    ∙ ap (flat_map kept_parts) (sym (first_new h a none)))
+    (IsPermutation-append rows earlier own own kept (IsPermutation-refl own))
+
+pub again_parts : (h : List Answered) (a first : Answered) (rows : List Row) → first_of h a ≡ Some first → AreKeptParts h rows → AreKeptParts (h ++ a ∷ []) rows
+again_parts h a first rows found kept = subst (λ l. IsPermutation rows (flat_map kept_parts l)) (sym (first_again h a first found)) kept
 
 -- ---- what the query of a pair's row shows
 

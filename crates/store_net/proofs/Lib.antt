@@ -7,3 +7,15 @@ pub mod OneByOne
 pub mod Names
 mod ReplyExamples
 mod TextExamples
+pub mod OneMessage
+pub mod ReceiverRows
+pub mod Excerpts
+pub mod KeptParts
+mod ReplyNumbers
+pub mod EachMessage
+pub mod Between
+mod SignalPlaces
+pub mod HeadsShown
+pub mod Inside
+pub mod NumberExcerpts
+mod NumberExamples

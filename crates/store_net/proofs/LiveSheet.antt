@@ -1,6 +1,7 @@
 -- A sheet that is built of the live messages is the live sheet.
-use Rattle.std.proofs.Common.{◌≡◌, ℕ, ◌+◌, ◌<◌, List, [], ◌∷◌, ◌++◌, map, length, get_or, drop, false, Option, Some, None, IsPermutation, add-one, refl, sym, ap, subst, ◌∙◌}
+use Rattle.std.proofs.Common.{◌≡◌, ℕ, ◌+◌, ◌<◌, List, [], ◌∷◌, ◌++◌, map, length, get_or, drop, Bool, true, false, cond, find, Option, Some, None, IsPermutation, add-one, refl, sym, ap, subst, ◌∙◌}
 use Rattle.std.specs.List.{AllByRecursion}
+use Rattle.std.specs.Str.{bytes_eq}
 use Rattle.std.specs.Option.{option_map}
 use Rattle.std.specs.List.Sorted.{IsStrictlySortedBy}
 use Rattle.std.specs.declared.cmp.Ordering.{Ordering}
@@ -19,14 +20,14 @@ use Rattle.office_types.specs.declared.state.Head.{Head}
 use Rattle.office_types.specs.declared.state.LiveMessage.{LiveMessage}
 use Rattle.office_types.specs.declared.state.Net.{Net}
 use Rattle.office_tables.specs.Tables.{Tables}
-use Rattle.office_rows.specs.Rows.{message_row}
-use Rattle.office_rows.specs.Shown.{messages_order}
+use Rattle.office_rows.specs.Shown.{msgs_order}
 use Rattle.sqlite.specs.Order.{Row}
 use Rattle.store_rows.specs.Listed.{AreShown}
-use Rattle.store_rows.specs.Rows.{IsMessageRow, IsNetAt, IsRowOf}
+use Rattle.store_rows.specs.Live.{IsMsgRow, msg_values}
+use Rattle.store_rows.specs.NetIn.{HasRows, IsNetAt}
 use Rattle.store_rows.proofs.Keys.{number_order}
-use Rattle.store_net.specs.Parts.{HasLive}
-use Rattle.store_net.specs.Texts.{live_chart, message_named}
+use Rattle.office_rules.specs.Facts.{live_named}
+use Rattle.store_net.specs.Texts.{live_chart}
 use Rattle.store_net.proofs.Whole.{head_in}
 
 -- ---- live messages ascend, as their rows do
@@ -45,13 +46,12 @@ module _ {A B X : Type 0} (by : X → X → Ordering) (order : B → B → Order
   parts_ascend (a ∷ items) [] all strict = absurd all
   parts_ascend (a ∷ items) (x ∷ rows) all strict = (all_above a x all.0 items rows all.1 strict.0, parts_ascend items rows all.1 strict.1)
 
-pub live_ascends : (name : List ℕ) (t : Tables) (live : List LiveMessage) → HasLive name t live → IsStrictlySortedBy by_number (live_messages live)
+pub live_ascends : (name : List ℕ) (t : Tables) (live : List LiveMessage) → HasRows name t live → IsStrictlySortedBy by_number (live_messages live)
 live_ascends name t live h =
-    let alike : (a b : LiveMessage) (x y : Row) → IsRowOf message_row (IsMessageRow name) a x → IsRowOf message_row (IsMessageRow name) b y
-    → by_number a.message b.message ≡ messages_order x y = λ a b x y first second.
-    number_order (dbc_number a.message.ident) (dbc_number b.message.ident) first.0.number second.0.number first.1.number second.1.number
-    ∙ ap (λ (r : Row). messages_order r (message_row second.0)) (sym first.2) ∙ ap (messages_order x) (sym second.2) in
-    parts_ascend messages_order by_number (λ (m : LiveMessage). m.message) (IsRowOf message_row (IsMessageRow name)) alike live h.found h.each h.ascending
+    let alike : (a b : LiveMessage) (x y : Row) → IsMsgRow name a x → IsMsgRow name b y → by_number a.message b.message ≡ msgs_order x y = λ a b x y first second.
+    number_order (dbc_number a.message.ident) (dbc_number b.message.ident) (dbc_number a.message.ident) (dbc_number b.message.ident) refl refl
+    ∙ ap (λ (r : Row). msgs_order r (msg_values name b)) (sym first.row_is) ∙ ap (msgs_order x) (sym second.row_is) in
+    parts_ascend msgs_order by_number (λ (m : LiveMessage). m.message) (IsMsgRow name) alike live h.messages.found h.messages.each h.messages.ascending
 
 -- ---- one message after the other
 
@@ -70,7 +70,7 @@ sheet_is frame sheet live sorted together all rest =
     rest ∙ ap (λ (l : List Message). record frame { messages = l }) (sym (one_ascending number_of (live_messages live) sheet.messages sorted together.ascending all))
 
 pub whole_sheet : (name : List ℕ) (t : Tables) (net : Option Net) (head : Head) (live : List LiveMessage) (sheet : Sheet) → IsNetAt name t net → Some head ≡ head_in net
-    → ((others : List LiveMessage) → HasLive name t others → live ≡ others) → (IsStrictlySortedBy by_number (live_messages live) → sheet ≡ sheet_with head.frame live)
+    → ((others : List LiveMessage) → HasRows name t others → live ≡ others) → (IsStrictlySortedBy by_number (live_messages live) → sheet ≡ sheet_with head.frame live)
     → Some sheet ≡ option_map sheet_of net
 whole_sheet name t None head live sheet there found one made = absurd (cc)
 whole_sheet name t (Some net) head live sheet there found one made =
@@ -94,10 +94,28 @@ pub told : (tell : Sheet → List ℕ) (net : Option Net) (sheet : Sheet) (text 
 told tell None sheet text found is = absurd (cc)
 told tell (Some net) sheet text found is = let same : sheet ≡ sheet_of net = cc in ap Some (is ∙ ap tell same)
 
-pub no_chart : (net : Option Net) (name : List ℕ) → None ≡ option_map sheet_of net → None ≡ live_chart net name
-no_chart None name none = refl
-no_chart (Some net) name none = absurd (cc)
+-- the message of a name in the live sheet is that of the live message
+named_in_sheet : (live : List LiveMessage) (name : List ℕ)
+    → find (λ (m : Message). bytes_eq m.name name) (live_messages live) ≡ option_map (λ (m : LiveMessage). m.message) (live_named live name)
+named_in_sheet [] name = refl
+named_in_sheet (m ∷ live) name = by_test (bytes_eq m.message.name name) (named_in_sheet live name)
+  where
+    by_test : (b : Bool) → find (λ (o : Message). bytes_eq o.name name) (live_messages live) ≡ option_map (λ (o : LiveMessage). o.message) (live_named live name)
+        → cond b (Some m.message) (find (λ (o : Message). bytes_eq o.name name) (live_messages live)) ≡ option_map (λ (o : LiveMessage). o.message) (cond b (Some m) (live_named live name))
+    by_test true rest = refl
+    by_test false rest = rest
 
-pub charted : (net : Option Net) (name : List ℕ) (sheet : Sheet) → Some sheet ≡ option_map sheet_of net → option_map message_chart (message_named name sheet) ≡ live_chart net name
-charted None name sheet found = absurd (cc)
-charted (Some net) name sheet found = let same : sheet ≡ sheet_of net = cc in ap (λ (s : Sheet). option_map message_chart (message_named name s)) same
+abbrev live_messages_of : Option Net → List LiveMessage
+live_messages_of net = elim net [ None ↦ [] | Some n ↦ n.live ]
+
+-- the chart of the live message that is found
+pub charted : (name message : List ℕ) (t : Tables) (net : Option Net) (found : Option LiveMessage) → IsNetAt name t net
+    → ((live : List LiveMessage) → HasRows name t live → found ≡ live_named live message) → option_map (λ (m : LiveMessage). message_chart m.message) found ≡ live_chart net message
+charted name message t None found at one = ap (option_map (λ (m : LiveMessage). message_chart m.message)) (one [] at.live)
+charted name message t (Some net) found at one =
+    ap (option_map (λ (m : LiveMessage). message_chart m.message)) (one net.live at.live) ∙ option_twice (live_named net.live message)
+    ∙ ap (option_map message_chart) (sym (named_in_sheet net.live message))
+  where
+    option_twice : (o : Option LiveMessage) → option_map (λ (m : LiveMessage). message_chart m.message) o ≡ option_map message_chart (option_map (λ (m : LiveMessage). m.message) o)
+    option_twice None = refl
+    option_twice (Some m) = refl

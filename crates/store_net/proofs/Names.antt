@@ -29,13 +29,14 @@ use Rattle.office_rows.specs.Shown.{net_names_order, net_names_shown, net_order,
 use Rattle.chart.proofs.Pieces.{items_more}
 use Rattle.net_list.specs.Text.{line_of, net_line, nets_text}
 use Rattle.store_rows.specs.Listed.{AreListed, AreShown}
-use Rattle.store_rows.specs.Rows.{IsFrozenRow, IsNetAt, IsNetRow, IsRowOf, NetRows, numbered}
+use Rattle.store_rows.specs.NetIn.{IsNetAt, IsRestAt, RestRows, rest_of}
+use Rattle.store_rows.specs.Rows.{IsFrozenRow, IsNetRow, IsRowOf, numbered}
 use Rattle.store_rows.proofs.Keys.{net_total, other_net, own_text, releases_total, text_order}
 use Rattle.store_rows.proofs.Listing.{found_listed, none_listed}
 use Rattle.store_rows.proofs.Reading.{both_tests, selected_shown}
 use Rattle.store_rows.proofs.Setting.{left_none, left_others}
 use Rattle.store_rows.proofs.Values.{one_text}
-use Rattle.store_net.specs.Nets.{AreNets, IsNamed}
+use Rattle.store_net.specs.Nets.{AreKnownNets, AreNets, IsNamed}
 
 abbrev name_of : Net → List ℕ
 name_of net = net.name
@@ -141,12 +142,12 @@ nets_listed (net ∷ nets) rows ascending named alone =
 
 -- ---- the rows of a name, as the tables have them
 
-alone_at : (name : List ℕ) (t : Tables) (nets : List Net) → IsNetAt name t (find (λ (net : Net). bytes_eq net.name name) nets) → Alone name (among nets name) (filter (is_of_net name) t.net)
-alone_at name t [] at = ap (λ (r : NetRows). r.head) at
+alone_at : (name : List ℕ) (t : Tables) (nets : List Net) → IsRestAt name (rest_of name t) (find (λ (net : Net). bytes_eq net.name name) nets) → Alone name (among nets name) (filter (is_of_net name) t.net)
+alone_at name t [] at = ap (λ (r : RestRows). r.head) at
 alone_at name t (net ∷ nets) at = by_test (bytes_eq net.name name) (alone_at name t nets) at
   where
-    by_test : (b : Bool) → (IsNetAt name t (find (λ (n : Net). bytes_eq n.name name) nets) → Alone name (among nets name) (filter (is_of_net name) t.net))
-        → IsNetAt name t (cond b (Some net) (find (λ (n : Net). bytes_eq n.name name) nets)) → Alone name (b || among nets name) (filter (is_of_net name) t.net)
+    by_test : (b : Bool) → (IsRestAt name (rest_of name t) (find (λ (n : Net). bytes_eq n.name name) nets) → Alone name (among nets name) (filter (is_of_net name) t.net))
+        → IsRestAt name (rest_of name t) (cond b (Some net) (find (λ (n : Net). bytes_eq n.name name) nets)) → Alone name (b || among nets name) (filter (is_of_net name) t.net)
     by_test false rest at = rest at
     by_test true rest at = one_row at.head.found at.head.same at.head.each
       where
@@ -171,7 +172,7 @@ shown_names [] (x ∷ rows) all = absurd all
 shown_names (n ∷ names) [] all = absurd all
 shown_names (n ∷ names) (x ∷ rows) all = (all.0, shown_names names rows all.1)
 
-pub names_are : (t : Tables) (rows : List Row) (names : List (List ℕ)) (nets : List Net) → IsSelected is_any net_names_shown net_names_order t.net rows → AreShown IsNamed names rows → AreNets t nets
+pub names_are : (t : Tables) (rows : List Row) (names : List (List ℕ)) (nets : List Net) → IsSelected is_any net_names_shown net_names_order t.net rows → AreShown IsNamed names rows → AreKnownNets t nets
     → names ≡ map name_of nets
 names_are t rows names nets sel shown are =
     let found = sel.found in
@@ -182,6 +183,10 @@ names_are t rows names nets sel shown are =
     moved_alone name (among nets name) (filter (is_of_net name) t.net) (filter (is_of_net name) found) (moved name) (alone_at name t nets (are.each name)) in
     let listed = nets_listed nets found are.ascending (named_all names found these) alone in
     both_named names (map name_of nets) found these (found_listed net_total found found (map name_of nets) listed (IsPermutation-refl found) sel.sorted)
+
+-- whatever the form of their live messages
+pub known_nets : (t : Tables) (nets : List Net) → AreNets t nets → AreKnownNets t nets
+known_nets t nets are = record { ascending = are.ascending; each = λ name. (are.each name).rest }
 
 -- ---- the line of a network
 
@@ -198,7 +203,7 @@ count_numbered first (s ∷ releases) = ap suc (count_numbered (first + 1) relea
 pub count_is : (name : List ℕ) (t : Tables) (net : Net) (rows : List Row) → IsNetAt name t (Some net)
     → IsSelected (is_of_net name) release_numbers_shown release_numbers_order t.frozen rows → length rows ≡ length net.releases
 count_is name t net rows there sel =
-    let all = selected_shown releases_total (IsRowOf frozen_row (IsFrozenRow name)) (λ _ _. Unit {0}) (is_of_net name) release_numbers_shown t.frozen rows (numbered 1 net.releases) (λ _ _ _. tt) there.releases sel in
+    let all = selected_shown releases_total (IsRowOf frozen_row (IsFrozenRow name)) (λ _ _. Unit {0}) (is_of_net name) release_numbers_shown t.frozen rows (numbered 1 net.releases) (λ _ _ _. tt) there.rest.releases sel in
     count_shown (λ _ _. Unit {0}) (numbered 1 net.releases) rows all ∙ count_numbered 1 net.releases
 
 pub line_is : (name : List ℕ) (net : Net) (head : Head) (releases : ℕ) → net.name ≡ name → Some head ≡ Some net.head → releases ≡ length net.releases → line_of name head releases ≡ net_line net

@@ -14,7 +14,8 @@ use Rattle.office_tables.specs.Selected.{IsSelected, has_number}
 use Rattle.office_rows.specs.Rows.{frozen_row, has_net_and_number, is_of_net}
 use Rattle.office_rows.specs.Shown.{release_order, release_shown, releases_order}
 use Rattle.store_rows.specs.Listed.{AreListed, AreShown}
-use Rattle.store_rows.specs.Rows.{IsFrozenRow, IsNetAt, IsRowOf, NetRows, numbered}
+use Rattle.store_rows.specs.NetIn.{IsNetAt, RestRows}
+use Rattle.store_rows.specs.Rows.{IsFrozenRow, IsRowOf, numbered}
 use Rattle.store_rows.proofs.Keys.{int_test, releases_total}
 use Rattle.store_rows.proofs.Listing.{kept_listed, none_listed}
 use Rattle.store_rows.proofs.Reading.{both_tests, selected_shown}
@@ -35,8 +36,8 @@ releases_in None = []
 releases_in (Some net) = net.releases
 
 its_releases : (name : List ℕ) (t : Tables) (net : Option Net) → IsNetAt name t net → HasReleases name t (releases_in net)
-its_releases name t None at = subst (λ (r : NetRows). AreListed releases_order (IsRowOf frozen_row (IsFrozenRow name)) r.releases []) (sym at) none_listed
-its_releases name t (Some net) at = at.releases
+its_releases name t None at = subst (λ (r : RestRows). AreListed releases_order (IsRowOf frozen_row (IsFrozenRow name)) r.releases []) (sym at.rest) none_listed
+its_releases name t (Some net) at = at.rest.releases
 
 same_test : (name : List ℕ) (number : ℕ) (release : ℕ × Sheet) (row : Row) → IsRowOf frozen_row (IsFrozenRow name) release row → has_this number release ≡ has_number 1 number row
 same_test name number release row is =

@@ -4,15 +4,17 @@ use Rattle.sqlite.specs.declared.types.Value.TheVariants.{Int, Text, Blob}
 use Rattle.catalogue.specs.Sheet.{empty_sheet}
 use Rattle.office_types.specs.declared.command.NetKind.TheVariants.{Can}
 use Rattle.office_types.specs.declared.refusal.Refusal.TheVariants as no
-use Rattle.office_types.specs.declared.reply.Reply.TheVariants.{Counts, Number, Refused}
+use Rattle.office_types.specs.declared.reply.PartReply.TheVariants as part
+use Rattle.office_types.specs.declared.reply.Reply.TheVariants.{Bundle, Counts, Number, Refused}
 use Rattle.office_types.specs.declared.state.Net.{Net}
 use Rattle.office_types.specs.declared.state.Phase.TheVariants.{Draft}
 use Rattle.office_rules.specs.Opening.{bare_net}
+use Rattle.office_rules.specs.Profile.{Two}
 use Rattle.std.proofs.lemmas.List.Sorted.{IsPermutation-refl, IsPermutation-to_front}
 use Rattle.office_history.specs.declared.arrival.Answer.TheVariants as answer
 use Rattle.office_history.specs.History.{Answered}
 use Rattle.office_rules.proofs.Asking.{engine, takes}
-use Rattle.store_net.specs.Kept.{AreKept, kept_row}
+use Rattle.store_net.specs.Kept.{AreKept, AreKeptParts, kept_row, part_rows}
 use Rattle.store_net.specs.Writing.{next_number}
 
 -- the row of a request for an identifier, which got 256
@@ -31,7 +33,7 @@ fault_row : kept_row (codes "engine") (codes "a3") (codes "import") (Refused (no
 fault_row = refl
 
 abbrev asked : Answered
-asked = record { team = engine; key = codes "a1"; content = codes "take E1"; command = (takes engine (codes "E1") None).command; answer = answer.Reply (Number 256) }
+asked = record { profile = Two; team = engine; key = codes "a1"; content = codes "take E1"; command = (takes engine (codes "E1") None).command; answer = answer.Reply (Number 256) }
 
 -- a request that came twice has one row
 repeat_kept : AreKept (asked ∷ asked ∷ []) (kept_row engine (codes "a1") (codes "take E1") (Number 256) ∷ [])
@@ -47,6 +49,23 @@ either_order = record {
   same = IsPermutation-to_front (kept_row engine (codes "a2") (codes "take E1") (Number 256) ∷ []) (kept_row engine (codes "a1") (codes "take E1") (Number 256));
   each = ((Number 256, refl, refl), ((Number 256, refl, refl), tt));
 }
+
+-- a bundle of two parts
+bundle_row : kept_row (codes "engine") (codes "a4") (codes "bundle") (Bundle (part.Number 256 ∷ part.Start 0 ∷ []))
+    ≡ Text (codes "engine") ∷ Text (codes "a4") ∷ Blob (codes "bundle") ∷ Int (pos 6) ∷ Int (pos 2) ∷ Int (pos 0) ∷ Int (pos 0) ∷ []
+bundle_row = refl
+
+bundle_parts : part_rows (codes "engine") (codes "a4") 1 (part.Number 256 ∷ part.Start 0 ∷ [])
+    ≡ (Text (codes "engine") ∷ Text (codes "a4") ∷ Int (pos 1) ∷ Int (pos 1) ∷ Int (pos 256) ∷ Int (pos 0) ∷ [])
+    ∷ (Text (codes "engine") ∷ Text (codes "a4") ∷ Int (pos 2) ∷ Int (pos 2) ∷ Int (pos 0) ∷ Int (pos 0) ∷ []) ∷ []
+bundle_parts = refl
+
+abbrev bundled : Answered
+bundled = record asked { key = codes "a4"; answer = answer.Reply (Bundle (part.Number 256 ∷ part.Start 0 ∷ [])) }
+
+-- other answers have no parts
+parts_kept : AreKeptParts (asked ∷ bundled ∷ asked ∷ bundled ∷ []) (part_rows engine (codes "a4") 1 (part.Number 256 ∷ part.Start 0 ∷ []))
+parts_kept = IsPermutation-refl _
 
 first_release : next_number None ≡ 1
 first_release = refl

@@ -10,13 +10,15 @@ use Rattle.office_types.specs.declared.state.GrantedBlock.{GrantedBlock}
 use Rattle.office_types.specs.declared.state.Head.{Head}
 use Rattle.office_types.specs.declared.state.LiveMessage.{LiveMessage}
 use Rattle.office_types.specs.declared.state.Net.{Net}
+use Rattle.office_law.specs.Released.{with_releases}
 use Rattle.office_tables.specs.Tables.{Tables, tables_of}
 use Rattle.office_rows.specs.Rows.{net_row}
 use Rattle.office_rows.specs.Shown.{net_order}
 use Rattle.store_rows.specs.Listed.{AreListed}
-use Rattle.store_rows.specs.Rows.{IsNetAt, IsNetRow, IsRowOf, NetRows}
+use Rattle.store_rows.specs.NetIn.{HasRows, IsNetAt, RestRows}
+use Rattle.store_rows.specs.Rows.{IsNetRow, IsRowOf}
 use Rattle.store_rows.proofs.Listing.{none_listed}
-use Rattle.store_net.specs.Parts.{HasApprovals, HasBlocks, HasHead, HasHeld, HasLive, HasReleases}
+use Rattle.store_net.specs.Parts.{HasApprovals, HasBlocks, HasHead, HasHeld, HasReleases}
 
 -- of two calls that leave nothing for a crash to find
 pub nothing_left : (a b c : State) → Survives a b (λ _. ⊥) → Survives b c (λ _. ⊥) → Survives a c (λ _. ⊥)
@@ -31,30 +33,43 @@ abbrev pub head_in : Option Net → Option Head
 head_in net = option_map (λ (n : Net). n.head) net
 
 pub its_head : (name : List ℕ) (t : Tables) (net : Option Net) → IsNetAt name t net → HasHead name t (head_in net)
-its_head name t None at = subst (λ (r : NetRows). AreListed net_order (IsRowOf net_row (IsNetRow name)) r.head []) (sym at) none_listed
-its_head name t (Some net) at = at.head
+its_head name t None at = subst (λ (r : RestRows). AreListed net_order (IsRowOf net_row (IsNetRow name)) r.head []) (sym at.rest) none_listed
+its_head name t (Some net) at = at.rest.head
 
-pub no_net : (net : Option Net) → None ≡ head_in net → None ≡ net
-no_net None none = refl
-no_net (Some net) none = absurd (cc)
+pub none_unreleased : (net : Option Net) → None ≡ head_in net → None ≡ option_map (with_releases []) net
+none_unreleased None none = refl
+none_unreleased (Some net) none = absurd (cc)
+
+pub none_if_unreleased : (net : Option Net) → None ≡ option_map (with_releases []) net → None ≡ net
+none_if_unreleased None none = refl
+none_if_unreleased (Some net) none = absurd (cc)
 
 same_parts : (a b : Net) → a.name ≡ b.name → a.head ≡ b.head → a.live ≡ b.live → a.blocks ≡ b.blocks → a.held ≡ b.held → a.approvals ≡ b.approvals → a.releases ≡ b.releases → a ≡ b
 same_parts a b name head live blocks held approvals releases =
     λ i. record { name = name i; head = head i; live = live i; blocks = blocks i; held = held i; approvals = approvals i; releases = releases i }
 
--- each part is the one that the tables have
+-- each part is the one that the tables have, and there is no release
 pub record AreParts (name : List ℕ) (t : Tables) (made : Net) : Type 0 where
   pub named : made.name ≡ name
-  pub live : (live : List LiveMessage) → HasLive name t live → made.live ≡ live
+  pub live : (live : List LiveMessage) → HasRows name t live → made.live ≡ live
   pub blocks : (blocks : List GrantedBlock) → HasBlocks name t blocks → made.blocks ≡ blocks
   pub held : (held : List Ident) → HasHeld name t held → made.held ≡ held
   pub approvals : (teams : List (List ℕ)) → HasApprovals name t teams → made.approvals ≡ teams
-  pub releases : (releases : List Sheet) → HasReleases name t releases → made.releases ≡ releases
+  pub releases : made.releases ≡ []
 
-pub whole_net : (name : List ℕ) (t : Tables) (net : Option Net) (made : Net) → IsNetAt name t net → Some made.head ≡ head_in net → AreParts name t made → Some made ≡ net
-whole_net name t None made at head parts = absurd (cc)
-whole_net name t (Some net) made at head parts =
+pub unreleased_net : (name : List ℕ) (t : Tables) (net : Option Net) (made : Net) → IsNetAt name t net → Some made.head ≡ head_in net → AreParts name t made
+    → Some made ≡ option_map (with_releases []) net
+unreleased_net name t None made at head parts = absurd (cc)
+unreleased_net name t (Some net) made at head parts =
     let same : made.head ≡ net.head = cc in
     ap Some
-    (same_parts made net (parts.named ∙ sym at.named) same (parts.live net.live at.live) (parts.blocks net.blocks at.blocks) (parts.held net.held at.held)
-    (parts.approvals net.approvals at.approvals) (parts.releases net.releases at.releases))
+    (same_parts made (with_releases [] net) (parts.named ∙ sym at.rest.named) same (parts.live net.live at.live) (parts.blocks net.blocks at.rest.blocks) (parts.held net.held at.rest.held)
+    (parts.approvals net.approvals at.rest.approvals) parts.releases)
+
+-- a network without its releases, and with them
+pub with_its_releases : (name : List ℕ) (t : Tables) (net : Option Net) (made : Net) (releases : List Sheet) → IsNetAt name t net → Some made ≡ option_map (with_releases []) net
+    → ((others : List Sheet) → HasReleases name t others → releases ≡ others) → Some (with_releases releases made) ≡ net
+with_its_releases name t None made releases at is one = absurd (cc)
+with_its_releases name t (Some net) made releases at is one =
+    let same : made ≡ with_releases [] net = cc in
+    ap Some (ap (with_releases releases) same ∙ ap (λ (rs : List Sheet). with_releases rs net) (one net.releases at.rest.releases))

@@ -1,11 +1,15 @@
--- The rows of answered requests.
-use Rattle.std.specs.Prelude.{◌≡◌, ℕ, pos, List, [], ◌∷◌, IsPermutation}
+-- The rows of answered requests, and of the parts of those that were bundles.
+use Rattle.std.specs.Prelude.{◌≡◌, ℕ, ◌+◌, pos, List, [], ◌∷◌, IsPermutation}
+use Rattle.std.specs.List.{flat_map}
 use Rattle.sqlite.specs.declared.types.Value.TheVariants.{Int, Text, Blob}
 use Rattle.sqlite.specs.Order.{Row, column}
-use Rattle.office_types.specs.Reply.{reply_numbers}
+use Rattle.office_types.specs.Reply.{part_numbers, reply_numbers, reply_parts}
+use Rattle.office_types.specs.declared.reply.PartReply.{PartReply}
 use Rattle.office_types.specs.declared.reply.Reply.{Reply}
 use Rattle.office_types.specs.declared.reply.ReplyNumbers.{ReplyNumbers}
+use Rattle.office_history.specs.declared.arrival.Answer.{Answer}
 use Rattle.office_history.specs.declared.arrival.Answer.TheVariants as answer
+use Rattle.office_history.specs.declared.arrival.Answer.TheVariants.{KeyReused}
 use Rattle.office_history.specs.History.{Answered, first_arrivals}
 use Rattle.store_rows.specs.Listed.{AreShown}
 
@@ -25,6 +29,29 @@ pub record AreKept (h : List Answered) (rows : List Row) : Type 0 where
   pub found : List Row
   pub same : IsPermutation rows found
   pub each : AreShown IsKept (first_arrivals h) found
+
+-- the row of what a part is answered, at its place in the bundle
+abbrev pub part_values : List ℕ → List ℕ → ℕ → PartReply → Row
+part_values team key place p =
+    Text team ∷ Text key ∷ Int (pos place) ∷ Int (pos (part_numbers p).kind) ∷ Int (pos (part_numbers p).a) ∷ Int (pos 0) ∷ []
+
+-- those of parts, from this place on
+abbrev pub part_rows : List ℕ → List ℕ → ℕ → List PartReply → List Row
+part_rows team key place [] = []
+part_rows team key place (p ∷ ps) = part_values team key place p ∷ part_rows team key (place + 1) ps
+
+-- the parts of an answer: those of the reply to a bundle
+abbrev pub answer_parts : Answer → List PartReply
+answer_parts (answer.Reply reply) = reply_parts reply
+answer_parts KeyReused = []
+
+-- the rows of the parts of an arrival's answer; the first part's place is 1
+abbrev pub kept_parts : Answered → List Row
+kept_parts a = part_rows a.team a.key 1 (answer_parts a.answer)
+
+-- the rows, whatever their order in the table, are those of the parts of the first arrivals' answers
+abbrev pub AreKeptParts : List Answered → List Row → Type 0
+AreKeptParts h rows = IsPermutation rows (flat_map kept_parts (first_arrivals h))
 
 -- ---- what the query of a reply shows: content, kind, a, b, c
 

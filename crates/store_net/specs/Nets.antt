@@ -7,12 +7,17 @@ use Rattle.sqlite.specs.declared.types.Value.TheVariants.{Text}
 use Rattle.office_types.specs.State.{by_name}
 use Rattle.office_types.specs.declared.state.Net.{Net}
 use Rattle.office_tables.specs.Tables.{Tables}
-use Rattle.store_rows.specs.Rows.{IsNetAt}
+use Rattle.store_rows.specs.NetIn.{IsNetAt, IsRestAt, rest_of}
 
 -- the tables have these networks and no other
 pub record AreNets (t : Tables) (nets : List Net) : Type 0 where
   pub ascending : IsStrictlySortedBy by_name nets
   pub each : (name : List ℕ) → IsNetAt name t (find (λ net. bytes_eq net.name name) nets)
+
+-- the same, whatever they have of live messages
+pub record AreKnownNets (t : Tables) (nets : List Net) : Type 0 where
+  pub ascending : IsStrictlySortedBy by_name nets
+  pub each : (name : List ℕ) → IsRestAt name (rest_of name t) (find (λ net. bytes_eq net.name name) nets)
 
 -- the row of a network's name, and any row that begins with it
 abbrev pub IsNamed : List ℕ → Row → Type 0

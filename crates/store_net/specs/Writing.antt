@@ -1,7 +1,10 @@
 -- What writing a change leaves.
-use Rattle.std.specs.Prelude.{ℕ, Option, Some, None, IsTrue}
+use Rattle.std.specs.Prelude.{◌≡◌, ℕ, true, List, Option, Some, None, IsTrue}
+use Rattle.std.specs.List.{list_any}
 use Rattle.sqlite.specs.State.{State}
+use Rattle.office_types.specs.declared.change.Change.{Change}
 use Rattle.office_types.specs.declared.state.Net.{Net}
+use Rattle.office_rules.specs.Change.{is_release}
 use Rattle.office_tables.specs.Tables.{IsOffice}
 use Rattle.store_rows.specs.Rows.{next_release}
 
@@ -14,3 +17,7 @@ pub record IsInside (s : State) : Type 0 where
 abbrev pub next_number : Option Net → ℕ
 next_number None = 1
 next_number (Some net) = next_release net
+
+-- if a release is among the changes, this is the number of the network's next one
+abbrev pub IsNext : Option ℕ → Option Net → List Change → Type 0
+IsNext next net changes = list_any is_release changes ≡ true → next ≡ Some (next_number net)

@@ -3,7 +3,7 @@ ghost use Rattle.std.specs.Prelude.{◌≡◌, false, Option, Some, OnOk};
 ghost use Rattle.sqlite.specs.Held.{state};
 ghost use Rattle.sqlite.specs.State.{HasCleanDisk, KeepsCommit, Survives};
 ghost use Rattle.office_types.specs.Block.{is_spn};
-ghost use Rattle.office_types.specs.declared.change.Change.TheVariants.{SetHead, SetMessage, RemoveMessage, SetBlock, SetSpnBlock, Hold, EnterSpn, SetApproval, ClearApprovals, AddRelease};
+ghost use Rattle.office_types.specs.declared.change.Change.TheVariants.{SetHead, SetBlock, SetSpnBlock, Hold, EnterSpn, SetApproval, ClearApprovals, AddRelease};
 ghost use Rattle.office_types.specs.declared.state.Net.{Net as Network};
 ghost use Rattle.office_tables.specs.Tables.{IsOffice, tables_of};
 ghost use Rattle.store_rows.specs.Rows.{next_release, submitter_text};
@@ -11,16 +11,12 @@ ghost use Rattle.store_rows.specs.Written.{IsWritten};
 ghost use Rattle.store_net.specs.Writing.{IsInside};
 
 use crate::release_sheet::release_sheet;
-use crate::setting::{set_approval, set_block, set_held, set_message, set_net, set_spn};
+use crate::setting::{set_approval, set_block, set_held, set_net, set_spn};
 use can_id::Ident;
 use dbc_write::text_of;
-use office_bodies::body_of;
-use office_rows::{
-    BlockRow, FrozenRow, MessageRow, NetRow, delete_approvals, delete_message, insert_frozen,
-};
+use office_rows::{BlockRow, FrozenRow, NetRow, delete_approvals, insert_frozen};
 use office_types::{
-    BlockForm, FrozenSheet, GrantedBlock, Head, LiveMessage, NetName, Phase, SpnBlock, Team,
-    UsableSpn,
+    BlockForm, FrozenSheet, GrantedBlock, Head, NetName, Phase, SpnBlock, Team, UsableSpn,
 };
 use sqlite::{Alter, Error, Transaction};
 use std::alloc::Global;
@@ -59,49 +55,6 @@ pub(crate) fn write_head<S: Alter>(
         frame: &frame,
     };
     set_net(tx, &row)
-}
-
-/// Writes the live message.
-pub(crate) fn write_message<S: Alter>(
-    alloc: Global,
-    tx: &mut Transaction<'_, S>,
-    name: &NetName,
-    live: &LiveMessage,
-) -> Result<(), Error>
-    ensures same_reference { tx.new.conn.ghost_name ≡ tx.old.conn.ghost_name }
-    ensures written { HasCleanDisk (state S.Store tx.new.conn.now) → IsOffice (state S.Store tx.old.conn.now).now
-        → OnOk result ((net : Option Network) → IsWritten name.now (SetMessage live.now) net (tables_of (state S.Store tx.old.conn.now).now.trees) (tables_of (state S.Store tx.new.conn.now).now.trees)) }
-    ensures inside { HasCleanDisk (state S.Store tx.new.conn.now) → IsOffice (state S.Store tx.old.conn.now).now → OnOk result (IsInside (state S.Store tx.new.conn.now)) }
-    ensures kept { HasCleanDisk (state S.Store tx.new.conn.now) → KeepsCommit (state S.Store tx.old.conn.now) (state S.Store tx.new.conn.now) }
-    ensures survives { Survives (state S.Store tx.old.conn.now) (state S.Store tx.new.conn.now) (λ _. ⊥) }
-{
-    let body = body_of(alloc, &live.message)?;
-    let row = MessageRow {
-        net: name.as_bytes(),
-        number: live.message.ident.to_dbc(),
-        name: live.message.name.as_bytes(),
-        owner: live.owner.as_bytes(),
-        body: &body,
-    };
-    set_message(tx, &row)
-}
-
-/// Removes the live message of the identifier.
-pub(crate) fn remove_message<S: Alter>(
-    tx: &mut Transaction<'_, S>,
-    name: &NetName,
-    ident: Ident,
-) -> Result<(), Error>
-    ensures same_reference { tx.new.conn.ghost_name ≡ tx.old.conn.ghost_name }
-    ensures written { HasCleanDisk (state S.Store tx.new.conn.now) → IsOffice (state S.Store tx.old.conn.now).now
-        → OnOk result ((net : Option Network) → IsWritten name.now (RemoveMessage ident) net (tables_of (state S.Store tx.old.conn.now).now.trees) (tables_of (state S.Store tx.new.conn.now).now.trees)) }
-    ensures inside { HasCleanDisk (state S.Store tx.new.conn.now) → IsOffice (state S.Store tx.old.conn.now).now → OnOk result (IsInside (state S.Store tx.new.conn.now)) }
-    ensures kept { HasCleanDisk (state S.Store tx.new.conn.now) → KeepsCommit (state S.Store tx.old.conn.now) (state S.Store tx.new.conn.now) }
-    ensures survives { Survives (state S.Store tx.old.conn.now) (state S.Store tx.new.conn.now) (λ _. ⊥) }
-{
-    let number = ident.to_dbc();
-    delete_message(tx, name.as_bytes(), number)?;
-    Ok(())
 }
 
 /// Writes a block of the network's own.

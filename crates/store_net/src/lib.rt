@@ -5,7 +5,13 @@
 //! with the book; nothing is asked of the rows of other networks. Each part is one SELECT, and one function (`parts`).
 //! [`live_text`] gives the canonical text of a network's live sheet, [`live_table`] the table of its messages and
 //! [`live_chart`] the chart of one of them; [`release_text`] gives the canonical text of a release, which reads as the
-//! release and as no other sheet. [`nets_text`] lists all networks (`AreNets`).
+//! release and as no other sheet. [`nets_text`] lists all networks (`AreNets`), and
+//! [`names_of`] gives their names. [`live_of`] reads live messages that are bodies, the form of profile 1.
+//!
+//! A command on one message reads that message alone ([`message_excerpt_at`]). One that gives out a number reads no
+//! message: of the identifiers of live messages [`ident_excerpt_at`] reads those in the team's blocks, and
+//! [`group_excerpt_at`] those of 29 bits (`heads`, `ranges`). `IsExcerptOf` of `office_net` says what is decided by such
+//! an excerpt as by the network.
 //!
 //! Writing: [`write_changes`] writes the rows of a list of changes (`writing`, `change_rows`, `setting`): each removes
 //! the rows of its key and adds its own, so that the tables follow what the changes do at the network and in the book.
@@ -16,15 +22,24 @@
 //! does. An error is out of memory, what `sqlite` answers, or `InvalidQuery` where the rows are no office's; the
 //! transaction is to be rolled back then.
 //!
-//! The definitions are in `specs/`: `Parts.antt` (the parts of a network in the tables), `Nets.antt` (all networks of the
-//! tables), `Texts.antt` (the texts of a network), `Writing.antt` (what writing a change leaves), `Kept.antt` (the rows of
-//! answered requests). The lemmas on them, for the crates above, are in `proofs/`.
+//! The definitions are in `specs/`: `Parts.antt` (the parts of a network in the tables), `Excerpts.antt` and
+//! `Numbers.antt` (the part that a command reads), `Nets.antt` (all networks of the tables), `Texts.antt` (the texts of a
+//! network), `Writing.antt` (what writing a change leaves), `Kept.antt` (the rows of answered requests). The lemmas on
+//! them, for the crates above, are in `proofs/`.
 #![tactic(auto)]
 
 mod change_rows;
+mod excerpt;
+mod heads;
 mod live;
+mod live_list;
+mod message;
+mod message_rows;
 mod nets;
+mod number_excerpt;
+mod one_signal;
 mod parts;
+mod ranges;
 mod reading;
 mod release;
 mod release_sheet;
@@ -32,9 +47,16 @@ mod replies;
 mod setting;
 mod writing;
 
+pub use excerpt::message_excerpt_at;
 pub use live::{live_chart, live_table, live_text};
-pub use nets::nets_text;
-pub use reading::{book_of, net_at};
+pub use live_list::live_messages;
+pub use message::message_at;
+pub use message_rows::{remove_message, write_message, write_receivers, write_values};
+pub use nets::{names_of, nets_text};
+pub use number_excerpt::{group_excerpt_at, ident_excerpt_at};
+pub use parts::live_of;
+pub use ranges::live_idents_at;
+pub use reading::{book_of, net_at, unreleased_net_at};
 pub use release::release_text;
 pub use replies::{answer_at, keep_reply};
-pub use writing::write_changes;
+pub use writing::{next_release, write_changes};

@@ -1,19 +1,20 @@
 //! The live sheet of a network, and the texts that show it.
 ghost use Rattle.std.specs.Prelude.{◌≡◌, [], false, Option, IfOk, OnOk};
 ghost use Rattle.std.specs.List.Sorted.{IsStrictlySortedBy};
-ghost use Rattle.std.specs.Option.{option_copied, option_map};
+ghost use Rattle.std.specs.Option.{option_map};
 ghost use Rattle.catalogue.specs.Keyed.{put};
 ghost use Rattle.catalogue.specs.Messages.{by_number, has_number, number_of};
 ghost use Rattle.office_tables.specs.Tables.{tables_of, IsOffice};
-ghost use Rattle.chart.specs.Message.{message_chart};
 ghost use Rattle.office_types.specs.State.{live_messages, sheet_of, sheet_with};
 ghost use Rattle.office_types.specs.declared.state.Net.{Net as Network};
 ghost use Rattle.sqlite.specs.Held.{state};
 ghost use Rattle.sqlite.specs.State.{HasCleanDisk, IsUnchanged, KeepsCommit, Survives};
-ghost use Rattle.store_rows.specs.Rows.{IsNetAt};
-ghost use Rattle.store_net.specs.Texts.{live_chart, live_table, live_text, message_named};
+ghost use Rattle.store_rows.specs.NetIn.{IsNetAt};
+ghost use Rattle.store_net.specs.Texts.{live_chart, live_table, live_text};
 
-use crate::parts::{head_of, live_of};
+use crate::live_list::live_messages;
+use crate::message::message_at;
+use crate::parts::head_of;
 use catalogue::{Copying, Message, Name, Sheet, SheetCode};
 use chart::{message_chart, table_of};
 use dbc_write::text_of;
@@ -78,7 +79,7 @@ fn sheet_at<S: Alter>(
     let Some(head) = head_of(alloc, tx, name)? else {
         return Ok(None);
     };
-    let live = live_of(alloc, tx, name)?;
+    let live = live_messages(alloc, tx, name)?;
     let sheet = live_sheet(alloc, head, live.as_slice())?;
     Ok(Some(sheet))
 }
@@ -123,26 +124,6 @@ pub fn live_table<S: Alter>(
     Ok(Some(table_of(alloc, &sheet)?))
 }
 
-/// The message of the name.
-fn message_named<'a>(sheet: &'a Sheet, name: &Name) -> Option<&'a Message>
-    ensures { option_copied result ≡ message_named name.now sheet.now }
-{
-    sheet
-        .messages()
-        .iter()
-        .find(|message| message.name == *name)
-}
-
-/// The chart of the sheet's message of the name, `None` where there is none.
-fn chart_in(alloc: Global, sheet: &Sheet, name: &Name) -> Result<Option<Vec<u8>>, AllocError>
-    ensures { IfOk result (λ found. option_map (λ text. text.items) found ≡ option_map message_chart (message_named name.now sheet.now)) }
-{
-    match message_named(sheet, name) {
-        Some(message) => Ok(Some(message_chart(alloc, message)?)),
-        None => Ok(None),
-    }
-}
-
 /// The chart of the network's live message of the name, `None` where the network or the message isn't there. The errors
 /// are those of [`live_text`].
 pub fn live_chart<S: Alter>(
@@ -158,8 +139,8 @@ pub fn live_chart<S: Alter>(
     ensures kept { HasCleanDisk (state S.Store tx.new.conn.now) → IsOffice (state S.Store tx.old.conn.now).now → KeepsCommit (state S.Store tx.old.conn.now) (state S.Store tx.new.conn.now) }
     ensures survives { Survives (state S.Store tx.old.conn.now) (state S.Store tx.new.conn.now) (λ _. ⊥) }
 {
-    let Some(sheet) = sheet_at(alloc, tx, name)? else {
-        return Ok(None);
-    };
-    Ok(chart_in(alloc, &sheet, message)?)
+    match message_at(alloc, tx, name, message)? {
+        None => Ok(None),
+        Some(live) => Ok(Some(message_chart(alloc, &live.message)?)),
+    }
 }

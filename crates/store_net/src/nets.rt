@@ -7,8 +7,8 @@ ghost use Rattle.sqlite.specs.Held.{state};
 ghost use Rattle.sqlite.specs.State.{HasCleanDisk, IsUnchanged, KeepsCommit, Survives};
 ghost use Rattle.net_list.specs.Text.{net_line, nets_text};
 ghost use Rattle.store_rows.specs.Listed.{AreShown};
-ghost use Rattle.store_rows.specs.Rows.{IsNetAt};
-ghost use Rattle.store_net.specs.Nets.{AreNets, IsNamed};
+ghost use Rattle.store_rows.specs.NetIn.{IsNetAt};
+ghost use Rattle.store_net.specs.Nets.{AreKnownNets, AreNets, IsNamed};
 
 use crate::parts::head_of;
 use net_list::net_line;
@@ -43,12 +43,12 @@ fn names_in(alloc: Global, rows: &[Row]) -> Result<Vec<NetName>, Error>
     Ok(names)
 }
 
-/// The names of all networks, in their order. An error is out of memory, what `sqlite` answers, or `InvalidQuery` where
-/// a row is no network's.
-fn names_of<S: Alter>(alloc: Global, tx: &mut Transaction<'_, S>) -> Result<Vec<NetName>, Error>
+/// The names of all networks, in their order, whatever the form of their live messages. An error is out of memory, what
+/// `sqlite` answers, or `InvalidQuery` where a row is no network's.
+pub fn names_of<S: Alter>(alloc: Global, tx: &mut Transaction<'_, S>) -> Result<Vec<NetName>, Error>
     ensures same_reference { tx.new.conn.ghost_name ≡ tx.old.conn.ghost_name }
     ensures found { HasCleanDisk (state S.Store tx.new.conn.now) → IsOffice (state S.Store tx.old.conn.now).now
-        → IfOk result (λ names. (nets : List Network) → AreNets (tables_of (state S.Store tx.old.conn.now).now.trees) nets → names.items ≡ map (λ net. net.name) nets) }
+        → IfOk result (λ names. (nets : List Network) → AreKnownNets (tables_of (state S.Store tx.old.conn.now).now.trees) nets → names.items ≡ map (λ net. net.name) nets) }
     ensures same { HasCleanDisk (state S.Store tx.new.conn.now) → IsOffice (state S.Store tx.old.conn.now).now → OnOk result (IsUnchanged (state S.Store tx.old.conn.now) (state S.Store tx.new.conn.now)) }
     ensures kept { HasCleanDisk (state S.Store tx.new.conn.now) → IsOffice (state S.Store tx.old.conn.now).now → KeepsCommit (state S.Store tx.old.conn.now) (state S.Store tx.new.conn.now) }
     ensures survives { Survives (state S.Store tx.old.conn.now) (state S.Store tx.new.conn.now) (λ _. ⊥) }

@@ -44,8 +44,9 @@ pub(crate) fn head_of<S: Alter>(
     }
 }
 
-/// The live messages of the network, in ascending order of their DBC numbers.
-pub(crate) fn live_of<S: Alter>(
+/// The live messages of the network that are there as bodies, in ascending order of their DBC numbers. An error is out of
+/// memory, what `sqlite` answers, or `InvalidQuery` where a row is no live message's.
+pub fn live_of<S: Alter>(
     alloc: Global,
     tx: &mut Transaction<'_, S>,
     name: &NetName,

@@ -1,23 +1,59 @@
 //! A network, and the book of suspect parameter numbers, as the tables have them.
-ghost use Rattle.std.specs.Prelude.{◌≡◌, Option, IfOk, OnOk};
+ghost use Rattle.std.specs.Prelude.{◌≡◌, [], Option, IfOk, OnOk};
+ghost use Rattle.std.specs.Option.{option_map};
+ghost use Rattle.office_law.specs.Released.{with_releases};
 ghost use Rattle.office_tables.specs.Tables.{tables_of, IsOffice};
 ghost use Rattle.office_types.specs.declared.book.SpnBook.{SpnBook as Book};
 ghost use Rattle.office_types.specs.declared.state.Net.{Net as Network};
 ghost use Rattle.sqlite.specs.Held.{state};
 ghost use Rattle.sqlite.specs.State.{HasCleanDisk, IsUnchanged, KeepsCommit, Survives};
-ghost use Rattle.store_rows.specs.Rows.{IsBookIn, IsNetAt};
+ghost use Rattle.store_rows.specs.NetIn.{IsNetAt};
+ghost use Rattle.store_rows.specs.Rows.{IsBookIn};
 
+use crate::live_list::live_messages;
 use crate::parts::{
-    approvals_of, blocks_of, head_of, held_of, live_of, releases_of, spn_blocks_of, used_of,
+    approvals_of, blocks_of, head_of, held_of, releases_of, spn_blocks_of, used_of,
 };
-use catalogue::Copying;
+use catalogue::{Copying, Items};
 use office_types::{Net, NetName, SpnBook, UsedSpns};
 use sqlite::{Alter, Error, Transaction};
 use std::alloc::Global;
 
+/// The network of the name with all its parts but its releases, of which it has none; `None` where it isn't there. No body
+/// of a release is read. If the tables have a network under the name, it is that one without its releases. An error is out
+/// of memory, what `sqlite` answers, or `InvalidQuery` where the rows are no network's.
+pub fn unreleased_net_at<S: Alter>(
+    alloc: Global,
+    tx: &mut Transaction<'_, S>,
+    name: &NetName,
+) -> Result<Option<Net>, Error>
+    ensures same_reference { tx.new.conn.ghost_name ≡ tx.old.conn.ghost_name }
+    ensures found { HasCleanDisk (state S.Store tx.new.conn.now) → IsOffice (state S.Store tx.old.conn.now).now
+        → IfOk result (λ found. (net : Option Network) → IsNetAt name.now (tables_of (state S.Store tx.old.conn.now).now.trees) net → found ≡ option_map (with_releases []) net) }
+    ensures same { HasCleanDisk (state S.Store tx.new.conn.now) → IsOffice (state S.Store tx.old.conn.now).now → OnOk result (IsUnchanged (state S.Store tx.old.conn.now) (state S.Store tx.new.conn.now)) }
+    ensures kept { HasCleanDisk (state S.Store tx.new.conn.now) → IsOffice (state S.Store tx.old.conn.now).now → KeepsCommit (state S.Store tx.old.conn.now) (state S.Store tx.new.conn.now) }
+    ensures survives { Survives (state S.Store tx.old.conn.now) (state S.Store tx.new.conn.now) (λ _. ⊥) }
+{
+    let Some(head) = head_of(alloc, tx, name)? else {
+        return Ok(None);
+    };
+    let live = live_messages(alloc, tx, name)?;
+    let blocks = blocks_of(alloc, tx, name)?;
+    let held = held_of(alloc, tx, name)?;
+    let approvals = approvals_of(alloc, tx, name)?;
+    Ok(Some(Net {
+        name: name.duplicate(alloc)?,
+        head,
+        live,
+        blocks,
+        held,
+        approvals,
+        releases: Items::new(alloc),
+    }))
+}
+
 /// The network of the name with all its parts, `None` where it isn't there. If the tables have a network under the
-/// name, it is that one. An error is out of memory, what `sqlite` answers, or `InvalidQuery` where the rows are no
-/// network's.
+/// name, it is that one. The errors are those of [`unreleased_net_at`].
 pub fn net_at<S: Alter>(
     alloc: Global,
     tx: &mut Transaction<'_, S>,
@@ -30,23 +66,11 @@ pub fn net_at<S: Alter>(
     ensures kept { HasCleanDisk (state S.Store tx.new.conn.now) → IsOffice (state S.Store tx.old.conn.now).now → KeepsCommit (state S.Store tx.old.conn.now) (state S.Store tx.new.conn.now) }
     ensures survives { Survives (state S.Store tx.old.conn.now) (state S.Store tx.new.conn.now) (λ _. ⊥) }
 {
-    let Some(head) = head_of(alloc, tx, name)? else {
+    let Some(mut net) = unreleased_net_at(alloc, tx, name)? else {
         return Ok(None);
     };
-    let live = live_of(alloc, tx, name)?;
-    let blocks = blocks_of(alloc, tx, name)?;
-    let held = held_of(alloc, tx, name)?;
-    let approvals = approvals_of(alloc, tx, name)?;
-    let releases = releases_of(alloc, tx, name)?;
-    Ok(Some(Net {
-        name: name.duplicate(alloc)?,
-        head,
-        live,
-        blocks,
-        held,
-        approvals,
-        releases,
-    }))
+    net.releases = releases_of(alloc, tx, name)?;
+    Ok(Some(net))
 }
 
 /// The book of suspect parameter numbers: the blocks of all networks, and the numbers that were ever used. If the

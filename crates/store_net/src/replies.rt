@@ -1,22 +1,60 @@
-//! Kept replies: the row of an answered request, and what a request under the same key is answered.
-ghost use Rattle.std.specs.Prelude.{◌≡◌, ◌++◌, ◌∷◌, [], List, IfOk, OnOk};
+//! Kept replies: the rows of an answered request, and what a request under the same key is answered.
+ghost use Rattle.std.specs.Prelude.{◌≡◌, ◌++◌, ◌∷◌, [], List, Some, IfOk, IsTrue, OnOk};
 ghost use Rattle.std.specs.Option.{option_map};
 ghost use Rattle.sqlite.specs.Held.{state};
 ghost use Rattle.sqlite.specs.State.{HasCleanDisk, IsUnchanged, KeepsCommit, Survives};
+ghost use Rattle.office_types.specs.Reply.{reply_parts};
 ghost use Rattle.office_types.specs.declared.reply.Reply.{Reply as Told};
 ghost use Rattle.office_history.specs.History.{Answered, answer_again, first_of};
 ghost use Rattle.office_tables.specs.Tables.{IsOffice, tables_of};
-ghost use Rattle.office_tables.specs.Statements.{Makes};
-ghost use Rattle.store_net.specs.Kept.{AreKept, ShowsKept, ShowsReply, kept_row};
+ghost use Rattle.store_net.specs.Kept.{AreKept, AreKeptParts, ShowsKept, ShowsReply, answer_parts, kept_row, part_rows};
 
+use crate::writing::number_above;
+use catalogue::Items;
 use office_history::{Answer, Key};
-use office_rows::{ReplyRow, insert_reply, select_reply};
-use office_types::{Reply, ReplyNumbers, Team};
+use office_rows::{PartRow, ReplyRow, insert_part, insert_reply, select_parts, select_reply};
+use office_types::{PartReply, Reply, ReplyNumbers, Team};
 use sqlite::{Alter, Error, Row, Transaction};
-use store_rows::{blob_at, number_at};
+use std::alloc::Global;
+use store_rows::{blob_at, items_of, number_at};
 
-/// Adds the row of the reply to a team's request under a key, with the bytes of the request. The error is `sqlite`'s:
-/// out of memory, the disk's, or that the pair of team and key has a row already.
+/// Writes what the parts of a bundle are answered, each at its place from 1 on.
+fn write_parts<S: Alter>(
+    tx: &mut Transaction<'_, S>,
+    team: &[u8],
+    key: &[u8],
+    parts: &[PartReply],
+) -> Result<(), Error>
+    ensures same_reference { tx.new.conn.ghost_name ≡ tx.old.conn.ghost_name }
+    ensures written { HasCleanDisk (state S.Store tx.new.conn.now) → IsOffice (state S.Store tx.old.conn.now).now
+        → OnOk result (tables_of (state S.Store tx.new.conn.now).now.trees
+        ≡ (record (tables_of (state S.Store tx.old.conn.now).now.trees) { part = (tables_of (state S.Store tx.old.conn.now).now.trees).part ++ part_rows team.now key.now 1 parts.now })) }
+    ensures office { HasCleanDisk (state S.Store tx.new.conn.now) → IsOffice (state S.Store tx.old.conn.now).now → OnOk result (IsOffice (state S.Store tx.new.conn.now).now) }
+    ensures inside { HasCleanDisk (state S.Store tx.new.conn.now) → IsOffice (state S.Store tx.old.conn.now).now → IsTrue (state S.Store tx.old.conn.now).in_transaction
+        → OnOk result (IsTrue (state S.Store tx.new.conn.now).in_transaction) }
+    ensures kept { HasCleanDisk (state S.Store tx.new.conn.now) → KeepsCommit (state S.Store tx.old.conn.now) (state S.Store tx.new.conn.now) }
+    ensures survives { Survives (state S.Store tx.old.conn.now) (state S.Store tx.new.conn.now) (λ _. ⊥) }
+{
+    let mut place = 1;
+    for part in parts {
+        let numbers = part.numbers();
+        let row = PartRow {
+            team,
+            key,
+            place,
+            kind: numbers.kind,
+            a: numbers.a,
+            b: 0,
+        };
+        insert_part(tx, &row)?;
+        place = number_above(place)?;
+    }
+    Ok(())
+}
+
+/// Adds the row of the reply to a team's request under a key, with the bytes of the request, and, where the reply is that
+/// of a bundle, a row for each part. The error is `sqlite`'s: out of memory, the disk's, or that the pair of team and key
+/// has a row already.
 pub fn keep_reply<S: Alter>(
     tx: &mut Transaction<'_, S>,
     team: &Team,
@@ -26,7 +64,11 @@ pub fn keep_reply<S: Alter>(
 ) -> Result<(), Error>
     ensures same_reference { tx.new.conn.ghost_name ≡ tx.old.conn.ghost_name }
     ensures added { HasCleanDisk (state S.Store tx.new.conn.now) → IsOffice (state S.Store tx.old.conn.now).now
-        → OnOk result (Makes (λ t. record t { reply = t.reply ++ kept_row team.now key.now content.now reply.now ∷ [] }) (state S.Store tx.old.conn.now) (state S.Store tx.new.conn.now)) }
+        → OnOk result (tables_of (state S.Store tx.new.conn.now).now.trees
+        ≡ (record (tables_of (state S.Store tx.old.conn.now).now.trees) { reply = (tables_of (state S.Store tx.old.conn.now).now.trees).reply ++ kept_row team.now key.now content.now reply.now ∷ []; part = (tables_of (state S.Store tx.old.conn.now).now.trees).part ++ part_rows team.now key.now 1 (reply_parts reply.now) })) }
+    ensures office { HasCleanDisk (state S.Store tx.new.conn.now) → IsOffice (state S.Store tx.old.conn.now).now → OnOk result (IsOffice (state S.Store tx.new.conn.now).now) }
+    ensures inside { HasCleanDisk (state S.Store tx.new.conn.now) → IsOffice (state S.Store tx.old.conn.now).now → IsTrue (state S.Store tx.old.conn.now).in_transaction
+        → OnOk result (IsTrue (state S.Store tx.new.conn.now).in_transaction) }
     ensures kept { HasCleanDisk (state S.Store tx.new.conn.now) → KeepsCommit (state S.Store tx.old.conn.now) (state S.Store tx.new.conn.now) }
     ensures survives { Survives (state S.Store tx.old.conn.now) (state S.Store tx.new.conn.now) (λ _. ⊥) }
 {
@@ -41,12 +83,31 @@ pub fn keep_reply<S: Alter>(
         c: numbers.c,
     };
     insert_reply(tx, &row)?;
-    Ok(())
+    write_parts(tx, team.as_bytes(), key.as_bytes(), reply.parts())
 }
 
-/// The reply in the second to the fifth column. An error where they are the numbers of none.
-fn reply_in(row: &Row) -> Result<Reply, Error>
-    ensures { IfOk result (λ reply. (other : Told) → ShowsReply other row.now → reply ≡ other) }
+/// What the parts are answered of the bundle that the team asked for under the key, in order.
+fn parts_at<S: Alter>(
+    alloc: Global,
+    tx: &mut Transaction<'_, S>,
+    team: &Team,
+    key: &Key,
+) -> Result<Items<PartReply>, Error>
+    ensures same_reference { tx.new.conn.ghost_name ≡ tx.old.conn.ghost_name }
+    ensures found { HasCleanDisk (state S.Store tx.new.conn.now) → IsOffice (state S.Store tx.old.conn.now).now
+        → IfOk result (λ parts. (h : List Answered) → AreKeptParts h (tables_of (state S.Store tx.old.conn.now).now.trees).part
+        → (a first : Answered) → a.team ≡ team.now → a.key ≡ key.now → first_of h a ≡ Some first → parts ≡ answer_parts first.answer) }
+    ensures same { HasCleanDisk (state S.Store tx.new.conn.now) → IsOffice (state S.Store tx.old.conn.now).now → OnOk result (IsUnchanged (state S.Store tx.old.conn.now) (state S.Store tx.new.conn.now)) }
+    ensures kept { HasCleanDisk (state S.Store tx.new.conn.now) → IsOffice (state S.Store tx.old.conn.now).now → KeepsCommit (state S.Store tx.old.conn.now) (state S.Store tx.new.conn.now) }
+    ensures survives { Survives (state S.Store tx.old.conn.now) (state S.Store tx.new.conn.now) (λ _. ⊥) }
+{
+    let rows = select_parts(tx, team.as_bytes(), key.as_bytes())?;
+    items_of(alloc, &rows)
+}
+
+/// The reply in the second to the fifth column, with these parts. An error where they are the numbers of none.
+fn reply_in(row: &Row, parts: Items<PartReply>) -> Result<Reply, Error>
+    ensures { IfOk result (λ reply. (other : Told) → ShowsReply other row.now → parts ≡ reply_parts other → reply ≡ other) }
 {
     let numbers = ReplyNumbers {
         kind: number_at(row, 1)?,
@@ -54,18 +115,19 @@ fn reply_in(row: &Row) -> Result<Reply, Error>
         b: number_at(row, 3)?,
         c: number_at(row, 4)?,
     };
-    match Reply::of_numbers(numbers) {
+    match Reply::of_numbers(numbers, parts) {
         Some(reply) => Ok(reply),
         None => Err(Error::InvalidQuery),
     }
 }
 
-/// What a request of this content is answered, where the row is that of the first one of its pair.
-fn answer_in(row: &Row, content: &[u8]) -> Result<Answer, Error>
-    ensures { IfOk result (λ answer. (first : Answered) → ShowsKept first row.now → answer ≡ answer_again first content.now) }
+/// What a request of this content is answered, where the row is that of the first one of its pair, which was answered
+/// with these parts.
+fn answer_in(row: &Row, parts: Items<PartReply>, content: &[u8]) -> Result<Answer, Error>
+    ensures { IfOk result (λ answer. (first : Answered) → ShowsKept first row.now → parts ≡ answer_parts first.answer → answer ≡ answer_again first content.now) }
 {
     let kept = blob_at(row, 0)?;
-    let reply = reply_in(row)?;
+    let reply = reply_in(row, parts)?;
     if kept == content {
         Ok(Answer::Reply(reply))
     } else {
@@ -77,6 +139,7 @@ fn answer_in(row: &Row, content: &[u8]) -> Result<Answer, Error>
 /// where the contents are equal byte for byte, and else [`Answer::KeyReused`]. `None` where none came. The error is
 /// `sqlite`'s, out of memory or the disk's, or that of a row that is no reply's.
 pub fn answer_at<S: Alter>(
+    alloc: Global,
     tx: &mut Transaction<'_, S>,
     team: &Team,
     key: &Key,
@@ -85,6 +148,7 @@ pub fn answer_at<S: Alter>(
     ensures same_reference { tx.new.conn.ghost_name ≡ tx.old.conn.ghost_name }
     ensures found { HasCleanDisk (state S.Store tx.new.conn.now) → IsOffice (state S.Store tx.old.conn.now).now
         → IfOk result (λ found. (h : List Answered) → AreKept h (tables_of (state S.Store tx.old.conn.now).now.trees).reply
+        → AreKeptParts h (tables_of (state S.Store tx.old.conn.now).now.trees).part
         → (a : Answered) → a.team ≡ team.now → a.key ≡ key.now → a.content ≡ content.now → found ≡ option_map (λ first. answer_again first a.content) (first_of h a)) }
     ensures same { HasCleanDisk (state S.Store tx.new.conn.now) → IsOffice (state S.Store tx.old.conn.now).now → OnOk result (IsUnchanged (state S.Store tx.old.conn.now) (state S.Store tx.new.conn.now)) }
     ensures kept { HasCleanDisk (state S.Store tx.new.conn.now) → IsOffice (state S.Store tx.old.conn.now).now → KeepsCommit (state S.Store tx.old.conn.now) (state S.Store tx.new.conn.now) }
@@ -93,6 +157,9 @@ pub fn answer_at<S: Alter>(
     let rows = select_reply(tx, team.as_bytes(), key.as_bytes())?;
     match rows.first() {
         None => Ok(None),
-        Some(row) => Ok(Some(answer_in(row, content)?)),
+        Some(row) => {
+            let parts = parts_at(alloc, tx, team, key)?;
+            Ok(Some(answer_in(row, parts, content)?))
+        }
     }
 }

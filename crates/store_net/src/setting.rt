@@ -4,12 +4,11 @@ ghost use Rattle.sqlite.specs.Held.{state};
 ghost use Rattle.sqlite.specs.State.{HasCleanDisk, KeepsCommit, Survives};
 ghost use Rattle.office_tables.specs.Tables.{IsOffice};
 ghost use Rattle.office_tables.specs.Statements.{Makes};
-ghost use Rattle.store_rows.specs.Written.{with_net_row, with_message_row, with_block_row, with_held_row, with_spn_row, with_approval_row};
+ghost use Rattle.store_rows.specs.Written.{with_net_row, with_block_row, with_held_row, with_spn_row, with_approval_row};
 
 use office_rows::{
-    BlockRow, MessageRow, NetRow, delete_approval, delete_block, delete_held, delete_message,
-    delete_net, delete_spn, insert_approval, insert_block, insert_held, insert_message, insert_net,
-    insert_spn,
+    BlockRow, NetRow, delete_approval, delete_block, delete_held, delete_net, delete_spn,
+    insert_approval, insert_block, insert_held, insert_net, insert_spn,
 };
 use sqlite::{Alter, Error, Transaction};
 
@@ -22,21 +21,6 @@ pub(crate) fn set_net<S: Alter>(tx: &mut Transaction<'_, S>, row: &NetRow<'_>) -
 {
     delete_net(tx, row.name)?;
     insert_net(tx, row)?;
-    Ok(())
-}
-
-/// Sets the row of a live message.
-pub(crate) fn set_message<S: Alter>(
-    tx: &mut Transaction<'_, S>,
-    row: &MessageRow<'_>,
-) -> Result<(), Error>
-    ensures same_reference { tx.new.conn.ghost_name ≡ tx.old.conn.ghost_name }
-    ensures set { HasCleanDisk (state S.Store tx.new.conn.now) → IsOffice (state S.Store tx.old.conn.now).now → OnOk result (Makes (with_message_row row.now) (state S.Store tx.old.conn.now) (state S.Store tx.new.conn.now)) }
-    ensures kept { HasCleanDisk (state S.Store tx.new.conn.now) → KeepsCommit (state S.Store tx.old.conn.now) (state S.Store tx.new.conn.now) }
-    ensures survives { Survives (state S.Store tx.old.conn.now) (state S.Store tx.new.conn.now) (λ _. ⊥) }
-{
-    delete_message(tx, row.net, row.number)?;
-    insert_message(tx, row)?;
     Ok(())
 }
 

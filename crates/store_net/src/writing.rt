@@ -4,23 +4,27 @@ ghost use Rattle.std.specs.Option.{option_copied};
 ghost use Rattle.sqlite.specs.Held.{state};
 ghost use Rattle.sqlite.specs.State.{HasCleanDisk, KeepsCommit, Survives};
 ghost use Rattle.office_types.specs.declared.book.SpnBook.{SpnBook as Book};
+ghost use Rattle.office_types.specs.declared.change.Change.{Change as Changing};
 ghost use Rattle.office_types.specs.declared.state.Net.{Net as Network};
 ghost use Rattle.office_rules.specs.Change.{HaveOwnBlocks, IsHeadFirst, all_applied, changed_net};
 ghost use Rattle.office_tables.specs.Tables.{IsOffice, tables_of};
 ghost use Rattle.store_rows.specs.Follows.{Follows};
+ghost use Rattle.store_rows.specs.NetIn.{IsNetAt};
 ghost use Rattle.store_rows.specs.Written.{IsWritten};
-ghost use Rattle.store_net.specs.Writing.{IsInside, next_number};
+ghost use Rattle.store_net.specs.Writing.{IsNext, next_number};
 
 use crate::change_rows::{
-    clear_approvals, remove_message, write_approval, write_block, write_head, write_held,
-    write_message, write_release, write_spn, write_spn_block,
+    clear_approvals, write_approval, write_block, write_head, write_held, write_release, write_spn,
+    write_spn_block,
 };
+use crate::message_rows::{remove_message, write_message};
+use crate::one_signal::{add_signal, take_signal_out};
 use office_types::{Change, Net, NetName};
 use sqlite::{Alter, Error, Transaction};
 use std::alloc::Global;
 
 /// The number after this one. An error where it has more than 32 bits; no network has so many releases.
-fn number_above(number: u32) -> Result<u32, Error>
+pub(crate) fn number_above(number: u32) -> Result<u32, Error>
     ensures { IfOk result (λ next. next ≡ number + 1) }
 {
     match number.checked_add(1) {
@@ -29,8 +33,9 @@ fn number_above(number: u32) -> Result<u32, Error>
     }
 }
 
-/// The number of the network's next release.
-fn next_number(net: Option<&Net>) -> Result<u32, Error>
+/// The number of the network's next release; a network that isn't there begins with 1. An error where it has more than 32
+/// bits; no network has so many releases.
+pub fn next_release(net: Option<&Net>) -> Result<u32, Error>
     ensures { IfOk result (λ number. number ≡ next_number (option_copied net.entry)) }
 {
     match net {
@@ -43,11 +48,14 @@ fn next_number(net: Option<&Net>) -> Result<u32, Error>
 }
 
 /// The number of the next release after the change, where it was this one before.
-fn number_after(number: u32, change: &Change) -> Result<u32, Error>
-    ensures { IfOk result (λ after. (name : List ℕ) → (net : Option Network) → IsHeadFirst net (change.now ∷ []) → number ≡ next_number net → after ≡ next_number (changed_net name change.now net)) }
+fn number_after(number: Option<u32>, change: &Change) -> Result<Option<u32>, Error>
+    ensures { IfOk result (λ after. (name : List ℕ) (net : Option Network) (rest : List Changing) → IsHeadFirst net (change.now ∷ []) → IsNext number net (change.now ∷ rest) → IsNext after (changed_net name change.now net) rest) }
 {
     match change {
-        Change::AddRelease(_) => number_above(number),
+        Change::AddRelease(_) => match number {
+            Some(number) => Ok(Some(number_above(number)?)),
+            None => Ok(None),
+        },
         _ => Ok(number),
     }
 }
@@ -57,58 +65,66 @@ fn write_change<S: Alter>(
     alloc: Global,
     tx: &mut Transaction<'_, S>,
     name: &NetName,
-    number: u32,
+    number: Option<u32>,
     change: &Change,
 ) -> Result<(), Error>
     ensures same_reference { tx.new.conn.ghost_name ≡ tx.old.conn.ghost_name }
     ensures written { HasCleanDisk (state S.Store tx.new.conn.now) → IsOffice (state S.Store tx.old.conn.now).now
-        → OnOk result ((net : Option Network) → IsHeadFirst net (change.now ∷ []) → HaveOwnBlocks (change.now ∷ []) → number ≡ next_number net
+        → OnOk result ((net : Option Network) → IsNetAt name.now (tables_of (state S.Store tx.old.conn.now).now.trees) net → IsHeadFirst net (change.now ∷ []) → HaveOwnBlocks (change.now ∷ []) → IsNext number net (change.now ∷ [])
         → IsWritten name.now change.now net (tables_of (state S.Store tx.old.conn.now).now.trees) (tables_of (state S.Store tx.new.conn.now).now.trees)) }
-    ensures inside { HasCleanDisk (state S.Store tx.new.conn.now) → IsOffice (state S.Store tx.old.conn.now).now → OnOk result (IsInside (state S.Store tx.new.conn.now)) }
-    ensures kept { HasCleanDisk (state S.Store tx.new.conn.now) → KeepsCommit (state S.Store tx.old.conn.now) (state S.Store tx.new.conn.now) }
+    ensures office { HasCleanDisk (state S.Store tx.new.conn.now) → IsOffice (state S.Store tx.old.conn.now).now → OnOk result (IsOffice (state S.Store tx.new.conn.now).now) }
+    ensures inside { HasCleanDisk (state S.Store tx.new.conn.now) → IsOffice (state S.Store tx.old.conn.now).now → IsTrue (state S.Store tx.old.conn.now).in_transaction
+        → OnOk result (IsTrue (state S.Store tx.new.conn.now).in_transaction) }
+    ensures kept { HasCleanDisk (state S.Store tx.new.conn.now) → IsOffice (state S.Store tx.old.conn.now).now → KeepsCommit (state S.Store tx.old.conn.now) (state S.Store tx.new.conn.now) }
     ensures survives { Survives (state S.Store tx.old.conn.now) (state S.Store tx.new.conn.now) (λ _. ⊥) }
 {
     match change {
         Change::SetHead(head) => write_head(alloc, tx, name, head),
         Change::SetMessage(live) => write_message(alloc, tx, name, live),
         Change::RemoveMessage(ident) => remove_message(tx, name, *ident),
+        Change::AddSignal(message, signal) => add_signal(alloc, tx, name, message, signal),
+        Change::RemoveSignal(path) => take_signal_out(tx, name, path),
         Change::SetBlock(granted) => write_block(tx, name, granted),
         Change::SetSpnBlock(block) => write_spn_block(tx, name, block),
         Change::Hold(ident) => write_held(tx, name, *ident),
         Change::EnterSpn(spn) => write_spn(tx, name, *spn),
         Change::SetApproval(team) => write_approval(tx, name, team),
         Change::ClearApprovals => clear_approvals(tx, name),
-        Change::AddRelease(release) => write_release(alloc, tx, name, number, release),
+        Change::AddRelease(release) => match number {
+            Some(number) => write_release(alloc, tx, name, number, release),
+            None => Err(Error::InvalidQuery),
+        },
     }
 }
 
-/// Writes the changes of a command at the network of this name, in order, where `net` is the network before, if it is
-/// there. The rows of the network and of the book become those of the network and the book that the changes lead to;
-/// other networks' rows, the kept replies and the profile stay. This is promised of changes as a decision has them:
-/// where the network isn't there, its head comes first, and no block of suspect parameter numbers is set on the network
-/// itself.
+/// Writes the changes of a command at the network of this name, in order. The rows of the network and of the book become
+/// those of the network and the book that the changes lead to; other networks' rows, the kept replies and the profile
+/// stay. This is promised of changes as a decision has them: where the network isn't there, its head comes first, no
+/// block of suspect parameter numbers is set on the network itself, and `next` is the number of the network's next
+/// release, if the changes have one. A signal that is added or removed is written by its own rows alone.
 ///
 /// The error is `sqlite`'s: out of memory, the disk's, or that of rows with keys that are there already;
-/// [`Error::InvalidQuery`] where the number of a release has more than 32 bits, or its messages are no sheet's.
+/// [`Error::InvalidQuery`] where a release has no number or one of more than 32 bits, or its messages are no sheet's, and
+/// where a signal is added to a message that isn't there.
 pub fn write_changes<S: Alter>(
     alloc: Global,
     tx: &mut Transaction<'_, S>,
     name: &NetName,
-    net: Option<&Net>,
+    next: Option<u32>,
     changes: &[Change],
 ) -> Result<(), Error>
     ensures same_reference { tx.new.conn.ghost_name ≡ tx.old.conn.ghost_name }
     ensures written { HasCleanDisk (state S.Store tx.new.conn.now) → IsOffice (state S.Store tx.old.conn.now).now
-        → OnOk result ((book : Book) → IsHeadFirst (option_copied net.entry) changes.now → HaveOwnBlocks changes.now
+        → OnOk result ((net : Option Network) (book : Book) → IsNetAt name.now (tables_of (state S.Store tx.old.conn.now).now.trees) net → IsHeadFirst net changes.now → HaveOwnBlocks changes.now → IsNext next net changes.now
         → Follows name.now (tables_of (state S.Store tx.old.conn.now).now.trees) (tables_of (state S.Store tx.new.conn.now).now.trees)
-        (record { net = option_copied net.entry; book = book }) (all_applied name.now changes.now (record { net = option_copied net.entry; book = book }))) }
+        (record { net = net; book = book }) (all_applied name.now changes.now (record { net = net; book = book }))) }
     ensures office { HasCleanDisk (state S.Store tx.new.conn.now) → IsOffice (state S.Store tx.old.conn.now).now → OnOk result (IsOffice (state S.Store tx.new.conn.now).now) }
     ensures inside { HasCleanDisk (state S.Store tx.new.conn.now) → IsOffice (state S.Store tx.old.conn.now).now → IsTrue (state S.Store tx.old.conn.now).in_transaction
         → OnOk result (IsTrue (state S.Store tx.new.conn.now).in_transaction) }
-    ensures kept { HasCleanDisk (state S.Store tx.new.conn.now) → KeepsCommit (state S.Store tx.old.conn.now) (state S.Store tx.new.conn.now) }
+    ensures kept { HasCleanDisk (state S.Store tx.new.conn.now) → IsOffice (state S.Store tx.old.conn.now).now → KeepsCommit (state S.Store tx.old.conn.now) (state S.Store tx.new.conn.now) }
     ensures survives { Survives (state S.Store tx.old.conn.now) (state S.Store tx.new.conn.now) (λ _. ⊥) }
 {
-    let mut number = next_number(net)?;
+    let mut number = next;
     for change in changes {
         write_change(alloc, tx, name, number, change)?;
         number = number_after(number, change)?;

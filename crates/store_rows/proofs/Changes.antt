@@ -20,7 +20,7 @@ use Rattle.office_types.specs.declared.block.BlockForm.TheVariants.{Spn}
 use Rattle.office_types.specs.declared.book.SpnBlock.{SpnBlock}
 use Rattle.office_types.specs.declared.book.SpnBook.{SpnBook}
 use Rattle.office_types.specs.declared.change.Change.{Change}
-use Rattle.office_types.specs.declared.change.Change.TheVariants.{SetHead, SetMessage, RemoveMessage, SetBlock, SetSpnBlock, Hold, EnterSpn, SetApproval, ClearApprovals, AddRelease}
+use Rattle.office_types.specs.declared.change.Change.TheVariants.{SetHead, SetMessage, RemoveMessage, AddSignal, RemoveSignal, SetBlock, SetSpnBlock, Hold, EnterSpn, SetApproval, ClearApprovals, AddRelease}
 use Rattle.office_types.specs.declared.state.GrantedBlock.{GrantedBlock}
 use Rattle.office_types.specs.declared.state.Head.{Head}
 use Rattle.office_types.specs.declared.state.LiveMessage.{LiveMessage}
@@ -33,18 +33,21 @@ use Rattle.office_rules.specs.Retiring.{with_held, without_message}
 use Rattle.office_rules.specs.Reviewing.{with_approval, with_release}
 use Rattle.office_tables.specs.Tables.{Tables}
 use Rattle.office_tables.specs.Selected.{has_text, has_number}
-use Rattle.office_rows.specs.Rows.{net_row, message_row, block_row, held_row, spn_row, approval_row, frozen_row, is_of_net, is_of_form, has_net_and_number, is_block, has_two_texts, is_number}
+use Rattle.office_rows.specs.Rows.{net_row, block_row, held_row, spn_row, approval_row, frozen_row, is_of_net, is_of_form, has_net_and_number, is_block, has_two_texts, is_number}
 use Rattle.office_rows.specs.Shown.{net_order, messages_order, blocks_order, blocks_of_form_order, held_order, spns_order, approvals_order, releases_order}
 use Rattle.office_rows.specs.declared.row.NetRow.{NetRow}
-use Rattle.office_rows.specs.declared.row.MessageRow.{MessageRow}
 use Rattle.office_rows.specs.declared.row.BlockRow.{BlockRow}
 use Rattle.office_rows.specs.declared.row.FrozenRow.{FrozenRow}
 use Rattle.store_rows.specs.Listed.{AreListed}
-use Rattle.store_rows.specs.Rows.{IsRowOf, IsNetRow, IsMessageRow, IsBlockRow, IsSpnBlockRow, IsHeldRow, IsApprovalRow, IsFrozenRow, IsNetAt, AreRowsOf, NetRows, is_granted, next_release, numbered, rows_of}
-use Rattle.store_rows.specs.Written.{IsWritten, with_net_row, with_message_row, without_message_row, with_block_row, with_held_row, with_spn_row, with_approval_row, without_approval_rows, with_frozen_row}
-use Rattle.store_rows.specs.Follows.{Follows, AreWritten}
+use Rattle.store_rows.specs.Live.{AreLiveRows}
+use Rattle.store_rows.specs.LiveWritten.{with_live, without_live}
+use Rattle.store_rows.specs.NetIn.{IsNetAt, IsRestAt, RestRows, live_in, rest_of}
+use Rattle.store_rows.specs.Rows.{IsRowOf, IsNetRow, IsBlockRow, IsSpnBlockRow, IsHeldRow, IsApprovalRow, IsFrozenRow, is_granted, next_release, numbered}
+use Rattle.store_rows.specs.Written.{IsWritten, with_net_row, with_block_row, with_held_row, with_spn_row, with_approval_row, without_approval_rows, with_frozen_row}
+use Rattle.store_rows.specs.Follows.{Follows, HasSame, AreWritten}
 use Rattle.store_rows.proofs.Keys.{and_left, and_right, and_none, not_true, one_value, own_text, other_text, other_net, own_net, text_order, number_order, number_below, own_number, other_form, spn_apart, same_number, tied_both, net_total, messages_total, blocks_total, blocks_of_form_total, held_total, spns_total, approvals_total}
-use Rattle.store_rows.proofs.Listing.{kept_listed, last_listed, none_listed}
+use Rattle.store_rows.proofs.Listing.{last_listed, none_listed}
+use Rattle.store_rows.proofs.LiveFollows.{adds_signal, removes_message, sets_message, takes_signal_out}
 use Rattle.store_rows.proofs.Setting.{left_here, left_others, left_none, added_here, added_elsewhere, set_elsewhere, set_in, set_keyed}
 
 -- the network, where it is there, with the book
@@ -52,9 +55,15 @@ abbrev at_net : Net → SpnBook → NetAndBook
 at_net net book = record { net = Some net; book = book }
 
 -- the same rows stand for the same network
-pub same_net : (name : List ℕ) (t t2 : Tables) (net : Option Net) → rows_of name t2 ≡ rows_of name t → IsNetAt name t net → IsNetAt name t2 net
-same_net name t t2 None same at = same ∙ at
-same_net name t t2 (Some net) same at = subst (λ rows. AreRowsOf name rows net) (sym same) at
+pub same_net : (name : List ℕ) (t t2 : Tables) (net : Option Net) → HasSame name t t2 → IsNetAt name t net → IsNetAt name t2 net
+same_net name t t2 net same at = record {
+  rest = subst (λ rows. IsRestAt name rows net) (sym same.rest) at.rest;
+  live = subst (λ rows. AreLiveRows name rows (live_in net)) (sym same.live) at.live;
+}
+
+-- rows of other tables alone differ
+pub all_same : (name : List ℕ) (t : Tables) → HasSame name t t
+all_same name t = record { rest = refl; live = refl }
 
 -- ---- the head
 
@@ -77,84 +86,39 @@ pub sets_head : (name : List ℕ) (h : Head) (it : NetRow) (net : Option Net) (b
 sets_head name h it net book t is = record {
   here = here net;
   book = λ at. record { blocks = at.blocks; used = at.used };
-  others = λ other apart. ap (λ l. record (rows_of other t) { head = l })
-      (set_elsewhere (is_of_net other) (is_of_net it.name.now) (net_row it) t.net (other_text it.name.now name other is.net apart) (other_net it.name.now name other is.net apart));
+  others = λ other apart. record {
+    rest = ap (λ l. record (rest_of other t) { head = l })
+        (set_elsewhere (is_of_net other) (is_of_net it.name.now) (net_row it) t.net (other_text it.name.now name other is.net apart) (other_net it.name.now name other is.net apart));
+    live = refl;
+  };
   replies = refl;
+  parts = refl;
   profile = refl;
+  bodies = refl;
 }
   where
     here : (net : Option Net) → IsNetAt name t net → IsNetAt name (with_net_row it t) (Some (headed name h net))
     here None at = record {
-      named = refl;
-      head = sets_heads name h it t.net [] is (subst (λ l. AreListed net_order (IsRowOf net_row (IsNetRow name)) l []) (sym (ap (λ (r : NetRows). r.head) at)) none_listed);
-      live = subst (λ l. AreListed messages_order (IsRowOf message_row (IsMessageRow name)) l []) (sym (ap (λ (r : NetRows). r.live) at)) none_listed;
-      blocks = subst (λ l. AreListed blocks_order (IsRowOf block_row (IsBlockRow name)) l []) (sym (ap (λ (r : NetRows). r.blocks) at)) none_listed;
-      held = subst (λ l. AreListed held_order (IsHeldRow name) l []) (sym (ap (λ (r : NetRows). r.held) at)) none_listed;
-      approvals = subst (λ l. AreListed approvals_order (IsApprovalRow name) l []) (sym (ap (λ (r : NetRows). r.approvals) at)) none_listed;
-      releases = subst (λ l. AreListed releases_order (IsRowOf frozen_row (IsFrozenRow name)) l []) (sym (ap (λ (r : NetRows). r.releases) at)) none_listed;
+      rest = record {
+        named = refl;
+        head = sets_heads name h it t.net [] is (subst (λ l. AreListed net_order (IsRowOf net_row (IsNetRow name)) l []) (sym (ap (λ (r : RestRows). r.head) at.rest)) none_listed);
+        blocks = subst (λ l. AreListed blocks_order (IsRowOf block_row (IsBlockRow name)) l []) (sym (ap (λ (r : RestRows). r.blocks) at.rest)) none_listed;
+        held = subst (λ l. AreListed held_order (IsHeldRow name) l []) (sym (ap (λ (r : RestRows). r.held) at.rest)) none_listed;
+        approvals = subst (λ l. AreListed approvals_order (IsApprovalRow name) l []) (sym (ap (λ (r : RestRows). r.approvals) at.rest)) none_listed;
+        releases = subst (λ l. AreListed releases_order (IsRowOf frozen_row (IsFrozenRow name)) l []) (sym (ap (λ (r : RestRows). r.releases) at.rest)) none_listed;
+      };
+      live = at.live;
     }
     here (Some net) at = record {
-      named = at.named;
-      head = sets_heads name h it t.net (net.head ∷ []) is at.head;
+      rest = record {
+        named = at.rest.named;
+        head = sets_heads name h it t.net (net.head ∷ []) is at.rest.head;
+        blocks = at.rest.blocks;
+        held = at.rest.held;
+        approvals = at.rest.approvals;
+        releases = at.rest.releases;
+      };
       live = at.live;
-      blocks = at.blocks;
-      held = at.held;
-      approvals = at.approvals;
-      releases = at.releases;
-    }
-
--- ---- live messages
-
-pub sets_message : (name : List ℕ) (m : LiveMessage) (it : MessageRow) (net : Net) (book : SpnBook) (t : Tables) → IsMessageRow name m it
-    → Follows name t (with_message_row it t) (at_net net book) (at_net (with_message net m) book)
-sets_message name m it net book t is =
-    let removed = has_net_and_number it.net.now it.number in
-    record {
-      here = λ at. record {
-        named = at.named;
-        head = at.head;
-        live = set_in messages_total by_number (is_of_net name) removed m (message_row it) t.message net.live (own_text it.net.now name is.net)
-            (λ x here. ap (λ b. b && has_number 1 it.number x) (own_net it.net.now name is.net x here)) (it, is, refl)
-            (λ other row shown. subst (λ r. by_number m other ≡ messages_order (message_row it) r) (sym shown.2)
-            (number_order (dbc_number m.message.ident) (dbc_number other.message.ident) it.number shown.0.number is.number shown.1.number)) at.live;
-        blocks = at.blocks;
-        held = at.held;
-        approvals = at.approvals;
-        releases = at.releases;
-      };
-      book = λ at. record { blocks = at.blocks; used = at.used };
-      others = λ other apart. ap (λ l. record (rows_of other t) { live = l })
-          (set_elsewhere (is_of_net other) removed (message_row it) t.message (other_text it.net.now name other is.net apart)
-          (λ x here. ap (λ b. b && has_number 1 it.number x) (other_net it.net.now name other is.net apart x here)));
-      replies = refl;
-      profile = refl;
-    }
-
-pub removes_message : (name : List ℕ) (i : Ident) (net : Net) (book : SpnBook) (t : Tables) → IsIdentifier i
-    → Follows name t (without_message_row name (dbc_number i) t) (at_net net book) (at_net (without_message net i) book)
-removes_message name i net book t is =
-    let number = dbc_number i in
-    let removed = has_net_and_number name number in
-    record {
-      here = λ at. record {
-        named = at.named;
-        head = at.head;
-        live = subst (λ l. AreListed messages_order (IsRowOf message_row (IsMessageRow name)) l (filter (λ m. not (has_ident i m)) net.live))
-            (sym (left_here (is_of_net name) removed (has_number 1 number) (λ x here. ap (λ b. b && has_number 1 number x) here) t.message))
-            (kept_listed (λ m. not (has_ident i m)) (λ row. not (has_number 1 number row))
-            (λ m row shown. ap not (same_number m.message.ident i shown.1.identifier is
-            ∙ sym (ap (λ r. has_number 1 number r) shown.2 ∙ ap (λ n. is_eq (value_cmp (Int (pos n)) (Int (pos number)))) shown.1.number)))
-            (filter (is_of_net name) t.message) net.live at.live);
-        blocks = at.blocks;
-        held = at.held;
-        approvals = at.approvals;
-        releases = at.releases;
-      };
-      book = λ at. record { blocks = at.blocks; used = at.used };
-      others = λ other apart. ap (λ l. record (rows_of other t) { live = l })
-          (left_others (is_of_net other) removed (λ x here. ap (λ b. b && has_number 1 number x) (other_net name name other refl apart x here)) t.message);
-      replies = refl;
-      profile = refl;
     }
 
 -- ---- blocks
@@ -178,18 +142,20 @@ sets_block name g it net book t is own =
     let granted : (text : List ℕ) (x : Row) → is_granted text x ≡ true → is_of_net text x ≡ true = λ text x h. and_left (is_of_net text x) (not (is_of_form spn x)) h in
     record {
       here = λ at. record {
-        named = at.named;
-        head = at.head;
+        rest = record {
+          named = at.rest.named;
+          head = at.rest.head;
+          blocks = set_in blocks_total by_first (is_granted name) removed g (block_row it) t.block net.blocks
+              (ap (λ b. is_of_net name (block_row it) && not b) not_spn ∙ ap (λ b. b && true) (own_text it.net.now name is.net))
+              (λ x here. block_key it.net.now it.form it.first x (own_net it.net.now name is.net x (granted name x here))) (it, is, refl)
+              (λ other row shown. subst (λ r. by_first g other ≡ blocks_order (block_row it) r) (sym shown.2)
+              (ap (λ c. ordering_then c (nat_cmp g.block.first other.block.first)) (number_order (form_number g.block.form) (form_number other.block.form) it.form shown.0.form is.form shown.1.form)
+              ∙ ap (ordering_then (value_cmp (Int (pos it.form)) (Int (pos shown.0.form)))) (number_order g.block.first other.block.first it.first shown.0.first is.first shown.1.first))) at.rest.blocks;
+          held = at.rest.held;
+          approvals = at.rest.approvals;
+          releases = at.rest.releases;
+        };
         live = at.live;
-        blocks = set_in blocks_total by_first (is_granted name) removed g (block_row it) t.block net.blocks
-            (ap (λ b. is_of_net name (block_row it) && not b) not_spn ∙ ap (λ b. b && true) (own_text it.net.now name is.net))
-            (λ x here. block_key it.net.now it.form it.first x (own_net it.net.now name is.net x (granted name x here))) (it, is, refl)
-            (λ other row shown. subst (λ r. by_first g other ≡ blocks_order (block_row it) r) (sym shown.2)
-            (ap (λ c. ordering_then c (nat_cmp g.block.first other.block.first)) (number_order (form_number g.block.form) (form_number other.block.form) it.form shown.0.form is.form shown.1.form)
-            ∙ ap (ordering_then (value_cmp (Int (pos it.form)) (Int (pos shown.0.form)))) (number_order g.block.first other.block.first it.first shown.0.first is.first shown.1.first))) at.blocks;
-        held = at.held;
-        approvals = at.approvals;
-        releases = at.releases;
       };
       book = λ at. record {
         blocks = subst (λ l. AreListed blocks_of_form_order (IsRowOf block_row IsSpnBlockRow) l book.blocks)
@@ -197,26 +163,34 @@ sets_block name g it net book t is own =
             (λ x here. other_key it.net.now it.form it.first x (one_value (column x 1) (Int (pos spn)) (Int (pos it.form)) here (spn_apart g.block.form it.form is.form own))))) at.blocks;
         used = at.used;
       };
-      others = λ other apart. ap (λ l. record (rows_of other t) { blocks = l })
-          (set_elsewhere (is_granted other) removed (block_row it) t.block
-          (ap (λ b. b && not (is_of_form spn (block_row it))) (other_text it.net.now name other is.net apart))
-          (λ x here. ap (λ b. b && (has_number 1 it.form x && has_number 2 it.first x)) (other_net it.net.now name other is.net apart x (granted other x here))));
+      others = λ other apart. record {
+        rest = ap (λ l. record (rest_of other t) { blocks = l })
+            (set_elsewhere (is_granted other) removed (block_row it) t.block
+            (ap (λ b. b && not (is_of_form spn (block_row it))) (other_text it.net.now name other is.net apart))
+            (λ x here. ap (λ b. b && (has_number 1 it.form x && has_number 2 it.first x)) (other_net it.net.now name other is.net apart x (granted other x here))));
+        live = refl;
+      };
       replies = refl;
+      parts = refl;
       profile = refl;
+      bodies = refl;
     }
 
 -- ---- blocks of suspect parameter numbers
 
 -- no network has such a row among its own blocks
-spn_elsewhere : (b : SpnBlock) (it : BlockRow) (t : Tables) → IsSpnBlockRow b it → (name : List ℕ) → rows_of name (with_block_row it t) ≡ rows_of name t
+spn_elsewhere : (b : SpnBlock) (it : BlockRow) (t : Tables) → IsSpnBlockRow b it → (name : List ℕ) → HasSame name t (with_block_row it t)
 spn_elsewhere b it t is name =
     let spn = form_number Spn in
     let is_spn_row : is_of_form spn (block_row it) ≡ true = own_number it.form spn is.form in
-    ap (λ l. record (rows_of name t) { blocks = l })
-    (set_elsewhere (is_granted name) (is_block it.net.now it.form it.first) (block_row it) t.block
-    (ap (λ c. is_of_net name (block_row it) && not c) is_spn_row ∙ and_none (is_of_net name (block_row it)))
-    (λ x here. other_key it.net.now it.form it.first x
-    (ap (λ n. has_number 1 n x) is.form ∙ not_true (is_of_form spn x) (and_right (is_of_net name x) (not (is_of_form spn x)) here))))
+    record {
+      rest = ap (λ l. record (rest_of name t) { blocks = l })
+          (set_elsewhere (is_granted name) (is_block it.net.now it.form it.first) (block_row it) t.block
+          (ap (λ c. is_of_net name (block_row it) && not c) is_spn_row ∙ and_none (is_of_net name (block_row it)))
+          (λ x here. other_key it.net.now it.form it.first x
+          (ap (λ n. has_number 1 n x) is.form ∙ not_true (is_of_form spn x) (and_right (is_of_net name x) (not (is_of_form spn x)) here))));
+      live = refl;
+    }
 
 pub sets_spn_block : (name : List ℕ) (b : SpnBlock) (it : BlockRow) (net : Option Net) (book : SpnBook) (t : Tables) → IsSpnBlockRow b it
     → Follows name t (with_block_row it t) (record { net = net; book = book }) (record { net = net; book = record book { blocks = put by_net b book.blocks } })
@@ -236,7 +210,9 @@ sets_spn_block name b it net book t is =
       };
       others = λ other apart. spn_elsewhere b it t is other;
       replies = refl;
+      parts = refl;
       profile = refl;
+      bodies = refl;
     }
 
 -- ---- held identifiers
@@ -249,22 +225,29 @@ holds name i net book t is =
     let removed = has_net_and_number name number in
     record {
       here = λ at. record {
-        named = at.named;
-        head = at.head;
+        rest = record {
+          named = at.rest.named;
+          head = at.rest.head;
+          blocks = at.rest.blocks;
+          held = set_in held_total by_ident (is_of_net name) removed i row t.held net.held (own_text name name refl)
+              (λ x here. ap (λ b. b && has_number 1 number x) here) (is, refl)
+              (λ other x shown. subst (λ r. by_ident i other ≡ held_order row r) (sym shown.1) (number_order number (dbc_number other) number (dbc_number other) refl refl)) at.rest.held;
+          approvals = at.rest.approvals;
+          releases = at.rest.releases;
+        };
         live = at.live;
-        blocks = at.blocks;
-        held = set_in held_total by_ident (is_of_net name) removed i row t.held net.held (own_text name name refl)
-            (λ x here. ap (λ b. b && has_number 1 number x) here) (is, refl)
-            (λ other x shown. subst (λ r. by_ident i other ≡ held_order row r) (sym shown.1) (number_order number (dbc_number other) number (dbc_number other) refl refl)) at.held;
-        approvals = at.approvals;
-        releases = at.releases;
       };
       book = λ at. record { blocks = at.blocks; used = at.used };
-      others = λ other apart. ap (λ l. record (rows_of other t) { held = l })
-          (set_elsewhere (is_of_net other) removed row t.held (other_text name name other refl apart)
-          (λ x here. ap (λ b. b && has_number 1 number x) (other_net name name other refl apart x here)));
+      others = λ other apart. record {
+        rest = ap (λ l. record (rest_of other t) { held = l })
+            (set_elsewhere (is_of_net other) removed row t.held (other_text name name other refl apart)
+            (λ x here. ap (λ b. b && has_number 1 number x) (other_net name name other refl apart x here)));
+        live = refl;
+      };
       replies = refl;
+      parts = refl;
       profile = refl;
+      bodies = refl;
     }
 
 -- ---- used numbers
@@ -272,15 +255,17 @@ holds name i net book t is =
 pub enters_spn : (name : List ℕ) (n : ℕ) (net : Option Net) (book : SpnBook) (t : Tables)
     → Follows name t (with_spn_row n t) (record { net = net; book = book }) (record { net = net; book = record book { used = put nat_cmp n book.used } })
 enters_spn name n net book t = record {
-  here = same_net name t (with_spn_row n t) net refl;
+  here = same_net name t (with_spn_row n t) net (record { rest = refl; live = refl });
   book = λ at. record {
     blocks = at.blocks;
     used = set_keyed spns_total nat_cmp (is_number n) n (spn_row n) t.spn book.used (λ x. refl) (λ x. refl) refl
         (λ other x shown. subst (λ r. nat_cmp n other ≡ spns_order (spn_row n) r) (sym shown) (number_order n other n other refl refl)) at.used;
   };
-  others = λ other apart. refl;
+  others = λ other apart. record { rest = refl; live = refl };
   replies = refl;
+  parts = refl;
   profile = refl;
+  bodies = refl;
 }
 
 -- ---- approvals
@@ -292,41 +277,55 @@ sets_approval name team net book t =
     let removed = has_two_texts name team in
     record {
       here = λ at. record {
-        named = at.named;
-        head = at.head;
+        rest = record {
+          named = at.rest.named;
+          head = at.rest.head;
+          blocks = at.rest.blocks;
+          held = at.rest.held;
+          approvals = set_in approvals_total text_cmp (is_of_net name) removed team row t.approval net.approvals (own_text name name refl)
+              (λ x here. ap (λ b. b && has_text 1 team x) here) refl
+              (λ other x shown. subst (λ r. text_cmp team other ≡ approvals_order row r) (sym shown) (text_order team other team other refl refl)) at.rest.approvals;
+          releases = at.rest.releases;
+        };
         live = at.live;
-        blocks = at.blocks;
-        held = at.held;
-        approvals = set_in approvals_total text_cmp (is_of_net name) removed team row t.approval net.approvals (own_text name name refl)
-            (λ x here. ap (λ b. b && has_text 1 team x) here) refl
-            (λ other x shown. subst (λ r. text_cmp team other ≡ approvals_order row r) (sym shown) (text_order team other team other refl refl)) at.approvals;
-        releases = at.releases;
       };
       book = λ at. record { blocks = at.blocks; used = at.used };
-      others = λ other apart. ap (λ l. record (rows_of other t) { approvals = l })
-          (set_elsewhere (is_of_net other) removed row t.approval (other_text name name other refl apart)
-          (λ x here. ap (λ b. b && has_text 1 team x) (other_net name name other refl apart x here)));
+      others = λ other apart. record {
+        rest = ap (λ l. record (rest_of other t) { approvals = l })
+            (set_elsewhere (is_of_net other) removed row t.approval (other_text name name other refl apart)
+            (λ x here. ap (λ b. b && has_text 1 team x) (other_net name name other refl apart x here)));
+        live = refl;
+      };
       replies = refl;
+      parts = refl;
       profile = refl;
+      bodies = refl;
     }
 
 pub clears_approvals : (name : List ℕ) (net : Net) (book : SpnBook) (t : Tables)
     → Follows name t (without_approval_rows name t) (at_net net book) (at_net (record net { approvals = [] }) book)
 clears_approvals name net book t = record {
   here = λ at. record {
-    named = at.named;
-    head = at.head;
+    rest = record {
+      named = at.rest.named;
+      head = at.rest.head;
+      blocks = at.rest.blocks;
+      held = at.rest.held;
+      approvals = subst (λ l. AreListed approvals_order (IsApprovalRow name) l []) (sym (left_none (is_of_net name) t.approval)) none_listed;
+      releases = at.rest.releases;
+    };
     live = at.live;
-    blocks = at.blocks;
-    held = at.held;
-    approvals = subst (λ l. AreListed approvals_order (IsApprovalRow name) l []) (sym (left_none (is_of_net name) t.approval)) none_listed;
-    releases = at.releases;
   };
   book = λ at. record { blocks = at.blocks; used = at.used };
-  others = λ other apart. ap (λ l. record (rows_of other t) { approvals = l })
-      (left_others (is_of_net other) (is_of_net name) (other_net name name other refl apart) t.approval);
+  others = λ other apart. record {
+    rest = ap (λ l. record (rest_of other t) { approvals = l })
+        (left_others (is_of_net other) (is_of_net name) (other_net name name other refl apart) t.approval);
+    live = refl;
+  };
   replies = refl;
+  parts = refl;
   profile = refl;
+  bodies = refl;
 }
 
 -- ---- releases
@@ -364,23 +363,30 @@ adds_release name s it net book t is =
     numbered_last 1 net.releases s ∙ ap with_last next in
     record {
       here = λ at. record {
-        named = at.named;
-        head = at.head;
+        rest = record {
+          named = at.rest.named;
+          head = at.rest.head;
+          blocks = at.rest.blocks;
+          held = at.rest.held;
+          approvals = at.rest.approvals;
+          releases = subst (λ l. AreListed releases_order (IsRowOf frozen_row (IsFrozenRow name)) l (numbered 1 (net.releases ++ s ∷ [])))
+              (sym (added_here (is_of_net name) (frozen_row it) t.frozen (own_text it.net.now name is.net)))
+              (subst (λ l. AreListed releases_order (IsRowOf frozen_row (IsFrozenRow name)) (filter (is_of_net name) t.frozen ++ frozen_row it ∷ []) l) (sym last)
+              (last_listed (next_release net, s) (frozen_row it) (filter (is_of_net name) t.frozen) (numbered 1 net.releases) (it, is, refl)
+              (numbered_below name it 1 net.releases high) at.rest.releases));
+        };
         live = at.live;
-        blocks = at.blocks;
-        held = at.held;
-        approvals = at.approvals;
-        releases = subst (λ l. AreListed releases_order (IsRowOf frozen_row (IsFrozenRow name)) l (numbered 1 (net.releases ++ s ∷ [])))
-            (sym (added_here (is_of_net name) (frozen_row it) t.frozen (own_text it.net.now name is.net)))
-            (subst (λ l. AreListed releases_order (IsRowOf frozen_row (IsFrozenRow name)) (filter (is_of_net name) t.frozen ++ frozen_row it ∷ []) l) (sym last)
-            (last_listed (next_release net, s) (frozen_row it) (filter (is_of_net name) t.frozen) (numbered 1 net.releases) (it, is, refl)
-            (numbered_below name it 1 net.releases high) at.releases));
       };
       book = λ at. record { blocks = at.blocks; used = at.used };
-      others = λ other apart. ap (λ l. record (rows_of other t) { releases = l })
-          (added_elsewhere (is_of_net other) (frozen_row it) t.frozen (other_text it.net.now name other is.net apart));
+      others = λ other apart. record {
+        rest = ap (λ l. record (rest_of other t) { releases = l })
+            (added_elsewhere (is_of_net other) (frozen_row it) t.frozen (other_text it.net.now name other is.net apart));
+        live = refl;
+      };
       replies = refl;
+      parts = refl;
       profile = refl;
+      bodies = refl;
     }
 
 -- ---- any change, and changes one after the other
@@ -393,9 +399,13 @@ pub change_follows : (name : List ℕ) (c : Change) (net : Option Net) (book : S
     → Follows name t t2 (record { net = net; book = book }) (applied name c (record { net = net; book = book }))
 change_follows name (SetHead h) net book t t2 there w = follows_to name t (with_net_row w.0 t) t2 _ _ w.2 (sets_head name h w.0 net book t w.1)
 change_follows name (SetMessage m) None book t t2 there w = absurd there
-change_follows name (SetMessage m) (Some net) book t t2 there w = follows_to name t (with_message_row w.0 t) t2 _ _ w.2 (sets_message name m w.0 net book t w.1)
+change_follows name (SetMessage m) (Some net) book t t2 there w = follows_to name t (with_live name m t) t2 _ _ w.1 (sets_message name m net book t w.0)
 change_follows name (RemoveMessage i) None book t t2 there w = absurd there
-change_follows name (RemoveMessage i) (Some net) book t t2 there w = follows_to name t (without_message_row name (dbc_number i) t) t2 _ _ w.1 (removes_message name i net book t w.0)
+change_follows name (RemoveMessage i) (Some net) book t t2 there w = follows_to name t (without_live name (dbc_number i) t) t2 _ _ w.1 (removes_message name i net book t w.0)
+change_follows name (AddSignal message s) None book t t2 there w = absurd there
+change_follows name (AddSignal message s) (Some net) book t t2 there w = adds_signal name message s net book t t2 w
+change_follows name (RemoveSignal path) None book t t2 there w = absurd there
+change_follows name (RemoveSignal path) (Some net) book t t2 there w = takes_signal_out name path net book t t2 w
 change_follows name (SetBlock g) None book t t2 there w = absurd there
 change_follows name (SetBlock g) (Some net) book t t2 there w = follows_to name t (with_block_row w.0 t) t2 _ _ w.3 (sets_block name g w.0 net book t w.1 w.2)
 change_follows name (SetSpnBlock b) None book t t2 there w = absurd there
@@ -416,6 +426,8 @@ pub there_after : (name : List ℕ) (c : Change) (net : Option Net) (cs : List C
 there_after name (SetHead h) None cs there = tt
 there_after name (SetMessage m) None cs there = absurd there
 there_after name (RemoveMessage i) None cs there = absurd there
+there_after name (AddSignal message s) None cs there = absurd there
+there_after name (RemoveSignal path) None cs there = absurd there
 there_after name (SetBlock g) None cs there = absurd there
 there_after name (SetSpnBlock b) None cs there = absurd there
 there_after name (Hold i) None cs there = absurd there
@@ -426,6 +438,8 @@ there_after name (AddRelease s) None cs there = absurd there
 there_after name (SetHead h) (Some net) cs there = tt
 there_after name (SetMessage m) (Some net) cs there = tt
 there_after name (RemoveMessage i) (Some net) cs there = tt
+there_after name (AddSignal message s) (Some net) cs there = tt
+there_after name (RemoveSignal path) (Some net) cs there = tt
 there_after name (SetBlock g) (Some net) cs there = tt
 there_after name (SetSpnBlock b) (Some net) cs there = tt
 there_after name (Hold i) (Some net) cs there = tt
@@ -439,6 +453,8 @@ pub first_alone : (c : Change) (net : Option Net) (cs : List Change) → IsHeadF
 first_alone (SetHead h) None cs there = tt
 first_alone (SetMessage m) None cs there = absurd there
 first_alone (RemoveMessage i) None cs there = absurd there
+first_alone (AddSignal message s) None cs there = absurd there
+first_alone (RemoveSignal path) None cs there = absurd there
 first_alone (SetBlock g) None cs there = absurd there
 first_alone (SetSpnBlock b) None cs there = absurd there
 first_alone (Hold i) None cs there = absurd there
@@ -449,15 +465,17 @@ first_alone (AddRelease s) None cs there = absurd there
 first_alone c (Some net) cs there = tt
 
 pub follows_none : (name : List ℕ) (t : Tables) (e : NetAndBook) → Follows name t t e e
-follows_none name t e = record { here = λ at. at; book = λ at. at; others = λ other apart. refl; replies = refl; profile = refl }
+follows_none name t e = record { here = λ at. at; book = λ at. at; others = λ other apart. all_same other t; replies = refl; parts = refl; profile = refl; bodies = refl }
 
 pub follows_then : (name : List ℕ) (t u v : Tables) (a b c : NetAndBook) → Follows name t u a b → Follows name u v b c → Follows name t v a c
 follows_then name t u v a b c f g = record {
   here = λ at. g.here (f.here at);
   book = λ at. g.book (f.book at);
-  others = λ other apart. g.others other apart ∙ f.others other apart;
+  others = λ other apart. record { rest = (g.others other apart).rest ∙ (f.others other apart).rest; live = (g.others other apart).live ∙ (f.others other apart).live };
   replies = g.replies ∙ f.replies;
+  parts = g.parts ∙ f.parts;
   profile = g.profile ∙ f.profile;
+  bodies = g.bodies ∙ f.bodies;
 }
 
 -- the network under another name is the one that it was

@@ -7,7 +7,8 @@ use Rattle.office_types.specs.declared.state.Phase.TheVariants.{Draft, Review}
 use Rattle.catalogue.specs.Sheet.{empty_sheet}
 use Rattle.office_tables.specs.Tables.{Tables, no_rows}
 use Rattle.office_rows.specs.Rows.{approval_row, held_row, spn_row}
-use Rattle.store_rows.specs.Rows.{no_net_rows, numbered, rows_of, submitter_text}
+use Rattle.store_rows.specs.NetIn.{no_rest, rest_of}
+use Rattle.store_rows.specs.Rows.{numbered, submitter_text}
 use Rattle.store_rows.specs.Written.{with_approval_row, with_held_row, with_spn_row, without_approval_rows}
 
 -- one held number of `truck`, one of `bus`, two approvals of `truck`, and two used numbers
@@ -19,20 +20,20 @@ tables = record no_rows {
 }
 
 -- the rows of a network, and of one that isn't there
-of_bus : rows_of (codes "bus") tables ≡ record no_net_rows { held = held_row (codes "bus") 7 ∷ [] }
+of_bus : rest_of (codes "bus") tables ≡ record no_rest { held = held_row (codes "bus") 7 ∷ [] }
 unfolding value_cmp lib.Ieee.is_nan lib.Ieee.lt
 of_bus = refl
 
-of_none : rows_of (codes "tractor") tables ≡ no_net_rows
+of_none : rest_of (codes "tractor") tables ≡ no_rest
 unfolding value_cmp lib.Ieee.is_nan lib.Ieee.lt
 of_none = refl
 
 -- a block of suspect parameter numbers isn't among the network's own
-own_blocks : rows_of (codes "truck") (record no_rows {
+own_blocks : rest_of (codes "truck") (record no_rows {
   block = (Text (codes "truck") ∷ Int (pos 3) ∷ Int (pos 500) ∷ Int (pos 509) ∷ Text (codes "engine") ∷ [])
       ∷ (Text (codes "truck") ∷ Int (pos 0) ∷ Int (pos 256) ∷ Int (pos 258) ∷ Text (codes "engine") ∷ []) ∷ [];
 })
-    ≡ record no_net_rows { blocks = (Text (codes "truck") ∷ Int (pos 0) ∷ Int (pos 256) ∷ Int (pos 258) ∷ Text (codes "engine") ∷ []) ∷ [] }
+    ≡ record no_rest { blocks = (Text (codes "truck") ∷ Int (pos 0) ∷ Int (pos 256) ∷ Int (pos 258) ∷ Text (codes "engine") ∷ []) ∷ [] }
 unfolding value_cmp lib.Ieee.is_nan lib.Ieee.lt
 own_blocks = refl
 

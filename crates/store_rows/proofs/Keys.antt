@@ -25,7 +25,7 @@ use Rattle.office_types.specs.declared.block.BlockForm.TheVariants.{Std, Ext, Pg
 use Rattle.office_rules.specs.Facts.{same_ident}
 use Rattle.office_tables.specs.Selected.{by_column}
 use Rattle.office_rows.specs.Rows.{is_of_net}
-use Rattle.office_rows.specs.Shown.{net_order, messages_order, blocks_order, blocks_of_form_order, held_order, spns_order, approvals_order, releases_order}
+use Rattle.office_rows.specs.Shown.{net_order, messages_order, blocks_order, blocks_of_form_order, held_order, spns_order, approvals_order, releases_order, parts_order}
 
 -- ---- tests
 
@@ -152,3 +152,6 @@ approvals_total = column_total 1
 
 pub releases_total : IsTotalOrder releases_order
 releases_total = column_total 1
+
+pub parts_total : IsTotalOrder parts_order
+parts_total = column_total 2

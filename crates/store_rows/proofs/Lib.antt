@@ -6,3 +6,15 @@ pub mod Fresh
 pub mod Values
 pub mod Reading
 mod Examples
+mod Decimals
+pub mod PutTogether
+pub mod LiveRows
+pub mod LiveChanges
+pub mod SeatRows
+pub mod LiveSet
+pub mod NetIn
+pub mod LiveMore
+pub mod LivePut
+pub mod LiveLast
+pub mod LiveOut
+pub mod LiveFollows

@@ -3,3 +3,7 @@ pub mod Rows
 pub mod Written
 pub mod Follows
 pub mod Showing
+pub mod Live
+pub mod SignalShowing
+pub mod LiveWritten
+pub mod NetIn

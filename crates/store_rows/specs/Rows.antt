@@ -97,43 +97,6 @@ next_release net = length net.releases + 1
 abbrev pub is_granted : List ℕ → Row → Bool
 is_granted name row = is_of_net name row && not (is_of_form (form_number Spn) row)
 
-pub record NetRows : Type 0 where
-  pub head : List Row
-  pub live : List Row
-  pub blocks : List Row
-  pub held : List Row
-  pub approvals : List Row
-  pub releases : List Row
-
-abbrev pub no_net_rows : NetRows
-no_net_rows = record { head = []; live = []; blocks = []; held = []; approvals = []; releases = [] }
-
--- the rows that are the network's, of each table
-abbrev pub rows_of : List ℕ → Tables → NetRows
-rows_of name t = record {
-  head = filter (is_of_net name) t.net;
-  live = filter (is_of_net name) t.message;
-  blocks = filter (is_granted name) t.block;
-  held = filter (is_of_net name) t.held;
-  approvals = filter (is_of_net name) t.approval;
-  releases = filter (is_of_net name) t.frozen;
-}
-
--- they stand for the network, part by part
-pub record AreRowsOf (name : List ℕ) (rows : NetRows) (net : Net) : Type 0 where
-  pub named : net.name ≡ name
-  pub head : AreListed net_order (IsRowOf net_row (IsNetRow name)) rows.head (net.head ∷ [])
-  pub live : AreListed messages_order (IsRowOf message_row (IsMessageRow name)) rows.live net.live
-  pub blocks : AreListed blocks_order (IsRowOf block_row (IsBlockRow name)) rows.blocks net.blocks
-  pub held : AreListed held_order (IsHeldRow name) rows.held net.held
-  pub approvals : AreListed approvals_order (IsApprovalRow name) rows.approvals net.approvals
-  pub releases : AreListed releases_order (IsRowOf frozen_row (IsFrozenRow name)) rows.releases (numbered 1 net.releases)
-
--- the tables have this network under the name: a network that isn't there has no row
-abbrev pub IsNetAt : List ℕ → Tables → Option Net → Type 0
-IsNetAt name t None = rows_of name t ≡ no_net_rows
-IsNetAt name t (Some net) = AreRowsOf name (rows_of name t) net
-
 -- ---- the rows of the book
 
 -- blocks of suspect parameter numbers, over all networks, and the used numbers

@@ -9,9 +9,11 @@ use Rattle.catalogue.specs.Reads.{Reads}
 use Rattle.catalogue.specs.declared.sheet.Sheet.{Sheet}
 use Rattle.office_types.specs.Block.{Range, form_number}
 use Rattle.office_types.specs.Command.{kind_number}
+use Rattle.office_types.specs.Reply.{part_numbers}
 use Rattle.office_types.specs.State.{phase_number}
 use Rattle.office_types.specs.declared.block.BlockForm.TheVariants.{Spn}
 use Rattle.office_types.specs.declared.book.SpnBlock.{SpnBlock}
+use Rattle.office_types.specs.declared.reply.PartReply.{PartReply}
 use Rattle.office_types.specs.declared.state.GrantedBlock.{GrantedBlock}
 use Rattle.office_types.specs.declared.state.Head.{Head}
 use Rattle.office_types.specs.declared.state.LiveMessage.{LiveMessage}
@@ -76,3 +78,8 @@ pub record ShowsRelease (s : Sheet) (row : Row) : Type 0 where
 -- a shown row of `block` is a network's own
 abbrev pub is_own : Row → Bool
 is_own row = not (is_eq (value_cmp (column row 0) (Int (pos (form_number Spn)))))
+
+-- kind, a
+pub record ShowsPart (p : PartReply) (row : Row) : Type 0 where
+  pub kind : column row 0 ≡ Int (pos (part_numbers p).kind)
+  pub a : column row 1 ≡ Int (pos (part_numbers p).a)

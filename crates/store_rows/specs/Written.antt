@@ -4,24 +4,18 @@ use Rattle.sqlite.specs.Tree.{put_row}
 use Rattle.can_id.specs.Ident.{IsIdentifier, dbc_number}
 use Rattle.office_types.specs.Block.{is_spn}
 use Rattle.office_types.specs.declared.change.Change.{Change}
-use Rattle.office_types.specs.declared.change.Change.TheVariants.{SetHead, SetMessage, RemoveMessage, SetBlock, SetSpnBlock, Hold, EnterSpn, SetApproval, ClearApprovals, AddRelease}
+use Rattle.office_types.specs.declared.change.Change.TheVariants.{SetHead, SetMessage, RemoveMessage, AddSignal, RemoveSignal, SetBlock, SetSpnBlock, Hold, EnterSpn, SetApproval, ClearApprovals, AddRelease}
 use Rattle.office_types.specs.declared.state.Net.{Net}
 use Rattle.office_tables.specs.Tables.{Tables}
-use Rattle.office_rows.specs.Rows.{net_row, message_row, block_row, held_row, spn_row, approval_row, frozen_row, is_of_net, has_net_and_number, is_block, has_two_texts, is_number}
+use Rattle.office_rows.specs.Rows.{net_row, block_row, held_row, spn_row, approval_row, frozen_row, is_of_net, has_net_and_number, is_block, has_two_texts, is_number}
 use Rattle.office_rows.specs.declared.row.NetRow.{NetRow}
-use Rattle.office_rows.specs.declared.row.MessageRow.{MessageRow}
 use Rattle.office_rows.specs.declared.row.BlockRow.{BlockRow}
 use Rattle.office_rows.specs.declared.row.FrozenRow.{FrozenRow}
-use Rattle.store_rows.specs.Rows.{IsNetRow, IsMessageRow, IsBlockRow, IsSpnBlockRow, IsFrozenRow, next_release}
+use Rattle.store_rows.specs.LiveWritten.{IsAdded, IsLive, IsTakenOut, with_live, without_live}
+use Rattle.store_rows.specs.Rows.{IsNetRow, IsBlockRow, IsSpnBlockRow, IsFrozenRow, next_release}
 
 abbrev pub with_net_row : NetRow → Tables → Tables
 with_net_row it t = record t { net = filter (λ row. not (is_of_net it.name.now row)) t.net ++ net_row it ∷ [] }
-
-abbrev pub with_message_row : MessageRow → Tables → Tables
-with_message_row it t = record t { message = filter (λ row. not (has_net_and_number it.net.now it.number row)) t.message ++ message_row it ∷ [] }
-
-abbrev pub without_message_row : List ℕ → ℕ → Tables → Tables
-without_message_row name number t = record t { message = filter (λ row. not (has_net_and_number name number row)) t.message }
 
 abbrev pub with_block_row : BlockRow → Tables → Tables
 with_block_row it t = record t { block = filter (λ row. not (is_block it.net.now it.form it.first row)) t.block ++ block_row it ∷ [] }
@@ -47,8 +41,12 @@ with_frozen_row it t = record t { frozen = t.frozen ++ frozen_row it ∷ [] }
 -- parameter numbers, and a release is added where the network is there.
 abbrev pub IsWritten : List ℕ → Change → Option Net → Tables → Tables → Type 0
 IsWritten name (SetHead h) net t t2 = (it : NetRow) × IsNetRow name h it × (t2 ≡ with_net_row it t)
-IsWritten name (SetMessage m) net t t2 = (it : MessageRow) × IsMessageRow name m it × (t2 ≡ with_message_row it t)
-IsWritten name (RemoveMessage i) net t t2 = IsIdentifier i × (t2 ≡ without_message_row name (dbc_number i) t)
+IsWritten name (SetMessage m) net t t2 = IsLive m × (t2 ≡ with_live name m t)
+IsWritten name (RemoveMessage i) net t t2 = IsIdentifier i × (t2 ≡ without_live name (dbc_number i) t)
+IsWritten name (AddSignal message s) None t t2 = ⊥
+IsWritten name (AddSignal message s) (Some net) t t2 = IsAdded name message s net.live t t2
+IsWritten name (RemoveSignal path) None t t2 = ⊥
+IsWritten name (RemoveSignal path) (Some net) t t2 = IsTakenOut name path net.live t t2
 IsWritten name (SetBlock g) net t t2 = (it : BlockRow) × IsBlockRow name g it × (is_spn g.block.form ≡ false) × (t2 ≡ with_block_row it t)
 IsWritten name (SetSpnBlock b) net t t2 = (it : BlockRow) × IsSpnBlockRow b it × (t2 ≡ with_block_row it t)
 IsWritten name (Hold i) net t t2 = IsIdentifier i × (t2 ≡ with_held_row name (dbc_number i) t)

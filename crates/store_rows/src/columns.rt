@@ -12,8 +12,8 @@ use sqlite::types::ValueRef;
 use sqlite::{Error, Row};
 use std::alloc::Global;
 
-/// The text in the column.
-pub(crate) fn text_at(row: &Row, at: usize) -> Result<&[u8], Error>
+/// The text in the column. An error where it has none.
+pub fn text_at(row: &Row, at: usize) -> Result<&[u8], Error>
     ensures { IfOk result (λ text. column row.now at ≡ Text text.now) }
 {
     match row.get_ref(at)? {

@@ -6,14 +6,14 @@ ghost use Rattle.office_types.specs.Block.{Range};
 ghost use Rattle.office_types.specs.Command.{kind_number};
 ghost use Rattle.office_types.specs.declared.command.NetKind.{NetKind as Kind};
 ghost use Rattle.office_types.specs.declared.state.Phase.{Phase as Told};
-ghost use Rattle.store_rows.specs.Showing.{ShowsBlock, ShowsHead, ShowsIdent, ShowsMessage, ShowsNumber, ShowsPhase, ShowsRange, ShowsRelease, ShowsSpnBlock, ShowsTeam};
+ghost use Rattle.store_rows.specs.Showing.{ShowsBlock, ShowsHead, ShowsIdent, ShowsMessage, ShowsNumber, ShowsPart, ShowsPhase, ShowsRange, ShowsRelease, ShowsSpnBlock, ShowsTeam};
 
 use crate::columns::{blob_at, number_at, sheet_at, team_at, text_at};
 use can_id::Ident;
 use office_bodies::message_of;
 use office_types::{
-    BlockForm, FormBlock, FrozenSheet, GrantedBlock, Head, LiveMessage, NetKind, NetName, Phase,
-    ReviewCount, SpnBlock, Team,
+    BlockForm, FormBlock, FrozenSheet, GrantedBlock, Head, LiveMessage, NetKind, NetName,
+    PartNumbers, PartReply, Phase, ReviewCount, SpnBlock, Team,
 };
 use sqlite::{Error, Row};
 use std::alloc::Global;
@@ -112,6 +112,21 @@ impl FromRow for u32 {
 
     fn from_row(_alloc: Global, row: &Row) -> Result<u32, Error> {
         number_at(row, 0)
+    }
+}
+
+impl FromRow for PartReply {
+    ghost shows = { ShowsPart };
+
+    fn from_row(_alloc: Global, row: &Row) -> Result<PartReply, Error> {
+        let numbers = PartNumbers {
+            kind: number_at(row, 0)?,
+            a: number_at(row, 1)?,
+        };
+        match PartReply::of_numbers(numbers) {
+            Some(part) => Ok(part),
+            None => Err(Error::InvalidQuery),
+        }
     }
 }
 

@@ -20,8 +20,14 @@ mod columns;
 mod from_row;
 mod granted;
 mod items;
+mod live_message;
+mod merging;
+mod signal;
+mod signal_columns;
 
-pub use columns::{blob_at, number_at};
+pub use columns::{blob_at, number_at, text_at};
 pub use from_row::FromRow;
 pub use granted::granted_of;
 pub use items::items_of;
+pub use live_message::live_message_of;
+pub use merging::signals_of;

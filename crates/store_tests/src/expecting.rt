@@ -1,8 +1,8 @@
 //! What a legal history answers: the office in memory answers what comes first under a key, and each repeat is answered
 //! as the first one if its content is the same, and else that the key is reused.
+use catalogue::Copying;
 use office::PlainOffice;
 use office_history::{Answer, Arrival};
-use office_types::Reply;
 use std::alloc::{AllocError, Global};
 
 /// What the arrivals of a list must be answered, and what they leave.
@@ -21,25 +21,24 @@ fn first_index(earlier: &[Arrival], it: &Arrival) -> Option<usize> {
 }
 
 /// The same answer once more.
-fn again(answer: &Answer) -> Answer {
+fn again(alloc: Global, answer: &Answer) -> Result<Answer, AllocError> {
     match answer {
-        Answer::Reply(reply) => {
-            // The numbers of a reply are those of no other.
-            match Reply::of_numbers(reply.numbers()) {
-                Some(reply) => Answer::Reply(reply),
-                None => Answer::KeyReused,
-            }
-        }
-        Answer::KeyReused => Answer::KeyReused,
+        Answer::Reply(reply) => Ok(Answer::Reply(reply.duplicate(alloc)?)),
+        Answer::KeyReused => Ok(Answer::KeyReused),
     }
 }
 
 /// What a repeat is answered, by the first arrival and its answer.
-fn answer_to_repeat(first: &Arrival, answer: &Answer, it: &Arrival) -> Answer {
+fn answer_to_repeat(
+    alloc: Global,
+    first: &Arrival,
+    answer: &Answer,
+    it: &Arrival,
+) -> Result<Answer, AllocError> {
     if first.request.content == it.request.content {
-        again(answer)
+        again(alloc, answer)
     } else {
-        Answer::KeyReused
+        Ok(Answer::KeyReused)
     }
 }
 
@@ -53,7 +52,7 @@ impl Expected {
             let answer = match first_index(&arrivals[..index], it) {
                 None => Answer::Reply(office.step(alloc, &it.team, &it.request.command)?),
                 Some(first) => match (arrivals.get(first), answers.get(first)) {
-                    (Some(earlier), Some(answer)) => answer_to_repeat(earlier, answer, it),
+                    (Some(earlier), Some(answer)) => answer_to_repeat(alloc, earlier, answer, it)?,
                     _ => Answer::KeyReused,
                 },
             };

@@ -4,11 +4,13 @@ mod clearing;
 mod filling;
 mod reading;
 mod showing;
+mod signals;
 
 use clearing::clear;
 use filling::{LONG, make_filled};
 use office_rows::{delete_net, insert_held};
 use reading::{show_office, show_profile};
+use signals::clear_signals;
 use sqlite::{Alter, Connection, Error};
 use std::io;
 use std::rt::Runtime;
@@ -51,6 +53,7 @@ fn unmake<S: Alter>(conn: &mut Connection<S>) -> Result<(), Error> {
     }
     let mut tx = conn.transaction();
     clear(&mut tx)?;
+    clear_signals(&mut tx)?;
     tx.commit()
 }
 

@@ -4,12 +4,13 @@ ghost use Rattle.sqlite.specs.Held.{state};
 ghost use Rattle.sqlite.specs.Steps.{over_memory};
 ghost use Rattle.office_history.specs.History.{Answered};
 ghost use Rattle.store.specs.Holding.{Holding};
-ghost use Rattle.store.specs.Opening.{HasNone};
+ghost use Rattle.store.specs.Opening.{HasNone, HoldingInSomeForm};
 ghost use Rattle.canoffice_cli.specs.Databases.{known_of};
 
 use super::Databases;
 use crate::answering::{Answers, answer_on, lost_at_once};
 use crate::exporting::look_on;
+use crate::migrating::migrate_on;
 use crate::progress::Progress;
 use crate::serving::ServeEnd;
 use office_history::Arrival;
@@ -30,6 +31,7 @@ impl MemoryDatabase {
     fn taken(&mut self) -> Result<Connection<MemStore>, Lost>
         ensures settled { IfOk result (λ conn. (state over_memory conn).in_transaction ≡ false) }
         ensures held { IfOk result (λ conn. (path : List ℕ) (h : List Answered) → (known_of self.old.conn).holds path h → Holding h (state over_memory conn)) }
+        ensures in_form { IfOk result (λ conn. (path : List ℕ) (h : List Answered) → (known_of self.old.conn).holds_in_form path h → HoldingInSomeForm h (state over_memory conn)) }
         ensures none { IfOk result (λ conn. (path : List ℕ) → (known_of self.old.conn).is_new path → HasNone (state over_memory conn)) }
         ensures err { OnErr result (self.new ≡ self.old) }
     {
@@ -77,6 +79,18 @@ impl Databases for MemoryDatabase {
         let (shown, conn) = look_on(alloc, conn, question);
         self.conn = Some(conn);
         shown
+    }
+
+    fn migrate<W: Write>(
+        &mut self,
+        alloc: Global,
+        _path: &str,
+        progress: &mut Progress<W>,
+    ) -> Result<(), Lost> {
+        let conn = self.taken()?;
+        let (done, conn) = migrate_on(alloc, conn, progress);
+        self.conn = Some(conn);
+        done
     }
 
     /// Nobody can connect to it, so it can't be listened on.

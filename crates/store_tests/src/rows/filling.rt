@@ -1,4 +1,5 @@
 //! The rows of the test.
+use super::signals::fill_signals;
 use office_rows::{
     BlockRow, FrozenRow, MessageRow, NetRow, ReplyRow, insert_approval, insert_block,
     insert_frozen, insert_held, insert_message, insert_net, insert_profile, insert_reply,
@@ -24,10 +25,10 @@ pub(crate) const SHORT_KEY: &[u8] = b"!";
 pub(crate) const NETS: [&[u8]; 2] = [SHORT, LONG];
 
 /// The least number, the greatest, and one between, not in their order.
-const NUMBERS: [u32; 3] = [4294967295, 0, 256];
+pub(crate) const NUMBERS: [u32; 3] = [4294967295, 0, 256];
 
 /// Bytes that are not UTF-8, with a zero.
-const BYTES: &[u8] = &[255, 0, 128];
+pub(crate) const BYTES: &[u8] = &[255, 0, 128];
 
 fn fill_nets<S: Alter>(tx: &mut Transaction<'_, S>) -> Result<(), Error> {
     for name in NETS {
@@ -46,7 +47,7 @@ fn fill_nets<S: Alter>(tx: &mut Transaction<'_, S>) -> Result<(), Error> {
     Ok(())
 }
 
-fn name_of(number: u32) -> &'static [u8] {
+pub(crate) fn name_of(number: u32) -> &'static [u8] {
     match number {
         0 => SHORT,
         256 => LONG,
@@ -145,13 +146,14 @@ fn fill_net<S: Alter>(tx: &mut Transaction<'_, S>, net: &[u8]) -> Result<(), Err
     fill_releases(tx, net)?;
     fill_held(tx, net)?;
     fill_approvals(tx, net)?;
-    fill_replies(tx, net)
+    fill_replies(tx, net)?;
+    fill_signals(tx, net)
 }
 
 /// Makes the tables, and adds rows to each.
 pub(crate) fn make_filled<S: Alter>(tx: &mut Transaction<'_, S>) -> Result<(), Error> {
     make_tables(tx)?;
-    insert_profile(tx)?;
+    insert_profile(tx, 1, 1)?;
     fill_nets(tx)?;
     fill_spns(tx)?;
     for net in NETS {

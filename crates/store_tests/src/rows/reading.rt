@@ -1,6 +1,7 @@
 //! Each SELECT, and what it shows.
 use super::filling::{LONG, LONG_KEY, NETS, SHORT, SHORT_KEY};
 use super::showing::show;
+use super::signals::show_signals;
 use office_rows::{
     select_approvals, select_blocks, select_blocks_of_form, select_held, select_messages,
     select_net, select_net_names, select_profile, select_release, select_release_numbers,
@@ -65,6 +66,7 @@ pub(crate) fn show_office<S: Alter, R: Runtime>(
     for net in NETS {
         show_net(rt, &mut tx, net)?;
         show_releases(rt, &mut tx, net)?;
+        show_signals(rt, &mut tx, net)?;
     }
     show_replies(rt, &mut tx)
 }

@@ -1,10 +1,8 @@
-use Rattle.std.proofs.Common.{◌≡◌, ◌≤◌, ◌⊎◌, ◌++◌, [], inl, inr, sym, subst, arith}
-use Rattle.std.specs.Prelude.{IfOk, IsSome}
+use Rattle.std.proofs.Common.{◌≡◌, inl, subst, arith}
 use Rattle.sqlite.specs.Held.{state}
 use Rattle.sqlite.specs.State.{HasCleanDisk}
 use Rattle.store.specs.Holding.{Holding}
 use Rattle.office_history.specs.History.{IsLegalHistory}
-use Rattle.canoffice_cli.specs.Answered.{answered_with}
 use Rattle.canoffice_cli.proofs.Told.{begun_is_legal, history_at_first}
 use Rattle.canoffice_cli.proofs.Opened.{held_or_none}
 use Rattle.canoffice_cli.proofs.answering.answer_on.Goals as goal

@@ -1,4 +1,4 @@
-use Rattle.std.proofs.Common.{◌≡◌, ◌∙◌, inl, not, refl, sym, ap}
+use Rattle.std.proofs.Common.{◌∙◌, inl, not, ap}
 use Rattle.sqlite.specs.Held.{state}
 use Rattle.canoffice_cli.proofs.Told.{begins_held, still_held}
 use Rattle.canoffice_cli.proofs.answering.office_on.Goals as goal
@@ -12,4 +12,4 @@ returns-in-Err-clause-held g c clean opened h holding =
     still_held (state g.S.Store c.args.conn) (state g.S.Store c.in-Err.conn)
     (c.is_autocommit-settled_before.ensures.settled (c.is_autocommit-settled_before.ensures.value ∙ ap not c.requires))
     (c.is_autocommit-settled.ensures.settled (c.is_autocommit-settled.ensures.value ∙ ap not c.in-Err.ensures.autocommit))
-    (λ tables. c.in-Err.ensures.back clean (inl tables)) opened h holding
+    (λ office. c.in-Err.ensures.back clean (inl office)) opened h holding

@@ -5,6 +5,7 @@ pub returns : goal.returns
 unfolding the_routes
 returns c =
     rw (
+      c.in_ok-add-8.ensures,
       c.in_ok-add-7.ensures,
       c.in_ok-add-6.ensures,
       c.in_ok-add-5.ensures,

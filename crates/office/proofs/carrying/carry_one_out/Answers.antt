@@ -5,8 +5,9 @@ use Rattle.office_types.specs.declared.book.SpnBlock.{SpnBlock}
 use Rattle.office_types.specs.declared.change.Change.{Change}
 use Rattle.office_types.specs.declared.state.Net.{Net}
 use Rattle.office_types.specs.declared.state.Office.{Office}
+use Rattle.office_rules.specs.Change.{Fits}
 use Rattle.office.specs.Carried.{IsIndexOf, carried}
-use Rattle.office.proofs.CarriedOut.{block_carried, number_carried, net_carried}
+use Rattle.office.proofs.CarriedOut.{block_carried, index_names, number_carried, net_carried}
 use Rattle.office.proofs.carrying.carry_one_out.Goals as goal
 
 pub returns-in-SetSpnBlock-clause-ok : goal.returns-in-SetSpnBlock-clause-ok
@@ -28,6 +29,14 @@ returns-in-EnterSpn-clause-ok c =
     ∙ number_carried o name c.requires.sorted c.in-EnterSpn.spn
     ∙ ap (λ (ch : Change). carried o name (ch ∷ [])) (sym c.in-EnterSpn.is))
     c.enter.ensures.ok
+
+pub change_net-requires : goal.change_net-requires
+change_net-requires c =
+    let o : Office = record { nets = c.args.nets.now.items; book = c.args.book.now } in
+    let name = c.args.name.now in
+    let i = c.in-Some.index in
+    let index : IsIndexOf o name (Some i) = subst (IsIndexOf o name) c.in-Some.is c.requires.index in
+    subst (Fits c.args.change) (index_names o name i c.index_mut.result.now index c.index_mut.ensures.value) c.requires.fits
 
 pub returns-in-Some : goal.returns-in-Some
 returns-in-Some c =

@@ -5,8 +5,10 @@ use Rattle.office_rows.proofs.profile.insert_profile.Goals as goal
 
 pub returns-clause-added : goal.returns-clause-added
 returns-clause-added g c clean office =
-    only_made _ _ c.execute.result (inserts (state g.S.Store c.args.tx.now.conn.now) (state g.S.Store c.execute.new.self.conn.now) c.execute.result office (λ no. (c.execute.ensures.ended no).0) (c.execute.ensures.runs clean))
+    only_made _ _ c.execute.result
+    (inserts c.args.one c.args.number (state g.S.Store c.args.tx.now.conn.now) (state g.S.Store c.execute.new.self.conn.now) c.execute.result office (λ no. (c.execute.ensures.ended no).0) (rw (c.to_sql.ensures, c.to_sql-2.ensures) at (c.execute.ensures.runs clean)))
 
 pub returns-clause-rows : goal.returns-clause-rows
 returns-clause-rows g c clean office =
-    only_rows _ _ c.execute.result (inserts (state g.S.Store c.args.tx.now.conn.now) (state g.S.Store c.execute.new.self.conn.now) c.execute.result office (λ no. (c.execute.ensures.ended no).0) (c.execute.ensures.runs clean))
+    only_rows _ _ c.execute.result
+    (inserts c.args.one c.args.number (state g.S.Store c.args.tx.now.conn.now) (state g.S.Store c.execute.new.self.conn.now) c.execute.result office (λ no. (c.execute.ensures.ended no).0) (rw (c.to_sql.ensures, c.to_sql-2.ensures) at (c.execute.ensures.runs clean)))

@@ -5,4 +5,5 @@ use Rattle.script_advice.proofs.values.index_of.Given as goal
 
 -- the values before have other names
 abbrev pub invariant-loop-index : goal.invariant-loop-index
-invariant-loop-index l = index_of l.name first_field (named_values l.values) ≡ index_of l.name (l.index + first_field) (named_values (drop l.index l.values))
+invariant-loop-index l =
+    index_of l.command l.name (first_field l.command) (named_values l.values) ≡ index_of l.command l.name (l.index + first_field l.command) (named_values (drop l.index l.values))

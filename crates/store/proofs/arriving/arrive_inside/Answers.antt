@@ -12,7 +12,7 @@ pub returns-in-Some-clause-held : goal.returns-in-Some-clause-held
 returns-in-Some-clause-held g c clean office h holds =
     let old = state g.S.Store c.args.tx.now.conn.now in
     let a = answered c.args.team.now c.args.key.now c.args.request.now c.in-Some.answer in
-    let found = c.in_ok-answer.ensures.found clean office h holds.replies a refl refl (sym c.as_slice.ensures.value) in
+    let found = c.in_ok-answer.ensures.found clean office h holds.holds.replies holds.holds.parts a refl refl (sym c.as_slice.ensures.value) in
     let it = some_of (λ first. answer_again first a.content) (first_of h a) c.in-Some.answer (sym c.in-Some.is ∙ found) in
     let now = (c.in_ok-answer.ensures.same clean office).0.now_is in
     subst (λ (db : Database). Holds (h ++ a ∷ []) (tables_of db.trees)) (sym now)

@@ -1,10 +1,19 @@
-use Rattle.std.proofs.Common.{sym, ◌∙◌}
-use Rattle.store_net.proofs.LiveSheet.{charted, no_chart}
+use Rattle.std.proofs.Common.{Some, sym, ap, ◌∙◌}
+use Rattle.std.specs.Option.{option_map}
+use Rattle.sqlite.specs.Held.{state}
+use Rattle.chart.specs.Message.{message_chart}
+use Rattle.office_types.specs.declared.state.LiveMessage.{LiveMessage}
+use Rattle.office_tables.specs.Tables.{tables_of}
+use Rattle.store_net.proofs.LiveSheet.{charted}
 use Rattle.store_net.proofs.live.live_chart.Goals as goal
 
-pub returns-in_default-clause-found : goal.returns-in_default-clause-found
-returns-in_default-clause-found g c clean office net there = no_chart net c.args.message.now (sym c.in_default.is ∙ c.in_ok-sheet.ensures.found clean office net there)
+pub returns-in-None-clause-found : goal.returns-in-None-clause-found
+returns-in-None-clause-found g c clean office net there =
+    ap (option_map (λ (m : LiveMessage). message_chart m.message)) (sym c.in-None.is)
+    ∙ charted c.args.name.now c.args.message.now (tables_of (state g.S.Store c.args.tx.now.conn.now).now.trees) net _ there (c.in_ok-message_at.ensures.found clean office)
 
-pub returns-clause-found : goal.returns-clause-found
-returns-clause-found g c clean office net there =
-    c.in_ok-chart_in.ensures ∙ charted net c.args.message.now c.in-Some.sheet (sym c.in-Some.is ∙ c.in_ok-sheet.ensures.found clean office net there)
+pub returns-in_ok-message_chart-in-Some-clause-found : goal.returns-in_ok-message_chart-in-Some-clause-found
+returns-in_ok-message_chart-in-Some-clause-found g c clean office net there =
+    ap Some c.in_ok-message_chart-in-Some.ensures
+    ∙ ap (option_map (λ (m : LiveMessage). message_chart m.message)) (sym c.in-Some.is)
+    ∙ charted c.args.name.now c.args.message.now (tables_of (state g.S.Store c.args.tx.now.conn.now).now.trees) net _ there (c.in_ok-message_at.ensures.found clean office)

@@ -7,7 +7,7 @@ use Rattle.sqlite.proofs.InsideLemmas.{keeps_then}
 use Rattle.office_types.specs.declared.state.Net.{Net}
 use Rattle.office_tables.specs.Tables.{IsOffice, tables_of}
 use Rattle.net_list.specs.Text.{net_line, nets_text}
-use Rattle.store_rows.specs.Rows.{IsNetAt}
+use Rattle.store_rows.specs.NetIn.{IsNetAt}
 use Rattle.store_net.proofs.Names.{lines_more, lines_whole}
 use Rattle.store_net.proofs.Whole.{nothing_left}
 use Rattle.store_net.proofs.nets.lines_at.Goals as goal

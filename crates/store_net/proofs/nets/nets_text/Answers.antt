@@ -6,7 +6,7 @@ use Rattle.sqlite.specs.State.{HasCleanDisk}
 use Rattle.sqlite.proofs.Callers.{unchanged_then}
 use Rattle.office_tables.specs.Tables.{IsOffice, tables_of}
 use Rattle.store_net.specs.Nets.{AreNets}
-use Rattle.store_net.proofs.Names.{each_at}
+use Rattle.store_net.proofs.Names.{each_at, known_nets}
 use Rattle.store_net.proofs.nets.nets_text.Goals as goal
 
 pub returns-clause-found : goal.returns-clause-found
@@ -18,7 +18,7 @@ returns-clause-found g c clean office =
     let office1 : IsOffice s1.now = subst IsOffice (sym now1) office in
     IfOk-weaker c.lines_at.result _ _
     (λ text one nets are. one nets (each_at (tables_of s1.now.trees) nets (subst (λ (d : Database). AreNets (tables_of d.trees) nets) (sym now1) are))
-    (c.deref.ensures.value ∙ c.in_ok-names.ensures.found clean1 office nets are))
+    (c.deref.ensures.value ∙ c.in_ok-names.ensures.found clean1 office nets (known_nets (tables_of s0.now.trees) nets are)))
     (c.lines_at.ensures.found clean office1)
 
 pub returns-clause-same : goal.returns-clause-same

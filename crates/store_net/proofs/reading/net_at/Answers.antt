@@ -1,51 +1,21 @@
-use Rattle.std.proofs.Common.{◌≡◌, sym, subst, ◌∙◌, arith}
+use Rattle.std.proofs.Common.{◌≡◌, ◌∙◌, sym, subst, arith}
 use Rattle.sqlite.specs.Held.{state}
 use Rattle.sqlite.specs.State.{HasCleanDisk}
 use Rattle.office_tables.specs.Tables.{IsOffice, tables_of}
-use Rattle.store_net.specs.Parts.{HasApprovals, HasBlocks, HasHeld, HasLive, HasReleases}
-use Rattle.store_net.proofs.Whole.{head_in, its_head, no_net, nothing_left, read_before, whole_net}
+use Rattle.store_net.specs.Parts.{HasReleases}
+use Rattle.store_net.proofs.Whole.{none_if_unreleased, read_before, with_its_releases}
 use Rattle.store_net.proofs.reading.net_at.Goals as goal
 
 pub returns-in_default-clause-found : goal.returns-in_default-clause-found
-returns-in_default-clause-found g c clean office net at =
-    no_net net (sym c.in_default.is ∙ c.in_ok-head.ensures.found clean office (head_in net) (its_head c.args.name.now (tables_of (state g.S.Store c.args.tx.now.conn.now).now.trees) net at))
+returns-in_default-clause-found g c clean office net at = none_if_unreleased net (sym c.in_default.is ∙ c.in_ok-net.ensures.found clean office net at)
 
 pub returns-clause-found : goal.returns-clause-found
 returns-clause-found g c clean office net at =
     let name = c.args.name.now in
     let s0 = state g.S.Store c.args.tx.now.conn.now in
-    let s1 = state g.S.Store c.head_of.new.tx.conn.now in
-    let s2 = state g.S.Store c.live_of.new.tx.conn.now in
-    let s3 = state g.S.Store c.blocks_of.new.tx.conn.now in
-    let s4 = state g.S.Store c.held_of.new.tx.conn.now in
-    let s5 = state g.S.Store c.approvals_of.new.tx.conn.now in
-    let clean5 : HasCleanDisk s5 = omega (arith, c.releases_of.ensures.survives.clean) in
-    let clean4 : HasCleanDisk s4 = omega (arith, c.approvals_of.ensures.survives.clean) in
-    let clean3 : HasCleanDisk s3 = omega (arith, c.held_of.ensures.survives.clean) in
-    let clean2 : HasCleanDisk s2 = omega (arith, c.blocks_of.ensures.survives.clean) in
-    let clean1 : HasCleanDisk s1 = omega (arith, c.live_of.ensures.survives.clean) in
-    let now1 : s1.now ≡ s0.now = (c.in_ok-head.ensures.same clean1 office).0.now_is in
+    let s1 = state g.S.Store c.unreleased_net_at.new.tx.conn.now in
+    let clean1 : HasCleanDisk s1 = omega (arith, c.releases_of.ensures.survives.clean) in
+    let now1 : s1.now ≡ s0.now = (c.in_ok-net.ensures.same clean1 office).0.now_is in
     let office1 : IsOffice s1.now = subst IsOffice (sym now1) office in
-    let now2 : s2.now ≡ s0.now = (c.in_ok-live.ensures.same clean2 office1).0.now_is ∙ now1 in
-    let office2 : IsOffice s2.now = subst IsOffice (sym now2) office in
-    let now3 : s3.now ≡ s0.now = (c.in_ok-blocks.ensures.same clean3 office2).0.now_is ∙ now2 in
-    let office3 : IsOffice s3.now = subst IsOffice (sym now3) office in
-    let now4 : s4.now ≡ s0.now = (c.in_ok-held.ensures.same clean4 office3).0.now_is ∙ now3 in
-    let office4 : IsOffice s4.now = subst IsOffice (sym now4) office in
-    let now5 : s5.now ≡ s0.now = (c.in_ok-approvals.ensures.same clean5 office4).0.now_is ∙ now4 in
-    let office5 : IsOffice s5.now = subst IsOffice (sym now5) office in
-    whole_net name (tables_of s0.now.trees) net _ at
-    (sym c.in-Some.is ∙ c.in_ok-head.ensures.found clean1 office (head_in net) (its_head name (tables_of s0.now.trees) net at))
-    (record {
-      named = c.in_ok-duplicate.ensures;
-      live = read_before (HasLive name) c.in_ok-live.live s1.now s0.now now1 (c.in_ok-live.ensures.found clean2 office1);
-      blocks = read_before (HasBlocks name) c.in_ok-blocks.blocks s2.now s0.now now2 (c.in_ok-blocks.ensures.found clean3 office2);
-      held = read_before (HasHeld name) c.in_ok-held.held s3.now s0.now now3 (c.in_ok-held.ensures.found clean4 office3);
-      approvals = read_before (HasApprovals name) c.in_ok-approvals.approvals s4.now s0.now now4 (c.in_ok-approvals.ensures.found clean5 office4);
-      releases = read_before (HasReleases name) c.in_ok-releases.releases s5.now s0.now now5 (c.in_ok-releases.ensures.found clean office5);
-    })
-
-pub returns-clause-survives : goal.returns-clause-survives
-returns-clause-survives g c =
-    nothing_left _ _ _ c.head_of.ensures.survives (nothing_left _ _ _ c.live_of.ensures.survives (nothing_left _ _ _ c.blocks_of.ensures.survives
-    (nothing_left _ _ _ c.held_of.ensures.survives (nothing_left _ _ _ c.approvals_of.ensures.survives c.releases_of.ensures.survives))))
+    with_its_releases name (tables_of s0.now.trees) net c.in-Some.net c.in_ok-net-2.field-0 at (sym c.in-Some.is ∙ c.in_ok-net.ensures.found clean1 office net at)
+    (read_before (HasReleases name) c.in_ok-net-2.field-0 s1.now s0.now now1 (c.in_ok-net-2.ensures.found clean office1))

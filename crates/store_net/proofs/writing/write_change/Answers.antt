@@ -1,7 +1,8 @@
+use Rattle.std.proofs.lemmas.Result.{on_ok_weaker}
 use Rattle.sqlite.specs.Held.{state}
 use Rattle.office_types.specs.declared.change.Change.TheVariants.{SetHead, SetMessage, RemoveMessage, SetSpnBlock, Hold, EnterSpn, SetApproval, ClearApprovals}
 use Rattle.office_tables.specs.Tables.{tables_of}
-use Rattle.store_net.proofs.OneByOne.{any_change, own_block}
+use Rattle.store_net.proofs.OneByOne.{added_release, added_signal, any_change, own_block, removed_signal, whole_message}
 use Rattle.store_net.proofs.writing.write_change.Goals as goal
 
 pub returns-in-SetHead-clause-written : goal.returns-in-SetHead-clause-written
@@ -11,13 +12,28 @@ returns-in-SetHead-clause-written g c clean office =
 
 pub returns-in-SetMessage-clause-written : goal.returns-in-SetMessage-clause-written
 returns-in-SetMessage-clause-written g c clean office =
-    any_change c.write_message.result c.args.name.now c.args.change.now (SetMessage c.in-SetMessage.live) c.args.number (tables_of (state g.S.Store c.args.tx.now.conn.now).now.trees) (tables_of (state g.S.Store c.write_message.new.tx.conn.now).now.trees)
-    c.in-SetMessage.is (c.write_message.ensures.written clean office)
+    whole_message c.write_message.result c.args.name.now c.args.change.now c.in-SetMessage.live c.args.number (tables_of (state g.S.Store c.args.tx.now.conn.now).now.trees) (tables_of (state g.S.Store c.write_message.new.tx.conn.now).now.trees)
+    c.in-SetMessage.is c.write_message.ensures.live (c.write_message.ensures.written clean office)
 
 pub returns-in-RemoveMessage-clause-written : goal.returns-in-RemoveMessage-clause-written
 returns-in-RemoveMessage-clause-written g c clean office =
     any_change c.remove_message.result c.args.name.now c.args.change.now (RemoveMessage c.in-RemoveMessage.ident) c.args.number (tables_of (state g.S.Store c.args.tx.now.conn.now).now.trees) (tables_of (state g.S.Store c.remove_message.new.tx.conn.now).now.trees)
-    c.in-RemoveMessage.is (c.remove_message.ensures.written clean office)
+    c.in-RemoveMessage.is (on_ok_weaker c.remove_message.result (λ made net. (c.remove_message.ensures.identifier, made.tables_are)) (c.remove_message.ensures.removed clean office))
+
+pub returns-in-AddSignal-clause-written : goal.returns-in-AddSignal-clause-written
+returns-in-AddSignal-clause-written g c clean office =
+    added_signal c.add_signal.result c.args.name.now c.args.change.now c.in-AddSignal.message c.in-AddSignal.signal c.args.number (tables_of (state g.S.Store c.args.tx.now.conn.now).now.trees) (tables_of (state g.S.Store c.add_signal.new.tx.conn.now).now.trees)
+    c.in-AddSignal.is (c.add_signal.ensures.written clean office)
+
+pub returns-in-RemoveSignal-clause-written : goal.returns-in-RemoveSignal-clause-written
+returns-in-RemoveSignal-clause-written g c clean office =
+    removed_signal c.take_signal_out.result c.args.name.now c.args.change.now c.in-RemoveSignal.path c.args.number (tables_of (state g.S.Store c.args.tx.now.conn.now).now.trees) (tables_of (state g.S.Store c.take_signal_out.new.tx.conn.now).now.trees)
+    c.in-RemoveSignal.is (c.take_signal_out.ensures.written clean office)
+
+pub returns-in-Some-clause-written : goal.returns-in-Some-clause-written
+returns-in-Some-clause-written g c clean office =
+    added_release c.write_release.result c.args.name.now c.args.change.now c.in-AddRelease.release c.args.number c.in-Some.number (tables_of (state g.S.Store c.args.tx.now.conn.now).now.trees) (tables_of (state g.S.Store c.write_release.new.tx.conn.now).now.trees)
+    c.in-AddRelease.is c.in-Some.is (c.write_release.ensures.written clean office)
 
 pub returns-in-SetSpnBlock-clause-written : goal.returns-in-SetSpnBlock-clause-written
 returns-in-SetSpnBlock-clause-written g c clean office =

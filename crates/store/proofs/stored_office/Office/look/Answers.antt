@@ -13,7 +13,7 @@ use Rattle.store.proofs.stored_office.Office.look.Goals as goal
 pub returns-in-Ok-clause-shown : goal.returns-in-Ok-clause-shown
 returns-in-Ok-clause-shown g c clean h office holds legal =
     let begun = subst (λ (o : StoredOffice _). Holding h (state g.S.Store o.conn)) (sym c.self.view_is) holds in
-    let same : begun.keeps.holds.office ≡ office = c.histories_leave_offices.ensures.one h h begun.keeps.holds.office office refl begun.keeps.holds.legal legal in
+    let same : begun.keeps.holds.holds.office ≡ office = c.histories_leave_offices.ensures.one h h begun.keeps.holds.holds.office office refl begun.keeps.holds.holds.legal legal in
     subst (λ (o : Office). IsShown o c.args.question.now (option_map (λ (bytes : Vec ℕ Global). bytes.items) c.in-Ok.text)) same (c.in-Ok.ensures.found clean h begun)
 
 pub returns-in-Ok-clause-held : goal.returns-in-Ok-clause-held

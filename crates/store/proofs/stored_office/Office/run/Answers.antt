@@ -6,7 +6,7 @@ use Rattle.sqlite.specs.Held.{state}
 use Rattle.sqlite.specs.State.{HasCleanDisk}
 use Rattle.store.specs.Holding.{Keeps}
 use Rattle.store.specs.Headline.{HasRun}
-use Rattle.store.specs.Running.{FailsBy, IsNotNewer}
+use Rattle.store.specs.Running.{FailsBy, IsNoProfile}
 use Rattle.store.proofs.Ran.{fails_more, named_more, run_more, run_none}
 use Rattle.store.proofs.stored_office.Office.run.Goals as goal
 
@@ -28,7 +28,7 @@ loop-arrival-preserved g c =
       refused = λ was. arrive.refused (subst IsTrue (ap (λ o. o.failed) (sym (i.refused was))) was) ∙ i.refused was;
       failed = subst (λ l. FailsBy c.args.self.now.failed l c.arrive-answered.new.self.failed) (sym c.push_reserved.ensures.items)
           (fails_more _ c.loop-arrival.self.failed _ c.loop-arrival.results.items c.arrive-answered.result i.failed arrive.failed (λ was. subst IsTrue (ap (λ o. o.failed) (sym (arrive.refused was))) was));
-      named = subst (All IsNotNewer) (sym c.push_reserved.ensures.items) (named_more c.loop-arrival.results.items c.arrive-answered.result i.named arrive.named);
+      named = subst (All IsNoProfile) (sym c.push_reserved.ensures.items) (named_more c.loop-arrival.results.items c.arrive-answered.result i.named arrive.named);
       clean = let early = i.clean in omega (arith, early, arrive.clean);
       ran = λ clean h holding.
           let early : HasCleanDisk mid = omega (arith, arrive.clean, clean) in
@@ -56,7 +56,7 @@ loop-arrival-init g c =
       room = let room = c.in_ok-results.ensures.capacity in omega (arith, room);
       refused = λ was. refl;
       failed = subst (λ l. FailsBy c.args.self.now.failed l c.args.self.now.failed) (sym c.in_ok-results.ensures.items) refl;
-      named = subst (All IsNotNewer) (sym c.in_ok-results.ensures.items) (All-nil IsNotNewer);
+      named = subst (All IsNoProfile) (sym c.in_ok-results.ensures.items) (All-nil IsNoProfile);
       clean = omega arith;
       ran = λ clean h holding.
           subst (λ l. HasRun h [] l c.args.self.now.failed old) (sym c.in_ok-results.ensures.items)

@@ -7,7 +7,7 @@ use Rattle.sqlite_trees.specs.View.{doubt}
 use Rattle.office_history.specs.History.{Answered}
 use Rattle.store.specs.Holding.{Holding}
 use Rattle.store.specs.Headline.{HasRun}
-use Rattle.store.specs.Running.{FailsBy, IsNotNewer}
+use Rattle.store.specs.Running.{FailsBy, IsNoProfile}
 use Rattle.store.proofs.stored_office.Office.run.Given as goal
 
 abbrev pub invariant-loop-arrival : goal.invariant-loop-arrival
@@ -19,7 +19,7 @@ invariant-loop-arrival g l =
       room : length l.arrivals ≤ vec_capacity l.results;
       refused : IsTrue l.fn.self.failed → l.self ≡ l.fn.self;
       failed : FailsBy l.fn.self.failed l.results.items l.self.failed;
-      named : All IsNotNewer l.results.items;
+      named : All IsNoProfile l.results.items;
       clean : doubt old.is_clean ≤ doubt now.is_clean;
       ran : HasCleanDisk now → (h : List Answered) → Holding h old → HasRun h (take l.arrival-index l.arrivals) l.results.items l.self.failed now;
     }

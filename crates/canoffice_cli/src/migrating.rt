@@ -1,0 +1,71 @@
+//! Making a database of an earlier version one of this version.
+ghost use Rattle.std.specs.Prelude.{◌≡◌, ◌≤◌, [], List, false, IsTrue, IfOk, OnErr, OnOk};
+ghost use Rattle.sqlite.specs.Held.{state};
+ghost use Rattle.sqlite.specs.State.{HasCleanDisk};
+ghost use Rattle.sqlite_trees.specs.View.{doubt};
+ghost use Rattle.office_history.specs.History.{Answered};
+ghost use Rattle.store.specs.Holding.{Holding};
+ghost use Rattle.store.specs.Opening.{HasNone, HoldingInSomeForm};
+ghost use Rattle.canoffice_cli.specs.Migrated.{IsMigrateOutcome, migrated_outcome};
+ghost use Rattle.canoffice_cli.specs.Outcome.{outcome_of};
+
+use crate::answering::lost_report;
+use crate::databases::Databases;
+use crate::progress::Progress;
+use crate::report::{Report, Status};
+use sqlite::{Alter, Connection};
+use std::alloc::{AllocError, Global};
+use std::io::Write;
+use store::{Lost, Office};
+
+/// Makes the tables on the connection, which is given back, those of this version: they hold the history that they held.
+/// New ones are made where there are none. It is shown which message is carried over. Where it is lost, they are as before.
+pub fn migrate_on<S: Alter + Drop, W: Write>(
+    alloc: Global,
+    conn: Connection<S>,
+    progress: &mut Progress<W>,
+) -> (Result<(), Lost>, Connection<S>)
+    requires { (state S.Store conn).in_transaction ≡ false }
+    ensures clean { doubt (state S.Store conn).is_clean ≤ doubt (state S.Store result.1).is_clean }
+    ensures carried { HasCleanDisk (state S.Store result.1) → (h : List Answered) → HoldingInSomeForm h (state S.Store conn) → OnOk result.0 (Holding h (state S.Store result.1)) }
+    ensures left { HasCleanDisk (state S.Store result.1) → IsTrue (state S.Store result.1).is_open → (h : List Answered) → HoldingInSomeForm h (state S.Store conn)
+        → OnErr result.0 (HoldingInSomeForm h (state S.Store result.1)) }
+    ensures held { HasCleanDisk (state S.Store result.1) → IsTrue (state S.Store result.1).is_open → (h : List Answered) → Holding h (state S.Store conn) → Holding h (state S.Store result.1) }
+    ensures made { HasCleanDisk (state S.Store result.1) → HasNone (state S.Store conn) → OnOk result.0 (Holding [] (state S.Store result.1)) }
+{
+    let _settled_before = conn.is_autocommit();
+    match Office::migrate(alloc, conn, progress) {
+        Ok(office) => (Ok(()), office.close()),
+        Err((lost, conn)) => {
+            let _settled = conn.is_autocommit();
+            (Err(lost), conn)
+        }
+    }
+}
+
+/// The report that the tables are those of this version, or why that was lost.
+fn migrated_report(alloc: Global, done: Result<(), Lost>) -> Result<Report, AllocError>
+    ensures { IfOk result (λ report. outcome_of report ≡ migrated_outcome done) }
+{
+    match done {
+        Ok(()) => {
+            let text = b"profile 2\n".to_vec(alloc)?;
+            Ok(Report::of_output(alloc, text, Status::Success))
+        }
+        Err(lost) => lost_report(alloc, lost),
+    }
+}
+
+/// Makes the database of the path one of this version, and prints its profile. The error is out of memory for the report.
+pub fn migrate_report<D: Databases, W: Write>(
+    alloc: Global,
+    databases: &mut D,
+    path: &str,
+    progress: &mut Progress<W>,
+) -> Result<Report, AllocError>
+    ensures { IfOk result (λ report. IsMigrateOutcome (D.known databases.old) (D.known databases.new) path.now (outcome_of report)) }
+{
+    let done = databases.migrate(alloc, path, progress);
+    progress.ends();
+    migrated_report(alloc, done)
+}

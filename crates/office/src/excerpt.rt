@@ -1,0 +1,96 @@
+//! What the office does with a command on a message, by the part of the network that it reads.
+ghost use Rattle.std.specs.Prelude.{◌≡◌, true, IfOk, Some};
+ghost use Rattle.office_net.specs.Excerpt.{IsExcerptOf, excerpt_numbers, goes_by_excerpt};
+ghost use Rattle.office_take.specs.Told.{number_facts_of};
+ghost use Rattle.office_types.specs.declared.book.SpnBook.{SpnBook as Book};
+ghost use Rattle.office_types.specs.declared.state.Net.{Net};
+ghost use Rattle.office_law.specs.Apart.{asks_book};
+ghost use Rattle.office_rules.specs.Change.{IsDecision};
+
+use office_law::numbers_elsewhere_do_not_count;
+use office_net::Excerpt;
+use office_signals::{decide_remove_signal, decide_set_values, decide_take_bits, decide_take_spn};
+use office_take::{ListedNumbers, NumberFacts, decide_take_ident_on, decide_take_pgn_on};
+use office_types::{Action, Command, Decision, SpnBook, Task, Team};
+use std::alloc::{AllocError, Global};
+
+/// Whether an excerpt is enough to decide the task: it is `take_ident`, `take_pgn`, `take_spn`,
+/// `take_bits`, `set_values` or `remove_signal`.
+pub fn goes_by_excerpt(task: &Task) -> bool
+    ensures { result ≡ goes_by_excerpt task.now }
+{
+    match task {
+        Task::Act(action) => matches!(
+            action,
+            Action::TakeIdent(_)
+                | Action::TakePgn(_)
+                | Action::TakeSpn(_)
+                | Action::TakeBits(_)
+                | Action::SetValues(_)
+                | Action::RemoveSignal(_)
+        ),
+        Task::Import(_) | Task::Bundle(_) => false,
+    }
+}
+
+/// What the tests of a command that gives out a number read, but for the numbers that are taken.
+fn number_facts(excerpt: &Excerpt) -> NumberFacts<'_>
+    ensures { number_facts_of result excerpt.now.taken ≡ excerpt_numbers excerpt.now }
+{
+    NumberFacts {
+        kind: excerpt.head.kind,
+        phase: &excerpt.head.phase,
+        nodes: excerpt.head.frame.nodes(),
+        blocks: excerpt.blocks.as_slice(),
+        named: excerpt.named,
+        count: excerpt.count,
+        want_live: excerpt.want_live,
+        want_held: excerpt.want_held,
+    }
+}
+
+/// The numbers that are taken.
+fn taken_numbers(excerpt: &Excerpt) -> ListedNumbers<'_>
+    ensures { result.numbers.now ≡ excerpt.now.taken }
+{
+    ListedNumbers {
+        numbers: excerpt.taken.as_slice(),
+    }
+}
+
+/// Decides the team's command by an excerpt of its network, as [`decide`](crate::decide) does by every network that has
+/// this excerpt. Only `take_spn` reads the book. The error is out of memory.
+pub fn decide_excerpt(
+    alloc: Global,
+    team: &Team,
+    excerpt: &Excerpt,
+    book: &SpnBook,
+    command: &Command,
+) -> Result<Decision, AllocError>
+    requires { goes_by_excerpt command.now.task ≡ true }
+    ensures { IfOk result (λ d. (net : Net) (other : Book) → IsExcerptOf team.now net command.now.task excerpt.now
+        → (asks_book command.now.task ≡ true → other ≡ book.now) → IsDecision team.now (record { net = Some net; book = other }) command.now d) }
+{
+    numbers_elsewhere_do_not_count();
+    let facts = excerpt.facts();
+    match &command.task {
+        Task::Act(action) => match action {
+            Action::TakeIdent(take) => {
+                let taken = taken_numbers(excerpt);
+                decide_take_ident_on(alloc, team, &number_facts(excerpt), &taken, take)
+            }
+            Action::TakePgn(take) => {
+                let taken = taken_numbers(excerpt);
+                decide_take_pgn_on(alloc, team, &number_facts(excerpt), &taken, take)
+            }
+            Action::TakeSpn(take) => {
+                decide_take_spn(alloc, team, &command.net, &facts, book, take)
+            }
+            Action::TakeBits(take) => decide_take_bits(alloc, team, &facts, take),
+            Action::SetValues(set) => decide_set_values(alloc, team, &facts, set),
+            Action::RemoveSignal(path) => decide_remove_signal(alloc, team, &facts, path),
+            _ => unreachable!(),
+        },
+        Task::Import(_) | Task::Bundle(_) => unreachable!(),
+    }
+}

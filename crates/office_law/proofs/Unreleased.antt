@@ -1,0 +1,99 @@
+-- Only `release` and a bundle with it have a release among their changes.
+use Rattle.std.proofs.Common.{◌≡◌, ◌∙◌, ◌+◌, ◌≤◌, ℕ, Bool, true, false, ◌||◌, List, [], ◌∷◌, ◌++◌, length, Option, Some, None, inl, inr, refl, sym, ap, subst, arith, length-append}
+use Rattle.std.specs.List.{list_any}
+use Rattle.catalogue.specs.declared.sheet.Sheet.{Sheet}
+use Rattle.office_types.specs.declared.book.SpnBook.{SpnBook}
+use Rattle.office_types.specs.declared.change.Change.{Change}
+use Rattle.office_types.specs.declared.change.Change.TheVariants.{SetHead, SetMessage, RemoveMessage, AddSignal, RemoveSignal, SetBlock, SetSpnBlock, Hold, EnterSpn, SetApproval, ClearApprovals, AddRelease}
+use Rattle.office_types.specs.declared.change.Decision.{Decision}
+use Rattle.office_types.specs.declared.command.Command.{Command}
+use Rattle.office_types.specs.declared.state.LiveMessage.{LiveMessage}
+use Rattle.office_types.specs.declared.state.Net.{Net}
+use Rattle.office_rules.specs.Change.{IsDecision, IsQuiet, NetAndBook, all_applied, applied, at_message, changed_book, is_release, left_after, net_changed}
+use Rattle.office_rules.specs.Commands.{outcome}
+use Rattle.office_rules.specs.Facts.{live_named}
+use Rattle.office_rules.specs.Numbers.{with_message}
+use Rattle.office_rules.specs.Outcome.{Outcome, Refusing, Changing}
+use Rattle.office_law.proofs.Apart.{networks_are_apart}
+
+-- how many releases are among changes
+abbrev released : List Change → ℕ
+released [] = 0
+released (AddRelease s ∷ cs) = released cs + 1
+released (c ∷ cs) = released cs
+
+none_released : (cs : List Change) → released cs ≡ 0 → list_any is_release cs ≡ false
+none_released [] none = refl
+none_released (SetHead h ∷ cs) none = none_released cs none
+none_released (SetMessage m ∷ cs) none = none_released cs none
+none_released (RemoveMessage i ∷ cs) none = none_released cs none
+none_released (AddSignal message s ∷ cs) none = none_released cs none
+none_released (RemoveSignal path ∷ cs) none = none_released cs none
+none_released (SetBlock g ∷ cs) none = none_released cs none
+none_released (SetSpnBlock b ∷ cs) none = none_released cs none
+none_released (Hold i ∷ cs) none = none_released cs none
+none_released (EnterSpn n ∷ cs) none = none_released cs none
+none_released (SetApproval team ∷ cs) none = none_released cs none
+none_released (ClearApprovals ∷ cs) none = none_released cs none
+none_released (AddRelease s ∷ cs) none = absurd (omega (arith, none))
+
+-- the network with what becomes of the message that is found
+abbrev pub with_found : (LiveMessage → LiveMessage) → Net → Option LiveMessage → Net
+with_found f net found = elim found [ None ↦ net | Some m ↦ with_message net (f m) ]
+
+found_keeps : (f : LiveMessage → LiveMessage) (net : Net) (found : Option LiveMessage) → (with_found f net found).releases ≡ net.releases
+found_keeps f net None = refl
+found_keeps f net (Some m) = refl
+
+message_keeps : (message : List ℕ) (f : LiveMessage → LiveMessage) (net : Net) → (at_message message f net).releases ≡ net.releases
+message_keeps message f net = found_keeps f net (live_named net.live message)
+
+-- a network that is there stays there, with as many releases more
+record IsAfter (name : List ℕ) (cs : List Change) (net : Net) (book : SpnBook) : Type 0 where
+  after : Net
+  is : (all_applied name cs (record { net = Some net; book = book })).net ≡ Some after
+  more : length after.releases ≡ length net.releases + released cs
+
+later : (name : List ℕ) (c : Change) (cs : List Change) (net : Net) (book : SpnBook) → (net_changed c net).releases ≡ net.releases → released (c ∷ cs) ≡ released cs
+    → applied name c (record { net = Some net; book = book }) ≡ record { net = Some (net_changed c net); book = changed_book c book }
+    → IsAfter name cs (net_changed c net) (changed_book c book) → IsAfter name (c ∷ cs) net book
+later name c cs net book kept none step rest = record {
+  after = rest.after;
+  is = ap (λ (e : NetAndBook). (all_applied name cs e).net) step ∙ rest.is;
+  more = rest.more ∙ ap (λ (l : List Sheet). length l + released cs) kept ∙ ap (λ n. length net.releases + n) (sym none);
+}
+
+releases_after : (name : List ℕ) (cs : List Change) (net : Net) (book : SpnBook) → IsAfter name cs net book
+releases_after name [] net book = record { after = net; is = refl; more = omega arith }
+releases_after name (SetHead h ∷ cs) net book = later name (SetHead h) cs net book refl refl refl (releases_after name cs (net_changed (SetHead h) net) book)
+releases_after name (SetMessage m ∷ cs) net book = later name (SetMessage m) cs net book refl refl refl (releases_after name cs (net_changed (SetMessage m) net) book)
+releases_after name (RemoveMessage i ∷ cs) net book = later name (RemoveMessage i) cs net book refl refl refl (releases_after name cs (net_changed (RemoveMessage i) net) book)
+releases_after name (AddSignal message s ∷ cs) net book =
+    later name (AddSignal message s) cs net book (message_keeps message _ net) refl refl (releases_after name cs (net_changed (AddSignal message s) net) book)
+releases_after name (RemoveSignal path ∷ cs) net book =
+    later name (RemoveSignal path) cs net book (message_keeps path.message _ net) refl refl (releases_after name cs (net_changed (RemoveSignal path) net) book)
+releases_after name (SetBlock g ∷ cs) net book = later name (SetBlock g) cs net book refl refl refl (releases_after name cs (net_changed (SetBlock g) net) book)
+releases_after name (SetSpnBlock b ∷ cs) net book = later name (SetSpnBlock b) cs net book refl refl refl (releases_after name cs net (changed_book (SetSpnBlock b) book))
+releases_after name (Hold i ∷ cs) net book = later name (Hold i) cs net book refl refl refl (releases_after name cs (net_changed (Hold i) net) book)
+releases_after name (EnterSpn n ∷ cs) net book = later name (EnterSpn n) cs net book refl refl refl (releases_after name cs net (changed_book (EnterSpn n) book))
+releases_after name (SetApproval team ∷ cs) net book = later name (SetApproval team) cs net book refl refl refl (releases_after name cs (net_changed (SetApproval team) net) book)
+releases_after name (ClearApprovals ∷ cs) net book = later name ClearApprovals cs net book refl refl refl (releases_after name cs (net_changed ClearApprovals net) book)
+releases_after name (AddRelease s ∷ cs) net book =
+    let rest = releases_after name cs (net_changed (AddRelease s) net) book in
+    let one = length-append net.releases (s ∷ []) in
+    let all = rest.more in
+    record { after = rest.after; is = rest.is; more = omega (arith, one, all) }
+
+one_some : (a b : Net) → ◌≡◌ {A = Option Net} (Some a) (Some b) → a ≡ b
+one_some a b e = cc
+
+-- a decision after which the network has the releases that it had
+module _ (name : List ℕ) (net : Net) (book : SpnBook) (cs : List Change) where
+  pub kept_unreleased : (after : NetAndBook) (n : Net) → all_applied name cs (record { net = Some net; book = book }) ≡ after → after.net ≡ Some n → length n.releases ≡ length net.releases
+      → list_any is_release cs ≡ false
+  kept_unreleased after n is there same =
+      let found = releases_after name cs net book in
+      let one : found.after ≡ n = one_some found.after n (sym found.is ∙ ap (λ (e : NetAndBook). e.net) is ∙ there) in
+      let more = found.more in
+      let alike : length found.after.releases ≡ length n.releases = ap (λ (m : Net). length m.releases) one in
+      none_released cs (omega (arith, more, alike, same))

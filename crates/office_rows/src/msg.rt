@@ -1,0 +1,126 @@
+//! Rows of `msg`.
+ghost use Rattle.std.specs.Prelude.{IfOk, OnOk, [], filter, length, not, ◌++◌, ◌∷◌, ◌≡◌};
+ghost use Rattle.office_tables.specs.Tables.{tables_of, IsOffice};
+ghost use Rattle.office_tables.specs.Statements.{Makes};
+ghost use Rattle.office_tables.specs.Selected.{IsSelected};
+ghost use Rattle.office_rows.specs.Rows.{has_net_and_name, has_net_and_number, has_number_between, is_of_net, msg_row};
+ghost use Rattle.office_rows.specs.Shown.{msg_numbers_order, msg_numbers_shown, msg_named_order, msgs_order, msg_named_shown, msgs_shown};
+ghost use Rattle.sqlite_sql.specs.Aggregate.{count};
+ghost use Rattle.sqlite.specs.Held.{state};
+ghost use Rattle.sqlite.specs.State.{HasCleanDisk, IsUnchanged, KeepsCommit, Survives};
+
+use crate::row::MsgRow;
+use sqlite::types::{ToSql, ValueRef};
+use sqlite::{Alter, Error, Row, Transaction};
+
+/// Adds a live message of a network, without its signals. Gives 1. An error where its key is there.
+pub fn insert_msg<S: Alter>(tx: &mut Transaction<'_, S>, row: &MsgRow<'_>) -> Result<usize, Error>
+    ensures same_reference { tx.new.conn.ghost_name ≡ tx.old.conn.ghost_name }
+    ensures added { HasCleanDisk (state S.Store tx.new.conn.now) → IsOffice (state S.Store tx.old.conn.now).now
+        → OnOk result (Makes (λ t. record t { msg = t.msg ++ msg_row row.now ∷ [] }) (state S.Store tx.old.conn.now) (state S.Store tx.new.conn.now)) }
+    ensures rows { HasCleanDisk (state S.Store tx.new.conn.now) → IsOffice (state S.Store tx.old.conn.now).now → IfOk result (λ rows. rows ≡ 1) }
+    ensures kept { HasCleanDisk (state S.Store tx.new.conn.now) → KeepsCommit (state S.Store tx.old.conn.now) (state S.Store tx.new.conn.now) }
+    ensures survives { Survives (state S.Store tx.old.conn.now) (state S.Store tx.new.conn.now) (λ _. ⊥) }
+{
+    tx.execute(
+        "INSERT INTO msg VALUES (?1, ?2, ?3, ?4, ?5, ?6, ?7)",
+        &[
+            ValueRef::Text(row.net),
+            row.number.to_sql(),
+            ValueRef::Text(row.name),
+            ValueRef::Text(row.owner),
+            row.length.to_sql(),
+            ValueRef::Text(row.sender),
+            ValueRef::Blob(row.comment),
+        ],
+    )
+}
+
+/// Removes the rows of the network's message with the number. Gives how many rows it removed.
+pub fn delete_msgs<S: Alter>(
+    tx: &mut Transaction<'_, S>,
+    net: &[u8],
+    number: u32,
+) -> Result<usize, Error>
+    ensures same_reference { tx.new.conn.ghost_name ≡ tx.old.conn.ghost_name }
+    ensures removed { HasCleanDisk (state S.Store tx.new.conn.now) → IsOffice (state S.Store tx.old.conn.now).now
+        → OnOk result (Makes (λ t. record t { msg = filter (λ row. not (has_net_and_number net.now number row)) t.msg }) (state S.Store tx.old.conn.now) (state S.Store tx.new.conn.now)) }
+    ensures rows { HasCleanDisk (state S.Store tx.new.conn.now) → IsOffice (state S.Store tx.old.conn.now).now
+        → IfOk result (λ rows. rows ≡ length (filter (has_net_and_number net.now number) (tables_of (state S.Store tx.old.conn.now).now.trees).msg)) }
+    ensures kept { HasCleanDisk (state S.Store tx.new.conn.now) → KeepsCommit (state S.Store tx.old.conn.now) (state S.Store tx.new.conn.now) }
+    ensures survives { Survives (state S.Store tx.old.conn.now) (state S.Store tx.new.conn.now) (λ _. ⊥) }
+{
+    tx.execute(
+        "DELETE FROM msg WHERE net = ?1 AND number = ?2",
+        &[ValueRef::Text(net), number.to_sql()],
+    )
+}
+
+/// The live message of the network with the name (`number`, `name`, `owner`, `length`, `sender`, `comment`), if it is there.
+pub fn select_msg_named<S: Alter>(
+    tx: &mut Transaction<'_, S>,
+    net: &[u8],
+    name: &[u8],
+) -> Result<Vec<Row>, Error>
+    ensures same_reference { tx.new.conn.ghost_name ≡ tx.old.conn.ghost_name }
+    ensures found { HasCleanDisk (state S.Store tx.new.conn.now) → IsOffice (state S.Store tx.old.conn.now).now
+        → IfOk result (λ rows. IsSelected (has_net_and_name net.now name.now) msg_named_shown msg_named_order (tables_of (state S.Store tx.old.conn.now).now.trees).msg rows.items) }
+    ensures same { HasCleanDisk (state S.Store tx.new.conn.now) → IsOffice (state S.Store tx.old.conn.now).now → OnOk result (IsUnchanged (state S.Store tx.old.conn.now) (state S.Store tx.new.conn.now)) }
+    ensures kept { HasCleanDisk (state S.Store tx.new.conn.now) → IsOffice (state S.Store tx.old.conn.now).now → KeepsCommit (state S.Store tx.old.conn.now) (state S.Store tx.new.conn.now) }
+    ensures survives { Survives (state S.Store tx.old.conn.now) (state S.Store tx.new.conn.now) (λ _. ⊥) }
+{
+    tx.query_all(
+        "SELECT number, name, owner, length, sender, comment FROM msg WHERE net = ?1 AND name = ?2 ORDER BY number",
+        &[ValueRef::Text(net), ValueRef::Text(name)],
+    )
+}
+
+/// The live messages of the network (the columns of [`select_msg_named`]), in the order of their numbers.
+pub fn select_msgs<S: Alter>(tx: &mut Transaction<'_, S>, net: &[u8]) -> Result<Vec<Row>, Error>
+    ensures same_reference { tx.new.conn.ghost_name ≡ tx.old.conn.ghost_name }
+    ensures found { HasCleanDisk (state S.Store tx.new.conn.now) → IsOffice (state S.Store tx.old.conn.now).now
+        → IfOk result (λ rows. IsSelected (is_of_net net.now) msgs_shown msgs_order (tables_of (state S.Store tx.old.conn.now).now.trees).msg rows.items) }
+    ensures same { HasCleanDisk (state S.Store tx.new.conn.now) → IsOffice (state S.Store tx.old.conn.now).now → OnOk result (IsUnchanged (state S.Store tx.old.conn.now) (state S.Store tx.new.conn.now)) }
+    ensures kept { HasCleanDisk (state S.Store tx.new.conn.now) → IsOffice (state S.Store tx.old.conn.now).now → KeepsCommit (state S.Store tx.old.conn.now) (state S.Store tx.new.conn.now) }
+    ensures survives { Survives (state S.Store tx.old.conn.now) (state S.Store tx.new.conn.now) (λ _. ⊥) }
+{
+    tx.query_all(
+        "SELECT number, name, owner, length, sender, comment FROM msg WHERE net = ?1 ORDER BY number",
+        &[ValueRef::Text(net)],
+    )
+}
+
+/// How many live messages the network has, as one row of one number.
+pub fn count_msgs<S: Alter>(tx: &mut Transaction<'_, S>, net: &[u8]) -> Result<Vec<Row>, Error>
+    ensures same_reference { tx.new.conn.ghost_name ≡ tx.old.conn.ghost_name }
+    ensures found { HasCleanDisk (state S.Store tx.new.conn.now) → IsOffice (state S.Store tx.old.conn.now).now
+        → IfOk result (λ rows. rows.items ≡ (count (length (filter (is_of_net net.now) (tables_of (state S.Store tx.old.conn.now).now.trees).msg)) ∷ []) ∷ []) }
+    ensures same { HasCleanDisk (state S.Store tx.new.conn.now) → IsOffice (state S.Store tx.old.conn.now).now → OnOk result (IsUnchanged (state S.Store tx.old.conn.now) (state S.Store tx.new.conn.now)) }
+    ensures kept { HasCleanDisk (state S.Store tx.new.conn.now) → IsOffice (state S.Store tx.old.conn.now).now → KeepsCommit (state S.Store tx.old.conn.now) (state S.Store tx.new.conn.now) }
+    ensures survives { Survives (state S.Store tx.old.conn.now) (state S.Store tx.new.conn.now) (λ _. ⊥) }
+{
+    tx.query_all(
+        "SELECT count(*) FROM msg WHERE net = ?1",
+        &[ValueRef::Text(net)],
+    )
+}
+
+/// The numbers of the network's live messages from the first to the last, ascending.
+pub fn select_msg_numbers<S: Alter>(
+    tx: &mut Transaction<'_, S>,
+    net: &[u8],
+    first: u32,
+    last: u32,
+) -> Result<Vec<Row>, Error>
+    ensures same_reference { tx.new.conn.ghost_name ≡ tx.old.conn.ghost_name }
+    ensures found { HasCleanDisk (state S.Store tx.new.conn.now) → IsOffice (state S.Store tx.old.conn.now).now
+        → IfOk result (λ rows. IsSelected (has_number_between net.now first last) msg_numbers_shown msg_numbers_order (tables_of (state S.Store tx.old.conn.now).now.trees).msg rows.items) }
+    ensures same { HasCleanDisk (state S.Store tx.new.conn.now) → IsOffice (state S.Store tx.old.conn.now).now → OnOk result (IsUnchanged (state S.Store tx.old.conn.now) (state S.Store tx.new.conn.now)) }
+    ensures kept { HasCleanDisk (state S.Store tx.new.conn.now) → IsOffice (state S.Store tx.old.conn.now).now → KeepsCommit (state S.Store tx.old.conn.now) (state S.Store tx.new.conn.now) }
+    ensures survives { Survives (state S.Store tx.old.conn.now) (state S.Store tx.new.conn.now) (λ _. ⊥) }
+{
+    tx.query_all(
+        "SELECT number FROM msg WHERE net = ?1 AND number >= ?2 AND number <= ?3 ORDER BY number",
+        &[ValueRef::Text(net), first.to_sql(), last.to_sql()],
+    )
+}

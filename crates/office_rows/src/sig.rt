@@ -1,0 +1,106 @@
+//! Rows of `sig`.
+ghost use Rattle.std.specs.Prelude.{IfOk, OnOk, [], filter, length, not, ◌++◌, ◌∷◌, ◌≡◌};
+ghost use Rattle.office_tables.specs.Tables.{tables_of, IsOffice};
+ghost use Rattle.office_tables.specs.Statements.{Makes};
+ghost use Rattle.office_tables.specs.Selected.{IsSelected};
+ghost use Rattle.office_rows.specs.Rows.{has_net_and_number, has_place_of, sig_row};
+ghost use Rattle.office_rows.specs.Shown.{sigs_order, sigs_shown};
+ghost use Rattle.sqlite.specs.Held.{state};
+ghost use Rattle.sqlite.specs.State.{HasCleanDisk, IsUnchanged, KeepsCommit, Survives};
+
+use crate::row::SigRow;
+use sqlite::types::{ToSql, ValueRef};
+use sqlite::{Alter, Error, Row, Transaction};
+
+/// Adds a signal of a live message, without its receivers and value texts. Gives 1. An error where its key is there.
+pub fn insert_sig<S: Alter>(tx: &mut Transaction<'_, S>, row: &SigRow<'_>) -> Result<usize, Error>
+    ensures same_reference { tx.new.conn.ghost_name ≡ tx.old.conn.ghost_name }
+    ensures added { HasCleanDisk (state S.Store tx.new.conn.now) → IsOffice (state S.Store tx.old.conn.now).now
+        → OnOk result (Makes (λ t. record t { sig = t.sig ++ sig_row row.now ∷ [] }) (state S.Store tx.old.conn.now) (state S.Store tx.new.conn.now)) }
+    ensures rows { HasCleanDisk (state S.Store tx.new.conn.now) → IsOffice (state S.Store tx.old.conn.now).now → IfOk result (λ rows. rows ≡ 1) }
+    ensures kept { HasCleanDisk (state S.Store tx.new.conn.now) → KeepsCommit (state S.Store tx.old.conn.now) (state S.Store tx.new.conn.now) }
+    ensures survives { Survives (state S.Store tx.old.conn.now) (state S.Store tx.new.conn.now) (λ _. ⊥) }
+{
+    tx.execute(
+        "INSERT INTO sig VALUES (?1, ?2, ?3, ?4, ?5, ?6, ?7, ?8, ?9, ?10, ?11, ?12, ?13, ?14, ?15, ?16, ?17)",
+        &[
+            ValueRef::Text(row.net),
+            row.number.to_sql(),
+            row.place.to_sql(),
+            ValueRef::Text(row.name),
+            row.start.to_sql(),
+            row.size.to_sql(),
+            row.motorola.to_sql(),
+            row.signed.to_sql(),
+            row.mux.value(),
+            ValueRef::Text(row.factor),
+            ValueRef::Text(row.shift),
+            ValueRef::Text(row.least),
+            ValueRef::Text(row.most),
+            ValueRef::Blob(row.unit),
+            ValueRef::Blob(row.comment),
+            row.spn.to_sql(),
+            row.label.to_sql(),
+        ],
+    )
+}
+
+/// Removes the rows of the network's message with the number. Gives how many rows it removed.
+pub fn delete_sigs<S: Alter>(
+    tx: &mut Transaction<'_, S>,
+    net: &[u8],
+    number: u32,
+) -> Result<usize, Error>
+    ensures same_reference { tx.new.conn.ghost_name ≡ tx.old.conn.ghost_name }
+    ensures removed { HasCleanDisk (state S.Store tx.new.conn.now) → IsOffice (state S.Store tx.old.conn.now).now
+        → OnOk result (Makes (λ t. record t { sig = filter (λ row. not (has_net_and_number net.now number row)) t.sig }) (state S.Store tx.old.conn.now) (state S.Store tx.new.conn.now)) }
+    ensures rows { HasCleanDisk (state S.Store tx.new.conn.now) → IsOffice (state S.Store tx.old.conn.now).now
+        → IfOk result (λ rows. rows ≡ length (filter (has_net_and_number net.now number) (tables_of (state S.Store tx.old.conn.now).now.trees).sig)) }
+    ensures kept { HasCleanDisk (state S.Store tx.new.conn.now) → KeepsCommit (state S.Store tx.old.conn.now) (state S.Store tx.new.conn.now) }
+    ensures survives { Survives (state S.Store tx.old.conn.now) (state S.Store tx.new.conn.now) (λ _. ⊥) }
+{
+    tx.execute(
+        "DELETE FROM sig WHERE net = ?1 AND number = ?2",
+        &[ValueRef::Text(net), number.to_sql()],
+    )
+}
+
+/// Removes the rows of the signal at the place of the network's message with the number. Gives how many rows it removed.
+pub fn delete_sig_at<S: Alter>(
+    tx: &mut Transaction<'_, S>,
+    net: &[u8],
+    number: u32,
+    place: u32,
+) -> Result<usize, Error>
+    ensures same_reference { tx.new.conn.ghost_name ≡ tx.old.conn.ghost_name }
+    ensures removed { HasCleanDisk (state S.Store tx.new.conn.now) → IsOffice (state S.Store tx.old.conn.now).now
+        → OnOk result (Makes (λ t. record t { sig = filter (λ row. not (has_place_of net.now number place row)) t.sig }) (state S.Store tx.old.conn.now) (state S.Store tx.new.conn.now)) }
+    ensures rows { HasCleanDisk (state S.Store tx.new.conn.now) → IsOffice (state S.Store tx.old.conn.now).now
+        → IfOk result (λ rows. rows ≡ length (filter (has_place_of net.now number place) (tables_of (state S.Store tx.old.conn.now).now.trees).sig)) }
+    ensures kept { HasCleanDisk (state S.Store tx.new.conn.now) → KeepsCommit (state S.Store tx.old.conn.now) (state S.Store tx.new.conn.now) }
+    ensures survives { Survives (state S.Store tx.old.conn.now) (state S.Store tx.new.conn.now) (λ _. ⊥) }
+{
+    tx.execute(
+        "DELETE FROM sig WHERE net = ?1 AND number = ?2 AND place = ?3",
+        &[ValueRef::Text(net), number.to_sql(), place.to_sql()],
+    )
+}
+
+/// The signals of the network's message with the number, in the order of their places: all columns but `net` and `number`.
+pub fn select_sigs<S: Alter>(
+    tx: &mut Transaction<'_, S>,
+    net: &[u8],
+    number: u32,
+) -> Result<Vec<Row>, Error>
+    ensures same_reference { tx.new.conn.ghost_name ≡ tx.old.conn.ghost_name }
+    ensures found { HasCleanDisk (state S.Store tx.new.conn.now) → IsOffice (state S.Store tx.old.conn.now).now
+        → IfOk result (λ rows. IsSelected (has_net_and_number net.now number) sigs_shown sigs_order (tables_of (state S.Store tx.old.conn.now).now.trees).sig rows.items) }
+    ensures same { HasCleanDisk (state S.Store tx.new.conn.now) → IsOffice (state S.Store tx.old.conn.now).now → OnOk result (IsUnchanged (state S.Store tx.old.conn.now) (state S.Store tx.new.conn.now)) }
+    ensures kept { HasCleanDisk (state S.Store tx.new.conn.now) → IsOffice (state S.Store tx.old.conn.now).now → KeepsCommit (state S.Store tx.old.conn.now) (state S.Store tx.new.conn.now) }
+    ensures survives { Survives (state S.Store tx.old.conn.now) (state S.Store tx.new.conn.now) (λ _. ⊥) }
+{
+    tx.query_all(
+        "SELECT place, name, start, size, motorola, signed, mux, factor, shift, least, most, unit, comment, spn, label FROM sig WHERE net = ?1 AND number = ?2 ORDER BY place",
+        &[ValueRef::Text(net), number.to_sql()],
+    )
+}

@@ -1,0 +1,115 @@
+-- What a count of one table's rows answers.
+use Rattle.std.proofs.Common.{◌≡◌, ◌∙◌, inl, inr, ℕ, zero, suc, pos, negsuc, List, [], ◌∷◌, ◌++◌, map, length, get_or, Bool, true, cond, Option, Some, None, refl, sym, ap, subst, arith}
+use Rattle.std.specs.Prelude.{filter, flat_map, IsPermutation, All}
+use Rattle.std.specs.List.{AllZip, list_all}
+use Rattle.std.proofs.lemmas.Bool.{cases_Bool}
+use Rattle.std.proofs.lemmas.List.{length-map}
+use Rattle.std.proofs.lemmas.List.Elements.{All-head}
+use Rattle.std.proofs.lemmas.List.Sorted.{All-permutation, length_permutation}
+use Rattle.sqlite.specs.declared.types.Value.{Value}
+use Rattle.sqlite.specs.declared.types.Value.TheVariants.{Null, Int}
+use Rattle.sqlite.specs.Order.{Row}
+use Rattle.sqlite.specs.Tree.{Trees}
+use Rattle.sqlite.specs.Term.{Term, lit, col, eval_all, holds}
+use Rattle.sqlite.specs.Collation.TheVariants.{Binary}
+use Rattle.sqlite_sql.specs.Aggregate.{count}
+use Rattle.sqlite_sql.specs.Group.{Aggregate, Grouping, IsSummary, Summarizes, value_over}
+use Rattle.sqlite_sql.specs.Term.{Env}
+use Rattle.sqlite_sql.specs.declared.aggregate.AggregateOp.TheVariants.{CountRows}
+use Rattle.sqlite.specs.Query.{Query, inner, end, IsAnswer, output, Output}
+use Rattle.std.specs.Prelude.{IfOk, Result, Ok, Err, codes, false}
+use Rattle.sqlite.specs.declared.error.Error.{Error}
+use Rattle.sqlite.specs.Command.TheVariants.{Select}
+use Rattle.sqlite.specs.Listing.{understood, reads_listing}
+use Rattle.sqlite.specs.Program.{overlay}
+use Rattle.sqlite.specs.State.{State, Shown}
+use Rattle.sqlite.proofs.Callers.{IsPlain, command_of, reads_as}
+use Rattle.office_tables.specs.Schema.{office_schema}
+use Rattle.office_tables.specs.Tables.{values}
+use Rattle.office_tables.proofs.Changing.{plain_trees}
+use Rattle.office_tables.proofs.Selecting.{filter_map_is}
+
+only : {X : Type 0} (x : X) → All (λ z. z ≡ x) (x ∷ [])
+only x zero d lt = refl
+only x (suc k) d lt = absurd (omega (arith, lt))
+
+one_of : {X : Type 0} (x : X) (ys : List X) → IsPermutation (x ∷ []) ys → ys ≡ x ∷ []
+one_of {X} x [] same = let e : length {A = X} [] ≡ length (x ∷ []) = length_permutation (x ∷ []) [] same in absurd (omega (arith, e))
+one_of x (y ∷ []) same = ap (λ z. z ∷ []) (All-permutation (λ z. z ≡ x) (x ∷ []) (y ∷ []) same (only x) 0 x (omega arith))
+one_of x (y ∷ z ∷ ys) same = let e : length (y ∷ z ∷ ys) ≡ length (x ∷ []) = length_permutation (x ∷ []) (y ∷ z ∷ ys) same in absurd (omega (arith, e))
+
+abbrev rows_counted : Aggregate
+rows_counted = record { op = CountRows; distinct = false; collation = Binary; argument = lit Null }
+
+abbrev counting : Grouping
+counting = record { keys = []; collations = []; aggregates = rows_counted ∷ []; having = [] }
+
+same_some : {X : Type 0} (x y : X) → Some x ≡ Some y → x ≡ y
+same_some x y e = cc
+
+module _ (t : ℕ) (tests : List Term) (params : Row) where
+  abbrev pub count_query : Query
+  count_query = record {
+    from = inner t end;
+    filter = tests;
+    group = Some counting;
+    project = col 1 0 ∷ [];
+    distinct = false;
+    collations = [];
+    order = [];
+    limit = lit (Int (negsuc 0));
+    offset = lit (Int (pos 0));
+  }
+
+  abbrev wants : Row → Bool
+  wants r = list_all (holds (params ∷ r ∷ [])) tests
+
+  matched : (rows : List Row) → length (flat_map (λ r. cond (wants r) ((params ∷ r ∷ []) ∷ []) []) rows) ≡ length (filter wants rows)
+  matched [] = refl
+  matched (r ∷ rows) = elim (cases_Bool (wants r)) [ inl hit ↦ rw (hit, matched rows) | inr miss ↦ rw (miss, matched rows) ]
+
+  -- one group of all rows has one summary, their number
+  summary : (order : List Env) (rows : List Row) → AllZip (IsSummary counting) (order ∷ []) rows → rows ≡ (count (length order) ∷ []) ∷ []
+  summary order [] h = absurd h
+  summary order (r ∷ s ∷ rows) h = absurd h.1
+  summary order (r ∷ []) h = ap (λ x. x ∷ []) (by_values h.0.0 h.0.1 h.0.2)
+    where
+      by_values : (values : Row) → AllZip (λ a v. value_over order a ≡ Some v) (rows_counted ∷ []) values → r ≡ values → r ≡ count (length order) ∷ []
+      by_values [] all is = absurd all
+      by_values (v ∷ w ∷ values) all is = absurd all.1
+      by_values (v ∷ []) all is = is ∙ ap (λ x. x ∷ []) (same_some v (count (length order)) (sym all.0 ∙ ap (λ n. Some (count n)) (length-map order _)))
+
+  pub counted : (db : Trees) (rows : List Row) → IsAnswer count_query db params rows → rows ≡ (count (length (filter wants (db t))) ∷ []) ∷ []
+  counted db rows a =
+      let g = a.grouped in
+      let order = g.grouping.0 in
+      let value = count (length order) in
+      let rows_are : g.rows ≡ (value ∷ []) ∷ [] = summary order g.rows (subst (λ l. AllZip (IsSummary counting) l g.rows) g.grouping.2 g.summaries) in
+      let staged : a.staged ≡ (params ∷ (value ∷ []) ∷ []) ∷ [] = g.having ∙ ap (λ l. filter (λ env. list_all (holds env) []) (map (λ r. params ∷ r ∷ []) l)) rows_are in
+      let kept : a.kept ≡ ([], value ∷ []) ∷ [] = a.distinct ∙ ap (map (output count_query)) staged in
+      let ordered : a.ordered ≡ ([], value ∷ []) ∷ [] = one_of ([], value ∷ []) a.ordered (subst (λ l. IsPermutation l a.ordered) kept a.same) in
+      let many : length order ≡ length (filter wants (db t)) = length_permutation _ order g.grouping.1 ∙ matched (db t) in
+      a.shown ∙ ap (map (λ (o : Output). o.1)) ordered ∙ ap (λ n. (count n ∷ []) ∷ []) many
+
+-- what the text of a count means under the office's schema
+pub record AsksCount (sql : List ℕ) (t : ℕ) (tests : List Term) (params : Row) : Type 0 where
+  pub command : command_of (understood office_schema sql) ≡ Select (record { lets = []; body = count_query t tests params }) (codes "count(*)" ∷ [])
+  pub listing : reads_listing office_schema sql ≡ false
+  pub plain : IsPlain (understood office_schema sql)
+
+module _ (sql : List ℕ) (t : ℕ) (tests : List Term) (params : Row) (asks : AsksCount sql t tests params) (test : Row → Bool)
+    (same : (r : Row) → test (values r) ≡ list_all (holds (params ∷ r ∷ [])) tests) where
+  counts_these : (old new : State) (rows : List Row) → old.now.schema ≡ office_schema → Shown sql params old new rows
+      → rows ≡ (count (length (filter test (map values (old.now.trees t)))) ∷ []) ∷ []
+  counts_these old new rows schema h =
+      let read = reads_as sql params old new office_schema schema _ asks.command asks.plain asks.listing rows h in
+      let wants : Row → Bool = λ r. list_all (holds (params ∷ r ∷ [])) tests in
+      let table = old.now.trees t in
+      let many : length (filter wants table) ≡ length (filter test (map values table)) = sym (length-map (filter wants table) values) ∙ ap length (filter_map_is values test wants same table) in
+      counted t tests params (overlay old.now.trees []) rows (read.answer Null)
+      ∙ ap (λ l. (count (length (filter wants l)) ∷ []) ∷ []) (plain_trees old.now.trees t) ∙ ap (λ n. (count n ∷ []) ∷ []) many
+
+  pub counts : {X : Type 0} (rows_of : X → List Row) (old new : State) (r : Result X Error) → old.now.schema ≡ office_schema
+      → IfOk r (λ x. Shown sql params old new (rows_of x)) → IfOk r (λ x. rows_of x ≡ (count (length (filter test (map values (old.now.trees t)))) ∷ []) ∷ [])
+  counts rows_of old new (Err e) schema h = tt
+  counts rows_of old new (Ok x) schema h = counts_these old new (rows_of x) schema h

@@ -1,0 +1,90 @@
+//! What is said of the file of a bundle.
+ghost use Rattle.std.specs.Prelude.{◌≡◌, IfOk, MatchOption, is_some};
+ghost use Rattle.office_script.specs.Bundles.{parts_in};
+ghost use Rattle.office_script.specs.Lines.{lines_of};
+ghost use Rattle.office_script.specs.Requests.{bundle_file};
+ghost use Rattle.script_advice.specs.Explained.{Says, SaysNothing, first_wrong_part, wrong_parts};
+
+use crate::cause::{Cause, Wrong};
+use crate::explaining::wrong_line;
+use crate::finding::part_wrong;
+use office_fields::Unread;
+use office_script::{Dash, FileFault, FileSource, bundle_file, first_line, parts_in};
+use std::alloc::{AllocError, Global};
+
+/// What is said of the first wrong line of the file, or nothing if no line is wrong.
+fn first_wrong_part(alloc: Global, path: &[u8], bytes: &[u8]) -> Result<Vec<u8>, AllocError>
+    ensures { IfOk result (λ said. said.items ≡ first_wrong_part path.now 1 (lines_of bytes.now)) }
+{
+    let mut number = 0usize;
+    let mut rest = bytes;
+    while let Some(first) = first_line(rest) {
+        number += 1;
+        if let Some(wrong) = part_wrong(alloc, first.line)? {
+            return wrong_line(alloc, path, number, first.line, wrong);
+        }
+        rest = first.rest;
+    }
+    Ok(Vec::new(alloc))
+}
+
+/// Whether the file has the parts of a bundle.
+fn has_parts(alloc: Global, bytes: &[u8]) -> Result<bool, AllocError>
+    ensures { IfOk result (λ has. has ≡ is_some (parts_in bytes.now)) }
+{
+    match parts_in(alloc, bytes) {
+        Ok(_parts) => Ok(true),
+        Err(Unread::Wrong) => Ok(false),
+        Err(Unread::Memory) => Err(AllocError),
+    }
+}
+
+/// What is said of a bundle, which the script's line of this number requests, and whose file has no parts.
+fn wrong_parts(
+    alloc: Global,
+    name: &[u8],
+    number: usize,
+    line: &[u8],
+    path: &[u8],
+    bytes: &[u8],
+) -> Result<Vec<u8>, AllocError>
+    ensures { IfOk result (λ said. said.items ≡ wrong_parts name.now number line.now path.now bytes.now) }
+{
+    let said = first_wrong_part(alloc, path, bytes)?;
+    if !said.is_empty() {
+        return Ok(said);
+    }
+    let wrong = Wrong {
+        word: 2,
+        cause: Cause::Count,
+    };
+    wrong_line(alloc, name, number, line, wrong)
+}
+
+/// What is said of what the script's line of this number requests: something if it is a bundle whose file has no parts.
+pub(crate) fn said_of_bundle<F: FileSource>(
+    alloc: Global,
+    name: &[u8],
+    dash: Dash,
+    number: usize,
+    line: &[u8],
+    files: &F,
+) -> Result<Option<Vec<u8>>, AllocError>
+    ensures { IfOk result (λ said. MatchOption said (SaysNothing (F.held files.now) (bundle_file dash number line.now))
+        (λ text. Says (F.held files.now) (wrong_parts name.now number line.now) (bundle_file dash number line.now) text.items)) }
+{
+    let Some(path) = bundle_file(alloc, dash, number, line)? else {
+        return Ok(None);
+    };
+    match files.read(alloc, path.as_str()) {
+        Ok(bytes) => {
+            if has_parts(alloc, &bytes)? {
+                return Ok(None);
+            }
+            let path = path.as_str().as_bytes();
+            Ok(Some(wrong_parts(alloc, name, number, line, path, &bytes)?))
+        }
+        Err(FileFault::Unreadable) => Ok(None),
+        Err(FileFault::Memory) => Err(AllocError),
+    }
+}

@@ -1,0 +1,28 @@
+use Rattle.std.proofs.Common.{◌≡◌, true, subst, arith, rules}
+use Rattle.std.specs.Prelude.{◌≢◌}
+use Rattle.sqlite.specs.Held.{state}
+use Rattle.sqlite.specs.State.{HasCleanDisk, Survives}
+use Rattle.sqlite.proofs.Callers.{survives_begin}
+use Rattle.sqlite.proofs.StateLemmas.{survives_then}
+use Rattle.office_tables.specs.Statements.{IsOfficeWith}
+use Rattle.store_carry.specs.FormSchema.{schema_of}
+use Rattle.store_carry.specs.declared.forms.Form.{Form}
+use Rattle.store_carry.specs.declared.forms.Form.TheVariants.{Foreign}
+use Rattle.store.specs.Opening.{MayCarry}
+use Rattle.store.proofs.InForm.{carried_as}
+use Rattle.store.proofs.migrating.carry_all.Goals as goal
+
+pub returns-clause-survives : goal.returns-clause-survives
+returns-clause-survives g c =
+    let old = state g.S.Store c.args.conn.now in
+    let last = state g.S.Store c.carry.new.tx.conn.now in
+    let end = c.commit.new.self.0 in
+    let same : end ≡ c.conn-2-1.given.0 = search rules in
+    let begun = c.transaction-tx.ensures.begun in
+    let inside = survives_begin g.S.Store c.args.conn.now last (λ _. ⊥) (rw begun at c.carry.ensures.survives) in
+    let carried = λ (clean : HasCleanDisk (state g.S.Store end)) (form : Form) (known : form ≢ Foreign) (was : IsOfficeWith (schema_of form) old.now).
+    let clean_last : HasCleanDisk last = omega (arith, c.commit.ensures.survives.clean, clean) in
+    carried_as c.form_of-form.result form (state g.S.Store (record c.args.conn.now { in_transaction = true })) last (c.form_of-form.ensures form known was.schema_is) (rw begun at (c.in_ok-carry.ensures.office clean_last)) (rw begun at (c.in_ok-carry.ensures.held clean_last)) was in
+    subst (λ v. Survives old (state g.S.Store v) (MayCarry old.now)) same
+    (survives_then old last (state g.S.Store end) (λ _. ⊥) (λ db. db ≡ last.now.trees) (MayCarry old.now) (λ clean db none. absurd none)
+    (λ clean db is form known was. (last.now, carried clean form known was, is)) inside c.commit.ensures.survives)

@@ -1,0 +1,53 @@
+use Rattle.std.proofs.Common.{inl, inr, sym, subst, ◌∙◌, arith}
+use Rattle.sqlite.specs.Effect.{Database}
+use Rattle.sqlite.specs.Held.{state}
+use Rattle.sqlite.specs.State.{HasCleanDisk}
+use Rattle.sqlite.proofs.StateLemmas.{survives_then}
+use Rattle.office_tables.specs.Tables.{tables_of}
+use Rattle.store.specs.Opening.{MayCarry, MayMigrate}
+use Rattle.store.proofs.InForm.{older_marks}
+use Rattle.store.proofs.Opened.{apart, apart_13, none_of_office}
+use Rattle.store.proofs.migrating.make_current.Goals as goal
+
+pub returns-then-is_new-clause-same : goal.returns-then-is_new-clause-same
+returns-then-is_new-clause-same g c clean has marks = absurd (apart (sym (c.is_new.ensures.0 c.if-is_new.true) ∙ has))
+
+pub returns-then-is_new-clause-grown : goal.returns-then-is_new-clause-grown
+returns-then-is_new-clause-grown g c clean has marks = absurd (apart_13 (sym (c.is_new.ensures.0 c.if-is_new.true) ∙ has.schema_is))
+
+pub returns-then-is_new-clause-survives : goal.returns-then-is_new-clause-survives
+returns-then-is_new-clause-survives g c has = absurd (none_of_office _ (c.is_new.ensures.0 c.if-is_new.true) has)
+
+pub returns-in_ok-carry_all-in_default-clause-same : goal.returns-in_ok-carry_all-in_default-clause-same
+returns-in_ok-carry_all-in_default-clause-same g c clean has second =
+    let clean_mid : HasCleanDisk (state g.S.Store c.read_marks.new.conn) = omega (arith, c.carry_all.ensures.clean, clean) in
+    absurd (older_marks (tables_of (state g.S.Store c.args.conn.now).now.trees) c.in_ok-older.older c.in_default.not-Second c.in_default.not-Newer c.in_default.not-Foreign (c.in_ok-older.ensures.found clean_mid (inr (inr has))) second)
+
+pub returns-in_ok-carry_all-in_default-clause-grown : goal.returns-in_ok-carry_all-in_default-clause-grown
+returns-in_ok-carry_all-in_default-clause-grown g c clean has second =
+    let clean_mid : HasCleanDisk (state g.S.Store c.read_marks.new.conn) = omega (arith, c.carry_all.ensures.clean, clean) in
+    absurd (older_marks (tables_of (state g.S.Store c.args.conn.now).now.trees) c.in_ok-older.older c.in_default.not-Second c.in_default.not-Newer c.in_default.not-Foreign (c.in_ok-older.ensures.found clean_mid (inr (inl has.schema_is))) second)
+
+pub returns-in_ok-carry_all-in_default-clause-survives : goal.returns-in_ok-carry_all-in_default-clause-survives
+returns-in_ok-carry_all-in_default-clause-survives g c schema =
+    let old = state g.S.Store c.args.conn.now in
+    let mid = state g.S.Store c.read_marks.new.conn in
+    let new = state g.S.Store c.carry_all.new.conn in
+    let before = λ (clean : HasCleanDisk new). let clean_mid : HasCleanDisk mid = omega (arith, c.carry_all.ensures.clean, clean) in clean_mid in
+    survives_then old mid new (λ _. ⊥) (MayCarry mid.now) (MayMigrate old.now) (λ clean db none. absurd none)
+    (λ clean db may. inr (
+      older_marks (tables_of (state g.S.Store c.args.conn.now).now.trees) c.in_ok-older.older c.in_default.not-Second c.in_default.not-Newer c.in_default.not-Foreign (c.in_ok-older.ensures.found (before clean) schema),
+      subst (λ (d : Database). MayCarry d db) (c.in_ok-older.ensures.same (before clean) schema).0.now_is may,
+    )) (c.read_marks.ensures.survives schema) c.carry_all.ensures.survives
+
+pub returns-in_err-carry_all-in_default-clause-survives : goal.returns-in_err-carry_all-in_default-clause-survives
+returns-in_err-carry_all-in_default-clause-survives g c schema =
+    let old = state g.S.Store c.args.conn.now in
+    let mid = state g.S.Store c.read_marks.new.conn in
+    let new = state g.S.Store c.carry_all.new.conn in
+    let before = λ (clean : HasCleanDisk new). let clean_mid : HasCleanDisk mid = omega (arith, c.carry_all.ensures.clean, clean) in clean_mid in
+    survives_then old mid new (λ _. ⊥) (MayCarry mid.now) (MayMigrate old.now) (λ clean db none. absurd none)
+    (λ clean db may. inr (
+      older_marks (tables_of (state g.S.Store c.args.conn.now).now.trees) c.in_ok-older.older c.in_default.not-Second c.in_default.not-Newer c.in_default.not-Foreign (c.in_ok-older.ensures.found (before clean) schema),
+      subst (λ (d : Database). MayCarry d db) (c.in_ok-older.ensures.same (before clean) schema).0.now_is may,
+    )) (c.read_marks.ensures.survives schema) c.carry_all.ensures.survives

@@ -1,0 +1,43 @@
+use Rattle.std.proofs.Common.{◌≡◌, sym, subst, arith, rules}
+use Rattle.std.specs.Prelude.{OnOk}
+use Rattle.std.proofs.lemmas.Result.{on_ok_weaker}
+use Rattle.sqlite.specs.Effect.{Database}
+use Rattle.sqlite.specs.Held.{state}
+use Rattle.sqlite.specs.State.{HasCleanDisk, Survives}
+use Rattle.sqlite.specs.Tree.{Trees}
+use Rattle.sqlite.proofs.Callers.{survives_begin}
+use Rattle.sqlite.proofs.StateLemmas.{survives_then}
+use Rattle.office_tables.specs.Schema.{schema_13}
+use Rattle.office_tables.specs.Statements.{IsOfficeWith}
+use Rattle.store.specs.Opening.{IsGrown}
+use Rattle.store.proofs.InForm.{IsDone, grown_done, grown_so}
+use Rattle.store.proofs.opening.make_part.Goals as goal
+
+pub returns-clause-grown : goal.returns-clause-grown
+returns-clause-grown g c clean was =
+    let old = state g.S.Store c.args.conn.now in
+    let last = state g.S.Store c.create_part.new.tx.conn.now in
+    let end = c.commit.new.self.0 in
+    let same : end ≡ c.conn-2-1.given.0 = search rules in
+    let clean_end : HasCleanDisk (state g.S.Store end) = subst (λ v. HasCleanDisk (state g.S.Store v)) (sym same) clean in
+    let clean_last : HasCleanDisk last = omega (arith, c.commit.ensures.survives.clean, clean_end) in
+    let begun = c.transaction-tx.ensures.begun in
+    let grown = (rw begun at (c.in_ok-create_part.ensures.grown clean_last)) was in
+    subst (λ v. OnOk c.commit.result (IsDone (IsGrown old.now.trees) (state g.S.Store v))) same
+    (on_ok_weaker c.commit.result (λ done. grown_done _ last (state g.S.Store end) grown done.1) (c.commit.ensures.ok clean_end))
+
+pub returns-clause-survives : goal.returns-clause-survives
+returns-clause-survives g c =
+    let old = state g.S.Store c.args.conn.now in
+    let last = state g.S.Store c.create_part.new.tx.conn.now in
+    let end = c.commit.new.self.0 in
+    let same : end ≡ c.conn-2-1.given.0 = search rules in
+    let begun = c.transaction-tx.ensures.begun in
+    let inside = survives_begin g.S.Store c.args.conn.now last (λ _. ⊥) (rw begun at c.create_part.ensures.survives) in
+    let MayBe : Trees → Type 0 = λ trees. IsOfficeWith schema_13 old.now → (db : Database) × IsGrown old.now.trees db × (trees ≡ db.trees) in
+    let grown = λ (clean : HasCleanDisk (state g.S.Store end)) (was : IsOfficeWith schema_13 old.now).
+    let clean_last : HasCleanDisk last = omega (arith, c.commit.ensures.survives.clean, clean) in
+    grown_so _ last ((rw begun at (c.in_ok-create_part.ensures.grown clean_last)) was) in
+    subst (λ v. Survives old (state g.S.Store v) MayBe) same
+    (survives_then old last (state g.S.Store end) (λ _. ⊥) (λ db. db ≡ last.now.trees) MayBe (λ clean db none. absurd none) (λ clean db is was. (last.now, grown clean was, is)) inside
+    c.commit.ensures.survives)

@@ -1,0 +1,84 @@
+-- The rows of the profile, where tables hold a history, say which profile it is: the sums of their numbers differ.
+use Rattle.std.proofs.Common.{◌≡◌, ◌∙◌, ℕ, zero, suc, ◌+◌, ◌<◌, pos, List, [], ◌∷◌, map, refl, sym, ap, subst, arith}
+use Rattle.std.specs.Prelude.{IsPermutation, IsSorted, filter, sum_by}
+use Rattle.std.specs.Ordering.{is_lt}
+use Rattle.std.proofs.lemmas.List.Sorted.{IsPermutation-refl, sum_by-IsPermutation}
+use Rattle.std.proofs.lemmas.List.Sums.{sum_by-cons}
+use Rattle.sqlite.specs.declared.types.Value.{Value}
+use Rattle.sqlite.specs.declared.types.Value.TheVariants.{Int}
+use Rattle.sqlite.specs.Order.{Row, column}
+use Rattle.office_rules.specs.Profile.{One, Two}
+use Rattle.office_tables.specs.Selected.{IsSelected}
+use Rattle.office_tables.specs.Tables.{Tables}
+use Rattle.office_rows.specs.Rows.{is_any}
+use Rattle.office_rows.specs.Shown.{profile_order, profile_shown}
+use Rattle.office_history.specs.History.{Answered}
+use Rattle.store_rows.proofs.Keys.{int_test}
+use Rattle.store_carry.specs.Forms.{row_marks}
+use Rattle.store_carry.specs.InForm.{HoldsAs}
+use Rattle.store_carry.specs.Marks.{HasMarks}
+use Rattle.store_carry.specs.declared.forms.Form.{Form}
+use Rattle.store_carry.specs.declared.forms.Form.TheVariants.{All, Bodies, Foreign, Rows}
+use Rattle.store_carry.specs.declared.marks.Marks.TheVariants as marks
+
+-- the number in a row's second column
+abbrev number_of : Value → ℕ
+number_of (Int (pos n)) = n
+number_of v = 0
+
+abbrev second_number : Row → ℕ
+second_number row = number_of (column row 1)
+
+abbrev total : List Row → ℕ
+total rows = sum_by second_number rows
+
+shown_total : (rows : List Row) → total (map profile_shown rows) ≡ total rows
+shown_total [] = refl
+shown_total (r ∷ rows) = sum_by-cons second_number (profile_shown r) (map profile_shown rows) ∙ ap (λ n. second_number r + n) (shown_total rows) ∙ sym (sum_by-cons second_number r rows)
+
+-- rows as they are read have the sum of the table's
+selected_total : (t : Tables) (rows : List Row) → IsSelected is_any profile_shown profile_order t.profile rows → total rows ≡ total (filter is_any t.profile)
+selected_total t rows sel = ap total sel.is ∙ shown_total sel.found ∙ sum_by-IsPermutation second_number (filter is_any t.profile) sel.found sel.same
+
+-- those of the second profile have the sum 4
+second_is_not : (t : Tables) (n : ℕ) → total (filter is_any t.profile) ≡ n → n < 4 → HasMarks t marks.Second → ⊥
+second_is_not t n sum below has =
+    let four : 4 ≡ n = sym (ap total has.2) ∙ selected_total t has.0 has.1 ∙ sum in
+    omega (arith, four, below)
+
+-- rows that say the second profile don't say the first
+pub second_or_bodies : (t : Tables) → HasMarks t marks.Second → HasMarks t marks.Bodies → ⊥
+second_or_bodies t has other = second_is_not t 1 (sym (selected_total t other.0 other.1) ∙ ap total other.2) (omega arith) has
+
+pub second_or_first : (t : Tables) → HasMarks t marks.Second → HasMarks t marks.First → ⊥
+second_or_first t has other = second_is_not t 3 (sym (selected_total t other.0 other.1) ∙ ap total other.2) (omega arith) has
+
+-- tables with the rows of those that hold a history of the first profile don't say the second
+pub not_second : (form : Form) (h : List Answered) (t u : Tables) → t.profile ≡ u.profile → HoldsAs One form h t → HasMarks u marks.Second → ⊥
+not_second Bodies h t u same holds has = second_is_not u 1 (ap (λ l. total (filter is_any l)) (sym same ∙ holds.holds.profile)) (omega arith) has
+not_second Rows h t u same holds has = second_is_not u 3 (ap (λ l. total (filter is_any l)) (sym same ∙ holds.holds.profile)) (omega arith) has
+not_second All h t u same holds has = second_is_not u 3 (ap (λ l. total (filter is_any l)) (sym same ∙ holds.holds.profile)) (omega arith) has
+not_second Foreign h t u same holds has = holds
+
+second_sorted : IsSorted profile_order (row_marks Two)
+second_sorted zero d low high = ap is_lt (int_test 2 1)
+second_sorted (suc k) d low high = absurd (omega (arith, high))
+
+says_second : (t : Tables) → t.profile ≡ row_marks Two → HasMarks t marks.Second
+says_second t same = (
+  row_marks Two,
+  record {
+    found = row_marks Two;
+    same = subst (λ l. IsPermutation (filter is_any l) (row_marks Two)) (sym same) (IsPermutation-refl (row_marks Two));
+    sorted = second_sorted;
+    is = refl;
+  },
+  refl,
+)
+
+-- those of the second profile say it
+pub is_second : (form : Form) (h : List Answered) (t u : Tables) → t.profile ≡ u.profile → HoldsAs Two form h t → HasMarks u marks.Second
+is_second Bodies h t u same holds = absurd holds
+is_second Rows h t u same holds = says_second u (sym same ∙ holds.holds.profile)
+is_second All h t u same holds = says_second u (sym same ∙ holds.holds.profile)
+is_second Foreign h t u same holds = absurd holds

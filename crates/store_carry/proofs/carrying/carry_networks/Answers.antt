@@ -1,0 +1,34 @@
+use Rattle.std.proofs.Common.{◌≡◌, ◌∙◌, ◌∷◌, ◌++◌, [], ◌<◌, ◌+◌, take, take_all, length, sym, subst, arith}
+use Rattle.std.proofs.lemmas.List.{take_more}
+use Rattle.sqlite.specs.Held.{state}
+use Rattle.sqlite.specs.State.{HasCleanDisk}
+use Rattle.sqlite.proofs.InsideLemmas.{keeps_then}
+use Rattle.office_tables.specs.Tables.{tables_of}
+use Rattle.store_net.proofs.Whole.{nothing_left}
+use Rattle.store_carry.specs.Carried.{CarriesNets}
+use Rattle.store_carry.proofs.NetsCarried.{next_carried, none_carried}
+use Rattle.store_carry.proofs.carrying.carry_networks.Goals as goal
+
+pub loop-name-preserved : goal.loop-name-preserved
+loop-name-preserved g c =
+    let old = state g.S.Store c.args.tx.now.conn.now in
+    let mid = state g.S.Store c.loop-name.tx.conn.now in
+    let now = state g.S.Store c.carry_network.new.tx.conn.now in
+    let names = c.args.names.now in
+    let at = c.loop-name.name-index in
+    let item = c.name-item.result in
+    let i = c.loop-name.invariant in
+    let w = c.in_ok-carry_network.ensures in
+    let within : at < length names = c.loop-name-test.true in
+    let done : take (at + 1) names ≡ take at names ++ item ∷ [] = rw (take_more names at item within, ← c.name-item.is) in
+    let early : HasCleanDisk now → HasCleanDisk mid = λ clean. omega (arith, w.survives.clean, clean) in
+    record {
+      same_reference = w.same_reference ∙ i.same_reference;
+      kept = λ clean was. keeps_then old mid now (i.kept (early clean) was) (w.kept clean (i.office (early clean) was));
+      survives = nothing_left old mid now i.survives w.survives;
+      office = λ clean was. w.office clean (i.office (early clean) was);
+      carried = λ clean was.
+          subst (λ l. CarriesNets l (tables_of old.now.trees) (tables_of now.now.trees)) (sym done)
+          (next_carried (take at names) item (tables_of old.now.trees) (tables_of mid.now.trees) (tables_of now.now.trees)
+          (i.carried (early clean) was) (w.carried clean (i.office (early clean) was)));
+    }

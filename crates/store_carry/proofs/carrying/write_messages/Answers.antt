@@ -1,0 +1,35 @@
+use Rattle.std.proofs.Common.{◌≡◌, ◌∙◌, ◌∷◌, ◌++◌, [], ◌<◌, ◌+◌, take, take_all, length, sym, subst, arith}
+use Rattle.std.proofs.lemmas.List.{take_more}
+use Rattle.sqlite.specs.Held.{state}
+use Rattle.sqlite.specs.State.{HasCleanDisk}
+use Rattle.sqlite.proofs.InsideLemmas.{keeps_then}
+use Rattle.office_tables.specs.Tables.{tables_of}
+use Rattle.store_net.proofs.Whole.{nothing_left}
+use Rattle.store_carry.specs.Carried.{AddsLive}
+use Rattle.store_carry.proofs.LiveAdded.{next_added, none_added}
+use Rattle.store_carry.proofs.carrying.write_messages.Goals as goal
+
+pub loop-message-preserved : goal.loop-message-preserved
+loop-message-preserved g c =
+    let old = state g.S.Store c.args.tx.now.conn.now in
+    let mid = state g.S.Store c.loop-message.tx.conn.now in
+    let now = state g.S.Store c.write_message.new.tx.conn.now in
+    let name = c.args.name.now in
+    let live = c.args.live.now in
+    let at = c.loop-message.message-index in
+    let item = c.message-item.result in
+    let i = c.loop-message.invariant in
+    let w = c.in_ok-write_message.ensures in
+    let within : at < length live = c.loop-message-test.true in
+    let done : take (at + 1) live ≡ take at live ++ item ∷ [] = rw (take_more live at item within, ← c.message-item.is) in
+    let early : HasCleanDisk now → HasCleanDisk mid = λ clean. omega (arith, w.survives.clean, clean) in
+    record {
+      same_reference = w.same_reference ∙ i.same_reference;
+      kept = λ clean. keeps_then old mid now (i.kept (early clean)) (w.kept clean);
+      survives = nothing_left old mid now i.survives w.survives;
+      office = λ clean was. w.office clean (i.office (early clean) was);
+      added = λ clean was.
+          subst (λ l. AddsLive name l (tables_of old.now.trees) (tables_of now.now.trees)) (sym done)
+          (next_added name item w.live (take at live) (tables_of old.now.trees) (tables_of mid.now.trees) (tables_of now.now.trees)
+          (w.written clean (i.office (early clean) was)) (i.added (early clean) was));
+    }

@@ -1,0 +1,134 @@
+//! Live messages of all networks, from bodies to rows.
+ghost use Rattle.std.specs.Prelude.{◌≡◌, List, [], map, IsTrue, OnOk};
+ghost use Rattle.office_history.specs.History.{Answered};
+ghost use Rattle.office_rules.specs.Profile.{Two};
+ghost use Rattle.office_tables.specs.Statements.{Makes};
+ghost use Rattle.office_tables.specs.Tables.{IsOffice, tables_of};
+ghost use Rattle.office_types.specs.declared.state.Net.{Net as Network};
+ghost use Rattle.sqlite.specs.Held.{state};
+ghost use Rattle.sqlite.specs.State.{HasCleanDisk, KeepsCommit, Survives};
+ghost use Rattle.store_net.specs.Nets.{AreKnownNets};
+ghost use Rattle.store_carry.specs.Carried.{AddsLive, CarriesNet, CarriesNets};
+ghost use Rattle.store_carry.specs.Forms.{HoldsAsBodies, HoldsAsRows, row_marks};
+
+use crate::renewing::renew_profile;
+use crate::watch::Watch;
+use office_history::histories_leave_offices;
+use office_rows::clear_messages;
+use office_types::{LiveMessage, NetName};
+use sqlite::{Alter, Error, Transaction};
+use std::alloc::Global;
+use store_net::{live_of, names_of, write_message};
+
+/// Writes the live messages of a network as rows.
+fn write_messages<S: Alter, W: Watch>(
+    alloc: Global,
+    tx: &mut Transaction<'_, S>,
+    name: &NetName,
+    live: &[LiveMessage],
+    watch: &mut W,
+) -> Result<(), Error>
+    ensures same_reference { tx.new.conn.ghost_name ≡ tx.old.conn.ghost_name }
+    ensures added { HasCleanDisk (state S.Store tx.new.conn.now) → IsOffice (state S.Store tx.old.conn.now).now
+        → OnOk result (AddsLive name.now live.now (tables_of (state S.Store tx.old.conn.now).now.trees) (tables_of (state S.Store tx.new.conn.now).now.trees)) }
+    ensures office { HasCleanDisk (state S.Store tx.new.conn.now) → IsOffice (state S.Store tx.old.conn.now).now → OnOk result (IsOffice (state S.Store tx.new.conn.now).now) }
+    ensures kept { HasCleanDisk (state S.Store tx.new.conn.now) → KeepsCommit (state S.Store tx.old.conn.now) (state S.Store tx.new.conn.now) }
+    ensures survives { Survives (state S.Store tx.old.conn.now) (state S.Store tx.new.conn.now) (λ _. ⊥) }
+{
+    for message in live {
+        watch.shows(name, &message.message.name);
+        write_message(alloc, tx, name, message)?;
+    }
+    Ok(())
+}
+
+/// Writes the live messages of a network that are bodies as rows.
+fn carry_network<S: Alter, W: Watch>(
+    alloc: Global,
+    tx: &mut Transaction<'_, S>,
+    name: &NetName,
+    watch: &mut W,
+) -> Result<(), Error>
+    ensures same_reference { tx.new.conn.ghost_name ≡ tx.old.conn.ghost_name }
+    ensures carried { HasCleanDisk (state S.Store tx.new.conn.now) → IsOffice (state S.Store tx.old.conn.now).now
+        → OnOk result (CarriesNet name.now (tables_of (state S.Store tx.old.conn.now).now.trees) (tables_of (state S.Store tx.new.conn.now).now.trees)) }
+    ensures office { HasCleanDisk (state S.Store tx.new.conn.now) → IsOffice (state S.Store tx.old.conn.now).now → OnOk result (IsOffice (state S.Store tx.new.conn.now).now) }
+    ensures kept { HasCleanDisk (state S.Store tx.new.conn.now) → IsOffice (state S.Store tx.old.conn.now).now → KeepsCommit (state S.Store tx.old.conn.now) (state S.Store tx.new.conn.now) }
+    ensures survives { Survives (state S.Store tx.old.conn.now) (state S.Store tx.new.conn.now) (λ _. ⊥) }
+{
+    let live = live_of(alloc, tx, name)?;
+    write_messages(alloc, tx, name, live.as_slice(), watch)
+}
+
+/// Does so with the networks of these names.
+fn carry_networks<S: Alter, W: Watch>(
+    alloc: Global,
+    tx: &mut Transaction<'_, S>,
+    names: &[NetName],
+    watch: &mut W,
+) -> Result<(), Error>
+    ensures same_reference { tx.new.conn.ghost_name ≡ tx.old.conn.ghost_name }
+    ensures carried { HasCleanDisk (state S.Store tx.new.conn.now) → IsOffice (state S.Store tx.old.conn.now).now
+        → OnOk result (CarriesNets names.now (tables_of (state S.Store tx.old.conn.now).now.trees) (tables_of (state S.Store tx.new.conn.now).now.trees)) }
+    ensures office { HasCleanDisk (state S.Store tx.new.conn.now) → IsOffice (state S.Store tx.old.conn.now).now → OnOk result (IsOffice (state S.Store tx.new.conn.now).now) }
+    ensures kept { HasCleanDisk (state S.Store tx.new.conn.now) → IsOffice (state S.Store tx.old.conn.now).now → KeepsCommit (state S.Store tx.old.conn.now) (state S.Store tx.new.conn.now) }
+    ensures survives { Survives (state S.Store tx.old.conn.now) (state S.Store tx.new.conn.now) (λ _. ⊥) }
+{
+    for name in names {
+        carry_network(alloc, tx, name, watch)?;
+    }
+    Ok(())
+}
+
+/// Does so with all networks.
+fn carry_live<S: Alter, W: Watch>(
+    alloc: Global,
+    tx: &mut Transaction<'_, S>,
+    watch: &mut W,
+) -> Result<(), Error>
+    ensures same_reference { tx.new.conn.ghost_name ≡ tx.old.conn.ghost_name }
+    ensures carried { HasCleanDisk (state S.Store tx.new.conn.now) → IsOffice (state S.Store tx.old.conn.now).now
+        → OnOk result ((nets : List Network) → AreKnownNets (tables_of (state S.Store tx.old.conn.now).now.trees) nets
+        → CarriesNets (map (λ net. net.name) nets) (tables_of (state S.Store tx.old.conn.now).now.trees) (tables_of (state S.Store tx.new.conn.now).now.trees)) }
+    ensures office { HasCleanDisk (state S.Store tx.new.conn.now) → IsOffice (state S.Store tx.old.conn.now).now → OnOk result (IsOffice (state S.Store tx.new.conn.now).now) }
+    ensures kept { HasCleanDisk (state S.Store tx.new.conn.now) → IsOffice (state S.Store tx.old.conn.now).now → KeepsCommit (state S.Store tx.old.conn.now) (state S.Store tx.new.conn.now) }
+    ensures survives { Survives (state S.Store tx.old.conn.now) (state S.Store tx.new.conn.now) (λ _. ⊥) }
+{
+    let names = names_of(alloc, tx)?;
+    carry_networks(alloc, tx, &names, watch)
+}
+
+/// Empties `message`, and renews the profile.
+fn end_bodies<S: Alter>(tx: &mut Transaction<'_, S>) -> Result<(), Error>
+    ensures same_reference { tx.new.conn.ghost_name ≡ tx.old.conn.ghost_name }
+    ensures ended { HasCleanDisk (state S.Store tx.new.conn.now) → IsOffice (state S.Store tx.old.conn.now).now
+        → OnOk result (Makes (λ t. record t { message = []; profile = row_marks Two }) (state S.Store tx.old.conn.now) (state S.Store tx.new.conn.now)) }
+    ensures kept { HasCleanDisk (state S.Store tx.new.conn.now) → KeepsCommit (state S.Store tx.old.conn.now) (state S.Store tx.new.conn.now) }
+    ensures survives { Survives (state S.Store tx.old.conn.now) (state S.Store tx.new.conn.now) (λ _. ⊥) }
+{
+    clear_messages(tx)?;
+    renew_profile(tx)
+}
+
+/// Carries the live messages of all networks over from bodies to rows, empties `message`, and renews the profile. Tables
+/// with live messages as bodies that hold a history of profile 1 hold the same history as rows then, under profile 2. This
+/// is of all of the office's tables, those of rows too; [`carry_bodies`](crate::carry_bodies) makes them first.
+///
+/// The error is out of memory, what `sqlite` answers, or `InvalidQuery` where rows are no office's.
+pub fn carry_over<S: Alter, W: Watch>(
+    alloc: Global,
+    tx: &mut Transaction<'_, S>,
+    watch: &mut W,
+) -> Result<(), Error>
+    ensures same_reference { tx.new.conn.ghost_name ≡ tx.old.conn.ghost_name }
+    ensures held { HasCleanDisk (state S.Store tx.new.conn.now) → IsOffice (state S.Store tx.old.conn.now).now
+        → OnOk result ((h : List Answered) → HoldsAsBodies h (tables_of (state S.Store tx.old.conn.now).now.trees) → HoldsAsRows Two h (tables_of (state S.Store tx.new.conn.now).now.trees)) }
+    ensures office { HasCleanDisk (state S.Store tx.new.conn.now) → IsOffice (state S.Store tx.old.conn.now).now → OnOk result (IsOffice (state S.Store tx.new.conn.now).now) }
+    ensures inside { HasCleanDisk (state S.Store tx.new.conn.now) → IsOffice (state S.Store tx.old.conn.now).now → OnOk result (IsTrue (state S.Store tx.new.conn.now).in_transaction) }
+    ensures kept { HasCleanDisk (state S.Store tx.new.conn.now) → IsOffice (state S.Store tx.old.conn.now).now → KeepsCommit (state S.Store tx.old.conn.now) (state S.Store tx.new.conn.now) }
+    ensures survives { Survives (state S.Store tx.old.conn.now) (state S.Store tx.new.conn.now) (λ _. ⊥) }
+{
+    histories_leave_offices();
+    carry_live(alloc, tx, watch)?;
+    end_bodies(tx)
+}

@@ -1,0 +1,85 @@
+-- An excerpt with identifiers is the network's for a command that gives out a number.
+use Rattle.std.proofs.Common.{◌≡◌, ◌∙◌, ℕ, ◌+◌, Bool, List, ◌++◌, sym, ap, subst}
+use Rattle.std.specs.List.{AllByRecursion, filter_map}
+use Rattle.can_id.specs.Ident.{IsIdentifier}
+use Rattle.can_id.specs.declared.form.IdentForm.{IdentForm}
+use Rattle.can_id.specs.declared.form.TheConstants.{EXTENDED_FLAG, GREATEST_EXTENDED}
+use Rattle.can_id.specs.declared.ident.Ident.{Ident}
+use Rattle.office_types.specs.Block.{block_form}
+use Rattle.office_types.specs.declared.block.Block.{Block}
+use Rattle.office_types.specs.declared.block.BlockForm.TheVariants.{Pgn}
+use Rattle.office_types.specs.declared.command.Action.TheVariants as act
+use Rattle.office_types.specs.declared.command.TakeIdent.{TakeIdent}
+use Rattle.office_types.specs.declared.command.TakePgn.{TakePgn}
+use Rattle.office_types.specs.declared.command.Task.TheVariants.{Act}
+use Rattle.office_types.specs.declared.state.Net.{Net}
+use Rattle.office_rules.specs.Facts.{blocks_of, group_of, is_held, is_live, is_wanted, number_in, taken_groups, taken_numbers}
+use Rattle.office_net.specs.By.{AgreeInside}
+use Rattle.office_net.specs.Excerpt.{IsExcerptOf}
+use Rattle.office_net.specs.declared.excerpt.Excerpt.{Excerpt}
+use Rattle.store_net.specs.Excerpts.{HasNameAndCount}
+use Rattle.store_net.specs.Numbers.{idents_between, idents_inside, live_idents}
+use Rattle.store_net.proofs.Inside.{groups_inside, numbers_inside}
+
+-- numbers that were read of these identifiers
+pub read_inside : (team : List ℕ) (net : Net) (form : IdentForm) (own : List Block) (live held : List Ident) (numbers : List ℕ) → own ≡ blocks_of net.blocks team (block_form form)
+    → live ≡ idents_inside form own net.live → held ≡ net.held → numbers ≡ filter_map (number_in form) (live ++ held) → AllByRecursion IsIdentifier (live_idents net.live)
+    → AgreeInside (blocks_of net.blocks team (block_form form)) numbers (taken_numbers net form)
+read_inside team net form own live held numbers own_is live_is held_is are identifiers =
+    let read =
+    are ∙ ap (λ (l : List Ident). filter_map (number_in form) (l ++ held)) live_is
+    ∙ ap (λ (l : List Ident). filter_map (number_in form) (idents_inside form own net.live ++ l)) held_is in
+    subst (λ (b : List Block). AgreeInside b numbers (taken_numbers net form)) own_is
+    (subst (λ (l : List ℕ). AgreeInside own l (taken_numbers net form)) (sym read) (numbers_inside form own net.live net.held identifiers))
+
+pub groups_read : (team : List ℕ) (net : Net) (live held : List Ident) (groups : List ℕ) → live ≡ idents_between EXTENDED_FLAG (EXTENDED_FLAG + GREATEST_EXTENDED) net.live
+    → held ≡ net.held → groups ≡ filter_map group_of (live ++ held) → AllByRecursion IsIdentifier (live_idents net.live)
+    → AgreeInside (blocks_of net.blocks team Pgn) groups (taken_groups net)
+groups_read team net live held groups live_is held_is are identifiers =
+    let read =
+    are ∙ ap (λ (l : List Ident). filter_map group_of (l ++ held)) live_is
+    ∙ ap (λ (l : List Ident). filter_map group_of (idents_between EXTENDED_FLAG (EXTENDED_FLAG + GREATEST_EXTENDED) net.live ++ l)) held_is in
+    subst (λ (l : List ℕ). AgreeInside (blocks_of net.blocks team Pgn) l (taken_groups net)) (sym read) (groups_inside (blocks_of net.blocks team Pgn) net.live net.held identifiers)
+
+pub of_ident : (team : List ℕ) (net : Net) (c : TakeIdent) (e : Excerpt) (live held : Bool) (numbers : List ℕ) → HasNameAndCount c.message.name net e
+    → live ≡ is_wanted (is_live net) c.form c.want → held ≡ is_wanted (is_held net) c.form c.want
+    → AgreeInside (blocks_of net.blocks team (block_form c.form)) numbers (taken_numbers net c.form)
+    → IsExcerptOf team net (Act (act.TakeIdent c)) (record e { want_live = live; want_held = held; taken = numbers })
+of_ident team net c e live held numbers has live_is held_is agree = record {
+  parts = record { head = has.head; blocks = has.blocks; found = tt };
+  numbers = record {
+    others = λ i. record {
+      kind = (sym has.head i).kind;
+      phase = (sym has.head i).phase;
+      nodes = (sym has.head i).frame.nodes;
+      blocks = sym has.blocks i;
+      named = sym has.named i;
+      count = sym has.count i;
+      want_live = sym live_is i;
+      want_held = sym held_is i;
+      taken = numbers;
+    };
+    taken = agree;
+  };
+}
+
+pub of_group : (team : List ℕ) (net : Net) (c : TakePgn) (e : Excerpt) (numbers : List ℕ) → HasNameAndCount c.message.name net e
+    → AgreeInside (blocks_of net.blocks team Pgn) numbers (taken_groups net)
+    → IsExcerptOf team net (Act (act.TakePgn c)) (record e { taken = numbers })
+of_group team net c e numbers has agree = record {
+  parts = record { head = has.head; blocks = has.blocks; found = tt };
+  numbers = record {
+    others = λ i. record {
+      kind = (sym has.head i).kind;
+      phase = (sym has.head i).phase;
+      nodes = (sym has.head i).frame.nodes;
+      blocks = sym has.blocks i;
+      named = sym has.named i;
+      count = sym has.count i;
+      want_live = sym has.want_live i;
+      want_held = sym has.want_held i;
+      taken = numbers;
+    };
+    taken = agree;
+  };
+}

@@ -1,0 +1,27 @@
+use Rattle.std.proofs.Common.{◌≡◌, List, take}
+use Rattle.std.specs.Prelude.{IsTrue}
+use Rattle.std.specs.List.{AllByRecursion}
+use Rattle.can_id.specs.Ident.{dbc_number}
+use Rattle.sqlite.specs.Held.{state}
+use Rattle.sqlite.specs.State.{HasCleanDisk, IsUnchanged, KeepsCommit, Survives}
+use Rattle.office_types.specs.declared.state.LiveMessage.{LiveMessage}
+use Rattle.office_tables.specs.Tables.{IsOffice, tables_of}
+use Rattle.store_rows.specs.Listed.{AreShown}
+use Rattle.store_rows.specs.Live.{AreSignalsOf, live_rows}
+use Rattle.store_rows.specs.SignalShowing.{ShowsLive}
+use Rattle.store_net.proofs.live_list.each_with_signals.Given as goal
+
+abbrev pub invariant-loop-row : goal.invariant-loop-row
+invariant-loop-row g l =
+    let old = state g.S.Store l.fn.tx.conn.now in
+    let now = state g.S.Store l.tx.conn.now in
+    record {
+      same_reference : l.tx.conn.ghost_name ≡ l.fn.tx.conn.ghost_name;
+      now_is : HasCleanDisk now → IsOffice old.now → now.now ≡ old.now;
+      same : HasCleanDisk now → IsOffice old.now → IsTrue old.is_open → IsUnchanged old now;
+      kept : HasCleanDisk now → IsOffice old.now → KeepsCommit old now;
+      survives : Survives old now (λ _. ⊥);
+      told : HasCleanDisk now → IsOffice old.now → (live : List LiveMessage) → AreShown ShowsLive live l.rows
+          → AllByRecursion (λ (m : LiveMessage). AreSignalsOf l.net (dbc_number m.message.ident) (live_rows l.net (tables_of old.now.trees)) m.message.signals) live
+          → l.messages.items ≡ take l.row-index live;
+    }

@@ -1,0 +1,59 @@
+use Rattle.std.proofs.Common.{◌≡◌, ◌∙◌, ◌+◌, ◌++◌, List, Option, ap, sym, subst, arith}
+use Rattle.std.specs.List.{filter_map}
+use Rattle.sqlite.specs.Effect.{Database}
+use Rattle.sqlite.specs.Held.{state}
+use Rattle.sqlite.specs.State.{HasCleanDisk}
+use Rattle.can_id.specs.declared.form.TheConstants.{EXTENDED_FLAG, GREATEST_EXTENDED}
+use Rattle.can_id.specs.declared.ident.Ident.{Ident}
+use Rattle.office_types.specs.declared.command.Action.TheVariants as act
+use Rattle.office_types.specs.declared.command.Task.TheVariants.{Act}
+use Rattle.office_types.specs.declared.state.LiveMessage.{LiveMessage}
+use Rattle.office_rules.specs.Facts.{group_of}
+use Rattle.office_net.specs.Excerpt.{IsExcerptOf}
+use Rattle.office_net.specs.declared.excerpt.Excerpt.{Excerpt}
+use Rattle.office_tables.specs.Tables.{IsOffice, tables_of}
+use Rattle.store_rows.specs.Live.{AreLiveRows, live_rows}
+use Rattle.store_net.specs.Excerpts.{HasNameAndCount, MatchBoth}
+use Rattle.store_net.specs.Numbers.{idents_between}
+use Rattle.store_net.specs.Parts.{HasHeld}
+use Rattle.store_net.proofs.Between.{live_are_identifiers}
+use Rattle.store_net.proofs.Excerpts.{none_more, one_more}
+use Rattle.store_net.proofs.NumberExcerpts.{groups_read, of_group}
+use Rattle.store_net.proofs.Whole.{read_before}
+use Rattle.store_net.proofs.number_excerpt.group_excerpt_at.Goals as goal
+
+pub returns-in_default-clause-found : goal.returns-in_default-clause-found
+returns-in_default-clause-found g c clean office net at team =
+    let take = c.args.take.now in
+    let counted = HasNameAndCount take.message.name in
+    none_more counted (λ n e. IsExcerptOf team n (Act (act.TakePgn take)) e) net
+    (subst (λ (o : Option Excerpt). MatchBoth counted net o) c.in_default.is (c.in_ok-excerpt.ensures.found clean office net at))
+
+pub returns-clause-found : goal.returns-clause-found
+returns-clause-found g c clean office net at team =
+    let name = c.args.name.now in
+    let take = c.args.take.now in
+    let counted = HasNameAndCount take.message.name in
+    let e = c.in-Some.excerpt in
+    let s0 = state g.S.Store c.args.tx.now.conn.now in
+    let s1 = state g.S.Store c.counted_excerpt_at.new.tx.conn.now in
+    let s2 = state g.S.Store c.live_idents_at.new.tx.conn.now in
+    let clean2 : HasCleanDisk s2 = omega (arith, c.held_of.ensures.survives.clean, clean) in
+    let clean1 : HasCleanDisk s1 = omega (arith, c.live_idents_at.ensures.survives.clean, clean2) in
+    let now1 : s1.now ≡ s0.now = (c.in_ok-excerpt.ensures.same clean1 office).0.now_is in
+    let office1 : IsOffice s1.now = subst IsOffice (sym now1) office in
+    let now2 : s2.now ≡ s0.now = (c.in_ok-live.ensures.same clean2 office1).0.now_is ∙ now1 in
+    let office2 : IsOffice s2.now = subst IsOffice (sym now2) office in
+    let t = tables_of s0.now.trees in
+    let live = subst
+    (λ (d : Database). (live : List LiveMessage) → AreLiveRows name (live_rows name (tables_of d.trees)) live → c.in_ok-live.live ≡ idents_between EXTENDED_FLAG (EXTENDED_FLAG + GREATEST_EXTENDED) live)
+    now1 (c.in_ok-live.ensures.found clean2 office1) in
+    let held = read_before (HasHeld name) c.in_ok-held.held s2.now s0.now now2 (c.in_ok-held.ensures.found clean office2) in
+    let groups =
+    c.from_vec.ensures ∙ c.in_ok-groups.ensures
+    ∙ ap (λ (l : List Ident). filter_map group_of (l ++ c.as_slice-2.result.now)) c.as_slice.ensures
+    ∙ ap (λ (l : List Ident). filter_map group_of (c.in_ok-live.live ++ l)) c.as_slice-2.ensures in
+    one_more counted (λ n x. IsExcerptOf team n (Act (act.TakePgn take)) x) name t net e _
+    (subst (λ (o : Option Excerpt). MatchBoth counted net o) c.in-Some.is (c.in_ok-excerpt.ensures.found clean1 office net at))
+    (λ n parts has. of_group team n take e c.from_vec.result has
+    (groups_read team n c.in_ok-live.live c.in_ok-held.held c.from_vec.result (live n.live parts.live) (held n.held parts.held) groups (live_are_identifiers name t n.live parts.live))) at

@@ -1,0 +1,23 @@
+use Rattle.std.proofs.Common.{◌≡◌, List, take}
+use Rattle.std.specs.Prelude.{IsTrue}
+use Rattle.sqlite.specs.Held.{state}
+use Rattle.sqlite.specs.State.{HasCleanDisk, IsUnchanged, KeepsCommit, Survives}
+use Rattle.office_types.specs.declared.state.LiveMessage.{LiveMessage}
+use Rattle.office_tables.specs.Tables.{IsOffice, tables_of}
+use Rattle.store_rows.specs.Live.{AreLiveRows, live_rows}
+use Rattle.store_net.specs.Numbers.{idents_inside}
+use Rattle.store_net.proofs.ranges.live_inside_at.Given as goal
+
+abbrev pub invariant-loop-block : goal.invariant-loop-block
+invariant-loop-block g l =
+    let old = state g.S.Store l.fn.tx.conn.now in
+    let now = state g.S.Store l.tx.conn.now in
+    record {
+      same_reference : l.tx.conn.ghost_name ≡ l.fn.tx.conn.ghost_name;
+      now_is : HasCleanDisk now → IsOffice old.now → now.now ≡ old.now;
+      same : HasCleanDisk now → IsOffice old.now → IsTrue old.is_open → IsUnchanged old now;
+      kept : HasCleanDisk now → IsOffice old.now → KeepsCommit old now;
+      survives : Survives old now (λ _. ⊥);
+      read : HasCleanDisk now → IsOffice old.now → (live : List LiveMessage) → AreLiveRows l.name (live_rows l.name (tables_of old.now.trees)) live
+          → l.idents.items ≡ idents_inside l.form (take l.block-index l.blocks) live;
+    }

@@ -1,0 +1,44 @@
+-- Networks of rows, as an excerpt reads them: the head, the blocks, the held identifiers and the live messages.
+use Rattle.std.specs.Prelude.{◌≡◌, ℕ, false, List, length, Option, Some, None}
+use Rattle.office_net.specs.declared.excerpt.Excerpt.{Excerpt}
+use Rattle.office_types.specs.declared.state.Net.{Net}
+use Rattle.office_rules.specs.Facts.{is_named, live_named}
+use Rattle.office_tables.specs.Tables.{Tables}
+use Rattle.store_rows.specs.Live.{AreLiveRows, live_rows}
+use Rattle.store_net.specs.Parts.{HasBlocks, HasHead, HasHeld}
+
+pub record ArePartsIn (name : List ℕ) (t : Tables) (net : Net) : Type 0 where
+  pub head : HasHead name t (Some net.head)
+  pub blocks : HasBlocks name t net.blocks
+  pub held : HasHeld name t net.held
+  pub live : AreLiveRows name (live_rows name t) net.live
+
+abbrev pub IsReadIn : List ℕ → Tables → Option Net → Type 0
+IsReadIn name t None = HasHead name t None
+IsReadIn name t (Some net) = ArePartsIn name t net
+
+-- the excerpt for the message of this name is the network's
+pub record IsExcerptFor (message : List ℕ) (net : Net) (e : Excerpt) : Type 0 where
+  pub head : e.head ≡ net.head
+  pub blocks : e.blocks ≡ net.blocks
+  pub found : e.found ≡ live_named net.live message
+
+-- there is an excerpt where there is the network, and this is so of both
+abbrev pub MatchBoth : (Net → Excerpt → Type 0) → Option Net → Option Excerpt → Type 0
+MatchBoth P None None = Unit {0}
+MatchBoth P None (Some e) = ⊥
+MatchBoth P (Some net) None = ⊥
+MatchBoth P (Some net) (Some e) = P net e
+
+abbrev pub TellsExcerpt : List ℕ → Option Net → Option Excerpt → Type 0
+TellsExcerpt message net e = MatchBoth (IsExcerptFor message) net e
+
+-- the excerpt is the network's but for identifiers, of which none is wanted: whether a live message has this name, and
+-- how many there are
+pub record HasNameAndCount (message : List ℕ) (net : Net) (e : Excerpt) : Type 0 where
+  pub head : e.head ≡ net.head
+  pub blocks : e.blocks ≡ net.blocks
+  pub named : e.named ≡ is_named net message
+  pub count : e.count ≡ length net.live
+  pub want_live : e.want_live ≡ false
+  pub want_held : e.want_held ≡ false

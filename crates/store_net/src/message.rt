@@ -1,0 +1,61 @@
+//! One live message of a network, as the tables have it: no other message is read.
+ghost use Rattle.std.specs.Prelude.{◌≡◌, List, Option, IfOk, OnOk};
+ghost use Rattle.catalogue.specs.declared.signal.Signal.{Signal as Told};
+ghost use Rattle.office_rules.specs.Facts.{live_named};
+ghost use Rattle.office_tables.specs.Tables.{tables_of, IsOffice};
+ghost use Rattle.office_types.specs.declared.state.LiveMessage.{LiveMessage as Live};
+ghost use Rattle.sqlite.specs.Held.{state};
+ghost use Rattle.sqlite.specs.State.{HasCleanDisk, IsUnchanged, KeepsCommit, Survives};
+ghost use Rattle.store_rows.specs.Live.{AreLiveRows, AreSignalsOf, live_rows};
+
+use catalogue::{Name, Signals};
+use office_rows::{select_msg_named, select_receivers, select_sigs, select_sigvalues};
+use office_types::{LiveMessage, NetName};
+use sqlite::{Alter, Error, Transaction};
+use std::alloc::Global;
+use store_rows::{live_message_of, number_at, signals_of};
+
+/// The signals of the network's message with the number.
+pub(crate) fn signals_at<S: Alter>(
+    alloc: Global,
+    tx: &mut Transaction<'_, S>,
+    net: &[u8],
+    number: u32,
+) -> Result<Signals, Error>
+    ensures same_reference { tx.new.conn.ghost_name ≡ tx.old.conn.ghost_name }
+    ensures found { HasCleanDisk (state S.Store tx.new.conn.now) → IsOffice (state S.Store tx.old.conn.now).now
+        → IfOk result (λ signals. (others : List Told) → AreSignalsOf net.now number (live_rows net.now (tables_of (state S.Store tx.old.conn.now).now.trees)) others → signals ≡ others) }
+    ensures same { HasCleanDisk (state S.Store tx.new.conn.now) → IsOffice (state S.Store tx.old.conn.now).now → OnOk result (IsUnchanged (state S.Store tx.old.conn.now) (state S.Store tx.new.conn.now)) }
+    ensures kept { HasCleanDisk (state S.Store tx.new.conn.now) → IsOffice (state S.Store tx.old.conn.now).now → KeepsCommit (state S.Store tx.old.conn.now) (state S.Store tx.new.conn.now) }
+    ensures survives { Survives (state S.Store tx.old.conn.now) (state S.Store tx.new.conn.now) (λ _. ⊥) }
+{
+    let sigs = select_sigs(tx, net, number)?;
+    let receivers = select_receivers(tx, net, number)?;
+    let values = select_sigvalues(tx, net, number)?;
+    signals_of(alloc, &sigs, &receivers, &values)
+}
+
+/// The live message of the name, with its owner, `None` where the network has none.
+pub fn message_at<S: Alter>(
+    alloc: Global,
+    tx: &mut Transaction<'_, S>,
+    name: &NetName,
+    message: &Name,
+) -> Result<Option<LiveMessage>, Error>
+    ensures same_reference { tx.new.conn.ghost_name ≡ tx.old.conn.ghost_name }
+    ensures found { HasCleanDisk (state S.Store tx.new.conn.now) → IsOffice (state S.Store tx.old.conn.now).now
+        → IfOk result (λ found. (live : List Live) → AreLiveRows name.now (live_rows name.now (tables_of (state S.Store tx.old.conn.now).now.trees)) live → found ≡ live_named live message.now) }
+    ensures same { HasCleanDisk (state S.Store tx.new.conn.now) → IsOffice (state S.Store tx.old.conn.now).now → OnOk result (IsUnchanged (state S.Store tx.old.conn.now) (state S.Store tx.new.conn.now)) }
+    ensures kept { HasCleanDisk (state S.Store tx.new.conn.now) → IsOffice (state S.Store tx.old.conn.now).now → KeepsCommit (state S.Store tx.old.conn.now) (state S.Store tx.new.conn.now) }
+    ensures survives { Survives (state S.Store tx.old.conn.now) (state S.Store tx.new.conn.now) (λ _. ⊥) }
+{
+    let rows = select_msg_named(tx, name.as_bytes(), message.as_bytes())?;
+    match rows.first() {
+        None => Ok(None),
+        Some(row) => {
+            let number = number_at(row, 0)?;
+            let signals = signals_at(alloc, tx, name.as_bytes(), number)?;
+            Ok(Some(live_message_of(alloc, row, signals)?))
+        }
+    }
+}

@@ -1,0 +1,323 @@
+//! The rows of a live message, written and removed.
+ghost use Rattle.std.specs.Prelude.{◌≡◌, ◌≢◌, ◌++◌, ◌∷◌, [], IfOk, IfSome, IsTrue, OnOk};
+ghost use Rattle.std.specs.List.{AllByRecursion};
+ghost use Rattle.can_id.specs.Ident.{IsIdentifier, dbc_number};
+ghost use Rattle.catalogue.specs.declared.value_texts.ValueText.{ValueText as Entry};
+ghost use Rattle.decimal.specs.Number.{IsDecimal};
+ghost use Rattle.decimal.specs.Printing.{text_of};
+ghost use Rattle.office_tables.specs.Statements.{Makes};
+ghost use Rattle.office_tables.specs.Tables.{tables_of, IsOffice};
+ghost use Rattle.sqlite.specs.Held.{state};
+ghost use Rattle.sqlite.specs.State.{HasCleanDisk, KeepsCommit, Survives};
+ghost use Rattle.store_rows.specs.Live.{HasDecimals, flag_number, motorola_number, mux_column, sender_text, sig_values};
+ghost use Rattle.store_rows.specs.LiveWritten.{IsLive, IsSignal, placed_from, receiver_rows, value_rows, with_live, with_msg, with_signal, with_signals, without_live};
+
+use crate::writing::number_above;
+use bitlayout::{Mux, Order};
+use can_id::Ident;
+use catalogue::{Name, Signal, ValueText};
+use decimal::Decimal;
+use office_rows::{
+    MsgRow, MuxColumn, ReceiverRow, SigRow, SigValueRow, delete_msgs, delete_receivers,
+    delete_sigs, delete_sigvalues, insert_msg, insert_receiver, insert_sig, insert_sigvalue,
+};
+use office_types::{LiveMessage, NetName};
+use sqlite::{Alter, Error, Transaction};
+use std::alloc::{AllocError, Global};
+
+/// Writes the receivers of the signal at the place of a message.
+pub fn write_receivers<S: Alter>(
+    tx: &mut Transaction<'_, S>,
+    net: &[u8],
+    number: u32,
+    place: u32,
+    receivers: &[Name],
+) -> Result<(), Error>
+    ensures same_reference { tx.new.conn.ghost_name ≡ tx.old.conn.ghost_name }
+    ensures written { HasCleanDisk (state S.Store tx.new.conn.now) → IsOffice (state S.Store tx.old.conn.now).now
+        → OnOk result (tables_of (state S.Store tx.new.conn.now).now.trees
+        ≡ (record (tables_of (state S.Store tx.old.conn.now).now.trees) { receiver = (tables_of (state S.Store tx.old.conn.now).now.trees).receiver ++ receiver_rows net.now number place 0 receivers.now })) }
+    ensures office { HasCleanDisk (state S.Store tx.new.conn.now) → IsOffice (state S.Store tx.old.conn.now).now → OnOk result (IsOffice (state S.Store tx.new.conn.now).now) }
+    ensures inside { HasCleanDisk (state S.Store tx.new.conn.now) → IsOffice (state S.Store tx.old.conn.now).now → IsTrue (state S.Store tx.old.conn.now).in_transaction
+        → OnOk result (IsTrue (state S.Store tx.new.conn.now).in_transaction) }
+    ensures kept { HasCleanDisk (state S.Store tx.new.conn.now) → KeepsCommit (state S.Store tx.old.conn.now) (state S.Store tx.new.conn.now) }
+    ensures survives { Survives (state S.Store tx.old.conn.now) (state S.Store tx.new.conn.now) (λ _. ⊥) }
+{
+    let mut seat = 0;
+    for name in receivers {
+        let row = ReceiverRow {
+            net,
+            number,
+            place,
+            seat,
+            name: name.as_bytes(),
+        };
+        insert_receiver(tx, &row)?;
+        seat = number_above(seat)?;
+    }
+    Ok(())
+}
+
+/// The text of a decimal.
+fn decimal_text(alloc: Global, decimal: &Decimal) -> Result<Vec<u8>, AllocError>
+    ensures text { IfOk result (λ text. text.items ≡ text_of decimal.now) }
+    ensures decimal { IsDecimal decimal.now }
+{
+    let mut text = Vec::new(alloc);
+    decimal.print_into(&mut text)?;
+    Ok(text)
+}
+
+/// Writes the value texts of the signal at the place of a message.
+pub fn write_values<S: Alter>(
+    alloc: Global,
+    tx: &mut Transaction<'_, S>,
+    net: &[u8],
+    number: u32,
+    place: u32,
+    values: &[ValueText],
+) -> Result<(), Error>
+    ensures same_reference { tx.new.conn.ghost_name ≡ tx.old.conn.ghost_name }
+    ensures decimals { OnOk result (AllByRecursion (λ (v : Entry). IsDecimal v.value) values.now) }
+    ensures written { HasCleanDisk (state S.Store tx.new.conn.now) → IsOffice (state S.Store tx.old.conn.now).now
+        → OnOk result (tables_of (state S.Store tx.new.conn.now).now.trees
+        ≡ (record (tables_of (state S.Store tx.old.conn.now).now.trees) { sigvalue = (tables_of (state S.Store tx.old.conn.now).now.trees).sigvalue ++ value_rows net.now number place 0 values.now })) }
+    ensures office { HasCleanDisk (state S.Store tx.new.conn.now) → IsOffice (state S.Store tx.old.conn.now).now → OnOk result (IsOffice (state S.Store tx.new.conn.now).now) }
+    ensures inside { HasCleanDisk (state S.Store tx.new.conn.now) → IsOffice (state S.Store tx.old.conn.now).now → IsTrue (state S.Store tx.old.conn.now).in_transaction
+        → OnOk result (IsTrue (state S.Store tx.new.conn.now).in_transaction) }
+    ensures kept { HasCleanDisk (state S.Store tx.new.conn.now) → KeepsCommit (state S.Store tx.old.conn.now) (state S.Store tx.new.conn.now) }
+    ensures survives { Survives (state S.Store tx.old.conn.now) (state S.Store tx.new.conn.now) (λ _. ⊥) }
+{
+    let mut seat = 0;
+    for entry in values {
+        let text = decimal_text(alloc, &entry.value)?;
+        let row = SigValueRow {
+            net,
+            number,
+            place,
+            seat,
+            value: &text,
+            words: entry.text.as_bytes(),
+        };
+        insert_sigvalue(tx, &row)?;
+        seat = number_above(seat)?;
+    }
+    Ok(())
+}
+
+/// 1 for Motorola's order, 0 for Intel's.
+fn motorola_number(order: Order) -> u32
+    ensures { result ≡ motorola_number order }
+{
+    match order {
+        Order::Intel => 0,
+        Order::Motorola => 1,
+    }
+}
+
+/// 1 if it is so.
+fn flag_number(flag: bool) -> u32
+    ensures { result ≡ flag_number flag }
+{
+    if flag { 1 } else { 0 }
+}
+
+/// The column that tells when a signal is there.
+fn mux_column(mux: Mux) -> MuxColumn
+    ensures { result ≡ mux_column mux }
+{
+    match mux {
+        Mux::Always => MuxColumn::Always,
+        Mux::Multiplexor => MuxColumn::Multiplexor,
+        Mux::Under(value) => MuxColumn::Under(value),
+    }
+}
+
+/// Writes the row of a signal, without its receivers and value texts.
+fn write_sig<S: Alter>(
+    alloc: Global,
+    tx: &mut Transaction<'_, S>,
+    net: &[u8],
+    number: u32,
+    place: u32,
+    signal: &Signal,
+) -> Result<(), Error>
+    ensures same_reference { tx.new.conn.ghost_name ≡ tx.old.conn.ghost_name }
+    ensures decimals { OnOk result (HasDecimals signal.now) }
+    ensures written { HasCleanDisk (state S.Store tx.new.conn.now) → IsOffice (state S.Store tx.old.conn.now).now
+        → OnOk result (Makes (λ t. record t { sig = t.sig ++ sig_values net.now number place signal.now ∷ [] }) (state S.Store tx.old.conn.now) (state S.Store tx.new.conn.now)) }
+    ensures kept { HasCleanDisk (state S.Store tx.new.conn.now) → KeepsCommit (state S.Store tx.old.conn.now) (state S.Store tx.new.conn.now) }
+    ensures survives { Survives (state S.Store tx.old.conn.now) (state S.Store tx.new.conn.now) (λ _. ⊥) }
+{
+    let factor = decimal_text(alloc, &signal.factor)?;
+    let shift = decimal_text(alloc, &signal.offset)?;
+    let least = decimal_text(alloc, &signal.minimum)?;
+    let most = decimal_text(alloc, &signal.maximum)?;
+    let row = SigRow {
+        net,
+        number,
+        place,
+        name: signal.name.as_bytes(),
+        start: u32::from(signal.layout.start),
+        size: u32::from(signal.layout.size.bits()),
+        motorola: motorola_number(signal.layout.order),
+        signed: flag_number(signal.signed),
+        mux: mux_column(signal.mux),
+        factor: &factor,
+        shift: &shift,
+        least: &least,
+        most: &most,
+        unit: signal.unit.as_bytes(),
+        comment: signal.comment.as_bytes(),
+        spn: signal.spn.number(),
+        label: u32::from(signal.value_type.number()),
+    };
+    insert_sig(tx, &row)?;
+    Ok(())
+}
+
+/// Writes a signal, at its place.
+pub(crate) fn write_signal<S: Alter>(
+    alloc: Global,
+    tx: &mut Transaction<'_, S>,
+    net: &[u8],
+    number: u32,
+    place: u32,
+    signal: &Signal,
+) -> Result<(), Error>
+    ensures same_reference { tx.new.conn.ghost_name ≡ tx.old.conn.ghost_name }
+    ensures signal { OnOk result (IsSignal signal.now) }
+    ensures written { HasCleanDisk (state S.Store tx.new.conn.now) → IsOffice (state S.Store tx.old.conn.now).now
+        → OnOk result (tables_of (state S.Store tx.new.conn.now).now.trees ≡ with_signal net.now number place signal.now (tables_of (state S.Store tx.old.conn.now).now.trees)) }
+    ensures office { HasCleanDisk (state S.Store tx.new.conn.now) → IsOffice (state S.Store tx.old.conn.now).now → OnOk result (IsOffice (state S.Store tx.new.conn.now).now) }
+    ensures inside { HasCleanDisk (state S.Store tx.new.conn.now) → IsOffice (state S.Store tx.old.conn.now).now → OnOk result (IsTrue (state S.Store tx.new.conn.now).in_transaction) }
+    ensures kept { HasCleanDisk (state S.Store tx.new.conn.now) → KeepsCommit (state S.Store tx.old.conn.now) (state S.Store tx.new.conn.now) }
+    ensures survives { Survives (state S.Store tx.old.conn.now) (state S.Store tx.new.conn.now) (λ _. ⊥) }
+{
+    write_sig(alloc, tx, net, number, place, signal)?;
+    write_receivers(tx, net, number, place, signal.receivers.as_slice())?;
+    write_values(alloc, tx, net, number, place, signal.values.as_slice())
+}
+
+/// Writes the signals of a message, at places from 0.
+fn write_signals<S: Alter>(
+    alloc: Global,
+    tx: &mut Transaction<'_, S>,
+    net: &[u8],
+    number: u32,
+    signals: &[Signal],
+) -> Result<(), Error>
+    ensures same_reference { tx.new.conn.ghost_name ≡ tx.old.conn.ghost_name }
+    ensures signals { OnOk result (AllByRecursion IsSignal signals.now) }
+    ensures written { HasCleanDisk (state S.Store tx.new.conn.now) → IsOffice (state S.Store tx.old.conn.now).now
+        → OnOk result (tables_of (state S.Store tx.new.conn.now).now.trees ≡ with_signals net.now number (placed_from 0 signals.now) (tables_of (state S.Store tx.old.conn.now).now.trees)) }
+    ensures office { HasCleanDisk (state S.Store tx.new.conn.now) → IsOffice (state S.Store tx.old.conn.now).now → OnOk result (IsOffice (state S.Store tx.new.conn.now).now) }
+    ensures inside { HasCleanDisk (state S.Store tx.new.conn.now) → IsOffice (state S.Store tx.old.conn.now).now → IsTrue (state S.Store tx.old.conn.now).in_transaction
+        → OnOk result (IsTrue (state S.Store tx.new.conn.now).in_transaction) }
+    ensures kept { HasCleanDisk (state S.Store tx.new.conn.now) → KeepsCommit (state S.Store tx.old.conn.now) (state S.Store tx.new.conn.now) }
+    ensures survives { Survives (state S.Store tx.old.conn.now) (state S.Store tx.new.conn.now) (λ _. ⊥) }
+{
+    let mut place = 0;
+    for signal in signals {
+        write_signal(alloc, tx, net, number, place, signal)?;
+        place = number_above(place)?;
+    }
+    Ok(())
+}
+
+/// The node that sends it, empty if there is none.
+fn sender_text(sender: &Option<Name>) -> &[u8]
+    ensures text { result.now ≡ sender_text sender.now }
+    ensures sent { IfSome sender.now (λ n. n ≢ []) }
+{
+    match sender {
+        Some(name) => name.as_bytes(),
+        None => &[],
+    }
+}
+
+/// Writes the row of a message, without its signals.
+fn write_msg<S: Alter>(
+    tx: &mut Transaction<'_, S>,
+    net: &[u8],
+    live: &LiveMessage,
+) -> Result<(), Error>
+    ensures same_reference { tx.new.conn.ghost_name ≡ tx.old.conn.ghost_name }
+    ensures identifier { IsIdentifier live.now.message.ident }
+    ensures sent { IfSome live.now.message.transmitter (λ n. n ≢ []) }
+    ensures written { HasCleanDisk (state S.Store tx.new.conn.now) → IsOffice (state S.Store tx.old.conn.now).now
+        → OnOk result (Makes (with_msg net.now live.now) (state S.Store tx.old.conn.now) (state S.Store tx.new.conn.now)) }
+    ensures kept { HasCleanDisk (state S.Store tx.new.conn.now) → KeepsCommit (state S.Store tx.old.conn.now) (state S.Store tx.new.conn.now) }
+    ensures survives { Survives (state S.Store tx.old.conn.now) (state S.Store tx.new.conn.now) (λ _. ⊥) }
+{
+    let row = MsgRow {
+        net,
+        number: live.message.ident.to_dbc(),
+        name: live.message.name.as_bytes(),
+        owner: live.owner.as_bytes(),
+        length: u32::from(live.message.length.bytes()),
+        sender: sender_text(&live.message.transmitter),
+        comment: live.message.comment.as_bytes(),
+    };
+    insert_msg(tx, &row)?;
+    Ok(())
+}
+
+/// Removes all rows of the network's message with the number.
+fn remove_numbered<S: Alter>(
+    tx: &mut Transaction<'_, S>,
+    net: &[u8],
+    number: u32,
+) -> Result<(), Error>
+    ensures same_reference { tx.new.conn.ghost_name ≡ tx.old.conn.ghost_name }
+    ensures removed { HasCleanDisk (state S.Store tx.new.conn.now) → IsOffice (state S.Store tx.old.conn.now).now
+        → OnOk result (Makes (without_live net.now number) (state S.Store tx.old.conn.now) (state S.Store tx.new.conn.now)) }
+    ensures kept { HasCleanDisk (state S.Store tx.new.conn.now) → KeepsCommit (state S.Store tx.old.conn.now) (state S.Store tx.new.conn.now) }
+    ensures survives { Survives (state S.Store tx.old.conn.now) (state S.Store tx.new.conn.now) (λ _. ⊥) }
+{
+    delete_msgs(tx, net, number)?;
+    delete_sigs(tx, net, number)?;
+    delete_receivers(tx, net, number)?;
+    delete_sigvalues(tx, net, number)?;
+    Ok(())
+}
+
+/// Removes the live message of the identifier.
+pub fn remove_message<S: Alter>(
+    tx: &mut Transaction<'_, S>,
+    name: &NetName,
+    ident: Ident,
+) -> Result<(), Error>
+    ensures same_reference { tx.new.conn.ghost_name ≡ tx.old.conn.ghost_name }
+    ensures identifier { IsIdentifier ident }
+    ensures removed { HasCleanDisk (state S.Store tx.new.conn.now) → IsOffice (state S.Store tx.old.conn.now).now
+        → OnOk result (Makes (without_live name.now (dbc_number ident)) (state S.Store tx.old.conn.now) (state S.Store tx.new.conn.now)) }
+    ensures kept { HasCleanDisk (state S.Store tx.new.conn.now) → KeepsCommit (state S.Store tx.old.conn.now) (state S.Store tx.new.conn.now) }
+    ensures survives { Survives (state S.Store tx.old.conn.now) (state S.Store tx.new.conn.now) (λ _. ⊥) }
+{
+    let number = ident.to_dbc();
+    remove_numbered(tx, name.as_bytes(), number)
+}
+
+/// Writes the live message in place of that of its number.
+pub fn write_message<S: Alter>(
+    alloc: Global,
+    tx: &mut Transaction<'_, S>,
+    name: &NetName,
+    live: &LiveMessage,
+) -> Result<(), Error>
+    ensures same_reference { tx.new.conn.ghost_name ≡ tx.old.conn.ghost_name }
+    ensures live { OnOk result (IsLive live.now) }
+    ensures written { HasCleanDisk (state S.Store tx.new.conn.now) → IsOffice (state S.Store tx.old.conn.now).now
+        → OnOk result (tables_of (state S.Store tx.new.conn.now).now.trees ≡ with_live name.now live.now (tables_of (state S.Store tx.old.conn.now).now.trees)) }
+    ensures office { HasCleanDisk (state S.Store tx.new.conn.now) → IsOffice (state S.Store tx.old.conn.now).now → OnOk result (IsOffice (state S.Store tx.new.conn.now).now) }
+    ensures inside { HasCleanDisk (state S.Store tx.new.conn.now) → IsOffice (state S.Store tx.old.conn.now).now → OnOk result (IsTrue (state S.Store tx.new.conn.now).in_transaction) }
+    ensures kept { HasCleanDisk (state S.Store tx.new.conn.now) → KeepsCommit (state S.Store tx.old.conn.now) (state S.Store tx.new.conn.now) }
+    ensures survives { Survives (state S.Store tx.old.conn.now) (state S.Store tx.new.conn.now) (λ _. ⊥) }
+{
+    let number = live.message.ident.to_dbc();
+    let net = name.as_bytes();
+    remove_numbered(tx, net, number)?;
+    write_msg(tx, net, live)?;
+    write_signals(alloc, tx, net, number, live.message.signals.as_slice())
+}

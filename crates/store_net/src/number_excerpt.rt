@@ -1,0 +1,162 @@
+//! What a command that gives out a number reads of its network: its row, its blocks, the held identifiers, and of the
+//! live messages whether one has a name, how many there are, and which identifiers they have that could be given out.
+//! No message is read.
+ghost use Rattle.std.specs.Prelude.{◌≡◌, ◌++◌, ℕ, List, Option, IfOk, IsTrue, OnOk};
+ghost use Rattle.std.specs.List.{filter_map, list_any};
+ghost use Rattle.office_net.specs.Excerpt.{IsExcerptOf};
+ghost use Rattle.office_rules.specs.Facts.{group_of, is_wanted, number_in, same_ident};
+ghost use Rattle.office_tables.specs.Tables.{tables_of, IsOffice};
+ghost use Rattle.office_types.specs.declared.command.Action.TheVariants as act;
+ghost use Rattle.office_types.specs.declared.command.Task.TheVariants.{Act};
+ghost use Rattle.office_types.specs.declared.state.Net.{Net as Network};
+ghost use Rattle.sqlite.specs.Held.{state};
+ghost use Rattle.sqlite.specs.State.{HasCleanDisk, IsUnchanged, KeepsCommit, Survives};
+ghost use Rattle.store_net.specs.Excerpts.{HasNameAndCount, IsReadIn, MatchBoth};
+
+use crate::heads::{count_at, is_named_at};
+use crate::parts::{blocks_of, head_of, held_of};
+use crate::ranges::{live_idents_at, live_inside_at, want_live_at};
+use can_id::{EXTENDED_FLAG, GREATEST_EXTENDED, Ident, IdentForm};
+use catalogue::{Items, Name};
+use office_net::{Excerpt, blocks_of as team_blocks, group_of, has_ident, number_in};
+use office_types::{BlockForm, NetName, TakeIdent, TakePgn, Team};
+use sqlite::{Alter, Error, Transaction};
+use std::alloc::{AllocError, Global};
+
+/// The excerpt of the network without identifiers: its head, its blocks, whether a live message has the name, and how
+/// many there are. `None` where the network isn't there.
+fn counted_excerpt_at<S: Alter>(
+    alloc: Global,
+    tx: &mut Transaction<'_, S>,
+    name: &NetName,
+    message: &Name,
+) -> Result<Option<Excerpt>, Error>
+    ensures same_reference { tx.new.conn.ghost_name ≡ tx.old.conn.ghost_name }
+    ensures found { HasCleanDisk (state S.Store tx.new.conn.now) → IsOffice (state S.Store tx.old.conn.now).now
+        → IfOk result (λ found. (net : Option Network) → IsReadIn name.now (tables_of (state S.Store tx.old.conn.now).now.trees) net → MatchBoth (HasNameAndCount message.now) net found) }
+    ensures same { HasCleanDisk (state S.Store tx.new.conn.now) → IsOffice (state S.Store tx.old.conn.now).now → OnOk result (IsUnchanged (state S.Store tx.old.conn.now) (state S.Store tx.new.conn.now)) }
+    ensures kept { HasCleanDisk (state S.Store tx.new.conn.now) → IsOffice (state S.Store tx.old.conn.now).now → KeepsCommit (state S.Store tx.old.conn.now) (state S.Store tx.new.conn.now) }
+    ensures survives { Survives (state S.Store tx.old.conn.now) (state S.Store tx.new.conn.now) (λ _. ⊥) }
+{
+    let Some(head) = head_of(alloc, tx, name)? else {
+        return Ok(None);
+    };
+    let blocks = blocks_of(alloc, tx, name)?;
+    let named = is_named_at(tx, name, message)?;
+    let count = count_at(tx, name)?;
+    Ok(Some(Excerpt {
+        head,
+        blocks,
+        found: None,
+        named,
+        count,
+        want_live: false,
+        want_held: false,
+        taken: Items::new(alloc),
+    }))
+}
+
+/// Whether the wanted identifier is among the held ones.
+fn want_is_held(held: &[Ident], form: IdentForm, want: Option<u32>) -> bool
+    ensures { result ≡ is_wanted (λ i. list_any (λ h. same_ident h i) held.now) form want }
+{
+    match want {
+        None => false,
+        Some(number) => has_ident(held, form, number),
+    }
+}
+
+/// The numbers of the live and the held identifiers that have the form.
+fn numbers_of(
+    alloc: Global,
+    form: IdentForm,
+    live: &[Ident],
+    held: &[Ident],
+) -> Result<Vec<u32>, AllocError>
+    ensures { IfOk result (λ numbers. numbers.items ≡ filter_map (number_in form) (live.now ++ held.now)) }
+{
+    live.iter()
+        .chain(held.iter())
+        .filter_map(|ident| number_in(form, *ident))
+        .collect(alloc)
+}
+
+/// The parameter groups of the live and the held identifiers.
+fn groups_of(alloc: Global, live: &[Ident], held: &[Ident]) -> Result<Vec<u32>, AllocError>
+    ensures { IfOk result (λ groups. groups.items ≡ filter_map group_of (live.now ++ held.now)) }
+{
+    live.iter()
+        .chain(held.iter())
+        .filter_map(|ident| group_of(*ident))
+        .collect(alloc)
+}
+
+/// The excerpt of the network for the team's `take_ident`, `None` where the network isn't there. Of the live
+/// identifiers it reads those in the team's blocks of the form, and the wanted one. An error is out of memory, what
+/// `sqlite` answers, or `InvalidQuery` where the rows are no network's.
+pub fn ident_excerpt_at<S: Alter>(
+    alloc: Global,
+    tx: &mut Transaction<'_, S>,
+    name: &NetName,
+    team: &Team,
+    take: &TakeIdent,
+) -> Result<Option<Excerpt>, Error>
+    ensures same_reference { tx.new.conn.ghost_name ≡ tx.old.conn.ghost_name }
+    ensures found { HasCleanDisk (state S.Store tx.new.conn.now) → IsOffice (state S.Store tx.old.conn.now).now
+        → IfOk result (λ found. (net : Option Network) → IsReadIn name.now (tables_of (state S.Store tx.old.conn.now).now.trees) net
+        → MatchBoth (λ net e. IsExcerptOf team.now net (Act (act.TakeIdent take.now)) e) net found) }
+    ensures same { HasCleanDisk (state S.Store tx.new.conn.now) → IsOffice (state S.Store tx.old.conn.now).now → OnOk result (IsUnchanged (state S.Store tx.old.conn.now) (state S.Store tx.new.conn.now)) }
+    ensures kept { HasCleanDisk (state S.Store tx.new.conn.now) → IsOffice (state S.Store tx.old.conn.now).now → KeepsCommit (state S.Store tx.old.conn.now) (state S.Store tx.new.conn.now) }
+    ensures survives { Survives (state S.Store tx.old.conn.now) (state S.Store tx.new.conn.now) (λ _. ⊥) }
+{
+    let Some(mut excerpt) = counted_excerpt_at(alloc, tx, name, &take.message.name)? else {
+        return Ok(None);
+    };
+    let form = take.form;
+    let own = team_blocks(
+        alloc,
+        excerpt.blocks.as_slice(),
+        team,
+        BlockForm::of_identifiers(form),
+    )?;
+    let live = live_inside_at(alloc, tx, name, form, &own)?;
+    let held = held_of(alloc, tx, name)?;
+    let want_live = want_live_at(alloc, tx, name, form, take.want)?;
+    let numbers = numbers_of(alloc, form, &live, held.as_slice())?;
+    excerpt.want_live = want_live;
+    excerpt.want_held = want_is_held(held.as_slice(), form, take.want);
+    excerpt.taken = Items::from_vec(numbers);
+    Ok(Some(excerpt))
+}
+
+/// The excerpt of the network for a `take_pgn`, of whatever team; `None` where the network isn't there. Of the live
+/// identifiers it reads all of 29 bits. The errors are those of [`ident_excerpt_at`].
+pub fn group_excerpt_at<S: Alter>(
+    alloc: Global,
+    tx: &mut Transaction<'_, S>,
+    name: &NetName,
+    take: &TakePgn,
+) -> Result<Option<Excerpt>, Error>
+    ensures same_reference { tx.new.conn.ghost_name ≡ tx.old.conn.ghost_name }
+    ensures found { HasCleanDisk (state S.Store tx.new.conn.now) → IsOffice (state S.Store tx.old.conn.now).now
+        → IfOk result (λ found. (net : Option Network) → IsReadIn name.now (tables_of (state S.Store tx.old.conn.now).now.trees) net
+        → (team : List ℕ) → MatchBoth (λ net e. IsExcerptOf team net (Act (act.TakePgn take.now)) e) net found) }
+    ensures same { HasCleanDisk (state S.Store tx.new.conn.now) → IsOffice (state S.Store tx.old.conn.now).now → OnOk result (IsUnchanged (state S.Store tx.old.conn.now) (state S.Store tx.new.conn.now)) }
+    ensures kept { HasCleanDisk (state S.Store tx.new.conn.now) → IsOffice (state S.Store tx.old.conn.now).now → KeepsCommit (state S.Store tx.old.conn.now) (state S.Store tx.new.conn.now) }
+    ensures survives { Survives (state S.Store tx.old.conn.now) (state S.Store tx.new.conn.now) (λ _. ⊥) }
+{
+    let Some(mut excerpt) = counted_excerpt_at(alloc, tx, name, &take.message.name)? else {
+        return Ok(None);
+    };
+    let live = live_idents_at(
+        alloc,
+        tx,
+        name,
+        EXTENDED_FLAG,
+        EXTENDED_FLAG + GREATEST_EXTENDED,
+    )?;
+    let held = held_of(alloc, tx, name)?;
+    let groups = groups_of(alloc, live.as_slice(), held.as_slice())?;
+    excerpt.taken = Items::from_vec(groups);
+    Ok(Some(excerpt))
+}

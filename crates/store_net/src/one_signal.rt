@@ -1,0 +1,176 @@
+//! The rows of one signal of a live message, added and removed: no row of another signal is written.
+ghost use Rattle.std.specs.Prelude.{[], ◌∷◌, ◌≡◌, ◌<◌, ℕ, List, IfOk, IsTrue, OnOk};
+ghost use Rattle.std.specs.List.{AllByRecursion};
+ghost use Rattle.std.specs.Option.{option_map};
+ghost use Rattle.can_id.specs.Ident.{dbc_number};
+ghost use Rattle.catalogue.specs.declared.signal.Signal.{Signal as Other};
+ghost use Rattle.office_rules.specs.Facts.{live_named};
+ghost use Rattle.office_tables.specs.Statements.{Makes};
+ghost use Rattle.office_tables.specs.Tables.{tables_of, IsOffice};
+ghost use Rattle.office_types.specs.declared.state.LiveMessage.{LiveMessage as Live};
+ghost use Rattle.sqlite.specs.Held.{state};
+ghost use Rattle.sqlite.specs.State.{HasCleanDisk, IsUnchanged, KeepsCommit, Survives};
+ghost use Rattle.store_rows.specs.Listed.{AreShown};
+ghost use Rattle.store_rows.specs.Live.{AreLiveRows, live_rows};
+ghost use Rattle.store_rows.specs.LiveWritten.{IsAdded, IsTakenOut, without_place, without_places};
+ghost use Rattle.store_rows.specs.SignalShowing.{PlacesAscend, ShowsPlaced};
+ghost use Rattle.store_net.specs.Places.{places_named};
+
+use crate::message_rows::write_signal;
+use crate::writing::number_above;
+use catalogue::{Name, Signal};
+use office_rows::{
+    delete_receivers_at, delete_sig_at, delete_sigvalues_at, select_msg_named, select_sigs,
+};
+use office_types::{NetName, SignalPath};
+use sqlite::{Alter, Error, Row, Transaction};
+use std::alloc::Global;
+use store_rows::{number_at, text_at};
+
+/// The DBC number of the live message of the name, `None` where the network has none.
+fn number_named<S: Alter>(
+    tx: &mut Transaction<'_, S>,
+    name: &NetName,
+    message: &Name,
+) -> Result<Option<u32>, Error>
+    ensures same_reference { tx.new.conn.ghost_name ≡ tx.old.conn.ghost_name }
+    ensures found { HasCleanDisk (state S.Store tx.new.conn.now) → IsOffice (state S.Store tx.old.conn.now).now
+        → IfOk result (λ found. (live : List Live) → AreLiveRows name.now (live_rows name.now (tables_of (state S.Store tx.old.conn.now).now.trees)) live
+        → found ≡ option_map (λ (m : Live). dbc_number m.message.ident) (live_named live message.now)) }
+    ensures same { HasCleanDisk (state S.Store tx.new.conn.now) → IsOffice (state S.Store tx.old.conn.now).now → OnOk result (IsUnchanged (state S.Store tx.old.conn.now) (state S.Store tx.new.conn.now)) }
+    ensures kept { HasCleanDisk (state S.Store tx.new.conn.now) → IsOffice (state S.Store tx.old.conn.now).now → KeepsCommit (state S.Store tx.old.conn.now) (state S.Store tx.new.conn.now) }
+    ensures survives { Survives (state S.Store tx.old.conn.now) (state S.Store tx.new.conn.now) (λ _. ⊥) }
+{
+    let rows = select_msg_named(tx, name.as_bytes(), message.as_bytes())?;
+    match rows.first() {
+        None => Ok(None),
+        Some(row) => Ok(Some(number_at(row, 0)?)),
+    }
+}
+
+/// The place after those of the signals that the rows show.
+fn place_after(rows: &[Row]) -> Result<u32, Error>
+    ensures { IfOk result (λ place. (placed : List (ℕ × Other)) → AreShown ShowsPlaced placed rows.now → PlacesAscend placed → AllByRecursion (λ (q : ℕ × Other). q.0 < place) placed) }
+{
+    match rows.last() {
+        None => Ok(0),
+        Some(row) => number_above(number_at(row, 0)?),
+    }
+}
+
+/// Adds the signal as the last one of the live message of the name. An error, too, where there is no such message.
+pub(crate) fn add_signal<S: Alter>(
+    alloc: Global,
+    tx: &mut Transaction<'_, S>,
+    name: &NetName,
+    message: &Name,
+    signal: &Signal,
+) -> Result<(), Error>
+    ensures same_reference { tx.new.conn.ghost_name ≡ tx.old.conn.ghost_name }
+    ensures written { HasCleanDisk (state S.Store tx.new.conn.now) → IsOffice (state S.Store tx.old.conn.now).now
+        → OnOk result ((live : List Live) → AreLiveRows name.now (live_rows name.now (tables_of (state S.Store tx.old.conn.now).now.trees)) live
+        → IsAdded name.now message.now signal.now live (tables_of (state S.Store tx.old.conn.now).now.trees) (tables_of (state S.Store tx.new.conn.now).now.trees)) }
+    ensures office { HasCleanDisk (state S.Store tx.new.conn.now) → IsOffice (state S.Store tx.old.conn.now).now → OnOk result (IsOffice (state S.Store tx.new.conn.now).now) }
+    ensures inside { HasCleanDisk (state S.Store tx.new.conn.now) → IsOffice (state S.Store tx.old.conn.now).now → OnOk result (IsTrue (state S.Store tx.new.conn.now).in_transaction) }
+    ensures kept { HasCleanDisk (state S.Store tx.new.conn.now) → IsOffice (state S.Store tx.old.conn.now).now → KeepsCommit (state S.Store tx.old.conn.now) (state S.Store tx.new.conn.now) }
+    ensures survives { Survives (state S.Store tx.old.conn.now) (state S.Store tx.new.conn.now) (λ _. ⊥) }
+{
+    let net = name.as_bytes();
+    let Some(number) = number_named(tx, name, message)? else {
+        return Err(Error::InvalidQuery);
+    };
+    let rows = select_sigs(tx, net, number)?;
+    let place = place_after(&rows)?;
+    write_signal(alloc, tx, net, number, place, signal)
+}
+
+/// Removes the rows of the signal at the place.
+fn remove_place<S: Alter>(
+    tx: &mut Transaction<'_, S>,
+    net: &[u8],
+    number: u32,
+    place: u32,
+) -> Result<(), Error>
+    ensures same_reference { tx.new.conn.ghost_name ≡ tx.old.conn.ghost_name }
+    ensures removed { HasCleanDisk (state S.Store tx.new.conn.now) → IsOffice (state S.Store tx.old.conn.now).now
+        → OnOk result (Makes (without_place net.now number place) (state S.Store tx.old.conn.now) (state S.Store tx.new.conn.now)) }
+    ensures kept { HasCleanDisk (state S.Store tx.new.conn.now) → KeepsCommit (state S.Store tx.old.conn.now) (state S.Store tx.new.conn.now) }
+    ensures survives { Survives (state S.Store tx.old.conn.now) (state S.Store tx.new.conn.now) (λ _. ⊥) }
+{
+    delete_sig_at(tx, net, number, place)?;
+    delete_receivers_at(tx, net, number, place)?;
+    delete_sigvalues_at(tx, net, number, place)?;
+    Ok(())
+}
+
+/// Removes the rows of the signal that the row shows, if it is the signal of the name.
+fn remove_if_named<S: Alter>(
+    tx: &mut Transaction<'_, S>,
+    net: &[u8],
+    number: u32,
+    row: &Row,
+    signal: &Name,
+) -> Result<(), Error>
+    ensures same_reference { tx.new.conn.ghost_name ≡ tx.old.conn.ghost_name }
+    ensures removed { HasCleanDisk (state S.Store tx.new.conn.now) → IsOffice (state S.Store tx.old.conn.now).now
+        → OnOk result (tables_of (state S.Store tx.new.conn.now).now.trees ≡ without_places net.now number (places_named signal.now (row.now ∷ [])) (tables_of (state S.Store tx.old.conn.now).now.trees)) }
+    ensures office { HasCleanDisk (state S.Store tx.new.conn.now) → IsOffice (state S.Store tx.old.conn.now).now → OnOk result (IsOffice (state S.Store tx.new.conn.now).now) }
+    ensures inside { HasCleanDisk (state S.Store tx.new.conn.now) → IsOffice (state S.Store tx.old.conn.now).now → IsTrue (state S.Store tx.old.conn.now).in_transaction
+        → OnOk result (IsTrue (state S.Store tx.new.conn.now).in_transaction) }
+    ensures kept { HasCleanDisk (state S.Store tx.new.conn.now) → KeepsCommit (state S.Store tx.old.conn.now) (state S.Store tx.new.conn.now) }
+    ensures survives { Survives (state S.Store tx.old.conn.now) (state S.Store tx.new.conn.now) (λ _. ⊥) }
+{
+    if text_at(row, 1)? != signal.as_bytes() {
+        return Ok(());
+    }
+    remove_place(tx, net, number, number_at(row, 0)?)
+}
+
+/// Removes the rows of the signal of the name, of those that the rows show.
+fn remove_named<S: Alter>(
+    tx: &mut Transaction<'_, S>,
+    net: &[u8],
+    number: u32,
+    rows: &[Row],
+    signal: &Name,
+) -> Result<(), Error>
+    ensures same_reference { tx.new.conn.ghost_name ≡ tx.old.conn.ghost_name }
+    ensures removed { HasCleanDisk (state S.Store tx.new.conn.now) → IsOffice (state S.Store tx.old.conn.now).now
+        → OnOk result (tables_of (state S.Store tx.new.conn.now).now.trees ≡ without_places net.now number (places_named signal.now rows.now) (tables_of (state S.Store tx.old.conn.now).now.trees)) }
+    ensures office { HasCleanDisk (state S.Store tx.new.conn.now) → IsOffice (state S.Store tx.old.conn.now).now → OnOk result (IsOffice (state S.Store tx.new.conn.now).now) }
+    ensures inside { HasCleanDisk (state S.Store tx.new.conn.now) → IsOffice (state S.Store tx.old.conn.now).now → IsTrue (state S.Store tx.old.conn.now).in_transaction
+        → OnOk result (IsTrue (state S.Store tx.new.conn.now).in_transaction) }
+    ensures kept { HasCleanDisk (state S.Store tx.new.conn.now) → KeepsCommit (state S.Store tx.old.conn.now) (state S.Store tx.new.conn.now) }
+    ensures survives { Survives (state S.Store tx.old.conn.now) (state S.Store tx.new.conn.now) (λ _. ⊥) }
+{
+    for row in rows {
+        remove_if_named(tx, net, number, row, signal)?;
+    }
+    Ok(())
+}
+
+/// Removes the signal from its live message. Where there is no such message or signal, nothing is removed.
+pub(crate) fn take_signal_out<S: Alter>(
+    tx: &mut Transaction<'_, S>,
+    name: &NetName,
+    path: &SignalPath,
+) -> Result<(), Error>
+    ensures same_reference { tx.new.conn.ghost_name ≡ tx.old.conn.ghost_name }
+    ensures written { HasCleanDisk (state S.Store tx.new.conn.now) → IsOffice (state S.Store tx.old.conn.now).now
+        → OnOk result ((live : List Live) → AreLiveRows name.now (live_rows name.now (tables_of (state S.Store tx.old.conn.now).now.trees)) live
+        → IsTakenOut name.now path.now live (tables_of (state S.Store tx.old.conn.now).now.trees) (tables_of (state S.Store tx.new.conn.now).now.trees)) }
+    ensures office { HasCleanDisk (state S.Store tx.new.conn.now) → IsOffice (state S.Store tx.old.conn.now).now → OnOk result (IsOffice (state S.Store tx.new.conn.now).now) }
+    ensures inside { HasCleanDisk (state S.Store tx.new.conn.now) → IsOffice (state S.Store tx.old.conn.now).now → IsTrue (state S.Store tx.old.conn.now).in_transaction
+        → OnOk result (IsTrue (state S.Store tx.new.conn.now).in_transaction) }
+    ensures kept { HasCleanDisk (state S.Store tx.new.conn.now) → IsOffice (state S.Store tx.old.conn.now).now → KeepsCommit (state S.Store tx.old.conn.now) (state S.Store tx.new.conn.now) }
+    ensures survives { Survives (state S.Store tx.old.conn.now) (state S.Store tx.new.conn.now) (λ _. ⊥) }
+{
+    let net = name.as_bytes();
+    match number_named(tx, name, &path.message)? {
+        None => Ok(()),
+        Some(number) => {
+            let rows = select_sigs(tx, net, number)?;
+            remove_named(tx, net, number, &rows, &path.signal)
+        }
+    }
+}

@@ -9,10 +9,10 @@ signal.alarm(300)
 
 
 class Serve:
-    """`canoffice serve` on office.db and a free port, from when it listens. If a file size is given, no file may grow beyond it:
+    """`canoffice serve` on a database and a free port, from when it listens. If a file size is given, no file may grow beyond it:
     a write there fails, as on a disk that is full."""
 
-    def __init__(self, count, file_size=None):
+    def __init__(self, count, file_size=None, database="office.db"):
         with socket.socket() as free:
             free.bind(("127.0.0.1", 0))
             self.port = free.getsockname()[1]
@@ -22,7 +22,7 @@ class Serve:
                 signal.signal(signal.SIGXFSZ, signal.SIG_IGN)
                 resource.setrlimit(resource.RLIMIT_FSIZE, (file_size, file_size))
 
-        words = [PROGRAM, "serve", "--db", "office.db", "--port", str(self.port), "--count", str(count)]
+        words = [PROGRAM, "serve", "--db", database, "--port", str(self.port), "--count", str(count)]
         self.process = subprocess.Popen(
             words, stdin=subprocess.DEVNULL, stdout=subprocess.PIPE, stderr=subprocess.PIPE, text=True, preexec_fn=limit)
         atexit.register(self.process.kill)
@@ -62,7 +62,7 @@ def rest_of(client):
     while more := client.recv(65536):
         text += more
     head, _, body = text.partition(b"\r\n\r\n")
-    return int(head.split(b" ")[1]), body.decode()
+    return int(head.split(b" ")[1]), body.decode(errors="surrogateescape")
 
 
 def get(target):

@@ -33,9 +33,11 @@ use Rattle.office_tables.proofs.Places.{receiver, receiver_placed, receiver_only
 use Rattle.office_tables.proofs.Selecting.{query}
 use Rattle.office_tables.proofs.Finding.{ascending, Asks, Means, finds}
 use Rattle.office_rows.specs.declared.row.ReceiverRow.{ReceiverRow}
-use Rattle.office_rows.specs.Rows.{has_net_and_number, has_place_of, receiver_row}
+use Rattle.office_rows.specs.Rows.{has_net_and_number, has_place_of, is_of_net, receiver_row}
 use Rattle.office_rows.specs.Shown.{receivers_order, receivers_shown}
-use Rattle.office_rows.proofs.Asked.{numbered_asked, place_asked, three_tests, two_tests}
+use Rattle.office_rows.proofs.Asked.{net_asked, numbered_asked, one_test, place_asked, three_tests, two_tests}
+use Rattle.office_tables.proofs.Counting.{AsksCount, counts}
+use Rattle.sqlite_sql.specs.Aggregate.{count}
 
 -- ---- insert_receiver
 
@@ -129,3 +131,19 @@ receivers_found rows_of net number = finds office_schema receivers_text 23 two_t
 
 pub receivers_plain : (s : Schema) → s ≡ office_schema → IsPlain (understood s receivers_text)
 receivers_plain = plain_in receivers_text (receivers_asks []).plain
+
+-- ---- count_receivers
+
+abbrev pub count_text : List ℕ
+count_text = codes "SELECT count(*) FROM receiver WHERE net = ?1"
+
+count_asks : (params : Row) → AsksCount count_text 23 one_test params
+unfolding understood everything office_schema
+count_asks params = record { command = refl; listing = refl; plain = (refl, refl) }
+
+pub counted_receivers : {X : Type 0} (rows_of : X → List Row) (net : List ℕ) (old new : State) (r : Result X Error) → old.now.schema ≡ office_schema
+    → IfOk r (λ x. Shown count_text (Text net ∷ []) old new (rows_of x)) → IfOk r (λ x. rows_of x ≡ (count (length (filter (is_of_net net) (tables_of old.now.trees).receiver)) ∷ []) ∷ [])
+counted_receivers rows_of net = counts count_text 23 one_test (Text net ∷ []) (count_asks (Text net ∷ [])) (is_of_net net) (net_asked net) rows_of
+
+pub count_plain : (s : Schema) → s ≡ office_schema → IsPlain (understood s count_text)
+count_plain = plain_in count_text (count_asks []).plain

@@ -33,9 +33,11 @@ use Rattle.office_tables.proofs.Places.{sigvalue, sigvalue_placed, sigvalue_only
 use Rattle.office_tables.proofs.Selecting.{query}
 use Rattle.office_tables.proofs.Finding.{ascending, Asks, Means, finds}
 use Rattle.office_rows.specs.declared.row.SigValueRow.{SigValueRow}
-use Rattle.office_rows.specs.Rows.{has_net_and_number, has_place_of, sigvalue_row}
+use Rattle.office_rows.specs.Rows.{has_net_and_number, has_place_of, is_of_net, sigvalue_row}
 use Rattle.office_rows.specs.Shown.{sigvalues_order, sigvalues_shown}
-use Rattle.office_rows.proofs.Asked.{numbered_asked, place_asked, three_tests, two_tests}
+use Rattle.office_rows.proofs.Asked.{net_asked, numbered_asked, one_test, place_asked, three_tests, two_tests}
+use Rattle.office_tables.proofs.Counting.{AsksCount, counts}
+use Rattle.sqlite_sql.specs.Aggregate.{count}
 
 -- ---- insert_sigvalue
 
@@ -129,3 +131,19 @@ sigvalues_found rows_of net number = finds office_schema sigvalues_text 25 two_t
 
 pub sigvalues_plain : (s : Schema) → s ≡ office_schema → IsPlain (understood s sigvalues_text)
 sigvalues_plain = plain_in sigvalues_text (sigvalues_asks []).plain
+
+-- ---- count_sigvalues
+
+abbrev pub count_text : List ℕ
+count_text = codes "SELECT count(*) FROM sigvalue WHERE net = ?1"
+
+count_asks : (params : Row) → AsksCount count_text 25 one_test params
+unfolding understood everything office_schema
+count_asks params = record { command = refl; listing = refl; plain = (refl, refl) }
+
+pub counted_sigvalues : {X : Type 0} (rows_of : X → List Row) (net : List ℕ) (old new : State) (r : Result X Error) → old.now.schema ≡ office_schema
+    → IfOk r (λ x. Shown count_text (Text net ∷ []) old new (rows_of x)) → IfOk r (λ x. rows_of x ≡ (count (length (filter (is_of_net net) (tables_of old.now.trees).sigvalue)) ∷ []) ∷ [])
+counted_sigvalues rows_of net = counts count_text 25 one_test (Text net ∷ []) (count_asks (Text net ∷ [])) (is_of_net net) (net_asked net) rows_of
+
+pub count_plain : (s : Schema) → s ≡ office_schema → IsPlain (understood s count_text)
+count_plain = plain_in count_text (count_asks []).plain

@@ -1,3 +1,4 @@
 pub mod Mux
 pub mod Rows
 pub mod Shown
+pub mod Statement

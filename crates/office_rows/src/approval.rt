@@ -1,12 +1,10 @@
 //! Approvals of a network in review.
-ghost use Rattle.std.specs.Prelude.{IfOk, OnOk, [], filter, length, not, ◌++◌, ◌∷◌, ◌≡◌};
-ghost use Rattle.office_tables.specs.Tables.{tables_of, IsOffice};
-ghost use Rattle.office_tables.specs.Statements.{Makes};
+ghost use Rattle.std.specs.Prelude.{[], filter, length, not, ◌++◌, ◌∷◌, ◌≡◌};
 ghost use Rattle.office_tables.specs.Selected.{IsSelected};
 ghost use Rattle.office_rows.specs.Rows.{approval_row, has_two_texts, is_of_net};
 ghost use Rattle.office_rows.specs.Shown.{approvals_order, approvals_shown};
 ghost use Rattle.sqlite.specs.Held.{state};
-ghost use Rattle.sqlite.specs.State.{HasCleanDisk, IsUnchanged, KeepsCommit, Survives};
+ghost use Rattle.office_rows.specs.Statement.{AddsNoCommit, ChangesNothing, CommitsNothing, Finds, LeavesNothing, MakesTables};
 
 use sqlite::types::ValueRef;
 use sqlite::{Alter, Error, Row, Transaction};
@@ -18,11 +16,10 @@ pub fn insert_approval<S: Alter>(
     team: &[u8],
 ) -> Result<usize, Error>
     ensures same_reference { tx.new.conn.ghost_name ≡ tx.old.conn.ghost_name }
-    ensures added { HasCleanDisk (state S.Store tx.new.conn.now) → IsOffice (state S.Store tx.old.conn.now).now
-        → OnOk result (Makes (λ t. record t { approval = t.approval ++ approval_row net.now team.now ∷ [] }) (state S.Store tx.old.conn.now) (state S.Store tx.new.conn.now)) }
-    ensures rows { HasCleanDisk (state S.Store tx.new.conn.now) → IsOffice (state S.Store tx.old.conn.now).now → IfOk result (λ rows. rows ≡ 1) }
-    ensures kept { HasCleanDisk (state S.Store tx.new.conn.now) → KeepsCommit (state S.Store tx.old.conn.now) (state S.Store tx.new.conn.now) }
-    ensures survives { Survives (state S.Store tx.old.conn.now) (state S.Store tx.new.conn.now) (λ _. ⊥) }
+    ensures added { MakesTables result (state S.Store tx.old.conn.now) (state S.Store tx.new.conn.now) (λ t. record t { approval = t.approval ++ approval_row net.now team.now ∷ [] }) }
+    ensures rows { Finds result (state S.Store tx.old.conn.now) (state S.Store tx.new.conn.now) (λ rows t. rows ≡ 1) }
+    ensures kept { AddsNoCommit (state S.Store tx.old.conn.now) (state S.Store tx.new.conn.now) }
+    ensures survives { LeavesNothing (state S.Store tx.old.conn.now) (state S.Store tx.new.conn.now) }
 {
     tx.execute(
         "INSERT INTO approval VALUES (?1, ?2)",
@@ -37,12 +34,10 @@ pub fn delete_approval<S: Alter>(
     team: &[u8],
 ) -> Result<usize, Error>
     ensures same_reference { tx.new.conn.ghost_name ≡ tx.old.conn.ghost_name }
-    ensures removed { HasCleanDisk (state S.Store tx.new.conn.now) → IsOffice (state S.Store tx.old.conn.now).now
-        → OnOk result (Makes (λ t. record t { approval = filter (λ row. not (has_two_texts net.now team.now row)) t.approval }) (state S.Store tx.old.conn.now) (state S.Store tx.new.conn.now)) }
-    ensures rows { HasCleanDisk (state S.Store tx.new.conn.now) → IsOffice (state S.Store tx.old.conn.now).now
-        → IfOk result (λ rows. rows ≡ length (filter (has_two_texts net.now team.now) (tables_of (state S.Store tx.old.conn.now).now.trees).approval)) }
-    ensures kept { HasCleanDisk (state S.Store tx.new.conn.now) → KeepsCommit (state S.Store tx.old.conn.now) (state S.Store tx.new.conn.now) }
-    ensures survives { Survives (state S.Store tx.old.conn.now) (state S.Store tx.new.conn.now) (λ _. ⊥) }
+    ensures removed { MakesTables result (state S.Store tx.old.conn.now) (state S.Store tx.new.conn.now) (λ t. record t { approval = filter (λ row. not (has_two_texts net.now team.now row)) t.approval }) }
+    ensures rows { Finds result (state S.Store tx.old.conn.now) (state S.Store tx.new.conn.now) (λ rows t. rows ≡ length (filter (has_two_texts net.now team.now) t.approval)) }
+    ensures kept { AddsNoCommit (state S.Store tx.old.conn.now) (state S.Store tx.new.conn.now) }
+    ensures survives { LeavesNothing (state S.Store tx.old.conn.now) (state S.Store tx.new.conn.now) }
 {
     tx.execute(
         "DELETE FROM approval WHERE net = ?1 AND team = ?2",
@@ -53,12 +48,10 @@ pub fn delete_approval<S: Alter>(
 /// Removes all approvals of the network. Gives how many.
 pub fn delete_approvals<S: Alter>(tx: &mut Transaction<'_, S>, net: &[u8]) -> Result<usize, Error>
     ensures same_reference { tx.new.conn.ghost_name ≡ tx.old.conn.ghost_name }
-    ensures removed { HasCleanDisk (state S.Store tx.new.conn.now) → IsOffice (state S.Store tx.old.conn.now).now
-        → OnOk result (Makes (λ t. record t { approval = filter (λ row. not (is_of_net net.now row)) t.approval }) (state S.Store tx.old.conn.now) (state S.Store tx.new.conn.now)) }
-    ensures rows { HasCleanDisk (state S.Store tx.new.conn.now) → IsOffice (state S.Store tx.old.conn.now).now
-        → IfOk result (λ rows. rows ≡ length (filter (is_of_net net.now) (tables_of (state S.Store tx.old.conn.now).now.trees).approval)) }
-    ensures kept { HasCleanDisk (state S.Store tx.new.conn.now) → KeepsCommit (state S.Store tx.old.conn.now) (state S.Store tx.new.conn.now) }
-    ensures survives { Survives (state S.Store tx.old.conn.now) (state S.Store tx.new.conn.now) (λ _. ⊥) }
+    ensures removed { MakesTables result (state S.Store tx.old.conn.now) (state S.Store tx.new.conn.now) (λ t. record t { approval = filter (λ row. not (is_of_net net.now row)) t.approval }) }
+    ensures rows { Finds result (state S.Store tx.old.conn.now) (state S.Store tx.new.conn.now) (λ rows t. rows ≡ length (filter (is_of_net net.now) t.approval)) }
+    ensures kept { AddsNoCommit (state S.Store tx.old.conn.now) (state S.Store tx.new.conn.now) }
+    ensures survives { LeavesNothing (state S.Store tx.old.conn.now) (state S.Store tx.new.conn.now) }
 {
     tx.execute(
         "DELETE FROM approval WHERE net = ?1",
@@ -72,11 +65,10 @@ pub fn select_approvals<S: Alter>(
     net: &[u8],
 ) -> Result<Vec<Row>, Error>
     ensures same_reference { tx.new.conn.ghost_name ≡ tx.old.conn.ghost_name }
-    ensures found { HasCleanDisk (state S.Store tx.new.conn.now) → IsOffice (state S.Store tx.old.conn.now).now
-        → IfOk result (λ rows. IsSelected (is_of_net net.now) approvals_shown approvals_order (tables_of (state S.Store tx.old.conn.now).now.trees).approval rows.items) }
-    ensures same { HasCleanDisk (state S.Store tx.new.conn.now) → IsOffice (state S.Store tx.old.conn.now).now → OnOk result (IsUnchanged (state S.Store tx.old.conn.now) (state S.Store tx.new.conn.now)) }
-    ensures kept { HasCleanDisk (state S.Store tx.new.conn.now) → IsOffice (state S.Store tx.old.conn.now).now → KeepsCommit (state S.Store tx.old.conn.now) (state S.Store tx.new.conn.now) }
-    ensures survives { Survives (state S.Store tx.old.conn.now) (state S.Store tx.new.conn.now) (λ _. ⊥) }
+    ensures found { Finds result (state S.Store tx.old.conn.now) (state S.Store tx.new.conn.now) (λ rows t. IsSelected (is_of_net net.now) approvals_shown approvals_order t.approval rows.items) }
+    ensures same { ChangesNothing result (state S.Store tx.old.conn.now) (state S.Store tx.new.conn.now) }
+    ensures kept { CommitsNothing (state S.Store tx.old.conn.now) (state S.Store tx.new.conn.now) }
+    ensures survives { LeavesNothing (state S.Store tx.old.conn.now) (state S.Store tx.new.conn.now) }
 {
     tx.query_all(
         "SELECT team FROM approval WHERE net = ?1 ORDER BY team",

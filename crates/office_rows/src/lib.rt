@@ -40,12 +40,16 @@ pub use msg::{
 pub use net::{delete_net, insert_net, select_net, select_net_names};
 pub use part::{insert_part, select_parts};
 pub use profile::{clear_profile, insert_profile, select_profile};
-pub use receiver::{delete_receivers, delete_receivers_at, insert_receiver, select_receivers};
+pub use receiver::{
+    count_receivers, delete_receivers, delete_receivers_at, insert_receiver, select_receivers,
+};
 pub use reply::{insert_reply, select_reply};
 pub use row::{
     BlockRow, FrozenRow, MessageRow, MsgRow, MuxColumn, NetRow, PartRow, ReceiverRow, ReplyRow,
     SigRow, SigValueRow,
 };
-pub use sig::{delete_sig_at, delete_sigs, insert_sig, select_sigs};
-pub use sigvalue::{delete_sigvalues, delete_sigvalues_at, insert_sigvalue, select_sigvalues};
+pub use sig::{count_sigs, delete_sig_at, delete_sigs, insert_sig, select_sigs};
+pub use sigvalue::{
+    count_sigvalues, delete_sigvalues, delete_sigvalues_at, insert_sigvalue, select_sigvalues,
+};
 pub use spn::{delete_spn, insert_spn, select_spns};

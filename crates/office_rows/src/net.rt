@@ -1,12 +1,10 @@
 //! Networks.
-ghost use Rattle.std.specs.Prelude.{IfOk, OnOk, [], filter, length, not, ◌++◌, ◌∷◌, ◌≡◌};
-ghost use Rattle.office_tables.specs.Tables.{tables_of, IsOffice};
-ghost use Rattle.office_tables.specs.Statements.{Makes};
+ghost use Rattle.std.specs.Prelude.{[], filter, length, not, ◌++◌, ◌∷◌, ◌≡◌};
 ghost use Rattle.office_tables.specs.Selected.{IsSelected};
 ghost use Rattle.office_rows.specs.Rows.{is_any, is_of_net, net_row};
 ghost use Rattle.office_rows.specs.Shown.{net_names_order, net_names_shown, net_order, net_shown};
 ghost use Rattle.sqlite.specs.Held.{state};
-ghost use Rattle.sqlite.specs.State.{HasCleanDisk, IsUnchanged, KeepsCommit, Survives};
+ghost use Rattle.office_rows.specs.Statement.{AddsNoCommit, ChangesNothing, CommitsNothing, Finds, LeavesNothing, MakesTables};
 
 use crate::row::NetRow;
 use sqlite::types::{ToSql, ValueRef};
@@ -15,11 +13,10 @@ use sqlite::{Alter, Error, Row, Transaction};
 /// Adds a network. Gives 1. An error where its key is there.
 pub fn insert_net<S: Alter>(tx: &mut Transaction<'_, S>, row: &NetRow<'_>) -> Result<usize, Error>
     ensures same_reference { tx.new.conn.ghost_name ≡ tx.old.conn.ghost_name }
-    ensures added { HasCleanDisk (state S.Store tx.new.conn.now) → IsOffice (state S.Store tx.old.conn.now).now
-        → OnOk result (Makes (λ t. record t { net = t.net ++ net_row row.now ∷ [] }) (state S.Store tx.old.conn.now) (state S.Store tx.new.conn.now)) }
-    ensures rows { HasCleanDisk (state S.Store tx.new.conn.now) → IsOffice (state S.Store tx.old.conn.now).now → IfOk result (λ rows. rows ≡ 1) }
-    ensures kept { HasCleanDisk (state S.Store tx.new.conn.now) → KeepsCommit (state S.Store tx.old.conn.now) (state S.Store tx.new.conn.now) }
-    ensures survives { Survives (state S.Store tx.old.conn.now) (state S.Store tx.new.conn.now) (λ _. ⊥) }
+    ensures added { MakesTables result (state S.Store tx.old.conn.now) (state S.Store tx.new.conn.now) (λ t. record t { net = t.net ++ net_row row.now ∷ [] }) }
+    ensures rows { Finds result (state S.Store tx.old.conn.now) (state S.Store tx.new.conn.now) (λ rows t. rows ≡ 1) }
+    ensures kept { AddsNoCommit (state S.Store tx.old.conn.now) (state S.Store tx.new.conn.now) }
+    ensures survives { LeavesNothing (state S.Store tx.old.conn.now) (state S.Store tx.new.conn.now) }
 {
     tx.execute(
         "INSERT INTO net VALUES (?1, ?2, ?3, ?4, ?5, ?6)",
@@ -37,12 +34,10 @@ pub fn insert_net<S: Alter>(tx: &mut Transaction<'_, S>, row: &NetRow<'_>) -> Re
 /// Removes the row of the network, if it is there. Gives how many rows it removed.
 pub fn delete_net<S: Alter>(tx: &mut Transaction<'_, S>, name: &[u8]) -> Result<usize, Error>
     ensures same_reference { tx.new.conn.ghost_name ≡ tx.old.conn.ghost_name }
-    ensures removed { HasCleanDisk (state S.Store tx.new.conn.now) → IsOffice (state S.Store tx.old.conn.now).now
-        → OnOk result (Makes (λ t. record t { net = filter (λ row. not (is_of_net name.now row)) t.net }) (state S.Store tx.old.conn.now) (state S.Store tx.new.conn.now)) }
-    ensures rows { HasCleanDisk (state S.Store tx.new.conn.now) → IsOffice (state S.Store tx.old.conn.now).now
-        → IfOk result (λ rows. rows ≡ length (filter (is_of_net name.now) (tables_of (state S.Store tx.old.conn.now).now.trees).net)) }
-    ensures kept { HasCleanDisk (state S.Store tx.new.conn.now) → KeepsCommit (state S.Store tx.old.conn.now) (state S.Store tx.new.conn.now) }
-    ensures survives { Survives (state S.Store tx.old.conn.now) (state S.Store tx.new.conn.now) (λ _. ⊥) }
+    ensures removed { MakesTables result (state S.Store tx.old.conn.now) (state S.Store tx.new.conn.now) (λ t. record t { net = filter (λ row. not (is_of_net name.now row)) t.net }) }
+    ensures rows { Finds result (state S.Store tx.old.conn.now) (state S.Store tx.new.conn.now) (λ rows t. rows ≡ length (filter (is_of_net name.now) t.net)) }
+    ensures kept { AddsNoCommit (state S.Store tx.old.conn.now) (state S.Store tx.new.conn.now) }
+    ensures survives { LeavesNothing (state S.Store tx.old.conn.now) (state S.Store tx.new.conn.now) }
 {
     tx.execute("DELETE FROM net WHERE name = ?1", &[ValueRef::Text(name)])
 }
@@ -50,11 +45,10 @@ pub fn delete_net<S: Alter>(tx: &mut Transaction<'_, S>, name: &[u8]) -> Result<
 /// The names of all networks (`name`), in their order.
 pub fn select_net_names<S: Alter>(tx: &mut Transaction<'_, S>) -> Result<Vec<Row>, Error>
     ensures same_reference { tx.new.conn.ghost_name ≡ tx.old.conn.ghost_name }
-    ensures found { HasCleanDisk (state S.Store tx.new.conn.now) → IsOffice (state S.Store tx.old.conn.now).now
-        → IfOk result (λ rows. IsSelected is_any net_names_shown net_names_order (tables_of (state S.Store tx.old.conn.now).now.trees).net rows.items) }
-    ensures same { HasCleanDisk (state S.Store tx.new.conn.now) → IsOffice (state S.Store tx.old.conn.now).now → OnOk result (IsUnchanged (state S.Store tx.old.conn.now) (state S.Store tx.new.conn.now)) }
-    ensures kept { HasCleanDisk (state S.Store tx.new.conn.now) → IsOffice (state S.Store tx.old.conn.now).now → KeepsCommit (state S.Store tx.old.conn.now) (state S.Store tx.new.conn.now) }
-    ensures survives { Survives (state S.Store tx.old.conn.now) (state S.Store tx.new.conn.now) (λ _. ⊥) }
+    ensures found { Finds result (state S.Store tx.old.conn.now) (state S.Store tx.new.conn.now) (λ rows t. IsSelected is_any net_names_shown net_names_order t.net rows.items) }
+    ensures same { ChangesNothing result (state S.Store tx.old.conn.now) (state S.Store tx.new.conn.now) }
+    ensures kept { CommitsNothing (state S.Store tx.old.conn.now) (state S.Store tx.new.conn.now) }
+    ensures survives { LeavesNothing (state S.Store tx.old.conn.now) (state S.Store tx.new.conn.now) }
 {
     tx.query_all("SELECT name FROM net ORDER BY name", &[])
 }
@@ -62,11 +56,10 @@ pub fn select_net_names<S: Alter>(tx: &mut Transaction<'_, S>) -> Result<Vec<Row
 /// The row of the network, if it is there (`kind`, `reviews`, `phase`, `submitter`, `frame`).
 pub fn select_net<S: Alter>(tx: &mut Transaction<'_, S>, name: &[u8]) -> Result<Vec<Row>, Error>
     ensures same_reference { tx.new.conn.ghost_name ≡ tx.old.conn.ghost_name }
-    ensures found { HasCleanDisk (state S.Store tx.new.conn.now) → IsOffice (state S.Store tx.old.conn.now).now
-        → IfOk result (λ rows. IsSelected (is_of_net name.now) net_shown net_order (tables_of (state S.Store tx.old.conn.now).now.trees).net rows.items) }
-    ensures same { HasCleanDisk (state S.Store tx.new.conn.now) → IsOffice (state S.Store tx.old.conn.now).now → OnOk result (IsUnchanged (state S.Store tx.old.conn.now) (state S.Store tx.new.conn.now)) }
-    ensures kept { HasCleanDisk (state S.Store tx.new.conn.now) → IsOffice (state S.Store tx.old.conn.now).now → KeepsCommit (state S.Store tx.old.conn.now) (state S.Store tx.new.conn.now) }
-    ensures survives { Survives (state S.Store tx.old.conn.now) (state S.Store tx.new.conn.now) (λ _. ⊥) }
+    ensures found { Finds result (state S.Store tx.old.conn.now) (state S.Store tx.new.conn.now) (λ rows t. IsSelected (is_of_net name.now) net_shown net_order t.net rows.items) }
+    ensures same { ChangesNothing result (state S.Store tx.old.conn.now) (state S.Store tx.new.conn.now) }
+    ensures kept { CommitsNothing (state S.Store tx.old.conn.now) (state S.Store tx.new.conn.now) }
+    ensures survives { LeavesNothing (state S.Store tx.old.conn.now) (state S.Store tx.new.conn.now) }
 {
     tx.query_all(
         "SELECT kind, reviews, phase, submitter, frame FROM net WHERE name = ?1 ORDER BY name",

@@ -3,13 +3,13 @@ ghost use Rattle.std.specs.Prelude.{IfOk, OnOk, [], false, length, ◌≡◌, �
 ghost use Rattle.sqlite_trees.specs.View.{doubt};
 ghost use Rattle.office_tables.specs.Schema.{IsOfficeSchema};
 ghost use Rattle.sqlite.specs.Tree.{put_row};
-ghost use Rattle.office_tables.specs.Tables.{tables_of, IsOffice};
-ghost use Rattle.office_tables.specs.Statements.{Makes};
+ghost use Rattle.office_tables.specs.Tables.{tables_of};
 ghost use Rattle.office_tables.specs.Selected.{IsSelected};
 ghost use Rattle.office_rows.specs.Rows.{is_any, mark_row};
 ghost use Rattle.office_rows.specs.Shown.{profile_order, profile_shown};
 ghost use Rattle.sqlite.specs.Held.{state};
 ghost use Rattle.sqlite.specs.State.{HasCleanDisk, IsUnchanged, KeepsCommit, Survives};
+ghost use Rattle.office_rows.specs.Statement.{AddsNoCommit, Finds, LeavesNothing, MakesTables};
 
 use sqlite::types::ToSql;
 use sqlite::{Alter, Connection, Error, Row, Transaction};
@@ -21,11 +21,10 @@ pub fn insert_profile<S: Alter>(
     number: u32,
 ) -> Result<usize, Error>
     ensures same_reference { tx.new.conn.ghost_name ≡ tx.old.conn.ghost_name }
-    ensures added { HasCleanDisk (state S.Store tx.new.conn.now) → IsOffice (state S.Store tx.old.conn.now).now
-        → OnOk result (Makes (λ t. record t { profile = put_row (mark_row one number) t.profile }) (state S.Store tx.old.conn.now) (state S.Store tx.new.conn.now)) }
-    ensures rows { HasCleanDisk (state S.Store tx.new.conn.now) → IsOffice (state S.Store tx.old.conn.now).now → IfOk result (λ rows. rows ≡ 1) }
-    ensures kept { HasCleanDisk (state S.Store tx.new.conn.now) → KeepsCommit (state S.Store tx.old.conn.now) (state S.Store tx.new.conn.now) }
-    ensures survives { Survives (state S.Store tx.old.conn.now) (state S.Store tx.new.conn.now) (λ _. ⊥) }
+    ensures added { MakesTables result (state S.Store tx.old.conn.now) (state S.Store tx.new.conn.now) (λ t. record t { profile = put_row (mark_row one number) t.profile }) }
+    ensures rows { Finds result (state S.Store tx.old.conn.now) (state S.Store tx.new.conn.now) (λ rows t. rows ≡ 1) }
+    ensures kept { AddsNoCommit (state S.Store tx.old.conn.now) (state S.Store tx.new.conn.now) }
+    ensures survives { LeavesNothing (state S.Store tx.old.conn.now) (state S.Store tx.new.conn.now) }
 {
     tx.execute(
         "INSERT INTO profile VALUES (?1, ?2)",
@@ -36,12 +35,10 @@ pub fn insert_profile<S: Alter>(
 /// Removes all rows of the profile. Gives how many rows it removed.
 pub fn clear_profile<S: Alter>(tx: &mut Transaction<'_, S>) -> Result<usize, Error>
     ensures same_reference { tx.new.conn.ghost_name ≡ tx.old.conn.ghost_name }
-    ensures removed { HasCleanDisk (state S.Store tx.new.conn.now) → IsOffice (state S.Store tx.old.conn.now).now
-        → OnOk result (Makes (λ t. record t { profile = [] }) (state S.Store tx.old.conn.now) (state S.Store tx.new.conn.now)) }
-    ensures rows { HasCleanDisk (state S.Store tx.new.conn.now) → IsOffice (state S.Store tx.old.conn.now).now
-        → IfOk result (λ rows. rows ≡ length (tables_of (state S.Store tx.old.conn.now).now.trees).profile) }
-    ensures kept { HasCleanDisk (state S.Store tx.new.conn.now) → KeepsCommit (state S.Store tx.old.conn.now) (state S.Store tx.new.conn.now) }
-    ensures survives { Survives (state S.Store tx.old.conn.now) (state S.Store tx.new.conn.now) (λ _. ⊥) }
+    ensures removed { MakesTables result (state S.Store tx.old.conn.now) (state S.Store tx.new.conn.now) (λ t. record t { profile = [] }) }
+    ensures rows { Finds result (state S.Store tx.old.conn.now) (state S.Store tx.new.conn.now) (λ rows t. rows ≡ length t.profile) }
+    ensures kept { AddsNoCommit (state S.Store tx.old.conn.now) (state S.Store tx.new.conn.now) }
+    ensures survives { LeavesNothing (state S.Store tx.old.conn.now) (state S.Store tx.new.conn.now) }
 {
     tx.execute("DELETE FROM profile", &[])
 }

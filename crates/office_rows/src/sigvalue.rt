@@ -1,12 +1,11 @@
 //! Rows of `sigvalue`.
-ghost use Rattle.std.specs.Prelude.{IfOk, OnOk, [], filter, length, not, ◌++◌, ◌∷◌, ◌≡◌};
-ghost use Rattle.office_tables.specs.Tables.{tables_of, IsOffice};
-ghost use Rattle.office_tables.specs.Statements.{Makes};
+ghost use Rattle.std.specs.Prelude.{[], filter, length, not, ◌++◌, ◌∷◌, ◌≡◌};
 ghost use Rattle.office_tables.specs.Selected.{IsSelected};
-ghost use Rattle.office_rows.specs.Rows.{has_net_and_number, has_place_of, sigvalue_row};
+ghost use Rattle.office_rows.specs.Rows.{has_net_and_number, has_place_of, is_of_net, sigvalue_row};
 ghost use Rattle.office_rows.specs.Shown.{sigvalues_order, sigvalues_shown};
+ghost use Rattle.sqlite_sql.specs.Aggregate.{count};
 ghost use Rattle.sqlite.specs.Held.{state};
-ghost use Rattle.sqlite.specs.State.{HasCleanDisk, IsUnchanged, KeepsCommit, Survives};
+ghost use Rattle.office_rows.specs.Statement.{AddsNoCommit, ChangesNothing, CommitsNothing, Finds, LeavesNothing, MakesTables};
 
 use crate::row::SigValueRow;
 use sqlite::types::{ToSql, ValueRef};
@@ -18,11 +17,10 @@ pub fn insert_sigvalue<S: Alter>(
     row: &SigValueRow<'_>,
 ) -> Result<usize, Error>
     ensures same_reference { tx.new.conn.ghost_name ≡ tx.old.conn.ghost_name }
-    ensures added { HasCleanDisk (state S.Store tx.new.conn.now) → IsOffice (state S.Store tx.old.conn.now).now
-        → OnOk result (Makes (λ t. record t { sigvalue = t.sigvalue ++ sigvalue_row row.now ∷ [] }) (state S.Store tx.old.conn.now) (state S.Store tx.new.conn.now)) }
-    ensures rows { HasCleanDisk (state S.Store tx.new.conn.now) → IsOffice (state S.Store tx.old.conn.now).now → IfOk result (λ rows. rows ≡ 1) }
-    ensures kept { HasCleanDisk (state S.Store tx.new.conn.now) → KeepsCommit (state S.Store tx.old.conn.now) (state S.Store tx.new.conn.now) }
-    ensures survives { Survives (state S.Store tx.old.conn.now) (state S.Store tx.new.conn.now) (λ _. ⊥) }
+    ensures added { MakesTables result (state S.Store tx.old.conn.now) (state S.Store tx.new.conn.now) (λ t. record t { sigvalue = t.sigvalue ++ sigvalue_row row.now ∷ [] }) }
+    ensures rows { Finds result (state S.Store tx.old.conn.now) (state S.Store tx.new.conn.now) (λ rows t. rows ≡ 1) }
+    ensures kept { AddsNoCommit (state S.Store tx.old.conn.now) (state S.Store tx.new.conn.now) }
+    ensures survives { LeavesNothing (state S.Store tx.old.conn.now) (state S.Store tx.new.conn.now) }
 {
     tx.execute(
         "INSERT INTO sigvalue VALUES (?1, ?2, ?3, ?4, ?5, ?6)",
@@ -44,12 +42,10 @@ pub fn delete_sigvalues<S: Alter>(
     number: u32,
 ) -> Result<usize, Error>
     ensures same_reference { tx.new.conn.ghost_name ≡ tx.old.conn.ghost_name }
-    ensures removed { HasCleanDisk (state S.Store tx.new.conn.now) → IsOffice (state S.Store tx.old.conn.now).now
-        → OnOk result (Makes (λ t. record t { sigvalue = filter (λ row. not (has_net_and_number net.now number row)) t.sigvalue }) (state S.Store tx.old.conn.now) (state S.Store tx.new.conn.now)) }
-    ensures rows { HasCleanDisk (state S.Store tx.new.conn.now) → IsOffice (state S.Store tx.old.conn.now).now
-        → IfOk result (λ rows. rows ≡ length (filter (has_net_and_number net.now number) (tables_of (state S.Store tx.old.conn.now).now.trees).sigvalue)) }
-    ensures kept { HasCleanDisk (state S.Store tx.new.conn.now) → KeepsCommit (state S.Store tx.old.conn.now) (state S.Store tx.new.conn.now) }
-    ensures survives { Survives (state S.Store tx.old.conn.now) (state S.Store tx.new.conn.now) (λ _. ⊥) }
+    ensures removed { MakesTables result (state S.Store tx.old.conn.now) (state S.Store tx.new.conn.now) (λ t. record t { sigvalue = filter (λ row. not (has_net_and_number net.now number row)) t.sigvalue }) }
+    ensures rows { Finds result (state S.Store tx.old.conn.now) (state S.Store tx.new.conn.now) (λ rows t. rows ≡ length (filter (has_net_and_number net.now number) t.sigvalue)) }
+    ensures kept { AddsNoCommit (state S.Store tx.old.conn.now) (state S.Store tx.new.conn.now) }
+    ensures survives { LeavesNothing (state S.Store tx.old.conn.now) (state S.Store tx.new.conn.now) }
 {
     tx.execute(
         "DELETE FROM sigvalue WHERE net = ?1 AND number = ?2",
@@ -65,12 +61,10 @@ pub fn delete_sigvalues_at<S: Alter>(
     place: u32,
 ) -> Result<usize, Error>
     ensures same_reference { tx.new.conn.ghost_name ≡ tx.old.conn.ghost_name }
-    ensures removed { HasCleanDisk (state S.Store tx.new.conn.now) → IsOffice (state S.Store tx.old.conn.now).now
-        → OnOk result (Makes (λ t. record t { sigvalue = filter (λ row. not (has_place_of net.now number place row)) t.sigvalue }) (state S.Store tx.old.conn.now) (state S.Store tx.new.conn.now)) }
-    ensures rows { HasCleanDisk (state S.Store tx.new.conn.now) → IsOffice (state S.Store tx.old.conn.now).now
-        → IfOk result (λ rows. rows ≡ length (filter (has_place_of net.now number place) (tables_of (state S.Store tx.old.conn.now).now.trees).sigvalue)) }
-    ensures kept { HasCleanDisk (state S.Store tx.new.conn.now) → KeepsCommit (state S.Store tx.old.conn.now) (state S.Store tx.new.conn.now) }
-    ensures survives { Survives (state S.Store tx.old.conn.now) (state S.Store tx.new.conn.now) (λ _. ⊥) }
+    ensures removed { MakesTables result (state S.Store tx.old.conn.now) (state S.Store tx.new.conn.now) (λ t. record t { sigvalue = filter (λ row. not (has_place_of net.now number place row)) t.sigvalue }) }
+    ensures rows { Finds result (state S.Store tx.old.conn.now) (state S.Store tx.new.conn.now) (λ rows t. rows ≡ length (filter (has_place_of net.now number place) t.sigvalue)) }
+    ensures kept { AddsNoCommit (state S.Store tx.old.conn.now) (state S.Store tx.new.conn.now) }
+    ensures survives { LeavesNothing (state S.Store tx.old.conn.now) (state S.Store tx.new.conn.now) }
 {
     tx.execute(
         "DELETE FROM sigvalue WHERE net = ?1 AND number = ?2 AND place = ?3",
@@ -85,14 +79,27 @@ pub fn select_sigvalues<S: Alter>(
     number: u32,
 ) -> Result<Vec<Row>, Error>
     ensures same_reference { tx.new.conn.ghost_name ≡ tx.old.conn.ghost_name }
-    ensures found { HasCleanDisk (state S.Store tx.new.conn.now) → IsOffice (state S.Store tx.old.conn.now).now
-        → IfOk result (λ rows. IsSelected (has_net_and_number net.now number) sigvalues_shown sigvalues_order (tables_of (state S.Store tx.old.conn.now).now.trees).sigvalue rows.items) }
-    ensures same { HasCleanDisk (state S.Store tx.new.conn.now) → IsOffice (state S.Store tx.old.conn.now).now → OnOk result (IsUnchanged (state S.Store tx.old.conn.now) (state S.Store tx.new.conn.now)) }
-    ensures kept { HasCleanDisk (state S.Store tx.new.conn.now) → IsOffice (state S.Store tx.old.conn.now).now → KeepsCommit (state S.Store tx.old.conn.now) (state S.Store tx.new.conn.now) }
-    ensures survives { Survives (state S.Store tx.old.conn.now) (state S.Store tx.new.conn.now) (λ _. ⊥) }
+    ensures found { Finds result (state S.Store tx.old.conn.now) (state S.Store tx.new.conn.now) (λ rows t. IsSelected (has_net_and_number net.now number) sigvalues_shown sigvalues_order t.sigvalue rows.items) }
+    ensures same { ChangesNothing result (state S.Store tx.old.conn.now) (state S.Store tx.new.conn.now) }
+    ensures kept { CommitsNothing (state S.Store tx.old.conn.now) (state S.Store tx.new.conn.now) }
+    ensures survives { LeavesNothing (state S.Store tx.old.conn.now) (state S.Store tx.new.conn.now) }
 {
     tx.query_all(
         "SELECT place, value, words FROM sigvalue WHERE net = ?1 AND number = ?2 ORDER BY place, seat",
         &[ValueRef::Text(net), number.to_sql()],
+    )
+}
+
+/// How many value texts the signals of the network's live messages have, as one row of one number.
+pub fn count_sigvalues<S: Alter>(tx: &mut Transaction<'_, S>, net: &[u8]) -> Result<Vec<Row>, Error>
+    ensures same_reference { tx.new.conn.ghost_name ≡ tx.old.conn.ghost_name }
+    ensures found { Finds result (state S.Store tx.old.conn.now) (state S.Store tx.new.conn.now) (λ rows t. rows.items ≡ (count (length (filter (is_of_net net.now) t.sigvalue)) ∷ []) ∷ []) }
+    ensures same { ChangesNothing result (state S.Store tx.old.conn.now) (state S.Store tx.new.conn.now) }
+    ensures kept { CommitsNothing (state S.Store tx.old.conn.now) (state S.Store tx.new.conn.now) }
+    ensures survives { LeavesNothing (state S.Store tx.old.conn.now) (state S.Store tx.new.conn.now) }
+{
+    tx.query_all(
+        "SELECT count(*) FROM sigvalue WHERE net = ?1",
+        &[ValueRef::Text(net)],
     )
 }

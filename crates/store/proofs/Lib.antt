@@ -6,3 +6,4 @@ pub mod Ran
 pub mod Clear
 mod Examples
 pub mod Decided
+pub mod Counted

@@ -2,6 +2,7 @@ pub mod Office
 pub mod Lost
 pub mod Holds
 pub mod Holding
+pub mod Counting
 pub mod Opening
 pub mod Running
 pub mod Headline

@@ -1,9 +1,9 @@
 //! Arrivals.
-ghost use Rattle.std.specs.Prelude.{◌≡◌, ◌≤◌, ◌⊎◌, ◌↔◌, ◌++◌, ◌∷◌, [], List, None, Err, false, IsTrue, IfOk, IfErr, IsSome, OnOk, OnErr};
+ghost use Rattle.std.specs.Prelude.{◌≡◌, ◌≤◌, ◌⊎◌, ◌↔◌, ◌++◌, ◌∷◌, [], List, None, Err, false, IsTrue, IfOk, IfErr, IsSome, OnErr};
 ghost use Rattle.sqlite.specs.Held.{state};
-ghost use Rattle.sqlite.specs.State.{HasCleanDisk, KeepsCommit, Survives};
+ghost use Rattle.sqlite.specs.State.{HasCleanDisk};
 ghost use Rattle.sqlite_trees.specs.View.{doubt};
-ghost use Rattle.office_tables.specs.Tables.{IsOffice, tables_of};
+ghost use Rattle.office_tables.specs.Tables.{tables_of};
 ghost use Rattle.office_history.specs.declared.arrival.Answer.{Answer as Told};
 ghost use Rattle.office_history.specs.History.{Answered, first_of};
 ghost use Rattle.office_history.specs.Answering.{answered};
@@ -11,6 +11,7 @@ ghost use Rattle.store.specs.Holding.{Holding, Keeps, Leaves};
 ghost use Rattle.store.specs.Holds.{Holds};
 ghost use Rattle.store.specs.Opening.{HasTables};
 ghost use Rattle.store.specs.Lost.{IsOfCall};
+ghost use Rattle.office_rows.specs.Statement.{CommitsNothing, Finds, LeavesNothing, StaysInside, StaysOffice};
 
 use crate::deciding::decide_on_tables;
 use crate::losing::loss_by;
@@ -33,11 +34,11 @@ fn first_arrival<S: Alter>(
     request: &Request,
 ) -> Result<Answer, Error>
     ensures same_reference { tx.new.conn.ghost_name ≡ tx.old.conn.ghost_name }
-    ensures kept { HasCleanDisk (state S.Store tx.new.conn.now) → IsOffice (state S.Store tx.old.conn.now).now → KeepsCommit (state S.Store tx.old.conn.now) (state S.Store tx.new.conn.now) }
-    ensures survives { Survives (state S.Store tx.old.conn.now) (state S.Store tx.new.conn.now) (λ _. ⊥) }
-    ensures inside { HasCleanDisk (state S.Store tx.new.conn.now) → IsOffice (state S.Store tx.old.conn.now).now → IsTrue (state S.Store tx.old.conn.now).in_transaction → OnOk result (IsTrue (state S.Store tx.new.conn.now).in_transaction) }
-    ensures office { HasCleanDisk (state S.Store tx.new.conn.now) → IsOffice (state S.Store tx.old.conn.now).now → OnOk result (IsOffice (state S.Store tx.new.conn.now).now) }
-    ensures held { HasCleanDisk (state S.Store tx.new.conn.now) → IsOffice (state S.Store tx.old.conn.now).now → IfOk result (λ answer. (h : List Answered) → Holds h (tables_of (state S.Store tx.old.conn.now).now.trees)
+    ensures kept { CommitsNothing (state S.Store tx.old.conn.now) (state S.Store tx.new.conn.now) }
+    ensures survives { LeavesNothing (state S.Store tx.old.conn.now) (state S.Store tx.new.conn.now) }
+    ensures inside { StaysInside result (state S.Store tx.old.conn.now) (state S.Store tx.new.conn.now) }
+    ensures office { StaysOffice result (state S.Store tx.old.conn.now) (state S.Store tx.new.conn.now) }
+    ensures held { Finds result (state S.Store tx.old.conn.now) (state S.Store tx.new.conn.now) (λ answer t. (h : List Answered) → Holds h t
         → first_of h (answered team.now key.now request.now answer) ≡ None → Holds (h ++ answered team.now key.now request.now answer ∷ []) (tables_of (state S.Store tx.new.conn.now).now.trees)) }
 {
     histories_leave_offices();
@@ -60,13 +61,13 @@ fn arrive_inside<S: Alter>(
     request: &Request,
 ) -> Result<Answer, Error>
     ensures same_reference { tx.new.conn.ghost_name ≡ tx.old.conn.ghost_name }
-    ensures kept { HasCleanDisk (state S.Store tx.new.conn.now) → IsOffice (state S.Store tx.old.conn.now).now → KeepsCommit (state S.Store tx.old.conn.now) (state S.Store tx.new.conn.now) }
-    ensures survives { Survives (state S.Store tx.old.conn.now) (state S.Store tx.new.conn.now) (λ _. ⊥) }
-    ensures inside { HasCleanDisk (state S.Store tx.new.conn.now) → IsOffice (state S.Store tx.old.conn.now).now → IsTrue (state S.Store tx.old.conn.now).in_transaction → OnOk result (IsTrue (state S.Store tx.new.conn.now).in_transaction) }
-    ensures office { HasCleanDisk (state S.Store tx.new.conn.now) → IsOffice (state S.Store tx.old.conn.now).now → OnOk result (IsOffice (state S.Store tx.new.conn.now).now) }
-    ensures held { HasCleanDisk (state S.Store tx.new.conn.now) → IsOffice (state S.Store tx.old.conn.now).now → IfOk result (λ answer. (h : List Answered) → Holds h (tables_of (state S.Store tx.old.conn.now).now.trees)
+    ensures kept { CommitsNothing (state S.Store tx.old.conn.now) (state S.Store tx.new.conn.now) }
+    ensures survives { LeavesNothing (state S.Store tx.old.conn.now) (state S.Store tx.new.conn.now) }
+    ensures inside { StaysInside result (state S.Store tx.old.conn.now) (state S.Store tx.new.conn.now) }
+    ensures office { StaysOffice result (state S.Store tx.old.conn.now) (state S.Store tx.new.conn.now) }
+    ensures held { Finds result (state S.Store tx.old.conn.now) (state S.Store tx.new.conn.now) (λ answer t. (h : List Answered) → Holds h t
         → Holds (h ++ answered team.now key.now request.now answer ∷ []) (tables_of (state S.Store tx.new.conn.now).now.trees)) }
-    ensures repeated { HasCleanDisk (state S.Store tx.new.conn.now) → IsOffice (state S.Store tx.old.conn.now).now → IfOk result (λ answer. (h : List Answered) → Holds h (tables_of (state S.Store tx.old.conn.now).now.trees)
+    ensures repeated { Finds result (state S.Store tx.old.conn.now) (state S.Store tx.new.conn.now) (λ answer t. (h : List Answered) → Holds h t
         → IsSome (first_of h (answered team.now key.now request.now answer)) → (state S.Store tx.new.conn.now).now ≡ (state S.Store tx.old.conn.now).now) }
 {
     team.as_bytes();

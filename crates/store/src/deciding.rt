@@ -1,24 +1,26 @@
 //! What is decided on a request that comes for the first time, on what its command reads of the tables.
 //!
 //! Six commands read an excerpt of their network: those on a signal their message alone, those that give out a number the
-//! numbers that could be given out. Of the others `retire`, `release` and bundles with one of them read their network
-//! whole, and the rest all of it but its releases. The book is read where the command depends on it, and for a bundle.
-ghost use Rattle.std.specs.Prelude.{◌≡◌, true, false, Option, Some, IfOk, OnOk};
+//! numbers that could be given out. The others read all of their network but its releases; of these `release` reads how
+//! many there are, and `retire` alone what is in them, and so do bundles with one of them. The book is read where the
+//! command depends on it, and for a bundle.
+ghost use Rattle.std.specs.Prelude.{◌≡◌, true, false, Option, Some};
 ghost use Rattle.std.specs.List.{list_any};
 ghost use Rattle.sqlite.specs.Held.{state};
-ghost use Rattle.sqlite.specs.State.{HasCleanDisk, IsUnchanged, KeepsCommit, Survives};
 ghost use Rattle.office_law.specs.Apart.{asks_book};
-ghost use Rattle.office_law.specs.Released.{action_reads_releases, reads_releases};
+ghost use Rattle.office_law.specs.Released.{reads_releases};
 ghost use Rattle.office_net.specs.Excerpt.{IsExcerptOf, goes_by_excerpt};
 ghost use Rattle.office_rules.specs.Change.{IsDecision, is_release};
-ghost use Rattle.office_tables.specs.Tables.{IsOffice, tables_of};
 ghost use Rattle.office_types.specs.declared.book.SpnBook.{SpnBook as Book};
 ghost use Rattle.office_types.specs.declared.state.Net.{Net as Network};
 ghost use Rattle.store_rows.specs.NetIn.{IsNetAt};
 ghost use Rattle.store_rows.specs.Rows.{IsBookIn};
 ghost use Rattle.store_net.specs.Excerpts.{MatchBoth};
 ghost use Rattle.store_net.specs.Writing.{IsNext};
+ghost use Rattle.store.specs.Counting.{reads_bodies};
+ghost use Rattle.office_rows.specs.Statement.{ChangesNothing, CommitsNothing, Finds, LeavesNothing};
 
+use crate::counting::{reads_bodies, reads_releases};
 use catalogue::Items;
 use office::{Excerpt, decide, decide_excerpt, goes_by_excerpt};
 use office_law::releases_dont_count;
@@ -26,8 +28,8 @@ use office_types::{Action, Command, Decision, SpnBook, Task, Team, UsedSpns};
 use sqlite::{Alter, Error, Transaction};
 use std::alloc::Global;
 use store_net::{
-    book_of, group_excerpt_at, ident_excerpt_at, message_excerpt_at, net_at, next_release,
-    unreleased_net_at,
+    book_of, counted_net_at, group_excerpt_at, ident_excerpt_at, message_excerpt_at, net_at,
+    next_release, unreleased_net_at,
 };
 
 /// The part of the network that the team's command reads, `None` where the network isn't there.
@@ -39,12 +41,11 @@ fn excerpt_at<S: Alter>(
 ) -> Result<Option<Excerpt>, Error>
     requires { goes_by_excerpt command.now.task ≡ true }
     ensures same_reference { tx.new.conn.ghost_name ≡ tx.old.conn.ghost_name }
-    ensures found { HasCleanDisk (state S.Store tx.new.conn.now) → IsOffice (state S.Store tx.old.conn.now).now
-        → IfOk result (λ found. (net : Option Network) → IsNetAt command.now.net (tables_of (state S.Store tx.old.conn.now).now.trees) net
+    ensures found { Finds result (state S.Store tx.old.conn.now) (state S.Store tx.new.conn.now) (λ found t. (net : Option Network) → IsNetAt command.now.net t net
         → MatchBoth (λ net e. IsExcerptOf team.now net command.now.task e) net found) }
-    ensures same { HasCleanDisk (state S.Store tx.new.conn.now) → IsOffice (state S.Store tx.old.conn.now).now → OnOk result (IsUnchanged (state S.Store tx.old.conn.now) (state S.Store tx.new.conn.now)) }
-    ensures kept { HasCleanDisk (state S.Store tx.new.conn.now) → IsOffice (state S.Store tx.old.conn.now).now → KeepsCommit (state S.Store tx.old.conn.now) (state S.Store tx.new.conn.now) }
-    ensures survives { Survives (state S.Store tx.old.conn.now) (state S.Store tx.new.conn.now) (λ _. ⊥) }
+    ensures same { ChangesNothing result (state S.Store tx.old.conn.now) (state S.Store tx.new.conn.now) }
+    ensures kept { CommitsNothing (state S.Store tx.old.conn.now) (state S.Store tx.new.conn.now) }
+    ensures survives { LeavesNothing (state S.Store tx.old.conn.now) (state S.Store tx.new.conn.now) }
 {
     let name = &command.net;
     match &command.task {
@@ -88,12 +89,11 @@ fn decide_by_excerpt<S: Alter>(
 ) -> Result<Decision, Error>
     requires { goes_by_excerpt command.now.task ≡ true }
     ensures same_reference { tx.new.conn.ghost_name ≡ tx.old.conn.ghost_name }
-    ensures decided { HasCleanDisk (state S.Store tx.new.conn.now) → IsOffice (state S.Store tx.old.conn.now).now
-        → IfOk result (λ d. (net : Option Network) (book : Book) → IsNetAt command.now.net (tables_of (state S.Store tx.old.conn.now).now.trees) net → IsBookIn (tables_of (state S.Store tx.old.conn.now).now.trees) book
+    ensures decided { Finds result (state S.Store tx.old.conn.now) (state S.Store tx.new.conn.now) (λ d t. (net : Option Network) (book : Book) → IsNetAt command.now.net t net → IsBookIn t book
         → IsDecision team.now (record { net = net; book = book }) command.now d × (list_any is_release d.changes ≡ false)) }
-    ensures same { HasCleanDisk (state S.Store tx.new.conn.now) → IsOffice (state S.Store tx.old.conn.now).now → OnOk result (IsUnchanged (state S.Store tx.old.conn.now) (state S.Store tx.new.conn.now)) }
-    ensures kept { HasCleanDisk (state S.Store tx.new.conn.now) → IsOffice (state S.Store tx.old.conn.now).now → KeepsCommit (state S.Store tx.old.conn.now) (state S.Store tx.new.conn.now) }
-    ensures survives { Survives (state S.Store tx.old.conn.now) (state S.Store tx.new.conn.now) (λ _. ⊥) }
+    ensures same { ChangesNothing result (state S.Store tx.old.conn.now) (state S.Store tx.new.conn.now) }
+    ensures kept { CommitsNothing (state S.Store tx.old.conn.now) (state S.Store tx.new.conn.now) }
+    ensures survives { LeavesNothing (state S.Store tx.old.conn.now) (state S.Store tx.new.conn.now) }
 {
     releases_dont_count();
     let Some(excerpt) = excerpt_at(alloc, tx, team, command)? else {
@@ -122,12 +122,11 @@ fn decide_without_releases<S: Alter>(
 ) -> Result<(Decision, Option<u32>), Error>
     requires { reads_releases command.now.task ≡ false }
     ensures same_reference { tx.new.conn.ghost_name ≡ tx.old.conn.ghost_name }
-    ensures decided { HasCleanDisk (state S.Store tx.new.conn.now) → IsOffice (state S.Store tx.old.conn.now).now
-        → IfOk result (λ it. (net : Option Network) (book : Book) → IsNetAt command.now.net (tables_of (state S.Store tx.old.conn.now).now.trees) net → IsBookIn (tables_of (state S.Store tx.old.conn.now).now.trees) book
+    ensures decided { Finds result (state S.Store tx.old.conn.now) (state S.Store tx.new.conn.now) (λ it t. (net : Option Network) (book : Book) → IsNetAt command.now.net t net → IsBookIn t book
         → IsDecision team.now (record { net = net; book = book }) command.now it.0 × IsNext it.1 net it.0.changes) }
-    ensures same { HasCleanDisk (state S.Store tx.new.conn.now) → IsOffice (state S.Store tx.old.conn.now).now → OnOk result (IsUnchanged (state S.Store tx.old.conn.now) (state S.Store tx.new.conn.now)) }
-    ensures kept { HasCleanDisk (state S.Store tx.new.conn.now) → IsOffice (state S.Store tx.old.conn.now).now → KeepsCommit (state S.Store tx.old.conn.now) (state S.Store tx.new.conn.now) }
-    ensures survives { Survives (state S.Store tx.old.conn.now) (state S.Store tx.new.conn.now) (λ _. ⊥) }
+    ensures same { ChangesNothing result (state S.Store tx.old.conn.now) (state S.Store tx.new.conn.now) }
+    ensures kept { CommitsNothing (state S.Store tx.old.conn.now) (state S.Store tx.new.conn.now) }
+    ensures survives { LeavesNothing (state S.Store tx.old.conn.now) (state S.Store tx.new.conn.now) }
 {
     releases_dont_count();
     let net = unreleased_net_at(alloc, tx, &command.net)?;
@@ -135,6 +134,29 @@ fn decide_without_releases<S: Alter>(
     let decision = decide(alloc, team, net.as_ref(), &book, command)?;
     let next = first_number(net.is_some());
     Ok((decision, next))
+}
+
+/// Decides the team's command, which retires nothing, by its network and how many releases it has.
+fn decide_by_count<S: Alter>(
+    alloc: Global,
+    tx: &mut Transaction<'_, S>,
+    team: &Team,
+    command: &Command,
+) -> Result<(Decision, Option<u32>), Error>
+    requires { reads_bodies command.now.task ≡ false }
+    ensures same_reference { tx.new.conn.ghost_name ≡ tx.old.conn.ghost_name }
+    ensures decided { Finds result (state S.Store tx.old.conn.now) (state S.Store tx.new.conn.now) (λ it t. (net : Option Network) (book : Book) → IsNetAt command.now.net t net → IsBookIn t book
+        → IsDecision team.now (record { net = net; book = book }) command.now it.0 × IsNext it.1 net it.0.changes) }
+    ensures same { ChangesNothing result (state S.Store tx.old.conn.now) (state S.Store tx.new.conn.now) }
+    ensures kept { CommitsNothing (state S.Store tx.old.conn.now) (state S.Store tx.new.conn.now) }
+    ensures survives { LeavesNothing (state S.Store tx.old.conn.now) (state S.Store tx.new.conn.now) }
+{
+    releases_dont_count();
+    let net = counted_net_at(alloc, tx, &command.net)?;
+    let book = book_of(alloc, tx)?;
+    let decision = decide(alloc, team, net.as_ref(), &book, command)?;
+    let next = next_release(net.as_ref())?;
+    Ok((decision, Some(next)))
 }
 
 /// Decides the team's command by its whole network.
@@ -145,47 +167,17 @@ fn decide_by_net<S: Alter>(
     command: &Command,
 ) -> Result<(Decision, Option<u32>), Error>
     ensures same_reference { tx.new.conn.ghost_name ≡ tx.old.conn.ghost_name }
-    ensures decided { HasCleanDisk (state S.Store tx.new.conn.now) → IsOffice (state S.Store tx.old.conn.now).now
-        → IfOk result (λ it. (net : Option Network) (book : Book) → IsNetAt command.now.net (tables_of (state S.Store tx.old.conn.now).now.trees) net → IsBookIn (tables_of (state S.Store tx.old.conn.now).now.trees) book
+    ensures decided { Finds result (state S.Store tx.old.conn.now) (state S.Store tx.new.conn.now) (λ it t. (net : Option Network) (book : Book) → IsNetAt command.now.net t net → IsBookIn t book
         → IsDecision team.now (record { net = net; book = book }) command.now it.0 × IsNext it.1 net it.0.changes) }
-    ensures same { HasCleanDisk (state S.Store tx.new.conn.now) → IsOffice (state S.Store tx.old.conn.now).now → OnOk result (IsUnchanged (state S.Store tx.old.conn.now) (state S.Store tx.new.conn.now)) }
-    ensures kept { HasCleanDisk (state S.Store tx.new.conn.now) → IsOffice (state S.Store tx.old.conn.now).now → KeepsCommit (state S.Store tx.old.conn.now) (state S.Store tx.new.conn.now) }
-    ensures survives { Survives (state S.Store tx.old.conn.now) (state S.Store tx.new.conn.now) (λ _. ⊥) }
+    ensures same { ChangesNothing result (state S.Store tx.old.conn.now) (state S.Store tx.new.conn.now) }
+    ensures kept { CommitsNothing (state S.Store tx.old.conn.now) (state S.Store tx.new.conn.now) }
+    ensures survives { LeavesNothing (state S.Store tx.old.conn.now) (state S.Store tx.new.conn.now) }
 {
     let net = net_at(alloc, tx, &command.net)?;
     let book = book_of(alloc, tx)?;
     let decision = decide(alloc, team, net.as_ref(), &book, command)?;
     let next = next_release(net.as_ref())?;
     Ok((decision, Some(next)))
-}
-
-fn action_reads_releases(action: &Action) -> bool
-    ensures { result ≡ action_reads_releases action.now }
-{
-    matches!(action, Action::Retire(_) | Action::Release)
-}
-
-/// Whether one of the commands depends on what its network released.
-fn one_reads_releases(parts: &[Action]) -> bool
-    ensures { result ≡ list_any action_reads_releases parts.now }
-{
-    for part in parts {
-        if action_reads_releases(part) {
-            return true;
-        }
-    }
-    false
-}
-
-/// Whether the task depends on what its network released.
-fn reads_releases(task: &Task) -> bool
-    ensures { result ≡ reads_releases task.now }
-{
-    match task {
-        Task::Act(action) => action_reads_releases(action),
-        Task::Import(_) => false,
-        Task::Bundle(parts) => one_reads_releases(parts.as_slice()),
-    }
 }
 
 /// Decides the team's command on what the tables have, and gives the number of the network's next release if the changes
@@ -197,19 +189,20 @@ pub(crate) fn decide_on_tables<S: Alter>(
     command: &Command,
 ) -> Result<(Decision, Option<u32>), Error>
     ensures same_reference { tx.new.conn.ghost_name ≡ tx.old.conn.ghost_name }
-    ensures decided { HasCleanDisk (state S.Store tx.new.conn.now) → IsOffice (state S.Store tx.old.conn.now).now
-        → IfOk result (λ it. (net : Option Network) (book : Book) → IsNetAt command.now.net (tables_of (state S.Store tx.old.conn.now).now.trees) net → IsBookIn (tables_of (state S.Store tx.old.conn.now).now.trees) book
+    ensures decided { Finds result (state S.Store tx.old.conn.now) (state S.Store tx.new.conn.now) (λ it t. (net : Option Network) (book : Book) → IsNetAt command.now.net t net → IsBookIn t book
         → IsDecision team.now (record { net = net; book = book }) command.now it.0 × IsNext it.1 net it.0.changes) }
-    ensures same { HasCleanDisk (state S.Store tx.new.conn.now) → IsOffice (state S.Store tx.old.conn.now).now → OnOk result (IsUnchanged (state S.Store tx.old.conn.now) (state S.Store tx.new.conn.now)) }
-    ensures kept { HasCleanDisk (state S.Store tx.new.conn.now) → IsOffice (state S.Store tx.old.conn.now).now → KeepsCommit (state S.Store tx.old.conn.now) (state S.Store tx.new.conn.now) }
-    ensures survives { Survives (state S.Store tx.old.conn.now) (state S.Store tx.new.conn.now) (λ _. ⊥) }
+    ensures same { ChangesNothing result (state S.Store tx.old.conn.now) (state S.Store tx.new.conn.now) }
+    ensures kept { CommitsNothing (state S.Store tx.old.conn.now) (state S.Store tx.new.conn.now) }
+    ensures survives { LeavesNothing (state S.Store tx.old.conn.now) (state S.Store tx.new.conn.now) }
 {
     if goes_by_excerpt(&command.task) {
         let decision = decide_by_excerpt(alloc, tx, team, command)?;
         Ok((decision, None))
-    } else if reads_releases(&command.task) {
-        decide_by_net(alloc, tx, team, command)
-    } else {
+    } else if !reads_releases(&command.task) {
         decide_without_releases(alloc, tx, team, command)
+    } else if !reads_bodies(&command.task) {
+        decide_by_count(alloc, tx, team, command)
+    } else {
+        decide_by_net(alloc, tx, team, command)
     }
 }

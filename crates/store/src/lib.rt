@@ -17,6 +17,7 @@
 #![tactic(auto)]
 
 mod arriving;
+mod counting;
 mod deciding;
 mod laws;
 mod looking;

@@ -1,10 +1,9 @@
 //! Looking things up.
-ghost use Rattle.std.specs.Prelude.{◌≡◌, ◌≤◌, ◌↔◌, List, Err, ℕ, false, IsTrue, IfOk, IfErr, OnOk, OnErr};
+ghost use Rattle.std.specs.Prelude.{◌≡◌, ◌≤◌, ◌↔◌, List, Err, false, IsTrue, IfOk, IfErr, OnOk, OnErr};
 ghost use Rattle.std.specs.Option.{option_map};
 ghost use Rattle.sqlite.specs.Held.{state};
-ghost use Rattle.sqlite.specs.State.{HasCleanDisk, IsUnchanged, KeepsCommit, Survives};
+ghost use Rattle.sqlite.specs.State.{HasCleanDisk};
 ghost use Rattle.sqlite_trees.specs.View.{doubt};
-ghost use Rattle.office_tables.specs.Tables.{IsOffice, tables_of};
 ghost use Rattle.office_types.specs.declared.state.Office.{Office as Whole};
 ghost use Rattle.office_history.specs.History.{Answered, IsLegal};
 ghost use Rattle.store.specs.Holding.{Holding, Keeps, Leaves};
@@ -12,6 +11,7 @@ ghost use Rattle.store.specs.Holds.{Holds};
 ghost use Rattle.store.specs.Looking.{IsShown};
 ghost use Rattle.store.specs.Opening.{HasTables};
 ghost use Rattle.store.specs.Lost.{IsOfCall};
+ghost use Rattle.office_rows.specs.Statement.{ChangesNothing, CommitsNothing, Finds, LeavesNothing};
 
 use crate::losing::loss_by;
 use crate::lost::Lost;
@@ -31,11 +31,10 @@ fn look_inside<S: Alter>(
     question: &Question,
 ) -> Result<Option<Vec<u8>>, Error>
     ensures same_reference { tx.new.conn.ghost_name ≡ tx.old.conn.ghost_name }
-    ensures found { HasCleanDisk (state S.Store tx.new.conn.now) → IsOffice (state S.Store tx.old.conn.now).now
-        → IfOk result (λ text. (h : List Answered) → (holds : Holds h (tables_of (state S.Store tx.old.conn.now).now.trees)) → IsShown holds.holds.office question.now (option_map (λ bytes. bytes.items) text)) }
-    ensures same { HasCleanDisk (state S.Store tx.new.conn.now) → IsOffice (state S.Store tx.old.conn.now).now → OnOk result (IsUnchanged (state S.Store tx.old.conn.now) (state S.Store tx.new.conn.now)) }
-    ensures kept { HasCleanDisk (state S.Store tx.new.conn.now) → IsOffice (state S.Store tx.old.conn.now).now → KeepsCommit (state S.Store tx.old.conn.now) (state S.Store tx.new.conn.now) }
-    ensures survives { Survives (state S.Store tx.old.conn.now) (state S.Store tx.new.conn.now) (λ _. ⊥) }
+    ensures found { Finds result (state S.Store tx.old.conn.now) (state S.Store tx.new.conn.now) (λ text t. (h : List Answered) → (holds : Holds h t) → IsShown holds.holds.office question.now (option_map (λ bytes. bytes.items) text)) }
+    ensures same { ChangesNothing result (state S.Store tx.old.conn.now) (state S.Store tx.new.conn.now) }
+    ensures kept { CommitsNothing (state S.Store tx.old.conn.now) (state S.Store tx.new.conn.now) }
+    ensures survives { LeavesNothing (state S.Store tx.old.conn.now) (state S.Store tx.new.conn.now) }
 {
     histories_leave_offices();
     match question {

@@ -13,7 +13,7 @@ ghost use Rattle.store_carry.specs.Marks.{HasMarks};
 ghost use Rattle.store_carry.specs.declared.forms.Form.{Form as FormOf};
 ghost use Rattle.store.specs.Holding.{Holding, Keeps, Leaves};
 ghost use Rattle.store.specs.Lost.{IsOfCall};
-ghost use Rattle.store.specs.Opening.{HasNone, HasOffice, HasTables, HoldingInSomeForm, IsCarried, IsGrown, IsNew, KeepsInSomeForm, MayCarry, MayGrow, MayMigrate};
+ghost use Rattle.store.specs.Opening.{HasNone, HasOffice, HasTables, HoldingInSomeForm, IsCarried, IsGrown, IsNew, KeepsInSomeForm, MayCarry, MayMigrate};
 
 use crate::lost::Lost;
 use crate::opening::{complete, leaves_committed, start};

@@ -3,7 +3,7 @@ ghost use Rattle.std.specs.Prelude.{◌≡◌, ◌≤◌, ◌⊎◌, [], List, f
 ghost use Rattle.sqlite.specs.Tree.{Trees};
 ghost use Rattle.sqlite.specs.Effect.{Database};
 ghost use Rattle.sqlite.specs.Held.{state};
-ghost use Rattle.sqlite.specs.State.{HasCleanDisk, IsUnchanged, KeepsCommit, Survives};
+ghost use Rattle.sqlite.specs.State.{HasCleanDisk, IsUnchanged, Survives};
 ghost use Rattle.sqlite_trees.specs.View.{doubt};
 ghost use Rattle.office_tables.specs.Schema.{IsOfficeSchema, no_schema, office_schema, schema_9, schema_13};
 ghost use Rattle.office_tables.specs.Statements.{IsOfficeWith};
@@ -13,6 +13,7 @@ ghost use Rattle.store_carry.specs.Marks.{HasMarks};
 ghost use Rattle.store.specs.Holding.{Holding, Keeps, Leaves};
 ghost use Rattle.store.specs.Lost.{IsOfCall};
 ghost use Rattle.store.specs.Opening.{HasNone, HasOffice, HasOlderMarks, HasTables, HoldingInSomeForm, HoldingOlder, IsGrown, IsNew, KeepsInSomeForm, MayGrow};
+ghost use Rattle.office_rows.specs.Statement.{AddsNoCommit, LeavesNothing};
 
 use crate::lost::Lost;
 use crate::stored_office::Office;
@@ -26,8 +27,8 @@ fn make_all<S: Alter>(tx: &mut Transaction<'_, S>) -> Result<(), Error>
     ensures same_reference { tx.new.conn.ghost_name ≡ tx.old.conn.ghost_name }
     ensures made { HasCleanDisk (state S.Store tx.new.conn.now) → (state S.Store tx.old.conn.now).now.schema ≡ no_schema
         → OnOk result (IsNew (state S.Store tx.new.conn.now).now × IsTrue (state S.Store tx.new.conn.now).in_transaction) }
-    ensures kept { HasCleanDisk (state S.Store tx.new.conn.now) → KeepsCommit (state S.Store tx.old.conn.now) (state S.Store tx.new.conn.now) }
-    ensures survives { Survives (state S.Store tx.old.conn.now) (state S.Store tx.new.conn.now) (λ _. ⊥) }
+    ensures kept { AddsNoCommit (state S.Store tx.old.conn.now) (state S.Store tx.new.conn.now) }
+    ensures survives { LeavesNothing (state S.Store tx.old.conn.now) (state S.Store tx.new.conn.now) }
 {
     make_tables(tx)?;
     insert_profile(tx, 1, 2)?;
@@ -138,7 +139,10 @@ fn make_ready<S: Alter>(conn: &mut Connection<S>) -> Result<(), Lost>
     }
     match read_marks(conn)? {
         Marks::Second => complete(conn),
-        Marks::Bodies | Marks::First => Err(Lost::OlderProfile),
+        Marks::Bodies | Marks::First => match form_of(conn) {
+            Form::Foreign => Err(Lost::Store),
+            _ => Err(Lost::OlderProfile),
+        },
         Marks::Newer => Err(Lost::NewerProfile),
         Marks::Foreign => Err(Lost::Store),
     }

@@ -2,14 +2,14 @@
 ghost use Rattle.std.specs.Prelude.{◌≡◌, List, [], map, IsTrue, OnOk};
 ghost use Rattle.office_history.specs.History.{Answered};
 ghost use Rattle.office_rules.specs.Profile.{Two};
-ghost use Rattle.office_tables.specs.Statements.{Makes};
-ghost use Rattle.office_tables.specs.Tables.{IsOffice, tables_of};
+ghost use Rattle.office_tables.specs.Tables.{IsOffice};
 ghost use Rattle.office_types.specs.declared.state.Net.{Net as Network};
 ghost use Rattle.sqlite.specs.Held.{state};
-ghost use Rattle.sqlite.specs.State.{HasCleanDisk, KeepsCommit, Survives};
+ghost use Rattle.sqlite.specs.State.{HasCleanDisk};
 ghost use Rattle.store_net.specs.Nets.{AreKnownNets};
 ghost use Rattle.store_carry.specs.Carried.{AddsLive, CarriesNet, CarriesNets};
 ghost use Rattle.store_carry.specs.Forms.{HoldsAsBodies, HoldsAsRows, row_marks};
+ghost use Rattle.office_rows.specs.Statement.{AddsNoCommit, CommitsNothing, LeavesNothing, MakesTables, StaysOffice, Writes};
 
 use crate::renewing::renew_profile;
 use crate::watch::Watch;
@@ -29,11 +29,10 @@ fn write_messages<S: Alter, W: Watch>(
     watch: &mut W,
 ) -> Result<(), Error>
     ensures same_reference { tx.new.conn.ghost_name ≡ tx.old.conn.ghost_name }
-    ensures added { HasCleanDisk (state S.Store tx.new.conn.now) → IsOffice (state S.Store tx.old.conn.now).now
-        → OnOk result (AddsLive name.now live.now (tables_of (state S.Store tx.old.conn.now).now.trees) (tables_of (state S.Store tx.new.conn.now).now.trees)) }
-    ensures office { HasCleanDisk (state S.Store tx.new.conn.now) → IsOffice (state S.Store tx.old.conn.now).now → OnOk result (IsOffice (state S.Store tx.new.conn.now).now) }
-    ensures kept { HasCleanDisk (state S.Store tx.new.conn.now) → KeepsCommit (state S.Store tx.old.conn.now) (state S.Store tx.new.conn.now) }
-    ensures survives { Survives (state S.Store tx.old.conn.now) (state S.Store tx.new.conn.now) (λ _. ⊥) }
+    ensures added { Writes result (state S.Store tx.old.conn.now) (state S.Store tx.new.conn.now) (λ before after. AddsLive name.now live.now before after) }
+    ensures office { StaysOffice result (state S.Store tx.old.conn.now) (state S.Store tx.new.conn.now) }
+    ensures kept { AddsNoCommit (state S.Store tx.old.conn.now) (state S.Store tx.new.conn.now) }
+    ensures survives { LeavesNothing (state S.Store tx.old.conn.now) (state S.Store tx.new.conn.now) }
 {
     for message in live {
         watch.shows(name, &message.message.name);
@@ -50,11 +49,10 @@ fn carry_network<S: Alter, W: Watch>(
     watch: &mut W,
 ) -> Result<(), Error>
     ensures same_reference { tx.new.conn.ghost_name ≡ tx.old.conn.ghost_name }
-    ensures carried { HasCleanDisk (state S.Store tx.new.conn.now) → IsOffice (state S.Store tx.old.conn.now).now
-        → OnOk result (CarriesNet name.now (tables_of (state S.Store tx.old.conn.now).now.trees) (tables_of (state S.Store tx.new.conn.now).now.trees)) }
-    ensures office { HasCleanDisk (state S.Store tx.new.conn.now) → IsOffice (state S.Store tx.old.conn.now).now → OnOk result (IsOffice (state S.Store tx.new.conn.now).now) }
-    ensures kept { HasCleanDisk (state S.Store tx.new.conn.now) → IsOffice (state S.Store tx.old.conn.now).now → KeepsCommit (state S.Store tx.old.conn.now) (state S.Store tx.new.conn.now) }
-    ensures survives { Survives (state S.Store tx.old.conn.now) (state S.Store tx.new.conn.now) (λ _. ⊥) }
+    ensures carried { Writes result (state S.Store tx.old.conn.now) (state S.Store tx.new.conn.now) (λ before after. CarriesNet name.now before after) }
+    ensures office { StaysOffice result (state S.Store tx.old.conn.now) (state S.Store tx.new.conn.now) }
+    ensures kept { CommitsNothing (state S.Store tx.old.conn.now) (state S.Store tx.new.conn.now) }
+    ensures survives { LeavesNothing (state S.Store tx.old.conn.now) (state S.Store tx.new.conn.now) }
 {
     let live = live_of(alloc, tx, name)?;
     write_messages(alloc, tx, name, live.as_slice(), watch)
@@ -68,11 +66,10 @@ fn carry_networks<S: Alter, W: Watch>(
     watch: &mut W,
 ) -> Result<(), Error>
     ensures same_reference { tx.new.conn.ghost_name ≡ tx.old.conn.ghost_name }
-    ensures carried { HasCleanDisk (state S.Store tx.new.conn.now) → IsOffice (state S.Store tx.old.conn.now).now
-        → OnOk result (CarriesNets names.now (tables_of (state S.Store tx.old.conn.now).now.trees) (tables_of (state S.Store tx.new.conn.now).now.trees)) }
-    ensures office { HasCleanDisk (state S.Store tx.new.conn.now) → IsOffice (state S.Store tx.old.conn.now).now → OnOk result (IsOffice (state S.Store tx.new.conn.now).now) }
-    ensures kept { HasCleanDisk (state S.Store tx.new.conn.now) → IsOffice (state S.Store tx.old.conn.now).now → KeepsCommit (state S.Store tx.old.conn.now) (state S.Store tx.new.conn.now) }
-    ensures survives { Survives (state S.Store tx.old.conn.now) (state S.Store tx.new.conn.now) (λ _. ⊥) }
+    ensures carried { Writes result (state S.Store tx.old.conn.now) (state S.Store tx.new.conn.now) (λ before after. CarriesNets names.now before after) }
+    ensures office { StaysOffice result (state S.Store tx.old.conn.now) (state S.Store tx.new.conn.now) }
+    ensures kept { CommitsNothing (state S.Store tx.old.conn.now) (state S.Store tx.new.conn.now) }
+    ensures survives { LeavesNothing (state S.Store tx.old.conn.now) (state S.Store tx.new.conn.now) }
 {
     for name in names {
         carry_network(alloc, tx, name, watch)?;
@@ -87,12 +84,11 @@ fn carry_live<S: Alter, W: Watch>(
     watch: &mut W,
 ) -> Result<(), Error>
     ensures same_reference { tx.new.conn.ghost_name ≡ tx.old.conn.ghost_name }
-    ensures carried { HasCleanDisk (state S.Store tx.new.conn.now) → IsOffice (state S.Store tx.old.conn.now).now
-        → OnOk result ((nets : List Network) → AreKnownNets (tables_of (state S.Store tx.old.conn.now).now.trees) nets
-        → CarriesNets (map (λ net. net.name) nets) (tables_of (state S.Store tx.old.conn.now).now.trees) (tables_of (state S.Store tx.new.conn.now).now.trees)) }
-    ensures office { HasCleanDisk (state S.Store tx.new.conn.now) → IsOffice (state S.Store tx.old.conn.now).now → OnOk result (IsOffice (state S.Store tx.new.conn.now).now) }
-    ensures kept { HasCleanDisk (state S.Store tx.new.conn.now) → IsOffice (state S.Store tx.old.conn.now).now → KeepsCommit (state S.Store tx.old.conn.now) (state S.Store tx.new.conn.now) }
-    ensures survives { Survives (state S.Store tx.old.conn.now) (state S.Store tx.new.conn.now) (λ _. ⊥) }
+    ensures carried { Writes result (state S.Store tx.old.conn.now) (state S.Store tx.new.conn.now) (λ before after. (nets : List Network) → AreKnownNets before nets
+        → CarriesNets (map (λ net. net.name) nets) before after) }
+    ensures office { StaysOffice result (state S.Store tx.old.conn.now) (state S.Store tx.new.conn.now) }
+    ensures kept { CommitsNothing (state S.Store tx.old.conn.now) (state S.Store tx.new.conn.now) }
+    ensures survives { LeavesNothing (state S.Store tx.old.conn.now) (state S.Store tx.new.conn.now) }
 {
     let names = names_of(alloc, tx)?;
     carry_networks(alloc, tx, &names, watch)
@@ -101,10 +97,9 @@ fn carry_live<S: Alter, W: Watch>(
 /// Empties `message`, and renews the profile.
 fn end_bodies<S: Alter>(tx: &mut Transaction<'_, S>) -> Result<(), Error>
     ensures same_reference { tx.new.conn.ghost_name ≡ tx.old.conn.ghost_name }
-    ensures ended { HasCleanDisk (state S.Store tx.new.conn.now) → IsOffice (state S.Store tx.old.conn.now).now
-        → OnOk result (Makes (λ t. record t { message = []; profile = row_marks Two }) (state S.Store tx.old.conn.now) (state S.Store tx.new.conn.now)) }
-    ensures kept { HasCleanDisk (state S.Store tx.new.conn.now) → KeepsCommit (state S.Store tx.old.conn.now) (state S.Store tx.new.conn.now) }
-    ensures survives { Survives (state S.Store tx.old.conn.now) (state S.Store tx.new.conn.now) (λ _. ⊥) }
+    ensures ended { MakesTables result (state S.Store tx.old.conn.now) (state S.Store tx.new.conn.now) (λ t. record t { message = []; profile = row_marks Two }) }
+    ensures kept { AddsNoCommit (state S.Store tx.old.conn.now) (state S.Store tx.new.conn.now) }
+    ensures survives { LeavesNothing (state S.Store tx.old.conn.now) (state S.Store tx.new.conn.now) }
 {
     clear_messages(tx)?;
     renew_profile(tx)
@@ -121,12 +116,11 @@ pub fn carry_over<S: Alter, W: Watch>(
     watch: &mut W,
 ) -> Result<(), Error>
     ensures same_reference { tx.new.conn.ghost_name ≡ tx.old.conn.ghost_name }
-    ensures held { HasCleanDisk (state S.Store tx.new.conn.now) → IsOffice (state S.Store tx.old.conn.now).now
-        → OnOk result ((h : List Answered) → HoldsAsBodies h (tables_of (state S.Store tx.old.conn.now).now.trees) → HoldsAsRows Two h (tables_of (state S.Store tx.new.conn.now).now.trees)) }
-    ensures office { HasCleanDisk (state S.Store tx.new.conn.now) → IsOffice (state S.Store tx.old.conn.now).now → OnOk result (IsOffice (state S.Store tx.new.conn.now).now) }
+    ensures held { Writes result (state S.Store tx.old.conn.now) (state S.Store tx.new.conn.now) (λ before after. (h : List Answered) → HoldsAsBodies h before → HoldsAsRows Two h after) }
+    ensures office { StaysOffice result (state S.Store tx.old.conn.now) (state S.Store tx.new.conn.now) }
     ensures inside { HasCleanDisk (state S.Store tx.new.conn.now) → IsOffice (state S.Store tx.old.conn.now).now → OnOk result (IsTrue (state S.Store tx.new.conn.now).in_transaction) }
-    ensures kept { HasCleanDisk (state S.Store tx.new.conn.now) → IsOffice (state S.Store tx.old.conn.now).now → KeepsCommit (state S.Store tx.old.conn.now) (state S.Store tx.new.conn.now) }
-    ensures survives { Survives (state S.Store tx.old.conn.now) (state S.Store tx.new.conn.now) (λ _. ⊥) }
+    ensures kept { CommitsNothing (state S.Store tx.old.conn.now) (state S.Store tx.new.conn.now) }
+    ensures survives { LeavesNothing (state S.Store tx.old.conn.now) (state S.Store tx.new.conn.now) }
 {
     histories_leave_offices();
     carry_live(alloc, tx, watch)?;

@@ -6,10 +6,11 @@ ghost use Rattle.office_tables.specs.Schema.{schema_9, schema_13};
 ghost use Rattle.office_tables.specs.Statements.{IsOfficeWith, tables_in};
 ghost use Rattle.office_tables.specs.Tables.{IsOffice, tables_of};
 ghost use Rattle.sqlite.specs.Held.{state};
-ghost use Rattle.sqlite.specs.State.{HasCleanDisk, KeepsCommit, Survives};
+ghost use Rattle.sqlite.specs.State.{HasCleanDisk, KeepsCommit};
 ghost use Rattle.store_carry.specs.Forms.{HoldsAsBodies, HoldsAsRows};
 ghost use Rattle.store_carry.specs.FormSchema.{schema_of};
 ghost use Rattle.store_carry.specs.InForm.{HoldsAs};
+ghost use Rattle.office_rows.specs.Statement.{AddsNoCommit, LeavesNothing};
 
 use crate::carrying::carry_over;
 use crate::forms::Form;
@@ -33,7 +34,7 @@ pub fn carry_bodies<S: Alter, W: Watch>(
     ensures office { HasCleanDisk (state S.Store tx.new.conn.now) → IsOfficeWith schema_9 (state S.Store tx.old.conn.now).now → OnOk result (IsOffice (state S.Store tx.new.conn.now).now) }
     ensures inside { HasCleanDisk (state S.Store tx.new.conn.now) → IsOfficeWith schema_9 (state S.Store tx.old.conn.now).now → OnOk result (IsTrue (state S.Store tx.new.conn.now).in_transaction) }
     ensures kept { HasCleanDisk (state S.Store tx.new.conn.now) → IsOfficeWith schema_9 (state S.Store tx.old.conn.now).now → KeepsCommit (state S.Store tx.old.conn.now) (state S.Store tx.new.conn.now) }
-    ensures survives { Survives (state S.Store tx.old.conn.now) (state S.Store tx.new.conn.now) (λ _. ⊥) }
+    ensures survives { LeavesNothing (state S.Store tx.old.conn.now) (state S.Store tx.new.conn.now) }
 {
     make_last(tx)?;
     carry_over(alloc, tx, watch)
@@ -47,8 +48,8 @@ pub fn carry_rows<S: Alter>(tx: &mut Transaction<'_, S>) -> Result<(), Error>
         → OnOk result ((h : List Answered) → HoldsAsRows One h (tables_in schema_13 (state S.Store tx.old.conn.now).now.trees) → HoldsAsRows Two h (tables_of (state S.Store tx.new.conn.now).now.trees)) }
     ensures office { HasCleanDisk (state S.Store tx.new.conn.now) → IsOfficeWith schema_13 (state S.Store tx.old.conn.now).now → OnOk result (IsOffice (state S.Store tx.new.conn.now).now) }
     ensures inside { HasCleanDisk (state S.Store tx.new.conn.now) → IsOfficeWith schema_13 (state S.Store tx.old.conn.now).now → OnOk result (IsTrue (state S.Store tx.new.conn.now).in_transaction) }
-    ensures kept { HasCleanDisk (state S.Store tx.new.conn.now) → KeepsCommit (state S.Store tx.old.conn.now) (state S.Store tx.new.conn.now) }
-    ensures survives { Survives (state S.Store tx.old.conn.now) (state S.Store tx.new.conn.now) (λ _. ⊥) }
+    ensures kept { AddsNoCommit (state S.Store tx.old.conn.now) (state S.Store tx.new.conn.now) }
+    ensures survives { LeavesNothing (state S.Store tx.old.conn.now) (state S.Store tx.new.conn.now) }
 {
     create_part(tx)?;
     renew_profile(tx)
@@ -69,7 +70,7 @@ pub fn carry<S: Alter, W: Watch>(
     ensures office { HasCleanDisk (state S.Store tx.new.conn.now) → IsOfficeWith (schema_of form) (state S.Store tx.old.conn.now).now → OnOk result (IsOffice (state S.Store tx.new.conn.now).now) }
     ensures inside { HasCleanDisk (state S.Store tx.new.conn.now) → IsOfficeWith (schema_of form) (state S.Store tx.old.conn.now).now → OnOk result (IsTrue (state S.Store tx.new.conn.now).in_transaction) }
     ensures kept { HasCleanDisk (state S.Store tx.new.conn.now) → IsOfficeWith (schema_of form) (state S.Store tx.old.conn.now).now → KeepsCommit (state S.Store tx.old.conn.now) (state S.Store tx.new.conn.now) }
-    ensures survives { Survives (state S.Store tx.old.conn.now) (state S.Store tx.new.conn.now) (λ _. ⊥) }
+    ensures survives { LeavesNothing (state S.Store tx.old.conn.now) (state S.Store tx.new.conn.now) }
 {
     match (marks, form) {
         (Marks::Bodies, Form::Bodies) => carry_bodies(alloc, tx, watch),

@@ -1,5 +1,5 @@
 //! What the profile says of tables.
-ghost use Rattle.std.specs.Prelude.{◌≡◌, ◌≤◌, ◌<◌, ◌↔◌, All, false, length, pos, IfOk, IsTrue, OnOk};
+ghost use Rattle.std.specs.Prelude.{◌≡◌, ◌≤◌, ◌<◌, ◌↔◌, false, length, IfOk, IsTrue, OnOk};
 ghost use Rattle.office_rows.specs.Rows.{mark_row};
 ghost use Rattle.office_tables.specs.Schema.{IsOfficeSchema};
 ghost use Rattle.office_tables.specs.Tables.{tables_of};

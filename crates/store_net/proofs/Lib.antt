@@ -19,3 +19,4 @@ pub mod HeadsShown
 pub mod Inside
 pub mod NumberExcerpts
 mod NumberExamples
+pub mod Bare

@@ -1,5 +1,5 @@
 -- Numbers and parts are those of one reply at most.
-use Rattle.std.proofs.Common.{◌≡◌, ◌∙◌, ℕ, Bool, true, false, if◌then◌else◌, pos, List, Option, Some, None, option_map, refl, sym, ap}
+use Rattle.std.proofs.Common.{◌≡◌, ◌∙◌, ℕ, Bool, true, false, if◌then◌else◌, pos, List, Option, Some, None, option_map, sym, ap}
 use Rattle.sqlite.specs.declared.types.Value.TheVariants.{Int}
 use Rattle.sqlite.specs.Order.{Row, column}
 use Rattle.office_types.specs.Reply.{reply_at, reply_numbers, reply_parts}

@@ -1,5 +1,5 @@
 -- A network that is read part by part is the one that the tables have.
-use Rattle.std.proofs.Common.{◌≡◌, ℕ, List, [], Option, Some, None, refl, sym, ap, subst, ◌∙◌}
+use Rattle.std.proofs.Common.{◌≡◌, ℕ, List, [], length, Option, Some, None, refl, sym, ap, subst, ◌∙◌}
 use Rattle.std.specs.Option.{option_map}
 use Rattle.sqlite.specs.Effect.{Database}
 use Rattle.sqlite.specs.State.{State, Survives}
@@ -18,6 +18,7 @@ use Rattle.store_rows.specs.Listed.{AreListed}
 use Rattle.store_rows.specs.NetIn.{HasRows, IsNetAt, RestRows}
 use Rattle.store_rows.specs.Rows.{IsNetRow, IsRowOf}
 use Rattle.store_rows.proofs.Listing.{none_listed}
+use Rattle.store_net.specs.Counted.{HasAsMany}
 use Rattle.store_net.specs.Parts.{HasApprovals, HasBlocks, HasHead, HasHeld, HasReleases}
 
 -- of two calls that leave nothing for a crash to find
@@ -73,3 +74,16 @@ with_its_releases name t None made releases at is one = absurd (cc)
 with_its_releases name t (Some net) made releases at is one =
     let same : made ≡ with_releases [] net = cc in
     ap Some (ap (with_releases releases) same ∙ ap (λ (rs : List Sheet). with_releases rs net) (one net.releases at.rest.releases))
+
+-- as many other sheets in the place of its releases
+
+pub none_counted : (net : Option Net) → None ≡ option_map (with_releases []) net → HasAsMany net None
+none_counted None none = refl
+none_counted (Some net) none = absurd (cc)
+
+pub with_as_many : (net : Option Net) (made : Net) (others : List Sheet) (count : ℕ) → Some made ≡ option_map (with_releases []) net → length others ≡ count
+    → ((n : Net) → net ≡ Some n → count ≡ length n.releases) → HasAsMany net (Some (with_releases others made))
+with_as_many None made others count is long counted = absurd (cc)
+with_as_many (Some net) made others count is long counted =
+    let same : made ≡ with_releases [] net = cc in
+    (others, long ∙ counted net refl, ap (λ n. Some (with_releases others n)) same)

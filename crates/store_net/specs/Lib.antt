@@ -6,3 +6,5 @@ pub mod Nets
 pub mod Excerpts
 pub mod Numbers
 pub mod Places
+pub mod Counted
+pub mod Detail

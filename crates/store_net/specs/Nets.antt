@@ -1,5 +1,5 @@
 -- All networks of the tables.
-use Rattle.std.specs.Prelude.{◌≡◌, ℕ, List, ◌∷◌, [], find}
+use Rattle.std.specs.Prelude.{◌≡◌, ℕ, List, find}
 use Rattle.std.specs.List.Sorted.{IsStrictlySortedBy}
 use Rattle.std.specs.Str.{bytes_eq}
 use Rattle.sqlite.specs.Order.{Row, column}

@@ -1,10 +1,9 @@
 //! What a command on a live message reads of its network: its row, its blocks, and that message alone.
-ghost use Rattle.std.specs.Prelude.{Option, ◌≡◌, IfOk, OnOk};
-ghost use Rattle.office_tables.specs.Tables.{tables_of, IsOffice};
+ghost use Rattle.std.specs.Prelude.{Option, ◌≡◌};
 ghost use Rattle.office_types.specs.declared.state.Net.{Net as Network};
 ghost use Rattle.sqlite.specs.Held.{state};
-ghost use Rattle.sqlite.specs.State.{HasCleanDisk, IsUnchanged, KeepsCommit, Survives};
 ghost use Rattle.store_net.specs.Excerpts.{IsReadIn, TellsExcerpt};
+ghost use Rattle.office_rows.specs.Statement.{ChangesNothing, CommitsNothing, Finds, LeavesNothing};
 
 use crate::message::message_at;
 use crate::parts::{blocks_of, head_of};
@@ -45,11 +44,10 @@ pub fn message_excerpt_at<S: Alter>(
     message: &Name,
 ) -> Result<Option<Excerpt>, Error>
     ensures same_reference { tx.new.conn.ghost_name ≡ tx.old.conn.ghost_name }
-    ensures found { HasCleanDisk (state S.Store tx.new.conn.now) → IsOffice (state S.Store tx.old.conn.now).now
-        → IfOk result (λ found. (net : Option Network) → IsReadIn name.now (tables_of (state S.Store tx.old.conn.now).now.trees) net → TellsExcerpt message.now net found) }
-    ensures same { HasCleanDisk (state S.Store tx.new.conn.now) → IsOffice (state S.Store tx.old.conn.now).now → OnOk result (IsUnchanged (state S.Store tx.old.conn.now) (state S.Store tx.new.conn.now)) }
-    ensures kept { HasCleanDisk (state S.Store tx.new.conn.now) → IsOffice (state S.Store tx.old.conn.now).now → KeepsCommit (state S.Store tx.old.conn.now) (state S.Store tx.new.conn.now) }
-    ensures survives { Survives (state S.Store tx.old.conn.now) (state S.Store tx.new.conn.now) (λ _. ⊥) }
+    ensures found { Finds result (state S.Store tx.old.conn.now) (state S.Store tx.new.conn.now) (λ found t. (net : Option Network) → IsReadIn name.now t net → TellsExcerpt message.now net found) }
+    ensures same { ChangesNothing result (state S.Store tx.old.conn.now) (state S.Store tx.new.conn.now) }
+    ensures kept { CommitsNothing (state S.Store tx.old.conn.now) (state S.Store tx.new.conn.now) }
+    ensures survives { LeavesNothing (state S.Store tx.old.conn.now) (state S.Store tx.new.conn.now) }
 {
     let Some(head) = head_of(alloc, tx, name)? else {
         return Ok(None);

@@ -1,12 +1,11 @@
 //! What is asked of the heads of live messages: whether one has a name, and how many there are.
-ghost use Rattle.std.specs.Prelude.{◌≡◌, List, length, IfOk, OnOk};
+ghost use Rattle.std.specs.Prelude.{◌≡◌, List, length};
 ghost use Rattle.catalogue.specs.Named.{has_name};
 ghost use Rattle.office_rules.specs.Facts.{live_name};
-ghost use Rattle.office_tables.specs.Tables.{tables_of, IsOffice};
 ghost use Rattle.office_types.specs.declared.state.LiveMessage.{LiveMessage as Live};
 ghost use Rattle.sqlite.specs.Held.{state};
-ghost use Rattle.sqlite.specs.State.{HasCleanDisk, IsUnchanged, KeepsCommit, Survives};
 ghost use Rattle.store_rows.specs.Live.{AreLiveRows, live_rows};
+ghost use Rattle.office_rows.specs.Statement.{ChangesNothing, CommitsNothing, Finds, LeavesNothing};
 
 use catalogue::Name;
 use office_rows::{count_msgs, select_msg_named};
@@ -21,11 +20,10 @@ pub(crate) fn is_named_at<S: Alter>(
     message: &Name,
 ) -> Result<bool, Error>
     ensures same_reference { tx.new.conn.ghost_name ≡ tx.old.conn.ghost_name }
-    ensures found { HasCleanDisk (state S.Store tx.new.conn.now) → IsOffice (state S.Store tx.old.conn.now).now
-        → IfOk result (λ named. (live : List Live) → AreLiveRows name.now (live_rows name.now (tables_of (state S.Store tx.old.conn.now).now.trees)) live → named ≡ has_name live_name live message.now) }
-    ensures same { HasCleanDisk (state S.Store tx.new.conn.now) → IsOffice (state S.Store tx.old.conn.now).now → OnOk result (IsUnchanged (state S.Store tx.old.conn.now) (state S.Store tx.new.conn.now)) }
-    ensures kept { HasCleanDisk (state S.Store tx.new.conn.now) → IsOffice (state S.Store tx.old.conn.now).now → KeepsCommit (state S.Store tx.old.conn.now) (state S.Store tx.new.conn.now) }
-    ensures survives { Survives (state S.Store tx.old.conn.now) (state S.Store tx.new.conn.now) (λ _. ⊥) }
+    ensures found { Finds result (state S.Store tx.old.conn.now) (state S.Store tx.new.conn.now) (λ named t. (live : List Live) → AreLiveRows name.now (live_rows name.now t) live → named ≡ has_name live_name live message.now) }
+    ensures same { ChangesNothing result (state S.Store tx.old.conn.now) (state S.Store tx.new.conn.now) }
+    ensures kept { CommitsNothing (state S.Store tx.old.conn.now) (state S.Store tx.new.conn.now) }
+    ensures survives { LeavesNothing (state S.Store tx.old.conn.now) (state S.Store tx.new.conn.now) }
 {
     let rows = select_msg_named(tx, name.as_bytes(), message.as_bytes())?;
     Ok(!rows.is_empty())
@@ -38,11 +36,10 @@ pub(crate) fn count_at<S: Alter>(
     name: &NetName,
 ) -> Result<usize, Error>
     ensures same_reference { tx.new.conn.ghost_name ≡ tx.old.conn.ghost_name }
-    ensures found { HasCleanDisk (state S.Store tx.new.conn.now) → IsOffice (state S.Store tx.old.conn.now).now
-        → IfOk result (λ count. (live : List Live) → AreLiveRows name.now (live_rows name.now (tables_of (state S.Store tx.old.conn.now).now.trees)) live → count ≡ length live) }
-    ensures same { HasCleanDisk (state S.Store tx.new.conn.now) → IsOffice (state S.Store tx.old.conn.now).now → OnOk result (IsUnchanged (state S.Store tx.old.conn.now) (state S.Store tx.new.conn.now)) }
-    ensures kept { HasCleanDisk (state S.Store tx.new.conn.now) → IsOffice (state S.Store tx.old.conn.now).now → KeepsCommit (state S.Store tx.old.conn.now) (state S.Store tx.new.conn.now) }
-    ensures survives { Survives (state S.Store tx.old.conn.now) (state S.Store tx.new.conn.now) (λ _. ⊥) }
+    ensures found { Finds result (state S.Store tx.old.conn.now) (state S.Store tx.new.conn.now) (λ count t. (live : List Live) → AreLiveRows name.now (live_rows name.now t) live → count ≡ length live) }
+    ensures same { ChangesNothing result (state S.Store tx.old.conn.now) (state S.Store tx.new.conn.now) }
+    ensures kept { CommitsNothing (state S.Store tx.old.conn.now) (state S.Store tx.new.conn.now) }
+    ensures survives { LeavesNothing (state S.Store tx.old.conn.now) (state S.Store tx.new.conn.now) }
 {
     let rows = count_msgs(tx, name.as_bytes())?;
     match rows.first() {

@@ -29,6 +29,7 @@
 #![tactic(auto)]
 
 mod change_rows;
+mod detail;
 mod excerpt;
 mod heads;
 mod live;
@@ -45,6 +46,7 @@ mod release;
 mod release_sheet;
 mod replies;
 mod setting;
+mod strays;
 mod writing;
 
 pub use excerpt::message_excerpt_at;
@@ -56,7 +58,7 @@ pub use nets::{names_of, nets_text};
 pub use number_excerpt::{group_excerpt_at, ident_excerpt_at};
 pub use parts::live_of;
 pub use ranges::live_idents_at;
-pub use reading::{book_of, net_at, unreleased_net_at};
+pub use reading::{book_of, counted_net_at, net_at, unreleased_net_at};
 pub use release::release_text;
 pub use replies::{answer_at, keep_reply};
 pub use writing::{next_release, write_changes};

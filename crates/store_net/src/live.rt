@@ -4,15 +4,15 @@ ghost use Rattle.std.specs.List.Sorted.{IsStrictlySortedBy};
 ghost use Rattle.std.specs.Option.{option_map};
 ghost use Rattle.catalogue.specs.Keyed.{put};
 ghost use Rattle.catalogue.specs.Messages.{by_number, has_number, number_of};
-ghost use Rattle.office_tables.specs.Tables.{tables_of, IsOffice};
+ghost use Rattle.chart.specs.Table.{table_of};
 ghost use Rattle.office_types.specs.State.{live_messages, sheet_of, sheet_with};
 ghost use Rattle.office_types.specs.declared.state.Net.{Net as Network};
 ghost use Rattle.sqlite.specs.Held.{state};
-ghost use Rattle.sqlite.specs.State.{HasCleanDisk, IsUnchanged, KeepsCommit, Survives};
 ghost use Rattle.store_rows.specs.NetIn.{IsNetAt};
 ghost use Rattle.store_net.specs.Texts.{live_chart, live_table, live_text};
+ghost use Rattle.office_rows.specs.Statement.{ChangesNothing, CommitsNothing, Finds, LeavesNothing};
 
-use crate::live_list::live_messages;
+use crate::live_list::{bare_messages, live_messages};
 use crate::message::message_at;
 use crate::parts::head_of;
 use catalogue::{Copying, Message, Name, Sheet, SheetCode};
@@ -70,16 +70,36 @@ fn sheet_at<S: Alter>(
     name: &NetName,
 ) -> Result<Option<Sheet>, Error>
     ensures same_reference { tx.new.conn.ghost_name ≡ tx.old.conn.ghost_name }
-    ensures found { HasCleanDisk (state S.Store tx.new.conn.now) → IsOffice (state S.Store tx.old.conn.now).now
-        → IfOk result (λ found. (net : Option Network) → IsNetAt name.now (tables_of (state S.Store tx.old.conn.now).now.trees) net → found ≡ option_map sheet_of net) }
-    ensures same { HasCleanDisk (state S.Store tx.new.conn.now) → IsOffice (state S.Store tx.old.conn.now).now → OnOk result (IsUnchanged (state S.Store tx.old.conn.now) (state S.Store tx.new.conn.now)) }
-    ensures kept { HasCleanDisk (state S.Store tx.new.conn.now) → IsOffice (state S.Store tx.old.conn.now).now → KeepsCommit (state S.Store tx.old.conn.now) (state S.Store tx.new.conn.now) }
-    ensures survives { Survives (state S.Store tx.old.conn.now) (state S.Store tx.new.conn.now) (λ _. ⊥) }
+    ensures found { Finds result (state S.Store tx.old.conn.now) (state S.Store tx.new.conn.now) (λ found t. (net : Option Network) → IsNetAt name.now t net → found ≡ option_map sheet_of net) }
+    ensures same { ChangesNothing result (state S.Store tx.old.conn.now) (state S.Store tx.new.conn.now) }
+    ensures kept { CommitsNothing (state S.Store tx.old.conn.now) (state S.Store tx.new.conn.now) }
+    ensures survives { LeavesNothing (state S.Store tx.old.conn.now) (state S.Store tx.new.conn.now) }
 {
     let Some(head) = head_of(alloc, tx, name)? else {
         return Ok(None);
     };
     let live = live_messages(alloc, tx, name)?;
+    let sheet = live_sheet(alloc, head, live.as_slice())?;
+    Ok(Some(sheet))
+}
+
+/// The network's live sheet without receivers and value texts: its table is that of the live sheet. `None` where the
+/// network isn't there. The errors are those of [`sheet_at`].
+fn bare_sheet_at<S: Alter>(
+    alloc: Global,
+    tx: &mut Transaction<'_, S>,
+    name: &NetName,
+) -> Result<Option<Sheet>, Error>
+    ensures same_reference { tx.new.conn.ghost_name ≡ tx.old.conn.ghost_name }
+    ensures found { Finds result (state S.Store tx.old.conn.now) (state S.Store tx.new.conn.now) (λ found t. (net : Option Network) → IsNetAt name.now t net → option_map table_of found ≡ live_table net) }
+    ensures same { ChangesNothing result (state S.Store tx.old.conn.now) (state S.Store tx.new.conn.now) }
+    ensures kept { CommitsNothing (state S.Store tx.old.conn.now) (state S.Store tx.new.conn.now) }
+    ensures survives { LeavesNothing (state S.Store tx.old.conn.now) (state S.Store tx.new.conn.now) }
+{
+    let Some(head) = head_of(alloc, tx, name)? else {
+        return Ok(None);
+    };
+    let live = bare_messages(alloc, tx, name)?;
     let sheet = live_sheet(alloc, head, live.as_slice())?;
     Ok(Some(sheet))
 }
@@ -92,11 +112,10 @@ pub fn live_text<S: Alter>(
     name: &NetName,
 ) -> Result<Option<Vec<u8>>, Error>
     ensures same_reference { tx.new.conn.ghost_name ≡ tx.old.conn.ghost_name }
-    ensures found { HasCleanDisk (state S.Store tx.new.conn.now) → IsOffice (state S.Store tx.old.conn.now).now
-        → IfOk result (λ found. (net : Option Network) → IsNetAt name.now (tables_of (state S.Store tx.old.conn.now).now.trees) net → option_map (λ text. text.items) found ≡ live_text net) }
-    ensures same { HasCleanDisk (state S.Store tx.new.conn.now) → IsOffice (state S.Store tx.old.conn.now).now → OnOk result (IsUnchanged (state S.Store tx.old.conn.now) (state S.Store tx.new.conn.now)) }
-    ensures kept { HasCleanDisk (state S.Store tx.new.conn.now) → IsOffice (state S.Store tx.old.conn.now).now → KeepsCommit (state S.Store tx.old.conn.now) (state S.Store tx.new.conn.now) }
-    ensures survives { Survives (state S.Store tx.old.conn.now) (state S.Store tx.new.conn.now) (λ _. ⊥) }
+    ensures found { Finds result (state S.Store tx.old.conn.now) (state S.Store tx.new.conn.now) (λ found t. (net : Option Network) → IsNetAt name.now t net → option_map (λ text. text.items) found ≡ live_text net) }
+    ensures same { ChangesNothing result (state S.Store tx.old.conn.now) (state S.Store tx.new.conn.now) }
+    ensures kept { CommitsNothing (state S.Store tx.old.conn.now) (state S.Store tx.new.conn.now) }
+    ensures survives { LeavesNothing (state S.Store tx.old.conn.now) (state S.Store tx.new.conn.now) }
 {
     let Some(sheet) = sheet_at(alloc, tx, name)? else {
         return Ok(None);
@@ -112,13 +131,12 @@ pub fn live_table<S: Alter>(
     name: &NetName,
 ) -> Result<Option<Vec<u8>>, Error>
     ensures same_reference { tx.new.conn.ghost_name ≡ tx.old.conn.ghost_name }
-    ensures found { HasCleanDisk (state S.Store tx.new.conn.now) → IsOffice (state S.Store tx.old.conn.now).now
-        → IfOk result (λ found. (net : Option Network) → IsNetAt name.now (tables_of (state S.Store tx.old.conn.now).now.trees) net → option_map (λ text. text.items) found ≡ live_table net) }
-    ensures same { HasCleanDisk (state S.Store tx.new.conn.now) → IsOffice (state S.Store tx.old.conn.now).now → OnOk result (IsUnchanged (state S.Store tx.old.conn.now) (state S.Store tx.new.conn.now)) }
-    ensures kept { HasCleanDisk (state S.Store tx.new.conn.now) → IsOffice (state S.Store tx.old.conn.now).now → KeepsCommit (state S.Store tx.old.conn.now) (state S.Store tx.new.conn.now) }
-    ensures survives { Survives (state S.Store tx.old.conn.now) (state S.Store tx.new.conn.now) (λ _. ⊥) }
+    ensures found { Finds result (state S.Store tx.old.conn.now) (state S.Store tx.new.conn.now) (λ found t. (net : Option Network) → IsNetAt name.now t net → option_map (λ text. text.items) found ≡ live_table net) }
+    ensures same { ChangesNothing result (state S.Store tx.old.conn.now) (state S.Store tx.new.conn.now) }
+    ensures kept { CommitsNothing (state S.Store tx.old.conn.now) (state S.Store tx.new.conn.now) }
+    ensures survives { LeavesNothing (state S.Store tx.old.conn.now) (state S.Store tx.new.conn.now) }
 {
-    let Some(sheet) = sheet_at(alloc, tx, name)? else {
+    let Some(sheet) = bare_sheet_at(alloc, tx, name)? else {
         return Ok(None);
     };
     Ok(Some(table_of(alloc, &sheet)?))
@@ -133,11 +151,10 @@ pub fn live_chart<S: Alter>(
     message: &Name,
 ) -> Result<Option<Vec<u8>>, Error>
     ensures same_reference { tx.new.conn.ghost_name ≡ tx.old.conn.ghost_name }
-    ensures found { HasCleanDisk (state S.Store tx.new.conn.now) → IsOffice (state S.Store tx.old.conn.now).now
-        → IfOk result (λ found. (net : Option Network) → IsNetAt name.now (tables_of (state S.Store tx.old.conn.now).now.trees) net → option_map (λ text. text.items) found ≡ live_chart net message.now) }
-    ensures same { HasCleanDisk (state S.Store tx.new.conn.now) → IsOffice (state S.Store tx.old.conn.now).now → OnOk result (IsUnchanged (state S.Store tx.old.conn.now) (state S.Store tx.new.conn.now)) }
-    ensures kept { HasCleanDisk (state S.Store tx.new.conn.now) → IsOffice (state S.Store tx.old.conn.now).now → KeepsCommit (state S.Store tx.old.conn.now) (state S.Store tx.new.conn.now) }
-    ensures survives { Survives (state S.Store tx.old.conn.now) (state S.Store tx.new.conn.now) (λ _. ⊥) }
+    ensures found { Finds result (state S.Store tx.old.conn.now) (state S.Store tx.new.conn.now) (λ found t. (net : Option Network) → IsNetAt name.now t net → option_map (λ text. text.items) found ≡ live_chart net message.now) }
+    ensures same { ChangesNothing result (state S.Store tx.old.conn.now) (state S.Store tx.new.conn.now) }
+    ensures kept { CommitsNothing (state S.Store tx.old.conn.now) (state S.Store tx.new.conn.now) }
+    ensures survives { LeavesNothing (state S.Store tx.old.conn.now) (state S.Store tx.new.conn.now) }
 {
     match message_at(alloc, tx, name, message)? {
         None => Ok(None),

@@ -1,13 +1,14 @@
 //! One live message of a network, as the tables have it: no other message is read.
-ghost use Rattle.std.specs.Prelude.{◌≡◌, List, Option, IfOk, OnOk};
+ghost use Rattle.std.specs.Prelude.{◌≡◌, List, map, Option};
 ghost use Rattle.catalogue.specs.declared.signal.Signal.{Signal as Told};
 ghost use Rattle.office_rules.specs.Facts.{live_named};
-ghost use Rattle.office_tables.specs.Tables.{tables_of, IsOffice};
 ghost use Rattle.office_types.specs.declared.state.LiveMessage.{LiveMessage as Live};
 ghost use Rattle.sqlite.specs.Held.{state};
-ghost use Rattle.sqlite.specs.State.{HasCleanDisk, IsUnchanged, KeepsCommit, Survives};
 ghost use Rattle.store_rows.specs.Live.{AreLiveRows, AreSignalsOf, live_rows};
+ghost use Rattle.store_net.specs.Detail.{bare_signal, signals_in};
+ghost use Rattle.office_rows.specs.Statement.{ChangesNothing, CommitsNothing, Finds, LeavesNothing};
 
+use crate::detail::Detail;
 use catalogue::{Name, Signals};
 use office_rows::{select_msg_named, select_receivers, select_sigs, select_sigvalues};
 use office_types::{LiveMessage, NetName};
@@ -16,23 +17,59 @@ use std::alloc::Global;
 use store_rows::{live_message_of, number_at, signals_of};
 
 /// The signals of the network's message with the number.
-pub(crate) fn signals_at<S: Alter>(
+fn signals_at<S: Alter>(
     alloc: Global,
     tx: &mut Transaction<'_, S>,
     net: &[u8],
     number: u32,
 ) -> Result<Signals, Error>
     ensures same_reference { tx.new.conn.ghost_name ≡ tx.old.conn.ghost_name }
-    ensures found { HasCleanDisk (state S.Store tx.new.conn.now) → IsOffice (state S.Store tx.old.conn.now).now
-        → IfOk result (λ signals. (others : List Told) → AreSignalsOf net.now number (live_rows net.now (tables_of (state S.Store tx.old.conn.now).now.trees)) others → signals ≡ others) }
-    ensures same { HasCleanDisk (state S.Store tx.new.conn.now) → IsOffice (state S.Store tx.old.conn.now).now → OnOk result (IsUnchanged (state S.Store tx.old.conn.now) (state S.Store tx.new.conn.now)) }
-    ensures kept { HasCleanDisk (state S.Store tx.new.conn.now) → IsOffice (state S.Store tx.old.conn.now).now → KeepsCommit (state S.Store tx.old.conn.now) (state S.Store tx.new.conn.now) }
-    ensures survives { Survives (state S.Store tx.old.conn.now) (state S.Store tx.new.conn.now) (λ _. ⊥) }
+    ensures found { Finds result (state S.Store tx.old.conn.now) (state S.Store tx.new.conn.now) (λ signals t. (others : List Told) → AreSignalsOf net.now number (live_rows net.now t) others → signals ≡ others) }
+    ensures same { ChangesNothing result (state S.Store tx.old.conn.now) (state S.Store tx.new.conn.now) }
+    ensures kept { CommitsNothing (state S.Store tx.old.conn.now) (state S.Store tx.new.conn.now) }
+    ensures survives { LeavesNothing (state S.Store tx.old.conn.now) (state S.Store tx.new.conn.now) }
 {
     let sigs = select_sigs(tx, net, number)?;
     let receivers = select_receivers(tx, net, number)?;
     let values = select_sigvalues(tx, net, number)?;
     signals_of(alloc, &sigs, &receivers, &values)
+}
+
+/// The signals of the network's message with the number, without receivers and value texts.
+fn bare_signals_at<S: Alter>(
+    alloc: Global,
+    tx: &mut Transaction<'_, S>,
+    net: &[u8],
+    number: u32,
+) -> Result<Signals, Error>
+    ensures same_reference { tx.new.conn.ghost_name ≡ tx.old.conn.ghost_name }
+    ensures found { Finds result (state S.Store tx.old.conn.now) (state S.Store tx.new.conn.now) (λ signals t. (others : List Told) → AreSignalsOf net.now number (live_rows net.now t) others → signals ≡ map bare_signal others) }
+    ensures same { ChangesNothing result (state S.Store tx.old.conn.now) (state S.Store tx.new.conn.now) }
+    ensures kept { CommitsNothing (state S.Store tx.old.conn.now) (state S.Store tx.new.conn.now) }
+    ensures survives { LeavesNothing (state S.Store tx.old.conn.now) (state S.Store tx.new.conn.now) }
+{
+    let sigs = select_sigs(tx, net, number)?;
+    signals_of(alloc, &sigs, &[], &[])
+}
+
+/// The signals of the network's message with the number, as far as they are wanted.
+pub(crate) fn signals_for<S: Alter>(
+    alloc: Global,
+    tx: &mut Transaction<'_, S>,
+    net: &[u8],
+    number: u32,
+    detail: Detail,
+) -> Result<Signals, Error>
+    ensures same_reference { tx.new.conn.ghost_name ≡ tx.old.conn.ghost_name }
+    ensures found { Finds result (state S.Store tx.old.conn.now) (state S.Store tx.new.conn.now) (λ signals t. (others : List Told) → AreSignalsOf net.now number (live_rows net.now t) others → signals ≡ signals_in detail others) }
+    ensures same { ChangesNothing result (state S.Store tx.old.conn.now) (state S.Store tx.new.conn.now) }
+    ensures kept { CommitsNothing (state S.Store tx.old.conn.now) (state S.Store tx.new.conn.now) }
+    ensures survives { LeavesNothing (state S.Store tx.old.conn.now) (state S.Store tx.new.conn.now) }
+{
+    match detail {
+        Detail::Whole => signals_at(alloc, tx, net, number),
+        Detail::Bare => bare_signals_at(alloc, tx, net, number),
+    }
 }
 
 /// The live message of the name, with its owner, `None` where the network has none.
@@ -43,11 +80,10 @@ pub fn message_at<S: Alter>(
     message: &Name,
 ) -> Result<Option<LiveMessage>, Error>
     ensures same_reference { tx.new.conn.ghost_name ≡ tx.old.conn.ghost_name }
-    ensures found { HasCleanDisk (state S.Store tx.new.conn.now) → IsOffice (state S.Store tx.old.conn.now).now
-        → IfOk result (λ found. (live : List Live) → AreLiveRows name.now (live_rows name.now (tables_of (state S.Store tx.old.conn.now).now.trees)) live → found ≡ live_named live message.now) }
-    ensures same { HasCleanDisk (state S.Store tx.new.conn.now) → IsOffice (state S.Store tx.old.conn.now).now → OnOk result (IsUnchanged (state S.Store tx.old.conn.now) (state S.Store tx.new.conn.now)) }
-    ensures kept { HasCleanDisk (state S.Store tx.new.conn.now) → IsOffice (state S.Store tx.old.conn.now).now → KeepsCommit (state S.Store tx.old.conn.now) (state S.Store tx.new.conn.now) }
-    ensures survives { Survives (state S.Store tx.old.conn.now) (state S.Store tx.new.conn.now) (λ _. ⊥) }
+    ensures found { Finds result (state S.Store tx.old.conn.now) (state S.Store tx.new.conn.now) (λ found t. (live : List Live) → AreLiveRows name.now (live_rows name.now t) live → found ≡ live_named live message.now) }
+    ensures same { ChangesNothing result (state S.Store tx.old.conn.now) (state S.Store tx.new.conn.now) }
+    ensures kept { CommitsNothing (state S.Store tx.old.conn.now) (state S.Store tx.new.conn.now) }
+    ensures survives { LeavesNothing (state S.Store tx.old.conn.now) (state S.Store tx.new.conn.now) }
 {
     let rows = select_msg_named(tx, name.as_bytes(), message.as_bytes())?;
     match rows.first() {

@@ -5,12 +5,12 @@ ghost use Rattle.can_id.specs.Ident.{IsIdentifier, dbc_number};
 ghost use Rattle.catalogue.specs.declared.value_texts.ValueText.{ValueText as Entry};
 ghost use Rattle.decimal.specs.Number.{IsDecimal};
 ghost use Rattle.decimal.specs.Printing.{text_of};
-ghost use Rattle.office_tables.specs.Statements.{Makes};
-ghost use Rattle.office_tables.specs.Tables.{tables_of, IsOffice};
+ghost use Rattle.office_tables.specs.Tables.{IsOffice};
 ghost use Rattle.sqlite.specs.Held.{state};
-ghost use Rattle.sqlite.specs.State.{HasCleanDisk, KeepsCommit, Survives};
+ghost use Rattle.sqlite.specs.State.{HasCleanDisk};
 ghost use Rattle.store_rows.specs.Live.{HasDecimals, flag_number, motorola_number, mux_column, sender_text, sig_values};
 ghost use Rattle.store_rows.specs.LiveWritten.{IsLive, IsSignal, placed_from, receiver_rows, value_rows, with_live, with_msg, with_signal, with_signals, without_live};
+ghost use Rattle.office_rows.specs.Statement.{AddsNoCommit, LeavesNothing, MakesTables, StaysInside, StaysOffice, Writes};
 
 use crate::writing::number_above;
 use bitlayout::{Mux, Order};
@@ -34,14 +34,12 @@ pub fn write_receivers<S: Alter>(
     receivers: &[Name],
 ) -> Result<(), Error>
     ensures same_reference { tx.new.conn.ghost_name ≡ tx.old.conn.ghost_name }
-    ensures written { HasCleanDisk (state S.Store tx.new.conn.now) → IsOffice (state S.Store tx.old.conn.now).now
-        → OnOk result (tables_of (state S.Store tx.new.conn.now).now.trees
-        ≡ (record (tables_of (state S.Store tx.old.conn.now).now.trees) { receiver = (tables_of (state S.Store tx.old.conn.now).now.trees).receiver ++ receiver_rows net.now number place 0 receivers.now })) }
-    ensures office { HasCleanDisk (state S.Store tx.new.conn.now) → IsOffice (state S.Store tx.old.conn.now).now → OnOk result (IsOffice (state S.Store tx.new.conn.now).now) }
-    ensures inside { HasCleanDisk (state S.Store tx.new.conn.now) → IsOffice (state S.Store tx.old.conn.now).now → IsTrue (state S.Store tx.old.conn.now).in_transaction
-        → OnOk result (IsTrue (state S.Store tx.new.conn.now).in_transaction) }
-    ensures kept { HasCleanDisk (state S.Store tx.new.conn.now) → KeepsCommit (state S.Store tx.old.conn.now) (state S.Store tx.new.conn.now) }
-    ensures survives { Survives (state S.Store tx.old.conn.now) (state S.Store tx.new.conn.now) (λ _. ⊥) }
+    ensures written { Writes result (state S.Store tx.old.conn.now) (state S.Store tx.new.conn.now) (λ before after. after
+        ≡ (record before { receiver = before.receiver ++ receiver_rows net.now number place 0 receivers.now })) }
+    ensures office { StaysOffice result (state S.Store tx.old.conn.now) (state S.Store tx.new.conn.now) }
+    ensures inside { StaysInside result (state S.Store tx.old.conn.now) (state S.Store tx.new.conn.now) }
+    ensures kept { AddsNoCommit (state S.Store tx.old.conn.now) (state S.Store tx.new.conn.now) }
+    ensures survives { LeavesNothing (state S.Store tx.old.conn.now) (state S.Store tx.new.conn.now) }
 {
     let mut seat = 0;
     for name in receivers {
@@ -79,14 +77,12 @@ pub fn write_values<S: Alter>(
 ) -> Result<(), Error>
     ensures same_reference { tx.new.conn.ghost_name ≡ tx.old.conn.ghost_name }
     ensures decimals { OnOk result (AllByRecursion (λ (v : Entry). IsDecimal v.value) values.now) }
-    ensures written { HasCleanDisk (state S.Store tx.new.conn.now) → IsOffice (state S.Store tx.old.conn.now).now
-        → OnOk result (tables_of (state S.Store tx.new.conn.now).now.trees
-        ≡ (record (tables_of (state S.Store tx.old.conn.now).now.trees) { sigvalue = (tables_of (state S.Store tx.old.conn.now).now.trees).sigvalue ++ value_rows net.now number place 0 values.now })) }
-    ensures office { HasCleanDisk (state S.Store tx.new.conn.now) → IsOffice (state S.Store tx.old.conn.now).now → OnOk result (IsOffice (state S.Store tx.new.conn.now).now) }
-    ensures inside { HasCleanDisk (state S.Store tx.new.conn.now) → IsOffice (state S.Store tx.old.conn.now).now → IsTrue (state S.Store tx.old.conn.now).in_transaction
-        → OnOk result (IsTrue (state S.Store tx.new.conn.now).in_transaction) }
-    ensures kept { HasCleanDisk (state S.Store tx.new.conn.now) → KeepsCommit (state S.Store tx.old.conn.now) (state S.Store tx.new.conn.now) }
-    ensures survives { Survives (state S.Store tx.old.conn.now) (state S.Store tx.new.conn.now) (λ _. ⊥) }
+    ensures written { Writes result (state S.Store tx.old.conn.now) (state S.Store tx.new.conn.now) (λ before after. after
+        ≡ (record before { sigvalue = before.sigvalue ++ value_rows net.now number place 0 values.now })) }
+    ensures office { StaysOffice result (state S.Store tx.old.conn.now) (state S.Store tx.new.conn.now) }
+    ensures inside { StaysInside result (state S.Store tx.old.conn.now) (state S.Store tx.new.conn.now) }
+    ensures kept { AddsNoCommit (state S.Store tx.old.conn.now) (state S.Store tx.new.conn.now) }
+    ensures survives { LeavesNothing (state S.Store tx.old.conn.now) (state S.Store tx.new.conn.now) }
 {
     let mut seat = 0;
     for entry in values {
@@ -144,10 +140,9 @@ fn write_sig<S: Alter>(
 ) -> Result<(), Error>
     ensures same_reference { tx.new.conn.ghost_name ≡ tx.old.conn.ghost_name }
     ensures decimals { OnOk result (HasDecimals signal.now) }
-    ensures written { HasCleanDisk (state S.Store tx.new.conn.now) → IsOffice (state S.Store tx.old.conn.now).now
-        → OnOk result (Makes (λ t. record t { sig = t.sig ++ sig_values net.now number place signal.now ∷ [] }) (state S.Store tx.old.conn.now) (state S.Store tx.new.conn.now)) }
-    ensures kept { HasCleanDisk (state S.Store tx.new.conn.now) → KeepsCommit (state S.Store tx.old.conn.now) (state S.Store tx.new.conn.now) }
-    ensures survives { Survives (state S.Store tx.old.conn.now) (state S.Store tx.new.conn.now) (λ _. ⊥) }
+    ensures written { MakesTables result (state S.Store tx.old.conn.now) (state S.Store tx.new.conn.now) (λ t. record t { sig = t.sig ++ sig_values net.now number place signal.now ∷ [] }) }
+    ensures kept { AddsNoCommit (state S.Store tx.old.conn.now) (state S.Store tx.new.conn.now) }
+    ensures survives { LeavesNothing (state S.Store tx.old.conn.now) (state S.Store tx.new.conn.now) }
 {
     let factor = decimal_text(alloc, &signal.factor)?;
     let shift = decimal_text(alloc, &signal.offset)?;
@@ -187,12 +182,11 @@ pub(crate) fn write_signal<S: Alter>(
 ) -> Result<(), Error>
     ensures same_reference { tx.new.conn.ghost_name ≡ tx.old.conn.ghost_name }
     ensures signal { OnOk result (IsSignal signal.now) }
-    ensures written { HasCleanDisk (state S.Store tx.new.conn.now) → IsOffice (state S.Store tx.old.conn.now).now
-        → OnOk result (tables_of (state S.Store tx.new.conn.now).now.trees ≡ with_signal net.now number place signal.now (tables_of (state S.Store tx.old.conn.now).now.trees)) }
-    ensures office { HasCleanDisk (state S.Store tx.new.conn.now) → IsOffice (state S.Store tx.old.conn.now).now → OnOk result (IsOffice (state S.Store tx.new.conn.now).now) }
+    ensures written { Writes result (state S.Store tx.old.conn.now) (state S.Store tx.new.conn.now) (λ before after. after ≡ with_signal net.now number place signal.now before) }
+    ensures office { StaysOffice result (state S.Store tx.old.conn.now) (state S.Store tx.new.conn.now) }
     ensures inside { HasCleanDisk (state S.Store tx.new.conn.now) → IsOffice (state S.Store tx.old.conn.now).now → OnOk result (IsTrue (state S.Store tx.new.conn.now).in_transaction) }
-    ensures kept { HasCleanDisk (state S.Store tx.new.conn.now) → KeepsCommit (state S.Store tx.old.conn.now) (state S.Store tx.new.conn.now) }
-    ensures survives { Survives (state S.Store tx.old.conn.now) (state S.Store tx.new.conn.now) (λ _. ⊥) }
+    ensures kept { AddsNoCommit (state S.Store tx.old.conn.now) (state S.Store tx.new.conn.now) }
+    ensures survives { LeavesNothing (state S.Store tx.old.conn.now) (state S.Store tx.new.conn.now) }
 {
     write_sig(alloc, tx, net, number, place, signal)?;
     write_receivers(tx, net, number, place, signal.receivers.as_slice())?;
@@ -209,13 +203,11 @@ fn write_signals<S: Alter>(
 ) -> Result<(), Error>
     ensures same_reference { tx.new.conn.ghost_name ≡ tx.old.conn.ghost_name }
     ensures signals { OnOk result (AllByRecursion IsSignal signals.now) }
-    ensures written { HasCleanDisk (state S.Store tx.new.conn.now) → IsOffice (state S.Store tx.old.conn.now).now
-        → OnOk result (tables_of (state S.Store tx.new.conn.now).now.trees ≡ with_signals net.now number (placed_from 0 signals.now) (tables_of (state S.Store tx.old.conn.now).now.trees)) }
-    ensures office { HasCleanDisk (state S.Store tx.new.conn.now) → IsOffice (state S.Store tx.old.conn.now).now → OnOk result (IsOffice (state S.Store tx.new.conn.now).now) }
-    ensures inside { HasCleanDisk (state S.Store tx.new.conn.now) → IsOffice (state S.Store tx.old.conn.now).now → IsTrue (state S.Store tx.old.conn.now).in_transaction
-        → OnOk result (IsTrue (state S.Store tx.new.conn.now).in_transaction) }
-    ensures kept { HasCleanDisk (state S.Store tx.new.conn.now) → KeepsCommit (state S.Store tx.old.conn.now) (state S.Store tx.new.conn.now) }
-    ensures survives { Survives (state S.Store tx.old.conn.now) (state S.Store tx.new.conn.now) (λ _. ⊥) }
+    ensures written { Writes result (state S.Store tx.old.conn.now) (state S.Store tx.new.conn.now) (λ before after. after ≡ with_signals net.now number (placed_from 0 signals.now) before) }
+    ensures office { StaysOffice result (state S.Store tx.old.conn.now) (state S.Store tx.new.conn.now) }
+    ensures inside { StaysInside result (state S.Store tx.old.conn.now) (state S.Store tx.new.conn.now) }
+    ensures kept { AddsNoCommit (state S.Store tx.old.conn.now) (state S.Store tx.new.conn.now) }
+    ensures survives { LeavesNothing (state S.Store tx.old.conn.now) (state S.Store tx.new.conn.now) }
 {
     let mut place = 0;
     for signal in signals {
@@ -245,10 +237,9 @@ fn write_msg<S: Alter>(
     ensures same_reference { tx.new.conn.ghost_name ≡ tx.old.conn.ghost_name }
     ensures identifier { IsIdentifier live.now.message.ident }
     ensures sent { IfSome live.now.message.transmitter (λ n. n ≢ []) }
-    ensures written { HasCleanDisk (state S.Store tx.new.conn.now) → IsOffice (state S.Store tx.old.conn.now).now
-        → OnOk result (Makes (with_msg net.now live.now) (state S.Store tx.old.conn.now) (state S.Store tx.new.conn.now)) }
-    ensures kept { HasCleanDisk (state S.Store tx.new.conn.now) → KeepsCommit (state S.Store tx.old.conn.now) (state S.Store tx.new.conn.now) }
-    ensures survives { Survives (state S.Store tx.old.conn.now) (state S.Store tx.new.conn.now) (λ _. ⊥) }
+    ensures written { MakesTables result (state S.Store tx.old.conn.now) (state S.Store tx.new.conn.now) (with_msg net.now live.now) }
+    ensures kept { AddsNoCommit (state S.Store tx.old.conn.now) (state S.Store tx.new.conn.now) }
+    ensures survives { LeavesNothing (state S.Store tx.old.conn.now) (state S.Store tx.new.conn.now) }
 {
     let row = MsgRow {
         net,
@@ -270,10 +261,9 @@ fn remove_numbered<S: Alter>(
     number: u32,
 ) -> Result<(), Error>
     ensures same_reference { tx.new.conn.ghost_name ≡ tx.old.conn.ghost_name }
-    ensures removed { HasCleanDisk (state S.Store tx.new.conn.now) → IsOffice (state S.Store tx.old.conn.now).now
-        → OnOk result (Makes (without_live net.now number) (state S.Store tx.old.conn.now) (state S.Store tx.new.conn.now)) }
-    ensures kept { HasCleanDisk (state S.Store tx.new.conn.now) → KeepsCommit (state S.Store tx.old.conn.now) (state S.Store tx.new.conn.now) }
-    ensures survives { Survives (state S.Store tx.old.conn.now) (state S.Store tx.new.conn.now) (λ _. ⊥) }
+    ensures removed { MakesTables result (state S.Store tx.old.conn.now) (state S.Store tx.new.conn.now) (without_live net.now number) }
+    ensures kept { AddsNoCommit (state S.Store tx.old.conn.now) (state S.Store tx.new.conn.now) }
+    ensures survives { LeavesNothing (state S.Store tx.old.conn.now) (state S.Store tx.new.conn.now) }
 {
     delete_msgs(tx, net, number)?;
     delete_sigs(tx, net, number)?;
@@ -290,10 +280,9 @@ pub fn remove_message<S: Alter>(
 ) -> Result<(), Error>
     ensures same_reference { tx.new.conn.ghost_name ≡ tx.old.conn.ghost_name }
     ensures identifier { IsIdentifier ident }
-    ensures removed { HasCleanDisk (state S.Store tx.new.conn.now) → IsOffice (state S.Store tx.old.conn.now).now
-        → OnOk result (Makes (without_live name.now (dbc_number ident)) (state S.Store tx.old.conn.now) (state S.Store tx.new.conn.now)) }
-    ensures kept { HasCleanDisk (state S.Store tx.new.conn.now) → KeepsCommit (state S.Store tx.old.conn.now) (state S.Store tx.new.conn.now) }
-    ensures survives { Survives (state S.Store tx.old.conn.now) (state S.Store tx.new.conn.now) (λ _. ⊥) }
+    ensures removed { MakesTables result (state S.Store tx.old.conn.now) (state S.Store tx.new.conn.now) (without_live name.now (dbc_number ident)) }
+    ensures kept { AddsNoCommit (state S.Store tx.old.conn.now) (state S.Store tx.new.conn.now) }
+    ensures survives { LeavesNothing (state S.Store tx.old.conn.now) (state S.Store tx.new.conn.now) }
 {
     let number = ident.to_dbc();
     remove_numbered(tx, name.as_bytes(), number)
@@ -308,12 +297,11 @@ pub fn write_message<S: Alter>(
 ) -> Result<(), Error>
     ensures same_reference { tx.new.conn.ghost_name ≡ tx.old.conn.ghost_name }
     ensures live { OnOk result (IsLive live.now) }
-    ensures written { HasCleanDisk (state S.Store tx.new.conn.now) → IsOffice (state S.Store tx.old.conn.now).now
-        → OnOk result (tables_of (state S.Store tx.new.conn.now).now.trees ≡ with_live name.now live.now (tables_of (state S.Store tx.old.conn.now).now.trees)) }
-    ensures office { HasCleanDisk (state S.Store tx.new.conn.now) → IsOffice (state S.Store tx.old.conn.now).now → OnOk result (IsOffice (state S.Store tx.new.conn.now).now) }
+    ensures written { Writes result (state S.Store tx.old.conn.now) (state S.Store tx.new.conn.now) (λ before after. after ≡ with_live name.now live.now before) }
+    ensures office { StaysOffice result (state S.Store tx.old.conn.now) (state S.Store tx.new.conn.now) }
     ensures inside { HasCleanDisk (state S.Store tx.new.conn.now) → IsOffice (state S.Store tx.old.conn.now).now → OnOk result (IsTrue (state S.Store tx.new.conn.now).in_transaction) }
-    ensures kept { HasCleanDisk (state S.Store tx.new.conn.now) → KeepsCommit (state S.Store tx.old.conn.now) (state S.Store tx.new.conn.now) }
-    ensures survives { Survives (state S.Store tx.old.conn.now) (state S.Store tx.new.conn.now) (λ _. ⊥) }
+    ensures kept { AddsNoCommit (state S.Store tx.old.conn.now) (state S.Store tx.new.conn.now) }
+    ensures survives { LeavesNothing (state S.Store tx.old.conn.now) (state S.Store tx.new.conn.now) }
 {
     let number = live.message.ident.to_dbc();
     let net = name.as_bytes();

@@ -1,17 +1,16 @@
 //! What a command that gives out a number reads of its network: its row, its blocks, the held identifiers, and of the
 //! live messages whether one has a name, how many there are, and which identifiers they have that could be given out.
 //! No message is read.
-ghost use Rattle.std.specs.Prelude.{◌≡◌, ◌++◌, ℕ, List, Option, IfOk, IsTrue, OnOk};
+ghost use Rattle.std.specs.Prelude.{◌≡◌, ◌++◌, ℕ, List, Option, IfOk};
 ghost use Rattle.std.specs.List.{filter_map, list_any};
 ghost use Rattle.office_net.specs.Excerpt.{IsExcerptOf};
 ghost use Rattle.office_rules.specs.Facts.{group_of, is_wanted, number_in, same_ident};
-ghost use Rattle.office_tables.specs.Tables.{tables_of, IsOffice};
 ghost use Rattle.office_types.specs.declared.command.Action.TheVariants as act;
 ghost use Rattle.office_types.specs.declared.command.Task.TheVariants.{Act};
 ghost use Rattle.office_types.specs.declared.state.Net.{Net as Network};
 ghost use Rattle.sqlite.specs.Held.{state};
-ghost use Rattle.sqlite.specs.State.{HasCleanDisk, IsUnchanged, KeepsCommit, Survives};
 ghost use Rattle.store_net.specs.Excerpts.{HasNameAndCount, IsReadIn, MatchBoth};
+ghost use Rattle.office_rows.specs.Statement.{ChangesNothing, CommitsNothing, Finds, LeavesNothing};
 
 use crate::heads::{count_at, is_named_at};
 use crate::parts::{blocks_of, head_of, held_of};
@@ -32,11 +31,10 @@ fn counted_excerpt_at<S: Alter>(
     message: &Name,
 ) -> Result<Option<Excerpt>, Error>
     ensures same_reference { tx.new.conn.ghost_name ≡ tx.old.conn.ghost_name }
-    ensures found { HasCleanDisk (state S.Store tx.new.conn.now) → IsOffice (state S.Store tx.old.conn.now).now
-        → IfOk result (λ found. (net : Option Network) → IsReadIn name.now (tables_of (state S.Store tx.old.conn.now).now.trees) net → MatchBoth (HasNameAndCount message.now) net found) }
-    ensures same { HasCleanDisk (state S.Store tx.new.conn.now) → IsOffice (state S.Store tx.old.conn.now).now → OnOk result (IsUnchanged (state S.Store tx.old.conn.now) (state S.Store tx.new.conn.now)) }
-    ensures kept { HasCleanDisk (state S.Store tx.new.conn.now) → IsOffice (state S.Store tx.old.conn.now).now → KeepsCommit (state S.Store tx.old.conn.now) (state S.Store tx.new.conn.now) }
-    ensures survives { Survives (state S.Store tx.old.conn.now) (state S.Store tx.new.conn.now) (λ _. ⊥) }
+    ensures found { Finds result (state S.Store tx.old.conn.now) (state S.Store tx.new.conn.now) (λ found t. (net : Option Network) → IsReadIn name.now t net → MatchBoth (HasNameAndCount message.now) net found) }
+    ensures same { ChangesNothing result (state S.Store tx.old.conn.now) (state S.Store tx.new.conn.now) }
+    ensures kept { CommitsNothing (state S.Store tx.old.conn.now) (state S.Store tx.new.conn.now) }
+    ensures survives { LeavesNothing (state S.Store tx.old.conn.now) (state S.Store tx.new.conn.now) }
 {
     let Some(head) = head_of(alloc, tx, name)? else {
         return Ok(None);
@@ -102,12 +100,11 @@ pub fn ident_excerpt_at<S: Alter>(
     take: &TakeIdent,
 ) -> Result<Option<Excerpt>, Error>
     ensures same_reference { tx.new.conn.ghost_name ≡ tx.old.conn.ghost_name }
-    ensures found { HasCleanDisk (state S.Store tx.new.conn.now) → IsOffice (state S.Store tx.old.conn.now).now
-        → IfOk result (λ found. (net : Option Network) → IsReadIn name.now (tables_of (state S.Store tx.old.conn.now).now.trees) net
+    ensures found { Finds result (state S.Store tx.old.conn.now) (state S.Store tx.new.conn.now) (λ found t. (net : Option Network) → IsReadIn name.now t net
         → MatchBoth (λ net e. IsExcerptOf team.now net (Act (act.TakeIdent take.now)) e) net found) }
-    ensures same { HasCleanDisk (state S.Store tx.new.conn.now) → IsOffice (state S.Store tx.old.conn.now).now → OnOk result (IsUnchanged (state S.Store tx.old.conn.now) (state S.Store tx.new.conn.now)) }
-    ensures kept { HasCleanDisk (state S.Store tx.new.conn.now) → IsOffice (state S.Store tx.old.conn.now).now → KeepsCommit (state S.Store tx.old.conn.now) (state S.Store tx.new.conn.now) }
-    ensures survives { Survives (state S.Store tx.old.conn.now) (state S.Store tx.new.conn.now) (λ _. ⊥) }
+    ensures same { ChangesNothing result (state S.Store tx.old.conn.now) (state S.Store tx.new.conn.now) }
+    ensures kept { CommitsNothing (state S.Store tx.old.conn.now) (state S.Store tx.new.conn.now) }
+    ensures survives { LeavesNothing (state S.Store tx.old.conn.now) (state S.Store tx.new.conn.now) }
 {
     let Some(mut excerpt) = counted_excerpt_at(alloc, tx, name, &take.message.name)? else {
         return Ok(None);
@@ -138,12 +135,11 @@ pub fn group_excerpt_at<S: Alter>(
     take: &TakePgn,
 ) -> Result<Option<Excerpt>, Error>
     ensures same_reference { tx.new.conn.ghost_name ≡ tx.old.conn.ghost_name }
-    ensures found { HasCleanDisk (state S.Store tx.new.conn.now) → IsOffice (state S.Store tx.old.conn.now).now
-        → IfOk result (λ found. (net : Option Network) → IsReadIn name.now (tables_of (state S.Store tx.old.conn.now).now.trees) net
+    ensures found { Finds result (state S.Store tx.old.conn.now) (state S.Store tx.new.conn.now) (λ found t. (net : Option Network) → IsReadIn name.now t net
         → (team : List ℕ) → MatchBoth (λ net e. IsExcerptOf team net (Act (act.TakePgn take.now)) e) net found) }
-    ensures same { HasCleanDisk (state S.Store tx.new.conn.now) → IsOffice (state S.Store tx.old.conn.now).now → OnOk result (IsUnchanged (state S.Store tx.old.conn.now) (state S.Store tx.new.conn.now)) }
-    ensures kept { HasCleanDisk (state S.Store tx.new.conn.now) → IsOffice (state S.Store tx.old.conn.now).now → KeepsCommit (state S.Store tx.old.conn.now) (state S.Store tx.new.conn.now) }
-    ensures survives { Survives (state S.Store tx.old.conn.now) (state S.Store tx.new.conn.now) (λ _. ⊥) }
+    ensures same { ChangesNothing result (state S.Store tx.old.conn.now) (state S.Store tx.new.conn.now) }
+    ensures kept { CommitsNothing (state S.Store tx.old.conn.now) (state S.Store tx.new.conn.now) }
+    ensures survives { LeavesNothing (state S.Store tx.old.conn.now) (state S.Store tx.new.conn.now) }
 {
     let Some(mut excerpt) = counted_excerpt_at(alloc, tx, name, &take.message.name)? else {
         return Ok(None);

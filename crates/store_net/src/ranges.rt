@@ -1,13 +1,12 @@
 //! Identifiers of live messages within ranges of numbers: no message is read.
-ghost use Rattle.std.specs.Prelude.{◌≡◌, List, IfOk, IsTrue, OnOk};
+ghost use Rattle.std.specs.Prelude.{◌≡◌, List};
 ghost use Rattle.office_rules.specs.Facts.{has_ident, is_wanted};
-ghost use Rattle.office_tables.specs.Tables.{tables_of, IsOffice};
 ghost use Rattle.office_types.specs.declared.state.LiveMessage.{LiveMessage as Live};
 ghost use Rattle.sqlite.specs.Held.{state};
-ghost use Rattle.sqlite.specs.State.{HasCleanDisk, IsUnchanged, KeepsCommit, Survives};
 ghost use Rattle.std.specs.List.{list_any};
 ghost use Rattle.store_net.specs.Numbers.{dbc_of, idents_between, idents_inside};
 ghost use Rattle.store_rows.specs.Live.{AreLiveRows, live_rows};
+ghost use Rattle.office_rows.specs.Statement.{ChangesNothing, CommitsNothing, Finds, LeavesNothing, StaysSame};
 
 use can_id::{EXTENDED_FLAG, Ident, IdentForm};
 use catalogue::Items;
@@ -29,11 +28,10 @@ pub fn live_idents_at<S: Alter>(
     last: u32,
 ) -> Result<Items<Ident>, Error>
     ensures same_reference { tx.new.conn.ghost_name ≡ tx.old.conn.ghost_name }
-    ensures found { HasCleanDisk (state S.Store tx.new.conn.now) → IsOffice (state S.Store tx.old.conn.now).now
-        → IfOk result (λ found. (live : List Live) → AreLiveRows name.now (live_rows name.now (tables_of (state S.Store tx.old.conn.now).now.trees)) live → found ≡ idents_between first last live) }
-    ensures same { HasCleanDisk (state S.Store tx.new.conn.now) → IsOffice (state S.Store tx.old.conn.now).now → OnOk result (IsUnchanged (state S.Store tx.old.conn.now) (state S.Store tx.new.conn.now)) }
-    ensures kept { HasCleanDisk (state S.Store tx.new.conn.now) → IsOffice (state S.Store tx.old.conn.now).now → KeepsCommit (state S.Store tx.old.conn.now) (state S.Store tx.new.conn.now) }
-    ensures survives { Survives (state S.Store tx.old.conn.now) (state S.Store tx.new.conn.now) (λ _. ⊥) }
+    ensures found { Finds result (state S.Store tx.old.conn.now) (state S.Store tx.new.conn.now) (λ found t. (live : List Live) → AreLiveRows name.now (live_rows name.now t) live → found ≡ idents_between first last live) }
+    ensures same { ChangesNothing result (state S.Store tx.old.conn.now) (state S.Store tx.new.conn.now) }
+    ensures kept { CommitsNothing (state S.Store tx.old.conn.now) (state S.Store tx.new.conn.now) }
+    ensures survives { LeavesNothing (state S.Store tx.old.conn.now) (state S.Store tx.new.conn.now) }
 {
     let rows = select_msg_numbers(tx, name.as_bytes(), first, last)?;
     items_of(alloc, &rows)
@@ -59,11 +57,10 @@ pub(crate) fn live_inside_at<S: Alter>(
     blocks: &[Block],
 ) -> Result<Vec<Ident>, Error>
     ensures same_reference { tx.new.conn.ghost_name ≡ tx.old.conn.ghost_name }
-    ensures found { HasCleanDisk (state S.Store tx.new.conn.now) → IsOffice (state S.Store tx.old.conn.now).now
-        → IfOk result (λ found. (live : List Live) → AreLiveRows name.now (live_rows name.now (tables_of (state S.Store tx.old.conn.now).now.trees)) live → found.items ≡ idents_inside form blocks.now live) }
-    ensures same { HasCleanDisk (state S.Store tx.new.conn.now) → IsOffice (state S.Store tx.old.conn.now).now → IsTrue (state S.Store tx.old.conn.now).is_open → OnOk result (IsUnchanged (state S.Store tx.old.conn.now) (state S.Store tx.new.conn.now)) }
-    ensures kept { HasCleanDisk (state S.Store tx.new.conn.now) → IsOffice (state S.Store tx.old.conn.now).now → KeepsCommit (state S.Store tx.old.conn.now) (state S.Store tx.new.conn.now) }
-    ensures survives { Survives (state S.Store tx.old.conn.now) (state S.Store tx.new.conn.now) (λ _. ⊥) }
+    ensures found { Finds result (state S.Store tx.old.conn.now) (state S.Store tx.new.conn.now) (λ found t. (live : List Live) → AreLiveRows name.now (live_rows name.now t) live → found.items ≡ idents_inside form blocks.now live) }
+    ensures same { StaysSame result (state S.Store tx.old.conn.now) (state S.Store tx.new.conn.now) }
+    ensures kept { CommitsNothing (state S.Store tx.old.conn.now) (state S.Store tx.new.conn.now) }
+    ensures survives { LeavesNothing (state S.Store tx.old.conn.now) (state S.Store tx.new.conn.now) }
 {
     let mut idents = Vec::new(alloc);
     for block in blocks {
@@ -84,12 +81,11 @@ fn is_live_at<S: Alter>(
     number: u32,
 ) -> Result<bool, Error>
     ensures same_reference { tx.new.conn.ghost_name ≡ tx.old.conn.ghost_name }
-    ensures found { HasCleanDisk (state S.Store tx.new.conn.now) → IsOffice (state S.Store tx.old.conn.now).now
-        → IfOk result (λ found. (live : List Live) → AreLiveRows name.now (live_rows name.now (tables_of (state S.Store tx.old.conn.now).now.trees)) live
+    ensures found { Finds result (state S.Store tx.old.conn.now) (state S.Store tx.new.conn.now) (λ found t. (live : List Live) → AreLiveRows name.now (live_rows name.now t) live
         → found ≡ is_wanted (λ i. list_any (has_ident i) live) form (Some number)) }
-    ensures same { HasCleanDisk (state S.Store tx.new.conn.now) → IsOffice (state S.Store tx.old.conn.now).now → OnOk result (IsUnchanged (state S.Store tx.old.conn.now) (state S.Store tx.new.conn.now)) }
-    ensures kept { HasCleanDisk (state S.Store tx.new.conn.now) → IsOffice (state S.Store tx.old.conn.now).now → KeepsCommit (state S.Store tx.old.conn.now) (state S.Store tx.new.conn.now) }
-    ensures survives { Survives (state S.Store tx.old.conn.now) (state S.Store tx.new.conn.now) (λ _. ⊥) }
+    ensures same { ChangesNothing result (state S.Store tx.old.conn.now) (state S.Store tx.new.conn.now) }
+    ensures kept { CommitsNothing (state S.Store tx.old.conn.now) (state S.Store tx.new.conn.now) }
+    ensures survives { LeavesNothing (state S.Store tx.old.conn.now) (state S.Store tx.new.conn.now) }
 {
     let number_of_dbc = dbc_of(form, number);
     let idents = live_idents_at(alloc, tx, name, number_of_dbc, number_of_dbc)?;
@@ -106,12 +102,11 @@ pub(crate) fn want_live_at<S: Alter>(
     want: Option<u32>,
 ) -> Result<bool, Error>
     ensures same_reference { tx.new.conn.ghost_name ≡ tx.old.conn.ghost_name }
-    ensures found { HasCleanDisk (state S.Store tx.new.conn.now) → IsOffice (state S.Store tx.old.conn.now).now
-        → IfOk result (λ found. (live : List Live) → AreLiveRows name.now (live_rows name.now (tables_of (state S.Store tx.old.conn.now).now.trees)) live
+    ensures found { Finds result (state S.Store tx.old.conn.now) (state S.Store tx.new.conn.now) (λ found t. (live : List Live) → AreLiveRows name.now (live_rows name.now t) live
         → found ≡ is_wanted (λ i. list_any (has_ident i) live) form want) }
-    ensures same { HasCleanDisk (state S.Store tx.new.conn.now) → IsOffice (state S.Store tx.old.conn.now).now → IsTrue (state S.Store tx.old.conn.now).is_open → OnOk result (IsUnchanged (state S.Store tx.old.conn.now) (state S.Store tx.new.conn.now)) }
-    ensures kept { HasCleanDisk (state S.Store tx.new.conn.now) → IsOffice (state S.Store tx.old.conn.now).now → KeepsCommit (state S.Store tx.old.conn.now) (state S.Store tx.new.conn.now) }
-    ensures survives { Survives (state S.Store tx.old.conn.now) (state S.Store tx.new.conn.now) (λ _. ⊥) }
+    ensures same { StaysSame result (state S.Store tx.old.conn.now) (state S.Store tx.new.conn.now) }
+    ensures kept { CommitsNothing (state S.Store tx.old.conn.now) (state S.Store tx.new.conn.now) }
+    ensures survives { LeavesNothing (state S.Store tx.old.conn.now) (state S.Store tx.new.conn.now) }
 {
     match want {
         None => Ok(false),

@@ -1,23 +1,24 @@
 //! A network, and the book of suspect parameter numbers, as the tables have them.
-ghost use Rattle.std.specs.Prelude.{◌≡◌, [], Option, IfOk, OnOk};
+ghost use Rattle.std.specs.Prelude.{◌≡◌, [], length, Option, IfOk};
 ghost use Rattle.std.specs.Option.{option_map};
 ghost use Rattle.office_law.specs.Released.{with_releases};
-ghost use Rattle.office_tables.specs.Tables.{tables_of, IsOffice};
 ghost use Rattle.office_types.specs.declared.book.SpnBook.{SpnBook as Book};
 ghost use Rattle.office_types.specs.declared.state.Net.{Net as Network};
 ghost use Rattle.sqlite.specs.Held.{state};
-ghost use Rattle.sqlite.specs.State.{HasCleanDisk, IsUnchanged, KeepsCommit, Survives};
 ghost use Rattle.store_rows.specs.NetIn.{IsNetAt};
 ghost use Rattle.store_rows.specs.Rows.{IsBookIn};
+ghost use Rattle.store_net.specs.Counted.{HasAsMany};
+ghost use Rattle.office_rows.specs.Statement.{ChangesNothing, CommitsNothing, Finds, LeavesNothing};
 
 use crate::live_list::live_messages;
+use crate::nets::release_count;
 use crate::parts::{
     approvals_of, blocks_of, head_of, held_of, releases_of, spn_blocks_of, used_of,
 };
-use catalogue::{Copying, Items};
-use office_types::{Net, NetName, SpnBook, UsedSpns};
+use catalogue::{Copying, Items, Sheet};
+use office_types::{FrozenSheet, Net, NetName, SpnBook, UsedSpns};
 use sqlite::{Alter, Error, Transaction};
-use std::alloc::Global;
+use std::alloc::{AllocError, Global};
 
 /// The network of the name with all its parts but its releases, of which it has none; `None` where it isn't there. No body
 /// of a release is read. If the tables have a network under the name, it is that one without its releases. An error is out
@@ -28,11 +29,10 @@ pub fn unreleased_net_at<S: Alter>(
     name: &NetName,
 ) -> Result<Option<Net>, Error>
     ensures same_reference { tx.new.conn.ghost_name ≡ tx.old.conn.ghost_name }
-    ensures found { HasCleanDisk (state S.Store tx.new.conn.now) → IsOffice (state S.Store tx.old.conn.now).now
-        → IfOk result (λ found. (net : Option Network) → IsNetAt name.now (tables_of (state S.Store tx.old.conn.now).now.trees) net → found ≡ option_map (with_releases []) net) }
-    ensures same { HasCleanDisk (state S.Store tx.new.conn.now) → IsOffice (state S.Store tx.old.conn.now).now → OnOk result (IsUnchanged (state S.Store tx.old.conn.now) (state S.Store tx.new.conn.now)) }
-    ensures kept { HasCleanDisk (state S.Store tx.new.conn.now) → IsOffice (state S.Store tx.old.conn.now).now → KeepsCommit (state S.Store tx.old.conn.now) (state S.Store tx.new.conn.now) }
-    ensures survives { Survives (state S.Store tx.old.conn.now) (state S.Store tx.new.conn.now) (λ _. ⊥) }
+    ensures found { Finds result (state S.Store tx.old.conn.now) (state S.Store tx.new.conn.now) (λ found t. (net : Option Network) → IsNetAt name.now t net → found ≡ option_map (with_releases []) net) }
+    ensures same { ChangesNothing result (state S.Store tx.old.conn.now) (state S.Store tx.new.conn.now) }
+    ensures kept { CommitsNothing (state S.Store tx.old.conn.now) (state S.Store tx.new.conn.now) }
+    ensures survives { LeavesNothing (state S.Store tx.old.conn.now) (state S.Store tx.new.conn.now) }
 {
     let Some(head) = head_of(alloc, tx, name)? else {
         return Ok(None);
@@ -52,6 +52,39 @@ pub fn unreleased_net_at<S: Alter>(
     }))
 }
 
+/// Sheets without anything, this many. The error is out of memory.
+fn empty_sheets(alloc: Global, count: usize) -> Result<Items<FrozenSheet>, AllocError>
+    ensures { IfOk result (λ sheets. length sheets ≡ count) }
+{
+    let mut sheets = Items::new(alloc);
+    for _ in 0..count {
+        sheets.push(FrozenSheet::of(Sheet::new(alloc), Items::new(alloc)))?;
+    }
+    Ok(sheets)
+}
+
+/// The network of the name, with sheets without anything in the place of its releases, as many as it has, for a command
+/// that depends on how many there are; `None` where it isn't there. No body of a release is read. The errors are those of
+/// [`unreleased_net_at`].
+pub fn counted_net_at<S: Alter>(
+    alloc: Global,
+    tx: &mut Transaction<'_, S>,
+    name: &NetName,
+) -> Result<Option<Net>, Error>
+    ensures same_reference { tx.new.conn.ghost_name ≡ tx.old.conn.ghost_name }
+    ensures found { Finds result (state S.Store tx.old.conn.now) (state S.Store tx.new.conn.now) (λ found t. (net : Option Network) → IsNetAt name.now t net → HasAsMany net found) }
+    ensures same { ChangesNothing result (state S.Store tx.old.conn.now) (state S.Store tx.new.conn.now) }
+    ensures kept { CommitsNothing (state S.Store tx.old.conn.now) (state S.Store tx.new.conn.now) }
+    ensures survives { LeavesNothing (state S.Store tx.old.conn.now) (state S.Store tx.new.conn.now) }
+{
+    let Some(mut net) = unreleased_net_at(alloc, tx, name)? else {
+        return Ok(None);
+    };
+    let count = release_count(tx, name)?;
+    net.releases = empty_sheets(alloc, count)?;
+    Ok(Some(net))
+}
+
 /// The network of the name with all its parts, `None` where it isn't there. If the tables have a network under the
 /// name, it is that one. The errors are those of [`unreleased_net_at`].
 pub fn net_at<S: Alter>(
@@ -60,11 +93,10 @@ pub fn net_at<S: Alter>(
     name: &NetName,
 ) -> Result<Option<Net>, Error>
     ensures same_reference { tx.new.conn.ghost_name ≡ tx.old.conn.ghost_name }
-    ensures found { HasCleanDisk (state S.Store tx.new.conn.now) → IsOffice (state S.Store tx.old.conn.now).now
-        → IfOk result (λ found. (net : Option Network) → IsNetAt name.now (tables_of (state S.Store tx.old.conn.now).now.trees) net → found ≡ net) }
-    ensures same { HasCleanDisk (state S.Store tx.new.conn.now) → IsOffice (state S.Store tx.old.conn.now).now → OnOk result (IsUnchanged (state S.Store tx.old.conn.now) (state S.Store tx.new.conn.now)) }
-    ensures kept { HasCleanDisk (state S.Store tx.new.conn.now) → IsOffice (state S.Store tx.old.conn.now).now → KeepsCommit (state S.Store tx.old.conn.now) (state S.Store tx.new.conn.now) }
-    ensures survives { Survives (state S.Store tx.old.conn.now) (state S.Store tx.new.conn.now) (λ _. ⊥) }
+    ensures found { Finds result (state S.Store tx.old.conn.now) (state S.Store tx.new.conn.now) (λ found t. (net : Option Network) → IsNetAt name.now t net → found ≡ net) }
+    ensures same { ChangesNothing result (state S.Store tx.old.conn.now) (state S.Store tx.new.conn.now) }
+    ensures kept { CommitsNothing (state S.Store tx.old.conn.now) (state S.Store tx.new.conn.now) }
+    ensures survives { LeavesNothing (state S.Store tx.old.conn.now) (state S.Store tx.new.conn.now) }
 {
     let Some(mut net) = unreleased_net_at(alloc, tx, name)? else {
         return Ok(None);
@@ -78,11 +110,10 @@ pub fn net_at<S: Alter>(
 /// rows are no book's.
 pub fn book_of<S: Alter>(alloc: Global, tx: &mut Transaction<'_, S>) -> Result<SpnBook, Error>
     ensures same_reference { tx.new.conn.ghost_name ≡ tx.old.conn.ghost_name }
-    ensures found { HasCleanDisk (state S.Store tx.new.conn.now) → IsOffice (state S.Store tx.old.conn.now).now
-        → IfOk result (λ found. (book : Book) → IsBookIn (tables_of (state S.Store tx.old.conn.now).now.trees) book → found ≡ book) }
-    ensures same { HasCleanDisk (state S.Store tx.new.conn.now) → IsOffice (state S.Store tx.old.conn.now).now → OnOk result (IsUnchanged (state S.Store tx.old.conn.now) (state S.Store tx.new.conn.now)) }
-    ensures kept { HasCleanDisk (state S.Store tx.new.conn.now) → IsOffice (state S.Store tx.old.conn.now).now → KeepsCommit (state S.Store tx.old.conn.now) (state S.Store tx.new.conn.now) }
-    ensures survives { Survives (state S.Store tx.old.conn.now) (state S.Store tx.new.conn.now) (λ _. ⊥) }
+    ensures found { Finds result (state S.Store tx.old.conn.now) (state S.Store tx.new.conn.now) (λ found t. (book : Book) → IsBookIn t book → found ≡ book) }
+    ensures same { ChangesNothing result (state S.Store tx.old.conn.now) (state S.Store tx.new.conn.now) }
+    ensures kept { CommitsNothing (state S.Store tx.old.conn.now) (state S.Store tx.new.conn.now) }
+    ensures survives { LeavesNothing (state S.Store tx.old.conn.now) (state S.Store tx.new.conn.now) }
 {
     let blocks = spn_blocks_of(alloc, tx)?;
     let numbers = used_of(alloc, tx)?;

@@ -1,17 +1,14 @@
 //! The text of a release.
-ghost use Rattle.std.specs.Prelude.{◌≡◌, Option, IfOk, OnOk};
+ghost use Rattle.std.specs.Prelude.{◌≡◌, Option, IfOk};
 ghost use Rattle.catalogue.specs.Canon.{canonical_text};
 ghost use Rattle.catalogue.specs.Reads.{Reads, ReadsOnlyAs};
 ghost use Rattle.catalogue.specs.declared.sheet.Sheet.{Sheet as Told};
 ghost use Rattle.std.specs.Option.{option_map};
-ghost use Rattle.office_tables.specs.Tables.{tables_of, IsOffice};
 ghost use Rattle.office_types.specs.declared.state.Net.{Net as Network};
 ghost use Rattle.sqlite.specs.Held.{state};
-ghost use Rattle.sqlite.specs.Order.{column};
-ghost use Rattle.sqlite.specs.State.{HasCleanDisk, IsUnchanged, KeepsCommit, Survives};
-ghost use Rattle.sqlite.specs.declared.types.Value.TheVariants.{Blob};
 ghost use Rattle.store_rows.specs.NetIn.{IsNetAt};
 ghost use Rattle.store_net.specs.Texts.{IsTextOf, release_at, release_text};
+ghost use Rattle.office_rows.specs.Statement.{ChangesNothing, CommitsNothing, Finds, LeavesNothing};
 
 use dbc_write::text_of;
 use office_bodies::sheet_of;
@@ -43,13 +40,11 @@ pub fn release_text<S: Alter>(
     number: u32,
 ) -> Result<Option<Vec<u8>>, Error>
     ensures same_reference { tx.new.conn.ghost_name ≡ tx.old.conn.ghost_name }
-    ensures found { HasCleanDisk (state S.Store tx.new.conn.now) → IsOffice (state S.Store tx.old.conn.now).now
-        → IfOk result (λ found. (net : Option Network) → IsNetAt name.now (tables_of (state S.Store tx.old.conn.now).now.trees) net → option_map (λ text. text.items) found ≡ release_text net number) }
-    ensures reads { HasCleanDisk (state S.Store tx.new.conn.now) → IsOffice (state S.Store tx.old.conn.now).now
-        → IfOk result (λ found. (net : Option Network) → IsNetAt name.now (tables_of (state S.Store tx.old.conn.now).now.trees) net → IsTextOf (release_at net number) (option_map (λ text. text.items) found)) }
-    ensures same { HasCleanDisk (state S.Store tx.new.conn.now) → IsOffice (state S.Store tx.old.conn.now).now → OnOk result (IsUnchanged (state S.Store tx.old.conn.now) (state S.Store tx.new.conn.now)) }
-    ensures kept { HasCleanDisk (state S.Store tx.new.conn.now) → IsOffice (state S.Store tx.old.conn.now).now → KeepsCommit (state S.Store tx.old.conn.now) (state S.Store tx.new.conn.now) }
-    ensures survives { Survives (state S.Store tx.old.conn.now) (state S.Store tx.new.conn.now) (λ _. ⊥) }
+    ensures found { Finds result (state S.Store tx.old.conn.now) (state S.Store tx.new.conn.now) (λ found t. (net : Option Network) → IsNetAt name.now t net → option_map (λ text. text.items) found ≡ release_text net number) }
+    ensures reads { Finds result (state S.Store tx.old.conn.now) (state S.Store tx.new.conn.now) (λ found t. (net : Option Network) → IsNetAt name.now t net → IsTextOf (release_at net number) (option_map (λ text. text.items) found)) }
+    ensures same { ChangesNothing result (state S.Store tx.old.conn.now) (state S.Store tx.new.conn.now) }
+    ensures kept { CommitsNothing (state S.Store tx.old.conn.now) (state S.Store tx.new.conn.now) }
+    ensures survives { LeavesNothing (state S.Store tx.old.conn.now) (state S.Store tx.new.conn.now) }
 {
     let rows = select_release(tx, name.as_bytes(), number)?;
     match rows.first() {

@@ -1,13 +1,12 @@
 //! Kept replies: the rows of an answered request, and what a request under the same key is answered.
-ghost use Rattle.std.specs.Prelude.{◌≡◌, ◌++◌, ◌∷◌, [], List, Some, IfOk, IsTrue, OnOk};
+ghost use Rattle.std.specs.Prelude.{◌≡◌, ◌++◌, ◌∷◌, [], List, Some, IfOk};
 ghost use Rattle.std.specs.Option.{option_map};
 ghost use Rattle.sqlite.specs.Held.{state};
-ghost use Rattle.sqlite.specs.State.{HasCleanDisk, IsUnchanged, KeepsCommit, Survives};
 ghost use Rattle.office_types.specs.Reply.{reply_parts};
 ghost use Rattle.office_types.specs.declared.reply.Reply.{Reply as Told};
 ghost use Rattle.office_history.specs.History.{Answered, answer_again, first_of};
-ghost use Rattle.office_tables.specs.Tables.{IsOffice, tables_of};
 ghost use Rattle.store_net.specs.Kept.{AreKept, AreKeptParts, ShowsKept, ShowsReply, answer_parts, kept_row, part_rows};
+ghost use Rattle.office_rows.specs.Statement.{AddsNoCommit, ChangesNothing, CommitsNothing, Finds, LeavesNothing, StaysInside, StaysOffice, Writes};
 
 use crate::writing::number_above;
 use catalogue::Items;
@@ -26,14 +25,12 @@ fn write_parts<S: Alter>(
     parts: &[PartReply],
 ) -> Result<(), Error>
     ensures same_reference { tx.new.conn.ghost_name ≡ tx.old.conn.ghost_name }
-    ensures written { HasCleanDisk (state S.Store tx.new.conn.now) → IsOffice (state S.Store tx.old.conn.now).now
-        → OnOk result (tables_of (state S.Store tx.new.conn.now).now.trees
-        ≡ (record (tables_of (state S.Store tx.old.conn.now).now.trees) { part = (tables_of (state S.Store tx.old.conn.now).now.trees).part ++ part_rows team.now key.now 1 parts.now })) }
-    ensures office { HasCleanDisk (state S.Store tx.new.conn.now) → IsOffice (state S.Store tx.old.conn.now).now → OnOk result (IsOffice (state S.Store tx.new.conn.now).now) }
-    ensures inside { HasCleanDisk (state S.Store tx.new.conn.now) → IsOffice (state S.Store tx.old.conn.now).now → IsTrue (state S.Store tx.old.conn.now).in_transaction
-        → OnOk result (IsTrue (state S.Store tx.new.conn.now).in_transaction) }
-    ensures kept { HasCleanDisk (state S.Store tx.new.conn.now) → KeepsCommit (state S.Store tx.old.conn.now) (state S.Store tx.new.conn.now) }
-    ensures survives { Survives (state S.Store tx.old.conn.now) (state S.Store tx.new.conn.now) (λ _. ⊥) }
+    ensures written { Writes result (state S.Store tx.old.conn.now) (state S.Store tx.new.conn.now) (λ before after. after
+        ≡ (record before { part = before.part ++ part_rows team.now key.now 1 parts.now })) }
+    ensures office { StaysOffice result (state S.Store tx.old.conn.now) (state S.Store tx.new.conn.now) }
+    ensures inside { StaysInside result (state S.Store tx.old.conn.now) (state S.Store tx.new.conn.now) }
+    ensures kept { AddsNoCommit (state S.Store tx.old.conn.now) (state S.Store tx.new.conn.now) }
+    ensures survives { LeavesNothing (state S.Store tx.old.conn.now) (state S.Store tx.new.conn.now) }
 {
     let mut place = 1;
     for part in parts {
@@ -63,14 +60,12 @@ pub fn keep_reply<S: Alter>(
     reply: &Reply,
 ) -> Result<(), Error>
     ensures same_reference { tx.new.conn.ghost_name ≡ tx.old.conn.ghost_name }
-    ensures added { HasCleanDisk (state S.Store tx.new.conn.now) → IsOffice (state S.Store tx.old.conn.now).now
-        → OnOk result (tables_of (state S.Store tx.new.conn.now).now.trees
-        ≡ (record (tables_of (state S.Store tx.old.conn.now).now.trees) { reply = (tables_of (state S.Store tx.old.conn.now).now.trees).reply ++ kept_row team.now key.now content.now reply.now ∷ []; part = (tables_of (state S.Store tx.old.conn.now).now.trees).part ++ part_rows team.now key.now 1 (reply_parts reply.now) })) }
-    ensures office { HasCleanDisk (state S.Store tx.new.conn.now) → IsOffice (state S.Store tx.old.conn.now).now → OnOk result (IsOffice (state S.Store tx.new.conn.now).now) }
-    ensures inside { HasCleanDisk (state S.Store tx.new.conn.now) → IsOffice (state S.Store tx.old.conn.now).now → IsTrue (state S.Store tx.old.conn.now).in_transaction
-        → OnOk result (IsTrue (state S.Store tx.new.conn.now).in_transaction) }
-    ensures kept { HasCleanDisk (state S.Store tx.new.conn.now) → KeepsCommit (state S.Store tx.old.conn.now) (state S.Store tx.new.conn.now) }
-    ensures survives { Survives (state S.Store tx.old.conn.now) (state S.Store tx.new.conn.now) (λ _. ⊥) }
+    ensures added { Writes result (state S.Store tx.old.conn.now) (state S.Store tx.new.conn.now) (λ before after. after
+        ≡ (record before { reply = before.reply ++ kept_row team.now key.now content.now reply.now ∷ []; part = before.part ++ part_rows team.now key.now 1 (reply_parts reply.now) })) }
+    ensures office { StaysOffice result (state S.Store tx.old.conn.now) (state S.Store tx.new.conn.now) }
+    ensures inside { StaysInside result (state S.Store tx.old.conn.now) (state S.Store tx.new.conn.now) }
+    ensures kept { AddsNoCommit (state S.Store tx.old.conn.now) (state S.Store tx.new.conn.now) }
+    ensures survives { LeavesNothing (state S.Store tx.old.conn.now) (state S.Store tx.new.conn.now) }
 {
     let numbers = reply.numbers();
     let row = ReplyRow {
@@ -94,12 +89,11 @@ fn parts_at<S: Alter>(
     key: &Key,
 ) -> Result<Items<PartReply>, Error>
     ensures same_reference { tx.new.conn.ghost_name ≡ tx.old.conn.ghost_name }
-    ensures found { HasCleanDisk (state S.Store tx.new.conn.now) → IsOffice (state S.Store tx.old.conn.now).now
-        → IfOk result (λ parts. (h : List Answered) → AreKeptParts h (tables_of (state S.Store tx.old.conn.now).now.trees).part
+    ensures found { Finds result (state S.Store tx.old.conn.now) (state S.Store tx.new.conn.now) (λ parts t. (h : List Answered) → AreKeptParts h t.part
         → (a first : Answered) → a.team ≡ team.now → a.key ≡ key.now → first_of h a ≡ Some first → parts ≡ answer_parts first.answer) }
-    ensures same { HasCleanDisk (state S.Store tx.new.conn.now) → IsOffice (state S.Store tx.old.conn.now).now → OnOk result (IsUnchanged (state S.Store tx.old.conn.now) (state S.Store tx.new.conn.now)) }
-    ensures kept { HasCleanDisk (state S.Store tx.new.conn.now) → IsOffice (state S.Store tx.old.conn.now).now → KeepsCommit (state S.Store tx.old.conn.now) (state S.Store tx.new.conn.now) }
-    ensures survives { Survives (state S.Store tx.old.conn.now) (state S.Store tx.new.conn.now) (λ _. ⊥) }
+    ensures same { ChangesNothing result (state S.Store tx.old.conn.now) (state S.Store tx.new.conn.now) }
+    ensures kept { CommitsNothing (state S.Store tx.old.conn.now) (state S.Store tx.new.conn.now) }
+    ensures survives { LeavesNothing (state S.Store tx.old.conn.now) (state S.Store tx.new.conn.now) }
 {
     let rows = select_parts(tx, team.as_bytes(), key.as_bytes())?;
     items_of(alloc, &rows)
@@ -146,13 +140,12 @@ pub fn answer_at<S: Alter>(
     content: &[u8],
 ) -> Result<Option<Answer>, Error>
     ensures same_reference { tx.new.conn.ghost_name ≡ tx.old.conn.ghost_name }
-    ensures found { HasCleanDisk (state S.Store tx.new.conn.now) → IsOffice (state S.Store tx.old.conn.now).now
-        → IfOk result (λ found. (h : List Answered) → AreKept h (tables_of (state S.Store tx.old.conn.now).now.trees).reply
-        → AreKeptParts h (tables_of (state S.Store tx.old.conn.now).now.trees).part
+    ensures found { Finds result (state S.Store tx.old.conn.now) (state S.Store tx.new.conn.now) (λ found t. (h : List Answered) → AreKept h t.reply
+        → AreKeptParts h t.part
         → (a : Answered) → a.team ≡ team.now → a.key ≡ key.now → a.content ≡ content.now → found ≡ option_map (λ first. answer_again first a.content) (first_of h a)) }
-    ensures same { HasCleanDisk (state S.Store tx.new.conn.now) → IsOffice (state S.Store tx.old.conn.now).now → OnOk result (IsUnchanged (state S.Store tx.old.conn.now) (state S.Store tx.new.conn.now)) }
-    ensures kept { HasCleanDisk (state S.Store tx.new.conn.now) → IsOffice (state S.Store tx.old.conn.now).now → KeepsCommit (state S.Store tx.old.conn.now) (state S.Store tx.new.conn.now) }
-    ensures survives { Survives (state S.Store tx.old.conn.now) (state S.Store tx.new.conn.now) (λ _. ⊥) }
+    ensures same { ChangesNothing result (state S.Store tx.old.conn.now) (state S.Store tx.new.conn.now) }
+    ensures kept { CommitsNothing (state S.Store tx.old.conn.now) (state S.Store tx.new.conn.now) }
+    ensures survives { LeavesNothing (state S.Store tx.old.conn.now) (state S.Store tx.new.conn.now) }
 {
     let rows = select_reply(tx, team.as_bytes(), key.as_bytes())?;
     match rows.first() {

@@ -1,10 +1,8 @@
 //! Rows in place of those of their key: the rows of the key are removed, and the row is added.
-ghost use Rattle.std.specs.Prelude.{◌≡◌, OnOk};
+ghost use Rattle.std.specs.Prelude.{◌≡◌};
 ghost use Rattle.sqlite.specs.Held.{state};
-ghost use Rattle.sqlite.specs.State.{HasCleanDisk, KeepsCommit, Survives};
-ghost use Rattle.office_tables.specs.Tables.{IsOffice};
-ghost use Rattle.office_tables.specs.Statements.{Makes};
 ghost use Rattle.store_rows.specs.Written.{with_net_row, with_block_row, with_held_row, with_spn_row, with_approval_row};
+ghost use Rattle.office_rows.specs.Statement.{AddsNoCommit, LeavesNothing, MakesTables};
 
 use office_rows::{
     BlockRow, NetRow, delete_approval, delete_block, delete_held, delete_net, delete_spn,
@@ -15,9 +13,9 @@ use sqlite::{Alter, Error, Transaction};
 /// Sets the row of a network.
 pub(crate) fn set_net<S: Alter>(tx: &mut Transaction<'_, S>, row: &NetRow<'_>) -> Result<(), Error>
     ensures same_reference { tx.new.conn.ghost_name ≡ tx.old.conn.ghost_name }
-    ensures set { HasCleanDisk (state S.Store tx.new.conn.now) → IsOffice (state S.Store tx.old.conn.now).now → OnOk result (Makes (with_net_row row.now) (state S.Store tx.old.conn.now) (state S.Store tx.new.conn.now)) }
-    ensures kept { HasCleanDisk (state S.Store tx.new.conn.now) → KeepsCommit (state S.Store tx.old.conn.now) (state S.Store tx.new.conn.now) }
-    ensures survives { Survives (state S.Store tx.old.conn.now) (state S.Store tx.new.conn.now) (λ _. ⊥) }
+    ensures set { MakesTables result (state S.Store tx.old.conn.now) (state S.Store tx.new.conn.now) (with_net_row row.now) }
+    ensures kept { AddsNoCommit (state S.Store tx.old.conn.now) (state S.Store tx.new.conn.now) }
+    ensures survives { LeavesNothing (state S.Store tx.old.conn.now) (state S.Store tx.new.conn.now) }
 {
     delete_net(tx, row.name)?;
     insert_net(tx, row)?;
@@ -30,9 +28,9 @@ pub(crate) fn set_block<S: Alter>(
     row: &BlockRow<'_>,
 ) -> Result<(), Error>
     ensures same_reference { tx.new.conn.ghost_name ≡ tx.old.conn.ghost_name }
-    ensures set { HasCleanDisk (state S.Store tx.new.conn.now) → IsOffice (state S.Store tx.old.conn.now).now → OnOk result (Makes (with_block_row row.now) (state S.Store tx.old.conn.now) (state S.Store tx.new.conn.now)) }
-    ensures kept { HasCleanDisk (state S.Store tx.new.conn.now) → KeepsCommit (state S.Store tx.old.conn.now) (state S.Store tx.new.conn.now) }
-    ensures survives { Survives (state S.Store tx.old.conn.now) (state S.Store tx.new.conn.now) (λ _. ⊥) }
+    ensures set { MakesTables result (state S.Store tx.old.conn.now) (state S.Store tx.new.conn.now) (with_block_row row.now) }
+    ensures kept { AddsNoCommit (state S.Store tx.old.conn.now) (state S.Store tx.new.conn.now) }
+    ensures survives { LeavesNothing (state S.Store tx.old.conn.now) (state S.Store tx.new.conn.now) }
 {
     delete_block(tx, row.net, row.form, row.first)?;
     insert_block(tx, row)?;
@@ -46,9 +44,9 @@ pub(crate) fn set_held<S: Alter>(
     number: u32,
 ) -> Result<(), Error>
     ensures same_reference { tx.new.conn.ghost_name ≡ tx.old.conn.ghost_name }
-    ensures set { HasCleanDisk (state S.Store tx.new.conn.now) → IsOffice (state S.Store tx.old.conn.now).now → OnOk result (Makes (with_held_row net.now number) (state S.Store tx.old.conn.now) (state S.Store tx.new.conn.now)) }
-    ensures kept { HasCleanDisk (state S.Store tx.new.conn.now) → KeepsCommit (state S.Store tx.old.conn.now) (state S.Store tx.new.conn.now) }
-    ensures survives { Survives (state S.Store tx.old.conn.now) (state S.Store tx.new.conn.now) (λ _. ⊥) }
+    ensures set { MakesTables result (state S.Store tx.old.conn.now) (state S.Store tx.new.conn.now) (with_held_row net.now number) }
+    ensures kept { AddsNoCommit (state S.Store tx.old.conn.now) (state S.Store tx.new.conn.now) }
+    ensures survives { LeavesNothing (state S.Store tx.old.conn.now) (state S.Store tx.new.conn.now) }
 {
     delete_held(tx, net, number)?;
     insert_held(tx, net, number)?;
@@ -58,9 +56,9 @@ pub(crate) fn set_held<S: Alter>(
 /// Sets the row of a used suspect parameter number.
 pub(crate) fn set_spn<S: Alter>(tx: &mut Transaction<'_, S>, number: u32) -> Result<(), Error>
     ensures same_reference { tx.new.conn.ghost_name ≡ tx.old.conn.ghost_name }
-    ensures set { HasCleanDisk (state S.Store tx.new.conn.now) → IsOffice (state S.Store tx.old.conn.now).now → OnOk result (Makes (with_spn_row number) (state S.Store tx.old.conn.now) (state S.Store tx.new.conn.now)) }
-    ensures kept { HasCleanDisk (state S.Store tx.new.conn.now) → KeepsCommit (state S.Store tx.old.conn.now) (state S.Store tx.new.conn.now) }
-    ensures survives { Survives (state S.Store tx.old.conn.now) (state S.Store tx.new.conn.now) (λ _. ⊥) }
+    ensures set { MakesTables result (state S.Store tx.old.conn.now) (state S.Store tx.new.conn.now) (with_spn_row number) }
+    ensures kept { AddsNoCommit (state S.Store tx.old.conn.now) (state S.Store tx.new.conn.now) }
+    ensures survives { LeavesNothing (state S.Store tx.old.conn.now) (state S.Store tx.new.conn.now) }
 {
     delete_spn(tx, number)?;
     insert_spn(tx, number)?;
@@ -74,9 +72,9 @@ pub(crate) fn set_approval<S: Alter>(
     team: &[u8],
 ) -> Result<(), Error>
     ensures same_reference { tx.new.conn.ghost_name ≡ tx.old.conn.ghost_name }
-    ensures set { HasCleanDisk (state S.Store tx.new.conn.now) → IsOffice (state S.Store tx.old.conn.now).now → OnOk result (Makes (with_approval_row net.now team.now) (state S.Store tx.old.conn.now) (state S.Store tx.new.conn.now)) }
-    ensures kept { HasCleanDisk (state S.Store tx.new.conn.now) → KeepsCommit (state S.Store tx.old.conn.now) (state S.Store tx.new.conn.now) }
-    ensures survives { Survives (state S.Store tx.old.conn.now) (state S.Store tx.new.conn.now) (λ _. ⊥) }
+    ensures set { MakesTables result (state S.Store tx.old.conn.now) (state S.Store tx.new.conn.now) (with_approval_row net.now team.now) }
+    ensures kept { AddsNoCommit (state S.Store tx.old.conn.now) (state S.Store tx.new.conn.now) }
+    ensures survives { LeavesNothing (state S.Store tx.old.conn.now) (state S.Store tx.new.conn.now) }
 {
     delete_approval(tx, net, team)?;
     insert_approval(tx, net, team)?;

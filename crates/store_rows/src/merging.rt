@@ -55,7 +55,8 @@ fn values_in(alloc: Global, rows: &[Row]) -> Result<ValueTexts, Error>
     }
 }
 
-/// The signals of the rows of `sig`, each with those rows of `receiver` and of `sigvalue` that have its place.
+/// The signals of the rows of `sig`, each with those rows of `receiver` and of `sigvalue` that have its place. An error also
+/// where rows of these have the place of no signal.
 fn signals_in(
     alloc: Global,
     sigs: &[Row],
@@ -79,11 +80,15 @@ fn signals_in(
         names = other_names;
         texts = other_texts;
     }
+    if !names.is_empty() || !texts.is_empty() {
+        return Err(Error::InvalidQuery);
+    }
     Ok(signals)
 }
 
 /// The signals that the rows of a message show: those of `sig`, of `receiver` and of `sigvalue`, each in the order of
-/// the signals' places. An error where they show none, or memory ran out.
+/// the signals' places. An error where they show none, also where a receiver or a value text has the place of no signal,
+/// or memory ran out.
 pub fn signals_of(
     alloc: Global,
     sigs: &[Row],

@@ -1,14 +1,13 @@
-use Rattle.std.proofs.Common.{◌≡◌, ◌∙◌, List, Option, Some, None, ap, sym, subst, arith}
+use Rattle.std.proofs.Common.{◌≡◌, ◌∙◌, List, Some, ap, sym, subst, arith}
 use Rattle.sqlite.specs.Effect.{Database}
 use Rattle.sqlite.specs.Held.{state}
 use Rattle.sqlite.specs.State.{HasCleanDisk}
 use Rattle.office_types.specs.declared.state.GrantedBlock.{GrantedBlock}
-use Rattle.office_types.specs.declared.state.Head.{Head}
 use Rattle.office_types.specs.declared.state.LiveMessage.{LiveMessage}
 use Rattle.office_rules.specs.Facts.{live_named}
 use Rattle.office_tables.specs.Tables.{IsOffice, tables_of}
 use Rattle.store_rows.specs.Live.{AreLiveRows, live_rows}
-use Rattle.store_net.specs.Parts.{HasBlocks, HasHead}
+use Rattle.store_net.specs.Parts.{HasBlocks}
 use Rattle.store_net.proofs.Excerpts.{none_told, one_told}
 use Rattle.store_net.proofs.excerpt.message_excerpt_at.Goals as goal
 

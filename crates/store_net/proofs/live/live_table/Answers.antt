@@ -1,11 +1,11 @@
-use Rattle.std.proofs.Common.{sym, ◌∙◌}
+use Rattle.std.proofs.Common.{Some, ap, sym, ◌∙◌}
+use Rattle.std.specs.Option.{option_map}
 use Rattle.chart.specs.Table.{table_of}
-use Rattle.store_net.proofs.LiveSheet.{nothing_told, told}
 use Rattle.store_net.proofs.live.live_table.Goals as goal
 
 pub returns-in_default-clause-found : goal.returns-in_default-clause-found
-returns-in_default-clause-found g c clean office net there = nothing_told table_of net (sym c.in_default.is ∙ c.in_ok-sheet.ensures.found clean office net there)
+returns-in_default-clause-found g c clean office net there = ap (option_map table_of) (sym c.in_default.is) ∙ c.in_ok-sheet.ensures.found clean office net there
 
 pub returns-clause-found : goal.returns-clause-found
 returns-clause-found g c clean office net there =
-    told table_of net c.in-Some.sheet c.in_ok-table_of.field-0.items (sym c.in-Some.is ∙ c.in_ok-sheet.ensures.found clean office net there) c.in_ok-table_of.ensures
+    ap Some c.in_ok-table_of.ensures ∙ ap (option_map table_of) (sym c.in-Some.is) ∙ c.in_ok-sheet.ensures.found clean office net there

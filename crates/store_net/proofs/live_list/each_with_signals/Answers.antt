@@ -1,4 +1,5 @@
-use Rattle.std.proofs.Common.{◌≡◌, ◌∷◌, ◌++◌, [], ◌<◌, ◌≤◌, ◌+◌, ℕ, List, length, take, sym, ap, subst, ◌∙◌, arith, add-one, take_all}
+use Rattle.std.proofs.Common.{◌≡◌, ◌∷◌, ◌++◌, [], ◌≤◌, ◌+◌, List, length, map, take, sym, ap, subst, ◌∙◌, arith, add-one, take_all}
+use Rattle.std.proofs.lemmas.List.{map-append}
 use Rattle.can_id.specs.Ident.{dbc_number}
 use Rattle.sqlite.specs.Effect.{Database}
 use Rattle.sqlite.specs.Held.{state}
@@ -9,6 +10,7 @@ use Rattle.office_types.specs.declared.state.LiveMessage.{LiveMessage}
 use Rattle.office_tables.specs.Tables.{IsOffice, tables_of}
 use Rattle.store_rows.specs.Live.{AreSignalsOf, live_rows}
 use Rattle.store_rows.specs.SignalShowing.{ShowsLive}
+use Rattle.store_net.specs.Detail.{live_in}
 use Rattle.store_net.proofs.EachMessage.{count_shown, shown_next}
 use Rattle.store_net.proofs.Whole.{nothing_left}
 use Rattle.store_net.proofs.live_list.each_with_signals.Goals as goal
@@ -36,10 +38,11 @@ loop-row-preserved g c =
           let n = shown_next ShowsLive (λ (m : LiveMessage). AreSignalsOf net (dbc_number m.message.ident) (live_rows net (tables_of old.now.trees)) m.message.signals) live rows at c.row-item.result shown all
           c.loop-row-test.true c.row-item.is in
           let own = subst (λ (d : Database). AreSignalsOf net (dbc_number n.item.message.ident) (live_rows net (tables_of d.trees)) n.item.message.signals) (sym (i.now_is (early clean) was)) n.holds in
-          let is : made ≡ n.item = w.found clean (office clean was) n.item n.shown own in
+          let f = live_in c.args.detail in
+          let is : made ≡ f n.item = w.found clean (office clean was) n.item n.shown own in
           let next : take (at + 1) live ≡ take at live ++ n.item ∷ [] = rw add-one n.next in
           c.in_ok-push.ensures.items ∙ ap (λ (l : List LiveMessage). l ++ made ∷ []) (i.told (early clean) was live shown all)
-          ∙ ap (λ (m : LiveMessage). take at live ++ m ∷ []) is ∙ sym next;
+          ∙ ap (λ (m : LiveMessage). map f (take at live) ++ m ∷ []) is ∙ sym (map-append f (take at live) (n.item ∷ [])) ∙ ap (map f) (sym next);
     }
 
 pub returns-clause-found : goal.returns-clause-found
@@ -48,4 +51,4 @@ returns-clause-found g c clean office live shown all =
     let rows = c.args.rows.now in
     let ended : length rows ≤ at = c.loop-row-test.false in
     let over : length live ≤ at = subst (λ n. n ≤ at) (count_shown ShowsLive live rows shown) ended in
-    c.loop-row.invariant.told clean office live shown all ∙ take_all at live over
+    c.loop-row.invariant.told clean office live shown all ∙ ap (map (live_in c.args.detail)) (take_all at live over)

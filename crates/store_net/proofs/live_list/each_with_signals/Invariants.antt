@@ -1,4 +1,4 @@
-use Rattle.std.proofs.Common.{◌≡◌, List, take}
+use Rattle.std.proofs.Common.{◌≡◌, List, map, take}
 use Rattle.std.specs.Prelude.{IsTrue}
 use Rattle.std.specs.List.{AllByRecursion}
 use Rattle.can_id.specs.Ident.{dbc_number}
@@ -9,6 +9,7 @@ use Rattle.office_tables.specs.Tables.{IsOffice, tables_of}
 use Rattle.store_rows.specs.Listed.{AreShown}
 use Rattle.store_rows.specs.Live.{AreSignalsOf, live_rows}
 use Rattle.store_rows.specs.SignalShowing.{ShowsLive}
+use Rattle.store_net.specs.Detail.{live_in}
 use Rattle.store_net.proofs.live_list.each_with_signals.Given as goal
 
 abbrev pub invariant-loop-row : goal.invariant-loop-row
@@ -23,5 +24,5 @@ invariant-loop-row g l =
       survives : Survives old now (λ _. ⊥);
       told : HasCleanDisk now → IsOffice old.now → (live : List LiveMessage) → AreShown ShowsLive live l.rows
           → AllByRecursion (λ (m : LiveMessage). AreSignalsOf l.net (dbc_number m.message.ident) (live_rows l.net (tables_of old.now.trees)) m.message.signals) live
-          → l.messages.items ≡ take l.row-index live;
+          → l.messages.items ≡ map (live_in l.detail) (take l.row-index live);
     }

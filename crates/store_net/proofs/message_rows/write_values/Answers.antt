@@ -1,4 +1,4 @@
-use Rattle.std.proofs.Common.{ℕ, pos, ◌≡◌, ◌∙◌, ◌∷◌, ◌++◌, [], List, ◌<◌, ◌+◌, take, length, sym, ap, subst, arith, append_assoc, length-take, take_all}
+use Rattle.std.proofs.Common.{ℕ, pos, ◌≡◌, ◌∙◌, ◌∷◌, ◌++◌, [], List, ◌<◌, ◌+◌, take, length, sym, ap, subst, arith, append_assoc, length-take}
 use Rattle.std.proofs.lemmas.List.{take_more}
 use Rattle.std.specs.List.{AllByRecursion}
 use Rattle.catalogue.specs.declared.value_texts.ValueText.{ValueText}

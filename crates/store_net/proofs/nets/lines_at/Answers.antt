@@ -1,4 +1,4 @@
-use Rattle.std.proofs.Common.{◌≡◌, ◌++◌, ◌<◌, ◌+◌, ℕ, List, Some, take, length, map, sym, ap, subst, ◌∙◌, arith, take_all}
+use Rattle.std.proofs.Common.{◌++◌, ℕ, List, Some, sym, ap, subst, ◌∙◌, arith}
 use Rattle.sqlite.specs.Effect.{Database}
 use Rattle.sqlite.specs.Held.{state}
 use Rattle.sqlite.specs.State.{HasCleanDisk}
@@ -6,7 +6,6 @@ use Rattle.sqlite.proofs.Callers.{unchanged_then}
 use Rattle.sqlite.proofs.InsideLemmas.{keeps_then}
 use Rattle.office_types.specs.declared.state.Net.{Net}
 use Rattle.office_tables.specs.Tables.{IsOffice, tables_of}
-use Rattle.net_list.specs.Text.{net_line, nets_text}
 use Rattle.store_rows.specs.NetIn.{IsNetAt}
 use Rattle.store_net.proofs.Names.{lines_more, lines_whole}
 use Rattle.store_net.proofs.Whole.{nothing_left}

@@ -1,4 +1,4 @@
-use Rattle.std.proofs.Common.{◌∙◌, List, None, ap, slice_get}
+use Rattle.std.proofs.Common.{◌∙◌, ap, slice_get}
 use Rattle.std.specs.Option.{option_map}
 use Rattle.can_id.specs.Ident.{dbc_number}
 use Rattle.sqlite.specs.Held.{state}

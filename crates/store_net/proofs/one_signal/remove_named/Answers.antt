@@ -1,14 +1,13 @@
-use Rattle.std.proofs.Common.{◌≡◌, ◌∙◌, ◌∷◌, ◌++◌, [], List, ◌<◌, ◌+◌, take, length, sym, ap, arith}
+use Rattle.std.proofs.Common.{◌≡◌, ◌∙◌, ◌∷◌, ◌++◌, [], ◌<◌, ◌+◌, take, length, sym, ap, arith}
 use Rattle.std.proofs.lemmas.List.{take_more}
 use Rattle.sqlite.specs.Held.{state}
-use Rattle.sqlite.specs.Order.{Row}
 use Rattle.sqlite.specs.State.{HasCleanDisk}
 use Rattle.sqlite.proofs.InsideLemmas.{keeps_then}
 use Rattle.sqlite.proofs.StateLemmas.{survives_then}
 use Rattle.office_tables.specs.Tables.{tables_of}
 use Rattle.store_rows.specs.LiveWritten.{without_places}
 use Rattle.store_net.specs.Places.{places_named}
-use Rattle.store_net.proofs.SignalPlaces.{places_after, places_removed}
+use Rattle.store_net.proofs.SignalPlaces.{places_removed}
 use Rattle.store_net.proofs.one_signal.remove_named.Goals as goal
 
 pub loop-row-preserved : goal.loop-row-preserved

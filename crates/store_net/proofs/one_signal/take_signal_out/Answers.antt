@@ -1,14 +1,13 @@
-use Rattle.std.proofs.Common.{◌≡◌, ◌∙◌, Some, sym, ap, subst, arith}
+use Rattle.std.proofs.Common.{◌≡◌, ◌∙◌, sym, ap, subst, arith}
 use Rattle.std.proofs.lemmas.Result.{on_ok_weaker}
 use Rattle.sqlite.specs.Effect.{Database}
 use Rattle.sqlite.specs.Held.{state}
 use Rattle.sqlite.specs.State.{HasCleanDisk}
-use Rattle.can_id.specs.Ident.{dbc_number}
 use Rattle.office_rows.specs.Rows.{has_net_and_number}
 use Rattle.office_rows.specs.Shown.{sigs_order, sigs_shown}
 use Rattle.office_rules.specs.Facts.{live_named}
 use Rattle.office_tables.specs.Selected.{IsSelected}
-use Rattle.office_tables.specs.Tables.{IsOffice, Tables, tables_of}
+use Rattle.office_tables.specs.Tables.{IsOffice, tables_of}
 use Rattle.store_rows.specs.LiveWritten.{IsGone, without_places}
 use Rattle.store_rows.proofs.LiveRows.{places_ascend, sigs_are_shown}
 use Rattle.store_net.specs.Places.{places_named}

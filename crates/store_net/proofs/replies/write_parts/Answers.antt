@@ -1,4 +1,4 @@
-use Rattle.std.proofs.Common.{◌≡◌, ◌∙◌, ◌∷◌, ◌++◌, [], List, ◌<◌, ◌+◌, take, length, get_or, refl, sym, ap, subst, arith, append_assoc, length-take, take_all}
+use Rattle.std.proofs.Common.{◌≡◌, ◌∙◌, ◌∷◌, ◌++◌, [], List, ◌<◌, ◌+◌, take, length, get_or, refl, sym, ap, arith, append_assoc, length-take}
 use Rattle.std.proofs.lemmas.List.{take_more}
 use Rattle.sqlite.specs.Held.{state}
 use Rattle.sqlite.specs.Order.{Row}

@@ -1,6 +1,6 @@
 use Rattle.std.proofs.lemmas.Result.{on_ok_weaker}
 use Rattle.sqlite.specs.Held.{state}
-use Rattle.office_types.specs.declared.change.Change.TheVariants.{SetHead, SetMessage, RemoveMessage, SetSpnBlock, Hold, EnterSpn, SetApproval, ClearApprovals}
+use Rattle.office_types.specs.declared.change.Change.TheVariants.{SetHead, RemoveMessage, SetSpnBlock, Hold, EnterSpn, SetApproval, ClearApprovals}
 use Rattle.office_tables.specs.Tables.{tables_of}
 use Rattle.store_net.proofs.OneByOne.{added_release, added_signal, any_change, own_block, removed_signal, whole_message}
 use Rattle.store_net.proofs.writing.write_change.Goals as goal

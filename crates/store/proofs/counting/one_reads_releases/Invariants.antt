@@ -1,7 +1,7 @@
 use Rattle.std.proofs.Common.{◌≡◌, drop}
 use Rattle.std.specs.List.{list_any}
 use Rattle.office_law.specs.Released.{action_reads_releases}
-use Rattle.store.proofs.deciding.one_reads_releases.Given as goal
+use Rattle.store.proofs.counting.one_reads_releases.Given as goal
 
 -- none before does
 abbrev pub invariant-loop-part : goal.invariant-loop-part

@@ -31,7 +31,7 @@ pub fn insert_part<S: Alter>(tx: &mut Transaction<'_, S>, row: &PartRow<'_>) -> 
     )
 }
 
-/// What the parts of the bundle are answered that the team asked for under the key (`kind`, `a`), in order.
+/// What the parts of the bundle are answered that the team requested under the key (`kind`, `a`), in order.
 pub fn select_parts<S: Alter>(
     tx: &mut Transaction<'_, S>,
     team: &[u8],

@@ -14,7 +14,7 @@ use Rattle.office_script.specs.Script.{AreArrivalsOfLine, Fills, IsLineFault, Na
 one_request : (dash : Dash) (number : ℕ) (line : List ℕ) (r : LineRequest) → says_nothing line ≡ false → request_of dash number line ≡ Some r → requests_of_line dash number line ≡ Some (r ∷ [])
 one_request dash number line r some made = rw (some, made) refl
 
--- the arrival of what is asked for
+-- the arrival of a request
 pub line_filled : (files : Files) (dash : Dash) (number : ℕ) (line : List ℕ) (r : LineRequest) (arrival : Arrival) → says_nothing line ≡ false → request_of dash number line ≡ Some r
     → IsArrivalOf files r arrival → AreArrivalsOfLine files dash number line (arrival ∷ [])
 line_filled files dash number line r arrival some made arrived = record {

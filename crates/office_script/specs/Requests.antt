@@ -35,11 +35,11 @@ request_of_words dash number words = None
 abbrev pub request_of : Dash → ℕ → List ℕ → Option LineRequest
 request_of dash number line = request_of_words dash number (words_of line)
 
--- what the line of this number asks for: nothing, or one thing; `None` if it is wrong
+-- what the line of this number requests: nothing, or one thing; `None` if it is wrong
 abbrev pub requests_of_line : Dash → ℕ → List ℕ → Option (List LineRequest)
 requests_of_line dash number line = if says_nothing line then Some [] else option_map (λ r. r ∷ []) (request_of dash number line)
 
--- the file of a bundle that is requested, by what is asked for and by the line of this number
+-- the file of a requested bundle: of a request, and of the line of this number
 abbrev pub asked_bundle : Asked → Option (List ℕ)
 asked_bundle (asked.Bundle i) = Some i.file
 asked_bundle a = None

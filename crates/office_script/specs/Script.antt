@@ -43,13 +43,13 @@ pub record IsFirstAmiss (files : Files) (dash : Dash) (IsAmiss : ℕ → List �
   pub sound : AreArrivalsOf files dash before arrivals
   pub amiss : IsAmiss number line
 
--- the file that is asked for, of an import or a bundle
+-- the file of a request, which an import and a bundle have
 abbrev pub file_asked : Asked → Option (List ℕ)
 file_asked (asked.Command c) = None
 file_asked (asked.Import i) = Some i.file
 file_asked (asked.Bundle i) = Some i.file
 
--- what is asked for is a bundle whose file has a wrong line, no part, or too many
+-- a request for a bundle whose file has a wrong line, no part, or too many
 pub record AsksWrongParts (files : Files) (a : Asked) : Type 0 where
   pub bundle : FileImport
   pub asked : a ≡ asked.Bundle bundle
@@ -57,7 +57,7 @@ pub record AsksWrongParts (files : Files) (a : Asked) : Type 0 where
   pub given : Gives (files bundle.file) bytes
   pub wrong : parts_in bytes ≡ None
 
--- the line of this number asks so
+-- the line of this number has such a request
 pub record NamesWrongParts (files : Files) (dash : Dash) (number : ℕ) (line : List ℕ) : Type 0 where
   pub request : LineRequest
   pub made : requests_of_line dash number line ≡ Some (request ∷ [])
@@ -67,12 +67,12 @@ pub record NamesWrongParts (files : Files) (dash : Dash) (number : ℕ) (line : 
 abbrev pub IsWrong : Files → Dash → ℕ → List ℕ → Type 0
 IsWrong files dash number line = (requests_of_line dash number line ≡ None) ⊎ NamesWrongParts files dash number line
 
--- what is asked for names the file of this path, which may be unreadable
+-- a request that names the file of this path, which may be unreadable
 pub record AsksUnreadable (files : Files) (path : List ℕ) (a : Asked) : Type 0 where
   pub named : file_asked a ≡ Some path
   pub unreadable : FailsWith (files path) file.Unreadable
 
--- the line of this number asks so
+-- the line of this number has such a request
 pub record NamesUnreadable (files : Files) (dash : Dash) (path : List ℕ) (number : ℕ) (line : List ℕ) : Type 0 where
   pub request : LineRequest
   pub made : requests_of_line dash number line ≡ Some (request ∷ [])

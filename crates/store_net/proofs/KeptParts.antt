@@ -32,7 +32,7 @@ parts_push team key place (first ∷ parts) p =
     ap (λ l. part_values team key place first ∷ l)
     (parts_push team key (place + 1) parts p ∙ ap (λ n. part_rows team key (place + 1) parts ++ part_values team key n p ∷ []) e)
 
--- ---- as they are asked for
+-- ---- as they are read
 
 module _ (a : Answered) where
   abbrev wanted : Row → Bool

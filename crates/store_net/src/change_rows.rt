@@ -22,7 +22,7 @@ use office_types::{
 use sqlite::{Alter, Error, Transaction};
 use std::alloc::Global;
 
-/// The team that asked for the review, empty in draft.
+/// The team that requested the review, empty in draft.
 fn submitter_text(phase: &Phase) -> &[u8]
     ensures { result.now ≡ submitter_text phase.now }
 {

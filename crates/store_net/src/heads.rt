@@ -1,4 +1,4 @@
-//! What is asked of the heads of live messages: whether one has a name, and how many there are.
+//! The heads of live messages: whether one has a name, and how many there are.
 ghost use Rattle.std.specs.Prelude.{◌≡◌, List, length};
 ghost use Rattle.catalogue.specs.Named.{has_name};
 ghost use Rattle.office_rules.specs.Facts.{live_name};

@@ -2,7 +2,7 @@
 //!
 //! Reading: [`net_at`] reads the network of a name, and [`book_of`] the book of suspect parameter numbers. If the
 //! tables have a network under the name (`IsNetAt` of `store_rows`), that is the one that `net_at` gives, and so it is
-//! with the book; nothing is asked of the rows of other networks. Each part is one SELECT, and one function (`parts`).
+//! with the book; the rows of other networks may be any. Each part is one SELECT, and one function (`parts`).
 //! [`live_text`] gives the canonical text of a network's live sheet, [`live_table`] the table of its messages and
 //! [`live_chart`] the chart of one of them; [`release_text`] gives the canonical text of a release, which reads as the
 //! release and as no other sheet. [`nets_text`] lists all networks (`AreNets`), and

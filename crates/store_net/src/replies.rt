@@ -81,7 +81,7 @@ pub fn keep_reply<S: Alter>(
     write_parts(tx, team.as_bytes(), key.as_bytes(), reply.parts())
 }
 
-/// What the parts are answered of the bundle that the team asked for under the key, in order.
+/// The answers to the parts of the bundle that the team requested under the key, in order.
 fn parts_at<S: Alter>(
     alloc: Global,
     tx: &mut Transaction<'_, S>,

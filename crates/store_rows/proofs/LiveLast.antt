@@ -20,7 +20,7 @@ use Rattle.store_rows.proofs.LivePut.{put_shown}
 use Rattle.store_rows.proofs.LiveSet.{AreNamed, all_with, name_rows, named_each, names_show, own_rows, sig_rows, text_rows, texts_show}
 use Rattle.store_rows.proofs.PutTogether.{receivers_in, values_in}
 
--- the message with the signal behind its own
+-- the message with the signal after its own
 abbrev pub with_last : Signal → LiveMessage → LiveMessage
 with_last s m = record m { message = record m.message { signals = m.message.signals ++ s ∷ [] } }
 

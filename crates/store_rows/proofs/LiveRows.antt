@@ -188,7 +188,7 @@ module _ (name : List ℕ) where
   none_some x e = cc
 
   module _ (p : LiveMessage → Bool) (x : LiveMessage) where
-    -- what is found behind a row has a greater number
+    -- what is found after a row has a greater number
     behind : (n : ℕ) (row : Row) (live : List LiveMessage) (rows : List Row) → column row 1 ≡ Int (pos n) → AllByRecursion (λ z. msgs_order row z ≡ Less) rows
         → AreShown (IsMsgRow name) live rows → find p live ≡ Some x → n < number_of x
     behind n row [] rows is below shown found = absurd (none_some x found)

@@ -1,0 +1,138 @@
+//! Files in memory under fuses.
+use sqlite::{Connection, FileStore, Files, Options};
+use sqlite_disk::{Crash, Disk, Fuse, Memory};
+use std::alloc::{AllocError, Global};
+use std::io;
+
+/// A file in memory, so many calls of which succeed, and no later one.
+pub(crate) type Fused = Fuse<Memory>;
+
+/// What an office on two such files is kept in.
+pub(crate) type Store = FileStore<Fused>;
+
+/// Which of the two files stops.
+#[derive(Clone, Copy, PartialEq, Eq)]
+pub(crate) enum Which {
+    Log,
+    Database,
+    Neither,
+}
+
+/// What a stop leaves of what wasn't synced.
+#[derive(Clone, Copy, PartialEq, Eq)]
+pub(crate) enum Unsynced {
+    IsLost,
+    IsKept,
+}
+
+/// How the files of a connection are taken.
+#[derive(Clone, Copy, PartialEq, Eq)]
+pub(crate) enum Taking {
+    /// The connection is closed, as far as the files let it.
+    Closed,
+    /// No further call is made.
+    Left,
+}
+
+/// A file with these bytes, all of them synced, of which so many calls succeed.
+fn file_of(alloc: Global, bytes: &[u8], calls: u64) -> io::Result<Fused> {
+    let mut file = Memory::new(alloc);
+    if !bytes.is_empty() && file.may_be_used() {
+        file.write_at(0, bytes)?;
+    }
+    if file.may_be_used() {
+        file.sync()?;
+    }
+    Ok(Fuse::new(file, calls))
+}
+
+/// The bytes of both files.
+#[derive(Drop)]
+pub(crate) struct Bytes {
+    pub(crate) log: Vec<u8>,
+    pub(crate) db: Vec<u8>,
+}
+
+impl Bytes {
+    /// Those of new files.
+    pub(crate) fn none(alloc: Global) -> Bytes {
+        Bytes {
+            log: Vec::new(alloc),
+            db: Vec::new(alloc),
+        }
+    }
+
+    /// What a stop at this moment leaves of the files.
+    pub(crate) fn left_of(
+        alloc: Global,
+        mut files: Files<Fused>,
+        unsynced: Unsynced,
+    ) -> Result<Bytes, AllocError> {
+        if unsynced == Unsynced::IsLost {
+            files.log.crash();
+            files.db.crash();
+        }
+        Ok(Bytes {
+            log: Vec::from_slice(alloc, files.log.inner().bytes())?,
+            db: Vec::from_slice(alloc, files.db.inner().bytes())?,
+        })
+    }
+
+    /// Files of these bytes. The one that stops has so many calls.
+    pub(crate) fn files(
+        &self,
+        alloc: Global,
+        which: Which,
+        calls: u64,
+    ) -> io::Result<Files<Fused>> {
+        let log = if which == Which::Log { calls } else { u64::MAX };
+        let db = if which == Which::Database {
+            calls
+        } else {
+            u64::MAX
+        };
+        Ok(Files {
+            log: file_of(alloc, &self.log, log)?,
+            db: file_of(alloc, &self.db, db)?,
+        })
+    }
+}
+
+/// Whether a further call succeeds. Then no call has failed.
+fn goes_on(file: &mut Fused) -> bool {
+    file.may_be_used() && file.len().is_ok()
+}
+
+/// Whether no call of the file that may stop has failed.
+pub(crate) fn is_whole(files: &mut Files<Fused>, which: Which) -> bool {
+    match which {
+        Which::Log => goes_on(&mut files.log),
+        Which::Database => goes_on(&mut files.db),
+        Which::Neither => true,
+    }
+}
+
+/// A connection on the files, or the files that are left.
+pub(crate) fn connected(
+    alloc: Global,
+    files: Files<Fused>,
+) -> Result<Connection<Store>, Files<Fused>> {
+    if !files.log.may_be_used() || !files.db.may_be_used() {
+        return Err(files);
+    }
+    match Connection::open_files(alloc, files, Options::new(7)) {
+        Ok(conn) => Ok(conn),
+        Err((_, left)) => Err(left.into_files()),
+    }
+}
+
+/// The files of the connection.
+pub(crate) fn taken(conn: Connection<Store>, taking: Taking) -> Files<Fused> {
+    match taking {
+        Taking::Closed => match conn.close_files() {
+            Ok(files) => files,
+            Err((_, store)) => store.close(),
+        },
+        Taking::Left => conn.into_store().close(),
+    }
+}

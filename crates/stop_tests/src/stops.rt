@@ -1,0 +1,240 @@
+//! Stops at each call of each file, and after each of them the list again.
+use crate::disks::{Bytes, Fused, Store, Taking, Unsynced, Which, connected, is_whole, taken};
+use crate::lists::{BUNDLES, ELEVEN, FREE, HELD, List, arrivals};
+use crate::offices::{Opening, Way, is_after, office_on, opened, sent};
+use office_history::Arrival;
+use sqlite::Files;
+use std::alloc::Global;
+use std::io;
+use store::{Lost, Office};
+
+/// What an office does, and is stopped at.
+#[derive(Clone, Copy)]
+struct Work<'a> {
+    /// The bytes that the files have.
+    before: &'a Bytes,
+    /// How many requests of the list are in them.
+    kept: usize,
+    /// How the office is opened.
+    opening: Opening,
+    /// What it is sent then, from the first request that isn't in the files.
+    list: List<'a>,
+    /// How it is sent.
+    way: Way,
+    /// Sent at the end, by `arrive`.
+    last: List<'a>,
+}
+
+/// Where an office is stopped, and what is left of its files.
+#[derive(Clone, Copy)]
+struct Stop {
+    which: Which,
+    calls: u64,
+    taking: Taking,
+    unsynced: Unsynced,
+}
+
+/// What came of a stop.
+#[derive(Clone, Copy)]
+struct Tried {
+    /// No call failed.
+    is_whole: bool,
+    /// Everything is as it must be.
+    is_right: bool,
+}
+
+/// Has the office do its work, and takes the files. How many requests of the list are then answered; `None` if a reply
+/// is wrong.
+fn worked(
+    alloc: Global,
+    mut office: Office<Store>,
+    work: Work<'_>,
+    taking: Taking,
+) -> (Option<usize>, Files<Fused>) {
+    let answered = sent(alloc, &mut office, work.list, work.way, work.kept);
+    (answered, taken(office.close(), taking))
+}
+
+/// Does the work on the files, and takes them.
+fn first_run(
+    alloc: Global,
+    files: Files<Fused>,
+    work: Work<'_>,
+    taking: Taking,
+) -> (Option<usize>, Files<Fused>) {
+    match connected(alloc, files) {
+        Ok(conn) => match opened(alloc, conn, work.opening) {
+            Ok(office) => worked(alloc, office, work, taking),
+            Err((Lost::Store, conn)) => (Some(work.kept), taken(conn, taking)),
+            Err((_, conn)) => (None, taken(conn, taking)),
+        },
+        Err(files) => (Some(work.kept), files),
+    }
+}
+
+/// Whether the tables are those of an earlier version, or those of this one with all that was kept.
+fn is_old_or_new(alloc: Global, bytes: &Bytes, work: Work<'_>) -> bool {
+    match office_on(alloc, bytes, Opening::Open) {
+        Ok(mut office) => is_after(alloc, &mut office, work.list.steps, work.kept, 0),
+        Err(lost) => lost == Lost::OlderProfile,
+    }
+}
+
+/// Whether the office has what was answered, and of the next request all or nothing; gives the list its replies; and
+/// is then as it must be.
+fn answers_again(
+    alloc: Global,
+    mut office: Office<Store>,
+    work: Work<'_>,
+    answered: usize,
+) -> bool {
+    let steps = work.list.steps;
+    let count = steps.len();
+    is_after(alloc, &mut office, steps, answered, 1)
+        && sent(alloc, &mut office, work.list, work.way, 0) == Some(count)
+        && is_after(alloc, &mut office, steps, count, 0)
+        && sent(alloc, &mut office, work.last, Way::Arrive, 0) == Some(work.last.steps.len())
+        && is_after(
+            alloc,
+            &mut office,
+            work.last.steps,
+            work.last.steps.len(),
+            0,
+        )
+}
+
+/// Whether a new office on the bytes does so.
+fn second_run(alloc: Global, bytes: &Bytes, work: Work<'_>, answered: usize) -> bool {
+    match office_on(alloc, bytes, work.opening) {
+        Ok(office) => answers_again(alloc, office, work, answered),
+        Err(_) => false,
+    }
+}
+
+/// Whether the bytes that a stop left are right, after so many requests were answered.
+fn is_right(alloc: Global, bytes: &Bytes, work: Work<'_>, answered: usize) -> bool {
+    match work.opening {
+        Opening::Open => second_run(alloc, bytes, work, answered),
+        Opening::Migrate => {
+            is_old_or_new(alloc, bytes, work) && second_run(alloc, bytes, work, answered)
+        }
+    }
+}
+
+/// Does the work up to the stop, and again after it.
+fn try_stop(alloc: Global, work: Work<'_>, stop: Stop) -> io::Result<Tried> {
+    let files = work.before.files(alloc, stop.which, stop.calls)?;
+    let (answered, mut files) = first_run(alloc, files, work, stop.taking);
+    let is_whole = is_whole(&mut files, stop.which);
+    let bytes = Bytes::left_of(alloc, files, stop.unsynced)?;
+    let is_right = match answered {
+        // Where no call failed, no request is lost.
+        Some(answered) if is_whole && answered < work.list.steps.len() => false,
+        Some(answered) => is_right(alloc, &bytes, work, answered),
+        None => false,
+    };
+    Ok(Tried { is_whole, is_right })
+}
+
+/// More calls than a work makes of a file.
+const CALLS: u64 = 100_000;
+
+/// Stops the work at each call, and prints how often something was wrong.
+fn try_calls(rt: &HostRuntime, work: Work<'_>, stop: Stop, name: &str) -> io::Result<()> {
+    let mut wrong = 0u64;
+    for calls in 0..CALLS {
+        let tried = try_stop(rt.alloc(), work, Stop { calls, ..stop })?;
+        if !tried.is_right {
+            println!(rt; "{name}: WRONG after {calls} calls")?;
+            wrong = wrong.saturating_add(1);
+        }
+        if tried.is_whole {
+            return println!(rt; "{name}: {wrong} wrong");
+        }
+    }
+    println!(rt; "{name}: TOO MANY CALLS")
+}
+
+/// Stops the work at each call of each file, in each way.
+fn try_work(rt: &HostRuntime, work: Work<'_>, of: &str) -> io::Result<()> {
+    for (which, file) in [(Which::Log, "log"), (Which::Database, "database")] {
+        for (taking, taken) in [(Taking::Closed, "closed"), (Taking::Left, "left")] {
+            for (unsynced, left) in [(Unsynced::IsLost, "lost"), (Unsynced::IsKept, "kept")] {
+                let name = format!(in rt.alloc(); "{of}, {file}, {taken}, {left}")?;
+                let stop = Stop {
+                    which,
+                    calls: 0,
+                    taking,
+                    unsynced,
+                };
+                try_calls(rt, work, stop, name.as_str())?;
+            }
+        }
+    }
+    Ok(())
+}
+
+/// The work of a new office on the list of eleven, by `arrive`.
+fn work_on_eleven<'a>(new: &'a Bytes, list: &'a [Arrival], last: &'a [Arrival]) -> Work<'a> {
+    Work {
+        before: new,
+        kept: 0,
+        opening: Opening::Open,
+        list: List {
+            steps: &ELEVEN,
+            arrivals: list,
+        },
+        way: Way::Arrive,
+        last: List {
+            steps: &HELD,
+            arrivals: last,
+        },
+    }
+}
+
+/// Stops the work of a new office on the list with bundles.
+fn try_bundles(rt: &HostRuntime, new: &Bytes) -> io::Result<()> {
+    let list = arrivals(rt.alloc(), &BUNDLES)?;
+    let last = arrivals(rt.alloc(), &FREE)?;
+    let work = Work {
+        before: new,
+        kept: 0,
+        opening: Opening::Open,
+        list: List {
+            steps: &BUNDLES,
+            arrivals: &list,
+        },
+        way: Way::Arrive,
+        last: List {
+            steps: &FREE,
+            arrivals: &last,
+        },
+    };
+    try_work(rt, work, "bundles")
+}
+
+/// Stops each work. `older` are the bytes of a database of an earlier version, which has the list of eleven.
+pub(crate) fn try_stops(rt: &HostRuntime, older: Vec<u8>) -> io::Result<()> {
+    let new = Bytes::none(rt.alloc());
+    let older = Bytes {
+        log: Vec::new(rt.alloc()),
+        db: older,
+    };
+    let list = arrivals(rt.alloc(), &ELEVEN)?;
+    let last = arrivals(rt.alloc(), &HELD)?;
+    let by_arrive = work_on_eleven(&new, &list, &last);
+    let by_serve_one = Work {
+        way: Way::Serve,
+        ..by_arrive
+    };
+    let by_migrate = Work {
+        before: &older,
+        kept: ELEVEN.len(),
+        opening: Opening::Migrate,
+        ..by_arrive
+    };
+    try_work(rt, by_arrive, "arrive")?;
+    try_work(rt, by_serve_one, "serve_one")?;
+    try_bundles(rt, &new)?;
+    try_work(rt, by_migrate, "migrate")
+}

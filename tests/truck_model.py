@@ -1,5 +1,5 @@
-"""What the scripts of examples/truck make of an empty office, worked out here from the scripts and the rules alone, for the
-cases that compare what canoffice makes of them: the reply to each line, and the canonical text of each release.
+"""What the scripts of examples/truck make of an empty office, worked out here from the scripts and the rules alone, for
+the cases that compare what canoffice makes of them: the reply to each line, and the canonical text of each release.
 `office_model` holds the networks; this adds which number and which bits are given out: the least that are free.
 """
 import glob, os, subprocess, sys
@@ -12,7 +12,7 @@ LARGEST = {"std": 2047, "ext": 536870911}
 
 
 def copy_scripts():
-    """Has the case's folder the example, under the paths that its scripts have. Gives the paths of the scripts, in order."""
+    """Puts the example into the case's folder, under the paths that its scripts name, and gives the scripts' own."""
     os.makedirs("examples", exist_ok=True)
     if not os.path.exists("examples/truck"):
         os.symlink(f"{TOP}/examples/truck", "examples/truck")

@@ -2,7 +2,7 @@
 use Rattle.std.proofs.Common.{◌≡◌, ℕ, Bool, true, false, List, map, inl, inr, refl, subst, sym, Result, Ok, Err}
 use Rattle.std.specs.Prelude.{IfOk}
 use Rattle.std.specs.declared.alloc.AllocError.{AllocError}
-use Rattle.catalogue.specs.Reads.{ReadsAs}
+use Rattle.dbc_grammar.specs.Reads.{ReadsAs}
 use Rattle.catalogue.specs.declared.sheet.Sheet.{Sheet}
 use Rattle.dbc_advice.specs.Explained.{IsExplained}
 use Rattle.dbc_advice.specs.LeftOut.{left_out}

@@ -1,7 +1,7 @@
 -- What `--explain` adds to the outcome of a job on the bytes of a file.
 use Rattle.std.specs.Prelude.{◌≡◌, ◌⊎◌, ℕ, Bool, true, false, List, [], Option, Some, None, map}
 use Rattle.std.specs.Borrow.{Bor}
-use Rattle.catalogue.specs.Reads.{ReadsAs}
+use Rattle.dbc_grammar.specs.Reads.{ReadsAs}
 use Rattle.catalogue.specs.declared.sheet.Sheet.{Sheet}
 use Rattle.dbc_advice.specs.Explained.{IsExplained}
 use Rattle.dbc_advice.specs.LeftOut.{left_out}

@@ -1,6 +1,6 @@
 -- The outcome of the table of a DBC text.
 use Rattle.std.specs.Prelude.{◌≡◌, ◌⊎◌, ℕ, List}
-use Rattle.catalogue.specs.Reads.{Reads}
+use Rattle.dbc_grammar.specs.Reads.{Reads}
 use Rattle.catalogue.specs.declared.sheet.Sheet.{Sheet}
 use Rattle.chart.specs.Table.{table_of}
 use Rattle.dbc_lex.specs.declared.fault.ReadFault.{ReadFault}

@@ -2,20 +2,20 @@
 use Rattle.std.specs.Prelude.{ℕ, ◌&&◌, Bool, false, not, is_none, List, [], ◌∷◌, ◌++◌, Option, Some, None, codes, drop, length, min, if◌then◌else◌}
 use Rattle.std.specs.Option.{option_and_then, option_map_or}
 use Rattle.std.specs.Str.{bytes_eq}
-use Rattle.catalogue.specs.Fields.{is_a}
+use Rattle.dbc_grammar.specs.Fields.{is_a}
 use Rattle.catalogue.specs.Keyword.{keyword_of, keyword_text}
-use Rattle.catalogue.specs.Lexing.{lexed}
+use Rattle.dbc_grammar.specs.Lexing.{lexed}
 use Rattle.catalogue.specs.Messages.{message_at}
 use Rattle.catalogue.specs.Named.{has_name}
 use Rattle.catalogue.specs.Sheet.{node_name}
 use Rattle.catalogue.specs.Signals.{signal_name}
-use Rattle.catalogue.specs.Token.{Token}
+use Rattle.dbc_grammar.specs.Token.{Token}
 use Rattle.catalogue.specs.WholeNumber.{whole_of}
 use Rattle.catalogue.specs.declared.keyword.Keyword.{Keyword}
 use Rattle.catalogue.specs.declared.keyword.Keyword.TheVariants as key
 use Rattle.catalogue.specs.declared.message.Message.{Message}
 use Rattle.catalogue.specs.declared.sheet.Sheet.{Sheet}
-use Rattle.catalogue.specs.declared.token.TokenKind.TheVariants.{Number}
+use Rattle.dbc_grammar.specs.declared.token.TokenKind.TheVariants.{Number}
 use Rattle.dbc_advice.specs.declared.citation.Citation.{Citation}
 use Rattle.dbc_advice.specs.declared.citation.Citation.TheVariants as citing
 

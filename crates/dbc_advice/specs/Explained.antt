@@ -1,6 +1,6 @@
 -- All that is told of a file.
 use Rattle.std.specs.Prelude.{◌≡◌, ℕ, ◌++◌, List, [], drop, length, min, codes, decimal}
-use Rattle.catalogue.specs.Lexing.{lexed}
+use Rattle.dbc_grammar.specs.Lexing.{lexed}
 use Rattle.dbc_lex.specs.Fault.{code_name, code_number}
 use Rattle.dbc_read.specs.declared.reading.Reading.{Reading}
 use Rattle.dbc_advice.specs.Clashes.{AreClashLines}

@@ -1,6 +1,6 @@
 -- The faults of a text, told one after the other.
 use Rattle.std.specs.Prelude.{◌≡◌, ◌<◌, ◌≤◌, ◌*◌, ℕ, List, [], ◌∷◌, ◌++◌, length, map, All}
-use Rattle.catalogue.specs.Reads.{ReadsAs}
+use Rattle.dbc_grammar.specs.Reads.{ReadsAs}
 use Rattle.dbc_read.specs.Passed.{start_and_keyword}
 use Rattle.dbc_read.specs.Reading.{IsReadFault}
 use Rattle.dbc_advice.specs.Blanked.{blanked}

@@ -8,7 +8,8 @@ ghost use Rattle.dbc_advice.specs.Citation.{citation_at, citation_text, cited_by
 ghost use Rattle.dbc_advice.specs.Tokens.{GivesToken};
 
 use crate::joined::{three, two};
-use catalogue::{Keyword, Message, Node, Sheet, Signal, TokenKind, whole_number};
+use catalogue::{Keyword, Message, Node, Sheet, Signal, whole_number};
+use dbc_grammar::TokenKind;
 use dbc_lex::{Lexer, Token};
 use std::alloc::{AllocError, Global};
 

@@ -1,6 +1,6 @@
 //! What is found at the offset of a fault.
 ghost use Rattle.std.specs.Prelude.{◌≡◌, ◌≤◌, IfOk, drop, length, map};
-ghost use Rattle.catalogue.specs.Lexing.{lexed};
+ghost use Rattle.dbc_grammar.specs.Lexing.{lexed};
 ghost use Rattle.dbc_advice.specs.Sentence.{found_text, quoted, shown, visible};
 ghost use Rattle.dbc_advice.specs.Tokens.{IsFound};
 

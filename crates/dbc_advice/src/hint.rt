@@ -6,7 +6,7 @@ use crate::faulty_lines::{Lines, keyword_at};
 use crate::lines::line_end;
 use crate::pieces::is_gap;
 use crate::position::position_of;
-use catalogue::TokenKind;
+use dbc_grammar::TokenKind;
 use dbc_lex::{Lexer, ReadCode, ReadFault, Token};
 use std::alloc::{AllocError, Global};
 

@@ -5,7 +5,7 @@ use Rattle.std.specs.Str.{bytes_eq}
 use Rattle.std.proofs.lemmas.List.Sorted.{IsPermutation-refl}
 use Rattle.catalogue.specs.Form.{IsSheet}
 use Rattle.catalogue.specs.Messages.{number_of}
-use Rattle.catalogue.specs.Saying.{
+use Rattle.dbc_grammar.specs.Saying.{
   SignalKey,
   same_signal,
   comment_in,
@@ -29,14 +29,14 @@ use Rattle.catalogue.specs.Saying.{
   Says,
 }
 use Rattle.catalogue.specs.Sheet.{node_name}
-use Rattle.catalogue.specs.Statement.{Content, CommentIs, Statement}
+use Rattle.dbc_grammar.specs.Statement.{Content, CommentIs, Statement}
 use Rattle.catalogue.specs.declared.message.Message.{Message}
 use Rattle.catalogue.specs.declared.node.Node.{Node}
 use Rattle.catalogue.specs.declared.sheet.Sheet.{Sheet}
 use Rattle.catalogue.specs.declared.signal.Signal.{Signal}
 use Rattle.catalogue.specs.declared.value_type.ValueType.TheVariants.{Integer}
-use Rattle.catalogue.proofs.EachSaid.{kept_entries, last_value}
-use Rattle.catalogue.proofs.SheetSaid.{message_signals, messages_said, nodes_said, part_entries, signal_key, signals_said}
+use Rattle.dbc_grammar.proofs.EachSaid.{kept_entries, last_value}
+use Rattle.dbc_grammar.proofs.SheetSaid.{message_signals, messages_said, nodes_said, part_entries, signal_key, signals_said}
 use Rattle.dbc_law.proofs.Contents.{comments, contents, contents_of, message_line, node_names, signal_line}
 use Rattle.dbc_law.proofs.SayingContents.{each_in-contents}
 use Rattle.dbc_law.proofs.SayingEntries.{empty_list, empty_number, empty_type, some_number, some_of, some_type}

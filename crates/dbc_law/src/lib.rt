@@ -25,7 +25,7 @@
 
 ghost use Rattle.dbc_law.specs.Law.{GrammarLaw};
 
-use catalogue::texts_read_as_one_sheet;
+use dbc_grammar::texts_read_as_one_sheet;
 
 /// The canonical text of every well-formed sheet reads as that sheet, and as no other. The function does nothing; code
 /// whose contract needs the law calls it.

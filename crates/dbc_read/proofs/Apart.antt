@@ -1,10 +1,10 @@
 -- Definitions that come after something was cited, and the second reading, which gathers all else.
 use Rattle.std.proofs.Common.{◌≡◌, ◌∙◌, ◌++◌, ℕ, true, List, [], ◌∷◌, length, map, replicate, Some, None, refl, sym, ap, append_assoc, append-nil, subst, true≢false}
 use Rattle.std.specs.Prelude.{unwrap_or}
-use Rattle.catalogue.specs.Parsing.{statements_at}
-use Rattle.catalogue.specs.Saying.{messages_of, node_names_of}
-use Rattle.catalogue.specs.Statement as says
-use Rattle.catalogue.specs.Token.{Token}
+use Rattle.dbc_grammar.specs.Parsing.{statements_at}
+use Rattle.dbc_grammar.specs.Saying.{messages_of, node_names_of}
+use Rattle.dbc_grammar.specs.Statement as says
+use Rattle.dbc_grammar.specs.Token.{Token}
 use Rattle.catalogue.specs.declared.keyword.Keyword.{Keyword}
 use Rattle.dbc_read.specs.Attaching.{in_signals, with_attached}
 use Rattle.dbc_read.specs.Finding.{FindsAll}

@@ -3,20 +3,20 @@ use Rattle.std.proofs.Common.{◌≡◌, ◌∙◌, ℕ, List, Option, None, Som
 use Rattle.std.specs.Prelude.{IfOk, IfSome}
 use Rattle.std.proofs.lemmas.Option.{IfSome_then}
 use Rattle.std.proofs.lemmas.Result.{IfOk-at_ok}
-use Rattle.catalogue.specs.Division.{Divides}
-use Rattle.catalogue.specs.Lexing.{Lexed, lexed}
-use Rattle.catalogue.specs.Parsing.{statements_at}
-use Rattle.catalogue.specs.Reads.{ReadsAs, ReadsAsOneAtMost, ReadsOnlyAs}
-use Rattle.catalogue.specs.Saying.{Says, passed_by}
-use Rattle.catalogue.specs.Statement.{Statement}
-use Rattle.catalogue.specs.Token.{Token}
-use Rattle.catalogue.specs.TokenLaw.{tokens_without_fault}
+use Rattle.dbc_grammar.specs.Division.{Divides}
+use Rattle.dbc_grammar.specs.Lexing.{Lexed, lexed}
+use Rattle.dbc_grammar.specs.Parsing.{statements_at}
+use Rattle.dbc_grammar.specs.Reads.{ReadsAs, ReadsAsOneAtMost, ReadsOnlyAs}
+use Rattle.dbc_grammar.specs.Saying.{Says, passed_by}
+use Rattle.dbc_grammar.specs.Statement.{Statement}
+use Rattle.dbc_grammar.specs.Token.{Token}
+use Rattle.dbc_grammar.specs.TokenLaw.{tokens_without_fault}
 use Rattle.catalogue.specs.declared.keyword.Keyword.{Keyword}
 use Rattle.catalogue.specs.declared.sheet.Sheet.{Sheet}
-use Rattle.catalogue.proofs.Divisions.{one_division, reading_is_exact}
-use Rattle.catalogue.proofs.OneReading.{reads_only}
-use Rattle.catalogue.proofs.TokenExact.{exact}
-use Rattle.catalogue.proofs.TokensOnce.{tokens_once}
+use Rattle.dbc_grammar.proofs.Divisions.{one_division, reading_is_exact}
+use Rattle.dbc_grammar.proofs.OneReading.{reads_only}
+use Rattle.dbc_grammar.proofs.TokenExact.{exact}
+use Rattle.dbc_grammar.proofs.TokensOnce.{tokens_once}
 use Rattle.dbc_lex.specs.declared.fault.ReadFault.{ReadFault}
 use Rattle.dbc_statements.specs.Division.{HasNoDivision, IsDivided}
 use Rattle.dbc_statements.specs.Tokens.{EndsWith}

@@ -5,7 +5,7 @@ use Rattle.std.specs.Str.{bytes_eq}
 use Rattle.bitlayout.specs.Mux.{is_multiplexor}
 use Rattle.catalogue.specs.Limits.{message_limit, roster_limit}
 use Rattle.catalogue.specs.Named.{has_name}
-use Rattle.catalogue.specs.Statement.{Statement}
+use Rattle.dbc_grammar.specs.Statement.{Statement}
 use Rattle.catalogue.specs.WellFormed.{AreFewTexts}
 use Rattle.catalogue.specs.declared.value_texts.ValueText.{ValueText}
 use Rattle.dbc_lex.specs.declared.fault.ReadCode.{ReadCode}

@@ -1,8 +1,8 @@
 -- Computed rows of definitions that come after something was cited.
 use Rattle.std.proofs.Common.{◌≡◌, ◌++◌, true, List, [], ◌∷◌, None, refl, sym, append-nil, subst}
 use Rattle.std.specs.Prelude.{codes}
-use Rattle.catalogue.specs.Parsing.{statements_at}
-use Rattle.catalogue.specs.Statement as says
+use Rattle.dbc_grammar.specs.Parsing.{statements_at}
+use Rattle.dbc_grammar.specs.Statement as says
 use Rattle.catalogue.specs.declared.keyword.Keyword.TheVariants.{Nodes}
 use Rattle.dbc_read.specs.Definitions.{AreDefinitions}
 use Rattle.dbc_read.specs.Gathered.{AreGathered, gathered_after, passed_of}

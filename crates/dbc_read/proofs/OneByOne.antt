@@ -4,10 +4,10 @@ use Rattle.std.proofs.Common.{◌≡◌, ◌∙◌, ◌++◌, ℕ, true, false, 
 use Rattle.std.specs.List.{cons_option, flat_map}
 use Rattle.std.specs.Option.{option_map}
 use Rattle.std.proofs.lemmas.List.Elements.{filter_map-append}
-use Rattle.catalogue.specs.Parsing.{statements_at}
-use Rattle.catalogue.specs.Saying.{each_in, message_in, messages_of, node_names_of, nodes_in, numbers_of, signal_keys_of}
-use Rattle.catalogue.specs.Statement as says
-use Rattle.catalogue.specs.Token.{Token}
+use Rattle.dbc_grammar.specs.Parsing.{statements_at}
+use Rattle.dbc_grammar.specs.Saying.{each_in, message_in, messages_of, node_names_of, nodes_in, numbers_of, signal_keys_of}
+use Rattle.dbc_grammar.specs.Statement as says
+use Rattle.dbc_grammar.specs.Token.{Token}
 use Rattle.dbc_read.specs.Gathered.{IsNothing, gathered_after, passed_of}
 use Rattle.dbc_read.specs.Gathering.{BeginWith, DefineNothing, Gathers, IsDefining, IsEmpty, cites, defines, with_definitions, with_empty, with_nothing_attached}
 use Rattle.dbc_read.specs.Lookups.{IsCitedIndex}

@@ -2,14 +2,14 @@
 use Rattle.std.proofs.Common.{◌≡◌, ℕ, List, [], ◌∷◌, Some, inl, inr, refl, arith}
 use Rattle.std.specs.Prelude.{codes}
 use Rattle.std.specs.List.{IsDistinct}
-use Rattle.catalogue.specs.Lexing.{StrayByte, first_token, lexed, lexed_in, token_at, word_len}
+use Rattle.dbc_grammar.specs.Lexing.{StrayByte, first_token, lexed, lexed_in, token_at, word_len}
 use Rattle.catalogue.specs.Name.{is_name}
-use Rattle.catalogue.specs.Parsing.{further_at, line_at, nodes_at, nodes_line_at, no_names_at, some_names_at, statement_at, statements_at}
-use Rattle.catalogue.specs.Statement as says
-use Rattle.catalogue.specs.Token.{Token}
-use Rattle.catalogue.specs.TokenLaw.{tokens_without_fault}
+use Rattle.dbc_grammar.specs.Parsing.{further_at, line_at, nodes_at, nodes_line_at, no_names_at, some_names_at, statement_at, statements_at}
+use Rattle.dbc_grammar.specs.Statement as says
+use Rattle.dbc_grammar.specs.Token.{Token}
+use Rattle.dbc_grammar.specs.TokenLaw.{tokens_without_fault}
 use Rattle.catalogue.specs.declared.keyword.Keyword.TheVariants.{Nodes}
-use Rattle.catalogue.specs.declared.token.TokenKind.TheVariants.{Mark, Name}
+use Rattle.dbc_grammar.specs.declared.token.TokenKind.TheVariants.{Mark, Name}
 use Rattle.dbc_lex.specs.declared.fault.ReadCode.TheVariants as code
 use Rattle.dbc_lex.specs.declared.fault.ReadFault.{ReadFault}
 use Rattle.dbc_read.specs.Faults.{IsFault, definition, node}

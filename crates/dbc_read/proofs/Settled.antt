@@ -4,10 +4,10 @@ use Rattle.std.specs.Prelude.{IfSome}
 use Rattle.std.specs.List.{flat_map}
 use Rattle.std.proofs.lemmas.List.{length-map}
 use Rattle.can_id.specs.Ident.{dbc_number}
-use Rattle.catalogue.specs.Saying.{keys_of, messages_of, node_names_of, numbers_of, signal_keys_of}
-use Rattle.catalogue.specs.Statement as says
-use Rattle.catalogue.specs.Statement.{Cited}
-use Rattle.catalogue.specs.Token.{Token}
+use Rattle.dbc_grammar.specs.Saying.{keys_of, messages_of, node_names_of, numbers_of, signal_keys_of}
+use Rattle.dbc_grammar.specs.Statement as says
+use Rattle.dbc_grammar.specs.Statement.{Cited}
+use Rattle.dbc_grammar.specs.Token.{Token}
 use Rattle.catalogue.specs.declared.keyword.Keyword.{Keyword}
 use Rattle.catalogue.specs.declared.signal.Signal.{Signal}
 use Rattle.catalogue.specs.declared.value_type.ValueType.TheVariants.{Integer}

@@ -1,7 +1,7 @@
 -- Computed rows of how far statements are settled.
 use Rattle.std.proofs.Common.{List, [], ◌∷◌, refl}
-use Rattle.catalogue.specs.Parsing.{statements_at}
-use Rattle.catalogue.specs.Token.{Token}
+use Rattle.dbc_grammar.specs.Parsing.{statements_at}
+use Rattle.dbc_grammar.specs.Token.{Token}
 use Rattle.dbc_read.specs.Gathering.{BeginWith, Settles}
 use Rattle.dbc_read.specs.Settling.{AreSettled, ReadUpTo, SettlesTo}
 use Rattle.dbc_read.specs.declared.finding.Finders.{Finders}

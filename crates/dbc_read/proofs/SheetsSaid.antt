@@ -10,15 +10,15 @@ use Rattle.can_id.specs.Ident.{dbc_number}
 use Rattle.catalogue.specs.Form.{IsSheet}
 use Rattle.catalogue.specs.Messages.{number_of}
 use Rattle.catalogue.specs.Named.{AreNamedApart}
-use Rattle.catalogue.specs.Saying.{Says, SignalKey, keys_of, last_value_of, messages_of, node_names_of, numbers_of, same_signal, signal_keys_of, value_texts_in, whole_message, whole_node, whole_signal}
+use Rattle.dbc_grammar.specs.Saying.{Says, SignalKey, keys_of, last_value_of, messages_of, node_names_of, numbers_of, same_signal, signal_keys_of, value_texts_in, whole_message, whole_node, whole_signal}
 use Rattle.catalogue.specs.Sheet.{node_name}
 use Rattle.catalogue.specs.Signals.{signal_name}
-use Rattle.catalogue.specs.Statement.{MessageLine, SignalLine, Statement}
+use Rattle.dbc_grammar.specs.Statement.{MessageLine, SignalLine, Statement}
 use Rattle.catalogue.specs.WellFormed.{AreFewTexts, AreRostered, IsWellFormedMessage}
 use Rattle.catalogue.specs.declared.message.Message.{Message}
 use Rattle.catalogue.specs.declared.sheet.Sheet.{Sheet}
 use Rattle.catalogue.specs.declared.value_texts.ValueText.{ValueText}
-use Rattle.catalogue.proofs.AscendingUnique.{all_permutation, distinct_if_ascending}
+use Rattle.dbc_grammar.proofs.AscendingUnique.{all_permutation, distinct_if_ascending}
 use Rattle.dbc_read.specs.Built.{CanBeSheet, IsBuilt, feeds_in, messages_from, messages_in, nodes_from, nodes_in, tables_in}
 use Rattle.dbc_read.specs.Fit.{CanShareSheet, HaveFewTexts, IsFit, TablesFit}
 use Rattle.dbc_read.specs.Gathered.{AreGathered}

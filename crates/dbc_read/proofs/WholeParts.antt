@@ -3,8 +3,8 @@ use Rattle.std.proofs.Common.{◌≡◌, ◌∙◌, ◌++◌, ℕ, nat_eq, List,
 use Rattle.std.specs.List.{flat_map}
 use Rattle.std.specs.Str.{bytes_eq}
 use Rattle.can_id.specs.Ident.{dbc_number}
-use Rattle.catalogue.specs.Saying.{SignalKey, keys_of, last_value_of, message_comment_in, node_comment_in, same_signal, signal_comment_in, spn_in, value_texts_in, value_type_in, whole_message, whole_node, whole_signal}
-use Rattle.catalogue.specs.Statement.{MessageLine, SignalLine, Statement}
+use Rattle.dbc_grammar.specs.Saying.{SignalKey, keys_of, last_value_of, message_comment_in, node_comment_in, same_signal, signal_comment_in, spn_in, value_texts_in, value_type_in, whole_message, whole_node, whole_signal}
+use Rattle.dbc_grammar.specs.Statement.{MessageLine, SignalLine, Statement}
 use Rattle.catalogue.specs.declared.message.Message.{Message}
 use Rattle.catalogue.specs.declared.value_type.ValueType.TheVariants.{Integer}
 use Rattle.dbc_read.specs.Built.{feeds_after, messages_from, nodes_from, signals_from}

@@ -4,10 +4,10 @@ use Rattle.std.specs.Prelude.{◌≡◌, ℕ, nat_eq, Bool, true, false, List, [
 use Rattle.std.specs.List.{AllByRecursion, IsDistinct, last_or}
 use Rattle.std.specs.Option.{option_map}
 use Rattle.std.specs.Str.{bytes_eq}
-use Rattle.catalogue.specs.Parsing.{statements_at}
-use Rattle.catalogue.specs.Saying.{comment_in, each_in, is_passed, last_at, last_value_of, message_comment_in, messages_of, node_comment_in, node_names_of, numbers_of, passed_by, same_signal, signal_comment_in, signal_keys_of, spn_in, table_in, value_texts_in, value_type_in, version_in}
-use Rattle.catalogue.specs.Statement as says
-use Rattle.catalogue.specs.Token.{Token}
+use Rattle.dbc_grammar.specs.Parsing.{statements_at}
+use Rattle.dbc_grammar.specs.Saying.{comment_in, each_in, is_passed, last_at, last_value_of, message_comment_in, messages_of, node_comment_in, node_names_of, numbers_of, passed_by, same_signal, signal_comment_in, signal_keys_of, spn_in, table_in, value_texts_in, value_type_in, version_in}
+use Rattle.dbc_grammar.specs.Statement as says
+use Rattle.dbc_grammar.specs.Token.{Token}
 use Rattle.catalogue.specs.declared.keyword.Keyword.{Keyword}
 use Rattle.catalogue.specs.declared.value_type.ValueType.TheVariants.{Integer}
 use Rattle.dbc_read.specs.Attaching.{all_signals, cites_signal, with_attached}

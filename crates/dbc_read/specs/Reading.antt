@@ -1,8 +1,8 @@
 -- A text that reads as no sheet, and its fault.
 use Rattle.std.specs.Prelude.{◌≡◌, ◌≢◌, ◌≤◌, ◌⊎◌, ℕ, List, Some, length}
-use Rattle.catalogue.specs.Lexing.{LexFault, lexed}
-use Rattle.catalogue.specs.Reads.{Reads}
-use Rattle.catalogue.specs.Statement.{Statement}
+use Rattle.dbc_grammar.specs.Lexing.{LexFault, lexed}
+use Rattle.dbc_grammar.specs.Reads.{Reads}
+use Rattle.dbc_grammar.specs.Statement.{Statement}
 use Rattle.catalogue.specs.declared.sheet.Sheet.{Sheet}
 use Rattle.dbc_lex.specs.Fault.{fault_of}
 use Rattle.dbc_lex.specs.declared.fault.ReadCode.TheVariants.{Memory}

@@ -1,8 +1,8 @@
 -- How far statements are settled, which come after those that define what they cite.
 use Rattle.std.specs.Prelude.{◌≡◌, List, [], ◌∷◌, ◌++◌, Option, Some}
-use Rattle.catalogue.specs.Parsing.{statements_at}
-use Rattle.catalogue.specs.Statement as says
-use Rattle.catalogue.specs.Token.{Token}
+use Rattle.dbc_grammar.specs.Parsing.{statements_at}
+use Rattle.dbc_grammar.specs.Statement as says
+use Rattle.dbc_grammar.specs.Token.{Token}
 use Rattle.dbc_read.specs.Attaching.{with_attached}
 use Rattle.dbc_read.specs.Gathered.{AreGathered}
 use Rattle.dbc_read.specs.Gathering.{BeginWith, DefineNothing, IsDefining, Settles, one_or_none, with_definitions}

@@ -6,8 +6,8 @@
 //! signal. If there is such a statement, the definitions alone don't tell the first fault, since the texts may be of no
 //! signal, or not the last ones of theirs.
 ghost use Rattle.std.specs.Prelude.{◌≡◌, ◌++◌, [], ◌∷◌, List, None, IfErr, IfNone, IfOk, IfSome, OnOk};
-ghost use Rattle.catalogue.specs.Parsing.{statements_at};
-ghost use Rattle.catalogue.specs.Statement as says;
+ghost use Rattle.dbc_grammar.specs.Parsing.{statements_at};
+ghost use Rattle.dbc_grammar.specs.Statement as says;
 ghost use Rattle.dbc_lex.specs.Fault.{UnlessMemory};
 ghost use Rattle.dbc_read.specs.Definitions.{AreDefinitions, AreDefinitionsOfTokens, DefineFurther, HasManyTexts, IsDefinitionFault, TokensHaveManyTexts, has_many_texts, is_definition};
 ghost use Rattle.dbc_read.specs.Reading.{CanNeverBeSheet};

@@ -7,7 +7,7 @@
 ghost use Rattle.std.specs.Prelude.{◌≡◌, ◌==◌, List, IfOk, IfSome, Some, false, map, nat_eq, slice_get, true};
 ghost use Rattle.std.specs.List.{IsDistinct};
 ghost use Rattle.std.specs.Str.{bytes_eq};
-ghost use Rattle.catalogue.specs.Statement as says;
+ghost use Rattle.dbc_grammar.specs.Statement as says;
 ghost use Rattle.catalogue.specs.declared.signal.Signal.{Signal};
 ghost use Rattle.dbc_read.specs.Attaching.{IsPlaceCited, IsPlaceOf, cites_signal};
 ghost use Rattle.dbc_read.specs.Finding.{Finds, FindsAll, FindsSignals};

@@ -4,7 +4,7 @@
 //! text is read a second time: its definitions are known, so they are skipped, and the other statements are gathered
 //! one by one as in any file (`settling`). No list of statements is kept.
 ghost use Rattle.std.specs.Prelude.{◌≡◌, None, IfErr, IfOk, IfSome, IsTrue, map};
-ghost use Rattle.catalogue.specs.Parsing.{statements_at};
+ghost use Rattle.dbc_grammar.specs.Parsing.{statements_at};
 ghost use Rattle.dbc_lex.specs.Fault.{UnlessMemory};
 ghost use Rattle.dbc_read.specs.Attaching.{in_signals};
 ghost use Rattle.dbc_read.specs.Gathering.{AreBare, IsEmpty, IsOfTokens};

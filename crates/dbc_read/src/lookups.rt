@@ -1,6 +1,6 @@
 //! Which node, message or signal of the file each statement cites.
 ghost use Rattle.std.specs.Prelude.{List, IfOk};
-ghost use Rattle.catalogue.specs.Statement as says;
+ghost use Rattle.dbc_grammar.specs.Statement as says;
 ghost use Rattle.dbc_read.specs.Keys.{AreKeys};
 ghost use Rattle.dbc_read.specs.Lookups.{AreCitedIndices, AreLookups, IsCitedIndex, IsMessageIndex, IsSignalIndex};
 ghost use Rattle.dbc_statements.specs.Statement.{content_of, statements_of};

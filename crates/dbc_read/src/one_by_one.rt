@@ -4,7 +4,7 @@
 //! statement comes (`finding`), and it is gathered at once (`settling`). If a definition comes after that, it may be of
 //! something that was cited before. Then only the definitions are gathered to the end (`late`).
 ghost use Rattle.std.specs.Prelude.{◌≡◌, None, IfErr, IfOk, IfSome, OnOk, true};
-ghost use Rattle.catalogue.specs.Parsing.{statements_at};
+ghost use Rattle.dbc_grammar.specs.Parsing.{statements_at};
 ghost use Rattle.dbc_lex.specs.Fault.{UnlessMemory};
 ghost use Rattle.dbc_read.specs.Attaching.{in_signals};
 ghost use Rattle.dbc_read.specs.Finding.{FindsAll, FindsSignals};

@@ -2,7 +2,7 @@
 //! sheet, its definitions tell the first fault. If too many texts for values leave that open, the text is read into
 //! lists.
 ghost use Rattle.std.specs.Prelude.{◌≡◌, ◌≤◌, Err, IfErr, IfNone, IfOk, IfSome, Ok, length, map};
-ghost use Rattle.catalogue.specs.Reads.{ReadsAs, ReadsOnlyAs};
+ghost use Rattle.dbc_grammar.specs.Reads.{ReadsAs, ReadsOnlyAs};
 ghost use Rattle.dbc_lex.specs.Fault.{UnlessMemory};
 ghost use Rattle.dbc_lex.specs.declared.fault.ReadCode.TheVariants.{Memory};
 ghost use Rattle.dbc_read.specs.Attaching.{in_signals};
@@ -19,7 +19,8 @@ use crate::late::gathered_again;
 use crate::one_by_one::{Found, gathered_one_by_one};
 use crate::passed::Passed;
 use crate::refusal::Refusal;
-use catalogue::{Items, Sheet, texts_read_as_one_sheet};
+use catalogue::{Items, Sheet};
+use dbc_grammar::texts_read_as_one_sheet;
 use dbc_lex::ReadFault;
 use dbc_statements::{Statements, statements_of};
 use std::alloc::Global;

@@ -2,8 +2,8 @@
 //!
 //! What they attach to signals is set in these at once, so that the last one counts.
 ghost use Rattle.std.specs.Prelude.{◌≡◌, ℕ, List, None, Some, IfErr, IfOk, IfSome, IsTrue, OnOk, false, map, true};
-ghost use Rattle.catalogue.specs.Parsing.{statements_at};
-ghost use Rattle.catalogue.specs.Statement.{Cited};
+ghost use Rattle.dbc_grammar.specs.Parsing.{statements_at};
+ghost use Rattle.dbc_grammar.specs.Statement.{Cited};
 ghost use Rattle.dbc_lex.specs.Fault.{UnlessMemory};
 ghost use Rattle.dbc_read.specs.Attaching.{HasPlaceIfAny, IsAttached, IsPlaceOf, cites_signal};
 ghost use Rattle.dbc_read.specs.Finding.{FindsSignals};

@@ -1,7 +1,7 @@
 //! The statements of a text, one by one.
 ghost use Rattle.std.specs.Prelude.{◌≡◌, [], IfErr, IfNone, IfOk, IfSome, None, OnErr, Some};
-ghost use Rattle.catalogue.specs.Lexing.{lexed};
-ghost use Rattle.catalogue.specs.Parsing.{statements_at};
+ghost use Rattle.dbc_grammar.specs.Lexing.{lexed};
+ghost use Rattle.dbc_grammar.specs.Parsing.{statements_at};
 ghost use Rattle.dbc_lex.specs.Fault.{UnlessMemory};
 ghost use Rattle.dbc_statements.specs.Left.{BeginsWith};
 ghost use Rattle.dbc_statements.specs.Statement.{NothingIsAttached, statement_of};

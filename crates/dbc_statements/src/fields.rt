@@ -1,12 +1,12 @@
 //! The fields of statements, read from the front of the tokens. Each function removes the tokens of what it returns; a
 //! fault leaves the token that it is about.
 ghost use Rattle.std.specs.Prelude.{◌≡◌, [], ◌∷◌, Some, codes, drop, option_map};
-ghost use Rattle.catalogue.specs.Fields as fields;
-ghost use Rattle.catalogue.specs.Grammar as grammar;
-ghost use Rattle.catalogue.specs.Lexing.{kind_of};
-ghost use Rattle.catalogue.specs.Parsing.{token_at, one_at, optional_at, key_at, mark_at, decimal_at, pair_at, layout_at};
-ghost use Rattle.catalogue.specs.Rules.{begins, starts};
-ghost use Rattle.catalogue.specs.declared.token.TokenKind.TheVariants.{Mark, Number};
+ghost use Rattle.dbc_grammar.specs.Fields as fields;
+ghost use Rattle.dbc_grammar.specs.Grammar as grammar;
+ghost use Rattle.dbc_grammar.specs.Lexing.{kind_of};
+ghost use Rattle.dbc_grammar.specs.Parsing.{token_at, one_at, optional_at, key_at, mark_at, decimal_at, pair_at, layout_at};
+ghost use Rattle.dbc_grammar.specs.Rules.{begins, starts};
+ghost use Rattle.dbc_grammar.specs.declared.token.TokenKind.TheVariants.{Mark, Number};
 ghost use Rattle.dbc_statements.specs.Reading.{Reads, itself, with_mark};
 
 use crate::tokens::Tokens;

@@ -1,8 +1,8 @@
 //! Messages with their signals.
 ghost use Rattle.std.specs.Prelude.{◌≡◌, IfOk};
-ghost use Rattle.catalogue.specs.Fields as fields;
-ghost use Rattle.catalogue.specs.Parsing.{either_at, independent_at, message_at};
-ghost use Rattle.catalogue.specs.Rules.{begins};
+ghost use Rattle.dbc_grammar.specs.Fields as fields;
+ghost use Rattle.dbc_grammar.specs.Parsing.{either_at, independent_at, message_at};
+ghost use Rattle.dbc_grammar.specs.Rules.{begins};
 ghost use Rattle.dbc_statements.specs.Reading.{Reads};
 ghost use Rattle.dbc_statements.specs.Statement.{NothingIsAttached, line_content};
 

@@ -1,8 +1,8 @@
 //! Statements, one after the other.
 ghost use Rattle.std.specs.Prelude.{◌≡◌, IfOk, IfErr, None, Some};
-ghost use Rattle.catalogue.specs.Grammar as grammar;
-ghost use Rattle.catalogue.specs.Parsing.{line_at, statement_at, statements_at, token_at};
-ghost use Rattle.catalogue.specs.Spelling.{Spells};
+ghost use Rattle.dbc_grammar.specs.Grammar as grammar;
+ghost use Rattle.dbc_grammar.specs.Parsing.{line_at, statement_at, statements_at, token_at};
+ghost use Rattle.dbc_grammar.specs.Spelling.{Spells};
 ghost use Rattle.dbc_lex.specs.Fault.{UnlessMemory};
 ghost use Rattle.dbc_statements.specs.Division.{HasNoDivision, IsDivided, TokensComeFirst};
 ghost use Rattle.dbc_statements.specs.Reading.{Reads, itself};

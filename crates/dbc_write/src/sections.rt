@@ -2,7 +2,7 @@
 //! signal after the other.
 ghost use Rattle.std.specs.Prelude.{◌≡◌, ◌∷◌, [], OnOk};
 ghost use Rattle.std.specs.List.{flat_map};
-ghost use Rattle.catalogue.specs.Canon.{each_signal, line_text, spn_default, spn_definition, spn_lines, type_lines, value_lines, with_spn_definitions};
+ghost use Rattle.dbc_grammar.specs.Canon.{each_signal, line_text, spn_default, spn_definition, spn_lines, type_lines, value_lines, with_spn_definitions};
 ghost use Rattle.dbc_write.specs.Adding.{Adds};
 ghost use Rattle.dbc_write.specs.Sections.{has_spn, message_has_spn, section_lines};
 

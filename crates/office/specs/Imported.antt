@@ -1,6 +1,6 @@
 -- What is decided on an import.
 use Rattle.std.specs.Prelude.{◌≡◌, ℕ, List, Option, Some, None, min}
-use Rattle.catalogue.specs.Reads.{Reads}
+use Rattle.dbc_grammar.specs.Reads.{Reads}
 use Rattle.dbc_lex.specs.Fault.{code_number}
 use Rattle.dbc_lex.specs.declared.fault.ReadCode.TheVariants.{Memory}
 use Rattle.dbc_lex.specs.declared.fault.ReadFault.{ReadFault}

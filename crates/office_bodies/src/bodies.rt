@@ -1,6 +1,6 @@
 //! Bodies of messages, and texts of sheets.
 ghost use Rattle.std.specs.Prelude.{◌≡◌, IfOk, None, Some};
-ghost use Rattle.catalogue.specs.Reads.{Reads};
+ghost use Rattle.dbc_grammar.specs.Reads.{Reads};
 ghost use Rattle.catalogue.specs.declared.message.Message.{Message as Told};
 ghost use Rattle.catalogue.specs.declared.sheet.Sheet.{Sheet as Whole};
 ghost use Rattle.dbc_read.specs.Reading.{ReadsAsNothing};

@@ -1,7 +1,7 @@
 //! Laws of histories. Each is the contract of a function that does nothing.
 ghost use Rattle.office_history.specs.Laws.{AnswersAreApart, HistoriesGrow, HistoriesLeaveOffices, NumbersKeepTheirNames, ReleasesStay, SpnsAreGivenOnce};
 
-use catalogue::texts_read_as_one_sheet;
+use dbc_grammar::texts_read_as_one_sheet;
 
 /// A legal history goes on with an arrival that a step of the office answers, where its pair of team and key is new,
 /// and else with one that is answered as a repeat.

@@ -1,7 +1,7 @@
 -- Steps agree.
 use Rattle.std.proofs.Common.{◌≡◌, ◌⊎◌, ◌∙◌, Bool, true, false, ℕ, List, ◌∷◌, Option, Some, None, inl, inr, refl, sym, ap}
 use Rattle.std.proofs.lemmas.Bool.{false≢true}
-use Rattle.catalogue.specs.Reads.{ReadsAsOneAtMost}
+use Rattle.dbc_grammar.specs.Reads.{ReadsAsOneAtMost}
 use Rattle.catalogue.specs.declared.sheet.Sheet.{Sheet}
 use Rattle.office_types.specs.declared.book.SpnBook.{SpnBook}
 use Rattle.office_types.specs.declared.command.Command.{Command}

@@ -7,7 +7,7 @@ ghost use Rattle.office_law.specs.Missing.{NothingIsMissing};
 ghost use Rattle.office_law.specs.Released.{ReleasesDontCount};
 ghost use Rattle.office_law.specs.Refusals.{LeastInsideBlocks, NeverTwoMultiplexors, RefusedForWant};
 
-use catalogue::texts_read_as_one_sheet;
+use dbc_grammar::texts_read_as_one_sheet;
 
 /// What every office keeps is kept by each step and by each run, and the opening office keeps it. Teams and commands are
 /// in range, as those of their types are.

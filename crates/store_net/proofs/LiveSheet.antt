@@ -12,7 +12,7 @@ use Rattle.catalogue.specs.Keyed.{put}
 use Rattle.catalogue.specs.Messages.{AreMessages, by_number, has_number, number_of}
 use Rattle.catalogue.specs.declared.message.Message.{Message}
 use Rattle.catalogue.specs.declared.sheet.Sheet.{Sheet}
-use Rattle.catalogue.proofs.AscendingUnique.{one_ascending}
+use Rattle.dbc_grammar.proofs.AscendingUnique.{one_ascending}
 use Rattle.dbc_read.proofs.Putting.{one_put}
 use Rattle.chart.specs.Message.{message_chart}
 use Rattle.office_types.specs.State.{live_messages, sheet_of, sheet_with}

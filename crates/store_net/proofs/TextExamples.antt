@@ -3,7 +3,7 @@ use Rattle.std.proofs.Common.{◌≡◌, [], ◌∷◌, Some, None, codes, refl}
 use Rattle.std.specs.Fmt.{digits}
 use Rattle.bitlayout.specs.First.{first_answer}
 use Rattle.can_id.specs.declared.ident.Ident.TheVariants.{Std}
-use Rattle.catalogue.specs.Canon.{canonical_text}
+use Rattle.dbc_grammar.specs.Canon.{canonical_text}
 use Rattle.catalogue.specs.Sheet.{empty_sheet}
 use Rattle.catalogue.specs.declared.message.Message.{Message}
 use Rattle.catalogue.specs.declared.sheet.Sheet.{Sheet}

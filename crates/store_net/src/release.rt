@@ -1,7 +1,7 @@
 //! The text of a release.
 ghost use Rattle.std.specs.Prelude.{◌≡◌, Option, IfOk};
-ghost use Rattle.catalogue.specs.Canon.{canonical_text};
-ghost use Rattle.catalogue.specs.Reads.{Reads, ReadsOnlyAs};
+ghost use Rattle.dbc_grammar.specs.Canon.{canonical_text};
+ghost use Rattle.dbc_grammar.specs.Reads.{Reads, ReadsOnlyAs};
 ghost use Rattle.catalogue.specs.declared.sheet.Sheet.{Sheet as Told};
 ghost use Rattle.std.specs.Option.{option_map};
 ghost use Rattle.office_types.specs.declared.state.Net.{Net as Network};

@@ -3,7 +3,7 @@ use Rattle.std.specs.Prelude.{◌≡◌, ℕ, ◌+◌, List, [], ◌∷◌, Bool
 use Rattle.sqlite.specs.Order.{Row}
 use Rattle.can_id.specs.Ident.{IsIdentifier, dbc_number}
 use Rattle.can_id.specs.declared.ident.Ident.{Ident}
-use Rattle.catalogue.specs.Reads.{Reads}
+use Rattle.dbc_grammar.specs.Reads.{Reads}
 use Rattle.catalogue.specs.declared.sheet.Sheet.{Sheet}
 use Rattle.office_types.specs.Block.{form_number}
 use Rattle.office_types.specs.Command.{kind_number}

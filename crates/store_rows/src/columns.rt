@@ -2,7 +2,7 @@
 ghost use Rattle.std.specs.Prelude.{◌≡◌, ℕ, List, IfOk, pos};
 ghost use Rattle.sqlite.specs.declared.types.Value.TheVariants.{Int, Text, Blob};
 ghost use Rattle.sqlite.specs.Order.{column};
-ghost use Rattle.catalogue.specs.Reads.{Reads};
+ghost use Rattle.dbc_grammar.specs.Reads.{Reads};
 ghost use Rattle.catalogue.specs.declared.sheet.Sheet.{Sheet as Told};
 
 use catalogue::Sheet;

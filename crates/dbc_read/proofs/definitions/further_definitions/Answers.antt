@@ -1,6 +1,6 @@
 use Rattle.std.proofs.Common.{◌∙◌, ◌++◌, List, [], ◌∷◌, append_assoc, append-nil, refl, subst, sym}
 use Rattle.std.proofs.lemmas.Result.{err_from_is_err_and}
-use Rattle.catalogue.specs.Statement as says
+use Rattle.dbc_grammar.specs.Statement as says
 use Rattle.dbc_read.specs.Definitions.{AreDefinitions}
 use Rattle.dbc_read.proofs.DefinitionsAlone.{few_with_one, many_said}
 use Rattle.dbc_read.proofs.OneByOne.{begin_with_all, begin_with_more, begin_without, none_read, one_read}

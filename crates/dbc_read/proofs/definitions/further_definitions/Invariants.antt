@@ -1,5 +1,5 @@
 use Rattle.std.proofs.Common.{◌≡◌, ◌++◌, List, length}
-use Rattle.catalogue.specs.Statement as says
+use Rattle.dbc_grammar.specs.Statement as says
 use Rattle.dbc_read.specs.Definitions.{AreDefinitions, HaveFewTexts}
 use Rattle.dbc_read.proofs.OneByOne.{ReadSoFar}
 use Rattle.dbc_read.proofs.definitions.further_definitions.Given as goal

@@ -1,6 +1,6 @@
 use Rattle.std.proofs.Common.{◌≡◌, ◌∙◌, ◌++◌, false, [], ◌∷◌, None, ap, refl, subst, sym}
 use Rattle.std.proofs.lemmas.Result.{err_from_is_err_and}
-use Rattle.catalogue.specs.Statement as says
+use Rattle.dbc_grammar.specs.Statement as says
 use Rattle.dbc_read.specs.Gathered.{passed_of}
 use Rattle.dbc_read.specs.Gathering.{AreBare, IsDefining, cites}
 use Rattle.dbc_read.specs.declared.gathered.Gathered.{Gathered}

@@ -1,5 +1,5 @@
 use Rattle.std.proofs.Common.{sym, ◌∙◌}
-use Rattle.catalogue.specs.Canon.{canonical_text}
+use Rattle.dbc_grammar.specs.Canon.{canonical_text}
 use Rattle.store_net.proofs.LiveSheet.{nothing_told, told}
 use Rattle.store_net.proofs.live.live_text.Goals as goal
 

@@ -3,8 +3,8 @@ ghost use Rattle.std.specs.Prelude.{◌≡◌, Err, IfOk, IsFalse, IsOk, IsTrue,
 ghost use Rattle.sqlite.specs.Files.{file_state};
 
 use canoffice_cli::{
-    Answers, Databases, Progress, ServeEnd, answer_on, look_on, lost_at_once, migrate_on,
-    told_and_closed,
+    Answers, Databases, Progress, ServeEnd, answer_on, answers_when_closed, look_on, migrate_on,
+    nothing_answered,
 };
 use office_history::Arrival;
 use serving::{ServeFault, listen, serve};
@@ -53,7 +53,7 @@ fn serve_at(
         return Err(ServeFault::Listen);
     };
     let mut errors = rt.stderr();
-    let _told = writeln!(errors, "listening on {address}");
+    let _reported = writeln!(errors, "listening on {address}");
     serve(rt.alloc(), office, &mut listener, &mut errors, count)
 }
 
@@ -107,11 +107,11 @@ impl Databases for HostDatabases<'_> {
     ) -> Result<Answers, AllocError> {
         match opened(self.rt, path) {
             Ok(conn) => {
-                let (told, conn) = answer_on(alloc, conn, script, arrivals, progress);
+                let (reported, conn) = answer_on(alloc, conn, script, arrivals, progress);
                 let closed = closed(conn);
-                Ok(told_and_closed(told?, closed))
+                Ok(answers_when_closed(reported?, closed))
             }
-            Err(lost) => Ok(lost_at_once(alloc, lost)),
+            Err(lost) => Ok(nothing_answered(alloc, lost)),
         }
     }
 

@@ -43,8 +43,8 @@ held_or_none P Q (Ok x) h = inl h
 held_or_none P Q (Err e) h = tt
 
 -- nothing was answered, since the database was not opened
-pub none_told : (known : Databases) (path : List ℕ) (told : List Answered) (lost : Option Lost) → told ≡ [] → IsSome lost → InDatabase known known path told lost
-none_told known path told lost none some = record {
+pub none_reported : (known : Databases) (path : List ℕ) (reported : List Answered) (lost : Option Lost) → reported ≡ [] → IsSome lost → InDatabase known known path reported lost
+none_reported known path reported lost none some = record {
   held = λ h holds sound. subst (known.holds path) (sym (ap (λ t. h ++ t) none ∙ append-nil h)) holds;
   made = λ new sound. inr (some, none);
 }
@@ -57,12 +57,12 @@ module _ (before after : Databases) (path : List ℕ) (begin end : State) (opene
   early sound = let clean = (closed_sound sound).0 in omega (arith, doubts, clean)
 
   -- the history that was held goes on
-  pub told_in : (told : List Answered) (lost : Option Lost) → (HasCleanDisk end → IsTrue end.is_open → (h : List Answered) → Holding h begin → Holding (h ++ told) end)
-      → (HasCleanDisk end → IsTrue end.is_open → (h : List Answered) → Begins h begin → Holding (h ++ told) end ⊎ (IsSome lost × (told ≡ []))) → InDatabase before after path told lost
-  told_in told lost held begun = record {
-    held = λ h holds sound. let s = closed_sound sound in closed_held sound (h ++ told) (held s.0 s.1 h (opened_held (early sound) h holds));
+  pub reported_in : (reported : List Answered) (lost : Option Lost) → (HasCleanDisk end → IsTrue end.is_open → (h : List Answered) → Holding h begin → Holding (h ++ reported) end)
+      → (HasCleanDisk end → IsTrue end.is_open → (h : List Answered) → Begins h begin → Holding (h ++ reported) end ⊎ (IsSome lost × (reported ≡ []))) → InDatabase before after path reported lost
+  reported_in reported lost held begun = record {
+    held = λ h holds sound. let s = closed_sound sound in closed_held sound (h ++ reported) (held s.0 s.1 h (opened_held (early sound) h holds));
     made = λ new sound. let s = closed_sound sound in elim (begun s.0 s.1 [] (inr (refl, opened_none (early sound) new))) [
-      | inl holding ↦ inl (closed_held sound told holding)
+      | inl holding ↦ inl (closed_held sound reported holding)
       | inr none ↦ inr none
     ];
   }
@@ -119,8 +119,8 @@ not_opened known path question lost = record {
 
 -- databases of which nothing is known
 
-pub nothing_told : (path : List ℕ) (told : List Answered) (lost : Option Lost) → InDatabase nothing_known nothing_known path told lost
-nothing_told path told lost = record { held = λ h holds sound. absurd holds; made = λ new sound. absurd new }
+pub nothing_reported : (path : List ℕ) (reported : List Answered) (lost : Option Lost) → InDatabase nothing_known nothing_known path reported lost
+nothing_reported path reported lost = record { held = λ h holds sound. absurd holds; made = λ new sound. absurd new }
 
 pub nothing_looked_up : (path : List ℕ) (question : Question) (shown : Result (Option (List ℕ)) Lost) → IsLookedUp nothing_known nothing_known path question shown
 nothing_looked_up path question shown = record {

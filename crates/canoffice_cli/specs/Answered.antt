@@ -48,10 +48,10 @@ pub record AreAnswered (GoesOn : List Answered → Option Lost → Type 0) (arri
 
 -- in memory: what was answered is a legal history
 abbrev pub InMemory : List Answered → Option Lost → Type 0
-InMemory told lost = IsLegalHistory told
+InMemory reported lost = IsLegalHistory reported
 
 -- In the database of the path: the tables hold the history that they held, followed by what was answered. New tables hold
 -- what was answered, or nothing was.
-pub record InDatabase (before after : Databases) (path : List ℕ) (told : List Answered) (lost : Option Lost) : Type 0 where
-  pub held : (h : List Answered) → before.holds path h → after.is_sound → after.holds path (h ++ told)
-  pub made : before.is_new path → after.is_sound → after.holds path told ⊎ (IsSome lost × (told ≡ []))
+pub record InDatabase (before after : Databases) (path : List ℕ) (reported : List Answered) (lost : Option Lost) : Type 0 where
+  pub held : (h : List Answered) → before.holds path h → after.is_sound → after.holds path (h ++ reported)
+  pub made : before.is_new path → after.is_sound → after.holds path reported ⊎ (IsSome lost × (reported ≡ []))

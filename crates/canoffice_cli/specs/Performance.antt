@@ -2,7 +2,7 @@
 use Rattle.std.specs.Prelude.{◌≡◌, ◌⊎◌, ℕ, false, List, map, option_map, Result, Ok, Err, string_bytes}
 use Rattle.office_script.specs.Files.{Files, Holding, unknown, absent, holding}
 use Rattle.canoffice_cli.specs.CommandLine.{IsLine}
-use Rattle.canoffice_cli.specs.Explaining.{IsSaid, MayExplain}
+use Rattle.canoffice_cli.specs.Explaining.{IsStated, MayExplain}
 use Rattle.canoffice_cli.specs.Holding.{source_at}
 use Rattle.canoffice_cli.specs.Outcome.{Outcome, memory_lost, success, wrong_input, unreadable}
 use Rattle.canoffice_cli.specs.Databases.{AreKept, Databases}
@@ -40,7 +40,7 @@ ComesTo files before after task.Table bytes o = IsTableOutcome bytes o × AreKep
 -- the same for a job, which may explain
 abbrev pub IsOfBytes : Files → Databases → Databases → FileJob → List ℕ → Outcome → Type 0
 IsOfBytes files before after job bytes o =
-    (plain : Outcome) × ComesTo files before after job.task bytes plain × MayExplain job.explain (IsSaid files job.task job.path.now bytes) plain o
+    (plain : Outcome) × ComesTo files before after job.task bytes plain × MayExplain job.explain (IsStated files job.task job.path.now bytes) plain o
 
 abbrev pub IsFileOutcome : Files → Holding → Databases → Databases → FileJob → Outcome → Type 0
 IsFileOutcome files input before after job o =

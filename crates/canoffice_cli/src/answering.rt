@@ -28,7 +28,7 @@ pub struct Answers {
 }
 
 /// No answer, since already the first call was lost.
-pub fn lost_at_once(alloc: Global, lost: Lost) -> Answers
+pub fn nothing_answered(alloc: Global, lost: Lost) -> Answers
     ensures answers { result.answers.items ≡ [] }
     ensures lost { result.lost ≡ Some lost }
 {
@@ -65,12 +65,12 @@ fn answer_all<S: Alter, W: Write>(
     progress: &mut Progress<W>,
 ) -> Result<Answers, AllocError>
     ensures clean { doubt (state S.Store office.old.conn).is_clean ≤ doubt (state S.Store office.new.conn).is_clean }
-    ensures some { IfOk result (λ told. length told.answers.items ≤ length arrivals.now) }
-    ensures all { IfOk result (λ told. told.lost ≡ None → length told.answers.items ≡ length arrivals.now) }
+    ensures some { IfOk result (λ reported. length reported.answers.items ≤ length arrivals.now) }
+    ensures all { IfOk result (λ reported. reported.lost ≡ None → length reported.answers.items ≡ length arrivals.now) }
     ensures held { HasCleanDisk (state S.Store office.new.conn) → IsTrue (state S.Store office.new.conn).is_open → (h : List Answered) → Holding h (state S.Store office.old.conn)
-        → IfOk result (λ told. Holding (h ++ answered_with arrivals.now told.answers.items) (state S.Store office.new.conn)) }
+        → IfOk result (λ reported. Holding (h ++ answered_with arrivals.now reported.answers.items) (state S.Store office.new.conn)) }
     ensures legal { HasCleanDisk (state S.Store office.new.conn) → (h : List Answered) → Holding h (state S.Store office.old.conn)
-        → IfOk result (λ told. IsLegalHistory (h ++ answered_with arrivals.now told.answers.items)) }
+        → IfOk result (λ reported. IsLegalHistory (h ++ answered_with arrivals.now reported.answers.items)) }
     ensures err { OnErr result (office.new ≡ office.old) }
 {
     let mut answers = Vec::with_capacity(alloc, arrivals.len())?;
@@ -105,22 +105,22 @@ pub fn answer_on<S: Alter + Drop, W: Write>(
 ) -> (Result<Answers, AllocError>, Connection<S>)
     requires { (state S.Store conn).in_transaction ≡ false }
     ensures clean { doubt (state S.Store conn).is_clean ≤ doubt (state S.Store result.1).is_clean }
-    ensures some { IfOk result.0 (λ told. length told.answers.items ≤ length arrivals.now) }
-    ensures all { IfOk result.0 (λ told. told.lost ≡ None → length told.answers.items ≡ length arrivals.now) }
+    ensures some { IfOk result.0 (λ reported. length reported.answers.items ≤ length arrivals.now) }
+    ensures all { IfOk result.0 (λ reported. reported.lost ≡ None → length reported.answers.items ≡ length arrivals.now) }
     ensures held { HasCleanDisk (state S.Store result.1) → IsTrue (state S.Store result.1).is_open → (h : List Answered) → Holding h (state S.Store conn)
-        → IfOk result.0 (λ told. Holding (h ++ answered_with arrivals.now told.answers.items) (state S.Store result.1)) }
+        → IfOk result.0 (λ reported. Holding (h ++ answered_with arrivals.now reported.answers.items) (state S.Store result.1)) }
     ensures begun { HasCleanDisk (state S.Store result.1) → IsTrue (state S.Store result.1).is_open → (h : List Answered) → Begins h (state S.Store conn)
-        → IfOk result.0 (λ told. Holding (h ++ answered_with arrivals.now told.answers.items) (state S.Store result.1) ⊎ (IsSome told.lost × (told.answers.items ≡ []))) }
+        → IfOk result.0 (λ reported. Holding (h ++ answered_with arrivals.now reported.answers.items) (state S.Store result.1) ⊎ (IsSome reported.lost × (reported.answers.items ≡ []))) }
     ensures legal { HasCleanDisk (state S.Store result.1) → (h : List Answered) → Begins h (state S.Store conn)
-        → IfOk result.0 (λ told. IsLegalHistory (h ++ answered_with arrivals.now told.answers.items)) }
+        → IfOk result.0 (λ reported. IsLegalHistory (h ++ answered_with arrivals.now reported.answers.items)) }
 {
     histories_grow();
     match office_on(conn) {
         Ok(mut office) => {
-            let told = answer_all(alloc, &mut office, script, arrivals, progress);
-            (told, office.close())
+            let reported = answer_all(alloc, &mut office, script, arrivals, progress);
+            (reported, office.close())
         }
-        Err((lost, conn)) => (Ok(lost_at_once(alloc, lost)), conn),
+        Err((lost, conn)) => (Ok(nothing_answered(alloc, lost)), conn),
     }
 }
 
@@ -132,9 +132,9 @@ pub(crate) fn answer_in_memory<W: Write>(
     arrivals: &[Arrival],
     progress: &mut Progress<W>,
 ) -> Result<Answers, AllocError>
-    ensures some { IfOk result (λ told. length told.answers.items ≤ length arrivals.now) }
-    ensures all { IfOk result (λ told. told.lost ≡ None → length told.answers.items ≡ length arrivals.now) }
-    ensures goes_on { IfOk result (λ told. InMemory (answered_with arrivals.now told.answers.items) told.lost) }
+    ensures some { IfOk result (λ reported. length reported.answers.items ≤ length arrivals.now) }
+    ensures all { IfOk result (λ reported. reported.lost ≡ None → length reported.answers.items ≡ length arrivals.now) }
+    ensures goes_on { IfOk result (λ reported. InMemory (answered_with arrivals.now reported.answers.items) reported.lost) }
 {
     let mut answers = Vec::with_capacity(alloc, arrivals.len())?;
     let mut office = KeyedOffice::new(alloc);
@@ -157,14 +157,14 @@ pub(crate) fn answer_in_memory<W: Write>(
     })
 }
 
-/// What was told, and why closing the database after it was lost, if that was and nothing before.
-pub fn told_and_closed(told: Answers, closed: Result<(), Lost>) -> Answers
-    ensures answers { result.answers ≡ told.answers }
-    ensures lost { IsSome told.lost → result.lost ≡ told.lost }
-    ensures none { result.lost ≡ None → told.lost ≡ None }
-    ensures closing { IfErr closed (λ closing. told.lost ≡ None → result.lost ≡ Some closing) }
+/// What was reported, and why closing the database after it was lost, if that was and nothing before.
+pub fn answers_when_closed(reported: Answers, closed: Result<(), Lost>) -> Answers
+    ensures answers { result.answers ≡ reported.answers }
+    ensures lost { IsSome reported.lost → result.lost ≡ reported.lost }
+    ensures none { result.lost ≡ None → reported.lost ≡ None }
+    ensures closing { IfErr closed (λ closing. reported.lost ≡ None → result.lost ≡ Some closing) }
 {
-    let Answers { answers, lost } = told;
+    let Answers { answers, lost } = reported;
     match (lost, closed) {
         (None, Err(closing)) => Answers {
             answers,

@@ -39,9 +39,9 @@ fn apply_in_memory<F: FileSource, W: Write>(
         Ok(arrivals) => {
             // Room first, so that no answer is lost because memory for its line runs out.
             let room = Room::for_answers(alloc, arrivals.len())?;
-            let told = answer_in_memory(alloc, script, &arrivals, progress);
+            let reported = answer_in_memory(alloc, script, &arrivals, progress);
             progress.ends();
-            told?.report(alloc, room)
+            reported?.report(alloc, room)
         }
         Err(fault) => amiss_report(alloc, fault),
     }
@@ -62,9 +62,9 @@ fn apply_in_database<F: FileSource, D: Databases, W: Write>(
         Ok(arrivals) => {
             // Room first, so that no answer is lost because memory for its line runs out.
             let room = Room::for_answers(alloc, arrivals.len())?;
-            let told = databases.answer(alloc, path, script, &arrivals, progress);
+            let reported = databases.answer(alloc, path, script, &arrivals, progress);
             progress.ends();
-            told?.report(alloc, room)
+            reported?.report(alloc, room)
         }
         Err(fault) => amiss_report(alloc, fault),
     }

@@ -163,7 +163,7 @@ fn table_command<'a>(alloc: Global) -> Result<Command<'a>, AllocError>
     Ok(table)
 }
 
-/// The program's command line before its subcommands, one of which is required, unless the version is asked for.
+/// The program's command line before its subcommands, one of which is required, unless the version is requested.
 fn bare_command<'a>(alloc: Global) -> Command<'a>
     ensures app { app_of result ≡ wants_subcommand (with_version (new_app (codes "canoffice"))) }
     ensures local { (fields_of result).has_globals ≡ false }

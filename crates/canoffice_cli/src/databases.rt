@@ -35,11 +35,11 @@ pub trait Databases {
         arrivals: &[Arrival],
         progress: &mut Progress<W>,
     ) -> Result<Answers, AllocError>
-        ensures some { IfOk result (λ told. length told.answers.items ≤ length arrivals.now) }
-        ensures all { IfOk result (λ told. told.lost ≡ None → length told.answers.items ≡ length arrivals.now) }
-        ensures goes_on { IfOk result (λ told. InDatabase (known self.old) (known self.new) path.now (answered_with arrivals.now told.answers.items) told.lost) };
+        ensures some { IfOk result (λ reported. length reported.answers.items ≤ length arrivals.now) }
+        ensures all { IfOk result (λ reported. reported.lost ≡ None → length reported.answers.items ≡ length arrivals.now) }
+        ensures goes_on { IfOk result (λ reported. InDatabase (known self.old) (known self.new) path.now (answered_with arrivals.now reported.answers.items) reported.lost) };
 
-    /// What the office in the database at the path shows when it is asked the question. The error is why that was lost.
+    /// What the office in the database at the path shows for the question. The error is why that was lost.
     fn look(
         &mut self,
         alloc: Global,

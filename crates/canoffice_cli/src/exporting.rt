@@ -10,7 +10,7 @@ ghost use Rattle.office_history.specs.History.{Answered, IsLegal};
 ghost use Rattle.store.specs.Holding.{Holding};
 ghost use Rattle.store.specs.Looking.{IsShown};
 ghost use Rattle.canoffice_cli.specs.Databases.{Begins};
-ghost use Rattle.canoffice_cli.specs.Exported.{IsExportOutcome, sheet_asked, not_found, shown_outcome};
+ghost use Rattle.canoffice_cli.specs.Exported.{IsExportOutcome, sheet_requested, not_found, shown_outcome};
 ghost use Rattle.canoffice_cli.specs.Outcome.{outcome_of};
 
 use crate::answering::{lost_report, office_on};
@@ -21,8 +21,8 @@ use sqlite::{Alter, Connection};
 use std::alloc::{AllocError, Global};
 use store::{Lost, Question};
 
-fn sheet_asked(net: NetName, number: u32) -> Question
-    ensures { result ≡ sheet_asked net number }
+fn sheet_requested(net: NetName, number: u32) -> Question
+    ensures { result ≡ sheet_requested net number }
 {
     if number == 0 {
         Question::Live(net)
@@ -49,7 +49,7 @@ fn shown_report(alloc: Global, shown: Result<Option<Vec<u8>>, Lost>) -> Result<R
     }
 }
 
-/// What the office on the connection, which is given back, shows when it is asked the question. A new office is made where
+/// What the office on the connection, which is given back, shows for the question. A new office is made where
 /// the connection has no table.
 pub fn look_on<S: Alter + Drop>(
     alloc: Global,
@@ -87,7 +87,7 @@ pub fn export_report<D: Databases>(
     match NetName::of(alloc, net.as_bytes())? {
         None => not_found(alloc),
         Some(net) => {
-            let question = sheet_asked(net, number);
+            let question = sheet_requested(net, number);
             shown_report(alloc, databases.look(alloc, path, &question))
         }
     }

@@ -8,7 +8,7 @@ ghost use Rattle.canoffice_cli.specs.Performance.{ComesTo, IsFileOutcome, IsOfBy
 use crate::apply::apply_script;
 use crate::checking::check_report;
 use crate::databases::Databases;
-use crate::explaining::said;
+use crate::explaining::stated;
 use crate::files::{FileFault, FileSource, StandardInput, bytes_at};
 use crate::formatting::format_report;
 use crate::progress::Progress;
@@ -38,7 +38,7 @@ pub(crate) struct FileJob<'a> {
     pub task: FileTask<'a>,
     /// Its path, or `-` for standard input. Messages name it so.
     pub path: &'a str,
-    /// Whether more is said of it on standard error.
+    /// Whether more is stated of it on standard error.
     pub explain: bool,
 }
 
@@ -98,9 +98,9 @@ fn bytes_report<F: FileSource, D: Databases, W: Write>(
             text: bytes,
         };
         // First of all, so that memory for this can't run out after a database has answered.
-        let said = said(alloc, job.task, source, files)?;
+        let stated = stated(alloc, job.task, source, files)?;
         let report = task_report(alloc, job.task, bytes, files, databases, progress)?;
-        report.and_errors(&said)
+        report.and_errors(&stated)
     } else {
         task_report(alloc, job.task, bytes, files, databases, progress)
     }

@@ -48,7 +48,7 @@ pub enum Job<'a> {
     Format {
         /// The path of the file, or `-`.
         file: &'a str,
-        /// Whether faults are explained, and told what is left out.
+        /// Whether faults are explained, and what is left out is reported.
         explain: bool,
     },
     /// Make a database of an earlier version one of this version.

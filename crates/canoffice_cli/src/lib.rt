@@ -39,7 +39,7 @@ mod room;
 mod serving;
 mod tabling;
 
-pub use answering::{Answers, answer_on, lost_at_once, told_and_closed};
+pub use answering::{Answers, answer_on, answers_when_closed, nothing_answered};
 pub use apply::apply_script;
 pub use charting::chart_report;
 pub use checking::check_report;

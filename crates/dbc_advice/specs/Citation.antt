@@ -94,7 +94,7 @@ is_missing s (OfNode name) = not (has_name node_name s.nodes name)
 is_missing s (OfMessage number) = is_none (cited_message s number)
 is_missing s (OfSignal number name) = not (has_signal s number name)
 
--- ---- what is said of it
+-- ---- what is stated of it
 
 abbrev pub cited_text : Cited → List ℕ
 cited_text (OfNode name) = codes "it is about node " ++ name

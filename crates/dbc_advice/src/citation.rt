@@ -159,7 +159,7 @@ fn cited_text(alloc: Global, citation: Citation) -> Result<Vec<u8>, AllocError>
     }
 }
 
-/// What is said of a citation of what isn't in the file. The error is out of memory.
+/// What is stated of a citation of what isn't in the file. The error is out of memory.
 pub(crate) fn citation_text(alloc: Global, citation: Citation) -> Result<Vec<u8>, AllocError>
     ensures { IfOk result (λ text. text.items ≡ citation_text (cited_of citation.entry)) }
 {

@@ -28,7 +28,7 @@ pub record Exact {A : Type 0} (F : List Token → Type 0) (ts : List Token) (R :
   pub again : (x : A) (rest : List Token) → R x rest → F rest → o ≡ Some (x, rest)
   pub within : (x : A) (rest : List Token) → R x rest → Within ts rest
 
--- nothing is asked of what follows
+-- nothing is required of what follows
 abbrev pub Any : List Token → Type 0
 Any ts = Unit {0}
 
@@ -55,7 +55,7 @@ pub exact_next : {A B : Type 0} {G : List Token → Type 0} {r : Rule A} {q : A 
     → Exact Any ts (r ts) o → ((x : A) (mid : List Token) → Exact G mid (q x mid) (f (x, mid))) → Exact G ts ((r >>= q) ts) (option_and_then f o)
 exact_next f first second = exact_then f first second (λ x mid y rest h g. tt)
 
--- what is asked may hold always
+-- what is required may hold always
 pub exact_any : {A : Type 0} {F : List Token → Type 0} {ts : List Token} {R : A → List Token → Type 0} {o : Parsed A} → Exact Any ts R o → Exact F ts R o
 exact_any e = record { takes = e.takes; again = λ x rest h _. e.again x rest h tt; within = e.within }
 
@@ -133,7 +133,7 @@ exact_followed test ts = followed_by test ts (test ts) refl
 
 -- At most once.
 
--- what is asked of a rule that may be read once, and of what follows
+-- what is required of a rule that may be read once, and of what follows
 pub record Chance {A : Type 0} (F : List Token → Type 0) (r : Rule A) (test : List Token → Bool) (p : List Token → Parsed A) : Type 0 where
   pub each : (ts : List Token) → Exact F ts (r ts) (p ts)
   pub begins : (ts : List Token) (x : A) (rest : List Token) → r ts x rest → test ts ≡ true
@@ -187,7 +187,7 @@ one_chance test = record { each = λ ts. exact_any (exact_one test ts); begins =
 
 -- Any number of times.
 
--- what is asked of one, of what follows one, and of what follows all
+-- what is required of one, of what follows one, and of what follows all
 pub record Repeats {A : Type 0} (F I : List Token → Type 0) (r : Rule A) (test : List Token → Bool) (p : List Token → Parsed A) : Type 0 where
   pub each : (ts : List Token) → Exact I ts (r ts) (p ts)
   pub begins : (ts : List Token) (x : A) (rest : List Token) → r ts x rest → test ts ≡ true

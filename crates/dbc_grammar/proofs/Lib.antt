@@ -1,10 +1,10 @@
 mod CanonRows
 pub mod AscendingUnique
 pub mod OneSheet
-pub mod EachSaid
+pub mod EachStated
 pub mod SignalKeys
 mod SayingExamples
-pub mod SheetSaid
+pub mod SheetStated
 mod TokenRuns
 pub mod TokenBytes
 pub mod TokenNumbers

@@ -88,12 +88,12 @@ wheel = message 100 (codes "Wheel") (signal (codes "Speed") 0 ∷ [])
 abbrev at : ℕ → Keyword → Content → Statement
 at start keyword content = record { start = start; keyword = keyword; content = content }
 
--- all signals, with what is said of them
-abbrev signals_said : List Statement → List Signal
-signals_said statements = flat_map (λ (m : WholeMessage). m.signals) (map (whole_message statements) (messages_of statements))
+-- all signals, with what is stated of them
+abbrev signals_stated : List Statement → List Signal
+signals_stated statements = flat_map (λ (m : WholeMessage). m.signals) (map (whole_message statements) (messages_of statements))
 
-abbrev comments_said : List Statement → List (List ℕ)
-comments_said statements = map (λ (s : Signal). s.comment) (signals_said statements)
+abbrev comments_stated : List Statement → List (List ℕ)
+comments_stated statements = map (λ (s : Signal). s.comment) (signals_stated statements)
 
 -- The last of several comments counts, an empty one is none, and the same name in another message is another signal.
 abbrev commented : List Statement
@@ -104,7 +104,7 @@ commented =
     ∷ at 40 Comment (SignalCommentIs (Some 500) (codes "Speed") (codes "last"))
     ∷ at 50 Comment (SignalCommentIs (Some 500) (codes "Torque") []) ∷ []
 
-last_comment_counts : comments_said commented ≡ codes "last" ∷ [] ∷ [] ∷ []
+last_comment_counts : comments_stated commented ≡ codes "last" ∷ [] ∷ [] ∷ []
 last_comment_counts = refl
 
 none_of_them_is_passed : passed_by commented ≡ []
@@ -131,13 +131,13 @@ attached_before =
     ∷ at 60 ValueTexts (ValueTextsAre (Some 500) (codes "Torque") (record { value = number 0; text = codes "off" } ∷ []))
     ∷ at 90 Comment (MessageCommentIs (Some 500) (codes "of the engine")) ∷ at 120 Message engine ∷ []
 
-spns_before : map (λ (s : Signal). s.spn) (signals_said attached_before) ≡ 0 ∷ 513 ∷ []
+spns_before : map (λ (s : Signal). s.spn) (signals_stated attached_before) ≡ 0 ∷ 513 ∷ []
 spns_before = refl
 
-value_types_before : map (λ (s : Signal). s.value_type) (signals_said attached_before) ≡ Integer ∷ Double ∷ []
+value_types_before : map (λ (s : Signal). s.value_type) (signals_stated attached_before) ≡ Integer ∷ Double ∷ []
 value_types_before = refl
 
-value_texts_before : map (λ (s : Signal). s.values) (signals_said attached_before) ≡ [] ∷ (record { value = number 0; text = codes "off" } ∷ []) ∷ []
+value_texts_before : map (λ (s : Signal). s.values) (signals_stated attached_before) ≡ [] ∷ (record { value = number 0; text = codes "off" } ∷ []) ∷ []
 value_texts_before = refl
 
 message_comment_before : map (λ (m : WholeMessage). m.comment) (map (whole_message attached_before) (messages_of attached_before)) ≡ codes "of the engine" ∷ []
@@ -165,7 +165,7 @@ absent_are_passed : passed_by absent
     ≡ (40, Comment) ∷ (50, Comment) ∷ (60, Comment) ∷ (80, AttributeValue) ∷ (85, Comment) ∷ (87, SignalValueType) ∷ (90, AttributeDefinition) ∷ (100, ValueTexts) ∷ []
 absent_are_passed = refl
 
-absent_say_nothing : map (λ (s : Signal). s.spn) (signals_said absent) ≡ 84 ∷ []
+absent_say_nothing : map (λ (s : Signal). s.spn) (signals_stated absent) ≡ 84 ∷ []
 absent_say_nothing = refl
 
 -- Several lists of nodes add up.

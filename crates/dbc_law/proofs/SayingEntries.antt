@@ -8,8 +8,8 @@ use Rattle.catalogue.specs.ValueType.{value_type_number}
 use Rattle.catalogue.specs.declared.value_texts.ValueText.{ValueText}
 use Rattle.catalogue.specs.declared.value_type.ValueType.{ValueType}
 use Rattle.catalogue.specs.declared.value_type.ValueType.TheVariants.{Integer, Float, Double}
-use Rattle.dbc_grammar.proofs.EachSaid.{kept_entries}
-use Rattle.dbc_grammar.proofs.SheetSaid.{entries, part_entries}
+use Rattle.dbc_grammar.proofs.EachStated.{kept_entries}
+use Rattle.dbc_grammar.proofs.SheetStated.{entries, part_entries}
 use Rattle.dbc_law.proofs.Contents.{comments, texts}
 use Rattle.dbc_law.proofs.SayingContents.{Tell, ◌also◌, no_contents, speaks, tell_same}
 

@@ -9,8 +9,8 @@ use Rattle.catalogue.specs.declared.message.Message.{Message}
 use Rattle.catalogue.specs.declared.node.Node.{Node}
 use Rattle.catalogue.specs.declared.sheet.Sheet.{Sheet}
 use Rattle.catalogue.specs.declared.signal.Signal.{Signal}
-use Rattle.dbc_grammar.proofs.EachSaid.{kept_entries}
-use Rattle.dbc_grammar.proofs.SheetSaid.{entries, message_signals, part_entries, signal_key}
+use Rattle.dbc_grammar.proofs.EachStated.{kept_entries}
+use Rattle.dbc_grammar.proofs.SheetStated.{entries, message_signals, part_entries, signal_key}
 use Rattle.dbc_law.proofs.Contents.{comments, contents, each_signal, message, message_comments, message_line, node_comments, node_names, sections, spns, table, value_texts, value_types, with_spn_definitions}
 use Rattle.dbc_law.proofs.SayingContents.{Tell, ◌also◌}
 use Rattle.dbc_law.proofs.SayingEntries.{some_number, some_of, some_type}

@@ -11,8 +11,8 @@ use Rattle.catalogue.specs.declared.node.Node.{Node}
 use Rattle.catalogue.specs.declared.sheet.Sheet.{Sheet}
 use Rattle.catalogue.specs.declared.signal.Signal.{Signal}
 use Rattle.catalogue.specs.declared.value_table.ValueTable.{ValueTable}
-use Rattle.dbc_grammar.proofs.EachSaid.{kept_entries}
-use Rattle.dbc_grammar.proofs.SheetSaid.{entries, message_signals, part_entries, signal_key}
+use Rattle.dbc_grammar.proofs.EachStated.{kept_entries}
+use Rattle.dbc_grammar.proofs.SheetStated.{entries, message_signals, part_entries, signal_key}
 use Rattle.dbc_law.proofs.Contents.{each_signal, message, message_comments, message_line, node_comments, signal_comments, spns, table, value_texts, value_types, with_spn_definitions}
 use Rattle.dbc_law.proofs.SayingContents.{Tell, ◌also◌, no_contents, speaks, tell_same}
 use Rattle.dbc_law.proofs.SayingEntries.{chosen_tells, comment_tells, each_tells, entry, parts_tell, some_number, some_of, some_type, texts_tell}

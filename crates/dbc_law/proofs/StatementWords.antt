@@ -23,7 +23,7 @@ use Rattle.catalogue.specs.Name.{IsName, is_c_identifier, is_name, no_node}
 use Rattle.dbc_grammar.specs.Rules.{only}
 use Rattle.catalogue.specs.WholeNumber.{is_numeral, whole_of}
 use Rattle.catalogue.specs.declared.message.Message.{Message}
-use Rattle.dbc_grammar.proofs.SheetSaid.{bytes_itself}
+use Rattle.dbc_grammar.proofs.SheetStated.{bytes_itself}
 use Rattle.dbc_grammar.proofs.TokenTexts.{inside_kept}
 use Rattle.catalogue.proofs.WholeNumbers.{numeral, whole_of-is}
 use Rattle.dbc_law.proofs.DecimalPieces.{digits, digits_piece}

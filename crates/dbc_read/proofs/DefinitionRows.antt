@@ -26,4 +26,4 @@ one_node g = record { nodes = refl; tables = refl; messages = refl }
 -- no tokens define anything further
 nothing_further : (g : Gathered) → DefineFurther [] g g
 unfolding statements_at
-nothing_further g = record { said = []; read = refl; few = tt; are = λ before are. subst (λ ss. AreDefinitions ss g) (sym (append-nil before)) are }
+nothing_further g = record { stated = []; read = refl; few = tt; are = λ before are. subst (λ ss. AreDefinitions ss g) (sym (append-nil before)) are }

@@ -22,7 +22,7 @@ use Rattle.dbc_statements.specs.declared.statement.NodeName.{NodeName}
 use Rattle.dbc_statements.specs.declared.statement.TableLine.{TableLine}
 use Rattle.dbc_read.proofs.Faultless.{defined_if_sheet}
 use Rattle.dbc_read.proofs.Refused.{each_middle, none_before}
-use Rattle.dbc_read.proofs.SheetsSaid.{values_few}
+use Rattle.dbc_read.proofs.SheetsStated.{values_few}
 
 -- an item after as many as the limit is one too many
 too_many : {A : Type 0} (limit : ℕ) (before : List A) (item : A) (after : List A) → length before ≡ limit → length (before ++ item ∷ after) ≤ limit → ⊥

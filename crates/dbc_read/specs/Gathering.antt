@@ -110,7 +110,7 @@ with_definitions nodes messages g = record g { nodes = nodes; messages = message
 
 -- the statements so far are gathered, whatever the rest is; they cite nothing
 abbrev pub IsDefining : List says.Statement → Gathered → Type 0
-IsDefining said g = (rest : List says.Statement) → Gathers (said ++ rest) (with_nothing_attached (said ++ rest) g) rest
+IsDefining stated g = (rest : List says.Statement) → Gathers (stated ++ rest) (with_nothing_attached (stated ++ rest) g) rest
 
 -- nothing is attached to the signals of each of the lines
 abbrev pub AreBare : List MessageLine → Type 0
@@ -139,7 +139,7 @@ pub record IsGathered (f : Finders) (p : Passed) (c : Content) (old new : Gather
 
 -- Tokens that begin with these statements, and then the rest.
 abbrev pub BeginWith : List says.Statement → List Token → List Token → Type 0
-BeginWith said tokens rest = statements_at tokens ≡ option_map (λ others. said ++ others) (statements_at rest)
+BeginWith stated tokens rest = statements_at tokens ≡ option_map (λ others. stated ++ others) (statements_at rest)
 
 abbrev pub one_or_none : Option Statement → List says.Statement
 one_or_none None = []
@@ -147,19 +147,19 @@ one_or_none (Some s) = statement_of s ∷ []
 
 -- statements are gathered up to the first that cites something, or the last
 pub record Defines (tokens rest : List Token) (old new : Gathered) (first : Option Statement) : Type 0 where
-  pub said : List says.Statement
-  pub read : BeginWith (said ++ one_or_none first) tokens rest
+  pub stated : List says.Statement
+  pub read : BeginWith (stated ++ one_or_none first) tokens rest
   pub cites : IfSome first (λ s. cites (content_of s.content) ≡ true)
-  pub gathered : IsDefining [] old → IsDefining said new
+  pub gathered : IsDefining [] old → IsDefining stated new
 
 -- it is what all statements of the tokens say
 pub record IsOfTokens (tokens : List Token) (g : Gathered) : Type 0 where
-  pub said : List says.Statement
-  pub read : statements_at tokens ≡ Some said
-  pub gathered : AreGathered said g
+  pub stated : List says.Statement
+  pub read : statements_at tokens ≡ Some stated
+  pub gathered : AreGathered stated g
 
 -- it is what all statements of the text say
 pub record IsOfText (bytes : List ℕ) (g : Gathered) : Type 0 where
-  pub said : List says.Statement
-  pub divided : IsDivided bytes said
-  pub gathered : AreGathered said g
+  pub stated : List says.Statement
+  pub divided : IsDivided bytes stated
+  pub gathered : AreGathered stated g

@@ -37,4 +37,4 @@ HasFault bytes fault = HasNoDivision bytes ⊎ IsFaultOfText bytes fault
 
 -- What the statements of the text say can't be in one sheet.
 abbrev pub CanNeverBeSheet : List ℕ → Type 0
-CanNeverBeSheet bytes = (said : List Statement) → IsDivided bytes said → (g : Gathered) → AreGathered said g → ¬ CanBeSheet g
+CanNeverBeSheet bytes = (stated : List Statement) → IsDivided bytes stated → (g : Gathered) → AreGathered stated g → ¬ CanBeSheet g

@@ -47,7 +47,7 @@ pub(crate) fn gather_definition(
     statement: Statement,
     gathered: &mut Gathered,
 ) -> Result<(), AllocError>
-    ensures { OnOk result ((said : List says.Statement) → AreDefinitions said gathered.old → AreDefinitions (said ++ statement_of statement.entry ∷ []) gathered.new) }
+    ensures { OnOk result ((stated : List says.Statement) → AreDefinitions stated gathered.old → AreDefinitions (stated ++ statement_of statement.entry ∷ []) gathered.new) }
 {
     if is_definition(&statement.content) {
         return gather_statement(None, statement, gathered);

@@ -56,7 +56,7 @@ pub(crate) fn is_mark(token: &Token, mark: u8) -> bool
     }
 }
 
-/// Whether the bytes spell the keyword. The most frequent ones of those that are asked for are compared as patterns.
+/// Whether the bytes spell the keyword. The most frequent ones of those that are looked for are compared as patterns.
 #[inline(always)]
 fn spells(bytes: &[u8], keyword: Keyword) -> bool
     ensures { result ≡ bytes_eq bytes.now (keyword_text keyword) }

@@ -13,7 +13,7 @@ use Rattle.store.specs.declared.question.Question.{Question}
 use Rattle.store.specs.declared.question.Question.TheVariants as question
 use Rattle.desk_types.specs.Moved.{AppendsFront}
 use Rattle.desk_types.specs.declared.problem.Problem.TheVariants.{NotFound, TryAgain}
-use Rattle.desk_call.specs.Call.{Asked, Asking, arrives, fails, shows}
+use Rattle.desk_call.specs.Call.{Requested, Asking, arrives, fails, shows}
 use Rattle.desk_call.specs.Read.{Asks}
 use Rattle.desk_call.specs.declared.call.Look.{Look}
 use Rattle.desk_call.specs.declared.call.Look.TheVariants as look
@@ -21,7 +21,7 @@ use Rattle.desk_reply.specs.Response.{answer_response, problem_response, text_re
 use Rattle.desk_reply.specs.declared.responses.Content.{Content}
 use Rattle.desk_reply.specs.declared.responses.Content.TheVariants.{Bytes, Plain}
 
--- what the store is asked
+-- what the store is to do
 abbrev pub question_of : Look → Question
 question_of look.Nets = question.Nets
 question_of (look.Table net) = question.Table net
@@ -48,65 +48,65 @@ IsLookResponse office l text = (found : Option (List ℕ)) × IsShown office (qu
 abbrev pub answered_as : Asking → Answer → Answered
 answered_as a answer = record { profile = Two; team = a.team; key = a.key; content = a.content; command = a.command; answer = answer }
 
--- The text is the response to what is asked, on the history h, and h2 is the history after it: with the arrival and
+-- The text is the response to the request, on the history h, and h2 is the history after it: with the arrival and
 -- the answer that the text tells, or the same. Where the tables hold h2, it is legal: so the answer is the office's.
-abbrev pub IsResponse : List Answered → Asked → List ℕ → List Answered → Type 0
+abbrev pub IsResponse : List Answered → Requested → List ℕ → List Answered → Type 0
 IsResponse h (fails problem) text h2 = (h2 ≡ h) × (text ≡ problem_response problem)
 IsResponse h (shows l) text h2 = (h2 ≡ h) × ((office : Office) → IsLegal h office → IsLookResponse office l text)
 IsResponse h (arrives a) text h2 = (answer : Answer) × (h2 ≡ h ++ answered_as a answer ∷ []) × (text ≡ answer_response answer)
 
 -- the trees keep the history, or it with the arrival that was requested
-abbrev pub FollowsAsked : List Answered → Asked → Trees → Type 0
-FollowsAsked h asked db =
-    Keeps h db ⊎ ((a : Asking) × (asked ≡ arrives a) × (answer : Answer) × Keeps (h ++ answered_as a answer ∷ []) db)
+abbrev pub FollowsRequested : List Answered → Requested → Trees → Type 0
+FollowsRequested h requested db =
+    Keeps h db ⊎ ((a : Asking) × (requested ≡ arrives a) × (answer : Answer) × Keeps (h ++ answered_as a answer ∷ []) db)
 
 -- The text is the response, the tables hold the history after it, and a crash leaves just that one; or it says to try
 -- again, and the tables, if they are still open, hold the history as before, and a crash leaves it, or it with the
--- arrival that was asked.
-abbrev pub Responds : List Answered → Asked → List ℕ → State → Type 0
-Responds h asked text s =
-    ((h2 : List Answered) × IsResponse h asked text h2 × Holding h2 s × Leaves (Keeps h2) s)
-    ⊎ ((text ≡ problem_response TryAgain) × (IsTrue s.is_open → Holding h s) × Leaves (FollowsAsked h asked) s)
+-- arrival that was requested.
+abbrev pub Responds : List Answered → Requested → List ℕ → State → Type 0
+Responds h requested text s =
+    ((h2 : List Answered) × IsResponse h requested text h2 × Holding h2 s × Leaves (Keeps h2) s)
+    ⊎ ((text ≡ problem_response TryAgain) × (IsTrue s.is_open → Holding h s) × Leaves (FollowsRequested h requested) s)
 
--- without a response: the tables, if they are open, hold the history as before, or with the arrival that was asked, and
+-- without a response: the tables, if they are open, hold the history as before, or with the arrival that was requested, and
 -- a crash leaves one of these
-abbrev pub MayHaveTaken : List Answered → Asked → State → Type 0
-MayHaveTaken h asked s =
+abbrev pub MayHaveTaken : List Answered → Requested → State → Type 0
+MayHaveTaken h requested s =
     (IsTrue s.is_open
-    → Holding h s ⊎ ((a : Asking) × (asked ≡ arrives a) × ((answer : Answer) × Holding (h ++ answered_as a answer ∷ []) s)))
-    × Leaves (FollowsAsked h asked) s
+    → Holding h s ⊎ ((a : Asking) × (requested ≡ arrives a) × ((answer : Answer) × Holding (h ++ answered_as a answer ∷ []) s)))
+    × Leaves (FollowsRequested h requested) s
 
 -- ---- one connection
 
 -- this is what the first request asks, if the source tells its bytes
-abbrev pub IsAsked : Option (List ℕ) → Asked → Type 0
-IsAsked left asked = IfSome left (λ input. Asks input asked)
+abbrev pub IsRequested : Option (List ℕ) → Requested → Type 0
+IsRequested left requested = IfSome left (λ input. Asks input requested)
 
 -- the whole response was written
 abbrev pub HasServed : List Answered → Option (List ℕ) → Option (List ℕ) → Option (List ℕ) → State → Type 0
-HasServed h left told_old told_new s =
-    (asked : Asked) × (text : List ℕ) × IsAsked left asked × Responds h asked text s × Appends told_old told_new text
+HasServed h left reported_old reported_new s =
+    (requested : Requested) × (text : List ℕ) × IsRequested left requested × Responds h requested text s × Appends reported_old reported_new text
 
 -- a beginning of the response was written, and the tables are as if it had all been
 abbrev pub HasBegun : List Answered → Option (List ℕ) → Option (List ℕ) → Option (List ℕ) → State → Type 0
-HasBegun h left told_old told_new s =
-    (asked : Asked) × (text : List ℕ) × IsAsked left asked × Responds h asked text s × AppendsFront told_old told_new text
+HasBegun h left reported_old reported_new s =
+    (requested : Requested) × (text : List ℕ) × IsRequested left requested × Responds h requested text s × AppendsFront reported_old reported_new text
 
 -- nothing was written, for want of memory
 abbrev pub HasGivenUp : List Answered → Option (List ℕ) → State → Type 0
-HasGivenUp h left s = (Holding h s × Leaves (Keeps h) s) ⊎ ((asked : Asked) × IsAsked left asked × MayHaveTaken h asked s)
+HasGivenUp h left s = (Holding h s × Leaves (Keeps h) s) ⊎ ((requested : Requested) × IsRequested left requested × MayHaveTaken h requested s)
 
 -- ---- one connection to an office that has failed
 
--- the response to what is asked: whatever comes to the office is told to try again
-abbrev pub failed_response : Asked → List ℕ
+-- the response to a request: whatever reaches the office is answered to try again
+abbrev pub failed_response : Requested → List ℕ
 failed_response (fails problem) = problem_response problem
-failed_response asked = problem_response TryAgain
+failed_response requested = problem_response TryAgain
 
 -- the whole of that response was written
 abbrev pub HasRefused : Option (List ℕ) → Option (List ℕ) → Option (List ℕ) → Type 0
-HasRefused left told_old told_new = (asked : Asked) × IsAsked left asked × Appends told_old told_new (failed_response asked)
+HasRefused left reported_old reported_new = (requested : Requested) × IsRequested left requested × Appends reported_old reported_new (failed_response requested)
 
 -- a beginning of it was written
 abbrev pub HasBegunRefusal : Option (List ℕ) → Option (List ℕ) → Option (List ℕ) → Type 0
-HasBegunRefusal left told_old told_new = (asked : Asked) × IsAsked left asked × AppendsFront told_old told_new (failed_response asked)
+HasBegunRefusal left reported_old reported_new = (requested : Requested) × IsRequested left requested × AppendsFront reported_old reported_new (failed_response requested)

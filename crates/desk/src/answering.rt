@@ -1,4 +1,4 @@
-//! What the office is asked, and the responses to it.
+//! What the office is to do, and the responses to it.
 ghost use Rattle.std.specs.Prelude.{◌≡◌, ◌≤◌, List, IfOk, IsFalse, IsTrue, OnErr};
 ghost use Rattle.sqlite.specs.Held.{state};
 ghost use Rattle.sqlite.specs.State.{HasCleanDisk};
@@ -16,7 +16,7 @@ use sqlite::Alter;
 use std::alloc::{AllocError, Global};
 use store::{Office, Question};
 
-/// What the store is asked.
+/// What the store is to do.
 fn question_of(look: Look) -> Question
     ensures { result ≡ question_of look }
 {

@@ -6,7 +6,7 @@
 //! request is an arrival, with that arrival and the answer that is written (`specs/Serving.antt`).
 //!
 //! What a request asks is decided below (`desk_call`), and so are the bytes of responses (`desk_reply`). Here the
-//! office is asked (`answering.rt`) and the three are put together (`serving.rt`).
+//! office is called (`answering.rt`) and the three are put together (`serving.rt`).
 #![tactic(auto)]
 
 mod answering;

@@ -1,7 +1,7 @@
 //! What the office does with a command on a message, by the part of the network that it reads.
 ghost use Rattle.std.specs.Prelude.{◌≡◌, true, IfOk, Some};
 ghost use Rattle.office_net.specs.Excerpt.{IsExcerptOf, excerpt_numbers, goes_by_excerpt};
-ghost use Rattle.office_take.specs.Told.{number_facts_of};
+ghost use Rattle.office_take.specs.Reported.{number_facts_of};
 ghost use Rattle.office_types.specs.declared.book.SpnBook.{SpnBook as Book};
 ghost use Rattle.office_types.specs.declared.state.Net.{Net};
 ghost use Rattle.office_law.specs.Apart.{asks_book};

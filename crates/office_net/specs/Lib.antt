@@ -1,3 +1,3 @@
-pub mod Told
+pub mod Reported
 pub mod Excerpt
 pub mod By

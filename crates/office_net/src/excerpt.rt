@@ -1,7 +1,7 @@
 //! The part of a network that a command on one of its messages reads.
 ghost use Rattle.std.specs.Prelude.{◌≡◌};
 ghost use Rattle.office_net.specs.Excerpt.{excerpt_facts};
-ghost use Rattle.office_net.specs.Told.{message_facts_of};
+ghost use Rattle.office_net.specs.Reported.{message_facts_of};
 
 use crate::message::MessageFacts;
 use catalogue::Items;

@@ -29,7 +29,7 @@ pub fn in_review(phase: &Phase) -> bool
     }
 }
 
-/// Whether the phase is a review that the team asked for.
+/// Whether the phase is a review that the team requested.
 pub fn is_submitter(team: &Team, phase: &Phase) -> bool
     ensures { result ≡ is_submitter team.now phase.now }
 {

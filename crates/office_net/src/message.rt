@@ -1,6 +1,6 @@
 //! What commands on a live message read of a network.
 ghost use Rattle.std.specs.Prelude.{◌≡◌};
-ghost use Rattle.office_net.specs.Told.{message_facts_of};
+ghost use Rattle.office_net.specs.Reported.{message_facts_of};
 ghost use Rattle.office_rules.specs.Facts.{message_facts};
 
 use crate::facts::live_named;

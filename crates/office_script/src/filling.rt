@@ -12,7 +12,7 @@ use crate::keys::Dash;
 use crate::lines::says_nothing;
 use crate::requests::{LineRequest, request_of};
 use catalogue::Items;
-use office_fields::{Asked, FileImport, FilePath, Unread};
+use office_fields::{FileImport, FilePath, Requested, Unread};
 use office_history::{Arrival, Request};
 use std::alloc::{AllocError, AllocFailed, Global};
 
@@ -94,7 +94,7 @@ fn read_import<F: FileSource>(
     import: FileImport,
     files: &F,
 ) -> Result<Request, LineFault>
-    ensures { Fills (F.held files.now) text (Asked.Import import) result }
+    ensures { Fills (F.held files.now) text (Requested.Import import) result }
 {
     match files.read(alloc, import.file.as_str()) {
         Ok(bytes) => Ok(import_request(text, import, bytes)?),
@@ -126,7 +126,7 @@ fn read_bundle<F: FileSource>(
     bundle: FileImport,
     files: &F,
 ) -> Result<Request, LineFault>
-    ensures { Fills (F.held files.now) text (Asked.Bundle bundle) result }
+    ensures { Fills (F.held files.now) text (Requested.Bundle bundle) result }
 {
     match files.read(alloc, bundle.file.as_str()) {
         Ok(bytes) => Ok(bundle_request(alloc, text, bundle, &bytes)?),
@@ -139,18 +139,18 @@ fn read_bundle<F: FileSource>(
 fn filled<F: FileSource>(
     alloc: Global,
     text: Items<u8>,
-    asked: Asked,
+    requested: Requested,
     files: &F,
 ) -> Result<Request, LineFault>
-    ensures { Fills (F.held files.now) text asked result }
+    ensures { Fills (F.held files.now) text requested result }
 {
-    match asked {
-        Asked::Command(command) => {
+    match requested {
+        Requested::Command(command) => {
             let content = text.into_vec();
             Ok(Request { content, command })
         }
-        Asked::Import(import) => read_import(alloc, text, import, files),
-        Asked::Bundle(bundle) => read_bundle(alloc, text, bundle, files),
+        Requested::Import(import) => read_import(alloc, text, import, files),
+        Requested::Bundle(bundle) => read_bundle(alloc, text, bundle, files),
     }
 }
 
@@ -161,15 +161,15 @@ fn arrival_of<F: FileSource>(
     files: &F,
 ) -> Result<Arrival, LineFault>
     ensures ok { IfOk result (IsArrivalOf (F.held files.now) line) }
-    ensures fault { IfErr result (λ fault. Fills (F.held files.now) line.text line.asked (Err fault)) }
+    ensures fault { IfErr result (λ fault. Fills (F.held files.now) line.text line.requested (Err fault)) }
 {
     let LineRequest {
         team,
         key,
         text,
-        asked,
+        requested,
     } = line;
-    match filled(alloc, text, asked, files) {
+    match filled(alloc, text, requested, files) {
         Ok(request) => Ok(Arrival { team, key, request }),
         Err(fault) => Err(fault),
     }

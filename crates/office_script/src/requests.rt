@@ -3,14 +3,14 @@ ghost use Rattle.std.specs.Prelude.{◌≡◌, ◌∷◌, ℕ, IfOk, IfSome, Non
 ghost use Rattle.office_fields.specs.Kind.{kind_of_word};
 ghost use Rattle.office_fields.specs.Reading.{Reads};
 ghost use Rattle.office_script.specs.Words.{words_of, words_after};
-ghost use Rattle.office_script.specs.Requests.{asked_bundle, asked_by, bundle_file, request_of_words, request_of};
+ghost use Rattle.office_script.specs.Requests.{requested_bundle, requested_by, bundle_file, request_of_words, request_of};
 
 use crate::fields::read_fields;
 use crate::keys::{Dash, key_of};
 use crate::lines::says_nothing;
 use crate::words::first_word;
 use catalogue::Items;
-use office_fields::{Asked, CommandKind, FilePath, Unread, asked_of, team_of};
+use office_fields::{CommandKind, FilePath, Requested, Unread, requested_of, team_of};
 use office_history::Key;
 use office_types::Team;
 use std::alloc::{AllocError, Global};
@@ -25,7 +25,7 @@ pub struct LineRequest {
     /// The words after the team, as they are in the line.
     pub text: Items<u8>,
     /// What they ask for.
-    pub asked: Asked,
+    pub requested: Requested,
 }
 
 /// The parts of a line: its first two words, and what follows them; of this the first word, and what follows that.
@@ -63,13 +63,13 @@ fn kind_of(word: &[u8]) -> Result<CommandKind, Unread>
 }
 
 /// What the command of this word asks for with the fields of the words in `rest`.
-#[tactic(auto, unfolding(crate::specs::Requests::asked_by))]
-fn asked_of_words(alloc: Global, word: &[u8], rest: Option<&[u8]>) -> Result<Asked, Unread>
-    ensures { Reads (asked_by word.now (words_after rest.entry)) result }
+#[tactic(auto, unfolding(crate::specs::Requests::requested_by))]
+fn requested_of_words(alloc: Global, word: &[u8], rest: Option<&[u8]>) -> Result<Requested, Unread>
+    ensures { Reads (requested_by word.now (words_after rest.entry)) result }
 {
     let kind = kind_of(word)?;
     match read_fields(alloc, rest)? {
-        Some(fields) => asked_of(alloc, kind, &fields),
+        Some(fields) => requested_of(alloc, kind, &fields),
         None => Err(Unread::Wrong),
     }
 }
@@ -91,13 +91,13 @@ fn request_of_parts(
 {
     let key = key_of(alloc, dash, number, parts.key)?;
     let team = team_of(alloc, parts.team)?;
-    let asked = asked_of_words(alloc, parts.command, parts.rest)?;
+    let requested = requested_of_words(alloc, parts.command, parts.rest)?;
     let text = copy_of(alloc, parts.text)?;
     Ok(LineRequest {
         team,
         key,
         text,
-        asked,
+        requested,
     })
 }
 
@@ -117,12 +117,12 @@ pub(crate) fn request_of(
 }
 
 /// The file of a bundle that is requested.
-fn asked_bundle(asked: Asked) -> Option<FilePath>
-    ensures { result ≡ asked_bundle asked }
+fn requested_bundle(requested: Requested) -> Option<FilePath>
+    ensures { result ≡ requested_bundle requested }
 {
-    match asked {
-        Asked::Bundle(bundle) => Some(bundle.into_path()),
-        Asked::Command(_) | Asked::Import(_) => None,
+    match requested {
+        Requested::Bundle(bundle) => Some(bundle.into_path()),
+        Requested::Command(_) | Requested::Import(_) => None,
     }
 }
 
@@ -140,7 +140,7 @@ pub fn bundle_file(
         return Ok(None);
     }
     match request_of(alloc, dash, number, line) {
-        Ok(request) => Ok(asked_bundle(request.asked)),
+        Ok(request) => Ok(requested_bundle(request.requested)),
         Err(Unread::Wrong) => Ok(None),
         Err(Unread::Memory) => Err(AllocError),
     }

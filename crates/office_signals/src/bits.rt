@@ -4,7 +4,7 @@ ghost use Rattle.std.specs.List.{list_all};
 ghost use Rattle.bitlayout.specs.Mux.{is_multiplexor, is_under};
 ghost use Rattle.catalogue.specs.Refusing.{first_refusal};
 ghost use Rattle.catalogue.specs.Signals.{has_multiplexor, places_of, signal_tests};
-ghost use Rattle.office_net.specs.Told.{message_facts_of};
+ghost use Rattle.office_net.specs.Reported.{message_facts_of};
 ghost use Rattle.office_types.specs.declared.book.SpnBook.{SpnBook};
 ghost use Rattle.office_types.specs.declared.change.Change.TheVariants.{AddSignal};
 ghost use Rattle.office_types.specs.declared.reply.Reply.TheVariants.{Start};

@@ -1,7 +1,7 @@
 //! The team's own live message on a network in draft, which every command on a message needs first.
 ghost use Rattle.std.specs.Prelude.{◌≡◌, IfErr, IfOk};
 ghost use Rattle.catalogue.specs.Refusing.{first_refusal};
-ghost use Rattle.office_net.specs.Told.{message_facts_of};
+ghost use Rattle.office_net.specs.Reported.{message_facts_of};
 ghost use Rattle.office_rules.specs.Retiring.{retire_tests};
 ghost use Rattle.office_signals.specs.Given.{IsGiven};
 

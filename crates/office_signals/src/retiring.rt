@@ -1,6 +1,6 @@
 //! Taking a live message out.
 ghost use Rattle.std.specs.Prelude.{◌≡◌, ◌∷◌, [], ℕ, List, IfOk, IfSome, Some, if◌then◌else◌};
-ghost use Rattle.office_net.specs.Told.{message_facts_of};
+ghost use Rattle.office_net.specs.Reported.{message_facts_of};
 ghost use Rattle.office_types.specs.declared.book.SpnBook.{SpnBook};
 ghost use Rattle.office_types.specs.declared.change.Change.TheVariants.{Hold, RemoveMessage};
 ghost use Rattle.office_types.specs.declared.reply.Reply.TheVariants.{Done};

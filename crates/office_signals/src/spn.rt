@@ -1,6 +1,6 @@
 //! Taking a suspect parameter number for a signal.
 ghost use Rattle.std.specs.Prelude.{◌≡◌, ◌∷◌, [], IfOk, IsTrue, None, Some};
-ghost use Rattle.office_net.specs.Told.{message_facts_of};
+ghost use Rattle.office_net.specs.Reported.{message_facts_of};
 ghost use Rattle.office_types.specs.Book.{is_spn_number};
 ghost use Rattle.office_types.specs.Free.{is_taken};
 ghost use Rattle.office_types.specs.declared.change.Change.TheVariants.{EnterSpn, SetMessage};

@@ -1,7 +1,7 @@
 //! Setting the texts of a signal's values.
 ghost use Rattle.std.specs.Prelude.{◌≡◌, ◌≤◌, ◌∷◌, [], ℕ, List, IfOk, Some, length};
 ghost use Rattle.catalogue.specs.Limits.{value_text_limit};
-ghost use Rattle.office_net.specs.Told.{message_facts_of};
+ghost use Rattle.office_net.specs.Reported.{message_facts_of};
 ghost use Rattle.office_types.specs.declared.book.SpnBook.{SpnBook};
 ghost use Rattle.office_types.specs.declared.change.Change.TheVariants.{SetMessage};
 ghost use Rattle.office_types.specs.declared.reply.Reply.TheVariants.{Done};

@@ -10,7 +10,7 @@ ghost use Rattle.office_rules.specs.Change.{Decides};
 ghost use Rattle.office_rules.specs.Facts.{group_facts, taken_groups};
 ghost use Rattle.office_rules.specs.Numbers.{address_of, group_given, ident_with, take_pgn, take_pgn_tests};
 ghost use Rattle.office_net.specs.By.{take_pgn_by};
-ghost use Rattle.office_take.specs.Told.{number_facts_of, refused_or_full};
+ghost use Rattle.office_take.specs.Reported.{number_facts_of, refused_or_full};
 
 use crate::numbers::{NumberFacts, group_facts, message_taken, name_refusal, taken_idents};
 use crate::taken::{Taken, ascending, least_of_team};

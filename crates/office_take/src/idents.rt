@@ -10,7 +10,7 @@ ghost use Rattle.office_rules.specs.Change.{Decides};
 ghost use Rattle.office_rules.specs.Facts.{ident_facts, taken_numbers};
 ghost use Rattle.office_rules.specs.Numbers.{number_given, take_ident, take_ident_tests, want_tests};
 ghost use Rattle.office_net.specs.By.{take_ident_by};
-ghost use Rattle.office_take.specs.Told.{number_facts_of, refused_or_full};
+ghost use Rattle.office_take.specs.Reported.{number_facts_of, refused_or_full};
 
 use crate::numbers::{NumberFacts, ident_facts, message_taken, name_refusal, taken_idents};
 use crate::taken::{Taken, ascending, least_of_team};

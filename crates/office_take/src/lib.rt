@@ -1,7 +1,7 @@
 //! Decisions on the commands that open networks, grant blocks, add nodes, give out numbers for new messages, and
 //! review.
 //!
-//! Each `decide_..` gives what its command comes to by the definition of `office_rules` that has its name: a reply, and
+//! Each `decide_..` gives what its command results in by the definition of `office_rules` that has its name: a reply, and
 //! the changes that lead to what the command leaves. `opening` opens a network, `granting` grants a block, `adding`
 //! adds a node and `reviewing` has reviews.
 //!

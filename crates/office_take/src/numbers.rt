@@ -6,7 +6,7 @@ ghost use Rattle.office_types.specs.declared.change.Change.TheVariants.{SetMessa
 ghost use Rattle.office_types.specs.declared.reply.Reply.TheVariants.{Number};
 ghost use Rattle.office_rules.specs.Facts.{group_facts, ident_facts, is_held, is_live, taken_groups, taken_idents, taken_numbers};
 ghost use Rattle.office_rules.specs.Numbers.{name_tests, new_message};
-ghost use Rattle.office_take.specs.Told.{number_facts_of};
+ghost use Rattle.office_take.specs.Reported.{number_facts_of};
 
 use can_id::{Ident, IdentForm};
 use catalogue::{Copying, MESSAGE_LIMIT, Message, Name, Node, Signals, Text};

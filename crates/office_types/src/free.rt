@@ -12,7 +12,7 @@ use crate::block::{Block, GREATEST_PGN};
 use can_id::{IdentForm, has_destination};
 use catalogue::SPN_LIMIT;
 
-/// What the numbers that are asked for are.
+/// What the requested numbers are.
 #[derive(Clone, Copy, Debug, PartialEq, Eq)]
 pub enum Form {
     /// 11-bit identifiers, 0 to 2047.

@@ -194,11 +194,11 @@ fn refused_of(number: u32, fault: u32, at: u32) -> Option<Reply>
     ensures { result ≡ refused_at number fault at }
 {
     if fault <= 255 {
-        let told = FileFault {
+        let reported = FileFault {
             fault: fault as u8,
             at,
         };
-        Refusal::of_number(number, told).map(|refusal| Reply::Refused(refusal))
+        Refusal::of_number(number, reported).map(|refusal| Reply::Refused(refusal))
     } else {
         None
     }

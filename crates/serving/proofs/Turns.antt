@@ -10,7 +10,7 @@ use Rattle.sqlite.specs.Tree.{Trees}
 use Rattle.office_history.specs.History.{Answered}
 use Rattle.store.specs.Holding.{Holding, Leaves}
 use Rattle.desk_types.specs.Moved.{AppendsFront}
-use Rattle.serving.specs.Serving.{Came, Ended, Ending, FailsOnce, Follows, IsDeclined, KeepsWithOne, Leads, LedTo, Ran, SaysFailure, Visit, written_to}
+use Rattle.serving.specs.Serving.{AreAccepted, AreClosed, Ending, FailsOnce, Follows, IsDeclined, KeepsWithOne, Leads, LedTo, Ran, SaysFailure, Visit, written_to}
 use Rattle.serving.proofs.Visits.{LeavesNow, decides, left_now, legal_of, not_both, ranged_of}
 
 follows_then : (h : List Answered) (vs : List Visit) (v : Visit) (h1 h2 : List Answered) → Follows h vs h1 → Leads h1 v h2 → Follows h (vs ++ v ∷ []) h2
@@ -27,7 +27,7 @@ written_front : {E : Type 0} (old new : Option (List ℕ)) (call : Result ℕ E)
 written_front old new (Ok n) text appends = (take n text, drop n text, sym (take-append-drop n text), appends)
 written_front old new (Err e) text keeps = ([], text, refl, Appends-kept old old new [] (Appends-nil old) keeps)
 
--- that the office fails is said by one write
+-- that the office fails is printed by one write
 pub says_by : {E : Type 0} (had has : Bool) (old new : Option (List ℕ)) (call : Result ℕ E) → has ≡ true → had ≡ false → WriteAppends old new call (codes "lost 72\n")
     → SaysFailure had has old new
 says_by false true old new call fails sound writes = written_front old new call (codes "lost 72\n") writes
@@ -39,7 +39,7 @@ stays_failed : (before : Bool) (vs : List Visit) (after : Bool) → FailsOnce be
 stays_failed before [] after is failed = subst IsTrue (sym is) failed
 stays_failed before (w ∷ vs) after f failed = stays_failed f.1 vs after f.3 (f.2 failed)
 
--- that the office fails is said once
+-- that the office fails is printed once
 says_on : (a b c : Bool) (first mid last : Option (List ℕ)) → SaysFailure a b first mid → SaysFailure b c mid last → (IsTrue a → IsTrue b) → (IsTrue b → IsTrue c) → SaysFailure a c first last
 says_on true true c first mid last x y ab bc = y ∙ x
 says_on true false c first mid last x y ab bc = absurd (not_both false (ab refl) refl)
@@ -51,9 +51,9 @@ says_on false false false first mid last x y ab bc = y ∙ x
 pub says_then : (a b c : Bool) (vs : List Visit) (first mid last : Option (List ℕ)) → FailsOnce a vs b → SaysFailure a b first mid → SaysFailure b c mid last → (IsTrue b → IsTrue c) → SaysFailure a c first last
 says_then a b c vs first mid last fails x y stays = says_on a b c first mid last x y (stays_failed a vs b fails) stays
 
-pub says_nothing : (b : Bool) (told : Option (List ℕ)) → SaysFailure b b told told
-says_nothing true told = refl
-says_nothing false told = refl
+pub says_nothing : (b : Bool) (reported : Option (List ℕ)) → SaysFailure b b reported reported
+says_nothing true reported = refl
+says_nothing false reported = refl
 
 pub declined_then : (vs : List Visit) (v : Visit) → All IsDeclined vs → IsDeclined v → All IsDeclined (vs ++ v ∷ [])
 declined_then vs v all one = All-push IsDeclined vs v all one
@@ -117,32 +117,32 @@ pub ran_then : (h : List Answered) (vs : List Visit) (v : Visit) (failed_old : B
     → Turn failed_old old v failed_new new → Ran h vs failed_old old → Ran h (vs ++ v ∷ []) failed_new new
 ran_then h vs v failed_old old failed_new new turn ran = ran_on h vs v failed_old old failed_new new turn ran (decides failed_old)
 
-told_then : {T : Type 0} (f : Visit → Option T) (vs : List Visit) (v : Visit) (xs ys : List T) → map f vs ≡ map Some xs → map f (v ∷ []) ≡ map Some ys
+reported_then : {T : Type 0} (f : Visit → Option T) (vs : List Visit) (v : Visit) (xs ys : List T) → map f vs ≡ map Some xs → map f (v ∷ []) ≡ map Some ys
     → map f (vs ++ v ∷ []) ≡ map Some (xs ++ ys)
-told_then {T} f vs v xs ys first last =
+reported_then {T} f vs v xs ys first last =
     map-append f vs (v ∷ []) ∙ ap (λ (l : List (Option T)). l ++ map f (v ∷ [])) first
     ∙ ap (λ (l : List (Option T)). map Some xs ++ l) last ∙ sym (map-append Some xs ys)
 
-pub came_none : (old : Option (List (List ℕ))) → Came old old []
+pub came_none : (old : Option (List (List ℕ))) → AreAccepted old old []
 came_none None = tt
 came_none (Some coming) = ([], coming, refl, refl, refl)
 
-pub came_then : (a b c : Option (List (List ℕ))) (vs : List Visit) (v : Visit) → Came a b vs → Came b c (v ∷ []) → Came a c (vs ++ v ∷ [])
+pub came_then : (a b c : Option (List (List ℕ))) (vs : List Visit) (v : Visit) → AreAccepted a b vs → AreAccepted b c (v ∷ []) → AreAccepted a c (vs ++ v ∷ [])
 came_then None b c vs v x y = tt
 came_then (Some coming) b c vs v x y =
-    let z = subst (λ (o : Option (List (List ℕ))). Came o c (v ∷ [])) x.3 y in
-    (x.0 ++ z.0, z.1, x.2 ∙ ap (λ (l : List (List ℕ)). x.0 ++ l) z.2 ∙ sym (append_assoc x.0 z.0 z.1), z.3, told_then (λ w. w.sent) vs v x.0 z.0 x.4 z.4)
+    let z = subst (λ (o : Option (List (List ℕ))). AreAccepted o c (v ∷ [])) x.3 y in
+    (x.0 ++ z.0, z.1, x.2 ∙ ap (λ (l : List (List ℕ)). x.0 ++ l) z.2 ∙ sym (append_assoc x.0 z.0 z.1), z.3, reported_then (λ w. w.sent) vs v x.0 z.0 x.4 z.4)
 
-pub ended_none : (old : Option (List Ending)) → Ended old old []
+pub ended_none : (old : Option (List Ending)) → AreClosed old old []
 ended_none None = refl
 ended_none (Some ended) = ([], sym (append-nil ended), refl)
 
-pub ended_then : (a b c : Option (List Ending)) (vs : List Visit) (v : Visit) → Ended a b vs → Ended b c (v ∷ []) → Ended a c (vs ++ v ∷ [])
-ended_then None b c vs v x y = subst (λ (o : Option (List Ending)). Ended o c (v ∷ [])) x y
-ended_then (Some ended) None c vs v x y = subst (λ (o : Option (List Ending)). Ended (Some ended) o (vs ++ v ∷ [])) (sym y) tt
+pub ended_then : (a b c : Option (List Ending)) (vs : List Visit) (v : Visit) → AreClosed a b vs → AreClosed b c (v ∷ []) → AreClosed a c (vs ++ v ∷ [])
+ended_then None b c vs v x y = subst (λ (o : Option (List Ending)). AreClosed o c (v ∷ [])) x y
+ended_then (Some ended) None c vs v x y = subst (λ (o : Option (List Ending)). AreClosed (Some ended) o (vs ++ v ∷ [])) (sym y) tt
 ended_then (Some ended) (Some more) None vs v x y = tt
 ended_then (Some ended) (Some more) (Some most) vs v x y = (
   x.0 ++ y.0,
   y.1 ∙ ap (λ (l : List Ending). l ++ y.0) x.1 ∙ append_assoc ended x.0 y.0,
-  told_then (λ w. w.ending) vs v x.0 y.0 x.2 y.2,
+  reported_then (λ w. w.ending) vs v x.0 y.0 x.2 y.2,
 )

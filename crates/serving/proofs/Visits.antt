@@ -10,33 +10,33 @@ use Rattle.store.specs.Holding.{Holding, Keeps, Leaves}
 use Rattle.desk_types.specs.Moved.{AppendsFront}
 use Rattle.desk_types.specs.declared.fault.DeskFault.{DeskFault}
 use Rattle.desk_types.specs.declared.fault.DeskFault.TheVariants.{Read, Write, Memory}
-use Rattle.desk_call.specs.Call.{Asked, Asking, arrives}
+use Rattle.desk_call.specs.Call.{Requested, Asking, arrives}
 use Rattle.desk_types.specs.declared.problem.Problem.TheVariants.{TryAgain}
 use Rattle.desk_reply.specs.Response.{problem_response}
 use Rattle.desk_call.specs.Read.{IsNotWhole}
 use Rattle.office_history.specs.declared.arrival.Answer.{Answer}
-use Rattle.desk.specs.Serving.{FollowsAsked, HasBegun, HasBegunRefusal, HasGivenUp, HasRefused, HasServed, IsAsked, MayHaveTaken, Responds, answered_as}
-use Rattle.serving.specs.Serving.{Came, Comes, DeclinesBy, Ended, Ending, Ends, IsCause, IsCutShort, IsReply, KeepsOneMore, LeadsBy, LedTo, MayGoOn, Starts, Visit, Wrote, WroteFront, fault_of}
+use Rattle.desk.specs.Serving.{FollowsRequested, HasBegun, HasBegunRefusal, HasGivenUp, HasRefused, HasServed, IsRequested, MayHaveTaken, Responds, answered_as}
+use Rattle.serving.specs.Serving.{AreAccepted, IsAccepted, DeclinesBy, AreClosed, Ending, IsClosed, IsCause, IsCutShort, IsReply, KeepsOneMore, LeadsBy, LedTo, MayGoOn, Starts, Visit, Wrote, WroteFront, fault_of}
 
 -- ---- what was written
 
--- what is told of the bytes that were written, if the listener tells of connections that have ended
+-- what is known of the bytes that were written, if the listener shows connections that have ended
 abbrev pub written_of : Option (List Ending) → Option (List ℕ) → Option (List ℕ)
-written_of None told = None
-written_of (Some ended) told = told
+written_of None reported = None
+written_of (Some ended) reported = reported
 
 -- an ending with these bytes, failed reads and failed writes
 abbrev ending_with : ℕ → ℕ → List ℕ → Ending
 ending_with reads writes bytes = record { written = bytes; failed_reads = reads; failed_writes = writes }
 
--- what is told of the ending, if the listener tells of connections that have ended
-abbrev pub ending_told : Option (List Ending) → Option (List ℕ) → ℕ → ℕ → Option Ending
-ending_told None told reads writes = None
-ending_told (Some ended) told reads writes = option_map (ending_with reads writes) told
+-- what is known of the ending, if the listener shows connections that have ended
+abbrev pub ending_reported : Option (List Ending) → Option (List ℕ) → ℕ → ℕ → Option Ending
+ending_reported None reported reads writes = None
+ending_reported (Some ended) reported reads writes = option_map (ending_with reads writes) reported
 
-pub written_is : (ended : Option (List Ending)) (told : Option (List ℕ)) (reads writes : ℕ)
-    → written_of ended told ≡ option_map (λ (e : Ending). e.written) (ending_told ended told reads writes)
-written_is None told reads writes = refl
+pub written_is : (ended : Option (List Ending)) (reported : Option (List ℕ)) (reads writes : ℕ)
+    → written_of ended reported ≡ option_map (λ (e : Ending). e.written) (ending_reported ended reported reads writes)
+written_is None reported reads writes = refl
 written_is (Some e) None reads writes = refl
 written_is (Some e) (Some bytes) reads writes = refl
 
@@ -85,7 +85,7 @@ LeavesNow s = IsTrue s.is_open → (db : Trees) → s.may_leave db → db ≡ s.
 pub left_now : (h : List Answered) (s : State) → LeavesNow s → Holding h s → Leaves (Keeps h) s
 left_now h s law holding db may = subst (Keeps h) (sym (law holding.is_open db may)) holding.keeps
 
--- a legal history that the tables hold if they are open; a crash leaves it, or what else is said
+-- a legal history that the tables hold if they are open; a crash leaves it, or what else is stated
 pub record Led (Leading : List Answered → Type 0) (Else : List Answered → Trees → Type 0) (s : State) : Type 0 where
   pub after : List Answered
   pub leads : Leading after
@@ -107,43 +107,43 @@ held_to Leading Else h2 s leads holding left = record {
 
 -- where the text that was written says to try again, one more arrival may be left
 abbrev AsksAgain : Option (List ℕ) → List ℕ → List Answered → Trees → Type 0
-AsksAgain sent text h2 db = (a : Asking) × IsAsked sent (arrives a) × (text ≡ problem_response TryAgain) × (answer : Answer) × Keeps (h2 ++ answered_as a answer ∷ []) db
+AsksAgain sent text h2 db = (a : Asking) × IsRequested sent (arrives a) × (text ≡ problem_response TryAgain) × (answer : Answer) × Keeps (h2 ++ answered_as a answer ∷ []) db
 
-asked_more : (h : List Answered) (sent : Option (List ℕ)) (asked : Asked) (text : List ℕ) (db : Trees) → IsAsked sent asked → text ≡ problem_response TryAgain → FollowsAsked h asked db
+requested_more : (h : List Answered) (sent : Option (List ℕ)) (requested : Requested) (text : List ℕ) (db : Trees) → IsRequested sent requested → text ≡ problem_response TryAgain → FollowsRequested h requested db
     → Keeps h db ⊎ AsksAgain sent text h db
-asked_more h sent asked text db is_asked again (inl keeps) = inl keeps
-asked_more h sent asked text db is_asked again (inr one) = inr (one.0, subst (λ (k : Asked). IsAsked sent k) one.1 is_asked, again, one.2, one.3)
+requested_more h sent requested text db is_requested again (inl keeps) = inl keeps
+requested_more h sent requested text db is_requested again (inr one) = inr (one.0, subst (λ (k : Requested). IsRequested sent k) one.1 is_requested, again, one.2, one.3)
 
-replied : (h : List Answered) (sent : Option (List ℕ)) (asked : Asked) (text : List ℕ) (s : State) → IsLegalHistory h → All IsInRange h → IsAsked sent asked → Responds h asked text s
+replied : (h : List Answered) (sent : Option (List ℕ)) (requested : Requested) (text : List ℕ) (s : State) → IsLegalHistory h → All IsInRange h → IsRequested sent requested → Responds h requested text s
     → Led (IsReply h sent text) (AsksAgain sent text) s
-replied h sent asked text s legal ranged is_asked (inl r) = held_to (IsReply h sent text) (AsksAgain sent text) r.0 s (asked, is_asked, inl r.1) r.2 r.3
-replied h sent asked text s legal ranged is_asked (inr r) = record {
+replied h sent requested text s legal ranged is_requested (inl r) = held_to (IsReply h sent text) (AsksAgain sent text) r.0 s (requested, is_requested, inl r.1) r.2 r.3
+replied h sent requested text s legal ranged is_requested (inr r) = record {
   after = h;
-  leads = (asked, is_asked, inr (refl, r.0));
+  leads = (requested, is_requested, inr (refl, r.0));
   legal = legal;
   in_range = ranged;
   held = r.1;
-  left = λ db may. asked_more h sent asked text db is_asked r.0 (r.2 db may);
+  left = λ db may. requested_more h sent requested text db is_requested r.0 (r.2 db may);
 }
 
-gone_on : (h : List Answered) (sent : Option (List ℕ)) (asked : Asked) (s : State) → LeavesNow s → IsAsked sent asked
-    → Holding h s ⊎ ((a : Asking) × (asked ≡ arrives a) × ((answer : Answer) × Holding (h ++ answered_as a answer ∷ []) s))
+gone_on : (h : List Answered) (sent : Option (List ℕ)) (requested : Requested) (s : State) → LeavesNow s → IsRequested sent requested
+    → Holding h s ⊎ ((a : Asking) × (requested ≡ arrives a) × ((answer : Answer) × Holding (h ++ answered_as a answer ∷ []) s))
     → Led (MayGoOn h sent) (AsksAgain sent (problem_response TryAgain)) s
-gone_on h sent asked s law is_asked (inl holding) = held_to (MayGoOn h sent) (AsksAgain sent (problem_response TryAgain)) h s (inl refl) holding (left_now h s law holding)
-gone_on h sent asked s law is_asked (inr t) =
+gone_on h sent requested s law is_requested (inl holding) = held_to (MayGoOn h sent) (AsksAgain sent (problem_response TryAgain)) h s (inl refl) holding (left_now h s law holding)
+gone_on h sent requested s law is_requested (inr t) =
     let h2 = h ++ answered_as t.0 t.2.0 ∷ [] in
-    held_to (MayGoOn h sent) (AsksAgain sent (problem_response TryAgain)) h2 s (inr (t.0, t.2.0, subst (λ (k : Asked). IsAsked sent k) t.1 is_asked, refl)) t.2.1 (left_now h2 s law t.2.1)
+    held_to (MayGoOn h sent) (AsksAgain sent (problem_response TryAgain)) h2 s (inr (t.0, t.2.0, subst (λ (k : Requested). IsRequested sent k) t.1 is_requested, refl)) t.2.1 (left_now h2 s law t.2.1)
 
-may_have : (h : List Answered) (sent : Option (List ℕ)) (asked : Asked) (s : State) → LeavesNow s → IsLegalHistory h → All IsInRange h → IsAsked sent asked → MayHaveTaken h asked s
+may_have : (h : List Answered) (sent : Option (List ℕ)) (requested : Requested) (s : State) → LeavesNow s → IsLegalHistory h → All IsInRange h → IsRequested sent requested → MayHaveTaken h requested s
     → IsTrue s.is_open ⊎ IsFalse s.is_open → Led (MayGoOn h sent) (AsksAgain sent (problem_response TryAgain)) s
-may_have h sent asked s law legal ranged is_asked taken (inl opened) = gone_on h sent asked s law is_asked (taken.0 opened)
-may_have h sent asked s law legal ranged is_asked taken (inr shut) = record {
+may_have h sent requested s law legal ranged is_requested taken (inl opened) = gone_on h sent requested s law is_requested (taken.0 opened)
+may_have h sent requested s law legal ranged is_requested taken (inr shut) = record {
   after = h;
   leads = inl refl;
   legal = legal;
   in_range = ranged;
   held = λ opened. absurd (not_both s.is_open opened shut);
-  left = λ db may. asked_more h sent asked (problem_response TryAgain) db is_asked refl (taken.1 db may);
+  left = λ db may. requested_more h sent requested (problem_response TryAgain) db is_requested refl (taken.1 db may);
 }
 
 given_up : (h : List Answered) (sent : Option (List ℕ)) (s : State) → LeavesNow s → IsLegalHistory h → All IsInRange h → HasGivenUp h sent s
@@ -237,35 +237,35 @@ cut_short None after bytes consumes is = tt
 cut_short (Some input) None bytes consumes is = absurd consumes
 cut_short (Some input) (Some rest) bytes consumes is = (bytes, rest, consumes, is)
 
-of_ending : (P : Ending → Type 0) (ended : Option (List Ending)) (told : Option (List ℕ)) (reads writes : ℕ)
-    → ((bytes : List ℕ) → P (ending_with reads writes bytes)) → IfSome (ending_told ended told reads writes) P
-of_ending P None told reads writes is = tt
+of_ending : (P : Ending → Type 0) (ended : Option (List Ending)) (reported : Option (List ℕ)) (reads writes : ℕ)
+    → ((bytes : List ℕ) → P (ending_with reads writes bytes)) → IfSome (ending_reported ended reported reads writes) P
+of_ending P None reported reads writes is = tt
 of_ending P (Some e) None reads writes is = tt
 of_ending P (Some e) (Some bytes) reads writes is = is bytes
 
-pub caused : {T : Type 0} (r : Result T DeskFault) (ended : Option (List Ending)) (told sent after : Option (List ℕ)) (reads_old reads writes_old writes : ℕ)
-    → reads_old ≡ 0 → writes_old ≡ 0 → Calls r sent after reads_old reads writes_old writes → IsCause (fault_of r) sent (ending_told ended told reads writes)
-caused (Ok v) ended told sent after reads_old reads writes_old writes no_read no_write known =
-    of_ending (λ e. (e.failed_reads ≡ 0) × (e.failed_writes ≡ 0)) ended told reads writes (λ bytes. (known.healthy.0 ∙ no_read, known.healthy.1 ∙ no_write))
-caused (Err Read) ended told sent after reads_old reads writes_old writes no_read no_write known =
+pub caused : {T : Type 0} (r : Result T DeskFault) (ended : Option (List Ending)) (reported sent after : Option (List ℕ)) (reads_old reads writes_old writes : ℕ)
+    → reads_old ≡ 0 → writes_old ≡ 0 → Calls r sent after reads_old reads writes_old writes → IsCause (fault_of r) sent (ending_reported ended reported reads writes)
+caused (Ok v) ended reported sent after reads_old reads writes_old writes no_read no_write known =
+    of_ending (λ e. (e.failed_reads ≡ 0) × (e.failed_writes ≡ 0)) ended reported reads writes (λ bytes. (known.healthy.0 ∙ no_read, known.healthy.1 ∙ no_write))
+caused (Err Read) ended reported sent after reads_old reads writes_old writes no_read no_write known =
     let u = known.unread refl in
-    (cut_short sent after u.0 u.1 u.2, of_ending (λ e. e.failed_reads ≡ 1) ended told reads writes (λ bytes. known.read_failed refl ∙ ap (λ n. n + 1) no_read))
-caused (Err Write) ended told sent after reads_old reads writes_old writes no_read no_write known =
-    of_ending (λ e. e.failed_writes ≡ 1) ended told reads writes (λ bytes. known.write_failed refl ∙ ap (λ n. n + 1) no_write)
-caused (Err Memory) ended told sent after reads_old reads writes_old writes no_read no_write known =
+    (cut_short sent after u.0 u.1 u.2, of_ending (λ e. e.failed_reads ≡ 1) ended reported reads writes (λ bytes. known.read_failed refl ∙ ap (λ n. n + 1) no_read))
+caused (Err Write) ended reported sent after reads_old reads writes_old writes no_read no_write known =
+    of_ending (λ e. e.failed_writes ≡ 1) ended reported reads writes (λ bytes. known.write_failed refl ∙ ap (λ n. n + 1) no_write)
+caused (Err Memory) ended reported sent after reads_old reads writes_old writes no_read no_write known =
     let k = known.lacking refl in
-    of_ending (λ e. (e.failed_reads ≡ 0) × (e.failed_writes ≡ 0)) ended told reads writes (λ bytes. (k.0 ∙ no_read, k.1 ∙ no_write))
+    of_ending (λ e. (e.failed_reads ≡ 0) × (e.failed_writes ≡ 0)) ended reported reads writes (λ bytes. (k.0 ∙ no_read, k.1 ∙ no_write))
 
 -- ---- the listener
 
-pub one_came : (old new : Option (List (List ℕ))) (v : Visit) → Comes old new v.sent → Came old new (v ∷ [])
+pub one_came : (old new : Option (List (List ℕ))) (v : Visit) → IsAccepted old new v.sent → AreAccepted old new (v ∷ [])
 one_came None new v comes = tt
 one_came (Some coming) new v comes = (comes.0 ∷ [], comes.1, comes.2, comes.3, ap (λ (o : Option (List ℕ)). o ∷ []) comes.4)
 
-pub one_ended : (old new : Option (List Ending)) (failed : Bool) (told sent : Option (List ℕ)) (fault : Option DeskFault) (reads writes : ℕ)
-    → Ends old new told reads writes
-    → Ended old new (record { office_failed = failed; sent = sent; ending = ending_told old told reads writes; fault = fault } ∷ [])
-one_ended None new failed told sent fault reads writes ends = ends
-one_ended (Some ended) None failed told sent fault reads writes ends = tt
-one_ended (Some ended) (Some more) failed told sent fault reads writes ends =
+pub one_ended : (old new : Option (List Ending)) (failed : Bool) (reported sent : Option (List ℕ)) (fault : Option DeskFault) (reads writes : ℕ)
+    → IsClosed old new reported reads writes
+    → AreClosed old new (record { office_failed = failed; sent = sent; ending = ending_reported old reported reads writes; fault = fault } ∷ [])
+one_ended None new failed reported sent fault reads writes ends = ends
+one_ended (Some ended) None failed reported sent fault reads writes ends = tt
+one_ended (Some ended) (Some more) failed reported sent fault reads writes ends =
     (ending_with reads writes ends.0 ∷ [], ends.2, ap (λ (o : Option (List ℕ)). option_map (ending_with reads writes) o ∷ []) ends.1)

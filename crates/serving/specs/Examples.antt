@@ -8,7 +8,7 @@ use Rattle.desk_call.specs.Call.{fails, shows}
 use Rattle.desk_call.specs.declared.call.Look.TheVariants.{Release}
 use Rattle.desk_reply.specs.Response.{problem_response}
 use Rattle.desk.specs.Serving.{failed_response}
-use Rattle.serving.specs.Serving.{Came, Ended, Ending, FailsOnce, Follows, HasCause, SaysFailure, Visit}
+use Rattle.serving.specs.Serving.{AreAccepted, AreClosed, Ending, FailsOnce, Follows, HasCause, SaysFailure, Visit}
 
 -- one read failed, and nothing was written
 abbrev unanswered : Ending
@@ -31,22 +31,22 @@ stays_failed : (next : Bool) → FailsOnce true (broken ∷ []) next → ⊥
 stays_failed next it = let sound = it.0 in cc
 
 -- one of two connections came, and nothing was written on it
-one_came : Came (Some (codes "GET /n" ∷ codes "GET" ∷ [])) (Some (codes "GET" ∷ [])) (broken ∷ [])
+one_came : AreAccepted (Some (codes "GET /n" ∷ codes "GET" ∷ [])) (Some (codes "GET" ∷ [])) (broken ∷ [])
 one_came = (codes "GET /n" ∷ [], codes "GET" ∷ [], refl, refl, refl)
 
-one_ended : Ended (Some []) (Some (unanswered ∷ [])) (broken ∷ [])
+one_ended : AreClosed (Some []) (Some (unanswered ∷ [])) (broken ∷ [])
 one_ended = (unanswered ∷ [], refl, refl)
 
 -- a connection of which no read failed doesn't end by `Read`
 not_for_nothing : HasCause (record broken { ending = Some (record unanswered { failed_reads = 0 }) }) → ⊥
 not_for_nothing cause = let failed = cause.1 in cc
 
--- a request for nothing that is there is answered as ever once the office has failed, and one for a release is told to try again
+-- a request for nothing that is there is answered as ever once the office has failed, and one for a release is answered to try again
 answered_still : failed_response (fails NotFound) ≡ problem_response NotFound
 answered_still = refl
 
-told_to_try_again : (net : List ℕ) → failed_response (shows (Release net 1)) ≡ problem_response TryAgain
-told_to_try_again net = refl
+reported_to_try_again : (net : List ℕ) → failed_response (shows (Release net 1)) ≡ problem_response TryAgain
+reported_to_try_again net = refl
 
 -- the office fails, and the line that says so is the whole text; later nothing more is written
 says_lost : SaysFailure false true (Some (codes "listening\n")) (Some (codes "listening\nlost 72\n"))

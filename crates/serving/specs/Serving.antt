@@ -10,10 +10,10 @@ use Rattle.desk_types.specs.Moved.{AppendsFront}
 use Rattle.desk_types.specs.declared.fault.DeskFault.{DeskFault}
 use Rattle.desk_types.specs.declared.fault.DeskFault.TheVariants.{Read, Write, Memory}
 use Rattle.desk_types.specs.declared.problem.Problem.TheVariants.{TryAgain}
-use Rattle.desk_call.specs.Call.{Asked, Asking, arrives}
+use Rattle.desk_call.specs.Call.{Requested, Asking, arrives}
 use Rattle.desk_call.specs.Read.{IsNotWhole}
 use Rattle.desk_reply.specs.Response.{problem_response}
-use Rattle.desk.specs.Serving.{IsAsked, IsResponse, answered_as, failed_response}
+use Rattle.desk.specs.Serving.{IsRequested, IsResponse, answered_as, failed_response}
 
 -- how a connection ended: what was written to its peer, and how many of its reads and of its writes failed
 pub record Ending : Type 0 where
@@ -21,7 +21,7 @@ pub record Ending : Type 0 where
   pub failed_reads : ℕ
   pub failed_writes : ℕ
 
--- a connection: whether the office had failed when it came, what its peer sends and how it ended, if these are told, and the
+-- a connection: whether the office had failed when it came, what its peer sends and how it ended, if these are known, and the
 -- fault that ended it, if any
 pub record Visit : Type 0 where
   pub office_failed : Bool
@@ -29,7 +29,7 @@ pub record Visit : Type 0 where
   pub ending : Option Ending
   pub fault : Option DeskFault
 
--- what was written to the peer, if that is told
+-- what was written to the peer, if that is known
 abbrev pub written_to : Visit → Option (List ℕ)
 written_to v = option_map (λ e. e.written) v.ending
 
@@ -38,7 +38,7 @@ abbrev pub fault_of : {T : Type 0} → Result T DeskFault → Option DeskFault
 fault_of (Ok v) = None
 fault_of (Err fault) = Some fault
 
--- a beginning of what the peer sends holds no whole request, if that is told
+-- a beginning of what the peer sends holds no whole request, if that is known
 abbrev pub IsCutShort : Option (List ℕ) → Type 0
 IsCutShort sent = IfSome sent (λ input. (bytes : List ℕ) × (rest : List ℕ) × (input ≡ bytes ++ rest) × IsNotWhole bytes)
 
@@ -53,23 +53,23 @@ IsCause (Some Memory) sent ending = IfSome ending (λ e. (e.failed_reads ≡ 0) 
 abbrev pub HasCause : Visit → Type 0
 HasCause v = IsCause v.fault v.sent v.ending
 
--- this was written, if that is told
+-- this was written, if that is known
 abbrev pub Wrote : Option (List ℕ) → List ℕ → Type 0
 Wrote written text = IfSome written (λ bytes. bytes ≡ text)
 
--- a beginning of this was written, if that is told
+-- a beginning of this was written, if that is known
 abbrev pub WroteFront : Option (List ℕ) → List ℕ → Type 0
 WroteFront written text = IfSome written (λ bytes. (rest : List ℕ) × (text ≡ bytes ++ rest))
 
--- the text is the response to what is asked, and h2 is the history after it; or the text says to try again
+-- the text is the response to the request, and h2 is the history after it; or the text says to try again
 abbrev pub IsReply : List Answered → Option (List ℕ) → List ℕ → List Answered → Type 0
 IsReply h sent text h2 =
-    (asked : Asked) × IsAsked sent asked × (IsResponse h asked text h2 ⊎ ((h2 ≡ h) × (text ≡ problem_response TryAgain)))
+    (requested : Requested) × IsRequested sent requested × (IsResponse h requested text h2 ⊎ ((h2 ≡ h) × (text ≡ problem_response TryAgain)))
 
 -- the history is as before, or goes on with the arrival that was requested
 abbrev pub MayGoOn : List Answered → Option (List ℕ) → List Answered → Type 0
 MayGoOn h sent h2 =
-    (h2 ≡ h) ⊎ ((a : Asking) × (answer : Answer) × IsAsked sent (arrives a) × (h2 ≡ h ++ answered_as a answer ∷ []))
+    (h2 ≡ h) ⊎ ((a : Asking) × (answer : Answer) × IsRequested sent (arrives a) × (h2 ≡ h ++ answered_as a answer ∷ []))
 
 -- from one history to another by a connection that ended so: with its whole response, with none, or with a beginning
 abbrev pub LeadsBy : Option DeskFault → List Answered → Option (List ℕ) → Option (List ℕ) → List Answered → Type 0
@@ -87,11 +87,11 @@ abbrev pub Follows : List Answered → List Visit → List Answered → Type 0
 Follows h [] h2 = h2 ≡ h
 Follows h (v ∷ later) h2 = (h1 : List Answered) × Leads h v h1 × Follows h1 later h2
 
--- the trees keep the history with an arrival that was asked, and of whose answer nothing was written but a beginning of
+-- the trees keep the history with an arrival that was requested, and of whose answer nothing was written but a beginning of
 -- the text that says to try again
 abbrev pub KeepsOneMore : List Answered → Option (List ℕ) → Option (List ℕ) → Trees → Type 0
 KeepsOneMore h sent written db =
-    (a : Asking) × IsAsked sent (arrives a) × WroteFront written (problem_response TryAgain) × (answer : Answer) × Keeps (h ++ answered_as a answer ∷ []) db
+    (a : Asking) × IsRequested sent (arrives a) × WroteFront written (problem_response TryAgain) × (answer : Answer) × Keeps (h ++ answered_as a answer ∷ []) db
 
 -- the trees keep the history, or it with the arrival of one of the connections, which had no answer
 abbrev pub KeepsWithOne : List Answered → List Visit → Trees → Type 0
@@ -123,9 +123,9 @@ pub record Ran (h : List Answered) (visits : List Visit) (failed : Bool) (s : St
 
 -- from a connection to an office that has failed, which ended so: a request to that office gets the answer to try again
 abbrev pub DeclinesBy : Option DeskFault → Option (List ℕ) → Option (List ℕ) → Type 0
-DeclinesBy None sent written = (asked : Asked) × IsAsked sent asked × Wrote written (failed_response asked)
+DeclinesBy None sent written = (requested : Requested) × IsRequested sent requested × Wrote written (failed_response requested)
 DeclinesBy (Some Read) sent written = Wrote written []
-DeclinesBy (Some Write) sent written = (asked : Asked) × IsAsked sent asked × WroteFront written (failed_response asked)
+DeclinesBy (Some Write) sent written = (requested : Requested) × IsRequested sent requested × WroteFront written (failed_response requested)
 DeclinesBy (Some Memory) sent written = Wrote written []
 
 -- if the office had failed when the connection came, it is declined so
@@ -145,28 +145,28 @@ SaysFailure before after old new = new ≡ old
 
 -- ---- the connections of a listener
 
--- these connections came, in order, if the listener tells what peers send
-abbrev pub Came : Option (List (List ℕ)) → Option (List (List ℕ)) → List Visit → Type 0
-Came None new visits = ⊤
-Came (Some coming) new visits =
+-- these connections came, in order, if the listener shows what peers send
+abbrev pub AreAccepted : Option (List (List ℕ)) → Option (List (List ℕ)) → List Visit → Type 0
+AreAccepted None new visits = ⊤
+AreAccepted (Some coming) new visits =
     (sent : List (List ℕ)) × (left : List (List ℕ)) × (coming ≡ sent ++ left) × (new ≡ Some left) × (map (λ v. v.sent) visits ≡ map Some sent)
 
--- These connections ended, in order, if the listener tells how. It may cease to tell, and never tells again.
-abbrev pub Ended : Option (List Ending) → Option (List Ending) → List Visit → Type 0
-Ended None new visits = new ≡ None
-Ended (Some ended) None visits = ⊤
-Ended (Some ended) (Some more) visits =
+-- These connections ended, in order, if the listener shows how. It may cease to show it, and never does again.
+abbrev pub AreClosed : Option (List Ending) → Option (List Ending) → List Visit → Type 0
+AreClosed None new visits = new ≡ None
+AreClosed (Some ended) None visits = ⊤
+AreClosed (Some ended) (Some more) visits =
     (endings : List Ending) × (more ≡ ended ++ endings) × (map (λ v. v.ending) visits ≡ map Some endings)
 
 -- the first connection that comes sends these bytes
-abbrev pub Comes : Option (List (List ℕ)) → Option (List (List ℕ)) → Option (List ℕ) → Type 0
-Comes None new sent = ⊤
-Comes (Some coming) new sent =
+abbrev pub IsAccepted : Option (List (List ℕ)) → Option (List (List ℕ)) → Option (List ℕ) → Type 0
+IsAccepted None new sent = ⊤
+IsAccepted (Some coming) new sent =
     (bytes : List ℕ) × (left : List (List ℕ)) × (coming ≡ bytes ∷ left) × (new ≡ Some left) × (sent ≡ Some bytes)
 
--- no connection is to come, if the listener tells
-abbrev pub NoneComes : Option (List (List ℕ)) → Type 0
-NoneComes coming = IfSome coming (λ all. all ≡ [])
+-- no connection is left, if the listener shows them
+abbrev pub NoneWaits : Option (List (List ℕ)) → Type 0
+NoneWaits coming = IfSome coming (λ all. all ≡ [])
 
 -- nothing is written yet on a connection
 abbrev pub Starts : Option (List Ending) → Option (List ℕ) → Type 0
@@ -174,8 +174,8 @@ Starts None written = ⊤
 Starts (Some ended) written = written ≡ Some []
 
 -- a connection ends, to which this was written, and of which so many reads and so many writes failed
-abbrev pub Ends : Option (List Ending) → Option (List Ending) → Option (List ℕ) → ℕ → ℕ → Type 0
-Ends None new written reads writes = new ≡ None
-Ends (Some ended) None written reads writes = ⊤
-Ends (Some ended) (Some more) written reads writes =
+abbrev pub IsClosed : Option (List Ending) → Option (List Ending) → Option (List ℕ) → ℕ → ℕ → Type 0
+IsClosed None new written reads writes = new ≡ None
+IsClosed (Some ended) None written reads writes = ⊤
+IsClosed (Some ended) (Some more) written reads writes =
     (bytes : List ℕ) × (written ≡ Some bytes) × (more ≡ ended ++ record { written = bytes; failed_reads = reads; failed_writes = writes } ∷ [])

@@ -134,7 +134,7 @@ impl<C: Clock> Source for Line<'_, C> {
 }
 
 impl<C: Clock> Sink for Line<'_, C> {
-    ghost told = { λ _. None };
+    ghost reported = { λ _. None };
 
     ghost failure_count = { λ s. s.count };
 

@@ -1,6 +1,6 @@
 //! Where connections come from.
 ghost use Rattle.std.specs.Prelude.{◌≡◌, ℕ, List, Option, IfOk, OnErr};
-ghost use Rattle.serving.specs.Serving.{Comes, Ending, Ends, NoneComes, Starts};
+ghost use Rattle.serving.specs.Serving.{IsAccepted, Ending, IsClosed, NoneWaits, Starts};
 
 use desk::{Failed, Sink, Source};
 
@@ -22,13 +22,13 @@ pub trait Listener {
     /// accepted; a listener that tells what comes has one only if nothing comes.
     fn accept(&mut self) -> Result<(Self::Request, Self::Response), Failed>
         ensures sound { IfOk result (λ c. (Self.Request.failure_count c.0 ≡ 0) × (Self.Response.failure_count c.1 ≡ 0)) }
-        ensures comes { IfOk result (λ c. Comes (coming self.old) (coming self.new) (Self.Request.left c.0)) }
-        ensures starts { IfOk result (λ c. Starts (ended self.old) (Self.Response.told c.1)) }
+        ensures comes { IfOk result (λ c. IsAccepted (coming self.old) (coming self.new) (Self.Request.left c.0)) }
+        ensures starts { IfOk result (λ c. Starts (ended self.old) (Self.Response.reported c.1)) }
         ensures kept { ended self.new ≡ ended self.old }
-        ensures failed { OnErr result ((coming self.new ≡ coming self.old) × NoneComes (coming self.old)) };
+        ensures failed { OnErr result ((coming self.new ≡ coming self.old) × NoneWaits (coming self.old)) };
 
-    /// Ends the connection, after its response or its fault.
+    /// IsClosed the connection, after its response or its fault.
     fn finish(&mut self, request: Self::Request, response: Self::Response)
-        ensures ends { Ends (ended self.old) (ended self.new) (Self.Response.told response) (Self.Request.failure_count request) (Self.Response.failure_count response) }
+        ensures ends { IsClosed (ended self.old) (ended self.new) (Self.Response.reported response) (Self.Request.failure_count request) (Self.Response.failure_count response) }
         ensures kept { coming self.new ≡ coming self.old };
 }

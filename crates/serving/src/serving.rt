@@ -5,7 +5,7 @@ ghost use Rattle.sqlite.specs.State.{HasCleanDisk};
 ghost use Rattle.sqlite_trees.specs.View.{doubt};
 ghost use Rattle.office_history.specs.History.{Answered};
 ghost use Rattle.store.specs.Holding.{Holding};
-ghost use Rattle.serving.specs.Serving.{Came, Ended, FailsOnce, HasCause, IsDeclined, LedTo, NoneComes, Ran, SaysFailure, Visit, fault_of, written_to};
+ghost use Rattle.serving.specs.Serving.{AreAccepted, AreClosed, FailsOnce, HasCause, IsDeclined, LedTo, NoneWaits, Ran, SaysFailure, Visit, fault_of, written_to};
 
 use crate::fault::ServeFault;
 use crate::listener::Listener;
@@ -15,7 +15,7 @@ use std::alloc::Global;
 use std::io::Write;
 use store::Office;
 
-/// What is said when the office fails, as of any call that is lost because the database failed.
+/// What is printed when the office fails, as of any call that is lost because the database failed.
 const OFFICE_FAILED: &[u8] = b"lost 72\n";
 
 /// Serves the next connection, and tells whether a fault ended it. The error is that none can be accepted: then nothing
@@ -31,12 +31,12 @@ fn attend<S: Alter, L: Listener>(
         → IsFalse office.new.failed → IsTrue (state S.Store office.new.conn).is_open }
     ensures served { IfOk result (λ ended. (v : Visit) × (v.fault ≡ fault_of ended)
         × (v.office_failed ≡ office.old.failed)
-        × Came (L.coming listener.old) (L.coming listener.new) (v ∷ []) × Ended (L.ended listener.old) (L.ended listener.new) (v ∷ [])
+        × AreAccepted (L.coming listener.old) (L.coming listener.new) (v ∷ []) × AreClosed (L.ended listener.old) (L.ended listener.new) (v ∷ [])
         × HasCause v × IsDeclined v
         × (HasCleanDisk (state S.Store office.new.conn) → (h : List Answered) → Holding h (state S.Store office.old.conn)
         → LedTo h v.fault v.sent (written_to v) (state S.Store office.new.conn))) }
     ensures kept { OnErr result (office.new ≡ office.old) }
-    ensures none { OnErr result ((L.coming listener.new ≡ L.coming listener.old) × (L.ended listener.new ≡ L.ended listener.old) × NoneComes (L.coming listener.old)) }
+    ensures none { OnErr result ((L.coming listener.new ≡ L.coming listener.old) × (L.ended listener.new ≡ L.ended listener.old) × NoneWaits (L.coming listener.old)) }
 {
     let (mut request, mut response) = listener.accept()?;
     let ended = serve_one(alloc, office, &mut request, &mut response);
@@ -50,13 +50,13 @@ fn say_failure<E: Write>(errors: &mut E, had_failed: bool, has_failed: bool)
     ensures { SaysFailure had_failed has_failed (E.contents errors.old) (E.contents errors.new) }
 {
     if has_failed && !had_failed {
-        // Whether it can be said changes nothing of what is served.
-        let _said = errors.write(OFFICE_FAILED);
+        // Whether it can be printed changes nothing of what is served.
+        let _stated = errors.write(OFFICE_FAILED);
     }
 }
 
 /// Serves `count` connections of the listener, one after the other. A fault of the desk ends its connection alone. Once
-/// the office has failed, it changes nothing any more, and whatever comes to it is answered by 503. When it fails,
+/// the office has failed, it changes nothing any more, and whatever reaches it is answered by 503. When it fails,
 /// `lost 72` is written to `errors`, once and as far as the writer takes it.
 ///
 /// `Accept` if a connection can't be accepted: then those before it were served. With a listener that tells what comes, none
@@ -69,9 +69,9 @@ pub fn serve<S: Alter, L: Listener, E: Write>(
     count: u32,
 ) -> Result<(), ServeFault>
     ensures clean { doubt (state S.Store office.old.conn).is_clean ≤ doubt (state S.Store office.new.conn).is_clean }
-    ensures said { SaysFailure office.old.failed office.new.failed (E.contents errors.old) (E.contents errors.new) }
-    ensures served { (visits : List Visit) × Came (L.coming listener.old) (L.coming listener.new) visits × Ended (L.ended listener.old) (L.ended listener.new) visits
-        × MatchResult result (λ done. length visits ≡ count) (λ fault. (fault ≡ ServeFault.Accept) × (length visits < count) × NoneComes (L.coming listener.new))
+    ensures stated { SaysFailure office.old.failed office.new.failed (E.contents errors.old) (E.contents errors.new) }
+    ensures served { (visits : List Visit) × AreAccepted (L.coming listener.old) (L.coming listener.new) visits × AreClosed (L.ended listener.old) (L.ended listener.new) visits
+        × MatchResult result (λ done. length visits ≡ count) (λ fault. (fault ≡ ServeFault.Accept) × (length visits < count) × NoneWaits (L.coming listener.new))
         × All HasCause visits × FailsOnce office.old.failed visits office.new.failed × All IsDeclined visits
         × (HasCleanDisk (state S.Store office.new.conn) → (h : List Answered) → Holding h (state S.Store office.old.conn)
         → Ran h visits office.new.failed (state S.Store office.new.conn)) }

@@ -17,17 +17,17 @@ use Rattle.store.specs.Lost.{IsOfCall}
 use Rattle.store.specs.Holding.{Holding, Keeps, Leaves}
 use Rattle.store.specs.Office.{StoredOffice}
 use Rattle.store.specs.Headline.{HasRun}
-use Rattle.office_history.specs.Answering.{told}
+use Rattle.office_history.specs.Answering.{reported}
 use Rattle.store.specs.Running.{FailsBy, IsNoProfile, KeepsWithOne, answered_of, is_failure, lost_of}
 
 -- ---- one more arrival
 
 answered_more : (xs : List Arrival) (rs : List (Result Answer Lost)) (a : Arrival) (answer : Answer) → length rs ≡ length xs
-    → answered_of (xs ++ a ∷ []) (rs ++ Ok answer ∷ []) ≡ answered_of xs rs ++ told a answer ∷ []
+    → answered_of (xs ++ a ∷ []) (rs ++ Ok answer ∷ []) ≡ answered_of xs rs ++ reported a answer ∷ []
 answered_more [] [] a answer each = refl
 answered_more [] (r ∷ rs) a answer each = absurd (omega (arith, each))
 answered_more (x ∷ xs) [] a answer each = absurd (omega (arith, each))
-answered_more (x ∷ xs) (Ok b ∷ rs) a answer each = ap (◌∷◌ (told x b)) (answered_more xs rs a answer (omega (arith, each)))
+answered_more (x ∷ xs) (Ok b ∷ rs) a answer each = ap (◌∷◌ (reported x b)) (answered_more xs rs a answer (omega (arith, each)))
 answered_more (x ∷ xs) (Err lost ∷ rs) a answer each = answered_more xs rs a answer (omega (arith, each))
 
 answered_same : (xs : List Arrival) (rs : List (Result Answer Lost)) (a : Arrival) (lost : Lost) → length rs ≡ length xs
@@ -35,7 +35,7 @@ answered_same : (xs : List Arrival) (rs : List (Result Answer Lost)) (a : Arriva
 answered_same [] [] a lost each = refl
 answered_same [] (r ∷ rs) a lost each = absurd (omega (arith, each))
 answered_same (x ∷ xs) [] a lost each = absurd (omega (arith, each))
-answered_same (x ∷ xs) (Ok b ∷ rs) a lost each = ap (◌∷◌ (told x b)) (answered_same xs rs a lost (omega (arith, each)))
+answered_same (x ∷ xs) (Ok b ∷ rs) a lost each = ap (◌∷◌ (reported x b)) (answered_same xs rs a lost (omega (arith, each)))
 answered_same (x ∷ xs) (Err e ∷ rs) a lost each = answered_same xs rs a lost (omega (arith, each))
 
 lost_more : (xs : List Arrival) (rs : List (Result Answer Lost)) (a : Arrival) (lost : Lost) → length rs ≡ length xs
@@ -114,14 +114,14 @@ module _ {S : Type 0} (g : Ghosts S) (h : List Answered) (xs : List Arrival) (rs
   }
 
   -- an answer goes into the history
-  answered_next : (answer : Answer) → Holding ((h ++ answered_of xs rs) ++ told a answer ∷ []) (state g new.conn) → Leaves (Keeps ((h ++ answered_of xs rs) ++ told a answer ∷ [])) (state g new.conn)
+  answered_next : (answer : Answer) → Holding ((h ++ answered_of xs rs) ++ reported a answer ∷ []) (state g new.conn) → Leaves (Keeps ((h ++ answered_of xs rs) ++ reported a answer ∷ [])) (state g new.conn)
       → HasRun h (xs ++ a ∷ []) (rs ++ Ok answer ∷ []) new.failed (state g new.conn)
   answered_next answer holding left =
-      let line = append_assoc h (answered_of xs rs) (told a answer ∷ []) ∙ ap (λ l. h ++ l) (sym (answered_more xs rs a answer before.each)) in
+      let line = append_assoc h (answered_of xs rs) (reported a answer ∷ []) ∙ ap (λ l. h ++ l) (sym (answered_more xs rs a answer before.each)) in
       record {
         each = each_more xs rs a (Ok answer) before.each;
-        legal = subst IsLegalHistory line (legal_of ((h ++ answered_of xs rs) ++ told a answer ∷ []) (state g new.conn) holding);
-        in_range = subst (All IsInRange) line (ranged_of ((h ++ answered_of xs rs) ++ told a answer ∷ []) (state g new.conn) holding);
+        legal = subst IsLegalHistory line (legal_of ((h ++ answered_of xs rs) ++ reported a answer ∷ []) (state g new.conn) holding);
+        in_range = subst (All IsInRange) line (ranged_of ((h ++ answered_of xs rs) ++ reported a answer ∷ []) (state g new.conn) holding);
         is_open = λ _. holding.is_open;
         held = λ now. subst (λ l. Holding l (state g new.conn)) line holding;
         left = λ db may. inl (subst (λ l. Keeps l db) line (left db may));
@@ -129,7 +129,7 @@ module _ {S : Type 0} (g : Ghosts S) (h : List Answered) (xs : List Arrival) (rs
 
   -- a loss leaves the history, or a crash may leave it with that arrival
   lost_next : (lost : Lost) → (new.failed ≡ false → IsTrue (state g new.conn).is_open) → (IsTrue (state g new.conn).is_open → Holding (h ++ answered_of xs rs) (state g new.conn))
-      → Leaves (λ db. Keeps (h ++ answered_of xs rs) db ⊎ ((answer : Answer) × Keeps ((h ++ answered_of xs rs) ++ told a answer ∷ []) db)) (state g new.conn)
+      → Leaves (λ db. Keeps (h ++ answered_of xs rs) db ⊎ ((answer : Answer) × Keeps ((h ++ answered_of xs rs) ++ reported a answer ∷ []) db)) (state g new.conn)
       → HasRun h (xs ++ a ∷ []) (rs ++ Err lost ∷ []) new.failed (state g new.conn)
   lost_next lost is_open held left =
       let same = answered_same xs rs a lost before.each in
@@ -154,10 +154,10 @@ module _ {S : Type 0} (g : Ghosts S) (h : List Answered) (xs : List Arrival) (rs
   by_memory OlderProfile failed named working = absurd (named.1 refl)
 
   pub run_more : (r : Result Answer Lost) → (IsTrue new.failed ↔ (r ≡ Err Store)) → (IsTrue old.failed → new ≡ old) → IfErr r IsOfCall
-      → ((k : List Answered) → Holding k (state g old.conn) → IfOk r (λ answer. Holding (k ++ told a answer ∷ []) (state g new.conn) × Leaves (Keeps (k ++ told a answer ∷ [])) (state g new.conn)))
+      → ((k : List Answered) → Holding k (state g old.conn) → IfOk r (λ answer. Holding (k ++ reported a answer ∷ []) (state g new.conn) × Leaves (Keeps (k ++ reported a answer ∷ [])) (state g new.conn)))
       → ((k : List Answered) → Holding k (state g old.conn) → IsTrue (state g new.conn).is_open → OnErr r (Holding k (state g new.conn)))
       → IfErr r (λ lost. lost ≡ Memory → IsTrue (state g new.conn).is_open)
-      → ((k : List Answered) → Holding k (state g old.conn) → OnErr r (Leaves (λ db. Keeps k db ⊎ ((answer : Answer) × Keeps (k ++ told a answer ∷ []) db)) (state g new.conn)))
+      → ((k : List Answered) → Holding k (state g old.conn) → OnErr r (Leaves (λ db. Keeps k db ⊎ ((answer : Answer) × Keeps (k ++ reported a answer ∷ []) db)) (state g new.conn)))
       → HasRun h (xs ++ a ∷ []) (rs ++ r ∷ []) new.failed (state g new.conn)
   run_more (Ok answer) failed refused named answered lost is_open left = elim (cases_Bool old.failed) [
     | inl over ↦ absurd (let both = failed.0 (ap (λ (o : StoredOffice S). o.failed) (refused over) ∙ over) in cc)

@@ -4,7 +4,7 @@ ghost use Rattle.sqlite.specs.Held.{state};
 ghost use Rattle.sqlite.specs.State.{HasCleanDisk};
 ghost use Rattle.sqlite_trees.specs.View.{doubt};
 ghost use Rattle.office_tables.specs.Tables.{tables_of};
-ghost use Rattle.office_history.specs.declared.arrival.Answer.{Answer as Told};
+ghost use Rattle.office_history.specs.declared.arrival.Answer.{Answer as AnswerModel};
 ghost use Rattle.office_history.specs.History.{Answered, first_of};
 ghost use Rattle.office_history.specs.Answering.{answered};
 ghost use Rattle.store.specs.Holding.{Holding, Keeps, Leaves};
@@ -98,7 +98,7 @@ pub(crate) fn transact<S: Alter>(
     ensures repeated { HasCleanDisk (state S.Store conn.new) → (h : List Answered) → Holding h (state S.Store conn.old)
         → IfOk result (λ answer. IsSome (first_of h (answered team.now key.now request.now answer)) → ((state S.Store conn.new).now ≡ (state S.Store conn.old).now) × ((state S.Store conn.new).committed ≡ (state S.Store conn.old).committed)) }
     ensures left { HasCleanDisk (state S.Store conn.new) → (h : List Answered) → Holding h (state S.Store conn.old)
-        → OnErr result (Leaves (λ db. Keeps h db ⊎ ((answer : Told) × Keeps (h ++ answered team.now key.now request.now answer ∷ []) db)) (state S.Store conn.new)) }
+        → OnErr result (Leaves (λ db. Keeps h db ⊎ ((answer : AnswerModel) × Keeps (h ++ answered team.now key.now request.now answer ∷ []) db)) (state S.Store conn.new)) }
 {
     knows_schema(conn);
     leaves_committed(conn);
@@ -140,7 +140,7 @@ impl<S: Alter> Office<S> {
             → IfOk result (λ answer. IsSome (first_of h (answered team.now key.now request.now answer)) → ((state S.Store self.new.conn).now ≡ (state S.Store self.old.conn).now) × ((state S.Store self.new.conn).committed ≡ (state S.Store self.old.conn).committed)) }
         ensures memory { HasCleanDisk (state S.Store self.new.conn) → IfErr result (λ lost. lost ≡ Lost.Memory → IsTrue (state S.Store self.new.conn).is_open) }
         ensures left { HasCleanDisk (state S.Store self.new.conn) → (h : List Answered) → Holding h (state S.Store self.old.conn)
-            → OnErr result (Leaves (λ db. Keeps h db ⊎ ((answer : Told) × Keeps (h ++ answered team.now key.now request.now answer ∷ []) db)) (state S.Store self.new.conn)) }
+            → OnErr result (Leaves (λ db. Keeps h db ⊎ ((answer : AnswerModel) × Keeps (h ++ answered team.now key.now request.now answer ∷ []) db)) (state S.Store self.new.conn)) }
     {
         leaves_committed(&self.conn);
         let _settled = self.conn.is_autocommit();

@@ -83,16 +83,16 @@ pub no_sheet : (net : Option Net) → None ≡ head_in net → None ≡ option_m
 no_sheet None none = refl
 no_sheet (Some net) none = absurd (cc)
 
--- ---- what is told of the live sheet
+-- ---- what is known of the live sheet
 
-pub nothing_told : (tell : Sheet → List ℕ) (net : Option Net) → None ≡ option_map sheet_of net → None ≡ option_map (λ (n : Net). tell (sheet_of n)) net
-nothing_told tell None none = refl
-nothing_told tell (Some net) none = absurd (cc)
+pub nothing_reported : (tell : Sheet → List ℕ) (net : Option Net) → None ≡ option_map sheet_of net → None ≡ option_map (λ (n : Net). tell (sheet_of n)) net
+nothing_reported tell None none = refl
+nothing_reported tell (Some net) none = absurd (cc)
 
-pub told : (tell : Sheet → List ℕ) (net : Option Net) (sheet : Sheet) (text : List ℕ) → Some sheet ≡ option_map sheet_of net → text ≡ tell sheet
+pub reported : (tell : Sheet → List ℕ) (net : Option Net) (sheet : Sheet) (text : List ℕ) → Some sheet ≡ option_map sheet_of net → text ≡ tell sheet
     → Some text ≡ option_map (λ (n : Net). tell (sheet_of n)) net
-told tell None sheet text found is = absurd (cc)
-told tell (Some net) sheet text found is = let same : sheet ≡ sheet_of net = cc in ap Some (is ∙ ap tell same)
+reported tell None sheet text found is = absurd (cc)
+reported tell (Some net) sheet text found is = let same : sheet ≡ sheet_of net = cc in ap Some (is ∙ ap tell same)
 
 -- the message of a name in the live sheet is that of the live message
 named_in_sheet : (live : List LiveMessage) (name : List ℕ)

@@ -29,8 +29,8 @@ no_release_of_none : release_at None 1 ≡ None
 no_release_of_none = refl
 
 -- where there is no release there is no text
-nothing_told : IsTextOf None None
-nothing_told = refl
+nothing_reported : IsTextOf None None
+nothing_reported = refl
 
 -- a text that is missing is none of a release
 something_missing : (release : Sheet) → IsTextOf (Some release) None → ⊥

@@ -2,7 +2,7 @@
 ghost use Rattle.std.specs.Prelude.{◌≡◌, Option, IfOk};
 ghost use Rattle.dbc_grammar.specs.Canon.{canonical_text};
 ghost use Rattle.dbc_grammar.specs.Reads.{Reads, ReadsOnlyAs};
-ghost use Rattle.catalogue.specs.declared.sheet.Sheet.{Sheet as Told};
+ghost use Rattle.catalogue.specs.declared.sheet.Sheet.{Sheet as SheetModel};
 ghost use Rattle.std.specs.Option.{option_map};
 ghost use Rattle.office_types.specs.declared.state.Net.{Net as Network};
 ghost use Rattle.sqlite.specs.Held.{state};
@@ -21,8 +21,8 @@ use store_rows::blob_at;
 /// The canonical text of the sheet that the body reads as. An error is out of memory, or `InvalidQuery` where it reads
 /// as none.
 fn canonical_of(alloc: Global, body: &[u8]) -> Result<Vec<u8>, Error>
-    ensures text { IfOk result (λ text. (sheet : Told) → Reads body.now sheet → text.items ≡ canonical_text sheet) }
-    ensures reads { IfOk result (λ text. (sheet : Told) → Reads body.now sheet → ReadsOnlyAs text.items sheet) }
+    ensures text { IfOk result (λ text. (sheet : SheetModel) → Reads body.now sheet → text.items ≡ canonical_text sheet) }
+    ensures reads { IfOk result (λ text. (sheet : SheetModel) → Reads body.now sheet → ReadsOnlyAs text.items sheet) }
 {
     match sheet_of(alloc, body)? {
         Some(sheet) => Ok(text_of(alloc, &sheet)?),

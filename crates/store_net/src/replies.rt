@@ -3,7 +3,7 @@ ghost use Rattle.std.specs.Prelude.{◌≡◌, ◌++◌, ◌∷◌, [], List, So
 ghost use Rattle.std.specs.Option.{option_map};
 ghost use Rattle.sqlite.specs.Held.{state};
 ghost use Rattle.office_types.specs.Reply.{reply_parts};
-ghost use Rattle.office_types.specs.declared.reply.Reply.{Reply as Told};
+ghost use Rattle.office_types.specs.declared.reply.Reply.{Reply as ReplyModel};
 ghost use Rattle.office_history.specs.History.{Answered, answer_again, first_of};
 ghost use Rattle.store_net.specs.Kept.{AreKept, AreKeptParts, ShowsKept, ShowsReply, answer_parts, kept_row, part_rows};
 ghost use Rattle.office_rows.specs.Statement.{AddsNoCommit, ChangesNothing, CommitsNothing, Finds, LeavesNothing, StaysInside, StaysOffice, Writes};
@@ -101,7 +101,7 @@ fn parts_at<S: Alter>(
 
 /// The reply in the second to the fifth column, with these parts. An error where they are the numbers of none.
 fn reply_in(row: &Row, parts: Items<PartReply>) -> Result<Reply, Error>
-    ensures { IfOk result (λ reply. (other : Told) → ShowsReply other row.now → parts ≡ reply_parts other → reply ≡ other) }
+    ensures { IfOk result (λ reply. (other : ReplyModel) → ShowsReply other row.now → parts ≡ reply_parts other → reply ≡ other) }
 {
     let numbers = ReplyNumbers {
         kind: number_at(row, 1)?,

@@ -1,7 +1,7 @@
 //! The signals of a message, of their rows, their receivers' and their value texts'.
 ghost use Rattle.std.specs.Prelude.{◌≡◌, ◌≤◌, ℕ, List, IfOk, map, length, pos, IsTrue};
 ghost use Rattle.std.specs.List.{prefix_len};
-ghost use Rattle.catalogue.specs.declared.signal.Signal.{Signal as Told};
+ghost use Rattle.catalogue.specs.declared.signal.Signal.{Signal as SignalModel};
 ghost use Rattle.catalogue.specs.declared.value_texts.ValueText.{ValueText as Described};
 ghost use Rattle.store_rows.specs.Listed.{AreShown};
 ghost use Rattle.store_rows.specs.Live.{parts_of};
@@ -63,7 +63,7 @@ fn signals_in(
     receivers: &[Row],
     values: &[Row],
 ) -> Result<Vec<Signal>, Error>
-    ensures { IfOk result (λ signals. (placed : List (ℕ × Told)) → PlacesAscend placed → AreShown ShowsPlaced placed sigs.now
+    ensures { IfOk result (λ signals. (placed : List (ℕ × SignalModel)) → PlacesAscend placed → AreShown ShowsPlaced placed sigs.now
         → AreShown (ShowsPart ShowsReceiver) (parts_of (λ s. s.receivers) placed) receivers.now
         → AreShown (ShowsPart ShowsValueText) (parts_of (λ s. s.values) placed) values.now → signals.items ≡ map (λ p. p.1) placed) }
 {
@@ -95,7 +95,7 @@ pub fn signals_of(
     receivers: &[Row],
     values: &[Row],
 ) -> Result<Signals, Error>
-    ensures { IfOk result (λ signals. (placed : List (ℕ × Told)) → PlacesAscend placed → AreShown ShowsPlaced placed sigs.now
+    ensures { IfOk result (λ signals. (placed : List (ℕ × SignalModel)) → PlacesAscend placed → AreShown ShowsPlaced placed sigs.now
         → AreShown (ShowsPart ShowsReceiver) (parts_of (λ s. s.receivers) placed) receivers.now
         → AreShown (ShowsPart ShowsValueText) (parts_of (λ s. s.values) placed) values.now → signals ≡ map (λ p. p.1) placed) }
 {

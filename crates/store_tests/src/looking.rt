@@ -39,7 +39,7 @@ fn release_text(alloc: Global, release: &FrozenSheet) -> io::Result<Vec<u8>> {
     Ok(text_of(alloc, &sheet)?)
 }
 
-/// Whether the office shows this text when it is asked the question, or that there is none.
+/// Whether the office shows this text for the question, or that there is none.
 fn shows<S: Alter>(
     alloc: Global,
     office: &mut Office<S>,
@@ -53,7 +53,7 @@ fn shows<S: Alter>(
     }
 }
 
-/// Of how many live messages of a network the chart is asked, since each question reads the network.
+/// Of how many live messages of a network the chart is requested, since each look reads the network.
 const CHARTS: usize = 8;
 
 /// Whether the charts of the first live messages are seen, and none of a message that isn't there.

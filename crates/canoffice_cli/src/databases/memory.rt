@@ -8,7 +8,7 @@ ghost use Rattle.store.specs.Opening.{HasNone, HoldingInSomeForm};
 ghost use Rattle.canoffice_cli.specs.Databases.{known_of};
 
 use super::Databases;
-use crate::answering::{Answers, answer_on, lost_at_once};
+use crate::answering::{Answers, answer_on, nothing_answered};
 use crate::exporting::look_on;
 use crate::migrating::migrate_on;
 use crate::progress::Progress;
@@ -61,11 +61,11 @@ impl Databases for MemoryDatabase {
     ) -> Result<Answers, AllocError> {
         match self.taken() {
             Ok(conn) => {
-                let (told, conn) = answer_on(alloc, conn, script, arrivals, progress);
+                let (reported, conn) = answer_on(alloc, conn, script, arrivals, progress);
                 self.conn = Some(conn);
-                told
+                reported
             }
-            Err(lost) => Ok(lost_at_once(alloc, lost)),
+            Err(lost) => Ok(nothing_answered(alloc, lost)),
         }
     }
 

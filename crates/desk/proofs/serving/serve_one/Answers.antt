@@ -14,45 +14,45 @@ returns-in_default-clause-memory g c clean h holds is_memory =
 
 pub returns-clause-served : goal.returns-clause-served
 returns-clause-served g c clean h holds =
-    let told = g.W.Sink.told in
+    let reported = g.W.Sink.reported in
     let text = c.deref.result.now in
     let s = state g.S.Store c.response_to.new.office.conn in
-    let asked = seen c.in_ok-call.call in
-    let responds : Responds h asked text s = subst (λ (l : List ℕ). Responds h asked l s) (sym c.deref.ensures.value) (c.in-Ok.ensures.ok clean h holds) in
-    on_ok c.put_all.result (Appends (told c.args.sink.now) (told c.put_all.new.sink) text)
-    (HasServed h (g.R.Source.left c.args.source.now) (told c.args.sink.now) (told c.put_all.new.sink) s) c.put_all.ensures.ok
-    (λ appended. (asked, text, c.in_ok-call.ensures.ok, responds, appended))
+    let requested = seen c.in_ok-call.call in
+    let responds : Responds h requested text s = subst (λ (l : List ℕ). Responds h requested l s) (sym c.deref.ensures.value) (c.in-Ok.ensures.ok clean h holds) in
+    on_ok c.put_all.result (Appends (reported c.args.sink.now) (reported c.put_all.new.sink) text)
+    (HasServed h (g.R.Source.left c.args.source.now) (reported c.args.sink.now) (reported c.put_all.new.sink) s) c.put_all.ensures.ok
+    (λ appended. (requested, text, c.in_ok-call.ensures.ok, responds, appended))
 
 pub returns-clause-write : goal.returns-clause-write
 returns-clause-write g c clean h holds is_write =
-    let told = g.W.Sink.told in
+    let reported = g.W.Sink.reported in
     let text = c.deref.result.now in
     let s = state g.S.Store c.response_to.new.office.conn in
-    let asked = seen c.in_ok-call.call in
-    let responds : Responds h asked text s = subst (λ (l : List ℕ). Responds h asked l s) (sym c.deref.ensures.value) (c.in-Ok.ensures.ok clean h holds) in (
-      asked,
+    let requested = seen c.in_ok-call.call in
+    let responds : Responds h requested text s = subst (λ (l : List ℕ). Responds h requested l s) (sym c.deref.ensures.value) (c.in-Ok.ensures.ok clean h holds) in (
+      requested,
       text,
       c.in_ok-call.ensures.ok,
       responds,
-      err_of c.put_all.result Write (AppendsFront (told c.args.sink.now) (told c.put_all.new.sink) text) is_write c.put_all.ensures.front,
+      err_of c.put_all.result Write (AppendsFront (reported c.args.sink.now) (reported c.put_all.new.sink) text) is_write c.put_all.ensures.front,
     )
 
 pub returns-clause-failed : goal.returns-clause-failed
 returns-clause-failed g c failed =
-    let told = g.W.Sink.told in
-    let asked = seen c.in_ok-call.call in
+    let reported = g.W.Sink.reported in
+    let requested = seen c.in_ok-call.call in
     let refusal = c.deref.ensures.value ∙ c.in-Ok.ensures.failed failed in
-    on_ok c.put_all.result (Appends (told c.args.sink.now) (told c.put_all.new.sink) c.deref.result.now)
-    (HasRefused (g.R.Source.left c.args.source.now) (told c.args.sink.now) (told c.put_all.new.sink)) c.put_all.ensures.ok
-    (λ appended. (asked, c.in_ok-call.ensures.ok, subst (Appends (told c.args.sink.now) (told c.put_all.new.sink)) refusal appended))
+    on_ok c.put_all.result (Appends (reported c.args.sink.now) (reported c.put_all.new.sink) c.deref.result.now)
+    (HasRefused (g.R.Source.left c.args.source.now) (reported c.args.sink.now) (reported c.put_all.new.sink)) c.put_all.ensures.ok
+    (λ appended. (requested, c.in_ok-call.ensures.ok, subst (Appends (reported c.args.sink.now) (reported c.put_all.new.sink)) refusal appended))
 
 pub returns-clause-failed_write : goal.returns-clause-failed_write
 returns-clause-failed_write g c failed is_write =
-    let told = g.W.Sink.told in
-    let asked = seen c.in_ok-call.call in
+    let reported = g.W.Sink.reported in
+    let requested = seen c.in_ok-call.call in
     let refusal = c.deref.ensures.value ∙ c.in-Ok.ensures.failed failed in
-    let front = err_of c.put_all.result Write (AppendsFront (told c.args.sink.now) (told c.put_all.new.sink) c.deref.result.now) is_write c.put_all.ensures.front in
-    (asked, c.in_ok-call.ensures.ok, subst (AppendsFront (told c.args.sink.now) (told c.put_all.new.sink)) refusal front)
+    let front = err_of c.put_all.result Write (AppendsFront (reported c.args.sink.now) (reported c.put_all.new.sink) c.deref.result.now) is_write c.put_all.ensures.front in
+    (requested, c.in_ok-call.ensures.ok, subst (AppendsFront (reported c.args.sink.now) (reported c.put_all.new.sink)) refusal front)
 
 pub returns-in_err-call-clause-memory : goal.returns-in_err-call-clause-memory
 returns-in_err-call-clause-memory g c clean h holds is_memory =

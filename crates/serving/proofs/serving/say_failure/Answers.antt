@@ -3,5 +3,5 @@ use Rattle.serving.proofs.serving.say_failure.Goals as goal
 
 pub returns-then-not-had_failed : goal.returns-then-not-had_failed
 returns-then-not-had_failed g c =
-    let told = g.E.Write.contents in
-    says_by c.args.had_failed c.args.has_failed (told c.args.errors.now) (told c.write-said.new.self) c.write-said.result c.if-has_failed.true c.if-not-had_failed.true c.write-said.ensures.bytes
+    let reported = g.E.Write.contents in
+    says_by c.args.had_failed c.args.has_failed (reported c.args.errors.now) (reported c.write-stated.new.self) c.write-stated.result c.if-has_failed.true c.if-not-had_failed.true c.write-stated.ensures.bytes

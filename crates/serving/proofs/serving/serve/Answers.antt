@@ -3,14 +3,14 @@ use Rattle.sqlite.specs.Held.{state}
 use Rattle.sqlite.specs.State.{HasCleanDisk}
 use Rattle.std.specs.Prelude.{IsTrue}
 use Rattle.std.proofs.lemmas.List.Elements.{All-nil, All-push}
-use Rattle.serving.specs.Serving.{Came, Ended, Ending, FailsOnce, HasCause, NoneComes, Ran, SaysFailure}
+use Rattle.serving.specs.Serving.{AreAccepted, AreClosed, Ending, FailsOnce, HasCause, NoneWaits, Ran, SaysFailure}
 use Rattle.serving.proofs.Turns.{came_none, came_then, declined_none, declined_then, ended_none, ended_then, fails_then, ran_none, ran_then, says_nothing, says_then}
 use Rattle.serving.proofs.serving.serve.Goals as goal
 
 pub loop-served-init : goal.loop-served-init
 loop-served-init g c = record {
   clean = omega arith;
-  said = says_nothing c.args.office.now.failed (g.E.Write.contents c.args.errors.now);
+  stated = says_nothing c.args.office.now.failed (g.E.Write.contents c.args.errors.now);
   so_far = ([], refl, came_none _, ended_none _, All-nil HasCause, refl, declined_none, λ clean h holding. ran_none h _ _ c.leaves_now.ensures holding);
 }
 
@@ -24,7 +24,7 @@ loop-served-preserved g c =
     let now = state g.S.Store c.attend.new.office.conn in
     record {
       clean = let early = i.clean in omega (arith, early, a.clean);
-      said = says_then c.args.office.now.failed c.loop-served.office.failed c.attend.new.office.failed w.0 _ _ _ w.5 i.said
+      stated = says_then c.args.office.now.failed c.loop-served.office.failed c.attend.new.office.failed w.0 _ _ _ w.5 i.stated
           (rw (← c.is_failed-had_failed.ensures) (rw (← c.is_failed.ensures) c.say_failure.ensures)) (λ is. subst IsTrue (sym (ap (λ o. o.failed) (a.refused is))) is);
       so_far = (
         w.0 ++ one.0 ∷ [],
@@ -45,10 +45,10 @@ loop-served-preserved g c =
       );
     }
 
-pub returns-in-Err-clause-said : goal.returns-in-Err-clause-said
-returns-in-Err-clause-said g c =
-    let told = g.E.Write.contents in
-    subst (λ o. SaysFailure c.args.office.now.failed o.failed (told c.args.errors.now) (told c.loop-served.errors)) (sym c.in-Err.ensures.kept) c.loop-served.invariant.said
+pub returns-in-Err-clause-stated : goal.returns-in-Err-clause-stated
+returns-in-Err-clause-stated g c =
+    let reported = g.E.Write.contents in
+    subst (λ o. SaysFailure c.args.office.now.failed o.failed (reported c.args.errors.now) (reported c.loop-served.errors)) (sym c.in-Err.ensures.kept) c.loop-served.invariant.stated
 
 pub returns-in-Err-clause-served : goal.returns-in-Err-clause-served
 returns-in-Err-clause-served g c =
@@ -56,9 +56,9 @@ returns-in-Err-clause-served g c =
     let a = c.in-Err.ensures in
     let fewer : length w.0 < c.args.count = let n = w.1 in let test = c.loop-served-test.true in omega (arith, n, test) in (
       w.0,
-      subst (λ (o : Option (List (List ℕ))). Came (g.L.Listener.coming c.args.listener.now) o w.0) (sym a.none.0) w.2,
-      subst (λ (o : Option (List Ending)). Ended (g.L.Listener.ended c.args.listener.now) o w.0) (sym a.none.1) w.3,
-      (refl, fewer, subst NoneComes (sym a.none.0) a.none.2),
+      subst (λ (o : Option (List (List ℕ))). AreAccepted (g.L.Listener.coming c.args.listener.now) o w.0) (sym a.none.0) w.2,
+      subst (λ (o : Option (List Ending)). AreClosed (g.L.Listener.ended c.args.listener.now) o w.0) (sym a.none.1) w.3,
+      (refl, fewer, subst NoneWaits (sym a.none.0) a.none.2),
       w.4,
       subst (λ o. FailsOnce c.args.office.now.failed w.0 o.failed) (sym a.kept) w.5,
       w.6,

@@ -5,7 +5,7 @@ use Rattle.sqlite.specs.State.{HasCleanDisk}
 use Rattle.sqlite_trees.specs.View.{doubt}
 use Rattle.office_history.specs.History.{Answered}
 use Rattle.store.specs.Holding.{Holding}
-use Rattle.serving.specs.Serving.{Came, Ended, FailsOnce, HasCause, IsDeclined, Ran, SaysFailure, Visit}
+use Rattle.serving.specs.Serving.{AreAccepted, AreClosed, FailsOnce, HasCause, IsDeclined, Ran, SaysFailure, Visit}
 use Rattle.serving.proofs.serving.serve.Given as goal
 
 -- the connections so far were served
@@ -17,9 +17,9 @@ invariant-loop-served g l =
     let now = state g.S.Store l.office.conn in
     record {
       clean : doubt old.is_clean ≤ doubt now.is_clean;
-      said : SaysFailure l.fn.office.failed l.office.failed (g.E.Write.contents l.fn.errors) (g.E.Write.contents l.errors);
-      so_far : (visits : List Visit) × (length visits ≡ l._served) × Came (coming l.fn.listener) (coming l.listener) visits
-          × Ended (ended l.fn.listener) (ended l.listener) visits
+      stated : SaysFailure l.fn.office.failed l.office.failed (g.E.Write.contents l.fn.errors) (g.E.Write.contents l.errors);
+      so_far : (visits : List Visit) × (length visits ≡ l._served) × AreAccepted (coming l.fn.listener) (coming l.listener) visits
+          × AreClosed (ended l.fn.listener) (ended l.listener) visits
           × All HasCause visits × FailsOnce l.fn.office.failed visits l.office.failed × All IsDeclined visits
           × (HasCleanDisk now → (h : List Answered) → Holding h old → Ran h visits l.office.failed now);
     }

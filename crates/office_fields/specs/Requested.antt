@@ -4,9 +4,9 @@ use Rattle.std.specs.Option.{option_map}
 use Rattle.office_types.specs.declared.command.Action.{Action}
 use Rattle.office_types.specs.declared.command.Command.{Command}
 use Rattle.office_types.specs.declared.command.Task.TheVariants as task
-use Rattle.office_fields.specs.declared.asked.Asked.{Asked}
-use Rattle.office_fields.specs.declared.asked.Asked.TheVariants as asked
-use Rattle.office_fields.specs.declared.asked.FileImport.{FileImport}
+use Rattle.office_fields.specs.declared.requested.Requested.{Requested}
+use Rattle.office_fields.specs.declared.requested.Requested.TheVariants as requested
+use Rattle.office_fields.specs.declared.requested.FileImport.{FileImport}
 use Rattle.office_fields.specs.declared.field.Field.TheVariants as field
 use Rattle.office_fields.specs.declared.kind.ActionKind.{ActionKind}
 use Rattle.office_fields.specs.declared.kind.CommandKind.{CommandKind}
@@ -34,7 +34,7 @@ file_import_of values = where_true (are_known (fields_of Import) values) do
   file ← given field.File values
   Some (record { net = net; file = file })
 
-abbrev pub asked_of : CommandKind → List NamedValue → Option Asked
-asked_of (Act k) values = option_map asked.Command (command_of k values)
-asked_of Import values = option_map asked.Import (file_import_of values)
-asked_of Bundle values = option_map asked.Bundle (file_import_of values)
+abbrev pub requested_of : CommandKind → List NamedValue → Option Requested
+requested_of (Act k) values = option_map requested.Command (command_of k values)
+requested_of Import values = option_map requested.Import (file_import_of values)
+requested_of Bundle values = option_map requested.Bundle (file_import_of values)

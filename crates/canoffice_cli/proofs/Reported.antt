@@ -2,7 +2,7 @@
 use Rattle.std.proofs.Common.{◌≡◌, ◌+◌, ◌≤◌, ◌<◌, ℕ, zero, suc, inl, inr, List, [], ◌∷◌, ◌++◌, length, take, refl, sym, ap, subst, ◌∙◌, arith, append_assoc, append-nil}
 use Rattle.std.specs.Prelude.{IsTrue}
 use Rattle.sqlite.specs.State.{State}
-use Rattle.office_history.specs.Answering.{told}
+use Rattle.office_history.specs.Answering.{reported}
 use Rattle.office_history.specs.declared.arrival.Answer.{Answer}
 use Rattle.office_history.specs.declared.arrival.Arrival.{Arrival}
 use Rattle.office_history.specs.History.{Answered, IsLegalHistory}
@@ -14,36 +14,36 @@ use Rattle.canoffice_cli.specs.Answered.{answered_with}
 use Rattle.canoffice_cli.specs.Databases.{Begins}
 
 -- one more arrival, with its answer
-told_more : (xs : List Arrival) (ys : List Answer) (a : Arrival) (answer : Answer) → length ys ≡ length xs → answered_with (xs ++ a ∷ []) (ys ++ answer ∷ []) ≡ answered_with xs ys ++ told a answer ∷ []
-told_more [] [] a answer each = refl
-told_more [] (y ∷ ys) a answer each = absurd (omega (arith, each))
-told_more (x ∷ xs) [] a answer each = absurd (omega (arith, each))
-told_more (x ∷ xs) (y ∷ ys) a answer each = ap (◌∷◌ (told x y)) (told_more xs ys a answer (omega (arith, each)))
+reported_more : (xs : List Arrival) (ys : List Answer) (a : Arrival) (answer : Answer) → length ys ≡ length xs → answered_with (xs ++ a ∷ []) (ys ++ answer ∷ []) ≡ answered_with xs ys ++ reported a answer ∷ []
+reported_more [] [] a answer each = refl
+reported_more [] (y ∷ ys) a answer each = absurd (omega (arith, each))
+reported_more (x ∷ xs) [] a answer each = absurd (omega (arith, each))
+reported_more (x ∷ xs) (y ∷ ys) a answer each = ap (◌∷◌ (reported x y)) (reported_more xs ys a answer (omega (arith, each)))
 
 -- only as many arrivals count as there are answers
-told_first : (xs : List Arrival) (ys : List Answer) → answered_with (take (length ys) xs) ys ≡ answered_with xs ys
-told_first [] [] = refl
-told_first (x ∷ xs) [] = refl
-told_first [] (y ∷ ys) = refl
-told_first (x ∷ xs) (y ∷ ys) = ap (◌∷◌ (told x y)) (told_first xs ys)
+reported_first : (xs : List Arrival) (ys : List Answer) → answered_with (take (length ys) xs) ys ≡ answered_with xs ys
+reported_first [] [] = refl
+reported_first (x ∷ xs) [] = refl
+reported_first [] (y ∷ ys) = refl
+reported_first (x ∷ xs) (y ∷ ys) = ap (◌∷◌ (reported x y)) (reported_first xs ys)
 
 -- no answer
-pub told_none : (xs : List Arrival) → answered_with xs [] ≡ []
-told_none [] = refl
-told_none (x ∷ xs) = refl
+pub reported_none : (xs : List Arrival) → answered_with xs [] ≡ []
+reported_none [] = refl
+reported_none (x ∷ xs) = refl
 
 -- the history, with the answers so far, and one more
 pub history_more : (h : List Answered) (xs : List Arrival) (ys : List Answer) (a : Arrival) (answer : Answer) → length ys ≡ length xs
-    → (h ++ answered_with xs ys) ++ told a answer ∷ [] ≡ h ++ answered_with (xs ++ a ∷ []) (ys ++ answer ∷ [])
-history_more h xs ys a answer each = append_assoc h (answered_with xs ys) (told a answer ∷ []) ∙ ap (λ l. h ++ l) (sym (told_more xs ys a answer each))
+    → (h ++ answered_with xs ys) ++ reported a answer ∷ [] ≡ h ++ answered_with (xs ++ a ∷ []) (ys ++ answer ∷ [])
+history_more h xs ys a answer each = append_assoc h (answered_with xs ys) (reported a answer ∷ []) ∙ ap (λ l. h ++ l) (sym (reported_more xs ys a answer each))
 
 -- as many answers as arrivals that came
 pub history_so_far : (h : List Answered) (xs : List Arrival) (ys : List Answer) (at : ℕ) → length ys ≡ at → h ++ answered_with (take at xs) ys ≡ h ++ answered_with xs ys
-history_so_far h xs ys at each = ap (λ l. h ++ l) (ap (λ n. answered_with (take n xs) ys) (sym each) ∙ told_first xs ys)
+history_so_far h xs ys at each = ap (λ l. h ++ l) (ap (λ n. answered_with (take n xs) ys) (sym each) ∙ reported_first xs ys)
 
--- nothing was told yet
+-- nothing was answered yet
 pub history_at_first : (h : List Answered) (xs : List Arrival) (ys : List Answer) → ys ≡ [] → h ≡ h ++ answered_with xs ys
-history_at_first h xs ys none = sym (ap (λ l. h ++ l) (ap (answered_with xs) none ∙ told_none xs) ∙ append-nil h)
+history_at_first h xs ys none = sym (ap (λ l. h ++ l) (ap (answered_with xs) none ∙ reported_none xs) ∙ append-nil h)
 
 -- what tables hold is a legal history
 pub held_is_legal : (h : List Answered) (s : State) → Holding h s → IsLegalHistory h
@@ -79,10 +79,10 @@ length_first (suc k) [] within = absurd (omega (arith, within))
 length_first (suc k) (x ∷ xs) within = ap suc (length_first k xs (omega (arith, within)))
 
 -- one arrival more was answered
-pub told_next : (P : List Answered → Type 0) (h : List Answered) (arrivals : List Arrival) (at : ℕ) (ys ys2 : List Answer) (item : Arrival) (answer : Answer) → at < length arrivals
-    → take (at + 1) arrivals ≡ take at arrivals ++ item ∷ [] → length ys ≡ at → ys2 ≡ ys ++ answer ∷ [] → P ((h ++ answered_with (take at arrivals) ys) ++ told item answer ∷ [])
+pub reported_next : (P : List Answered → Type 0) (h : List Answered) (arrivals : List Arrival) (at : ℕ) (ys ys2 : List Answer) (item : Arrival) (answer : Answer) → at < length arrivals
+    → take (at + 1) arrivals ≡ take at arrivals ++ item ∷ [] → length ys ≡ at → ys2 ≡ ys ++ answer ∷ [] → P ((h ++ answered_with (take at arrivals) ys) ++ reported item answer ∷ [])
     → P (h ++ answered_with (take (at + 1) arrivals) ys2)
-told_next P h arrivals at ys ys2 item answer within next each more holds =
+reported_next P h arrivals at ys ys2 item answer within next each more holds =
     let first : length ys ≡ length (take at arrivals) = each ∙ sym (length_first at arrivals (omega (arith, within))) in
     subst (λ xs. P (h ++ answered_with xs ys2)) (sym next)
     (subst (λ l. P (h ++ answered_with (take at arrivals ++ item ∷ []) l)) (sym more)

@@ -10,8 +10,8 @@ code_label number name = decimal number ++ (codes " " ++ name)
 abbrev pub place_text : Position → List ℕ
 place_text position = codes ":" ++ (decimal position.line ++ (codes ":" ++ (decimal position.column ++ codes ": ")))
 
-abbrev pub told_line : List ℕ → Position → List ℕ → List ℕ → List ℕ
-told_line file position label sentence =
+abbrev pub reported_line : List ℕ → Position → List ℕ → List ℕ → List ℕ
+reported_line file position label sentence =
     file ++ (place_text position ++ (label ++ (codes ": " ++ (sentence ++ codes "\n"))))
 
 -- one line after the other, each of one of these, in order
@@ -19,9 +19,9 @@ abbrev pub AreLinesOf : {A : Type 0} → (A → List ℕ → Type 0) → List A 
 AreLinesOf Is [] lines = [] ≡ lines
 AreLinesOf Is (x ∷ xs) lines = (line : List ℕ) × (rest : List ℕ) × Is x line × AreLinesOf Is xs rest × (line ++ rest ≡ lines)
 
--- a last line: only so many are told, and there are more
+-- a last line: only so many are reported, and there are more
 abbrev pub more_line : List ℕ → ℕ → List ℕ → List ℕ
-more_line file limit what = file ++ (codes ": " ++ (decimal limit ++ (codes " " ++ (what ++ codes " told, there are more\n"))))
+more_line file limit what = file ++ (codes ": " ++ (decimal limit ++ (codes " " ++ (what ++ codes " shown; there are more\n"))))
 
 -- that line, if there are more than the limit
 abbrev pub more_text : List ℕ → ℕ → ℕ → List ℕ → List ℕ

@@ -1,6 +1,6 @@
 //! The command that named values give.
 ghost use Rattle.std.specs.Prelude.{◌≡◌};
-ghost use Rattle.office_fields.specs.Asked.{asked_of, command_of, file_import_of, part_of};
+ghost use Rattle.office_fields.specs.Requested.{requested_of, command_of, file_import_of, part_of};
 ghost use Rattle.office_fields.specs.Given.{named_values};
 ghost use Rattle.office_fields.specs.Reading.{Reads};
 
@@ -16,7 +16,7 @@ use std::alloc::Global;
 
 /// What named values ask for.
 #[derive(Drop)]
-pub enum Asked {
+pub enum Requested {
     /// A command.
     Command(Command),
     /// To import a file, which is still to be read.
@@ -112,17 +112,17 @@ fn file_import_of(alloc: Global, values: &[GivenValue<'_>]) -> Result<FileImport
 }
 
 /// What a command with these values asks for: [`command_of`], but that an import has the path of its file.
-pub fn asked_of(
+pub fn requested_of(
     alloc: Global,
     kind: CommandKind,
     values: &[GivenValue<'_>],
-) -> Result<Asked, Unread>
-    ensures { Reads (asked_of kind (named_values values.now)) result }
+) -> Result<Requested, Unread>
+    ensures { Reads (requested_of kind (named_values values.now)) result }
 {
     match kind {
-        CommandKind::Act(kind) => Ok(Asked::Command(command_of(alloc, kind, values)?)),
-        CommandKind::Import => Ok(Asked::Import(file_import_of(alloc, values)?)),
-        CommandKind::Bundle => Ok(Asked::Bundle(file_import_of(alloc, values)?)),
+        CommandKind::Act(kind) => Ok(Requested::Command(command_of(alloc, kind, values)?)),
+        CommandKind::Import => Ok(Requested::Import(file_import_of(alloc, values)?)),
+        CommandKind::Bundle => Ok(Requested::Bundle(file_import_of(alloc, values)?)),
     }
 }
 

@@ -28,7 +28,7 @@ use Rattle.dbc_read.specs.declared.gathered.Gathered.{Gathered}
 use Rattle.dbc_statements.specs.Statement.{message_of, names_of}
 use Rattle.dbc_read.proofs.DistinctNames.{keys_apart, line_number, names_apart, numbers_apart}
 use Rattle.dbc_read.proofs.SheetsFit.{number_flip, share_in_any_order}
-use Rattle.dbc_read.proofs.WholeParts.{feeds_said, message_comment, messages_whole, node_comment, nodes_whole}
+use Rattle.dbc_read.proofs.WholeParts.{feeds_stated, message_comment, messages_whole, node_comment, nodes_whole}
 
 each_named_apart : (ms : List Message) → AllByRecursion IsWellFormedMessage ms → AllByRecursion (λ (m : Message). AreNamedApart signal_name m.signals) ms
 each_named_apart [] h = tt
@@ -48,8 +48,8 @@ module _ (s : Sheet) (is : IsSheet s) (ms : List Message) (p : IsPermutation ms 
   names_of_sheet = each_named_apart ms (all_permutation IsWellFormedMessage s.messages ms (IsPermutation-sym _ _ p) is.well_formed.messages)
 
 module _ (ss : List Statement) (g : Gathered) (are : AreGathered ss g) where
-  abbrev texts_said : SignalKey → List ValueText
-  texts_said key = last_value_of same_signal key [] value_texts_in ss
+  abbrev texts_stated : SignalKey → List ValueText
+  texts_stated key = last_value_of same_signal key [] value_texts_in ss
 
   -- names and numbers are single, so each thing takes what the statements say of it
   record AreSingle : Type 0 where
@@ -80,9 +80,9 @@ module _ (ss : List Statement) (g : Gathered) (are : AreGathered ss g) where
       single_in s built.is_sheet g.node_comments g.message_comments (feeds_in g) (built.nodes ∙ ap (λ names. nodes_from names g.node_comments) are.nodes)
       (subst (λ lines. IsPermutation (messages_from lines g.message_comments (feeds_in g)) s.messages) are.messages built.messages)
 
-  single_said : (s : Sheet) → Says ss s → AreSingle
-  single_said s says =
-      single_in s says.is_sheet (map (node_comment ss) (node_names_of ss)) (map (message_comment ss) (numbers_of ss)) (feeds_said ss (signal_keys_of ss))
+  single_stated : (s : Sheet) → Says ss s → AreSingle
+  single_stated s says =
+      single_in s says.is_sheet (map (node_comment ss) (node_names_of ss)) (map (message_comment ss) (numbers_of ss)) (feeds_stated ss (signal_keys_of ss))
       (says.nodes ∙ sym (nodes_whole ss (node_names_of ss))) (subst (λ ms. IsPermutation ms s.messages) (sym (messages_whole ss (messages_of ss))) says.messages)
 
   pub says_built : (s : Sheet) → IsBuilt g s → Says ss s
@@ -111,9 +111,9 @@ module _ (ss : List Statement) (g : Gathered) (are : AreGathered ss g) where
         keys = subst (λ ls. IsDistinct same_signal (flat_map keys_of ls)) are.messages (keys_apart lines g.message_comments (feeds_in g) numbers (fit_names (messages_in g) h.messages));
       }
 
-  can_if_said : (s : Sheet) → Says ss s → CanBeSheet g
-  can_if_said s says =
-      let single = single_said s says in
+  can_if_stated : (s : Sheet) → Says ss s → CanBeSheet g
+  can_if_stated s says =
+      let single = single_stated s says in
       let t = says.is_sheet.well_formed.together in
       let p = subst (λ ms. IsPermutation ms s.messages) (sym (messages_are single)) says.messages in
       record {
@@ -126,11 +126,11 @@ module _ (ss : List Statement) (g : Gathered) (are : AreGathered ss g) where
 
   -- in a sheet each signal takes its texts, so they are few
   signals_few : (number : ℕ) (lines : List SignalLine) → AllByRecursion HaveFewTexts (map (whole_signal ss number) lines) → (more : List SignalKey)
-      → AllByRecursion AreFewTexts (map texts_said more) → AllByRecursion AreFewTexts (map texts_said (map (λ (l : SignalLine). (number, l.name)) lines ++ more))
+      → AllByRecursion AreFewTexts (map texts_stated more) → AllByRecursion AreFewTexts (map texts_stated (map (λ (l : SignalLine). (number, l.name)) lines ++ more))
   signals_few number [] h more rest = rest
   signals_few number (line ∷ lines) h more rest = (h.0, signals_few number lines h.1 more rest)
 
-  lines_few : (lines : List MessageLine) → AllByRecursion IsFit (map (whole_message ss) lines) → AllByRecursion AreFewTexts (map texts_said (flat_map keys_of lines))
+  lines_few : (lines : List MessageLine) → AllByRecursion IsFit (map (whole_message ss) lines) → AllByRecursion AreFewTexts (map texts_stated (flat_map keys_of lines))
   lines_few [] h = tt
   lines_few (line ∷ lines) h = signals_few (dbc_number line.ident) line.signals h.0.values (flat_map keys_of lines) (lines_few lines h.1)
 
@@ -140,7 +140,7 @@ module _ (ss : List Statement) (g : Gathered) (are : AreGathered ss g) where
       subst (AllByRecursion AreFewTexts) (sym (are.signal_values single.keys)) (lines_few (messages_of ss) (subst (AllByRecursion IsFit) (messages_are single) h.messages))
 
   pub says_nothing : ¬ CanBeSheet g → SaysNothing ss
-  says_nothing never = λ s says. never (can_if_said s says)
+  says_nothing never = λ s says. never (can_if_stated s says)
 
 -- What is gathered of the same statements once more can be in one sheet too.
 pub can_be_sheet_again : (ss : List Statement) (g h : Gathered) → AreGathered ss g → AreGathered ss h → CanBeSheet h → CanBeSheet g

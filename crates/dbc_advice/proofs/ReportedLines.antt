@@ -2,7 +2,7 @@
 use Rattle.std.proofs.Common.{◌≡◌, ◌+◌, ◌<◌, ◌≤◌, ℕ, List, [], ◌∷◌, ◌++◌, length, map, take, get_or, refl, sym, ap, ◌∙◌, subst, arith, append_assoc, append-nil}
 use Rattle.std.proofs.lemmas.Bool.Decides.{nat_tests}
 use Rattle.std.proofs.lemmas.List.{take_more}
-use Rattle.dbc_advice.specs.ToldLine.{AreLinesOf, more_line, more_text}
+use Rattle.dbc_advice.specs.ReportedLine.{AreLinesOf, more_line, more_text}
 
 module _ {A : Type 0} (Is : A → List ℕ → Type 0) where
   -- after these lines, those of others
@@ -27,7 +27,7 @@ pub lines_map : {A B : Type 0} (Is : B → List ℕ → Type 0) (f : A → B) (x
 lines_map Is f [] lines same = same
 lines_map Is f (x ∷ xs) lines are = (are.0, are.1, are.2, lines_map Is f xs are.1 are.3, are.4)
 
--- whether there are more than are told
+-- whether there are more than are reported
 pub is_more : (file : List ℕ) (limit count : ℕ) (what : List ℕ) → limit < count → more_text file limit count what ≡ more_line file limit what
 is_more file limit count what lt = grind (arith, nat_tests, lt)
 

@@ -13,7 +13,7 @@ use Rattle.catalogue.specs.declared.message.Message.{Message}
 use Rattle.catalogue.specs.declared.node.Node.{Node}
 use Rattle.catalogue.specs.declared.sheet.Sheet.{Sheet}
 use Rattle.catalogue.specs.declared.signal.Signal.{Signal}
-use Rattle.dbc_grammar.proofs.EachSaid.{each_said, kept_entries, keys, last_value}
+use Rattle.dbc_grammar.proofs.EachStated.{each_stated, kept_entries, keys, last_value}
 use Rattle.catalogue.proofs.Naming.{bytes_eq-flip}
 use Rattle.dbc_grammar.proofs.AscendingUnique.{distinct_if_ascending}
 use Rattle.dbc_grammar.proofs.SignalKeys.{sheet_keys_distinct}
@@ -86,22 +86,22 @@ abbrev pub message_signals : Message → List Signal
 message_signals m = m.signals
 
 module _ {V : Type 0} (keep : V → Bool) (d : V) (empty : (v : V) → keep v ≡ false → v ≡ d) (s : Sheet) (well : IsWellFormed s) where
-  pub nodes_said : (value : Node → V) → AllByRecursion (λ n. last_value bytes_eq d n.name (kept_entries keep (entries node_name value s.nodes)) ≡ value n) s.nodes
-  nodes_said value =
+  pub nodes_stated : (value : Node → V) → AllByRecursion (λ n. last_value bytes_eq d n.name (kept_entries keep (entries node_name value s.nodes)) ≡ value n) s.nodes
+  nodes_stated value =
       each_entry node_name value _ s.nodes
-      (each_said bytes_eq bytes_itself bytes_eq-flip keep d empty (entries node_name value s.nodes)
+      (each_stated bytes_eq bytes_itself bytes_eq-flip keep d empty (entries node_name value s.nodes)
       (subst (IsDistinct bytes_eq) (sym (keys-entries node_name value s.nodes)) (distinct_keys node_name value bytes_eq s.nodes well.nodes.apart)))
 
-  pub messages_said : (value : Message → V) → AllByRecursion (λ m. last_value nat_eq d (number_of m) (kept_entries keep (entries number_of value s.messages)) ≡ value m) s.messages
-  messages_said value =
+  pub messages_stated : (value : Message → V) → AllByRecursion (λ m. last_value nat_eq d (number_of m) (kept_entries keep (entries number_of value s.messages)) ≡ value m) s.messages
+  messages_stated value =
       let numbers = distinct_keys number_of value nat_eq s.messages (distinct_if_ascending number_of s.messages well.together.ascending) in
       each_entry number_of value _ s.messages
-      (each_said nat_eq nat_itself nat_flip keep d empty (entries number_of value s.messages)
+      (each_stated nat_eq nat_itself nat_flip keep d empty (entries number_of value s.messages)
       (subst (IsDistinct nat_eq) (sym (keys-entries number_of value s.messages)) numbers))
 
-  pub signals_said : (value : Signal → V) → AllByRecursion (λ m. AllByRecursion (λ x.
+  pub signals_stated : (value : Signal → V) → AllByRecursion (λ m. AllByRecursion (λ x.
       last_value same_signal d (signal_key m x) (kept_entries keep (part_entries message_signals signal_key value s.messages)) ≡ value x) m.signals) s.messages
-  signals_said value =
+  signals_stated value =
       each_part message_signals signal_key value _ s.messages
-      (each_said same_signal signal_itself signal_flip keep d empty (part_entries message_signals signal_key value s.messages)
+      (each_stated same_signal signal_itself signal_flip keep d empty (part_entries message_signals signal_key value s.messages)
       (subst (IsDistinct same_signal) (sym (keys-part_entries message_signals signal_key value s.messages)) (sheet_keys_distinct s well)))

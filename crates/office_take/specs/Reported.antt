@@ -2,12 +2,12 @@
 -- taken.
 use Rattle.std.specs.Prelude.{ℕ, List, Option, Some, None}
 use Rattle.office_rules.specs.Facts.{NumberFacts}
-use Rattle.office_take.specs.declared.numbers.NumberFacts.{NumberFacts as Told}
+use Rattle.office_take.specs.declared.numbers.NumberFacts.{NumberFacts as NumberFactsModel}
 use Rattle.office_types.specs.declared.refusal.Refusal.{Refusal}
 use Rattle.office_types.specs.declared.refusal.Refusal.TheVariants.{BlockFull}
 
 -- the facts, where these numbers are taken
-abbrev pub number_facts_of : Told → List ℕ → NumberFacts
+abbrev pub number_facts_of : NumberFactsModel → List ℕ → NumberFacts
 number_facts_of f taken = record {
   kind = f.kind;
   phase = f.phase.now;

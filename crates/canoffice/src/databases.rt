@@ -6,12 +6,12 @@ use canoffice_cli::{
     Answers, Databases, Progress, ServeEnd, answer_on, answers_when_closed, look_on, migrate_on,
     nothing_answered,
 };
+use desk::{ServeFault, listen, serve};
 use office_history::Arrival;
-use serving::{ServeFault, listen, serve};
 use sqlite::{Connection, File, FileStore};
 use std::alloc::{AllocError, Global};
 use std::io::Write;
-use store::{Lost, Office, Question};
+use store::{Look, Lost, Office};
 
 /// The machine's database files, as SQLite has them. Nothing is known of them, since no contract speaks of the machine's
 /// disk.
@@ -119,7 +119,7 @@ impl Databases for HostDatabases<'_> {
         &mut self,
         alloc: Global,
         path: &str,
-        question: &Question,
+        question: &Look,
     ) -> Result<Option<Vec<u8>>, Lost> {
         let conn = opened(self.rt, path)?;
         let (shown, conn) = look_on(alloc, conn, question);

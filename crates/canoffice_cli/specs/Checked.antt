@@ -9,7 +9,7 @@ use Rattle.catalogue.specs.declared.fault.SheetCode.{SheetCode}
 use Rattle.catalogue.specs.declared.fault.SheetFault.{SheetFault}
 use Rattle.catalogue.specs.declared.keyword.Keyword.{Keyword}
 use Rattle.catalogue.specs.declared.sheet.Sheet.{Sheet}
-use Rattle.chart.specs.Table.{signal_count}
+use Rattle.views.specs.Table.{signal_count}
 use Rattle.dbc_lex.specs.Fault as reading
 use Rattle.dbc_lex.specs.declared.fault.ReadFault.{ReadFault}
 use Rattle.dbc_read.specs.Reading.{IsReadFault}

@@ -4,8 +4,8 @@ use Rattle.office_types.specs.PlainName.{IsPlainName}
 use Rattle.office_types.specs.declared.state.Office.{Office}
 use Rattle.office_history.specs.History.{Answered, IsLegal}
 use Rattle.store.specs.declared.lost.Lost.{Lost}
-use Rattle.store.specs.declared.question.Question.{Question}
-use Rattle.store.specs.declared.question.Question.TheVariants.{Live, Release}
+use Rattle.office_types.specs.declared.look.Look.{Look}
+use Rattle.office_types.specs.declared.look.Look.TheVariants.{Live, Release}
 use Rattle.store.specs.Looking.{IsShown}
 use Rattle.canoffice_cli.specs.Answered.{answers_outcome}
 use Rattle.canoffice_cli.specs.Databases.{AreKept, Databases}
@@ -13,7 +13,7 @@ use Rattle.canoffice_cli.specs.Outcome.{Outcome, success}
 use Rattle.canoffice_cli.specs.declared.report.Status.TheVariants.{FaultFound}
 
 -- release N of a network, or its live sheet for 0
-abbrev pub sheet_requested : List ℕ → ℕ → Question
+abbrev pub sheet_requested : List ℕ → ℕ → Look
 sheet_requested net number = if number == 0 then Live net else Release net number
 
 abbrev pub not_found : Outcome
@@ -27,7 +27,7 @@ shown_outcome (Err lost) = answers_outcome [] (Some lost)
 
 -- The office in the database of the path looked the question up, and this is what it showed, unless that was lost. The tables
 -- hold what they held.
-pub record IsLookedUp (before after : Databases) (path : List ℕ) (question : Question) (shown : Result (Option (List ℕ)) Lost) : Type 0 where
+pub record IsLookedUp (before after : Databases) (path : List ℕ) (question : Look) (shown : Result (Option (List ℕ)) Lost) : Type 0 where
   pub of_held : (h : List Answered) (office : Office) → before.holds path h → IsLegal h office → after.is_sound → IfOk shown (IsShown office question)
   pub of_new : (office : Office) → before.is_new path → IsLegal [] office → after.is_sound → IfOk shown (IsShown office question)
   pub held : (h : List Answered) → before.holds path h → after.is_sound → after.holds path h

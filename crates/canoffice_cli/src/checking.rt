@@ -7,10 +7,10 @@ ghost use Rattle.dbc_read.specs.Passed.{start_and_keyword};
 use crate::lines::{Line, lines_of};
 use crate::report::{Report, Status};
 use catalogue::{Sheet, SheetCode, SheetFault};
-use chart::signal_count;
 use dbc_read::{Passed, ReadCode, ReadFault, Reading, read};
 use std::alloc::{AllocError, Global};
 use std::mem::forget;
+use views::signal_count;
 
 impl Line for Passed {
     ghost use Rattle.canoffice_cli.specs.Checked.{passed_line};

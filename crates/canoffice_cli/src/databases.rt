@@ -15,9 +15,10 @@ use crate::progress::Progress;
 use crate::serving::ServeEnd;
 pub use memory::MemoryDatabase;
 use office_history::Arrival;
+use office_types::Look;
 use std::alloc::{AllocError, Global};
 use std::io::Write;
-use store::{Lost, Question};
+use store::Lost;
 
 /// Databases that are found by their paths, each with the tables of an office. One is made where there is none.
 pub trait Databases {
@@ -40,12 +41,7 @@ pub trait Databases {
         ensures goes_on { IfOk result (λ reported. InDatabase (known self.old) (known self.new) path.now (answered_with arrivals.now reported.answers.items) reported.lost) };
 
     /// What the office in the database at the path shows for the question. The error is why that was lost.
-    fn look(
-        &mut self,
-        alloc: Global,
-        path: &str,
-        question: &Question,
-    ) -> Result<Option<Vec<u8>>, Lost>
+    fn look(&mut self, alloc: Global, path: &str, question: &Look) -> Result<Option<Vec<u8>>, Lost>
         ensures { IsLookedUp (known self.old) (known self.new) path.now question.now (result_map_both (option_map (λ text. text.items)) (λ lost. lost) result) };
 
     /// Makes the database at the path one of this version, with the history that it holds. It is shown which message is carried

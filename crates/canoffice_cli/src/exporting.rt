@@ -16,18 +16,18 @@ ghost use Rattle.canoffice_cli.specs.Outcome.{outcome_of};
 use crate::answering::{lost_report, office_on};
 use crate::databases::Databases;
 use crate::report::{Report, Status};
-use office_types::NetName;
+use office_types::{Look, NetName};
 use sqlite::{Alter, Connection};
 use std::alloc::{AllocError, Global};
-use store::{Lost, Question};
+use store::Lost;
 
-fn sheet_requested(net: NetName, number: u32) -> Question
+fn sheet_requested(net: NetName, number: u32) -> Look
     ensures { result ≡ sheet_requested net number }
 {
     if number == 0 {
-        Question::Live(net)
+        Look::Live(net)
     } else {
-        Question::Release(net, number)
+        Look::Release(net, number)
     }
 }
 
@@ -54,7 +54,7 @@ fn shown_report(alloc: Global, shown: Result<Option<Vec<u8>>, Lost>) -> Result<R
 pub fn look_on<S: Alter + Drop>(
     alloc: Global,
     conn: Connection<S>,
-    question: &Question,
+    question: &Look,
 ) -> (Result<Option<Vec<u8>>, Lost>, Connection<S>)
     requires { (state S.Store conn).in_transaction ≡ false }
     ensures clean { doubt (state S.Store conn).is_clean ≤ doubt (state S.Store result.1).is_clean }

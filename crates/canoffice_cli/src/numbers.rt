@@ -1,11 +1,11 @@
 //! The numbers that words of the command line give.
 ghost use Rattle.std.specs.Prelude.{◌≡◌, ◌≤◌, Some, None, IfOk, IfErr};
 ghost use Rattle.std.specs.Option.{option_map};
-ghost use Rattle.chart.specs.Word.{length_of};
+ghost use Rattle.views.specs.Word.{length_of};
 ghost use Rattle.canoffice_cli.specs.Numbers.{count_given, number_given, port_given, release_number};
 
-use chart::{length_of, whole_between};
 use std::alloc::{AllocError, Global};
+use views::{length_of, whole_between};
 
 /// The port where none is given.
 const PORT: u32 = 8089;

@@ -11,9 +11,9 @@ use Rattle.store.specs.Looking.{IsShown}
 use Rattle.desk_types.specs.declared.problem.Problem.{Problem}
 use Rattle.desk_types.specs.declared.problem.Problem.TheVariants.{TryAgain}
 use Rattle.desk_call.specs.Call.{Requested, Asking, arrives, fails, shows}
-use Rattle.desk_call.specs.declared.call.Look.{Look}
+use Rattle.office_types.specs.declared.look.Look.{Look}
 use Rattle.desk_reply.specs.Response.{answer_response, problem_response}
-use Rattle.desk.specs.Serving.{FollowsRequested, MayHaveTaken, Responds, answered_as, content_of, question_of, shown_response}
+use Rattle.desk.specs.Responding.{FollowsRequested, MayHaveTaken, Responds, answered_as, content_of, shown_response}
 
 -- what holds of a text holds of the value that has it
 pub on_text : {V E : Type 0} (items : V → List ℕ) (r : Result V E) (text : List ℕ) (Q : List ℕ → Type 0) → IfOk r (λ v. items v ≡ text) → Q text → IfOk r (λ v. Q (items v))
@@ -67,7 +67,7 @@ pub try_again : (h : List Answered) (requested : Requested) (s : State) → (IsT
 try_again h requested s held left = inr (refl, held, left)
 
 pub looked : (h : List Answered) (l : Look) (found : Option (List ℕ)) (s : State)
-    → ((office : Office) → IsLegal h office → IsShown office (question_of l) found) → Holding h s → Leaves (Keeps h) s → Responds h (shows l) (shown_response (content_of l) found) s
+    → ((office : Office) → IsLegal h office → IsShown office l found) → Holding h s → Leaves (Keeps h) s → Responds h (shows l) (shown_response (content_of l) found) s
 looked h l found s shown held left = inl (h, (refl, λ office legal. (found, shown office legal, refl)), held, left)
 
 pub arrived : (h : List Answered) (a : Asking) (answer : Answer) (s : State)

@@ -6,28 +6,16 @@ ghost use Rattle.sqlite_trees.specs.View.{doubt};
 ghost use Rattle.office_history.specs.History.{Answered};
 ghost use Rattle.store.specs.Holding.{Holding};
 ghost use Rattle.desk_call.specs.Call.{arrives, asking_seen, seen, shows};
-ghost use Rattle.desk.specs.Serving.{MayHaveTaken, Responds, content_of, failed_response, question_of};
+ghost use Rattle.desk.specs.Responding.{MayHaveTaken, Responds, content_of, failed_response};
 
-use desk_call::{Call, Look};
+use desk_call::Call;
 use desk_reply::{Content, answer_response, problem_response, text_response};
 use desk_types::Problem;
 use office_history::Arrival;
+use office_types::Look;
 use sqlite::Alter;
 use std::alloc::{AllocError, Global};
-use store::{Office, Question};
-
-/// What the store is to do.
-fn question_of(look: Look) -> Question
-    ensures { result ≡ question_of look }
-{
-    match look {
-        Look::Nets => Question::Nets,
-        Look::Table(net) => Question::Table(net),
-        Look::Live(net) => Question::Live(net),
-        Look::Release(net, number) => Question::Release(net, number),
-        Look::Chart(net, message) => Question::Chart(net, message),
-    }
-}
+use store::Office;
 
 /// What the text of a look is: DBC text, or lines.
 fn content_of(look: &Look) -> Content
@@ -52,8 +40,7 @@ fn shown<S: Alter>(alloc: Global, office: &mut Office<S>, look: Look) -> Result<
         → OnErr result (MayHaveTaken h (shows look) (state S.Store office.new.conn)) }
 {
     let content = content_of(&look);
-    let question = question_of(look);
-    match office.look(alloc, &question) {
+    match office.look(alloc, &look) {
         Ok(Some(text)) => text_response(alloc, content, &text),
         Ok(None) => problem_response(alloc, Problem::NotFound),
         Err(_) => problem_response(alloc, Problem::TryAgain),

@@ -8,7 +8,7 @@ use Rattle.desk_head.specs.declared.demand.Demand.TheVariants as demand
 use Rattle.desk_head.specs.declared.endpoint.Posting.TheVariants.{Import}
 use Rattle.desk_head.specs.declared.endpoint.Showing.TheVariants as showing
 use Rattle.desk_call.specs.Call.{arrives, asking_of, call_by, fails, look_of}
-use Rattle.desk_call.specs.declared.call.Look.TheVariants as look
+use Rattle.office_types.specs.declared.look.Look.TheVariants as look
 
 abbrev headers : List ℕ → List ℕ → Headers
 headers team key = (codes "Team", team) ∷ (codes "Request-Key", key) ∷ []

@@ -26,8 +26,8 @@ use Rattle.desk_body.specs.Body.{command_in}
 use Rattle.desk_body.specs.Bundle.{bundle_in}
 use Rattle.desk_call.specs.declared.call.Call as declared
 use Rattle.desk_call.specs.declared.call.Call.TheVariants as call
-use Rattle.desk_call.specs.declared.call.Look.{Look}
-use Rattle.desk_call.specs.declared.call.Look.TheVariants as look
+use Rattle.office_types.specs.declared.look.Look.{Look}
+use Rattle.office_types.specs.declared.look.Look.TheVariants as look
 
 -- an arrival, as contracts see it
 pub record Asking : Type 0 where

@@ -14,6 +14,7 @@ mod looks;
 mod reading;
 mod values;
 
-pub use call::{Call, Look};
+pub use call::Call;
 pub use laws::bytes_ask_one_thing;
+pub use office_types::Look;
 pub use reading::read_call;

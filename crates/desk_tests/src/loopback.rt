@@ -1,6 +1,6 @@
 //! Requests over a port of the machine, in one process.
 use crate::requests::Titled;
-use serving::{listen, serve};
+use desk::{listen, serve};
 use sqlite::Alter;
 use std::io::{self, ErrorKind, Read, Write};
 use std::net::{Shutdown, SocketAddr, TcpStream};

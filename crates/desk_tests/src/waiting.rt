@@ -3,7 +3,7 @@ use crate::loopback::goes_over_port;
 use crate::pieces::Ending;
 use crate::requests::Titled;
 use crate::responses::response;
-use serving::{EndedConnection, ServeFault, Waiting, serve};
+use desk::{EndedConnection, ServeFault, Waiting, serve};
 use sqlite::Alter;
 use std::alloc::Global;
 use std::io::{self, ErrorKind};

@@ -11,7 +11,7 @@ use crate::applying::{Draft, change_all};
 use crate::carrying::draft_of;
 use crate::deciding::decide_action;
 use catalogue::{Copying, Items};
-use office_net::refusal_decision;
+use office_facts::refusal_decision;
 use office_types::{
     Action, Change, Decision, FileFault, Net, NetName, PartReply, Parts, Refusal, Reply, SpnBook,
     Team,

@@ -7,11 +7,13 @@ ghost use Rattle.office.specs.Imported.{IsCommandDecision};
 
 use crate::bundling::decide_bundle;
 use crate::importing::decide_import_of;
-use crate::on_message::{remove_signal, retire, set_values, take_bits, take_spn};
-use office_import::decide_release;
+use office_signals::{
+    decide_remove_signal_in, decide_retire_in, decide_set_values_in, decide_take_bits_in,
+    decide_take_spn_in,
+};
 use office_take::{
-    decide_add_node, decide_approve, decide_grant, decide_open_net, decide_reject, decide_submit,
-    decide_take_ident, decide_take_pgn,
+    decide_add_node, decide_approve, decide_grant, decide_open_net, decide_reject, decide_release,
+    decide_submit, decide_take_ident, decide_take_pgn,
 };
 use office_types::{Action, Command, Decision, Net, NetName, SpnBook, Task, Team};
 use std::alloc::{AllocError, Global};
@@ -33,11 +35,11 @@ pub(crate) fn decide_action(
         Action::AddNode(node) => decide_add_node(alloc, net, node),
         Action::TakeIdent(take) => decide_take_ident(alloc, team, net, take),
         Action::TakePgn(take) => decide_take_pgn(alloc, team, net, take),
-        Action::TakeSpn(take) => take_spn(alloc, team, name, net, book, take),
-        Action::TakeBits(take) => take_bits(alloc, team, net, take),
-        Action::SetValues(set) => set_values(alloc, team, net, set),
-        Action::RemoveSignal(path) => remove_signal(alloc, team, net, path),
-        Action::Retire(message) => retire(alloc, team, net, message),
+        Action::TakeSpn(take) => decide_take_spn_in(alloc, team, name, net, book, take),
+        Action::TakeBits(take) => decide_take_bits_in(alloc, team, net, take),
+        Action::SetValues(set) => decide_set_values_in(alloc, team, net, set),
+        Action::RemoveSignal(path) => decide_remove_signal_in(alloc, team, net, path),
+        Action::Retire(message) => decide_retire_in(alloc, team, net, message),
         Action::Submit => decide_submit(alloc, team, net),
         Action::Approve => decide_approve(alloc, team, net),
         Action::Reject => decide_reject(alloc, team, net),

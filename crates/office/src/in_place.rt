@@ -11,7 +11,7 @@ ghost use Rattle.office_rules.specs.Signals.{take_bits, with_last_signal};
 ghost use Rattle.office.specs.Carried.{IsDone, bits_reply};
 
 use catalogue::{Items, Name, SheetCode, Signal};
-use office_net::message_facts;
+use office_facts::message_facts;
 use office_signals::new_signal_for;
 use office_types::{LiveMessage, Net, Refusal, Reply, TakeBits, Team};
 use std::alloc::{AllocError, Global};

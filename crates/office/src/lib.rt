@@ -22,12 +22,11 @@ mod deciding;
 mod excerpt;
 mod importing;
 mod in_place;
-mod on_message;
 mod one_signal;
 mod plain;
 mod stepping;
 
 pub use deciding::decide;
 pub use excerpt::{decide_excerpt, goes_by_excerpt};
-pub use office_net::Excerpt;
+pub use office_facts::Excerpt;
 pub use plain::PlainOffice;

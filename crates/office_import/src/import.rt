@@ -20,7 +20,7 @@ use crate::limits::is_too_large;
 use crate::news::{FrameNews, frame_news};
 use crate::numbers::team_numbers;
 use catalogue::{Items, Sheet};
-use office_net::{head_with, in_review, refusal_decision};
+use office_facts::{head_with, in_review, refusal_decision};
 use office_types::{Change, Decision, FileFault, Head, Net, Refusal, Team};
 use std::alloc::{AllocError, Global};
 

@@ -4,7 +4,7 @@ ghost use Rattle.std.specs.List.{list_all};
 ghost use Rattle.bitlayout.specs.Mux.{is_multiplexor, is_under};
 ghost use Rattle.catalogue.specs.Refusing.{first_refusal};
 ghost use Rattle.catalogue.specs.Signals.{has_multiplexor, places_of, signal_tests};
-ghost use Rattle.office_net.specs.Reported.{message_facts_of};
+ghost use Rattle.office_facts.specs.FactsOf.{message_facts_of};
 ghost use Rattle.office_types.specs.declared.book.SpnBook.{SpnBook};
 ghost use Rattle.office_types.specs.declared.change.Change.TheVariants.{AddSignal};
 ghost use Rattle.office_types.specs.declared.reply.Reply.TheVariants.{Start};
@@ -20,7 +20,7 @@ use bitlayout::Mux;
 use catalogue::{
     Copying, Name, Node, ROSTER_LIMIT, Receivers, Signal, Signals, Spn, Text, ValueTexts, ValueType,
 };
-use office_net::{MessageFacts, has_node, has_signal, one_change, refusal_decision};
+use office_facts::{MessageFacts, has_node, has_signal, one_change, refusal_decision};
 use office_types::{Change, Decision, LiveMessage, Refusal, Reply, TakeBits, Team};
 use std::alloc::{AllocError, Global};
 

@@ -1,6 +1,6 @@
 //! Taking a live message out.
 ghost use Rattle.std.specs.Prelude.{◌≡◌, ◌∷◌, [], ℕ, List, IfOk, IfSome, Some, if◌then◌else◌};
-ghost use Rattle.office_net.specs.Reported.{message_facts_of};
+ghost use Rattle.office_facts.specs.FactsOf.{message_facts_of};
 ghost use Rattle.office_types.specs.declared.book.SpnBook.{SpnBook};
 ghost use Rattle.office_types.specs.declared.change.Change.TheVariants.{Hold, RemoveMessage};
 ghost use Rattle.office_types.specs.declared.reply.Reply.TheVariants.{Done};
@@ -12,7 +12,7 @@ ghost use Rattle.office_rules.specs.Retiring.{retire};
 use crate::own::own_message;
 use can_id::Ident;
 use catalogue::Name;
-use office_net::{MessageFacts, message_facts, one_change, refusal_decision, two_changes};
+use office_facts::{MessageFacts, message_facts, one_change, refusal_decision, two_changes};
 use office_types::{Change, Decision, FrozenSheet, Net, Reply, Team};
 use std::alloc::{AllocError, Global};
 

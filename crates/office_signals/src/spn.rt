@@ -1,6 +1,6 @@
 //! Taking a suspect parameter number for a signal.
 ghost use Rattle.std.specs.Prelude.{◌≡◌, ◌∷◌, [], IfOk, IsTrue, None, Some};
-ghost use Rattle.office_net.specs.Reported.{message_facts_of};
+ghost use Rattle.office_facts.specs.FactsOf.{message_facts_of};
 ghost use Rattle.office_types.specs.Book.{is_spn_number};
 ghost use Rattle.office_types.specs.Free.{is_taken};
 ghost use Rattle.office_types.specs.declared.change.Change.TheVariants.{EnterSpn, SetMessage};
@@ -13,7 +13,7 @@ ghost use Rattle.office_signals.specs.Given.{IsGiven};
 
 use crate::own::own_message;
 use catalogue::{Copying, Name, Spn};
-use office_net::{MessageFacts, has_signal, refusal_decision, spn_blocks_of, two_changes};
+use office_facts::{MessageFacts, has_signal, refusal_decision, spn_blocks_of, two_changes};
 use office_types::{
     Block, Change, Decision, Form, LiveMessage, NetName, Refusal, Reply, SpnBook, TakeSpn, Team,
     UsableSpn, least_free,

@@ -11,7 +11,7 @@ ghost use Rattle.office_rules.specs.Facts.{has_node};
 ghost use Rattle.office_rules.specs.Opening.{add_node, add_node_tests, with_node};
 
 use catalogue::{Copying, Name, Node, ROSTER_LIMIT, Sheet, SheetCode, Text};
-use office_net::{has_node, head_with, in_review, one_change, refusal_decision};
+use office_facts::{has_node, head_with, in_review, one_change, refusal_decision};
 use office_types::{Change, Decision, Net, Refusal, Reply};
 use std::alloc::{AllocError, Global};
 

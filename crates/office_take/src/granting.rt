@@ -9,7 +9,7 @@ ghost use Rattle.office_rules.specs.Opening.{grant, grant_tests, is_block_taken}
 ghost use Rattle.office_take.specs.Granting.{grant_change};
 
 use catalogue::Copying;
-use office_net::{is_j1939, one_change, refusal_decision};
+use office_facts::{is_j1939, one_change, refusal_decision};
 use office_types::{
     BlockForm, Change, Decision, FormBlock, Grant, GrantedBlock, Net, NetName, Refusal, Reply,
     SpnBlock, SpnBook, Team, is_office,

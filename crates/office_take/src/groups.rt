@@ -9,13 +9,13 @@ ghost use Rattle.office_types.specs.declared.state.Net.{Net};
 ghost use Rattle.office_rules.specs.Change.{Decides};
 ghost use Rattle.office_rules.specs.Facts.{group_facts, taken_groups};
 ghost use Rattle.office_rules.specs.Numbers.{address_of, group_given, ident_with, take_pgn, take_pgn_tests};
-ghost use Rattle.office_net.specs.By.{take_pgn_by};
-ghost use Rattle.office_take.specs.Reported.{number_facts_of, refused_or_full};
+ghost use Rattle.office_facts.specs.By.{take_pgn_by};
+ghost use Rattle.office_take.specs.FactsOf.{number_facts_of, refused_or_full};
 
 use crate::numbers::{NumberFacts, group_facts, message_taken, name_refusal, taken_idents};
 use crate::taken::{Taken, ascending, least_of_team};
 use can_id::{Ident, J1939};
-use office_net::{group_of, has_block, is_j1939, refusal_decision};
+use office_facts::{group_of, has_block, is_j1939, refusal_decision};
 use office_types::{BlockForm, Decision, Net, Pdu, Refusal, TakePgn, Team};
 use std::alloc::{AllocError, Global};
 

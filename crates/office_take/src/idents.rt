@@ -9,13 +9,13 @@ ghost use Rattle.office_types.specs.declared.state.Net.{Net};
 ghost use Rattle.office_rules.specs.Change.{Decides};
 ghost use Rattle.office_rules.specs.Facts.{ident_facts, taken_numbers};
 ghost use Rattle.office_rules.specs.Numbers.{number_given, take_ident, take_ident_tests, want_tests};
-ghost use Rattle.office_net.specs.By.{take_ident_by};
-ghost use Rattle.office_take.specs.Reported.{number_facts_of, refused_or_full};
+ghost use Rattle.office_facts.specs.By.{take_ident_by};
+ghost use Rattle.office_take.specs.FactsOf.{number_facts_of, refused_or_full};
 
 use crate::numbers::{NumberFacts, ident_facts, message_taken, name_refusal, taken_idents};
 use crate::taken::{Taken, ascending, least_of_team};
 use can_id::{Ident, IdentForm};
-use office_net::{has_block, has_number, number_in, refusal_decision};
+use office_facts::{has_block, has_number, number_in, refusal_decision};
 use office_types::{BlockForm, Decision, Form, Net, Refusal, TakeIdent, Team};
 use std::alloc::{AllocError, Global};
 

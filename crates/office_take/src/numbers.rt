@@ -6,11 +6,11 @@ ghost use Rattle.office_types.specs.declared.change.Change.TheVariants.{SetMessa
 ghost use Rattle.office_types.specs.declared.reply.Reply.TheVariants.{Number};
 ghost use Rattle.office_rules.specs.Facts.{group_facts, ident_facts, is_held, is_live, taken_groups, taken_idents, taken_numbers};
 ghost use Rattle.office_rules.specs.Numbers.{name_tests, new_message};
-ghost use Rattle.office_take.specs.Reported.{number_facts_of};
+ghost use Rattle.office_take.specs.FactsOf.{number_facts_of};
 
 use can_id::{Ident, IdentForm};
 use catalogue::{Copying, MESSAGE_LIMIT, Message, Name, Node, Signals, Text};
-use office_net::{has_ident, ident_is, in_review, is_named, knows_node, one_change};
+use office_facts::{has_ident, ident_is, in_review, is_named, knows_node, one_change};
 use office_types::{
     Change, Decision, GrantedBlock, LiveMessage, Net, NetKind, NewMessage, Phase, Refusal, Reply,
     TakeIdent, Team,

@@ -7,7 +7,7 @@ ghost use Rattle.office_rules.specs.Change.{Decides};
 ghost use Rattle.office_rules.specs.Opening.{open_net, open_net_tests};
 
 use catalogue::Sheet;
-use office_net::{one_change, refusal_decision};
+use office_facts::{one_change, refusal_decision};
 use office_types::{
     Change, Decision, Head, Net, NetName, OpenNet, Phase, Refusal, Reply, Team, is_office,
 };

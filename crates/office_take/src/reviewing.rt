@@ -9,7 +9,7 @@ ghost use Rattle.office_rules.specs.Change.{Decides};
 ghost use Rattle.office_rules.specs.Reviewing.{approve, in_phase, reject, review_tests, submit};
 
 use catalogue::Copying;
-use office_net::{head_in, in_review, is_submitter, one_change, refusal_decision, two_changes};
+use office_facts::{head_in, in_review, is_submitter, one_change, refusal_decision, two_changes};
 use office_types::{Change, Decision, Net, Phase, Refusal, Reply, Team};
 use std::alloc::{AllocError, Global};
 

@@ -4,7 +4,7 @@ ghost use Rattle.std.specs.List.Sorted.{IsStrictlyIncreasing};
 ghost use Rattle.office_types.specs.Free.{has_form, is_taken, least_free};
 ghost use Rattle.office_rules.specs.Facts.{blocks_of};
 
-use office_net::blocks_of;
+use office_facts::blocks_of;
 use office_types::{BlockForm, Form, GrantedBlock, Team, is_ascending, least_free};
 use std::alloc::{AllocError, Global};
 

@@ -5,11 +5,11 @@ use crate::requests::{request, response};
 use catalogue::Name;
 use desk::{Counted, serve_one};
 use office_history::{Answer, Arrival};
-use office_types::NetName;
+use office_types::{Look, NetName};
 use sqlite::{Alter, Connection};
 use std::alloc::Global;
 use std::io::{self, ErrorKind};
-use store::{Lost, Office, Question, Watch};
+use store::{Lost, Office, Watch};
 
 /// How an office is opened.
 #[derive(Clone, Copy, PartialEq, Eq)]
@@ -185,7 +185,7 @@ pub(crate) fn is_after<S: Alter>(
     let Ok(Some(net)) = NetName::of(alloc, b"truck") else {
         return false;
     };
-    let Ok(sheet) = office.look(alloc, &Question::Live(net)) else {
+    let Ok(sheet) = office.look(alloc, &Look::Live(net)) else {
         return false;
     };
     let text = sheet.as_deref();

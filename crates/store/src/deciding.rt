@@ -9,7 +9,7 @@ ghost use Rattle.std.specs.List.{list_any};
 ghost use Rattle.sqlite.specs.Held.{state};
 ghost use Rattle.office_law.specs.Apart.{asks_book};
 ghost use Rattle.office_law.specs.Released.{reads_releases};
-ghost use Rattle.office_net.specs.Excerpt.{IsExcerptOf, goes_by_excerpt};
+ghost use Rattle.office_facts.specs.Excerpt.{IsExcerptOf, goes_by_excerpt};
 ghost use Rattle.office_rules.specs.Change.{IsDecision, is_release};
 ghost use Rattle.office_types.specs.declared.book.SpnBook.{SpnBook as Book};
 ghost use Rattle.office_types.specs.declared.state.Net.{Net as Network};

@@ -25,13 +25,12 @@ mod losing;
 mod lost;
 mod migrating;
 mod opening;
-mod question;
 mod running;
 mod stored_office;
 
 pub use laws::{held_networks_are_apart, held_networks_are_clear, held_numbers_mean_one_thing};
 pub use lost::Lost;
 pub use office_history::{Answer, Arrival, Key, Request};
-pub use question::Question;
+pub use office_types::Look;
 pub use store_carry::Watch;
 pub use stored_office::Office;

@@ -16,10 +16,10 @@ ghost use Rattle.office_rows.specs.Statement.{ChangesNothing, CommitsNothing, Fi
 use crate::losing::loss_by;
 use crate::lost::Lost;
 use crate::opening::leaves_committed;
-use crate::question::Question;
 use crate::stored_office::Office;
 use office_history::histories_leave_offices;
 use office_tables::knows_schema;
+use office_types::Look;
 use sqlite::{Alter, Connection, Error, Transaction};
 use std::alloc::Global;
 use store_net::{live_chart, live_table, live_text, nets_text, release_text};
@@ -28,7 +28,7 @@ use store_net::{live_chart, live_table, live_text, nets_text, release_text};
 fn look_inside<S: Alter>(
     alloc: Global,
     tx: &mut Transaction<'_, S>,
-    question: &Question,
+    question: &Look,
 ) -> Result<Option<Vec<u8>>, Error>
     ensures same_reference { tx.new.conn.ghost_name ≡ tx.old.conn.ghost_name }
     ensures found { Finds result (state S.Store tx.old.conn.now) (state S.Store tx.new.conn.now) (λ text t. (h : List Answered) → (holds : Holds h t) → IsShown holds.holds.office question.now (option_map (λ bytes. bytes.items) text)) }
@@ -38,11 +38,11 @@ fn look_inside<S: Alter>(
 {
     histories_leave_offices();
     match question {
-        Question::Nets => Ok(Some(nets_text(alloc, tx)?)),
-        Question::Table(net) => live_table(alloc, tx, net),
-        Question::Live(net) => live_text(alloc, tx, net),
-        Question::Release(net, number) => release_text(alloc, tx, net, *number),
-        Question::Chart(net, message) => live_chart(alloc, tx, net, message),
+        Look::Nets => Ok(Some(nets_text(alloc, tx)?)),
+        Look::Table(net) => live_table(alloc, tx, net),
+        Look::Live(net) => live_text(alloc, tx, net),
+        Look::Release(net, number) => release_text(alloc, tx, net, *number),
+        Look::Chart(net, message) => live_chart(alloc, tx, net, message),
     }
 }
 
@@ -50,7 +50,7 @@ fn look_inside<S: Alter>(
 fn ask<S: Alter>(
     alloc: Global,
     conn: &mut Connection<S>,
-    question: &Question,
+    question: &Look,
 ) -> Result<Option<Vec<u8>>, Error>
     requires { (state S.Store conn.old).in_transaction ≡ false }
     ensures autocommit { (state S.Store conn.new).in_transaction ≡ false }
@@ -79,7 +79,7 @@ impl<S: Alter> Office<S> {
     /// Looks something up: its text, or `None` exactly where it isn't there. Nothing changes. The error is out of
     /// memory, after which the next call may succeed, or an error of the store, after which the office has failed, as
     /// in [`Office::arrive`].
-    pub fn look(&mut self, alloc: Global, question: &Question) -> Result<Option<Vec<u8>>, Lost>
+    pub fn look(&mut self, alloc: Global, question: &Look) -> Result<Option<Vec<u8>>, Lost>
         ensures failed { IsTrue self.new.failed ↔ (result ≡ Err Lost.Store) }
         ensures refused { IsTrue self.old.failed → self.new ≡ self.old }
         ensures named { IfErr result IsOfCall }

@@ -1,6 +1,6 @@
 -- An excerpt that is read part by part is the network's.
 use Rattle.std.proofs.Common.{◌≡◌, ℕ, List, [], Option, Some, None, sym, subst}
-use Rattle.office_net.specs.declared.excerpt.Excerpt.{Excerpt}
+use Rattle.office_facts.specs.declared.excerpt.Excerpt.{Excerpt}
 use Rattle.office_types.specs.declared.state.GrantedBlock.{GrantedBlock}
 use Rattle.office_types.specs.declared.state.Head.{Head}
 use Rattle.office_types.specs.declared.state.LiveMessage.{LiveMessage}

@@ -17,7 +17,7 @@ use Rattle.office_types.specs.Free.{is_taken}
 use Rattle.office_types.specs.declared.block.Block.{Block}
 use Rattle.office_types.specs.declared.state.LiveMessage.{LiveMessage}
 use Rattle.office_rules.specs.Facts.{group_of, has_ident, lies_in, number_in, same_ident}
-use Rattle.office_net.specs.By.{AgreeInside}
+use Rattle.office_facts.specs.By.{AgreeInside}
 use Rattle.store_rows.proofs.Keys.{and_left, and_right}
 use Rattle.store_net.specs.Numbers.{dbc_of, idents_between, idents_inside, is_in, live_idents}
 

@@ -14,7 +14,7 @@ use Rattle.catalogue.specs.declared.message.Message.{Message}
 use Rattle.catalogue.specs.declared.sheet.Sheet.{Sheet}
 use Rattle.dbc_grammar.proofs.AscendingUnique.{one_ascending}
 use Rattle.dbc_read.proofs.Putting.{one_put}
-use Rattle.chart.specs.Message.{message_chart}
+use Rattle.views.specs.Message.{message_chart}
 use Rattle.office_types.specs.State.{live_messages, sheet_of, sheet_with}
 use Rattle.office_types.specs.declared.state.Head.{Head}
 use Rattle.office_types.specs.declared.state.LiveMessage.{LiveMessage}

@@ -26,8 +26,8 @@ use Rattle.office_tables.specs.Tables.{Tables}
 use Rattle.office_tables.specs.Selected.{IsSelected}
 use Rattle.office_rows.specs.Rows.{frozen_row, is_any, is_of_net, net_row}
 use Rattle.office_rows.specs.Shown.{net_names_order, net_names_shown, net_order, release_numbers_order, release_numbers_shown}
-use Rattle.chart.proofs.Pieces.{items_more}
-use Rattle.net_list.specs.Text.{line_of, net_line, nets_text}
+use Rattle.views.proofs.Pieces.{items_more}
+use Rattle.views.specs.NetList.{line_of, net_line, nets_text}
 use Rattle.store_rows.specs.Listed.{AreListed, AreShown}
 use Rattle.store_rows.specs.NetIn.{IsNetAt, IsRestAt, RestRows, rest_of}
 use Rattle.store_rows.specs.Rows.{IsFrozenRow, IsNetRow, IsRowOf, numbered}

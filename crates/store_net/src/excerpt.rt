@@ -8,7 +8,7 @@ ghost use Rattle.office_rows.specs.Statement.{ChangesNothing, CommitsNothing, Fi
 use crate::message::message_at;
 use crate::parts::{blocks_of, head_of};
 use catalogue::{Items, Name};
-use office_net::Excerpt;
+use office_facts::Excerpt;
 use office_types::{GrantedBlock, Head, LiveMessage, NetName};
 use sqlite::{Alter, Error, Transaction};
 use std::alloc::Global;

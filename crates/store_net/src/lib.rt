@@ -10,7 +10,7 @@
 //!
 //! A command on one message reads that message alone ([`message_excerpt_at`]). One that gives out a number reads no
 //! message: of the identifiers of live messages [`ident_excerpt_at`] reads those in the team's blocks, and
-//! [`group_excerpt_at`] those of 29 bits (`heads`, `ranges`). `IsExcerptOf` of `office_net` says what is decided by such
+//! [`group_excerpt_at`] those of 29 bits (`heads`, `ranges`). `IsExcerptOf` of `office_facts` says what is decided by such
 //! an excerpt as by the network.
 //!
 //! Writing: [`write_changes`] writes the rows of a list of changes (`writing`, `change_rows`, `setting`): each removes

@@ -3,14 +3,14 @@ ghost use Rattle.std.specs.Prelude.{◌≡◌, List, Some, length, map, IfOk};
 ghost use Rattle.std.specs.List.{AllByRecursion};
 ghost use Rattle.office_types.specs.declared.state.Net.{Net as Network};
 ghost use Rattle.sqlite.specs.Held.{state};
-ghost use Rattle.net_list.specs.Text.{net_line, nets_text};
+ghost use Rattle.views.specs.NetList.{net_line, nets_text};
 ghost use Rattle.store_rows.specs.Listed.{AreShown};
 ghost use Rattle.store_rows.specs.NetIn.{IsNetAt};
 ghost use Rattle.store_net.specs.Nets.{AreKnownNets, AreNets, IsNamed};
 ghost use Rattle.office_rows.specs.Statement.{ChangesNothing, CommitsNothing, Finds, LeavesNothing, StaysSame};
 
 use crate::parts::head_of;
-use net_list::net_line;
+use views::net_line;
 use office_rows::{select_net_names, select_release_numbers};
 use office_types::NetName;
 use sqlite::types::ValueRef;

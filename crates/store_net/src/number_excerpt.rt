@@ -3,7 +3,7 @@
 //! No message is read.
 ghost use Rattle.std.specs.Prelude.{◌≡◌, ◌++◌, ℕ, List, Option, IfOk};
 ghost use Rattle.std.specs.List.{filter_map, list_any};
-ghost use Rattle.office_net.specs.Excerpt.{IsExcerptOf};
+ghost use Rattle.office_facts.specs.Excerpt.{IsExcerptOf};
 ghost use Rattle.office_rules.specs.Facts.{group_of, is_wanted, number_in, same_ident};
 ghost use Rattle.office_types.specs.declared.command.Action.TheVariants as act;
 ghost use Rattle.office_types.specs.declared.command.Task.TheVariants.{Act};
@@ -17,7 +17,7 @@ use crate::parts::{blocks_of, head_of, held_of};
 use crate::ranges::{live_idents_at, live_inside_at, want_live_at};
 use can_id::{EXTENDED_FLAG, GREATEST_EXTENDED, Ident, IdentForm};
 use catalogue::{Items, Name};
-use office_net::{Excerpt, blocks_of as team_blocks, group_of, has_ident, number_in};
+use office_facts::{Excerpt, blocks_of as team_blocks, group_of, has_ident, number_in};
 use office_types::{BlockForm, NetName, TakeIdent, TakePgn, Team};
 use sqlite::{Alter, Error, Transaction};
 use std::alloc::{AllocError, Global};

@@ -10,7 +10,7 @@ ghost use Rattle.office_rows.specs.Statement.{ChangesNothing, CommitsNothing, Fi
 
 use can_id::{EXTENDED_FLAG, Ident, IdentForm};
 use catalogue::Items;
-use office_net::has_ident;
+use office_facts::has_ident;
 use office_rows::select_msg_numbers;
 use office_types::{Block, NetName};
 use sqlite::{Alter, Error, Transaction};

@@ -1,14 +1,13 @@
 //! Looks at the list of networks, and at every network, live message and release.
 use crate::expecting::Expected;
 use catalogue::{Copying, Message, Name, Sheet, SheetCode};
-use chart::{message_chart, table_of};
 use dbc_write::text_of;
-use net_list::net_line;
-use office_types::{FrozenSheet, Net, NetName};
+use office_types::{FrozenSheet, Look, Net, NetName};
 use sqlite::Alter;
 use std::alloc::{AllocError, Global};
 use std::io::{self, ErrorKind};
-use store::{Office, Question};
+use store::Office;
+use views::{message_chart, net_line, table_of};
 
 /// Adds a copy of the message to the sheet.
 fn add(alloc: Global, sheet: &mut Sheet, message: &Message) -> io::Result<()> {
@@ -43,7 +42,7 @@ fn release_text(alloc: Global, release: &FrozenSheet) -> io::Result<Vec<u8>> {
 fn shows<S: Alter>(
     alloc: Global,
     office: &mut Office<S>,
-    question: &Question,
+    question: &Look,
     text: Option<&[u8]>,
 ) -> bool {
     match office.look(alloc, question) {
@@ -62,13 +61,13 @@ fn charts_are_seen<S: Alter>(alloc: Global, office: &mut Office<S>, net: &Net) -
     for live in net.live.as_slice().iter().take(CHARTS) {
         let chart = message_chart(alloc, &live.message)?;
         let name = live.message.name.duplicate(alloc)?;
-        let question = Question::Chart(net.name.duplicate(alloc)?, name);
+        let question = Look::Chart(net.name.duplicate(alloc)?, name);
         right = shows(alloc, office, &question, Some(&chart)) && right;
     }
     let Some(absent) = Name::of(alloc, b"NoMessageOfThisName")? else {
         return Err(ErrorKind::InvalidData)?;
     };
-    let question = Question::Chart(net.name.duplicate(alloc)?, absent);
+    let question = Look::Chart(net.name.duplicate(alloc)?, absent);
     Ok(shows(alloc, office, &question, None) && right)
 }
 
@@ -77,9 +76,9 @@ fn live_is_seen<S: Alter>(alloc: Global, office: &mut Office<S>, net: &Net) -> i
     let sheet = live_sheet(alloc, net)?;
     let text = text_of(alloc, &sheet)?;
     let table = table_of(alloc, &sheet)?;
-    let live = Question::Live(net.name.duplicate(alloc)?);
+    let live = Look::Live(net.name.duplicate(alloc)?);
     let right = shows(alloc, office, &live, Some(&text));
-    let question = Question::Table(net.name.duplicate(alloc)?);
+    let question = Look::Table(net.name.duplicate(alloc)?);
     Ok(shows(alloc, office, &question, Some(&table)) && right)
 }
 
@@ -93,11 +92,11 @@ fn releases_are_seen<S: Alter>(
     let mut number = 1u32;
     for release in net.releases.as_slice() {
         let text = release_text(alloc, release)?;
-        let question = Question::Release(net.name.duplicate(alloc)?, number);
+        let question = Look::Release(net.name.duplicate(alloc)?, number);
         right = shows(alloc, office, &question, Some(&text)) && right;
         number = number.saturating_add(1);
     }
-    let next = Question::Release(net.name.duplicate(alloc)?, number);
+    let next = Look::Release(net.name.duplicate(alloc)?, number);
     Ok(shows(alloc, office, &next, None) && right)
 }
 
@@ -112,7 +111,7 @@ fn list_is_seen<S: Alter>(
         let line = net_line(alloc, &net.name, &net.head, net.releases.as_slice().len())?;
         list.extend_from_slice(&line)?;
     }
-    Ok(shows(alloc, office, &Question::Nets, Some(&list)))
+    Ok(shows(alloc, office, &Look::Nets, Some(&list)))
 }
 
 /// Whether nothing is seen of a network that isn't there.
@@ -120,9 +119,9 @@ fn nothing_is_seen<S: Alter>(alloc: Global, office: &mut Office<S>) -> io::Resul
     let Some(absent) = NetName::of(alloc, b"there-is-no-network-of-this-name")? else {
         return Err(ErrorKind::InvalidData)?;
     };
-    let live = Question::Live(absent.duplicate(alloc)?);
+    let live = Look::Live(absent.duplicate(alloc)?);
     let right = shows(alloc, office, &live, None);
-    Ok(shows(alloc, office, &Question::Table(absent), None) && right)
+    Ok(shows(alloc, office, &Look::Table(absent), None) && right)
 }
 
 /// Whether the list of networks is seen, each live sheet with its table and charts, and each release; and nothing of what

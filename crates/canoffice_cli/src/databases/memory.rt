@@ -14,10 +14,11 @@ use crate::migrating::migrate_on;
 use crate::progress::Progress;
 use crate::serving::ServeEnd;
 use office_history::Arrival;
+use office_types::Look;
 use sqlite::{Connection, MemStore};
 use std::alloc::{AllocError, Global};
 use std::io::Write;
-use store::{Lost, Question};
+use store::Lost;
 
 /// One database in memory, which is found under any path.
 #[derive(Drop)]
@@ -73,7 +74,7 @@ impl Databases for MemoryDatabase {
         &mut self,
         alloc: Global,
         _path: &str,
-        question: &Question,
+        question: &Look,
     ) -> Result<Option<Vec<u8>>, Lost> {
         let conn = self.taken()?;
         let (shown, conn) = look_on(alloc, conn, question);

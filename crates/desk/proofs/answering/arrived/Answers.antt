@@ -3,7 +3,7 @@ use Rattle.sqlite.specs.Held.{state}
 use Rattle.desk_types.specs.declared.problem.Problem.TheVariants.{TryAgain}
 use Rattle.desk_call.specs.Call.{arrives, asking_seen}
 use Rattle.desk_reply.specs.Response.{answer_response, problem_response}
-use Rattle.desk.specs.Serving.{MayHaveTaken, Responds}
+use Rattle.desk.specs.Responding.{MayHaveTaken, Responds}
 use Rattle.desk.proofs.Responses.{arrived, follows_lost, may_answered, may_lost, on_err, on_text, try_again}
 use Rattle.desk.proofs.answering.arrived.Goals as goal
 

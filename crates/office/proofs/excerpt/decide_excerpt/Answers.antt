@@ -2,13 +2,13 @@ use Rattle.std.proofs.Common.{◌≡◌, ◌∙◌, Some, ap, sym, subst}
 use Rattle.std.proofs.lemmas.Result.{IfOk-weaker}
 use Rattle.office_types.specs.declared.command.Action.TheVariants.{TakeIdent, TakePgn, TakeSpn, TakeBits, SetValues, RemoveSignal}
 use Rattle.office_types.specs.declared.command.Task.TheVariants.{Act}
-use Rattle.office_net.specs.Excerpt.{HasNumbers, excerpt_numbers, named_message}
+use Rattle.office_facts.specs.Excerpt.{HasNumbers, excerpt_numbers, named_message}
 use Rattle.office_law.specs.Apart.{asks_book}
 use Rattle.office_rules.specs.Change.{Decides}
 use Rattle.office_rules.specs.Signals.{take_spn}
 use Rattle.office_rules.specs.Numbers.{take_ident, take_pgn}
-use Rattle.office_net.specs.By.{take_ident_by, take_pgn_by}
-use Rattle.office_take.specs.Reported.{number_facts_of}
+use Rattle.office_facts.specs.By.{take_ident_by, take_pgn_by}
+use Rattle.office_take.specs.FactsOf.{number_facts_of}
 use Rattle.office_take.proofs.Inside.{group_inside, ident_inside}
 use Rattle.office.proofs.Excerpts.{by_action, facts_are}
 use Rattle.office.proofs.excerpt.decide_excerpt.Goals as goal

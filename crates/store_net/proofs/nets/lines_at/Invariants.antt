@@ -5,7 +5,7 @@ use Rattle.sqlite.specs.Held.{state}
 use Rattle.sqlite.specs.State.{HasCleanDisk, IsUnchanged, KeepsCommit, Survives}
 use Rattle.office_types.specs.declared.state.Net.{Net}
 use Rattle.office_tables.specs.Tables.{IsOffice, tables_of}
-use Rattle.net_list.specs.Text.{nets_text}
+use Rattle.views.specs.NetList.{nets_text}
 use Rattle.store_rows.specs.NetIn.{IsNetAt}
 use Rattle.store_net.proofs.nets.lines_at.Given as goal
 

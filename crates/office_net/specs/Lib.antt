@@ -1,3 +1,0 @@
-pub mod Reported
-pub mod Excerpt
-pub mod By

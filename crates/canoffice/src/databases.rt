@@ -13,8 +13,8 @@ use std::alloc::{AllocError, Global};
 use std::io::Write;
 use store::{Look, Lost, Office};
 
-/// The machine's database files, as SQLite has them. Nothing is known of them, since no contract speaks of the machine's
-/// disk.
+/// The machine's database files, as SQLite has them. Nothing is known of them, since no contract speaks of the
+/// machine's disk.
 #[derive(Clone, Copy)]
 pub struct HostDatabases<'r> {
     /// The runtime.

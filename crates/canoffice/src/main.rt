@@ -1,5 +1,5 @@
-//! The program `canoffice`: the words of its command line, the machine's files and databases, and the two streams, given to
-//! the program's library.
+//! The program `canoffice`: the words of its command line, the machine's files and databases, and the two streams,
+//! given to the program's library.
 #![tactic(auto)]
 
 mod databases;

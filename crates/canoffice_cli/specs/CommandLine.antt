@@ -164,7 +164,8 @@ IsFaultOfKind kind (Help text) = (kind ≡ DisplayHelp) ⊎ (kind ≡ DisplayVer
 IsFaultOfKind kind (Usage text) = (kind ≢ DisplayHelp) × (kind ≢ DisplayVersion) × (kind ≢ OutOfMemory)
 IsFaultOfKind kind Memory = Unit {0}
 
--- of the subcommand with these arguments, the word for a number gives none in its range; the port is looked at before the count
+-- of the subcommand with these arguments, the word for a number gives none in its range; the port is looked at before
+-- the count
 abbrev pub IsWrongNumber : Text → List Row → Text → Type 0
 IsWrongNumber name rows word =
     ((name ≡ codes "chart") × HasValue rows (codes "LENGTH") word × (length_of word ≡ None))
@@ -173,7 +174,8 @@ IsWrongNumber name rows word =
     ⊎ ((name ≡ codes "serve") × HasValue rows (codes "count") word × (count_given (Some word) ≡ None)
     × (port : ℕ) × (port_given (first_of (codes "port") rows) ≡ Some port))
 
--- the subcommand with these arguments makes no job: a word is a wrong number, or there was no memory for a chart's signals
+-- the subcommand with these arguments makes no job: a word is a wrong number, or there was no memory for a chart's
+-- signals
 abbrev pub IsValueFault : Text → List Row → ValueFault → Type 0
 IsValueFault name rows (value.WrongNumber number word) = IsWrongNumber name rows word.now
 IsValueFault name rows value.Memory = name ≡ codes "chart"
@@ -186,7 +188,8 @@ abbrev pub HasWrongNumber : List Text → Text → Type 0
 HasWrongNumber words word =
     (line_faults words ≡ []) × (name : Text) × (rows : List Row) × (subcommand_of canoffice_app words ≡ Some (name, rows)) × IsWrongNumber name rows word
 
--- the words ask for help, or for the version; or they have a fault of another kind, or a wrong number; or memory ran out
+-- the words ask for help, or for the version; or they have a fault of another kind, or a wrong number; or memory ran
+-- out
 abbrev pub IsLineFault : List Text → LineFault → Type 0
 IsLineFault words (Help text) = IsAmong DisplayHelp (line_faults words) ⊎ IsAmong DisplayVersion (line_faults words)
 IsLineFault words (Usage text) =

@@ -17,7 +17,8 @@ use Rattle.canoffice_cli.specs.Outcome.{Outcome, and_errors}
 use Rattle.canoffice_cli.specs.declared.file_jobs.FileTask.{FileTask}
 use Rattle.canoffice_cli.specs.declared.file_jobs.FileTask.TheVariants as task
 
--- what is stated of a DBC text whose canonical text is printed: what its sheet leaves out, or its faults if it reads as none
+-- what is stated of a DBC text whose canonical text is printed: what its sheet leaves out, or its faults if it reads as
+-- none
 abbrev pub IsStatedOfFormat : List ℕ → List ℕ → List ℕ → Type 0
 IsStatedOfFormat name bytes stated =
     (ReadsAsNothing bytes × IsExplained name bytes stated)
@@ -28,8 +29,8 @@ abbrev pub dash_of : Option (Bor (List ℕ)) → Dash
 dash_of None = LineNumber
 dash_of (Some path) = Wrong
 
--- What is stated of the file of this name with these bytes. Of a script that is its first wrong line, whatever can't be read
--- before it, or the first wrong line of a bundle's file.
+-- What is stated of the file of this name with these bytes. Of a script that is its first wrong line, whatever can't be
+-- read before it, or the first wrong line of a bundle's file.
 abbrev pub IsStated : Files → FileTask → List ℕ → List ℕ → List ℕ → Type 0
 IsStated files (task.Apply database) name bytes stated = IsStatedOf files name (dash_of database) 1 (lines_of bytes) stated
 IsStated files task.Check name bytes stated = IsExplained name bytes stated

@@ -25,8 +25,8 @@ shown_outcome (Ok (Some text)) = success text
 shown_outcome (Ok None) = not_found
 shown_outcome (Err lost) = answers_outcome [] (Some lost)
 
--- The office in the database of the path looked the question up, and this is what it showed, unless that was lost. The tables
--- hold what they held.
+-- The office in the database of the path looked the question up, and this is what it showed, unless that was lost. The
+-- tables hold what they held.
 pub record IsLookedUp (before after : Databases) (path : List ℕ) (question : Look) (shown : Result (Option (List ℕ)) Lost) : Type 0 where
   pub of_held : (h : List Answered) (office : Office) → before.holds path h → IsLegal h office → after.is_sound → IfOk shown (IsShown office question)
   pub of_new : (office : Office) → before.is_new path → IsLegal [] office → after.is_sound → IfOk shown (IsShown office question)

@@ -1,5 +1,6 @@
 //! Answering arrivals, up to the first that is lost.
-ghost use Rattle.std.specs.Prelude.{◌≡◌, ◌⊎◌, ◌≤◌, ◌++◌, [], List, length, None, Some, false, IsTrue, IsSome, IfOk, IfErr, IsOkAnd, MatchResult, OnErr};
+ghost use Rattle.std.specs.Prelude.{◌≡◌, ◌⊎◌, ◌≤◌, ◌++◌, [], List, length, None, Some, false, IsTrue, IsSome, IfOk};
+ghost use Rattle.std.specs.Prelude.{IfErr, IsOkAnd, MatchResult, OnErr};
 ghost use Rattle.sqlite.specs.Held.{state};
 ghost use Rattle.sqlite.specs.State.{HasCleanDisk};
 ghost use Rattle.sqlite_trees.specs.View.{doubt};
@@ -41,9 +42,13 @@ pub fn nothing_answered(alloc: Global, lost: Lost) -> Answers
 /// An office on the connection, as it is there, or a new one. If opening it is lost, the connection is given back.
 pub(crate) fn office_on<S: Alter>(conn: Connection<S>) -> Result<Office<S>, (Lost, Connection<S>)>
     requires { (state S.Store conn).in_transaction ≡ false }
-    ensures clean { MatchResult result (λ office. doubt (state S.Store conn).is_clean ≤ doubt (state S.Store office.conn).is_clean) (λ lost. doubt (state S.Store conn).is_clean ≤ doubt (state S.Store lost.1).is_clean) }
-    ensures begun { IfOk result (λ office. HasCleanDisk (state S.Store office.conn) → (h : List Answered) → Begins h (state S.Store conn) → Holding h (state S.Store office.conn)) }
-    ensures held { IfErr result (λ lost. HasCleanDisk (state S.Store lost.1) → IsTrue (state S.Store lost.1).is_open → (h : List Answered) → Holding h (state S.Store conn) → Holding h (state S.Store lost.1)) }
+    ensures clean { MatchResult result (λ office. doubt (state S.Store conn).is_clean ≤ doubt
+        (state S.Store office.conn).is_clean) (λ lost. doubt (state S.Store conn).is_clean ≤ doubt
+        (state S.Store lost.1).is_clean) }
+    ensures begun { IfOk result (λ office. HasCleanDisk (state S.Store office.conn) → (h : List Answered)
+        → Begins h (state S.Store conn) → Holding h (state S.Store office.conn)) }
+    ensures held { IfErr result (λ lost. HasCleanDisk (state S.Store lost.1) → IsTrue (state S.Store lost.1).is_open
+        → (h : List Answered) → Holding h (state S.Store conn) → Holding h (state S.Store lost.1)) }
 {
     let _settled_before = conn.is_autocommit();
     match Office::open(conn) {
@@ -67,9 +72,12 @@ fn answer_all<S: Alter, W: Write>(
     ensures clean { doubt (state S.Store office.old.conn).is_clean ≤ doubt (state S.Store office.new.conn).is_clean }
     ensures some { IfOk result (λ reported. length reported.answers.items ≤ length arrivals.now) }
     ensures all { IfOk result (λ reported. reported.lost ≡ None → length reported.answers.items ≡ length arrivals.now) }
-    ensures held { HasCleanDisk (state S.Store office.new.conn) → IsTrue (state S.Store office.new.conn).is_open → (h : List Answered) → Holding h (state S.Store office.old.conn)
-        → IfOk result (λ reported. Holding (h ++ answered_with arrivals.now reported.answers.items) (state S.Store office.new.conn)) }
-    ensures legal { HasCleanDisk (state S.Store office.new.conn) → (h : List Answered) → Holding h (state S.Store office.old.conn)
+    ensures held { HasCleanDisk (state S.Store office.new.conn) → IsTrue (state S.Store office.new.conn).is_open
+        → (h : List Answered) → Holding h (state S.Store office.old.conn)
+        → IfOk result (λ reported. Holding (h ++ answered_with arrivals.now reported.answers.items)
+        (state S.Store office.new.conn)) }
+    ensures legal { HasCleanDisk (state S.Store office.new.conn) → (h : List Answered)
+        → Holding h (state S.Store office.old.conn)
         → IfOk result (λ reported. IsLegalHistory (h ++ answered_with arrivals.now reported.answers.items)) }
     ensures err { OnErr result (office.new ≡ office.old) }
 {
@@ -93,9 +101,9 @@ fn answer_all<S: Alter, W: Write>(
     })
 }
 
-/// Answers the arrivals in turn by the office on the connection, up to the first that is lost, and gives the connection back.
-/// A new office is made where the connection has no table. It is shown how far the script of the arrivals is. The error is out
-/// of memory for the answers: then nothing arrived.
+/// Answers the arrivals in turn by the office on the connection, up to the first that is lost, and gives the connection
+/// back. A new office is made where the connection has no table. It is shown how far the script of the arrivals is. The
+/// error is out of memory for the answers: then nothing arrived.
 pub fn answer_on<S: Alter + Drop, W: Write>(
     alloc: Global,
     conn: Connection<S>,
@@ -106,11 +114,16 @@ pub fn answer_on<S: Alter + Drop, W: Write>(
     requires { (state S.Store conn).in_transaction ≡ false }
     ensures clean { doubt (state S.Store conn).is_clean ≤ doubt (state S.Store result.1).is_clean }
     ensures some { IfOk result.0 (λ reported. length reported.answers.items ≤ length arrivals.now) }
-    ensures all { IfOk result.0 (λ reported. reported.lost ≡ None → length reported.answers.items ≡ length arrivals.now) }
-    ensures held { HasCleanDisk (state S.Store result.1) → IsTrue (state S.Store result.1).is_open → (h : List Answered) → Holding h (state S.Store conn)
-        → IfOk result.0 (λ reported. Holding (h ++ answered_with arrivals.now reported.answers.items) (state S.Store result.1)) }
-    ensures begun { HasCleanDisk (state S.Store result.1) → IsTrue (state S.Store result.1).is_open → (h : List Answered) → Begins h (state S.Store conn)
-        → IfOk result.0 (λ reported. Holding (h ++ answered_with arrivals.now reported.answers.items) (state S.Store result.1) ⊎ (IsSome reported.lost × (reported.answers.items ≡ []))) }
+    ensures all { IfOk result.0 (λ reported. reported.lost ≡ None
+        → length reported.answers.items ≡ length arrivals.now) }
+    ensures held { HasCleanDisk (state S.Store result.1) → IsTrue (state S.Store result.1).is_open
+        → (h : List Answered) → Holding h (state S.Store conn)
+        → IfOk result.0 (λ reported. Holding (h ++ answered_with arrivals.now reported.answers.items)
+        (state S.Store result.1)) }
+    ensures begun { HasCleanDisk (state S.Store result.1) → IsTrue (state S.Store result.1).is_open
+        → (h : List Answered) → Begins h (state S.Store conn)
+        → IfOk result.0 (λ reported. Holding (h ++ answered_with arrivals.now reported.answers.items)
+        (state S.Store result.1) ⊎ (IsSome reported.lost × (reported.answers.items ≡ []))) }
     ensures legal { HasCleanDisk (state S.Store result.1) → (h : List Answered) → Begins h (state S.Store conn)
         → IfOk result.0 (λ reported. IsLegalHistory (h ++ answered_with arrivals.now reported.answers.items)) }
 {
@@ -124,8 +137,8 @@ pub fn answer_on<S: Alter + Drop, W: Write>(
     }
 }
 
-/// Answers the arrivals in turn by a new office in memory, up to one for which memory runs out, which is lost. The error is out
-/// of memory for the answers.
+/// Answers the arrivals in turn by a new office in memory, up to one for which memory runs out, which is lost. The
+/// error is out of memory for the answers.
 pub(crate) fn answer_in_memory<W: Write>(
     alloc: Global,
     script: &[u8],
@@ -134,7 +147,8 @@ pub(crate) fn answer_in_memory<W: Write>(
 ) -> Result<Answers, AllocError>
     ensures some { IfOk result (λ reported. length reported.answers.items ≤ length arrivals.now) }
     ensures all { IfOk result (λ reported. reported.lost ≡ None → length reported.answers.items ≡ length arrivals.now) }
-    ensures goes_on { IfOk result (λ reported. InMemory (answered_with arrivals.now reported.answers.items) reported.lost) }
+    ensures goes_on { IfOk result (λ reported. InMemory
+        (answered_with arrivals.now reported.answers.items) reported.lost) }
 {
     let mut answers = Vec::with_capacity(alloc, arrivals.len())?;
     let mut office = KeyedOffice::new(alloc);

@@ -2,7 +2,10 @@
 ghost use Rattle.std.specs.Prelude.{◌≡◌, IfOk, codes, false};
 ghost use Rattle.clap.specs.Words.{app_of, new_app, rule_of};
 ghost use Rattle.clap.specs.declared.builder.command.Command.TheViews.{out-Command as fields_of};
-ghost use Rattle.canoffice_cli.specs.CommandLine.{apply_app, canoffice_app, chart_app, check_app, explain_flag, export_app, format_app, migrate_app, option_word, required_option, required_word, required_words, serve_app, table_app, wants_subcommand, with_version};
+ghost use Rattle.canoffice_cli.specs.CommandLine.{apply_app, canoffice_app, chart_app, check_app, explain_flag};
+ghost use Rattle.canoffice_cli.specs.CommandLine.{export_app, format_app, migrate_app, option_word, required_option};
+ghost use Rattle.canoffice_cli.specs.CommandLine.{required_word, required_words, serve_app, table_app};
+ghost use Rattle.canoffice_cli.specs.CommandLine.{wants_subcommand, with_version};
 
 use clap::{Arg, ArgAction, Command};
 use std::alloc::{AllocError, Global};

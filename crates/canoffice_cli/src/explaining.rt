@@ -39,7 +39,8 @@ pub(crate) fn stated<F: FileSource>(
     source: Source,
     files: &F,
 ) -> Result<Vec<u8>, AllocError>
-    ensures { IfOk result (λ stated. IsStated (F.held files.now) task.entry source.entry.name.now source.entry.text.now stated.items) }
+    ensures { IfOk result
+        (λ stated. IsStated (F.held files.now) task.entry source.entry.name.now source.entry.text.now stated.items) }
 {
     match task {
         FileTask::Check => explained(alloc, source),

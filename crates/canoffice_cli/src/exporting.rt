@@ -40,7 +40,8 @@ fn not_found(alloc: Global) -> Result<Report, AllocError>
 
 /// The report on what was shown.
 fn shown_report(alloc: Global, shown: Result<Option<Vec<u8>>, Lost>) -> Result<Report, AllocError>
-    ensures { IfOk result (λ report. outcome_of report ≡ shown_outcome (result_map_both (option_map (λ text. text.items)) (λ lost. lost) shown)) }
+    ensures { IfOk result (λ report. outcome_of report
+        ≡ shown_outcome (result_map_both (option_map (λ text. text.items)) (λ lost. lost) shown)) }
 {
     match shown {
         Ok(Some(text)) => Ok(Report::of_output(alloc, text, Status::Success)),
@@ -58,10 +59,13 @@ pub fn look_on<S: Alter + Drop>(
 ) -> (Result<Option<Vec<u8>>, Lost>, Connection<S>)
     requires { (state S.Store conn).in_transaction ≡ false }
     ensures clean { doubt (state S.Store conn).is_clean ≤ doubt (state S.Store result.1).is_clean }
-    ensures shown { HasCleanDisk (state S.Store result.1) → (h : List Answered) → (office : Whole) → Begins h (state S.Store conn) → IsLegal h office
+    ensures shown { HasCleanDisk (state S.Store result.1) → (h : List Answered) → (office : Whole)
+        → Begins h (state S.Store conn) → IsLegal h office
         → IfOk result.0 (λ text. IsShown office question.now (option_map (λ bytes. bytes.items) text)) }
-    ensures held { HasCleanDisk (state S.Store result.1) → IsTrue (state S.Store result.1).is_open → (h : List Answered) → Holding h (state S.Store conn) → Holding h (state S.Store result.1) }
-    ensures begun { HasCleanDisk (state S.Store result.1) → (h : List Answered) → Begins h (state S.Store conn) → OnOk result.0 (Holding h (state S.Store result.1)) }
+    ensures held { HasCleanDisk (state S.Store result.1) → IsTrue (state S.Store result.1).is_open
+        → (h : List Answered) → Holding h (state S.Store conn) → Holding h (state S.Store result.1) }
+    ensures begun { HasCleanDisk (state S.Store result.1) → (h : List Answered) → Begins h (state S.Store conn)
+        → OnOk result.0 (Holding h (state S.Store result.1)) }
 {
     match office_on(conn) {
         Ok(mut office) => {
@@ -72,9 +76,9 @@ pub fn look_on<S: Alter + Drop>(
     }
 }
 
-/// Prints the release of the network with this number, or for 0 its live sheet, as the office in the database of the path
-/// has it, or that there is no such sheet. There is none where NET has no network name's form, and the database isn't opened
-/// then. The error is out of memory for the report.
+/// Prints the release of the network with this number, or for 0 its live sheet, as the office in the database of the
+/// path has it, or that there is no such sheet. There is none where NET has no network name's form, and the database
+/// isn't opened then. The error is out of memory for the report.
 pub fn export_report<D: Databases>(
     alloc: Global,
     databases: &mut D,
@@ -82,7 +86,8 @@ pub fn export_report<D: Databases>(
     net: &str,
     number: u32,
 ) -> Result<Report, AllocError>
-    ensures { IfOk result (λ report. IsExportOutcome (D.known databases.old) (D.known databases.new) path.now net.now number (outcome_of report)) }
+    ensures { IfOk result (λ report. IsExportOutcome (D.known databases.old)
+        (D.known databases.new) path.now net.now number (outcome_of report)) }
 {
     match NetName::of(alloc, net.as_bytes())? {
         None => not_found(alloc),

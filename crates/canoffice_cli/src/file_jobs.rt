@@ -73,7 +73,8 @@ pub(crate) fn file_report<F: FileSource + StandardInput, D: Databases, W: Write>
     databases: &mut D,
     progress: &mut Progress<W>,
 ) -> Result<Report, AllocError>
-    ensures { IfOk result (λ report. IsFileOutcome (F.held files.now) (F.given files.now) (D.known databases.old) (D.known databases.new) job.entry (outcome_of report)) }
+    ensures { IfOk result (λ report. IsFileOutcome (F.held files.now) (F.given files.now) (D.known databases.old)
+        (D.known databases.new) job.entry (outcome_of report)) }
 {
     match bytes_at(alloc, files, job.path) {
         Ok(bytes) => bytes_report(alloc, job, &bytes, files, databases, progress),
@@ -90,7 +91,8 @@ fn bytes_report<F: FileSource, D: Databases, W: Write>(
     databases: &mut D,
     progress: &mut Progress<W>,
 ) -> Result<Report, AllocError>
-    ensures { IfOk result (λ report. IsOfBytes (F.held files.now) (D.known databases.old) (D.known databases.new) job.entry bytes.now (outcome_of report)) }
+    ensures { IfOk result (λ report. IsOfBytes (F.held files.now) (D.known databases.old)
+        (D.known databases.new) job.entry bytes.now (outcome_of report)) }
 {
     if job.explain {
         let source = Source {
@@ -115,7 +117,8 @@ fn task_report<F: FileSource, D: Databases, W: Write>(
     databases: &mut D,
     progress: &mut Progress<W>,
 ) -> Result<Report, AllocError>
-    ensures { IfOk result (λ report. ComesTo (F.held files.now) (D.known databases.old) (D.known databases.new) task.entry bytes.now (outcome_of report)) }
+    ensures { IfOk result (λ report. ComesTo (F.held files.now) (D.known databases.old)
+        (D.known databases.new) task.entry bytes.now (outcome_of report)) }
 {
     match task {
         FileTask::Apply(database) => {

@@ -1,7 +1,8 @@
 //! The job that the words of the command line ask for.
 ghost use Rattle.std.specs.Prelude.{◌≡◌, IfOk, IfErr, map, codes};
 ghost use Rattle.clap.specs.Words.{found_of, kind_of, rows_of, subcommand_rows_of};
-ghost use Rattle.canoffice_cli.specs.CommandLine.{HasSome, IsEntered, IsJob, IsJobIn, IsJobOf, IsFaultOfKind, IsLineFault, IsValueFault, IsValueFaultIn, is_set};
+ghost use Rattle.canoffice_cli.specs.CommandLine.{HasSome, IsEntered, IsJob, IsJobIn, IsJobOf, IsFaultOfKind};
+ghost use Rattle.canoffice_cli.specs.CommandLine.{IsLineFault, IsValueFault, IsValueFaultIn, is_set};
 
 use crate::command_line::canoffice_command;
 use crate::numbers::{Number, count_given, length_given, port_given, release_number};
@@ -160,8 +161,8 @@ fn line_fault(alloc: Global, error: &Error) -> LineFault
 }
 
 /// The job of the subcommand that was entered, which is one of the program's, with all its required arguments, or the
-/// first word that gives no number in its range. Only the list of a chart's signals takes memory, so no other subcommand
-/// can end as out of memory here.
+/// first word that gives no number in its range. Only the list of a chart's signals takes memory, so no other
+/// subcommand can end as out of memory here.
 #[tactic(auto, using(crate::proofs::CommandLine::found_pair))]
 fn job_in<'a>(alloc: Global, matches: &ArgMatches<'a>) -> Result<Job<'a>, ValueFault<'a>>
     requires { IsEntered (subcommand_rows_of matches.now) }

@@ -2,18 +2,18 @@
 //!
 //! - `command_line` describes the subcommands and their arguments for clap; with it `job` turns the words into a `Job`
 //!   or a `LineFault`. `numbers` has the ranges of the numbers that words give.
-//! - `files` reads files and standard input: those of the machine, or those of a list in memory. `databases` has the offices
-//!   in databases, of which one in memory is here; those of the machine are in the program itself.
-//! - `apply`, `exporting`, `migrating`, `serving`, `charting`, `checking`, `formatting` and `tabling` do the jobs. `answering` answers
-//!   the arrivals of a script, by an office in memory or on a connection to a database, `progress` shows how far it is,
-//!   and `room` is taken before for what is printed after.
+//! - `files` reads files and standard input: those of the machine, or those of a list in memory. `databases` has the
+//!   offices in databases, of which one in memory is here; those of the machine are in the program itself.
+//! - `apply`, `exporting`, `migrating`, `serving`, `charting`, `checking`, `formatting` and `tabling` do the jobs.
+//!   `answering` answers the arrivals of a script, by an office in memory or on a connection to a database, `progress`
+//!   shows how far it is, and `room` is taken before for what is printed after.
 //! - `file_jobs` does the jobs that read a file, and `explaining` says what `--explain` adds to them.
 //! - `report` is the result of a run: bytes for standard output and standard error, and a `Status`.
 //! - `delivery` writes a report to the two streams.
 //! - `program` joins them: `perform` is a whole run.
 //!
-//! The definitions in `specs/` describe the same in terms of bytes and of the histories that databases hold: `IsPerformed`
-//! is a whole run.
+//! The definitions in `specs/` describe the same in terms of bytes and of the histories that databases hold:
+//! `IsPerformed` is a whole run.
 #![tactic(auto)]
 
 mod answering;

@@ -4,12 +4,13 @@
 //! number with their [`Signal`]s. An invalid sheet can't be built, since each part keeps its form by its own type
 //! ([`sheets_are_well_formed`]); a call that would break a rule returns a [`SheetFault`] and changes nothing.
 //! [`Sheet::is_clear`] checks whether the signals of each message fit together in its payload. `==` of messages is
-//! equality ([`same_messages_are_equal`]). What a DBC text is, and which sheet it reads as, is defined in `dbc_grammar`.
+//! equality ([`same_messages_are_equal`]). What a DBC text is, and which sheet it reads as, is defined in
+//! `dbc_grammar`.
 //!
 //! Sheets and grammar use the words that DBC text reserves ([`Keyword`]), names ([`Name`]), texts ([`Text`]), whole
 //! numbers ([`whole_number`]), and multiplexer indicators ([`mux_of_indicator`]). Every layer above uses [`Checked`],
-//! bytes that follow a [`Rule`]; [`Items`], a vector that contracts see as a list; [`Copying`], copies of values that own
-//! memory; [`Keyed`] with [`put_item`], lists in the order of a key; and [`split_once`]. The limits of a sheet are
+//! bytes that follow a [`Rule`]; [`Items`], a vector that contracts see as a list; [`Copying`], copies of values that
+//! own memory; [`Keyed`] with [`put_item`], lists in the order of a key; and [`split_once`]. The limits of a sheet are
 //! constants, such as [`MESSAGE_LIMIT`].
 #![tactic(auto)]
 

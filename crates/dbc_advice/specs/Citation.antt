@@ -19,7 +19,8 @@ use Rattle.dbc_grammar.specs.declared.token.TokenKind.TheVariants.{Number}
 use Rattle.dbc_advice.specs.declared.citation.Citation.{Citation}
 use Rattle.dbc_advice.specs.declared.citation.Citation.TheVariants as citing
 
--- what is cited: a node by its name, a message by the digits of its number, or a signal by those of its message and its name
+-- what is cited: a node by its name, a message by the digits of its number, or a signal by those of its message and its
+-- name
 pub data Cited : Type 0 where
   OfNode : List ℕ → Cited
   OfMessage : List ℕ → Cited

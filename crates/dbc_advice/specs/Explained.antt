@@ -16,8 +16,8 @@ use Rattle.dbc_advice.specs.declared.telling.Ending.TheVariants.{Reads, Many, Lo
 use Rattle.dbc_advice.specs.declared.telling.Telling.{Telling}
 use Rattle.dbc_advice.specs.declared.telling.Reported.{Reported}
 
--- The line of a fault: at its offset in the file, with its code, and its sentence: for what is found there, for what may be
--- there, and for the keyword of the statement that begins with its lines.
+-- The line of a fault: at its offset in the file, with its code, and its sentence: for what is found there, for what
+-- may be there, and for the keyword of the statement that begins with its lines.
 pub record IsFaultLine (file text : List ℕ) (t : Reported) (line : List ℕ) : Type 0 where
   pub found : Found
   pub is_found : IsFound text (lexed (min t.fault.at (length text)) (drop (min t.fault.at (length text)) text)) found

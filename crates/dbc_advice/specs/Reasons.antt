@@ -50,8 +50,8 @@ reasons_at bytes places p =
 abbrev pub reasons_from : ℕ → List Place → ℕ → List Reason
 reasons_from bytes places n = flat_map (reasons_at bytes places) (enumerate_from n (drop n places))
 
--- With those of the places that weren't looked at they are all reasons; and so many places were looked at that all were,
--- or that there are more reasons than are reported.
+-- With those of the places that weren't looked at they are all reasons; and so many places were looked at that all
+-- were, or that there are more reasons than are reported.
 pub record AreReasons (bytes : ℕ) (places : List Place) (reasons : List Reason) : Type 0 where
   pub looked_at : ℕ
   pub are : reasons ++ reasons_from bytes places looked_at ≡ reasons_from bytes places 0

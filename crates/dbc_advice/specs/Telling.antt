@@ -50,8 +50,8 @@ pub record IsUnchanged (source : List ℕ) (reported : List Reported) (left : Li
   pub fault : IsReported left last
   pub blank : IsBlankUpTo left last.fault.at
 
--- Why no more are reported, of a text and after these: what is left reads as a sheet; enough are reported; the text would be read
--- again for more bytes than that; or blanking changes nothing more.
+-- Why no more are reported, of a text and after these: what is left reads as a sheet; enough are reported; the text
+-- would be read again for more bytes than that; or blanking changes nothing more.
 abbrev pub EndsBy : List ℕ → List Reported → List ℕ → Ending → Type 0
 EndsBy source reported left (Reads reading) = ReadsAs left reading.sheet (map start_and_keyword reading.passed)
 EndsBy source reported left Many = length reported ≡ FAULTS_REPORTED

@@ -21,8 +21,8 @@ GivesToken old None new = old ≡ []
 abbrev pub BeginsWith : List Token → List ℕ → Type 0
 BeginsWith tokens bytes = (t : Token) × (rest : List Token) × (tokens ≡ t ∷ rest) × (bytes ≡ t.text)
 
--- what is read first from an offset of a text on: its end, a text that no quote closes, a byte with which no token begins,
--- or a token
+-- what is read first from an offset of a text on: its end, a text that no quote closes, a byte with which no token
+-- begins, or a token
 abbrev pub IsFound : List ℕ → Lexed → Found → Type 0
 IsFound text read found.End = read ≡ tokens_without_fault []
 IsFound text read found.Quote = (at : ℕ) × (read ≡ tokens_then_fault [] (UnclosedText at))

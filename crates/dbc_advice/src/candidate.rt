@@ -138,8 +138,8 @@ impl Candidate {
         }
     }
 
-    /// Whether another kind reports this one, so that it need not be reported too: a sign by a number, an indicator by a
-    /// name, most keywords by that of a statement, and all of these by any name.
+    /// Whether another kind reports this one, so that it need not be reported too: a sign by a number, an indicator by
+    /// a name, most keywords by that of a statement, and all of these by any name.
     pub(crate) fn is_reported_by(self, other: Candidate) -> bool {
         match other {
             Candidate::Number => matches!(self, Candidate::Plus | Candidate::Minus),

@@ -4,7 +4,9 @@ ghost use Rattle.catalogue.specs.Named.{has_name};
 ghost use Rattle.catalogue.specs.Sheet.{node_name};
 ghost use Rattle.catalogue.specs.Signals.{signal_name};
 ghost use Rattle.std.specs.Option.{option_copied};
-ghost use Rattle.dbc_advice.specs.Citation.{citation_at, citation_text, cited_by_comment, cited_by_spn, cited_message, cited_node, cited_number, cited_of, cited_signal, cited_text, has_signal, is_missing};
+ghost use Rattle.dbc_advice.specs.Citation.{citation_at, citation_text, cited_by_comment, cited_by_spn};
+ghost use Rattle.dbc_advice.specs.Citation.{cited_message, cited_node, cited_number, cited_of, cited_signal};
+ghost use Rattle.dbc_advice.specs.Citation.{cited_text, has_signal, is_missing};
 ghost use Rattle.dbc_advice.specs.Tokens.{GivesToken};
 
 use crate::joined::{three, two};

@@ -58,7 +58,8 @@ fn clash_line(
     message: &Message,
     reason: Reason,
 ) -> Result<Vec<u8>, AllocError>
-    ensures { IfOk result (λ line. IsClashLine source.entry.name.now source.entry.text.now (message.now, reason) line.items) }
+    ensures { IfOk result (λ line. IsClashLine source.entry.name.now source.entry.text.now
+        (message.now, reason) line.items) }
 {
     let label = clash_label(alloc, reason.clash)?;
     let words = reason_text(alloc, message, reason)?;
@@ -75,7 +76,8 @@ fn clash_lines(
     message: &Message,
     reasons: &[Reason],
 ) -> Result<Vec<u8>, AllocError>
-    ensures { IfOk result (λ lines. AreLinesOf (λ r. IsClashLine source.entry.name.now source.entry.text.now (message.now, r)) reasons.now lines.items) }
+    ensures { IfOk result (λ lines. AreLinesOf (λ r. IsClashLine source.entry.name.now source.entry.text.now
+        (message.now, r)) reasons.now lines.items) }
 {
     let mut lines = Vec::new(alloc);
     for reason in reasons {
@@ -101,7 +103,8 @@ fn cut_lines(
     message: &Message,
     reasons: &[Reason],
 ) -> Result<Vec<u8>, AllocError>
-    ensures { IfOk result (λ out. AreCutLines source.entry.name.now source.entry.text.now message.now reasons.now out.items) }
+    ensures { IfOk result
+        (λ out. AreCutLines source.entry.name.now source.entry.text.now message.now reasons.now out.items) }
 {
     let mut lines = clash_lines(alloc, source, headings, message, reasons)?;
     let more = more_line(alloc, source.name, CLASHES_REPORTED, "clashes")?;
@@ -109,10 +112,11 @@ fn cut_lines(
     Ok(lines)
 }
 
-/// Why messages of the sheet aren't clear: a line for each of the first [`CLASHES_REPORTED`] reasons, and a last one if there
-/// are more. The error is out of memory.
+/// Why messages of the sheet aren't clear: a line for each of the first [`CLASHES_REPORTED`] reasons, and a last one if
+/// there are more. The error is out of memory.
 pub(crate) fn unclear(alloc: Global, source: Source, sheet: &Sheet) -> Result<Vec<u8>, AllocError>
-    ensures { IfOk result (λ out. AreClashLines source.entry.name.now source.entry.text.now sheet.now.messages out.items) }
+    ensures { IfOk result
+        (λ out. AreClashLines source.entry.name.now source.entry.text.now sheet.now.messages out.items) }
 {
     let mut lines = Vec::new(alloc);
     let headings = headings(alloc, source.text)?;

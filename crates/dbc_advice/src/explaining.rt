@@ -1,6 +1,7 @@
 //! All that is reported of a file.
 ghost use Rattle.std.specs.Prelude.{◌≡◌, ◌≤◌, IfOk, length};
-ghost use Rattle.dbc_advice.specs.Explained.{AreFaultLines, IsExplained, IsFaultLine, IsRest, IsStatedOfSheet, count_line, ending_text, fault_word};
+ghost use Rattle.dbc_advice.specs.Explained.{AreFaultLines, IsExplained, IsFaultLine, IsRest, IsStatedOfSheet};
+ghost use Rattle.dbc_advice.specs.Explained.{count_line, ending_text, fault_word};
 
 use crate::clashes::unclear;
 use crate::faulty_lines::keyword_at;
@@ -42,7 +43,8 @@ fn fault_line(alloc: Global, source: Source, reported: &Reported) -> Result<Vec<
 
 /// The lines of the faults, in order.
 fn fault_lines(alloc: Global, source: Source, reported: &[Reported]) -> Result<Vec<u8>, AllocError>
-    ensures { IfOk result (λ lines. AreFaultLines source.entry.name.now source.entry.text.now reported.now lines.items) }
+    ensures { IfOk result
+        (λ lines. AreFaultLines source.entry.name.now source.entry.text.now reported.now lines.items) }
 {
     let mut lines = Vec::new(alloc);
     for one in reported {
@@ -97,9 +99,11 @@ fn stated_of_sheet(alloc: Global, source: Source, reading: &Reading) -> Result<V
     Ok(lines)
 }
 
-/// What is stated after the faults: of a file that reads what is stated of its sheet, and else how many faults are reported.
+/// What is stated after the faults: of a file that reads what is stated of its sheet, and else how many faults are
+/// reported.
 fn rest_of(alloc: Global, source: Source, telling: &Telling) -> Result<Vec<u8>, AllocError>
-    ensures { IfOk result (λ rest. IsRest source.entry.name.now source.entry.text.now telling.now.reported.items telling.now.ending rest.items) }
+    ensures { IfOk result
+        (λ rest. IsRest source.entry.name.now source.entry.text.now telling.now.reported.items telling.now.ending rest.items) }
 {
     let count = telling.reported.len();
     match &telling.ending {
@@ -110,10 +114,11 @@ fn rest_of(alloc: Global, source: Source, telling: &Telling) -> Result<Vec<u8>, 
 
 /// All that is reported of a DBC file beside what is answered. The error is out of memory.
 ///
-/// Of one that can't be read, a line for its fault, one for that of the text with the lines of the first blanked, and so on,
-/// at most [`FAULTS_REPORTED`](crate::FAULTS_REPORTED) and for at most [`BYTES_READ_AGAIN`](crate::BYTES_READ_AGAIN); and a last one
-/// with their count. Of one that reads, a line for each reason why a message isn't clear, at most
-/// [`CLASHES_REPORTED`](crate::CLASHES_REPORTED) and then that there are more, and what [`left_out`](crate::left_out) says.
+/// Of one that can't be read, a line for its fault, one for that of the text with the lines of the first blanked, and
+/// so on, at most [`FAULTS_REPORTED`](crate::FAULTS_REPORTED) and for at most
+/// [`BYTES_READ_AGAIN`](crate::BYTES_READ_AGAIN); and a last one with their count. Of one that reads, a line for each
+/// reason why a message isn't clear, at most [`CLASHES_REPORTED`](crate::CLASHES_REPORTED) and then that there are
+/// more, and what [`left_out`](crate::left_out) says.
 pub fn explained(alloc: Global, source: Source) -> Result<Vec<u8>, AllocError>
     ensures { IfOk result (λ out. IsExplained source.entry.name.now source.entry.text.now out.items) }
 {

@@ -55,8 +55,8 @@ fn shown(alloc: Global, bytes: &[u8]) -> Result<Vec<u8>, AllocError>
     }
 }
 
-/// The bytes in single quotes, at most 40 of them, and a question mark for each that isn't printable ASCII. The error is out
-/// of memory.
+/// The bytes in single quotes, at most 40 of them, and a question mark for each that isn't printable ASCII. The error
+/// is out of memory.
 pub fn quoted(alloc: Global, bytes: &[u8]) -> Result<Vec<u8>, AllocError>
     ensures { IfOk result (λ text. text.items ≡ quoted bytes.now) }
 {

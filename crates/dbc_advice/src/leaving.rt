@@ -2,7 +2,8 @@
 //! kind.
 ghost use Rattle.std.specs.Prelude.{◌≡◌, ◌≤◌, IfOk, codes, length, option_map, string_bytes};
 ghost use Rattle.dbc_advice.specs.Citation.{cited_of};
-ghost use Rattle.dbc_advice.specs.LeftOut.{ArePartedFrom, count_text, has_keyword, kind_count, kind_text, kinds_text, left_out, line_after, missing_at, missing_line, passed_label, passed_line};
+ghost use Rattle.dbc_advice.specs.LeftOut.{ArePartedFrom, count_text, has_keyword, kind_count, kind_text, kinds_text};
+ghost use Rattle.dbc_advice.specs.LeftOut.{left_out, line_after, missing_at, missing_line, passed_label, passed_line};
 ghost use Rattle.dbc_advice.specs.ReportedLine.{more_text};
 
 use crate::citation::{Citation, citation_at, citation_text, is_missing};
@@ -31,7 +32,8 @@ fn passed_line(
     passed: Passed,
     sentence: &[u8],
 ) -> Result<Vec<u8>, AllocError>
-    ensures { IfOk result (λ line. line.items ≡ passed_line source.entry.name.now source.entry.text.now passed sentence.now) }
+    ensures { IfOk result
+        (λ line. line.items ≡ passed_line source.entry.name.now source.entry.text.now passed sentence.now) }
 {
     let label = passed_label(alloc, passed.keyword)?;
     let at = passed.at.min(source.text.len());
@@ -58,7 +60,8 @@ fn missing_line(
     passed: Passed,
     citation: Citation,
 ) -> Result<Vec<u8>, AllocError>
-    ensures { IfOk result (λ line. line.items ≡ missing_line source.entry.name.now source.entry.text.now (passed, cited_of citation.entry)) }
+    ensures { IfOk result (λ line. line.items ≡ missing_line source.entry.name.now source.entry.text.now
+        (passed, cited_of citation.entry)) }
 {
     let sentence = citation_text(alloc, citation)?;
     passed_line(alloc, source, passed, &sentence)
@@ -72,7 +75,8 @@ fn line_after(
     passed: Passed,
     citation: Citation,
 ) -> Result<Vec<u8>, AllocError>
-    ensures { IfOk result (λ line. line.items ≡ line_after reported source.entry.name.now source.entry.text.now (passed, cited_of citation.entry)) }
+    ensures { IfOk result (λ line. line.items ≡ line_after reported source.entry.name.now source.entry.text.now
+        (passed, cited_of citation.entry)) }
 {
     if reported < CITATIONS_REPORTED {
         missing_line(alloc, source, passed, citation)
@@ -119,7 +123,8 @@ struct Parts {
 
 /// Tells each of the statements that cite what isn't in the file, up to [`CITATIONS_REPORTED`].
 fn parted(alloc: Global, source: Source, reading: &Reading) -> Result<Parts, AllocError>
-    ensures { IfOk result (ArePartedFrom source.entry.name.now source.entry.text.now reading.now.sheet reading.now.passed) }
+    ensures { IfOk result
+        (ArePartedFrom source.entry.name.now source.entry.text.now reading.now.sheet reading.now.passed) }
 {
     let mut lines = Vec::new(alloc);
     let mut others = Vec::new(alloc);
@@ -161,7 +166,8 @@ fn kind_line(
     first: Passed,
 ) -> Result<Vec<u8>, AllocError>
     requires { index ≤ length passed.now }
-    ensures { IfOk result (λ line. line.items ≡ kind_text source.entry.name.now source.entry.text.now passed.now (index, first)) }
+    ensures { IfOk result (λ line. line.items ≡ kind_text source.entry.name.now source.entry.text.now passed.now
+        (index, first)) }
 {
     if has_keyword(&passed[..index], first.keyword) {
         return Ok(Vec::new(alloc));
@@ -187,7 +193,8 @@ fn kind_lines(alloc: Global, source: Source, passed: &[Passed]) -> Result<Vec<u8
 /// It is a line for each skipped statement that cites a node, a message or a signal which isn't in the file, at most
 /// [`CITATIONS_REPORTED`] and then that there are more, and one for each keyword of the other ones, with their count.
 pub fn left_out(alloc: Global, source: Source, reading: &Reading) -> Result<Vec<u8>, AllocError>
-    ensures { IfOk result (λ out. out.items ≡ left_out source.entry.name.now source.entry.text.now reading.now.sheet reading.now.passed) }
+    ensures { IfOk result
+        (λ out. out.items ≡ left_out source.entry.name.now source.entry.text.now reading.now.sheet reading.now.passed) }
 {
     let parted = parted(alloc, source, reading)?;
     let more = more_missing(alloc, source.name, parted.missing)?;

@@ -3,7 +3,8 @@ ghost use Rattle.std.specs.Prelude.{◌≡◌, ◌≤◌, IfOk, length};
 ghost use Rattle.std.specs.Option.{option_to_list};
 ghost use Rattle.bitlayout.specs.Clash.{collide, has_multiplexor};
 ghost use Rattle.catalogue.specs.Limits.{length_limit};
-ghost use Rattle.dbc_advice.specs.Reasons.{first_outside, first_shared, outside_reason, overlap_reasons, reasons_at, unmultiplexed_reason, AreReasons};
+ghost use Rattle.dbc_advice.specs.Reasons.{first_outside, first_shared, outside_reason, overlap_reasons, reasons_at};
+ghost use Rattle.dbc_advice.specs.Reasons.{unmultiplexed_reason, AreReasons};
 
 use bitlayout::{Clash, Layout, Place, has_bit, inside, meet, share_bit};
 use std::alloc::{AllocError, Global};

@@ -1,6 +1,7 @@
 //! What is stated of a fault: one sentence, and a line with it.
 ghost use Rattle.std.specs.Prelude.{◌≡◌, IfOk};
-ghost use Rattle.dbc_advice.specs.Sentence.{hinted, listed, meaning_of, plain_meaning, sentence_of, statement_text, wanted_text};
+ghost use Rattle.dbc_advice.specs.Sentence.{hinted, listed, meaning_of, plain_meaning, sentence_of, statement_text};
+ghost use Rattle.dbc_advice.specs.Sentence.{wanted_text};
 ghost use Rattle.dbc_advice.specs.ReportedLine.{code_label, more_line, reported_line};
 
 use crate::candidate::Candidate;
@@ -115,8 +116,8 @@ fn hinted(alloc: Global, hint: Option<Hint>) -> Result<Vec<u8>, AllocError>
     }
 }
 
-/// What is stated of a fault of this code: what was found, what that means or what may be there, the statement, and what
-/// is plain to do. The error is out of memory.
+/// What is stated of a fault of this code: what was found, what that means or what may be there, the statement, and
+/// what is plain to do. The error is out of memory.
 pub(crate) fn sentence(
     alloc: Global,
     code: ReadCode,

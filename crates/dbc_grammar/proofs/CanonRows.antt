@@ -163,7 +163,8 @@ labelled_sheet = record {
   } ∷ [];
 }
 
--- comments of the file and of a node, an empty table, powers of ten past 20, two suspect parameter numbers and two value types
+-- comments of the file and of a node, an empty table, powers of ten past 20, two suspect parameter numbers and two
+-- value types
 row_labelled : canonical_text labelled_sheet ≡ lines (
     codes "VERSION \"\"" ∷ codes "NS_ :" ∷ codes "BS_:" ∷ codes "BU_: ECU Dash"
     ∷ codes "VAL_TABLE_ Empty ;"

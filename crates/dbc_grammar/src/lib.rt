@@ -1,9 +1,9 @@
 //! The grammar of DBC text: what a file's tokens and statements are, and which sheet it reads as.
 //!
-//! It is in definitions only, and its laws are the contracts of functions that do nothing. `specs/Reads.antt` is the one
-//! to read first: a text reads as a sheet if it has tokens ([`TokenKind`], `Tokens`, `Lexing`), these are divided into
-//! statements (`Grammar`, `Division`; `Parsing` is the same computed), and the statements state the sheet (`Saying`).
-//! `Canon` is the one text that is written for a sheet.
+//! It is in definitions only, and its laws are the contracts of functions that do nothing. `specs/Reads.antt` is the
+//! one to read first: a text reads as a sheet if it has tokens ([`TokenKind`], `Tokens`, `Lexing`), these are divided
+//! into statements (`Grammar`, `Division`; `Parsing` is the same computed), and the statements state the sheet
+//! (`Saying`). `Canon` is the one text that is written for a sheet.
 //!
 //! The laws, in the order in which they build on one another: [`tokens_are_exact`], [`statements_are_single`],
 //! [`divisions_are_single`], [`reading_is_exact`], [`statements_say_one_sheet`], and [`texts_read_as_one_sheet`], which

@@ -1,5 +1,6 @@
 //! Laws about the statements of a DBC file. The functions do nothing: their contracts are the laws.
-ghost use Rattle.dbc_grammar.specs.Division.{DivisionsAreParts, OneDivision, OneParting, OneStatement, ReadingIsExact, StatementsAreRuns};
+ghost use Rattle.dbc_grammar.specs.Division.{DivisionsAreParts, OneDivision, OneParting, OneStatement};
+ghost use Rattle.dbc_grammar.specs.Division.{ReadingIsExact, StatementsAreRuns};
 ghost use Rattle.dbc_grammar.specs.Fields.{NumbersAreDecimals, NumbersAreIdentifiers};
 
 use decimal::readings_are_computed;

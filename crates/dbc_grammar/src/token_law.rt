@@ -1,5 +1,6 @@
 //! A law about the tokens of a DBC text. It is about the definitions; it involves no code.
-ghost use Rattle.dbc_grammar.specs.TokenLaw.{TokensAreRead, TokensAreOne, TokensAreSlices, FaultsAreExact, InsidesAreKept};
+ghost use Rattle.dbc_grammar.specs.TokenLaw.{TokensAreRead, TokensAreOne, TokensAreSlices, FaultsAreExact};
+ghost use Rattle.dbc_grammar.specs.TokenLaw.{InsidesAreKept};
 
 /// What holds of the tokens of every DBC text (`specs/TokenLaw.antt`). The function does nothing.
 ///

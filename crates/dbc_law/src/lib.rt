@@ -19,8 +19,8 @@
 //! - These statements say the sheet: `Saying`. Each kind of statement (`SayingContents`, `SayingKinds`) comes from one
 //!   section (`SayingEntries`, `SayingSections`), and the others have none of it (`SayingOtherKinds`).
 //!
-//! The parts share two files: `PieceTokens` defines which tokens belong to which pieces, and `Contents` lists the contents
-//! of the statements. `DecimalPieces` and `MessageNumbers` serve the first two parts.
+//! The parts share two files: `PieceTokens` defines which tokens belong to which pieces, and `Contents` lists the
+//! contents of the statements. `DecimalPieces` and `MessageNumbers` serve the first two parts.
 #![tactic(auto)]
 
 ghost use Rattle.dbc_law.specs.Law.{GrammarLaw};

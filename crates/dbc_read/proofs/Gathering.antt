@@ -1,5 +1,5 @@
--- A loop that gathers what one statement after the other says: what is gathered so far and what is left to say is all that
--- the statements say.
+-- A loop that gathers what one statement after the other says: what is gathered so far and what is left to say is all
+-- that the statements say.
 use Rattle.std.proofs.Common.{◌≡◌, ◌==◌, ◌&&◌, ◌||◌, ◌++◌, ◌∙◌, ℕ, zero, suc, Bool, true, false, not, cond, List, [], ◌∷◌, length, map, filter, replicate, Option, Some, None, is_some, if◌then◌else◌, nat_eq, refl, sym, ap, append_assoc, append-nil, subst, true≢false}
 use Rattle.std.specs.Prelude.{drop, slice_get, unwrap_or}
 use Rattle.std.specs.Cmp.{IsEquivalence, nat_eq_equiv}

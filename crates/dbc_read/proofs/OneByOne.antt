@@ -1,5 +1,5 @@
--- Statements that are gathered as they come: first those that cite nothing, and then those that define nothing that could
--- be cited, which Settled.antt goes on with.
+-- Statements that are gathered as they come: first those that cite nothing, and then those that define nothing that
+-- could be cited, which Settled.antt goes on with.
 use Rattle.std.proofs.Common.{◌≡◌, ◌∙◌, ◌++◌, ℕ, true, false, List, [], ◌∷◌, length, map, Option, Some, None, refl, sym, ap, append_assoc, append-nil, subst, true≢false}
 use Rattle.std.specs.List.{cons_option, flat_map}
 use Rattle.std.specs.Option.{option_map}

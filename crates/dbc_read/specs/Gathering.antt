@@ -125,7 +125,8 @@ HaveNothing lines = (g : Gathered) → with_attached lines g ≡ record g {
   signal_spns = replicate (length (all_signals lines)) 0;
 }
 
--- these statements, which define nothing, are gathered where what they cite is found; what is attached to signals is in the lines
+-- these statements, which define nothing, are gathered where what they cite is found; what is attached to signals is in
+-- the lines
 abbrev pub Settles : Finders → List says.Statement → List MessageLine → Gathered → List MessageLine → Gathered → Type 0
 Settles f more lines old new_lines new = (all rest : List says.Statement) (nodes : List NodeName) (messages : List MessageLine) → Finds f lines all
     → Gathers all (with_definitions nodes messages (with_attached lines old)) (more ++ rest) → Gathers all (with_definitions nodes messages (with_attached new_lines new)) rest

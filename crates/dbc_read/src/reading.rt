@@ -103,7 +103,8 @@ fn read_lists(alloc: Global, source: &[u8]) -> Result<Reading, ReadFault>
 /// What the text reads as, or `None` if its statements aren't gathered one by one, or if what they say can't be in
 /// one sheet.
 fn read_sheet(alloc: Global, source: &[u8]) -> Result<Option<Reading>, ReadFault>
-    ensures reads { IfOk result (λ found. IfSome found (λ reading. ReadsAs source.now reading.sheet (map start_and_keyword reading.passed))) }
+    ensures reads { IfOk result (λ found. IfSome found
+        (λ reading. ReadsAs source.now reading.sheet (map start_and_keyword reading.passed))) }
     ensures only { IfOk result (λ found. IfSome found (λ reading. ReadsOnlyAs source.now reading.sheet)) }
     ensures err { IfErr result (λ fault. UnlessMemory fault.code (HasNoDivision source.now)) }
     ensures tokens { TokensComeFirst source.now result }

@@ -1,5 +1,6 @@
 //! Lists of values with their texts.
-ghost use Rattle.std.specs.Prelude.{◌≡◌, ◌≤◌, [], ◌∷◌, ◌++◌, IfErr, IfOk, None, OnErr, OnOk, Some, SomeIff, is_some, length, nat_lt};
+ghost use Rattle.std.specs.Prelude.{◌≡◌, ◌≤◌, [], ◌∷◌, ◌++◌, IfErr, IfOk, None, OnErr, OnOk, Some, SomeIff, is_some};
+ghost use Rattle.std.specs.Prelude.{length, nat_lt};
 ghost use Rattle.dbc_grammar.specs.Grammar as grammar;
 ghost use Rattle.catalogue.specs.Limits.{value_text_limit};
 ghost use Rattle.dbc_grammar.specs.Parsing.{entry_at, entries_at};

@@ -48,7 +48,8 @@ pub(crate) fn message_or_independent<'a>(
     alloc: Global,
     tokens: &mut Tokens<'a>,
 ) -> Result<Line<'a>, ReadFault>
-    ensures reads { Reads line_content result (either_at (begins fields.message_ident) message_at independent_at tokens.old) tokens.new }
+    ensures reads { Reads line_content result (either_at
+        (begins fields.message_ident) message_at independent_at tokens.old) tokens.new }
     ensures nothing { IfOk result (λ line. NothingIsAttached line.content) }
 {
     if begins_message(tokens) {

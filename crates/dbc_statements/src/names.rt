@@ -164,9 +164,11 @@ fn add_further<L: NodeList>(
     tokens: &mut Tokens,
     nodes: &mut L,
 ) -> Result<(), ReadFault>
-    ensures ok { OnOk result (with_names (L.names nodes.old) (many_at fields.goes_on further_at tokens.old) ≡ Some (L.names nodes.new, tokens.new)) }
+    ensures ok { OnOk result (with_names (L.names nodes.old) (many_at fields.goes_on further_at tokens.old)
+        ≡ Some (L.names nodes.new, tokens.new)) }
     ensures end { OnOk result (fields.goes_on tokens.new ≡ false) }
-    ensures err { IfErr result (λ fault. UnlessMemory fault.code (many_at fields.goes_on further_at tokens.old ≡ None)) }
+    ensures err { IfErr result (λ fault. UnlessMemory fault.code
+        (many_at fields.goes_on further_at tokens.old ≡ None)) }
 {
     'nodes: while goes_on(tokens) {
         let next = further(alloc, tokens)?;

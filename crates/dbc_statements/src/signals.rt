@@ -61,7 +61,8 @@ fn add_signal(
     signals: &mut Vec<Signal>,
     places: &mut Vec<SignalPlace>,
 ) -> Result<Ended, ReadFault>
-    ensures ok { OnOk result (with_one (signals_of signals.old.items) (signal_at tokens.old) ≡ Some (signals_of signals.new.items, tokens.new)) }
+    ensures ok { OnOk result (with_one (signals_of signals.old.items) (signal_at tokens.old)
+        ≡ Some (signals_of signals.new.items, tokens.new)) }
     ensures nothing { OnOk result (HaveNothingAttached signals.old.items → HaveNothingAttached signals.new.items) }
     ensures err { IfErr result (λ fault. UnlessMemory fault.code (signal_at tokens.old ≡ None)) }
 {

@@ -42,7 +42,8 @@ fn pair(
     first: &Decimal,
     second: &Decimal,
 ) -> Result<(), AllocError>
-    ensures { OnOk result (Adds piece_text text.old.items text.new.items (pair (left ∷ []) (between ∷ []) (right ∷ []) first.now second.now)) }
+    ensures { OnOk result (Adds piece_text text.old.items text.new.items
+        (pair (left ∷ []) (between ∷ []) (right ∷ []) first.now second.now)) }
 {
     spaced_mark(text, left)?;
     tight_value(text, first)?;

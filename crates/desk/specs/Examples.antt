@@ -41,7 +41,8 @@ one_ended = (unanswered ∷ [], refl, refl)
 not_for_nothing : HasCause (record broken { ending = Some (record unanswered { failed_reads = 0 }) }) → ⊥
 not_for_nothing cause = let failed = cause.1 in cc
 
--- a request for nothing that is there is answered as ever once the office has failed, and one for a release is answered to try again
+-- a request for nothing that is there is answered as ever once the office has failed, and one for a release is answered
+-- to try again
 answered_still : failed_response (fails NotFound) ≡ problem_response NotFound
 answered_still = refl
 

@@ -58,8 +58,8 @@ Responds h requested text s =
     ((h2 : List Answered) × IsResponse h requested text h2 × Holding h2 s × Leaves (Keeps h2) s)
     ⊎ ((text ≡ problem_response TryAgain) × (IsTrue s.is_open → Holding h s) × Leaves (FollowsRequested h requested) s)
 
--- without a response: the tables, if they are open, hold the history as before, or with the arrival that was requested, and
--- a crash leaves one of these
+-- without a response: the tables, if they are open, hold the history as before, or with the arrival that was requested,
+-- and a crash leaves one of these
 abbrev pub MayHaveTaken : List Answered → Requested → State → Type 0
 MayHaveTaken h requested s =
     (IsTrue s.is_open

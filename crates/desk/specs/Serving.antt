@@ -21,8 +21,8 @@ pub record Ending : Type 0 where
   pub failed_reads : ℕ
   pub failed_writes : ℕ
 
--- a connection: whether the office had failed when it came, what its peer sends and how it ended, if these are known, and the
--- fault that ended it, if any
+-- a connection: whether the office had failed when it came, what its peer sends and how it ended, if these are known,
+-- and the fault that ended it, if any
 pub record Visit : Type 0 where
   pub office_failed : Bool
   pub sent : Option (List ℕ)
@@ -87,8 +87,8 @@ abbrev pub Follows : List Answered → List Visit → List Answered → Type 0
 Follows h [] h2 = h2 ≡ h
 Follows h (v ∷ later) h2 = (h1 : List Answered) × Leads h v h1 × Follows h1 later h2
 
--- the trees keep the history with an arrival that was requested, and of whose answer nothing was written but a beginning of
--- the text that says to try again
+-- the trees keep the history with an arrival that was requested, and of whose answer nothing was written but a
+-- beginning of the text that says to try again
 abbrev pub KeepsOneMore : List Answered → Option (List ℕ) → Option (List ℕ) → Trees → Type 0
 KeepsOneMore h sent written db =
     (a : Asking) × IsRequested sent (arrives a) × WroteFront written (problem_response TryAgain) × (answer : Answer) × Keeps (h ++ answered_as a answer ∷ []) db
@@ -132,8 +132,8 @@ DeclinesBy (Some Memory) sent written = Wrote written []
 abbrev pub IsDeclined : Visit → Type 0
 IsDeclined v = IsTrue v.office_failed → DeclinesBy v.fault v.sent (written_to v)
 
--- Whether the office has failed goes from each connection to the next one: so before the first of them, and so after the
--- last. Once it has, it has for all that come later.
+-- Whether the office has failed goes from each connection to the next one: so before the first of them, and so after
+-- the last. Once it has, it has for all that come later.
 abbrev pub FailsOnce : Bool → List Visit → Bool → Type 0
 FailsOnce before [] after = after ≡ before
 FailsOnce before (v ∷ later) after = (v.office_failed ≡ before) × (next : Bool) × (IsTrue before → IsTrue next) × FailsOnce next later after

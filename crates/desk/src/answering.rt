@@ -32,11 +32,14 @@ fn shown<S: Alter>(alloc: Global, office: &mut Office<S>, look: Look) -> Result<
     ensures clean { doubt (state S.Store office.old.conn).is_clean ≤ doubt (state S.Store office.new.conn).is_clean }
     ensures refused { IsTrue office.old.failed → office.new ≡ office.old }
     ensures failed { IsTrue office.old.failed → IfOk result (λ text. text.items ≡ failed_response (shows look)) }
-    ensures open { HasCleanDisk (state S.Store office.new.conn) → (h : List Answered) → Holding h (state S.Store office.old.conn)
+    ensures open { HasCleanDisk (state S.Store office.new.conn) → (h : List Answered)
+        → Holding h (state S.Store office.old.conn)
         → IsFalse office.new.failed → IsTrue (state S.Store office.new.conn).is_open }
-    ensures ok { HasCleanDisk (state S.Store office.new.conn) → (h : List Answered) → Holding h (state S.Store office.old.conn)
+    ensures ok { HasCleanDisk (state S.Store office.new.conn) → (h : List Answered)
+        → Holding h (state S.Store office.old.conn)
         → IfOk result (λ text. Responds h (shows look) text.items (state S.Store office.new.conn)) }
-    ensures err { HasCleanDisk (state S.Store office.new.conn) → (h : List Answered) → Holding h (state S.Store office.old.conn)
+    ensures err { HasCleanDisk (state S.Store office.new.conn) → (h : List Answered)
+        → Holding h (state S.Store office.old.conn)
         → OnErr result (MayHaveTaken h (shows look) (state S.Store office.new.conn)) }
 {
     let content = content_of(&look);
@@ -55,12 +58,17 @@ fn arrived<S: Alter>(
 ) -> Result<Vec<u8>, AllocError>
     ensures clean { doubt (state S.Store office.old.conn).is_clean ≤ doubt (state S.Store office.new.conn).is_clean }
     ensures refused { IsTrue office.old.failed → office.new ≡ office.old }
-    ensures failed { IsTrue office.old.failed → IfOk result (λ text. text.items ≡ failed_response (arrives (asking_seen arrival.now))) }
-    ensures open { HasCleanDisk (state S.Store office.new.conn) → (h : List Answered) → Holding h (state S.Store office.old.conn)
+    ensures failed { IsTrue office.old.failed → IfOk result
+        (λ text. text.items ≡ failed_response (arrives (asking_seen arrival.now))) }
+    ensures open { HasCleanDisk (state S.Store office.new.conn) → (h : List Answered)
+        → Holding h (state S.Store office.old.conn)
         → IsFalse office.new.failed → IsTrue (state S.Store office.new.conn).is_open }
-    ensures ok { HasCleanDisk (state S.Store office.new.conn) → (h : List Answered) → Holding h (state S.Store office.old.conn)
-        → IfOk result (λ text. Responds h (arrives (asking_seen arrival.now)) text.items (state S.Store office.new.conn)) }
-    ensures err { HasCleanDisk (state S.Store office.new.conn) → (h : List Answered) → Holding h (state S.Store office.old.conn)
+    ensures ok { HasCleanDisk (state S.Store office.new.conn) → (h : List Answered)
+        → Holding h (state S.Store office.old.conn)
+        → IfOk result (λ text. Responds h (arrives (asking_seen arrival.now)) text.items
+        (state S.Store office.new.conn)) }
+    ensures err { HasCleanDisk (state S.Store office.new.conn) → (h : List Answered)
+        → Holding h (state S.Store office.old.conn)
         → OnErr result (MayHaveTaken h (arrives (asking_seen arrival.now)) (state S.Store office.new.conn)) }
 {
     match office.arrive(alloc, &arrival.team, &arrival.key, &arrival.request) {
@@ -79,11 +87,14 @@ pub(crate) fn response_to<S: Alter>(
     ensures clean { doubt (state S.Store office.old.conn).is_clean ≤ doubt (state S.Store office.new.conn).is_clean }
     ensures refused { IsTrue office.old.failed → office.new ≡ office.old }
     ensures failed { IsTrue office.old.failed → IfOk result (λ text. text.items ≡ failed_response (seen call)) }
-    ensures open { HasCleanDisk (state S.Store office.new.conn) → (h : List Answered) → Holding h (state S.Store office.old.conn)
+    ensures open { HasCleanDisk (state S.Store office.new.conn) → (h : List Answered)
+        → Holding h (state S.Store office.old.conn)
         → IsFalse office.new.failed → IsTrue (state S.Store office.new.conn).is_open }
-    ensures ok { HasCleanDisk (state S.Store office.new.conn) → (h : List Answered) → Holding h (state S.Store office.old.conn)
+    ensures ok { HasCleanDisk (state S.Store office.new.conn) → (h : List Answered)
+        → Holding h (state S.Store office.old.conn)
         → IfOk result (λ text. Responds h (seen call) text.items (state S.Store office.new.conn)) }
-    ensures err { HasCleanDisk (state S.Store office.new.conn) → (h : List Answered) → Holding h (state S.Store office.old.conn)
+    ensures err { HasCleanDisk (state S.Store office.new.conn) → (h : List Answered)
+        → Holding h (state S.Store office.old.conn)
         → OnErr result (MayHaveTaken h (seen call) (state S.Store office.new.conn)) }
 {
     office.leaves_now();

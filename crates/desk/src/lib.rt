@@ -7,11 +7,11 @@
 //! demands is decided below (`desk_call`), and so are the bytes of responses (`desk_reply`). Here the office is called
 //! (`answering.rt`) and the three are put together (`responding.rt`).
 //!
-//! [`serve`] takes a count of connections from a [`Listener`], and on each it does what [`serve_one`] does. Its contract
-//! says that each connection in turn leads from the history that the office's tables held before it to the one that they
-//! hold after it (`specs/Serving.antt`). A fault of a connection ends that connection alone. A [`Listener`] is in memory
-//! ([`Waiting`]) or a TCP port of this machine ([`LocalPort`]). No contract states the bytes of a socket: there the
-//! contract of [`serve`] says what becomes of the history, and that alone.
+//! [`serve`] takes a count of connections from a [`Listener`], and on each it does what [`serve_one`] does. Its
+//! contract says that each connection in turn leads from the history that the office's tables held before it to the one
+//! that they hold after it (`specs/Serving.antt`). A fault of a connection ends that connection alone. A [`Listener`]
+//! is in memory ([`Waiting`]) or a TCP port of this machine ([`LocalPort`]). No contract states the bytes of a socket:
+//! there the contract of [`serve`] says what becomes of the history, and that alone.
 #![tactic(auto)]
 
 mod answering;

@@ -18,10 +18,11 @@ pub trait Listener {
     /// How each of the connections ended that have, if it tells. It may cease to tell.
     ghost ended: { Self → Option (List Ending) };
 
-    /// The next connection, none of whose calls has failed yet. It may wait for one for ever. The error is that none can be
-    /// accepted; a listener that tells what comes has one only if nothing comes.
+    /// The next connection, none of whose calls has failed yet. It may wait for one for ever. The error is that none
+    /// can be accepted; a listener that tells what comes has one only if nothing comes.
     fn accept(&mut self) -> Result<(Self::Request, Self::Response), Failed>
-        ensures sound { IfOk result (λ c. (Self.Request.failure_count c.0 ≡ 0) × (Self.Response.failure_count c.1 ≡ 0)) }
+        ensures sound { IfOk result (λ c. (Self.Request.failure_count c.0 ≡ 0)
+            × (Self.Response.failure_count c.1 ≡ 0)) }
         ensures comes { IfOk result (λ c. IsAccepted (coming self.old) (coming self.new) (Self.Request.left c.0)) }
         ensures starts { IfOk result (λ c. Starts (ended self.old) (Self.Response.reported c.1)) }
         ensures kept { ended self.new ≡ ended self.old }
@@ -29,6 +30,7 @@ pub trait Listener {
 
     /// IsClosed the connection, after its response or its fault.
     fn finish(&mut self, request: Self::Request, response: Self::Response)
-        ensures ends { IsClosed (ended self.old) (ended self.new) (Self.Response.reported response) (Self.Request.failure_count request) (Self.Response.failure_count response) }
+        ensures ends { IsClosed (ended self.old) (ended self.new) (Self.Response.reported response)
+            (Self.Request.failure_count request) (Self.Response.failure_count response) }
         ensures kept { coming self.new ≡ coming self.old };
 }

@@ -38,24 +38,35 @@ pub fn serve_one<S: Alter, R: Source, W: Sink>(
     requires reads { R.failure_count source.old < 2 ^ 64 - 1 }
     requires writes { W.failure_count sink.old < 2 ^ 64 - 1 }
     ensures most { GivesAtMost (R.left source.old) (R.left source.new) request_limit }
-    ensures served { HasCleanDisk (state S.Store office.new.conn) → (h : List Answered) → Holding h (state S.Store office.old.conn)
-        → OnOk result (HasServed h (R.left source.old) (W.reported sink.old) (W.reported sink.new) (state S.Store office.new.conn)) }
-    ensures healthy { OnOk result ((R.failure_count source.new ≡ R.failure_count source.old) × (W.failure_count sink.new ≡ W.failure_count sink.old)) }
+    ensures served { HasCleanDisk (state S.Store office.new.conn) → (h : List Answered)
+        → Holding h (state S.Store office.old.conn)
+        → OnOk result (HasServed h (R.left source.old) (W.reported sink.old) (W.reported sink.new)
+        (state S.Store office.new.conn)) }
+    ensures healthy { OnOk result ((R.failure_count source.new ≡ R.failure_count source.old)
+        × (W.failure_count sink.new ≡ W.failure_count sink.old)) }
     ensures clean { doubt (state S.Store office.old.conn).is_clean ≤ doubt (state S.Store office.new.conn).is_clean }
     ensures refused { IsTrue office.old.failed → office.new ≡ office.old }
-    ensures failed { IsTrue office.old.failed → OnOk result (HasRefused (R.left source.old) (W.reported sink.old) (W.reported sink.new)) }
-    ensures failed_write { IsTrue office.old.failed → IsErrOf result DeskFault.Write → HasBegunRefusal (R.left source.old) (W.reported sink.old) (W.reported sink.new) }
-    ensures open { HasCleanDisk (state S.Store office.new.conn) → (h : List Answered) → Holding h (state S.Store office.old.conn)
+    ensures failed { IsTrue office.old.failed → OnOk result
+        (HasRefused (R.left source.old) (W.reported sink.old) (W.reported sink.new)) }
+    ensures failed_write { IsTrue office.old.failed → IsErrOf result DeskFault.Write
+        → HasBegunRefusal (R.left source.old) (W.reported sink.old) (W.reported sink.new) }
+    ensures open { HasCleanDisk (state S.Store office.new.conn) → (h : List Answered)
+        → Holding h (state S.Store office.old.conn)
         → IsFalse office.new.failed → IsTrue (state S.Store office.new.conn).is_open }
-    ensures read { IsErrOf result DeskFault.Read → (bytes : List ℕ) × Consumes (R.left source.old) (R.left source.new) bytes × IsNotWhole bytes }
+    ensures read { IsErrOf result DeskFault.Read → (bytes : List ℕ)
+        × Consumes (R.left source.old) (R.left source.new) bytes × IsNotWhole bytes }
     ensures read_failed { IsErrOf result DeskFault.Read → R.failure_count source.new ≡ R.failure_count source.old + 1 }
     ensures read_kept { IsErrOf result DeskFault.Read → (office.new ≡ office.old) × (sink.new ≡ sink.old) }
-    ensures write { HasCleanDisk (state S.Store office.new.conn) → (h : List Answered) → Holding h (state S.Store office.old.conn)
-        → IsErrOf result DeskFault.Write → HasBegun h (R.left source.old) (W.reported sink.old) (W.reported sink.new) (state S.Store office.new.conn) }
+    ensures write { HasCleanDisk (state S.Store office.new.conn) → (h : List Answered)
+        → Holding h (state S.Store office.old.conn)
+        → IsErrOf result DeskFault.Write → HasBegun h (R.left source.old) (W.reported sink.old) (W.reported sink.new)
+        (state S.Store office.new.conn) }
     ensures write_failed { IsErrOf result DeskFault.Write → W.failure_count sink.new ≡ W.failure_count sink.old + 1 }
-    ensures memory { HasCleanDisk (state S.Store office.new.conn) → (h : List Answered) → Holding h (state S.Store office.old.conn)
+    ensures memory { HasCleanDisk (state S.Store office.new.conn) → (h : List Answered)
+        → Holding h (state S.Store office.old.conn)
         → IsErrOf result DeskFault.Memory → HasGivenUp h (R.left source.old) (state S.Store office.new.conn) }
-    ensures memory_counts { IsErrOf result DeskFault.Memory → (R.failure_count source.new ≡ R.failure_count source.old) × (W.failure_count sink.new ≡ W.failure_count sink.old) }
+    ensures memory_counts { IsErrOf result DeskFault.Memory → (R.failure_count source.new ≡ R.failure_count source.old)
+        × (W.failure_count sink.new ≡ W.failure_count sink.old) }
     ensures memory_kept { IsErrOf result DeskFault.Memory → sink.new ≡ sink.old }
 {
     office.leaves_now();

@@ -1,11 +1,13 @@
 //! Serving connections in turn.
-ghost use Rattle.std.specs.Prelude.{◌≡◌, ◌<◌, ◌≤◌, List, [], ◌∷◌, length, IfOk, All, MatchResult, OnErr, IsFalse, IsTrue};
+ghost use Rattle.std.specs.Prelude.{◌≡◌, ◌<◌, ◌≤◌, List, [], ◌∷◌, length, IfOk, All, MatchResult, OnErr, IsFalse};
+ghost use Rattle.std.specs.Prelude.{IsTrue};
 ghost use Rattle.sqlite.specs.Held.{state};
 ghost use Rattle.sqlite.specs.State.{HasCleanDisk};
 ghost use Rattle.sqlite_trees.specs.View.{doubt};
 ghost use Rattle.office_history.specs.History.{Answered};
 ghost use Rattle.store.specs.Holding.{Holding};
-ghost use Rattle.desk.specs.Serving.{AreAccepted, AreClosed, FailsOnce, HasCause, IsDeclined, LedTo, NoneWaits, Ran, SaysFailure, Visit, fault_of, written_to};
+ghost use Rattle.desk.specs.Serving.{AreAccepted, AreClosed, FailsOnce, HasCause, IsDeclined, LedTo, NoneWaits, Ran};
+ghost use Rattle.desk.specs.Serving.{SaysFailure, Visit, fault_of, written_to};
 
 use crate::fault::ServeFault;
 use crate::listener::Listener;
@@ -28,16 +30,20 @@ fn attend<S: Alter, L: Listener>(
 ) -> Result<Result<(), DeskFault>, Failed>
     ensures clean { doubt (state S.Store office.old.conn).is_clean ≤ doubt (state S.Store office.new.conn).is_clean }
     ensures refused { IsTrue office.old.failed → office.new ≡ office.old }
-    ensures opened { HasCleanDisk (state S.Store office.new.conn) → (h : List Answered) → Holding h (state S.Store office.old.conn)
+    ensures opened { HasCleanDisk (state S.Store office.new.conn) → (h : List Answered)
+        → Holding h (state S.Store office.old.conn)
         → IsFalse office.new.failed → IsTrue (state S.Store office.new.conn).is_open }
     ensures served { IfOk result (λ ended. (v : Visit) × (v.fault ≡ fault_of ended)
         × (v.office_failed ≡ office.old.failed)
-        × AreAccepted (L.coming listener.old) (L.coming listener.new) (v ∷ []) × AreClosed (L.ended listener.old) (L.ended listener.new) (v ∷ [])
+        × AreAccepted (L.coming listener.old) (L.coming listener.new) (v ∷ [])
+        × AreClosed (L.ended listener.old) (L.ended listener.new) (v ∷ [])
         × HasCause v × IsDeclined v
-        × (HasCleanDisk (state S.Store office.new.conn) → (h : List Answered) → Holding h (state S.Store office.old.conn)
+        × (HasCleanDisk (state S.Store office.new.conn) → (h : List Answered)
+        → Holding h (state S.Store office.old.conn)
         → LedTo h v.fault v.sent (written_to v) (state S.Store office.new.conn))) }
     ensures kept { OnErr result (office.new ≡ office.old) }
-    ensures none { OnErr result ((L.coming listener.new ≡ L.coming listener.old) × (L.ended listener.new ≡ L.ended listener.old) × NoneWaits (L.coming listener.old)) }
+    ensures none { OnErr result ((L.coming listener.new ≡ L.coming listener.old)
+        × (L.ended listener.new ≡ L.ended listener.old) × NoneWaits (L.coming listener.old)) }
 {
     let (mut request, mut response) = listener.accept()?;
     let ended = serve_one(alloc, office, &mut request, &mut response);
@@ -60,8 +66,8 @@ fn say_failure<E: Write>(errors: &mut E, had_failed: bool, has_failed: bool)
 /// the office has failed, it changes nothing any more, and whatever reaches it is answered by 503. When it fails,
 /// `lost 72` is written to `errors`, once and as far as the writer takes it.
 ///
-/// `Accept` if a connection can't be accepted: then those before it were served. With a listener that tells what comes, none
-/// came any more.
+/// `Accept` if a connection can't be accepted: then those before it were served. With a listener that tells what comes,
+/// none came any more.
 pub fn serve<S: Alter, L: Listener, E: Write>(
     alloc: Global,
     office: &mut Office<S>,
@@ -71,10 +77,13 @@ pub fn serve<S: Alter, L: Listener, E: Write>(
 ) -> Result<(), ServeFault>
     ensures clean { doubt (state S.Store office.old.conn).is_clean ≤ doubt (state S.Store office.new.conn).is_clean }
     ensures stated { SaysFailure office.old.failed office.new.failed (E.contents errors.old) (E.contents errors.new) }
-    ensures served { (visits : List Visit) × AreAccepted (L.coming listener.old) (L.coming listener.new) visits × AreClosed (L.ended listener.old) (L.ended listener.new) visits
-        × MatchResult result (λ done. length visits ≡ count) (λ fault. (fault ≡ ServeFault.Accept) × (length visits < count) × NoneWaits (L.coming listener.new))
+    ensures served { (visits : List Visit) × AreAccepted (L.coming listener.old) (L.coming listener.new) visits
+        × AreClosed (L.ended listener.old) (L.ended listener.new) visits
+        × MatchResult result (λ done. length visits ≡ count)
+        (λ fault. (fault ≡ ServeFault.Accept) × (length visits < count) × NoneWaits (L.coming listener.new))
         × All HasCause visits × FailsOnce office.old.failed visits office.new.failed × All IsDeclined visits
-        × (HasCleanDisk (state S.Store office.new.conn) → (h : List Answered) → Holding h (state S.Store office.old.conn)
+        × (HasCleanDisk (state S.Store office.new.conn) → (h : List Answered)
+        → Holding h (state S.Store office.old.conn)
         → Ran h visits office.new.failed (state S.Store office.new.conn)) }
 {
     office.leaves_now();

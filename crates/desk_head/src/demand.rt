@@ -54,7 +54,8 @@ pub fn demand_at(
     spans: RequestSpans,
 ) -> Result<Demand, AllocError>
     requires { IsHeadAt buf.now headers.now spans }
-    ensures { IfOk result (λ demand. (h : RequestHead) → IsRequestAt buf.now headers.now spans h → demand ≡ demand_of h) }
+    ensures { IfOk result (λ demand. (h : RequestHead) → IsRequestAt buf.now headers.now spans h
+        → demand ≡ demand_of h) }
 {
     let method = spans.method.of(buf);
     match endpoint_of(alloc, spans.path.of(buf))? {

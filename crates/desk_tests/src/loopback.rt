@@ -30,7 +30,8 @@ fn show(rt: &HostRuntime, title: &[u8], client: &mut TcpStream) -> io::Result<()
     out.write_all(b"\n")
 }
 
-/// Clients connect and write their requests; then they are served; then the clients read, and what they read is printed.
+/// Clients connect and write their requests; then they are served; then the clients read, and what they read is
+/// printed.
 pub(crate) fn serve_over_port<S: Alter>(
     rt: &HostRuntime,
     office: &mut Office<S>,

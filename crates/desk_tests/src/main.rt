@@ -9,8 +9,8 @@
 //! Then all of them wait in memory and are served by one call, which must answer them so too, and find that no further
 //! connection can be accepted.
 //!
-//! Requests whose title begins with `#@` are served after the others, over a port of the machine: the clients write whole
-//! requests, then all are served, then the clients read.
+//! Requests whose title begins with `#@` are served after the others, over a port of the machine: the clients write
+//! whole requests, then all are served, then the clients read.
 //!
 //! `stdout` is what it must print, worked out from the rules of the desk.
 #![tactic(auto)]

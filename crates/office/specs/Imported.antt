@@ -16,8 +16,8 @@ use Rattle.office_rules.specs.Commands.{outcome}
 use Rattle.office_rules.specs.Importing.{FileReading, Reading, Unreadable, import}
 use Rattle.office_rules.specs.Step.{file_wanted}
 
--- A fault of reading, as a refusal tells it: its code and its offset, up to the greatest 32-bit number. Out of memory isn't
--- reported so.
+-- A fault of reading, as a refusal tells it: its code and its offset, up to the greatest 32-bit number. Out of memory
+-- isn't reported so.
 pub record TellsFault (f : ReadFault) (reported : FileFault) : Type 0 where
   pub other : f.code ≡ Memory → ⊥
   pub code : reported.fault ≡ code_number f.code
@@ -51,8 +51,8 @@ pub record IsReadDecision (team : List ℕ) (net : Net) (file : List ℕ) (d : D
   pub read : IsReadAs file reading
   pub decides : (name : List ℕ) (book : SpnBook) → Decides name (record { net = Some net; book = book }) (import team (Some net) reading) d
 
--- What is decided on a command is what it results in, for an import with the reading of `read`: so a file that reads as no
--- sheet is refused with the fault and the offset that `read` gives.
+-- What is decided on a command is what it results in, for an import with the reading of `read`: so a file that reads as
+-- no sheet is refused with the fault and the offset that `read` gives.
 pub record IsCommandDecision (team : List ℕ) (before : NetAndBook) (c : Command) (d : Decision) : Type 0 where
   pub reading : FileReading
   pub read : IsWantedReading (file_wanted before.net c.task) reading

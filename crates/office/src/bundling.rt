@@ -92,7 +92,8 @@ pub(crate) fn decide_bundle(
     book: &SpnBook,
     parts: &Parts<Action>,
 ) -> Result<Decision, AllocError>
-    ensures { IfOk result (Decides name.now (record { net = option_copied net.entry; book = book.now }) (bundle_outcome (parts_done team.now name.now 1 (option_copied net.entry) book.now parts.now))) }
+    ensures { IfOk result (Decides name.now (record { net = option_copied net.entry; book = book.now })
+        (bundle_outcome (parts_done team.now name.now 1 (option_copied net.entry) book.now parts.now))) }
 {
     let mut progress = Progress {
         draft: draft_of(alloc, net, book)?,

@@ -27,7 +27,8 @@ pub(crate) fn decide_action(
     book: &SpnBook,
     action: &Action,
 ) -> Result<Decision, AllocError>
-    ensures { IfOk result (Decides name.now (record { net = option_copied net.entry; book = book.now }) (acted team.now name.now (option_copied net.entry) book.now action.now)) }
+    ensures { IfOk result (Decides name.now (record { net = option_copied net.entry; book = book.now })
+        (acted team.now name.now (option_copied net.entry) book.now action.now)) }
 {
     match action {
         Action::OpenNet(open) => decide_open_net(alloc, team, name, net, open),
@@ -48,9 +49,9 @@ pub(crate) fn decide_action(
 }
 
 /// Decides the team's command on its network, which may not be there: the reply, and the changes that lead to the
-/// network and the book after the command. A refusal has no change. Nothing is changed here, and the file of an import is
-/// read only where the network is there and in draft. A file that reads as no sheet is refused with the fault and the
-/// offset that [`read`](dbc_read::read) gives. The error is out of memory.
+/// network and the book after the command. A refusal has no change. Nothing is changed here, and the file of an import
+/// is read only where the network is there and in draft. A file that reads as no sheet is refused with the fault and
+/// the offset that [`read`](dbc_read::read) gives. The error is out of memory.
 pub fn decide(
     alloc: Global,
     team: &Team,
@@ -58,8 +59,10 @@ pub fn decide(
     book: &SpnBook,
     command: &Command,
 ) -> Result<Decision, AllocError>
-    ensures decision { IfOk result (IsDecision team.now (record { net = option_copied net.entry; book = book.now }) command.now) }
-    ensures read { IfOk result (IsCommandDecision team.now (record { net = option_copied net.entry; book = book.now }) command.now) }
+    ensures decision { IfOk result (IsDecision team.now
+        (record { net = option_copied net.entry; book = book.now }) command.now) }
+    ensures read { IfOk result (IsCommandDecision team.now
+        (record { net = option_copied net.entry; book = book.now }) command.now) }
 {
     match &command.task {
         Task::Act(action) => decide_action(alloc, team, &command.net, net, book, action),

@@ -6,8 +6,8 @@ ghost use Rattle.office.specs.Imported.{IsImportDecision, IsReadDecision, TellsF
 
 use dbc_lex::{ReadCode, ReadFault};
 use dbc_read::read;
-use office_import::{decide_import, decide_unread, decide_unreadable};
 use office_facts::refusal_decision;
+use office_import::{decide_import, decide_unread, decide_unreadable};
 use office_types::{Decision, FileFault, Net, Refusal, Team};
 use std::alloc::{AllocError, Global};
 

@@ -3,7 +3,8 @@ ghost use Rattle.std.specs.Prelude.{◌≡◌};
 ghost use Rattle.std.specs.Option.{option_copied};
 ghost use Rattle.catalogue.specs.Named.{has_name};
 ghost use Rattle.catalogue.specs.Signals.{signal_name};
-ghost use Rattle.office_rules.specs.Facts.{has_node, in_review, is_held, is_j1939, is_live, is_named, is_submitter, knows_node, live_named, same_ident};
+ghost use Rattle.office_rules.specs.Facts.{has_node, in_review, is_held, is_j1939, is_live, is_named, is_submitter};
+ghost use Rattle.office_rules.specs.Facts.{knows_node, live_named, same_ident};
 
 use can_id::Ident;
 use catalogue::{Name, Node, Signal};

@@ -7,8 +7,8 @@
 //!
 //! The contracts cite the words of `office_rules`, mostly of `Facts.antt`. Only lists of blocks, heads and changes take
 //! memory, and each walk is over one list of the network. `proofs/Deciding.antt` has when a decision is that of a list
-//! of tests: the first that holds is the reply and nothing changes, and where none holds it is the decision of what comes
-//! after the tests.
+//! of tests: the first that holds is the reply and nothing changes, and where none holds it is the decision of what
+//! comes after the tests.
 #![tactic(auto)]
 
 mod blocks;

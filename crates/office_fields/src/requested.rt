@@ -67,9 +67,9 @@ impl FileImport {
     }
 }
 
-/// The command of the kind with these values, in any order: those of its fields and no others, each as often as its field
-/// may be given and of its kind. `Wrong` where the values aren't so; where a block's last number is below its first or
-/// one of them is no number of its form; and where a broadcast has a destination.
+/// The command of the kind with these values, in any order: those of its fields and no others, each as often as its
+/// field may be given and of its kind. `Wrong` where the values aren't so; where a block's last number is below its
+/// first or one of them is no number of its form; and where a broadcast has a destination.
 pub fn command_of(
     alloc: Global,
     kind: ActionKind,

@@ -5,11 +5,11 @@
 //! file and carries the changes out. The definitions are those of `office_rules` (`Importing.antt`); `specs/` has only
 //! words that the functions of this crate share.
 //!
-//! An import takes time about linear in the network and in the file. An `index` finds live messages and held identifiers
-//! by binary search (`searching`) and names in sets (`names`), and `numbers` finds a number in a team's blocks by binary
-//! search. A list is searched so where one walk found it in order, as every list of an office is; otherwise each lookup
-//! walks over it. The tests are in `clear`, `joining` and `limits`, in this order; `news`, `frame` and `changes` make the
-//! changes.
+//! An import takes time about linear in the network and in the file. An `index` finds live messages and held
+//! identifiers by binary search (`searching`) and names in sets (`names`), and `numbers` finds a number in a team's
+//! blocks by binary search. A list is searched so where one walk found it in order, as every list of an office is;
+//! otherwise each lookup walks over it. The tests are in `clear`, `joining` and `limits`, in this order; `news`,
+//! `frame` and `changes` make the changes.
 #![tactic(auto)]
 
 mod changes;

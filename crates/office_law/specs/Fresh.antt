@@ -42,8 +42,8 @@ pub record IsGrown (live next : List LiveMessage) (m : LiveMessage) : Type 0 whe
   pub kept : (o : LiveMessage) → Contains live o → Contains next o
   pub only : (o : LiveMessage) → Contains next o → (o ≡ m) ⊎ Contains live o
 
--- What a `take_ident` that isn't refused gives out and changes: an identifier of the team's blocks, the wanted one or the
--- least, that no live message has and that isn't held. The network gets one message more, which has it.
+-- What a `take_ident` that isn't refused gives out and changes: an identifier of the team's blocks, the wanted one or
+-- the least, that no live message has and that isn't held. The network gets one message more, which has it.
 pub record GivesIdent (team : List ℕ) (net : Net) (c : TakeIdent) (reply : Reply) (after : Net) (entries : Entries) : Type 0 where
   pub number : ℕ
   pub formed : has_form (number_form c.form) number ≡ true
@@ -57,7 +57,8 @@ pub record GivesIdent (team : List ℕ) (net : Net) (c : TakeIdent) (reply : Rep
   pub quiet : entries ≡ no_entries
 
 -- What a `take_pgn` does: the least parameter group of the team's blocks that has a destination, or has none, and that
--- no live and no held 29-bit identifier has. The identifier of the new message is of that group, with the requested fields.
+-- no live and no held 29-bit identifier has. The identifier of the new message is of that group, with the requested
+-- fields.
 pub record GivesGroup (team : List ℕ) (net : Net) (c : TakePgn) (reply : Reply) (after : Net) (entries : Entries) : Type 0 where
   pub number : ℕ
   pub formed : has_form (group_form c.pdu) number ≡ true
@@ -71,8 +72,8 @@ pub record GivesGroup (team : List ℕ) (net : Net) (c : TakePgn) (reply : Reply
   pub grown : IsNet net → IsAction (act.TakePgn c) → IsGrown net.live after.live (new_message team c.message (ident_with c number))
   pub quiet : entries ≡ no_entries
 
--- What a `take_spn` without a wanted number does: the least suspect parameter number of the team's blocks that was never
--- used, and it is used from then on.
+-- What a `take_spn` without a wanted number does: the least suspect parameter number of the team's blocks that was
+-- never used, and it is used from then on.
 pub record GivesSpn (team name : List ℕ) (book : SpnBook) (reply : Reply) (entries : Entries) : Type 0 where
   pub number : ℕ
   pub granted : lies_in number (spn_blocks_of book name team) ≡ true

@@ -15,7 +15,8 @@ use Rattle.office_rules.specs.Commands.{outcome}
 use Rattle.office_rules.specs.Importing.{FileReading}
 use Rattle.office_rules.specs.Outcome.{Outcome, Refusing, Changing}
 
--- the commands that depend on the releases of their network: `retire` on what they have, `release` on how many there are
+-- the commands that depend on the releases of their network: `retire` on what they have, `release` on how many there
+-- are
 abbrev pub action_reads_releases : Action → Bool
 action_reads_releases (act.Retire message) = true
 action_reads_releases act.Release = true

@@ -9,8 +9,8 @@ ghost use Rattle.office_law.specs.Refusals.{LeastInsideBlocks, NeverTwoMultiplex
 
 use dbc_grammar::texts_read_as_one_sheet;
 
-/// What every office keeps is kept by each step and by each run, and the opening office keeps it. Teams and commands are
-/// in range, as those of their types are.
+/// What every office keeps is kept by each step and by each run, and the opening office keeps it. Teams and commands
+/// are in range, as those of their types are.
 pub fn offices_are_kept()
     ensures { OfficesAreKept }
 {}
@@ -58,8 +58,8 @@ pub fn sheets_have_one_multiplexor()
     ensures { NeverTwoMultiplexors }
 {}
 
-/// Where no test of a command refuses, the network, the message, the number, the start or the sheet that the command goes
-/// on with is there.
+/// Where no test of a command refuses, the network, the message, the number, the start or the sheet that the command
+/// goes on with is there.
 pub fn nothing_is_missing()
     ensures { NothingIsMissing }
 {}

@@ -7,12 +7,13 @@
 //! - [`networks_are_apart`]: a command reads and changes its own network alone, and leaves its releases.
 //! - [`releases_dont_count`]: what a network released counts for `retire` and `release` alone.
 //! - [`steps_agree`]: a step is a function, but for the fault that is reported of a file that reads as no sheet.
-//! - [`outcomes_are_left`], [`replies_are_apart`], [`one_history_leaves_one_network`]: so what becomes of a network depends
-//!   on its own history alone.
+//! - [`outcomes_are_left`], [`replies_are_apart`], [`one_history_leaves_one_network`]: so what becomes of a network
+//!   depends on its own history alone.
 //! - [`tests_decide_commands`]: a command is refused by the first of its tests that holds, and else it is answered.
 //! - [`wants_are_real`]: a refusal for want of a block, a number or room comes only where there is none.
 //! - [`nothing_is_missing`]: where no test of a command refuses, there is what it goes on with.
-//! - [`numbers_elsewhere_do_not_count`] and [`sheets_have_one_multiplexor`]: what an allocator and an import needn't look at.
+//! - [`numbers_elsewhere_do_not_count`] and [`sheets_have_one_multiplexor`]: what an allocator and an import needn't
+//!   look at.
 #![tactic(auto)]
 
 mod bundles;

@@ -45,8 +45,8 @@ clear_tests m = elim (first_clash_of (places_of m.signals) m.length) [
   | None ↦ []
 ]
 
--- Each message of the file is live already, and equal to the live one; or it is new, and then its number isn't held, its
--- name isn't live, and the team may bring the number.
+-- Each message of the file is live already, and equal to the live one; or it is new, and then its number isn't held,
+-- its name isn't live, and the team may bring the number.
 
 abbrev pub is_live_so : Net → Message → Bool
 is_live_so net m = list_any (λ l. same_message l.message m) net.live

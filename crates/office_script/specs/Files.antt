@@ -1,4 +1,5 @@
--- What is known of the files at paths, what reading one may give, and the arrival of a request with the bytes of its file.
+-- What is known of the files at paths, what reading one may give, and the arrival of a request with the bytes of its
+-- file.
 use Rattle.std.specs.Prelude.{◌≡◌, ℕ, List, ◌∷◌, ◌++◌, Some}
 use Rattle.std.specs.List.{AllZip}
 use Rattle.office_types.specs.declared.command.Action.{Action}

@@ -80,7 +80,8 @@ fn import_request(
     bytes: Vec<u8>,
 ) -> Result<Request, AllocError>
     ensures content { IfOk result (λ request. request.content.items ≡ text ++ (10 ∷ bytes.items)) }
-    ensures command { IfOk result (λ request. request.command ≡ record { net = import.net; task = task.Import bytes.items }) }
+    ensures command { IfOk result (λ request. request.command
+        ≡ record { net = import.net; task = task.Import bytes.items }) }
 {
     let content = import_content(text, &bytes)?;
     let command = import.with_bytes(bytes);

@@ -3,7 +3,8 @@ ghost use Rattle.std.specs.Prelude.{◌≡◌, ◌∷◌, ℕ, IfOk, IfSome, Non
 ghost use Rattle.office_fields.specs.Kind.{kind_of_word};
 ghost use Rattle.office_fields.specs.Reading.{Reads};
 ghost use Rattle.office_script.specs.Words.{words_of, words_after};
-ghost use Rattle.office_script.specs.Requests.{requested_bundle, requested_by, bundle_file, request_of_words, request_of};
+ghost use Rattle.office_script.specs.Requests.{requested_bundle, requested_by, bundle_file, request_of_words};
+ghost use Rattle.office_script.specs.Requests.{request_of};
 
 use crate::fields::read_fields;
 use crate::keys::{Dash, key_of};
@@ -39,7 +40,8 @@ struct LineParts<'a> {
 }
 
 fn line_parts(line: &[u8]) -> Option<LineParts<'_>>
-    ensures words { MatchOption result ((dash : Dash) → (number : ℕ) → request_of_words dash number (words_of line.now) ≡ None)
+    ensures words { MatchOption result ((dash : Dash) → (number : ℕ)
+        → request_of_words dash number (words_of line.now) ≡ None)
         (λ p. words_of line.now ≡ p.key.now ∷ p.team.now ∷ words_of p.text.now) }
     ensures text { IfSome result (λ p. words_of p.text.now ≡ p.command.now ∷ words_after p.rest) }
 {
@@ -87,7 +89,8 @@ fn request_of_parts(
     parts: &LineParts<'_>,
 ) -> Result<LineRequest, Unread>
     requires { words_of parts.now.text.now ≡ parts.now.command.now ∷ words_after parts.now.rest }
-    ensures { Reads (request_of_words dash number (parts.now.key.now ∷ parts.now.team.now ∷ words_of parts.now.text.now)) result }
+    ensures { Reads (request_of_words dash number
+        (parts.now.key.now ∷ parts.now.team.now ∷ words_of parts.now.text.now)) result }
 {
     let key = key_of(alloc, dash, number, parts.key)?;
     let team = team_of(alloc, parts.team)?;
@@ -126,8 +129,8 @@ fn requested_bundle(requested: Requested) -> Option<FilePath>
     }
 }
 
-/// The file of the bundle that the line of this number, from 1, requests; `None` where it requests something else or nothing,
-/// or is wrong. The error is out of memory.
+/// The file of the bundle that the line of this number, from 1, requests; `None` where it requests something else or
+/// nothing, or is wrong. The error is out of memory.
 pub fn bundle_file(
     alloc: Global,
     dash: Dash,

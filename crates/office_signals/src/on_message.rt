@@ -28,7 +28,8 @@ pub fn decide_take_spn_in(
     book: &SpnBook,
     take: &TakeSpn,
 ) -> Result<Decision, AllocError>
-    ensures { IfOk result (Decides name.now (record { net = option_copied net.entry; book = book.now }) (take_spn team.now name.now (option_copied net.entry) book.now take.now)) }
+    ensures { IfOk result (Decides name.now (record { net = option_copied net.entry; book = book.now })
+        (take_spn team.now name.now (option_copied net.entry) book.now take.now)) }
 {
     match net {
         None => Ok(refusal_decision(alloc, Refusal::NoNet)),
@@ -47,7 +48,9 @@ pub fn decide_take_bits_in(
     net: Option<&Net>,
     take: &TakeBits,
 ) -> Result<Decision, AllocError>
-    ensures { IfOk result (λ d. (name : List ℕ) (book : SpnBook) → Decides name (record { net = option_copied net.entry; book = book }) (take_bits team.now (option_copied net.entry) take.now) d) }
+    ensures { IfOk result (λ d. (name : List ℕ) (book : SpnBook)
+        → Decides name (record { net = option_copied net.entry; book = book })
+        (take_bits team.now (option_copied net.entry) take.now) d) }
 {
     match net {
         None => Ok(refusal_decision(alloc, Refusal::NoNet)),
@@ -66,7 +69,9 @@ pub fn decide_set_values_in(
     net: Option<&Net>,
     set: &SetValues,
 ) -> Result<Decision, AllocError>
-    ensures { IfOk result (λ d. (name : List ℕ) (book : SpnBook) → Decides name (record { net = option_copied net.entry; book = book }) (set_values team.now (option_copied net.entry) set.now) d) }
+    ensures { IfOk result (λ d. (name : List ℕ) (book : SpnBook)
+        → Decides name (record { net = option_copied net.entry; book = book })
+        (set_values team.now (option_copied net.entry) set.now) d) }
 {
     match net {
         None => Ok(refusal_decision(alloc, Refusal::NoNet)),
@@ -85,7 +90,9 @@ pub fn decide_remove_signal_in(
     net: Option<&Net>,
     path: &SignalPath,
 ) -> Result<Decision, AllocError>
-    ensures { IfOk result (λ d. (name : List ℕ) (book : SpnBook) → Decides name (record { net = option_copied net.entry; book = book }) (remove_signal team.now (option_copied net.entry) path.now) d) }
+    ensures { IfOk result (λ d. (name : List ℕ) (book : SpnBook)
+        → Decides name (record { net = option_copied net.entry; book = book })
+        (remove_signal team.now (option_copied net.entry) path.now) d) }
 {
     match net {
         None => Ok(refusal_decision(alloc, Refusal::NoNet)),
@@ -104,7 +111,9 @@ pub fn decide_retire_in(
     net: Option<&Net>,
     message: &Name,
 ) -> Result<Decision, AllocError>
-    ensures { IfOk result (λ d. (name : List ℕ) (book : SpnBook) → Decides name (record { net = option_copied net.entry; book = book }) (retire team.now (option_copied net.entry) message.now) d) }
+    ensures { IfOk result (λ d. (name : List ℕ) (book : SpnBook)
+        → Decides name (record { net = option_copied net.entry; book = book })
+        (retire team.now (option_copied net.entry) message.now) d) }
 {
     match net {
         None => Ok(refusal_decision(alloc, Refusal::NoNet)),

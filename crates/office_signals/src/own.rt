@@ -16,7 +16,8 @@ pub(crate) fn own_message<'a>(
 ) -> Result<&'a LiveMessage, Refusal>
     ensures given { IfOk result (λ live.
         IsGiven (retire_tests team.now (message_facts_of facts.now)) (message_facts_of facts.now).found (Ok live.now)) }
-    ensures refused { IfErr result (λ refusal. first_refusal (retire_tests team.now (message_facts_of facts.now)) ≡ Some refusal) }
+    ensures refused { IfErr result (λ refusal. first_refusal (retire_tests team.now (message_facts_of facts.now))
+        ≡ Some refusal) }
 {
     if in_review(facts.phase) {
         return Err(Refusal::InReview);

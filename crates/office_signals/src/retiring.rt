@@ -23,10 +23,11 @@ fn was_released(releases: &[FrozenSheet], ident: &Ident) -> bool
     releases.iter().any(|release| release.has(*ident))
 }
 
-/// The decision that takes the message of the identifier out, and holds the identifier where a release has it. The error
-/// is out of memory.
+/// The decision that takes the message of the identifier out, and holds the identifier where a release has it. The
+/// error is out of memory.
 fn message_retired(alloc: Global, ident: &Ident, released: bool) -> Result<Decision, AllocError>
-    ensures changes { IfOk result (λ d. d.changes ≡ RemoveMessage ident.now ∷ (if released then Hold ident.now ∷ [] else [])) }
+    ensures changes { IfOk result
+        (λ d. d.changes ≡ RemoveMessage ident.now ∷ (if released then Hold ident.now ∷ [] else [])) }
     ensures reply { IfOk result (λ d. d.reply ≡ Done) }
 {
     let remove = Change::RemoveMessage(*ident);
@@ -37,8 +38,8 @@ fn message_retired(alloc: Global, ident: &Ident, released: bool) -> Result<Decis
     }
 }
 
-/// Decides the team's `retire` of a message on a network that has these facts for it; `released` says whether one of the
-/// network's releases has the message's identifier. The error is out of memory.
+/// Decides the team's `retire` of a message on a network that has these facts for it; `released` says whether one of
+/// the network's releases has the message's identifier. The error is out of memory.
 pub fn decide_retire_by_facts(
     alloc: Global,
     team: &Team,

@@ -1,5 +1,5 @@
--- The facts that a body is given, as the definitions speak of them, and the refusals that don't hang on which numbers are
--- taken.
+-- The facts that a body is given, as the definitions speak of them, and the refusals that don't hang on which numbers
+-- are taken.
 use Rattle.std.specs.Prelude.{ℕ, List, Option, Some, None}
 use Rattle.office_rules.specs.Facts.{NumberFacts}
 use Rattle.office_take.specs.declared.numbers.NumberFacts.{NumberFacts as NumberFactsModel}

@@ -114,7 +114,8 @@ pub fn decide_grant(
     book: &SpnBook,
     command: &Grant,
 ) -> Result<Decision, AllocError>
-    ensures { IfOk result (Decides name.now (record { net = option_copied net.entry; book = book.now }) (grant team.now name.now (option_copied net.entry) book.now command.now)) }
+    ensures { IfOk result (Decides name.now (record { net = option_copied net.entry; book = book.now })
+        (grant team.now name.now (option_copied net.entry) book.now command.now)) }
 {
     if let Some(refusal) = grant_refusal(team, net, book, command) {
         return Ok(refusal_decision(alloc, refusal));

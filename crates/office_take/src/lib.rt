@@ -1,8 +1,8 @@
 //! Decisions on the commands that open networks, grant blocks, add nodes, give out numbers for new messages, review,
 //! and release.
 //!
-//! Each `decide_..` gives what its command results in by the definition of `office_rules` that has its name: a reply, and
-//! the changes that lead to what the command leaves. `opening` opens a network, `granting` grants a block, `adding`
+//! Each `decide_..` gives what its command results in by the definition of `office_rules` that has its name: a reply,
+//! and the changes that lead to what the command leaves. `opening` opens a network, `granting` grants a block, `adding`
 //! adds a node, `reviewing` has reviews, and `releasing` freezes the live sheet.
 //!
 //! `idents` gives out identifiers and `groups` parameter groups. Both read [`NumberFacts`] of a network, and the

@@ -62,7 +62,8 @@ fn frozen(alloc: Global, net: &Net) -> Result<FrozenSheet, AllocError>
 
 /// The changes of a release.
 fn release_changes(alloc: Global, net: &Net) -> Result<Items<Change>, AllocError>
-    ensures { IfOk result (λ changes. changes ≡ AddRelease (sheet_of net.now) ∷ SetHead (record net.now.head { phase = Draft }) ∷ ClearApprovals ∷ []) }
+    ensures { IfOk result (λ changes. changes ≡ AddRelease (sheet_of net.now) ∷ SetHead
+        (record net.now.head { phase = Draft }) ∷ ClearApprovals ∷ []) }
 {
     let mut changes = Items::new(alloc);
     changes.push(Change::AddRelease(frozen(alloc, net)?))?;
@@ -78,7 +79,8 @@ fn release_changes(alloc: Global, net: &Net) -> Result<Items<Change>, AllocError
 /// number of the release, from 1. The error is out of memory.
 pub fn decide_release(alloc: Global, team: &Team, net: Option<&Net>) -> Result<Decision, AllocError>
     ensures { IfOk result (λ d. (name : List ℕ) (book : SpnBook) →
-        Decides name (record { net = option_copied net.entry; book = book }) (release team.now (option_copied net.entry)) d) }
+        Decides name (record { net = option_copied net.entry; book = book })
+        (release team.now (option_copied net.entry)) d) }
 {
     if let Some(refusal) = release_refusal(team, net) {
         return Ok(refusal_decision(alloc, refusal));

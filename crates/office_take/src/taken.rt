@@ -42,7 +42,8 @@ pub(crate) fn least_of_team<T: Taken>(
     block_form: BlockForm,
     form: Form,
 ) -> Result<Option<u32>, AllocError>
-    ensures least { IfOk result (λ least. least ≡ least_free (T.numbers taken.now) (blocks_of blocks.now team.now block_form) form) }
+    ensures least { IfOk result (λ least. least ≡ least_free (T.numbers taken.now)
+        (blocks_of blocks.now team.now block_form) form) }
     ensures formed { IfOk result (λ least. IfSome least (λ n. has_form form n ≡ true)) }
 {
     let blocks = blocks_of(alloc, blocks, team, block_form)?;

@@ -1,6 +1,8 @@
 //! What the office replies to a command.
 ghost use Rattle.std.specs.Prelude.{◌≡◌, Some};
-ghost use Rattle.office_types.specs.Reply.{IsPartReply, IsReply, bundle_at, part_at, part_numbers, part_reply, part_start_at, refused_at, reply_at, reply_numbers, reply_parts, single_at, start_at};
+ghost use Rattle.office_types.specs.Reply.{IsPartReply, IsReply, bundle_at, part_at, part_numbers, part_reply};
+ghost use Rattle.office_types.specs.Reply.{part_start_at, refused_at, reply_at, reply_numbers, reply_parts};
+ghost use Rattle.office_types.specs.Reply.{single_at, start_at};
 ghost use Rattle.office_types.specs.declared.reply.PartReply.{PartReply};
 ghost use Rattle.office_types.specs.declared.reply.Reply.{Reply};
 

@@ -51,8 +51,8 @@ impl StandardInput for Cut<'_> {
     }
 }
 
-/// Whether a check of the bytes ends with a verdict or a fault. That the offset of a fault is inside them or at their end is
-/// proved.
+/// Whether a check of the bytes ends with a verdict or a fault. That the offset of a fault is inside them or at their
+/// end is proved.
 fn is_answered(alloc: Global, command: &str, cut: Cut) -> bool {
     let words = ["canoffice", command, "file"];
     let printed = run_on(alloc, &words, &cut, &mut MemoryDatabase { conn: None });

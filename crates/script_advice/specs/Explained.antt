@@ -36,12 +36,13 @@ abbrev pub or_else : List ℕ → List ℕ → List ℕ
 or_else [] other = other
 or_else (b ∷ bytes) other = b ∷ bytes
 
--- what is stated of a bundle whose file has no parts: its first wrong line, or that it has no command or too many; that is stated of
--- the word `bundle` of the script's line
+-- what is stated of a bundle whose file has no parts: its first wrong line, or that it has no command or too many; that
+-- is stated of the word `bundle` of the script's line
 abbrev pub wrong_parts : List ℕ → ℕ → List ℕ → List ℕ → List ℕ → List ℕ
 wrong_parts name number line path bytes = or_else (first_wrong_part path 1 (lines_of bytes)) (wrong_line name number line (wrong_at 2 Count))
 
--- nothing is stated of what is requested: it is no bundle, or its file has parts, or it can't be read; and this is stated
+-- nothing is stated of what is requested: it is no bundle, or its file has parts, or it can't be read; and this is
+-- stated
 abbrev pub SaysNothing : Files → Option (List ℕ) → Type 0
 SaysNothing files None = Unit {0}
 SaysNothing files (Some path) = ((bytes : List ℕ) × Gives (files path) bytes × IsSome (parts_in bytes)) ⊎ FailsWith (files path) Unreadable
@@ -58,7 +59,8 @@ IsStatedOfLine files name dash number line Later (Some w) stated = stated ≡ wr
 IsStatedOfLine files name dash number line Later None stated =
     Says files (wrong_parts name number line) (bundle_file dash number line) stated ⊎ (SaysNothing files (bundle_file dash number line) × Later stated)
 
--- of lines, the first of which has this number: what is stated of the first wrong one, or of the first whose bundle's file is
+-- of lines, the first of which has this number: what is stated of the first wrong one, or of the first whose bundle's
+-- file is
 abbrev pub IsStatedOf : Files → List ℕ → Dash → ℕ → List (List ℕ) → List ℕ → Type 0
 IsStatedOf files name dash number [] stated = stated ≡ []
 IsStatedOf files name dash number (line ∷ lines) stated =

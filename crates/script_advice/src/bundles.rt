@@ -61,7 +61,8 @@ fn wrong_parts(
     wrong_line(alloc, name, number, line, wrong)
 }
 
-/// What is stated of what the script's line of this number requests: something if it is a bundle whose file has no parts.
+/// What is stated of what the script's line of this number requests: something if it is a bundle whose file has no
+/// parts.
 pub(crate) fn stated_of_bundle<F: FileSource>(
     alloc: Global,
     name: &[u8],
@@ -70,8 +71,10 @@ pub(crate) fn stated_of_bundle<F: FileSource>(
     line: &[u8],
     files: &F,
 ) -> Result<Option<Vec<u8>>, AllocError>
-    ensures { IfOk result (λ stated. MatchOption stated (SaysNothing (F.held files.now) (bundle_file dash number line.now))
-        (λ text. Says (F.held files.now) (wrong_parts name.now number line.now) (bundle_file dash number line.now) text.items)) }
+    ensures { IfOk result (λ stated. MatchOption stated
+        (SaysNothing (F.held files.now) (bundle_file dash number line.now))
+        (λ text. Says (F.held files.now) (wrong_parts name.now number line.now)
+        (bundle_file dash number line.now) text.items)) }
 {
     let Some(path) = bundle_file(alloc, dash, number, line)? else {
         return Ok(None);

@@ -39,7 +39,8 @@ pub(crate) fn wrong_line(
     reported_line(alloc, name, position, LABEL, &sentence)
 }
 
-/// What is stated of the first wrong line of the script, or of the first whose bundle's file is wrong; nothing if there is none.
+/// What is stated of the first wrong line of the script, or of the first whose bundle's file is wrong; nothing if there
+/// is none.
 fn first_wrong_line<F: FileSource>(
     alloc: Global,
     name: &[u8],
@@ -64,11 +65,11 @@ fn first_wrong_line<F: FileSource>(
     Ok(Vec::new(alloc))
 }
 
-/// What is stated of a script under its name, beside what is answered: the line `NAME:LINE:COLUMN: bad line: sentence` of its
-/// first wrong line, at the word that is to blame, or nothing if no line is wrong. A line is wrong as well if it requests a
-/// bundle whose file is: then the line is of that file, under its path, or of the script if there is no command or too many.
-/// `dash` is what `-` means as a key. Files that can't be read, and those of imports, aren't looked at. The error is out of
-/// memory.
+/// What is stated of a script under its name, beside what is answered: the line `NAME:LINE:COLUMN: bad line: sentence`
+/// of its first wrong line, at the word that is to blame, or nothing if no line is wrong. A line is wrong as well if it
+/// requests a bundle whose file is: then the line is of that file, under its path, or of the script if there is no
+/// command or too many. `dash` is what `-` means as a key. Files that can't be read, and those of imports, aren't
+/// looked at. The error is out of memory.
 pub fn explained<F: FileSource>(
     alloc: Global,
     name: &[u8],
@@ -76,11 +77,14 @@ pub fn explained<F: FileSource>(
     dash: Dash,
     files: &F,
 ) -> Result<Vec<u8>, AllocError>
-    ensures stated { IfOk result (λ stated. IsStatedOf (F.held files.now) name.now dash 1 (lines_of text.now) stated.items) }
+    ensures stated { IfOk result (λ stated. IsStatedOf (F.held files.now) name.now dash 1
+        (lines_of text.now) stated.items) }
 
     // A line is reported as wrong exactly if it is; and so is one of a bundle's file.
-    ensures wrong { (number : ℕ) → (line : List ℕ) → is_none (wrong_of dash number line) ≡ is_some (requests_of_line dash number line) }
-    ensures parts { (line : List ℕ) → is_none (part_wrong line) ≡ (says_nothing line || is_some (part_of_words (words_of line))) }
+    ensures wrong { (number : ℕ) → (line : List ℕ)
+        → is_none (wrong_of dash number line) ≡ is_some (requests_of_line dash number line) }
+    ensures parts { (line : List ℕ) → is_none (part_wrong line)
+        ≡ (says_nothing line || is_some (part_of_words (words_of line))) }
 {
     first_wrong_line(alloc, name, text, dash, files)
 }

@@ -88,7 +88,8 @@ fn had_wrong(
     command: LineCommand,
     values: &[GivenValue<'_>],
 ) -> Result<Option<Wrong>, AllocError>
-    ensures { IfOk result (λ found. found ≡ (if can_be_had command (named_values values.now) then None else Some (values_wrong command (named_values values.now)))) }
+    ensures { IfOk result (λ found. found ≡ (if can_be_had command (named_values values.now) then None else Some
+        (values_wrong command (named_values values.now)))) }
 {
     if can_be_had(alloc, command, values)? {
         Ok(None)
@@ -103,7 +104,8 @@ fn fields_wrong(
     command: LineCommand,
     rest: Option<&[u8]>,
 ) -> Result<Option<Wrong>, AllocError>
-    ensures { IfOk result (λ found. found ≡ fields_wrong command (words_after rest.entry) (script.fields_of (words_after rest.entry))) }
+    ensures { IfOk result (λ found. found ≡ fields_wrong command (words_after rest.entry)
+        (script.fields_of (words_after rest.entry))) }
 {
     match read_fields(alloc, rest)? {
         Some(values) => had_wrong(alloc, command, &values),
@@ -121,7 +123,8 @@ fn parts_wrong(
     number: usize,
     parts: LineParts<'_>,
 ) -> Result<Option<Wrong>, AllocError>
-    ensures { IfOk result (λ found. found ≡ words_wrong dash number (parts.entry.key.now ∷ parts.entry.team.now ∷ parts.entry.command.now ∷ words_after parts.entry.rest)) }
+    ensures { IfOk result (λ found. found ≡ words_wrong dash number
+        (parts.entry.key.now ∷ parts.entry.team.now ∷ parts.entry.command.now ∷ words_after parts.entry.rest)) }
 {
     if !is_key(alloc, dash, number, parts.key)? {
         let cause = Cause::Key(dash);

@@ -1,7 +1,8 @@
 //! What is stated of a wrong line: one sentence.
 ghost use Rattle.std.specs.Prelude.{◌≡◌, ◌++◌, IfOk, OnOk};
 ghost use Rattle.script_advice.specs.declared.cause.Cause.TheVariants as why;
-ghost use Rattle.script_advice.specs.Sentence.{apart_text, block_range, block_text, field_name, has_carriage_return, hint_of, is_text, key_meaning, meaning_of, sentence_of};
+ghost use Rattle.script_advice.specs.Sentence.{apart_text, block_range, block_text, field_name, has_carriage_return};
+ghost use Rattle.script_advice.specs.Sentence.{hint_of, is_text, key_meaning, meaning_of, sentence_of};
 
 use crate::cause::{Cause, LineCommand};
 use crate::lists::{command_words, field_names};

@@ -7,9 +7,9 @@ use Rattle.store_net.specs.Texts.{IsTextOf, live_chart, live_table, live_text, r
 use Rattle.office_types.specs.declared.look.Look.{Look}
 use Rattle.office_types.specs.declared.look.Look.TheVariants.{Chart, Live, Nets, Release, Table}
 
--- The list of networks; of a network, the table and the canonical text of its live sheet; of a release, the canonical text
--- of it, which reads as it and as no other sheet; of a live message, its chart. Nothing exactly where there is no such
--- network, release or message.
+-- The list of networks; of a network, the table and the canonical text of its live sheet; of a release, the canonical
+-- text of it, which reads as it and as no other sheet; of a live message, its chart. Nothing exactly where there is no
+-- such network, release or message.
 abbrev pub IsShown : Office → Look → Option (List ℕ) → Type 0
 IsShown office Nets text = text ≡ Some (nets_text office.nets)
 IsShown office (Table net) text = text ≡ live_table (net_named office net)

@@ -1,9 +1,9 @@
 //! What is decided on a request that comes for the first time, on what its command reads of the tables.
 //!
-//! Six commands read an excerpt of their network: those on a signal their message alone, those that give out a number the
-//! numbers that could be given out. The others read all of their network but its releases; of these `release` reads how
-//! many there are, and `retire` alone what is in them, and so do bundles with one of them. The book is read where the
-//! command depends on it, and for a bundle.
+//! Six commands read an excerpt of their network: those on a signal their message alone, those that give out a number
+//! the numbers that could be given out. The others read all of their network but its releases; of these `release` reads
+//! how many there are, and `retire` alone what is in them, and so do bundles with one of them. The book is read where
+//! the command depends on it, and for a bundle.
 ghost use Rattle.std.specs.Prelude.{◌≡◌, true, false, Option, Some};
 ghost use Rattle.std.specs.List.{list_any};
 ghost use Rattle.sqlite.specs.Held.{state};
@@ -41,7 +41,8 @@ fn excerpt_at<S: Alter>(
 ) -> Result<Option<Excerpt>, Error>
     requires { goes_by_excerpt command.now.task ≡ true }
     ensures same_reference { tx.new.conn.ghost_name ≡ tx.old.conn.ghost_name }
-    ensures found { Finds result (state S.Store tx.old.conn.now) (state S.Store tx.new.conn.now) (λ found t. (net : Option Network) → IsNetAt command.now.net t net
+    ensures found { Finds result (state S.Store tx.old.conn.now) (state S.Store tx.new.conn.now)
+        (λ found t. (net : Option Network) → IsNetAt command.now.net t net
         → MatchBoth (λ net e. IsExcerptOf team.now net command.now.task e) net found) }
     ensures same { ChangesNothing result (state S.Store tx.old.conn.now) (state S.Store tx.new.conn.now) }
     ensures kept { CommitsNothing (state S.Store tx.old.conn.now) (state S.Store tx.new.conn.now) }
@@ -89,8 +90,10 @@ fn decide_by_excerpt<S: Alter>(
 ) -> Result<Decision, Error>
     requires { goes_by_excerpt command.now.task ≡ true }
     ensures same_reference { tx.new.conn.ghost_name ≡ tx.old.conn.ghost_name }
-    ensures decided { Finds result (state S.Store tx.old.conn.now) (state S.Store tx.new.conn.now) (λ d t. (net : Option Network) (book : Book) → IsNetAt command.now.net t net → IsBookIn t book
-        → IsDecision team.now (record { net = net; book = book }) command.now d × (list_any is_release d.changes ≡ false)) }
+    ensures decided { Finds result (state S.Store tx.old.conn.now) (state S.Store tx.new.conn.now)
+        (λ d t. (net : Option Network) (book : Book) → IsNetAt command.now.net t net → IsBookIn t book
+        → IsDecision team.now (record { net = net; book = book }) command.now d
+        × (list_any is_release d.changes ≡ false)) }
     ensures same { ChangesNothing result (state S.Store tx.old.conn.now) (state S.Store tx.new.conn.now) }
     ensures kept { CommitsNothing (state S.Store tx.old.conn.now) (state S.Store tx.new.conn.now) }
     ensures survives { LeavesNothing (state S.Store tx.old.conn.now) (state S.Store tx.new.conn.now) }
@@ -122,7 +125,8 @@ fn decide_without_releases<S: Alter>(
 ) -> Result<(Decision, Option<u32>), Error>
     requires { reads_releases command.now.task ≡ false }
     ensures same_reference { tx.new.conn.ghost_name ≡ tx.old.conn.ghost_name }
-    ensures decided { Finds result (state S.Store tx.old.conn.now) (state S.Store tx.new.conn.now) (λ it t. (net : Option Network) (book : Book) → IsNetAt command.now.net t net → IsBookIn t book
+    ensures decided { Finds result (state S.Store tx.old.conn.now) (state S.Store tx.new.conn.now)
+        (λ it t. (net : Option Network) (book : Book) → IsNetAt command.now.net t net → IsBookIn t book
         → IsDecision team.now (record { net = net; book = book }) command.now it.0 × IsNext it.1 net it.0.changes) }
     ensures same { ChangesNothing result (state S.Store tx.old.conn.now) (state S.Store tx.new.conn.now) }
     ensures kept { CommitsNothing (state S.Store tx.old.conn.now) (state S.Store tx.new.conn.now) }
@@ -145,7 +149,8 @@ fn decide_by_count<S: Alter>(
 ) -> Result<(Decision, Option<u32>), Error>
     requires { reads_bodies command.now.task ≡ false }
     ensures same_reference { tx.new.conn.ghost_name ≡ tx.old.conn.ghost_name }
-    ensures decided { Finds result (state S.Store tx.old.conn.now) (state S.Store tx.new.conn.now) (λ it t. (net : Option Network) (book : Book) → IsNetAt command.now.net t net → IsBookIn t book
+    ensures decided { Finds result (state S.Store tx.old.conn.now) (state S.Store tx.new.conn.now)
+        (λ it t. (net : Option Network) (book : Book) → IsNetAt command.now.net t net → IsBookIn t book
         → IsDecision team.now (record { net = net; book = book }) command.now it.0 × IsNext it.1 net it.0.changes) }
     ensures same { ChangesNothing result (state S.Store tx.old.conn.now) (state S.Store tx.new.conn.now) }
     ensures kept { CommitsNothing (state S.Store tx.old.conn.now) (state S.Store tx.new.conn.now) }
@@ -167,7 +172,8 @@ fn decide_by_net<S: Alter>(
     command: &Command,
 ) -> Result<(Decision, Option<u32>), Error>
     ensures same_reference { tx.new.conn.ghost_name ≡ tx.old.conn.ghost_name }
-    ensures decided { Finds result (state S.Store tx.old.conn.now) (state S.Store tx.new.conn.now) (λ it t. (net : Option Network) (book : Book) → IsNetAt command.now.net t net → IsBookIn t book
+    ensures decided { Finds result (state S.Store tx.old.conn.now) (state S.Store tx.new.conn.now)
+        (λ it t. (net : Option Network) (book : Book) → IsNetAt command.now.net t net → IsBookIn t book
         → IsDecision team.now (record { net = net; book = book }) command.now it.0 × IsNext it.1 net it.0.changes) }
     ensures same { ChangesNothing result (state S.Store tx.old.conn.now) (state S.Store tx.new.conn.now) }
     ensures kept { CommitsNothing (state S.Store tx.old.conn.now) (state S.Store tx.new.conn.now) }
@@ -180,8 +186,9 @@ fn decide_by_net<S: Alter>(
     Ok((decision, Some(next)))
 }
 
-/// Decides the team's command on what the tables have, and gives the number of the network's next release if the changes
-/// may have one. An error is out of memory, what `sqlite` answers, or `InvalidQuery` where the rows are no office's.
+/// Decides the team's command on what the tables have, and gives the number of the network's next release if the
+/// changes may have one. An error is out of memory, what `sqlite` answers, or `InvalidQuery` where the rows are no
+/// office's.
 pub(crate) fn decide_on_tables<S: Alter>(
     alloc: Global,
     tx: &mut Transaction<'_, S>,
@@ -189,7 +196,8 @@ pub(crate) fn decide_on_tables<S: Alter>(
     command: &Command,
 ) -> Result<(Decision, Option<u32>), Error>
     ensures same_reference { tx.new.conn.ghost_name ≡ tx.old.conn.ghost_name }
-    ensures decided { Finds result (state S.Store tx.old.conn.now) (state S.Store tx.new.conn.now) (λ it t. (net : Option Network) (book : Book) → IsNetAt command.now.net t net → IsBookIn t book
+    ensures decided { Finds result (state S.Store tx.old.conn.now) (state S.Store tx.new.conn.now)
+        (λ it t. (net : Option Network) (book : Book) → IsNetAt command.now.net t net → IsBookIn t book
         → IsDecision team.now (record { net = net; book = book }) command.now it.0 × IsNext it.1 net it.0.changes) }
     ensures same { ChangesNothing result (state S.Store tx.old.conn.now) (state S.Store tx.new.conn.now) }
     ensures kept { CommitsNothing (state S.Store tx.old.conn.now) (state S.Store tx.new.conn.now) }

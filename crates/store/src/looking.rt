@@ -31,7 +31,9 @@ fn look_inside<S: Alter>(
     question: &Look,
 ) -> Result<Option<Vec<u8>>, Error>
     ensures same_reference { tx.new.conn.ghost_name ≡ tx.old.conn.ghost_name }
-    ensures found { Finds result (state S.Store tx.old.conn.now) (state S.Store tx.new.conn.now) (λ text t. (h : List Answered) → (holds : Holds h t) → IsShown holds.holds.office question.now (option_map (λ bytes. bytes.items) text)) }
+    ensures found { Finds result (state S.Store tx.old.conn.now) (state S.Store tx.new.conn.now)
+        (λ text t. (h : List Answered) → (holds : Holds h t)
+        → IsShown holds.holds.office question.now (option_map (λ bytes. bytes.items) text)) }
     ensures same { ChangesNothing result (state S.Store tx.old.conn.now) (state S.Store tx.new.conn.now) }
     ensures kept { CommitsNothing (state S.Store tx.old.conn.now) (state S.Store tx.new.conn.now) }
     ensures survives { LeavesNothing (state S.Store tx.old.conn.now) (state S.Store tx.new.conn.now) }
@@ -55,14 +57,23 @@ fn ask<S: Alter>(
     requires { (state S.Store conn.old).in_transaction ≡ false }
     ensures autocommit { (state S.Store conn.new).in_transaction ≡ false }
     ensures clean { doubt (state S.Store conn.old).is_clean ≤ doubt (state S.Store conn.new).is_clean }
-    ensures found { HasCleanDisk (state S.Store conn.new) → (h : List Answered) → (holding : Holding h (state S.Store conn.old))
-        → IfOk result (λ text. IsShown holding.keeps.holds.holds.office question.now (option_map (λ bytes. bytes.items) text)) }
-    ensures held { HasCleanDisk (state S.Store conn.new) → (h : List Answered) → Holding h (state S.Store conn.old) → OnOk result (Holding h (state S.Store conn.new)) }
-    ensures lost { HasCleanDisk (state S.Store conn.new) → (h : List Answered) → Holding h (state S.Store conn.old) → IsTrue (state S.Store conn.new).is_open → OnErr result (Holding h (state S.Store conn.new)) }
-    ensures same { HasCleanDisk (state S.Store conn.new) → HasTables (state S.Store conn.old) → OnOk result (((state S.Store conn.new).now ≡ (state S.Store conn.old).now) × ((state S.Store conn.new).committed ≡ (state S.Store conn.old).committed)) }
-    ensures lost_same { HasCleanDisk (state S.Store conn.new) → HasTables (state S.Store conn.old) → IsTrue (state S.Store conn.new).is_open
-        → OnErr result (((state S.Store conn.new).now ≡ (state S.Store conn.old).now) × ((state S.Store conn.new).committed ≡ (state S.Store conn.old).committed)) }
-    ensures left { HasCleanDisk (state S.Store conn.new) → (h : List Answered) → Holding h (state S.Store conn.old) → Leaves (Keeps h) (state S.Store conn.new) }
+    ensures found { HasCleanDisk (state S.Store conn.new) → (h : List Answered)
+        → (holding : Holding h (state S.Store conn.old))
+        → IfOk result (λ text. IsShown holding.keeps.holds.holds.office question.now
+        (option_map (λ bytes. bytes.items) text)) }
+    ensures held { HasCleanDisk (state S.Store conn.new) → (h : List Answered) → Holding h (state S.Store conn.old)
+        → OnOk result (Holding h (state S.Store conn.new)) }
+    ensures lost { HasCleanDisk (state S.Store conn.new) → (h : List Answered) → Holding h (state S.Store conn.old)
+        → IsTrue (state S.Store conn.new).is_open → OnErr result (Holding h (state S.Store conn.new)) }
+    ensures same { HasCleanDisk (state S.Store conn.new) → HasTables (state S.Store conn.old)
+        → OnOk result (((state S.Store conn.new).now ≡ (state S.Store conn.old).now)
+        × ((state S.Store conn.new).committed ≡ (state S.Store conn.old).committed)) }
+    ensures lost_same { HasCleanDisk (state S.Store conn.new) → HasTables (state S.Store conn.old)
+        → IsTrue (state S.Store conn.new).is_open
+        → OnErr result (((state S.Store conn.new).now ≡ (state S.Store conn.old).now)
+        × ((state S.Store conn.new).committed ≡ (state S.Store conn.old).committed)) }
+    ensures left { HasCleanDisk (state S.Store conn.new) → (h : List Answered) → Holding h (state S.Store conn.old)
+        → Leaves (Keeps h) (state S.Store conn.new) }
 {
     knows_schema(conn);
     leaves_committed(conn);
@@ -84,15 +95,25 @@ impl<S: Alter> Office<S> {
         ensures refused { IsTrue self.old.failed → self.new ≡ self.old }
         ensures named { IfErr result IsOfCall }
         ensures clean { doubt (state S.Store self.old.conn).is_clean ≤ doubt (state S.Store self.new.conn).is_clean }
-        ensures shown { HasCleanDisk (state S.Store self.new.conn) → (h : List Answered) → (office : Whole) → Holding h (state S.Store self.old.conn) → IsLegal h office
+        ensures shown { HasCleanDisk (state S.Store self.new.conn) → (h : List Answered) → (office : Whole)
+            → Holding h (state S.Store self.old.conn) → IsLegal h office
             → IfOk result (λ text. IsShown office question.now (option_map (λ bytes. bytes.items) text)) }
-        ensures held { HasCleanDisk (state S.Store self.new.conn) → (h : List Answered) → Holding h (state S.Store self.old.conn) → OnOk result (Holding h (state S.Store self.new.conn)) }
-        ensures lost { HasCleanDisk (state S.Store self.new.conn) → (h : List Answered) → Holding h (state S.Store self.old.conn) → IsTrue (state S.Store self.new.conn).is_open → OnErr result (Holding h (state S.Store self.new.conn)) }
-        ensures same { HasCleanDisk (state S.Store self.new.conn) → HasTables (state S.Store self.old.conn) → OnOk result (((state S.Store self.new.conn).now ≡ (state S.Store self.old.conn).now) × ((state S.Store self.new.conn).committed ≡ (state S.Store self.old.conn).committed)) }
-        ensures lost_same { HasCleanDisk (state S.Store self.new.conn) → HasTables (state S.Store self.old.conn) → IsTrue (state S.Store self.new.conn).is_open
-            → OnErr result (((state S.Store self.new.conn).now ≡ (state S.Store self.old.conn).now) × ((state S.Store self.new.conn).committed ≡ (state S.Store self.old.conn).committed)) }
-        ensures memory { HasCleanDisk (state S.Store self.new.conn) → IfErr result (λ lost. lost ≡ Lost.Memory → IsTrue (state S.Store self.new.conn).is_open) }
-        ensures left { HasCleanDisk (state S.Store self.new.conn) → (h : List Answered) → Holding h (state S.Store self.old.conn) → Leaves (Keeps h) (state S.Store self.new.conn) }
+        ensures held { HasCleanDisk (state S.Store self.new.conn) → (h : List Answered)
+            → Holding h (state S.Store self.old.conn) → OnOk result (Holding h (state S.Store self.new.conn)) }
+        ensures lost { HasCleanDisk (state S.Store self.new.conn) → (h : List Answered)
+            → Holding h (state S.Store self.old.conn) → IsTrue (state S.Store self.new.conn).is_open
+            → OnErr result (Holding h (state S.Store self.new.conn)) }
+        ensures same { HasCleanDisk (state S.Store self.new.conn) → HasTables (state S.Store self.old.conn)
+            → OnOk result (((state S.Store self.new.conn).now ≡ (state S.Store self.old.conn).now)
+            × ((state S.Store self.new.conn).committed ≡ (state S.Store self.old.conn).committed)) }
+        ensures lost_same { HasCleanDisk (state S.Store self.new.conn) → HasTables (state S.Store self.old.conn)
+            → IsTrue (state S.Store self.new.conn).is_open
+            → OnErr result (((state S.Store self.new.conn).now ≡ (state S.Store self.old.conn).now)
+            × ((state S.Store self.new.conn).committed ≡ (state S.Store self.old.conn).committed)) }
+        ensures memory { HasCleanDisk (state S.Store self.new.conn)
+            → IfErr result (λ lost. lost ≡ Lost.Memory → IsTrue (state S.Store self.new.conn).is_open) }
+        ensures left { HasCleanDisk (state S.Store self.new.conn) → (h : List Answered)
+            → Holding h (state S.Store self.old.conn) → Leaves (Keeps h) (state S.Store self.new.conn) }
     {
         histories_leave_offices();
         self.leaves_now();

@@ -22,8 +22,10 @@ impl<S: Alter> Office<S> {
         alloc: Global,
         arrivals: &[Arrival],
     ) -> Result<Vec<Result<Answer, Lost>>, AllocError>
-        ensures ran { HasCleanDisk (state S.Store self.new.conn) → (h : List Answered) → Holding h (state S.Store self.old.conn)
-            → IfOk result (λ results. HasRun h arrivals.now results.items self.new.failed (state S.Store self.new.conn)) }
+        ensures ran { HasCleanDisk (state S.Store self.new.conn) → (h : List Answered)
+            → Holding h (state S.Store self.old.conn)
+            → IfOk result (λ results. HasRun h arrivals.now results.items self.new.failed
+            (state S.Store self.new.conn)) }
         ensures refused { IsTrue self.old.failed → self.new ≡ self.old }
         ensures failed { IfOk result (λ results. FailsBy self.old.failed results.items self.new.failed) }
         ensures named { IfOk result (λ results. All IsNoProfile results.items) }

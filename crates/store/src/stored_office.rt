@@ -37,7 +37,8 @@ impl<S: Alter> Office<S> {
 
     /// Does nothing. Its contract is a law: while the connection is open, a crash leaves what it shows.
     pub fn leaves_now(&self)
-        ensures { IsTrue (state S.Store self.now.conn).is_open → (db : Trees) → (state S.Store self.now.conn).may_leave db → db ≡ (state S.Store self.now.conn).now.trees }
+        ensures { IsTrue (state S.Store self.now.conn).is_open → (db : Trees)
+            → (state S.Store self.now.conn).may_leave db → db ≡ (state S.Store self.now.conn).now.trees }
     {
         leaves_committed(&self.conn);
         let _settled = self.conn.is_autocommit();

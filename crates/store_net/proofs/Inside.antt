@@ -86,7 +86,8 @@ taken_of f n (i ∷ idents) = by_number (f i) (taken_of f n idents)
     by_number None rest = rest
     by_number (Some m) rest = ap (λ b. (m == n) || b) rest
 
--- where a number is given by some live identifier that was read if it is given by any, it is taken as among all, with what is held
+-- where a number is given by some live identifier that was read if it is given by any, it is taken as among all, with
+-- what is held
 with_held : (f : Ident → Option ℕ) (n : ℕ) (some all held : List Ident) → list_any (gives f n) some ≡ list_any (gives f n) all
     → is_taken n (filter_map f (some ++ held)) ≡ is_taken n (filter_map f (all ++ held))
 with_held f n some all held same =

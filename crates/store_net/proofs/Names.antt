@@ -1,5 +1,5 @@
--- The list of networks: the names that a query of all networks shows are those of the networks, in order, and so are the
--- lines that are written of them.
+-- The list of networks: the names that a query of all networks shows are those of the networks, in order, and so are
+-- the lines that are written of them.
 use Rattle.std.proofs.Common.{◌≡◌, ◌<◌, ◌≤◌, ◌+◌, ℕ, suc, List, [], ◌∷◌, ◌++◌, map, length, take, take_all, get_or, Bool, true, false, cond, not, ◌||◌, Some, None, refl, sym, ap, subst, ◌∙◌, arith}
 use Rattle.std.specs.Prelude.{IsPermutation, filter, find}
 use Rattle.std.specs.List.{AllByRecursion, list_any}

@@ -21,7 +21,8 @@ use store_rows::blob_at;
 /// The canonical text of the sheet that the body reads as. An error is out of memory, or `InvalidQuery` where it reads
 /// as none.
 fn canonical_of(alloc: Global, body: &[u8]) -> Result<Vec<u8>, Error>
-    ensures text { IfOk result (λ text. (sheet : SheetModel) → Reads body.now sheet → text.items ≡ canonical_text sheet) }
+    ensures text { IfOk result (λ text. (sheet : SheetModel) → Reads body.now sheet
+        → text.items ≡ canonical_text sheet) }
     ensures reads { IfOk result (λ text. (sheet : SheetModel) → Reads body.now sheet → ReadsOnlyAs text.items sheet) }
 {
     match sheet_of(alloc, body)? {
@@ -40,8 +41,12 @@ pub fn release_text<S: Alter>(
     number: u32,
 ) -> Result<Option<Vec<u8>>, Error>
     ensures same_reference { tx.new.conn.ghost_name ≡ tx.old.conn.ghost_name }
-    ensures found { Finds result (state S.Store tx.old.conn.now) (state S.Store tx.new.conn.now) (λ found t. (net : Option Network) → IsNetAt name.now t net → option_map (λ text. text.items) found ≡ release_text net number) }
-    ensures reads { Finds result (state S.Store tx.old.conn.now) (state S.Store tx.new.conn.now) (λ found t. (net : Option Network) → IsNetAt name.now t net → IsTextOf (release_at net number) (option_map (λ text. text.items) found)) }
+    ensures found { Finds result (state S.Store tx.old.conn.now) (state S.Store tx.new.conn.now)
+        (λ found t. (net : Option Network) → IsNetAt name.now t net
+        → option_map (λ text. text.items) found ≡ release_text net number) }
+    ensures reads { Finds result (state S.Store tx.old.conn.now) (state S.Store tx.new.conn.now)
+        (λ found t. (net : Option Network) → IsNetAt name.now t net
+        → IsTextOf (release_at net number) (option_map (λ text. text.items) found)) }
     ensures same { ChangesNothing result (state S.Store tx.old.conn.now) (state S.Store tx.new.conn.now) }
     ensures kept { CommitsNothing (state S.Store tx.old.conn.now) (state S.Store tx.new.conn.now) }
     ensures survives { LeavesNothing (state S.Store tx.old.conn.now) (state S.Store tx.new.conn.now) }

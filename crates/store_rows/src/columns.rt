@@ -52,7 +52,8 @@ pub(crate) fn team_at(alloc: Global, row: &Row, at: usize) -> Result<Team, Error
 
 /// The sheet that the blob in the column reads as.
 pub(crate) fn sheet_at(alloc: Global, row: &Row, at: usize) -> Result<Sheet, Error>
-    ensures { IfOk result (λ sheet. (text : List ℕ) → (other : SheetModel) → column row.now at ≡ Blob text → Reads text other → sheet ≡ other) }
+    ensures { IfOk result (λ sheet. (text : List ℕ) → (other : SheetModel) → column row.now at ≡ Blob text
+        → Reads text other → sheet ≡ other) }
 {
     let text = blob_at(row, at)?;
     match sheet_of(alloc, text)? {

@@ -6,7 +6,8 @@ ghost use Rattle.office_types.specs.Block.{Range};
 ghost use Rattle.office_types.specs.Command.{kind_number};
 ghost use Rattle.office_types.specs.declared.command.NetKind.{NetKind as Kind};
 ghost use Rattle.office_types.specs.declared.state.Phase.{Phase as PhaseModel};
-ghost use Rattle.store_rows.specs.Showing.{ShowsBlock, ShowsHead, ShowsIdent, ShowsMessage, ShowsNumber, ShowsPart, ShowsPhase, ShowsRange, ShowsRelease, ShowsSpnBlock, ShowsTeam};
+ghost use Rattle.store_rows.specs.Showing.{ShowsBlock, ShowsHead, ShowsIdent, ShowsMessage, ShowsNumber, ShowsPart};
+ghost use Rattle.store_rows.specs.Showing.{ShowsPhase, ShowsRange, ShowsRelease, ShowsSpnBlock, ShowsTeam};
 
 use crate::columns::{blob_at, number_at, sheet_at, team_at, text_at};
 use can_id::Ident;

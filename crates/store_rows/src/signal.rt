@@ -45,7 +45,8 @@ fn spn_at(row: &Row, at: usize) -> Result<Spn, Error>
 
 /// The value type in the column.
 fn type_at(row: &Row, at: usize) -> Result<ValueType, Error>
-    ensures { IfOk result (λ kind. (other : Kind) → column row.now at ≡ Int (pos (value_type_number other)) → kind ≡ other) }
+    ensures { IfOk result (λ kind. (other : Kind) → column row.now at ≡ Int (pos (value_type_number other))
+        → kind ≡ other) }
 {
     let number = number_at(row, at)?;
     match ValueType::of(number) {
@@ -79,7 +80,8 @@ pub(crate) fn signal_of(
     receivers: Receivers,
     values: ValueTexts,
 ) -> Result<Signal, Error>
-    ensures { IfOk result (λ signal. (other : SignalModel) → ShowsSignal other row.now → receivers ≡ other.receivers → values ≡ other.values → signal ≡ other) }
+    ensures { IfOk result (λ signal. (other : SignalModel) → ShowsSignal other row.now → receivers ≡ other.receivers
+        → values ≡ other.values → signal ≡ other) }
 {
     let name = name_at(alloc, row, 1)?;
     let layout = layout_at(row)?;

@@ -124,8 +124,8 @@ fn nothing_is_seen<S: Alter>(alloc: Global, office: &mut Office<S>) -> io::Resul
     Ok(shows(alloc, office, &Look::Table(absent), None) && right)
 }
 
-/// Whether the list of networks is seen, each live sheet with its table and charts, and each release; and nothing of what
-/// isn't there.
+/// Whether the list of networks is seen, each live sheet with its table and charts, and each release; and nothing of
+/// what isn't there.
 pub(crate) fn is_seen<S: Alter>(
     rt: &HostRuntime,
     office: &mut Office<S>,

@@ -2,7 +2,8 @@
 ghost use Rattle.std.specs.Prelude.{◌≡◌, IfOk, codes, string_bytes, unwrap_or};
 ghost use Rattle.std.specs.List.{flat_map};
 ghost use Rattle.views.specs.Columns.{set_right};
-ghost use Rattle.views.specs.Table.{counts_line, form_word, group_text, hexadecimal, ident_columns, message_line, signal_count, size_columns, table_of};
+ghost use Rattle.views.specs.Table.{counts_line, form_word, group_text, hexadecimal, ident_columns, message_line};
+ghost use Rattle.views.specs.Table.{signal_count, size_columns, table_of};
 
 use crate::columns::{filled, number_right};
 use can_id::{Ident, J1939};

@@ -2,7 +2,8 @@
 ghost use Rattle.std.specs.Prelude.{◌≡◌, ◌++◌, ℕ, List, ◌<◌, ◌≤◌, length, IfOk, position, string_bytes, decimal, codes};
 ghost use Rattle.std.specs.List.{count_by, flat_map, range_with_len, enumerate_from};
 ghost use Rattle.views.specs.Held.{IsHeldBy};
-ghost use Rattle.views.specs.Text.{letter_of, holds, cell_of, cells_of, byte_line, layout_text, mark_text, signal_line, name_at, names_of, verdict_of, chart_of};
+ghost use Rattle.views.specs.Text.{letter_of, holds, cell_of, cells_of, byte_line, layout_text, mark_text};
+ghost use Rattle.views.specs.Text.{signal_line, name_at, names_of, verdict_of, chart_of};
 
 use crate::columns::number_right;
 use crate::signal::{ChartSignal, first_clash_of};

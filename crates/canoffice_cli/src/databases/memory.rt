@@ -31,9 +31,12 @@ impl MemoryDatabase {
     /// The connection, which is taken out.
     fn taken(&mut self) -> Result<Connection<MemStore>, Lost>
         ensures settled { IfOk result (λ conn. (state over_memory conn).in_transaction ≡ false) }
-        ensures held { IfOk result (λ conn. (path : List ℕ) (h : List Answered) → (known_of self.old.conn).holds path h → Holding h (state over_memory conn)) }
-        ensures in_form { IfOk result (λ conn. (path : List ℕ) (h : List Answered) → (known_of self.old.conn).holds_in_form path h → HoldingInSomeForm h (state over_memory conn)) }
-        ensures none { IfOk result (λ conn. (path : List ℕ) → (known_of self.old.conn).is_new path → HasNone (state over_memory conn)) }
+        ensures held { IfOk result (λ conn. (path : List ℕ) (h : List Answered) → (known_of self.old.conn).holds path h
+            → Holding h (state over_memory conn)) }
+        ensures in_form { IfOk result (λ conn. (path : List ℕ) (h : List Answered)
+            → (known_of self.old.conn).holds_in_form path h → HoldingInSomeForm h (state over_memory conn)) }
+        ensures none { IfOk result (λ conn. (path : List ℕ) → (known_of self.old.conn).is_new path
+            → HasNone (state over_memory conn)) }
         ensures err { OnErr result (self.new ≡ self.old) }
     {
         match &self.conn {

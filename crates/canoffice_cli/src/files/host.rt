@@ -8,7 +8,8 @@ use std::fs::File;
 use std::io::{self, ErrorKind, Input, Read};
 use std::rt::Files;
 
-/// The machine's files and its standard input, as the runtime opens them. Nothing is known of them before they are read.
+/// The machine's files and its standard input, as the runtime opens them. Nothing is known of them before they are
+/// read.
 #[derive(Clone, Copy)]
 pub struct HostFiles<'r, R> {
     /// The runtime.

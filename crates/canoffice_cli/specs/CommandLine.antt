@@ -11,8 +11,8 @@ use Rattle.clap.specs.declared.error.kind.ErrorKind.TheVariants.{DisplayHelp, Di
 use Rattle.views.specs.Word.{length_of}
 use Rattle.canoffice_cli.specs.declared.job.Job.{Job}
 use Rattle.canoffice_cli.specs.declared.job.Job.TheVariants.{Apply, Chart, Check, Export, Format, Migrate, Serve, Table}
-use Rattle.canoffice_cli.specs.declared.job.LineFault.{LineFault}
-use Rattle.canoffice_cli.specs.declared.job.LineFault.TheVariants.{Help, Usage, Memory}
+use Rattle.canoffice_cli.specs.declared.job.JobFault.{JobFault}
+use Rattle.canoffice_cli.specs.declared.job.JobFault.TheVariants.{Help, Usage, Memory}
 use Rattle.canoffice_cli.specs.declared.job.ValueFault.{ValueFault}
 use Rattle.canoffice_cli.specs.declared.job.ValueFault.TheVariants as value
 use Rattle.canoffice_cli.specs.Numbers.{count_given, port_given, release_number}
@@ -159,7 +159,7 @@ IsEntered (Some found) = IsWhole (find (λ s. bytes_eq found.0 s.name) canoffice
 -- ---- the fault of words that ask for no job
 
 -- the fault for clap's error of this kind
-abbrev pub IsFaultOfKind : ErrorKind → LineFault → Type 0
+abbrev pub IsFaultOfKind : ErrorKind → JobFault → Type 0
 IsFaultOfKind kind (Help text) = (kind ≡ DisplayHelp) ⊎ (kind ≡ DisplayVersion)
 IsFaultOfKind kind (Usage text) = (kind ≢ DisplayHelp) × (kind ≢ DisplayVersion) × (kind ≢ OutOfMemory)
 IsFaultOfKind kind Memory = Unit {0}
@@ -190,14 +190,14 @@ HasWrongNumber words word =
 
 -- the words ask for help, or for the version; or they have a fault of another kind, or a wrong number; or memory ran
 -- out
-abbrev pub IsLineFault : List Text → LineFault → Type 0
-IsLineFault words (Help text) = IsAmong DisplayHelp (line_faults words) ⊎ IsAmong DisplayVersion (line_faults words)
-IsLineFault words (Usage text) =
+abbrev pub IsJobFault : List Text → JobFault → Type 0
+IsJobFault words (Help text) = IsAmong DisplayHelp (line_faults words) ⊎ IsAmong DisplayVersion (line_faults words)
+IsJobFault words (Usage text) =
     ((kind : ErrorKind) × (kind ≢ DisplayHelp) × (kind ≢ DisplayVersion) × IsAmong kind (line_faults words))
     ⊎ ((word : Text) × HasWrongNumber words word)
-IsLineFault words Memory = Unit {0}
+IsJobFault words Memory = Unit {0}
 
 -- the words ask for a job, or have a fault
-abbrev pub IsLine : List Text → Result Job LineFault → Type 0
+abbrev pub IsLine : List Text → Result Job JobFault → Type 0
 IsLine words (Ok job) = IsJob words job
-IsLine words (Err fault) = IsLineFault words fault
+IsLine words (Err fault) = IsJobFault words fault

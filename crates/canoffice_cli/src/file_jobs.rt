@@ -1,6 +1,6 @@
 //! Jobs on the bytes of one file, or of standard input.
 ghost use Rattle.std.specs.Prelude.{◌≡◌, IfOk};
-ghost use Rattle.office_script.specs.declared.files.FileFault.TheVariants.{Unreadable};
+ghost use Rattle.office_script.specs.declared.files.PathFault.TheVariants.{Unreadable};
 ghost use Rattle.canoffice_cli.specs.Databases.{AreKept};
 ghost use Rattle.canoffice_cli.specs.Outcome.{outcome_of, unreadable};
 ghost use Rattle.canoffice_cli.specs.Performance.{ComesTo, IsFileOutcome, IsOfBytes};
@@ -9,7 +9,7 @@ use crate::apply::apply_script;
 use crate::checking::check_report;
 use crate::databases::Databases;
 use crate::explaining::stated;
-use crate::files::{FileFault, FileSource, StandardInput, bytes_at};
+use crate::files::{PathFault, FileSource, StandardInput, bytes_at};
 use crate::formatting::format_report;
 use crate::progress::Progress;
 use crate::report::{Report, cannot_read};
@@ -56,12 +56,12 @@ impl<'a> FileJob<'a> {
 }
 
 /// The report that the file can't be read, unless memory ran out.
-fn unreadable_report(alloc: Global, file: &str, fault: FileFault) -> Result<Report, AllocError>
+fn unreadable_report(alloc: Global, file: &str, fault: PathFault) -> Result<Report, AllocError>
     ensures { IfOk result (λ report. (fault ≡ Unreadable) × (outcome_of report ≡ unreadable file.now)) }
 {
     match fault {
-        FileFault::Unreadable => cannot_read(alloc, file),
-        FileFault::Memory => Err(AllocError),
+        PathFault::Unreadable => cannot_read(alloc, file),
+        PathFault::Memory => Err(AllocError),
     }
 }
 

@@ -1,7 +1,7 @@
 //! The library of the program `canoffice`: from the words of its command line to its exit status.
 //!
 //! - `command_line` describes the subcommands and their arguments for clap; with it `job` turns the words into a `Job`
-//!   or a `LineFault`. `numbers` has the ranges of the numbers that words give.
+//!   or a `JobFault`. `numbers` has the ranges of the numbers that words give.
 //! - `files` reads files and standard input: those of the machine, or those of a list in memory. `databases` has the
 //!   offices in databases, of which one in memory is here; those of the machine are in the program itself.
 //! - `apply`, `exporting`, `migrating`, `serving`, `charting`, `checking`, `formatting` and `tabling` do the jobs.
@@ -47,10 +47,10 @@ pub use databases::{Databases, MemoryDatabase};
 pub use delivery::deliver;
 pub use exporting::{export_report, look_on};
 pub use files::{
-    FileFault, FileSource, HostFiles, ListedFiles, NamedFile, StandardInput, bytes_at,
+    PathFault, FileSource, HostFiles, ListedFiles, NamedFile, StandardInput, bytes_at,
 };
 pub use formatting::format_report;
-pub use job::{Job, LineFault, job_of, not_utf8_fault};
+pub use job::{Job, JobFault, job_of, not_utf8_fault};
 pub use migrating::{migrate_on, migrate_report};
 pub use program::{fault_report, perform, report_of};
 pub use progress::Progress;

@@ -9,7 +9,7 @@ use crate::delivery::deliver;
 use crate::exporting::export_report;
 use crate::file_jobs::{FileJob, FileTask, file_report};
 use crate::files::{FileSource, StandardInput};
-use crate::job::{Job, LineFault, job_of};
+use crate::job::{Job, JobFault, job_of};
 use crate::migrating::migrate_report;
 use crate::progress::Progress;
 use crate::report::{Report, Status, help, usage};
@@ -57,13 +57,13 @@ fn answer<'a, F: FileSource + StandardInput, D: Databases, W: Write>(
 }
 
 /// The report on words that ask for no job: the text of help, or of the version, or of usage.
-pub fn fault_report(alloc: Global, fault: LineFault) -> Result<Report, AllocError>
+pub fn fault_report(alloc: Global, fault: JobFault) -> Result<Report, AllocError>
     ensures { IfOk result (λ report. IsFaultAnswer fault (outcome_of report)) }
 {
     match fault {
-        LineFault::Help(text) => Ok(help(alloc, text)),
-        LineFault::Usage(text) => Ok(usage(alloc, text)),
-        LineFault::Memory => Err(AllocError),
+        JobFault::Help(text) => Ok(help(alloc, text)),
+        JobFault::Usage(text) => Ok(usage(alloc, text)),
+        JobFault::Memory => Err(AllocError),
     }
 }
 

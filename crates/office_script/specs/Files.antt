@@ -9,8 +9,8 @@ use Rattle.office_fields.specs.declared.requested.Requested.TheVariants as reque
 use Rattle.office_fields.specs.declared.requested.FileImport.{FileImport}
 use Rattle.office_history.specs.declared.arrival.Arrival.{Arrival}
 use Rattle.office_history.specs.declared.arrival.Request.{Request}
-use Rattle.office_script.specs.declared.files.FileFault.{FileFault}
-use Rattle.office_script.specs.declared.files.FileFault.TheVariants.{Memory}
+use Rattle.office_script.specs.declared.files.PathFault.{PathFault}
+use Rattle.office_script.specs.declared.files.PathFault.TheVariants.{Memory}
 use Rattle.office_script.specs.Bundles.{parts_in}
 use Rattle.office_script.specs.declared.requests.LineRequest.{LineRequest}
 
@@ -31,7 +31,7 @@ Gives absent bytes = ⊥
 Gives (holding known) bytes = bytes ≡ known
 
 -- reading may fail with this fault: if the bytes are known, only if memory runs out
-abbrev pub FailsWith : Holding → FileFault → Type 0
+abbrev pub FailsWith : Holding → PathFault → Type 0
 FailsWith unknown fault = Unit {0}
 FailsWith absent fault = Unit {0}
 FailsWith (holding known) fault = fault ≡ Memory

@@ -8,7 +8,7 @@ use Rattle.office_fields.specs.declared.unread.Unread.{Unread}
 use Rattle.office_fields.specs.declared.unread.Unread.TheVariants as unread
 use Rattle.office_history.specs.declared.arrival.Arrival.{Arrival}
 use Rattle.office_history.specs.declared.arrival.Request.{Request}
-use Rattle.office_script.specs.declared.files.FileFault.TheVariants as file
+use Rattle.office_script.specs.declared.files.PathFault.TheVariants as file
 use Rattle.office_script.specs.declared.filling.LineFault.{LineFault}
 use Rattle.office_script.specs.declared.filling.LineFault.TheVariants as why
 use Rattle.office_script.specs.declared.keys.Dash.{Dash}

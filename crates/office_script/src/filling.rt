@@ -7,7 +7,7 @@ ghost use Rattle.office_script.specs.Files.{IsArrivalOf, IsBundleRequest};
 ghost use Rattle.office_script.specs.Script.{AddsArrivals, Fills};
 
 use crate::bundles::parts_in;
-use crate::files::{FileFault, FileSource};
+use crate::files::{PathFault, FileSource};
 use crate::keys::Dash;
 use crate::lines::says_nothing;
 use crate::requests::{LineRequest, request_of};
@@ -99,8 +99,8 @@ fn read_import<F: FileSource>(
 {
     match files.read(alloc, import.file.as_str()) {
         Ok(bytes) => Ok(import_request(text, import, bytes)?),
-        Err(FileFault::Unreadable) => Err(LineFault::Unreadable(import.into_path())),
-        Err(FileFault::Memory) => Err(LineFault::Memory),
+        Err(PathFault::Unreadable) => Err(LineFault::Unreadable(import.into_path())),
+        Err(PathFault::Memory) => Err(LineFault::Memory),
     }
 }
 
@@ -131,8 +131,8 @@ fn read_bundle<F: FileSource>(
 {
     match files.read(alloc, bundle.file.as_str()) {
         Ok(bytes) => Ok(bundle_request(alloc, text, bundle, &bytes)?),
-        Err(FileFault::Unreadable) => Err(LineFault::Unreadable(bundle.into_path())),
-        Err(FileFault::Memory) => Err(LineFault::Memory),
+        Err(PathFault::Unreadable) => Err(LineFault::Unreadable(bundle.into_path())),
+        Err(PathFault::Memory) => Err(LineFault::Memory),
     }
 }
 

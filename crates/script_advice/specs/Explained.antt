@@ -8,7 +8,7 @@ use Rattle.office_script.specs.Files.{FailsWith, Files, Gives}
 use Rattle.office_script.specs.Lines.{lines_of}
 use Rattle.office_script.specs.Requests.{bundle_file}
 use Rattle.office_script.specs.Words.{words_of}
-use Rattle.office_script.specs.declared.files.FileFault.TheVariants.{Unreadable}
+use Rattle.office_script.specs.declared.files.PathFault.TheVariants.{Unreadable}
 use Rattle.office_script.specs.declared.keys.Dash.{Dash}
 use Rattle.script_advice.specs.Cause.{part_wrong, wrong_at, wrong_of}
 use Rattle.script_advice.specs.Places.{offset_of, word_of}

@@ -9,7 +9,7 @@ use crate::cause::{Cause, Wrong};
 use crate::explaining::wrong_line;
 use crate::finding::part_wrong;
 use office_fields::Unread;
-use office_script::{Dash, FileFault, FileSource, bundle_file, first_line, parts_in};
+use office_script::{Dash, PathFault, FileSource, bundle_file, first_line, parts_in};
 use std::alloc::{AllocError, Global};
 
 /// What is stated of the first wrong line of the file, or nothing if no line is wrong.
@@ -87,7 +87,7 @@ pub(crate) fn stated_of_bundle<F: FileSource>(
             let path = path.as_str().as_bytes();
             Ok(Some(wrong_parts(alloc, name, number, line, path, &bytes)?))
         }
-        Err(FileFault::Unreadable) => Ok(None),
-        Err(FileFault::Memory) => Err(AllocError),
+        Err(PathFault::Unreadable) => Ok(None),
+        Err(PathFault::Memory) => Err(AllocError),
     }
 }

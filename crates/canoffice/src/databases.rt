@@ -11,7 +11,7 @@ use office_history::Arrival;
 use sqlite::{Connection, File, FileStore};
 use std::alloc::{AllocError, Global};
 use std::io::Write;
-use store::{Look, Lost, Office};
+use store::{Look, Lost, StoredOffice};
 
 /// The machine's database files, as SQLite has them. Nothing is known of them, since no contract speaks of the
 /// machine's disk.
@@ -44,7 +44,7 @@ fn closed(conn: Connection<FileStore<File>>) -> Result<(), Lost> {
 /// Serves connections of the port by the office. Standard error says when it listens, and when the office fails.
 fn serve_at(
     rt: &HostRuntime,
-    office: &mut Office<FileStore<File>>,
+    office: &mut StoredOffice<FileStore<File>>,
     port: u16,
     count: u32,
 ) -> Result<(), ServeFault> {
@@ -82,7 +82,7 @@ fn serve_on(
 ) -> (Result<(), ServeEnd>, Connection<FileStore<File>>)
     requires { (file_state conn).in_transaction ≡ false }
 {
-    match Office::open(conn) {
+    match StoredOffice::open(conn) {
         Ok(mut office) => {
             let served = serve_at(rt, &mut office, port, count);
             let end = end_of(served, office.is_failed());

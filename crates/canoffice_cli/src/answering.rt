@@ -19,7 +19,7 @@ use office_keyed::KeyedOffice;
 use sqlite::{Alter, Connection};
 use std::alloc::{AllocError, Global};
 use std::io::Write;
-use store::{Lost, Office};
+use store::{Lost, StoredOffice};
 
 /// The answers to the first arrivals, and why the next one was lost, if one was.
 #[derive(Drop)]
@@ -40,7 +40,9 @@ pub fn nothing_answered(alloc: Global, lost: Lost) -> Answers
 }
 
 /// An office on the connection, as it is there, or a new one. If opening it is lost, the connection is given back.
-pub(crate) fn office_on<S: Alter>(conn: Connection<S>) -> Result<Office<S>, (Lost, Connection<S>)>
+pub(crate) fn office_on<S: Alter>(
+    conn: Connection<S>,
+) -> Result<StoredOffice<S>, (Lost, Connection<S>)>
     requires { (state S.Store conn).in_transaction ≡ false }
     ensures clean { MatchResult result (λ office. doubt (state S.Store conn).is_clean ≤ doubt
         (state S.Store office.conn).is_clean) (λ lost. doubt (state S.Store conn).is_clean ≤ doubt
@@ -51,7 +53,7 @@ pub(crate) fn office_on<S: Alter>(conn: Connection<S>) -> Result<Office<S>, (Los
         → (h : List Answered) → Holding h (state S.Store conn) → Holding h (state S.Store lost.1)) }
 {
     let _settled_before = conn.is_autocommit();
-    match Office::open(conn) {
+    match StoredOffice::open(conn) {
         Ok(office) => Ok(office),
         Err((lost, conn)) => {
             let _settled = conn.is_autocommit();
@@ -64,7 +66,7 @@ pub(crate) fn office_on<S: Alter>(conn: Connection<S>) -> Result<Office<S>, (Los
 /// arrived.
 fn answer_all<S: Alter, W: Write>(
     alloc: Global,
-    office: &mut Office<S>,
+    office: &mut StoredOffice<S>,
     script: &[u8],
     arrivals: &[Arrival],
     progress: &mut Progress<W>,

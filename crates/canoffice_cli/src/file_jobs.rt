@@ -9,7 +9,7 @@ use crate::apply::apply_script;
 use crate::checking::check_report;
 use crate::databases::Databases;
 use crate::explaining::stated;
-use crate::files::{PathFault, FileSource, StandardInput, bytes_at};
+use crate::files::{FileSource, PathFault, StandardInput, bytes_at};
 use crate::formatting::format_report;
 use crate::progress::Progress;
 use crate::report::{Report, cannot_read};

@@ -47,7 +47,7 @@ pub use databases::{Databases, MemoryDatabase};
 pub use delivery::deliver;
 pub use exporting::{export_report, look_on};
 pub use files::{
-    PathFault, FileSource, HostFiles, ListedFiles, NamedFile, StandardInput, bytes_at,
+    FileSource, HostFiles, ListedFiles, NamedFile, PathFault, StandardInput, bytes_at,
 };
 pub use formatting::format_report;
 pub use job::{Job, JobFault, job_of, not_utf8_fault};

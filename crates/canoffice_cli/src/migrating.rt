@@ -16,7 +16,7 @@ use crate::report::{Report, Status};
 use sqlite::{Alter, Connection};
 use std::alloc::{AllocError, Global};
 use std::io::Write;
-use store::{Lost, Office};
+use store::{Lost, StoredOffice};
 
 /// Makes the tables on the connection, which is given back, those of this version: they hold the history that they
 /// held. New ones are made where there are none. It is shown which message is carried over. Where it is lost, they are
@@ -39,7 +39,7 @@ pub fn migrate_on<S: Alter + Drop, W: Write>(
         → OnOk result.0 (Holding [] (state S.Store result.1)) }
 {
     let _settled_before = conn.is_autocommit();
-    match Office::migrate(alloc, conn, progress) {
+    match StoredOffice::migrate(alloc, conn, progress) {
         Ok(office) => (Ok(()), office.close()),
         Err((lost, conn)) => {
             let _settled = conn.is_autocommit();

@@ -15,7 +15,7 @@ use office_history::Arrival;
 use office_types::Look;
 use sqlite::Alter;
 use std::alloc::{AllocError, Global};
-use store::Office;
+use store::StoredOffice;
 
 /// What the text of a look is: DBC text, or lines.
 fn content_of(look: &Look) -> Content
@@ -28,7 +28,11 @@ fn content_of(look: &Look) -> Content
 }
 
 /// Looks something up, and gives the response that shows it.
-fn shown<S: Alter>(alloc: Global, office: &mut Office<S>, look: Look) -> Result<Vec<u8>, AllocError>
+fn shown<S: Alter>(
+    alloc: Global,
+    office: &mut StoredOffice<S>,
+    look: Look,
+) -> Result<Vec<u8>, AllocError>
     ensures clean { doubt (state S.Store office.old.conn).is_clean ≤ doubt (state S.Store office.new.conn).is_clean }
     ensures refused { IsTrue office.old.failed → office.new ≡ office.old }
     ensures failed { IsTrue office.old.failed → IfOk result (λ text. text.items ≡ failed_response (shows look)) }
@@ -53,7 +57,7 @@ fn shown<S: Alter>(alloc: Global, office: &mut Office<S>, look: Look) -> Result<
 /// Has an arrival answered, and gives the response that tells the answer.
 fn arrived<S: Alter>(
     alloc: Global,
-    office: &mut Office<S>,
+    office: &mut StoredOffice<S>,
     arrival: &Arrival,
 ) -> Result<Vec<u8>, AllocError>
     ensures clean { doubt (state S.Store office.old.conn).is_clean ≤ doubt (state S.Store office.new.conn).is_clean }
@@ -81,7 +85,7 @@ fn arrived<S: Alter>(
 /// been taken.
 pub(crate) fn response_to<S: Alter>(
     alloc: Global,
-    office: &mut Office<S>,
+    office: &mut StoredOffice<S>,
     call: Call,
 ) -> Result<Vec<u8>, AllocError>
     ensures clean { doubt (state S.Store office.old.conn).is_clean ≤ doubt (state S.Store office.new.conn).is_clean }

@@ -16,7 +16,7 @@ use desk_call::read_call;
 use desk_types::{DeskFault, Sink, Source, put_all};
 use sqlite::Alter;
 use std::alloc::Global;
-use store::Office;
+use store::StoredOffice;
 
 /// Reads the first request of the source, carries it out, and writes its response to the sink. No call of a device
 /// follows one that failed. Whatever the source has, no more is read of it than a greatest head and a greatest body.
@@ -31,7 +31,7 @@ use store::Office;
 /// before, or that one with the arrival that was requested.
 pub fn serve_one<S: Alter, R: Source, W: Sink>(
     alloc: Global,
-    office: &mut Office<S>,
+    office: &mut StoredOffice<S>,
     source: &mut R,
     sink: &mut W,
 ) -> Result<(), DeskFault>

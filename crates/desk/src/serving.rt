@@ -16,7 +16,7 @@ use desk_types::{DeskFault, Failed};
 use sqlite::Alter;
 use std::alloc::Global;
 use std::io::Write;
-use store::Office;
+use store::StoredOffice;
 
 /// What is printed when the office fails, as of any call that is lost because the database failed.
 const OFFICE_FAILED: &[u8] = b"lost 72\n";
@@ -25,7 +25,7 @@ const OFFICE_FAILED: &[u8] = b"lost 72\n";
 /// is done.
 fn attend<S: Alter, L: Listener>(
     alloc: Global,
-    office: &mut Office<S>,
+    office: &mut StoredOffice<S>,
     listener: &mut L,
 ) -> Result<Result<(), DeskFault>, Failed>
     ensures clean { doubt (state S.Store office.old.conn).is_clean ≤ doubt (state S.Store office.new.conn).is_clean }
@@ -70,7 +70,7 @@ fn say_failure<E: Write>(errors: &mut E, had_failed: bool, has_failed: bool)
 /// none came any more.
 pub fn serve<S: Alter, L: Listener, E: Write>(
     alloc: Global,
-    office: &mut Office<S>,
+    office: &mut StoredOffice<S>,
     listener: &mut L,
     errors: &mut E,
     count: u32,

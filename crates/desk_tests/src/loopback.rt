@@ -4,7 +4,7 @@ use desk::{listen, serve};
 use sqlite::Alter;
 use std::io::{self, ErrorKind, Read, Write};
 use std::net::{Shutdown, SocketAddr, TcpStream};
-use store::Office;
+use store::StoredOffice;
 
 /// Whether the request is one of those that go over a port.
 pub(crate) fn goes_over_port(titled: &Titled<'_>) -> bool {
@@ -34,7 +34,7 @@ fn show(rt: &HostRuntime, title: &[u8], client: &mut TcpStream) -> io::Result<()
 /// printed.
 pub(crate) fn serve_over_port<S: Alter>(
     rt: &HostRuntime,
-    office: &mut Office<S>,
+    office: &mut StoredOffice<S>,
     requests: &[Titled<'_>],
 ) -> io::Result<()> {
     let alloc = rt.alloc();

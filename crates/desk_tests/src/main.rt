@@ -28,13 +28,13 @@ use responses::{agree_in_pieces, agree_in_two, opened, response};
 use sqlite::{Alter, Connection};
 use std::fs;
 use std::io::{self, Write};
-use store::Office;
+use store::StoredOffice;
 use waiting::agree_in_one_call;
 
 /// Serves one request of the file, and prints what came of it.
 fn serve<S: Alter>(
     rt: &HostRuntime,
-    office: &mut Office<S>,
+    office: &mut StoredOffice<S>,
     titled: &Titled<'_>,
 ) -> io::Result<()> {
     let alloc = rt.alloc();

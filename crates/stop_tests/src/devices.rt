@@ -9,7 +9,7 @@ use desk::{Counted, DeskFault, Sink, Source, serve_one};
 use sqlite::Alter;
 use std::alloc::Global;
 use std::io::{self, ErrorKind, Read, Write};
-use store::Office;
+use store::StoredOffice;
 
 /// How a call fails.
 #[derive(Clone, Copy, PartialEq, Eq)]
@@ -94,7 +94,7 @@ fn is_fault(served: Result<(), DeskFault>, code: u8) -> bool {
 /// written.
 fn fails_to_read<S: Alter>(
     alloc: Global,
-    office: &mut Office<S>,
+    office: &mut StoredOffice<S>,
     request: &[u8],
     at: usize,
     failing: Failing,
@@ -115,7 +115,7 @@ fn fails_to_read<S: Alter>(
 /// response as the calls before it took.
 fn fails_to_write<S: Alter>(
     alloc: Global,
-    office: &mut Office<S>,
+    office: &mut StoredOffice<S>,
     (request, response): (&[u8], &[u8]),
     at: usize,
     failing: Failing,
@@ -134,7 +134,7 @@ fn fails_to_write<S: Alter>(
 }
 
 /// Whether the requests before this one get their responses.
-fn serves_before<S: Alter>(alloc: Global, office: &mut Office<S>, number: usize) -> bool {
+fn serves_before<S: Alter>(alloc: Global, office: &mut StoredOffice<S>, number: usize) -> bool {
     for earlier in 0..number {
         if served(alloc, office, earlier) != Outcome::Right {
             return false;
@@ -149,7 +149,7 @@ const TAKE: usize = 2;
 /// Whether the request isn't carried out where its reader fails, and gets its response when it is sent again.
 fn is_unread<S: Alter>(
     alloc: Global,
-    office: &mut Office<S>,
+    office: &mut StoredOffice<S>,
     request: &[u8],
     at: usize,
     failing: Failing,
@@ -163,7 +163,7 @@ fn is_unread<S: Alter>(
 /// Whether the request is carried out where its writer fails, and gets its response when it is sent again.
 fn is_unwritten<S: Alter>(
     alloc: Global,
-    office: &mut Office<S>,
+    office: &mut StoredOffice<S>,
     texts: (&[u8], &[u8]),
     at: usize,
     failing: Failing,
@@ -226,7 +226,7 @@ fn try_writers(rt: &HostRuntime, request: &[u8], response: &[u8]) -> io::Result<
 /// Whether the request of this number fails at the first call of its writer, and those before it get their responses.
 fn is_unanswered<S: Alter>(
     alloc: Global,
-    office: &mut Office<S>,
+    office: &mut StoredOffice<S>,
     request: &[u8],
     number: usize,
 ) -> bool {

@@ -1,6 +1,6 @@
 //! The lists of requests, with what each request is answered and leaves.
 use office_history::Arrival;
-use office_script::{Dash, PathFault, FileSource, arrivals_of};
+use office_script::{Dash, FileSource, PathFault, arrivals_of};
 use std::alloc::{AllocError, Global};
 use std::io::{self, ErrorKind};
 

@@ -15,7 +15,7 @@ use Rattle.store.specs.declared.lost.Lost.{Lost}
 use Rattle.store.specs.declared.lost.Lost.TheVariants.{Memory, NewerProfile, OlderProfile, Store}
 use Rattle.store.specs.Lost.{IsOfCall}
 use Rattle.store.specs.Holding.{Holding, Keeps, Leaves}
-use Rattle.store.specs.Office.{StoredOffice}
+use Rattle.store.specs.Office.{OfficeView}
 use Rattle.store.specs.Headline.{HasRun}
 use Rattle.office_history.specs.Answering.{reported}
 use Rattle.store.specs.Running.{FailsBy, IsNoProfile, KeepsWithOne, answered_of, is_failure, lost_of}
@@ -100,7 +100,7 @@ run_none h failed s is_open holding left = record {
   left = λ db may. inl (subst (λ l. Keeps l db) (sym (append-nil h)) (left db may));
 }
 
-module _ {S : Type 0} (g : Ghosts S) (h : List Answered) (xs : List Arrival) (rs : List (Result Answer Lost)) (a : Arrival) (old new : StoredOffice S) (before : HasRun h xs rs old.failed (state g old.conn)) where
+module _ {S : Type 0} (g : Ghosts S) (h : List Answered) (xs : List Arrival) (rs : List (Result Answer Lost)) (a : Arrival) (old new : OfficeView S) (before : HasRun h xs rs old.failed (state g old.conn)) where
   -- a failed office answers nothing, and stays as it is
   failed_more : (lost : Lost) → old.failed ≡ true → HasRun h (xs ++ a ∷ []) (rs ++ Err lost ∷ []) old.failed (state g old.conn)
   failed_more lost failed = record {
@@ -160,11 +160,11 @@ module _ {S : Type 0} (g : Ghosts S) (h : List Answered) (xs : List Arrival) (rs
       → ((k : List Answered) → Holding k (state g old.conn) → OnErr r (Leaves (λ db. Keeps k db ⊎ ((answer : Answer) × Keeps (k ++ reported a answer ∷ []) db)) (state g new.conn)))
       → HasRun h (xs ++ a ∷ []) (rs ++ r ∷ []) new.failed (state g new.conn)
   run_more (Ok answer) failed refused named answered lost is_open left = elim (cases_Bool old.failed) [
-    | inl over ↦ absurd (let both = failed.0 (ap (λ (o : StoredOffice S). o.failed) (refused over) ∙ over) in cc)
+    | inl over ↦ absurd (let both = failed.0 (ap (λ (o : OfficeView S). o.failed) (refused over) ∙ over) in cc)
     | inr working ↦ let both = answered (h ++ answered_of xs rs) (before.held (before.is_open working)) in answered_next answer both.0 both.1
   ]
   run_more (Err e) failed refused named answered lost is_open left = elim (cases_Bool old.failed) [
-    | inl over ↦ subst (λ (o : StoredOffice S). HasRun h (xs ++ a ∷ []) (rs ++ Err e ∷ []) o.failed (state g o.conn)) (sym (refused over)) (failed_more e over)
+    | inl over ↦ subst (λ (o : OfficeView S). HasRun h (xs ++ a ∷ []) (rs ++ Err e ∷ []) o.failed (state g o.conn)) (sym (refused over)) (failed_more e over)
     | inr working ↦
         let held = before.held (before.is_open working) in
         lost_next e (λ fine. is_open (by_memory e failed named fine)) (λ now. lost (h ++ answered_of xs rs) held now) (left (h ++ answered_of xs rs) held)

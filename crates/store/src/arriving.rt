@@ -18,7 +18,7 @@ use crate::deciding::decide_on_tables;
 use crate::losing::loss_by;
 use crate::lost::Lost;
 use crate::opening::leaves_committed;
-use crate::stored_office::Office;
+use crate::stored_office::StoredOffice;
 use office_history::{Answer, Key, Request, histories_leave_offices};
 use office_tables::knows_schema;
 use office_types::{Decision, Team, command_is_in_range};
@@ -127,7 +127,7 @@ pub(crate) fn transact<S: Alter>(
     Ok(answer)
 }
 
-impl<S: Alter> Office<S> {
+impl<S: Alter> StoredOffice<S> {
     /// Answers an arrival, in one transaction. If its pair of team and key is new, a step of the office is carried out,
     /// and its reply is kept, a refusal too. If the pair came before, nothing changes: the answer is the kept reply if
     /// the content is the kept one, byte for byte, and else [`Answer::KeyReused`].

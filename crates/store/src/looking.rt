@@ -16,7 +16,7 @@ ghost use Rattle.office_rows.specs.Statement.{ChangesNothing, CommitsNothing, Fi
 use crate::losing::loss_by;
 use crate::lost::Lost;
 use crate::opening::leaves_committed;
-use crate::stored_office::Office;
+use crate::stored_office::StoredOffice;
 use office_history::histories_leave_offices;
 use office_tables::knows_schema;
 use office_types::Look;
@@ -86,10 +86,10 @@ fn ask<S: Alter>(
     Ok(text)
 }
 
-impl<S: Alter> Office<S> {
+impl<S: Alter> StoredOffice<S> {
     /// Looks something up: its text, or `None` exactly where it isn't there. Nothing changes. The error is out of
     /// memory, after which the next call may succeed, or an error of the store, after which the office has failed, as
-    /// in [`Office::arrive`].
+    /// in [`StoredOffice::arrive`].
     pub fn look(&mut self, alloc: Global, question: &Look) -> Result<Option<Vec<u8>>, Lost>
         ensures failed { IsTrue self.new.failed ↔ (result ≡ Err Lost.Store) }
         ensures refused { IsTrue self.old.failed → self.new ≡ self.old }

@@ -18,7 +18,7 @@ ghost use Rattle.store.specs.Opening.{KeepsInSomeForm, MayCarry, MayMigrate};
 
 use crate::lost::Lost;
 use crate::opening::{complete, leaves_committed, start};
-use crate::stored_office::Office;
+use crate::stored_office::StoredOffice;
 use office_tables::{is_new, knows_tables};
 use sqlite::{Alter, Connection, Error};
 use std::alloc::Global;
@@ -109,8 +109,8 @@ fn make_current<S: Alter, W: Watch>(
     }
 }
 
-impl<S: Alter> Office<S> {
-    /// Opens the office on the connection as [`Office::open`] does, and carries tables of the first profile over
+impl<S: Alter> StoredOffice<S> {
+    /// Opens the office on the connection as [`StoredOffice::open`] does, and carries tables of the first profile over
     /// before: with the same history and every kept reply, in one transaction, so that a crash leaves the old tables or
     /// the new. Where it is lost, the tables are as before, and the connection is given back; [`Lost::NewerProfile`]
     /// where they are of a profile that isn't known here.
@@ -118,7 +118,7 @@ impl<S: Alter> Office<S> {
         alloc: Global,
         conn: Connection<S>,
         watch: &mut W,
-    ) -> Result<Office<S>, (Lost, Connection<S>)>
+    ) -> Result<StoredOffice<S>, (Lost, Connection<S>)>
         requires { (state S.Store conn).in_transaction ≡ false }
         ensures autocommit { IfErr result (λ lost. (state S.Store lost.1).in_transaction ≡ false) }
         ensures working { IfOk result (λ office. office.failed ≡ false) }
@@ -154,7 +154,7 @@ impl<S: Alter> Office<S> {
         match make_current(alloc, &mut conn, watch) {
             Ok(()) => {
                 leaves_committed(&conn);
-                Ok(Office {
+                Ok(StoredOffice {
                     conn,
                     failed: false,
                 })

@@ -17,7 +17,7 @@ ghost use Rattle.store.specs.Opening.{IsGrown, IsNew, KeepsInSomeForm, MayGrow};
 ghost use Rattle.office_rows.specs.Statement.{AddsNoCommit, LeavesNothing};
 
 use crate::lost::Lost;
-use crate::stored_office::Office;
+use crate::stored_office::StoredOffice;
 use office_rows::insert_profile;
 use office_tables::{create_part, is_new, knows_tables, make_tables};
 use sqlite::{Alter, Connection, Error, Transaction};
@@ -185,14 +185,14 @@ fn make_ready<S: Alter>(conn: &mut Connection<S>) -> Result<(), Lost>
     }
 }
 
-impl<S: Alter> Office<S> {
+impl<S: Alter> StoredOffice<S> {
     /// Opens the office on the connection. New tables, which hold the empty history, are made where there is no table,
     /// index or view. Tables that hold a history hold it still. Where it is lost, the connection is given back:
     /// [`Lost::NewerProfile`] where the tables are of a profile that isn't known here, [`Lost::OlderProfile`] where
-    /// they are of the first, which [`Office::migrate`] carries over; out of memory, or an error of the store, as on
+    /// they are of the first, which [`StoredOffice::migrate`] carries over; out of memory, or an error of the store, as on
     /// tables of something else. Either the tables are as before then, or, where the disk failed, they may be new.
     /// Tables of the second profile that lack the table of bundles' parts get it.
-    pub fn open(conn: Connection<S>) -> Result<Office<S>, (Lost, Connection<S>)>
+    pub fn open(conn: Connection<S>) -> Result<StoredOffice<S>, (Lost, Connection<S>)>
         requires { (state S.Store conn).in_transaction ≡ false }
         ensures autocommit { IfErr result (λ lost. (state S.Store lost.1).in_transaction ≡ false) }
         ensures working { IfOk result (λ office. office.failed ≡ false) }
@@ -240,7 +240,7 @@ impl<S: Alter> Office<S> {
         match make_ready(&mut conn) {
             Ok(()) => {
                 leaves_committed(&conn);
-                Ok(Office {
+                Ok(StoredOffice {
                     conn,
                     failed: false,
                 })

@@ -9,13 +9,13 @@ ghost use Rattle.store.specs.Headline.{HasRun};
 ghost use Rattle.store.specs.Running.{FailsBy, IsNoProfile};
 
 use crate::lost::Lost;
-use crate::stored_office::Office;
+use crate::stored_office::StoredOffice;
 use office_history::{Answer, Arrival};
 use sqlite::Alter;
 use std::alloc::{AllocError, Global};
 
-impl<S: Alter> Office<S> {
-    /// Answers the arrivals in turn, each as [`Office::arrive`] does, and goes on after one that is lost. Gives the
+impl<S: Alter> StoredOffice<S> {
+    /// Answers the arrivals in turn, each as [`StoredOffice::arrive`] does, and goes on after one that is lost. Gives the
     /// results, in order. The error is out of memory for them: then nothing arrived.
     pub fn run(
         &mut self,

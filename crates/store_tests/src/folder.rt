@@ -1,5 +1,5 @@
 //! The files of a case.
-use office_script::{PathFault, FileSource};
+use office_script::{FileSource, PathFault};
 use std::alloc::{AllocError, Global};
 use std::fs;
 

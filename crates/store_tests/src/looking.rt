@@ -6,7 +6,7 @@ use office_types::{FrozenSheet, Look, Net, NetName};
 use sqlite::Alter;
 use std::alloc::{AllocError, Global};
 use std::io::{self, ErrorKind};
-use store::Office;
+use store::StoredOffice;
 use views::{message_chart, net_line, table_of};
 
 /// Adds a copy of the message to the sheet.
@@ -41,7 +41,7 @@ fn release_text(alloc: Global, release: &FrozenSheet) -> io::Result<Vec<u8>> {
 /// Whether the office shows this text for the question, or that there is none.
 fn shows<S: Alter>(
     alloc: Global,
-    office: &mut Office<S>,
+    office: &mut StoredOffice<S>,
     question: &Look,
     text: Option<&[u8]>,
 ) -> bool {
@@ -56,7 +56,11 @@ fn shows<S: Alter>(
 const CHARTS: usize = 8;
 
 /// Whether the charts of the first live messages are seen, and none of a message that isn't there.
-fn charts_are_seen<S: Alter>(alloc: Global, office: &mut Office<S>, net: &Net) -> io::Result<bool> {
+fn charts_are_seen<S: Alter>(
+    alloc: Global,
+    office: &mut StoredOffice<S>,
+    net: &Net,
+) -> io::Result<bool> {
     let mut right = true;
     for live in net.live.as_slice().iter().take(CHARTS) {
         let chart = message_chart(alloc, &live.message)?;
@@ -72,7 +76,11 @@ fn charts_are_seen<S: Alter>(alloc: Global, office: &mut Office<S>, net: &Net) -
 }
 
 /// Whether the live sheet is seen, and its table.
-fn live_is_seen<S: Alter>(alloc: Global, office: &mut Office<S>, net: &Net) -> io::Result<bool> {
+fn live_is_seen<S: Alter>(
+    alloc: Global,
+    office: &mut StoredOffice<S>,
+    net: &Net,
+) -> io::Result<bool> {
     let sheet = live_sheet(alloc, net)?;
     let text = text_of(alloc, &sheet)?;
     let table = table_of(alloc, &sheet)?;
@@ -85,7 +93,7 @@ fn live_is_seen<S: Alter>(alloc: Global, office: &mut Office<S>, net: &Net) -> i
 /// Whether each release is seen, and none after the last one.
 fn releases_are_seen<S: Alter>(
     alloc: Global,
-    office: &mut Office<S>,
+    office: &mut StoredOffice<S>,
     net: &Net,
 ) -> io::Result<bool> {
     let mut right = true;
@@ -103,7 +111,7 @@ fn releases_are_seen<S: Alter>(
 /// Whether the list has a line for each of these networks, in order.
 fn list_is_seen<S: Alter>(
     alloc: Global,
-    office: &mut Office<S>,
+    office: &mut StoredOffice<S>,
     expected: &Expected,
 ) -> io::Result<bool> {
     let mut list = Vec::new(alloc);
@@ -115,7 +123,7 @@ fn list_is_seen<S: Alter>(
 }
 
 /// Whether nothing is seen of a network that isn't there.
-fn nothing_is_seen<S: Alter>(alloc: Global, office: &mut Office<S>) -> io::Result<bool> {
+fn nothing_is_seen<S: Alter>(alloc: Global, office: &mut StoredOffice<S>) -> io::Result<bool> {
     let Some(absent) = NetName::of(alloc, b"there-is-no-network-of-this-name")? else {
         return Err(ErrorKind::InvalidData)?;
     };
@@ -128,7 +136,7 @@ fn nothing_is_seen<S: Alter>(alloc: Global, office: &mut Office<S>) -> io::Resul
 /// what isn't there.
 pub(crate) fn is_seen<S: Alter>(
     rt: &HostRuntime,
-    office: &mut Office<S>,
+    office: &mut StoredOffice<S>,
     expected: &Expected,
 ) -> io::Result<bool> {
     let alloc = rt.alloc();

@@ -2,7 +2,7 @@
 ghost use Rattle.std.specs.Prelude.{◌≡◌, ◌↔◌};
 ghost use Rattle.std.specs.IoError.{error_kind};
 
-use super::{PathFault, FileSource, StandardInput};
+use super::{FileSource, PathFault, StandardInput};
 use std::alloc::Global;
 use std::fs::File;
 use std::io::{self, ErrorKind, Input, Read};

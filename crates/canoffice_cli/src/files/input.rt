@@ -3,7 +3,7 @@ ghost use Rattle.std.specs.Prelude.{IfErr, IfOk};
 ghost use Rattle.office_script.specs.Files.{FailsWith, Gives, Holding};
 ghost use Rattle.canoffice_cli.specs.Holding.{source_at};
 
-use super::{PathFault, FileSource};
+use super::{FileSource, PathFault};
 use std::alloc::Global;
 
 /// Where standard input can be read.

@@ -2,7 +2,7 @@
 ghost use Rattle.std.specs.Prelude.{◌≡◌, find, option_map};
 ghost use Rattle.std.specs.Str.{bytes_eq};
 
-use super::{PathFault, FileSource, StandardInput};
+use super::{FileSource, PathFault, StandardInput};
 use std::alloc::Global;
 
 /// The bytes of a file, and the path that names it.

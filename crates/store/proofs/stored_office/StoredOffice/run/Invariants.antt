@@ -8,7 +8,7 @@ use Rattle.office_history.specs.History.{Answered}
 use Rattle.store.specs.Holding.{Holding}
 use Rattle.store.specs.Headline.{HasRun}
 use Rattle.store.specs.Running.{FailsBy, IsNoProfile}
-use Rattle.store.proofs.stored_office.Office.run.Given as goal
+use Rattle.store.proofs.stored_office.StoredOffice.run.Given as goal
 
 abbrev pub invariant-loop-arrival : goal.invariant-loop-arrival
 invariant-loop-arrival g l =

@@ -8,7 +8,7 @@ use Rattle.store.specs.Holding.{Keeps}
 use Rattle.store.specs.Headline.{HasRun}
 use Rattle.store.specs.Running.{FailsBy, IsNoProfile}
 use Rattle.store.proofs.Ran.{fails_more, named_more, run_more, run_none}
-use Rattle.store.proofs.stored_office.Office.run.Goals as goal
+use Rattle.store.proofs.stored_office.StoredOffice.run.Goals as goal
 
 pub loop-arrival-preserved : goal.loop-arrival-preserved
 loop-arrival-preserved g c =

@@ -5,7 +5,7 @@ use Rattle.store_carry.specs.FormSchema.{schema_of}
 use Rattle.store.specs.Holding.{Keeps}
 use Rattle.store.proofs.InForm.{left_migrating, migrated, office_in_form, schema_in_form}
 use Rattle.store.proofs.Opened.{new_holding, new_keeps}
-use Rattle.store.proofs.stored_office.Office.migrate.Goals as goal
+use Rattle.store.proofs.stored_office.StoredOffice.migrate.Goals as goal
 
 pub returns-in-Ok-clause-made : goal.returns-in-Ok-clause-made
 returns-in-Ok-clause-made g c clean none =

@@ -1,5 +1,5 @@
 -- The fields of the statements of a DBC file: what single tokens mean, and rules for what several mean together. They
--- are those of Vector's DBC File Format Documentation; this project's profile sets the ranges of numbers and the length
+-- are those of Vector's DBC File Format Documentation; this project's dialect sets the ranges of numbers and the length
 -- of names, and lets the comma between two names of a list be written or left out.
 use Rattle.std.specs.Prelude.{◌≡◌, ◌↔◌, ℕ, ◌+◌, ◌-◌, Bool, true, false, ◌&&◌, ◌||◌, ◌==◌, not, nat_le, List, [], ◌∷◌, filter_map, Option, Some, None}
 use Rattle.std.specs.Prelude.{is_some, option_map, option_and_then, unwrap_or, if◌then◌else◌, codes}

@@ -1,6 +1,6 @@
 -- The statements of a DBC file. A statement is a keyword and what follows it; each line below is what follows
 -- one keyword. The lines are those of Vector's DBC File Format Documentation. A comment at each marks this project's
--- profile: what it accepts beyond them, the ranges of numbers, and which statements it skips.
+-- dialect: what it accepts beyond them, the ranges of numbers, and which statements it skips.
 use Rattle.std.specs.Prelude.{ℕ, Bool, true, ◌&&◌, ◌||◌, not, nat_le, List, [], ◌∷◌, Option, is_some, option_map, codes}
 use Rattle.std.specs.Str.{bytes_eq}
 use Rattle.dbc_grammar.specs.Fields.{is_a, is_mark, is_key, key_of, text_of, cited_name, made_name, node_of, whole_where, cited_number}
@@ -48,7 +48,7 @@ abbrev pub ends_symbols : List Token → Bool
 ends_symbols [] = true
 ends_symbols (t ∷ ts) = is_key BitTiming t || is_key Nodes t
 
--- `NS_ : {name}`: in the profile, names of any kind, keywords too, up to `BS_`, `BU_` or the end; nothing is kept
+-- `NS_ : {name}`: in the dialect, names of any kind, keywords too, up to `BS_`, `BU_` or the end; nothing is kept
 unfoldable pub symbols_line : Rule Content
 symbols_line = do
   colon ← mark (codes ":")
@@ -72,14 +72,14 @@ timing = do
   others ← optional registers
   done tt
 
--- `BS_ : [number [: number , number]]`: in the profile one number may come alone; nothing is kept
+-- `BS_ : [number [: number , number]]`: in the dialect one number may come alone; nothing is kept
 unfoldable pub timing_line : Rule Content
 timing_line = do
   colon ← mark (codes ":")
   numbers ← optional timing
   done Dropped
 
--- `BU_ : nodes`: in the profile there may be a comma between two
+-- `BU_ : nodes`: in the dialect there may be a comma between two
 unfoldable pub nodes_line : Rule Content
 nodes_line = do
   colon ← mark (codes ":")
@@ -149,7 +149,7 @@ value_texts_line = do
   end ← mark (codes ";")
   done (ValueTextsAre number name entries)
 
--- `SIG_VALTYPE_ number name [:] type ;`: in the profile with the colon or without
+-- `SIG_VALTYPE_ number name [:] type ;`: in the dialect with the colon or without
 unfoldable pub value_type_line : Rule Content
 value_type_line = do
   number ← token cited_number
@@ -166,7 +166,7 @@ is_spn_name t = is_a Text t && bytes_eq (inside_of t.text) (codes "SPN")
 abbrev pub spn_of : Token → Option ℕ
 spn_of t = whole_where (λ n. nat_le n spn_limit) t
 
--- `BA_ "SPN" SG_ number name spn ;`: the only attribute value that the profile reads (SAE J1939)
+-- `BA_ "SPN" SG_ number name spn ;`: the only attribute value that the dialect reads (SAE J1939)
 unfoldable pub spn_line : Rule Content
 spn_line = do
   attribute ← one is_spn_name
@@ -177,7 +177,7 @@ spn_line = do
   end ← mark (codes ";")
   done (SpnIs number name spn)
 
--- Statements that are skipped: this project's profile.
+-- Statements that are skipped: this project's dialect.
 
 -- the tokens up to the next `;`, and the `;`
 unfoldable pub skipped : Rule Content

@@ -1,4 +1,4 @@
--- What the statements of a DBC file say together (Vector's DBC File Format Documentation, in this project's profile): a
+-- What the statements of a DBC file say together (Vector's DBC File Format Documentation, in this project's dialect): a
 -- sheet, and which of them are skipped. They may come in any order, so a comment may come before its message. Of
 -- several about one thing the last one counts, and if there is none, the value is the empty one: no bytes, no texts,
 -- the number 0, or the type of whole numbers.

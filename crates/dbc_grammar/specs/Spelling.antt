@@ -1,5 +1,5 @@
 -- How the tokens of DBC text are spelled. Names, unsigned numbers, character strings and punctuation are those of
--- Vector's DBC File Format Documentation. This project's profile decides what that leaves open: which bytes are gaps,
+-- Vector's DBC File Format Documentation. This project's dialect decides what that leaves open: which bytes are gaps,
 -- that a name may have any length, how a number may be written, and that in a text any byte may occur and a backslash
 -- escapes the next byte.
 use Rattle.std.specs.Prelude.{◌≡◌, ℕ, ◌==◌, nat_le, Bool, ◌&&◌, ◌||◌, List, [], ◌∷◌, ◌++◌, IsTrue, codes}
@@ -10,7 +10,7 @@ use Rattle.catalogue.specs.Text.{IsText, quote_mark}
 use Rattle.dbc_grammar.specs.declared.token.TokenKind.{TokenKind}
 use Rattle.dbc_grammar.specs.declared.token.TokenKind.TheVariants.{Name, Number, Text, Mark}
 
--- White space: tab, line feed, vertical tab, form feed, carriage return, and space (the profile).
+-- White space: tab, line feed, vertical tab, form feed, carriage return, and space (the dialect).
 abbrev pub is_gap : ℕ → Bool
 is_gap b = (nat_le 9 b && nat_le b 13) || (b == 32)
 

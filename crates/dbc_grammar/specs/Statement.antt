@@ -1,4 +1,4 @@
--- What one statement of a DBC file says (Vector's DBC File Format Documentation, in this project's profile).
+-- What one statement of a DBC file says (Vector's DBC File Format Documentation, in this project's dialect).
 use Rattle.std.specs.Prelude.{ℕ, Bool, List, Option}
 use Rattle.bitlayout.specs.declared.layout.Layout.{Layout}
 use Rattle.bitlayout.specs.declared.place.Mux.{Mux}

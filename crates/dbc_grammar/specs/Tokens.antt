@@ -1,6 +1,6 @@
 -- Which tokens a DBC text has. Vector's DBC File Format Documentation gives a grammar of tokens, and does not say how a
 -- text is cut into them. That only gaps are between tokens, and that each token is as long as it can be, is this
--- project's profile.
+-- project's dialect.
 use Rattle.std.specs.Prelude.{◌≡◌, ℕ, ◌+◌, ◌≤◌, List, [], ◌∷◌, ◌++◌, length, IsTrue}
 use Rattle.std.specs.List.{list_all}
 use Rattle.dbc_grammar.specs.declared.token.TokenKind.{TokenKind}

@@ -107,7 +107,7 @@ impl<'a> Lexer<'a> {
     /// same again.
     ///
     /// Names, unsigned numbers, character strings and punctuation are those of Vector's DBC File Format Documentation;
-    /// that only gaps come between tokens, and that each is as long as it can be, is this project's profile. That the
+    /// that only gaps come between tokens, and that each is as long as it can be, is this project's dialect. That the
     /// tokens are slices of the text, in order, is a law of `catalogue` (`tokens_are_exact`).
     #[inline(always)]
     pub fn next_token(&mut self) -> Result<Option<Token<'a>>, ReadFault>

@@ -135,7 +135,7 @@ fn read_text(alloc: Global, source: &[u8]) -> Result<Reading, ReadFault>
 }
 
 /// The one sheet that the text reads as, and the statements that are skipped. The grammar is that of Vector's DBC File
-/// Format Documentation, in this project's profile (docs/GRAMMAR.md).
+/// Format Documentation, in this project's dialect (docs/GRAMMAR.md).
 ///
 /// A fault comes only if the text reads as no sheet, or memory ran out. It is the first fault of the first of these
 /// three kinds that the text has: code 30 or 31 at an offset where no token begins; one of 32 to 39 at a token that

@@ -157,7 +157,7 @@ fn all_statements<'a>(
 }
 
 /// The statements of a DBC text, in order. The grammar is that of Vector's DBC File Format Documentation, in this
-/// project's profile (docs/GRAMMAR.md).
+/// project's dialect (docs/GRAMMAR.md).
 ///
 /// A fault comes only if the text isn't a sequence of statements, or memory ran out: code 30 or 31 at the first offset
 /// where no token begins, wherever it is, and else one of 32 to 39 at the first token that can't continue the

@@ -1,8 +1,9 @@
 //! The store: an office on SQLite tables, which answers requests that may arrive again.
 //!
-//! [`StoredOffice::open`] makes the tables on a database that has none, or takes those of an earlier run. [`StoredOffice::arrive`]
-//! answers one arrival, in one transaction, and [`StoredOffice::run`] a list of them. [`StoredOffice::look`] gives the text of a
-//! live sheet or of a release. [`StoredOffice::close`] gives the connection back. A call that is [`Lost`] counts as not made.
+//! [`StoredOffice::open`] makes the tables on a database that has none, or takes those of an earlier run.
+//! [`StoredOffice::arrive`] answers one arrival, in one transaction, and [`StoredOffice::run`] a list of them.
+//! [`StoredOffice::look`] gives the text of a live sheet or of a release. [`StoredOffice::close`] gives the connection
+//! back. A call that is [`Lost`] counts as not made.
 //!
 //! Tables hold a history (`specs/Holds.antt`) if it is legal, their rows stand for the office that it leaves, and there
 //! is one kept reply for each first arrival. The main theorem is the contract of [`StoredOffice::run`]

@@ -189,8 +189,8 @@ impl<S: Alter> StoredOffice<S> {
     /// Opens the office on the connection. New tables, which hold the empty history, are made where there is no table,
     /// index or view. Tables that hold a history hold it still. Where it is lost, the connection is given back:
     /// [`Lost::NewerProfile`] where the tables are of a profile that isn't known here, [`Lost::OlderProfile`] where
-    /// they are of the first, which [`StoredOffice::migrate`] carries over; out of memory, or an error of the store, as on
-    /// tables of something else. Either the tables are as before then, or, where the disk failed, they may be new.
+    /// they are of the first, which [`StoredOffice::migrate`] carries over; out of memory, or an error of the store, as
+    /// on tables of something else. Either the tables are as before then, or, where the disk failed, they may be new.
     /// Tables of the second profile that lack the table of bundles' parts get it.
     pub fn open(conn: Connection<S>) -> Result<StoredOffice<S>, (Lost, Connection<S>)>
         requires { (state S.Store conn).in_transaction ≡ false }

@@ -15,8 +15,8 @@ use sqlite::Alter;
 use std::alloc::{AllocError, Global};
 
 impl<S: Alter> StoredOffice<S> {
-    /// Answers the arrivals in turn, each as [`StoredOffice::arrive`] does, and goes on after one that is lost. Gives the
-    /// results, in order. The error is out of memory for them: then nothing arrived.
+    /// Answers the arrivals in turn, each as [`StoredOffice::arrive`] does, and goes on after one that is lost. Gives
+    /// the results, in order. The error is out of memory for them: then nothing arrived.
     pub fn run(
         &mut self,
         alloc: Global,

@@ -8,7 +8,7 @@ ghost use Rattle.std.specs.Prelude.{◌≡◌, true, false, Option, Some};
 ghost use Rattle.std.specs.List.{list_any};
 ghost use Rattle.sqlite.specs.Held.{state};
 ghost use Rattle.office_law.specs.Apart.{asks_book};
-ghost use Rattle.office_law.specs.Released.{reads_releases};
+ghost use Rattle.office_law.specs.Released.{reads_bodies, reads_releases};
 ghost use Rattle.office_facts.specs.Excerpt.{IsExcerptOf, goes_by_excerpt};
 ghost use Rattle.office_rules.specs.Change.{IsDecision, is_release};
 ghost use Rattle.office_types.specs.declared.book.SpnBook.{SpnBook as Book};
@@ -17,13 +17,12 @@ ghost use Rattle.store_rows.specs.NetIn.{IsNetAt};
 ghost use Rattle.store_rows.specs.Rows.{IsBookIn};
 ghost use Rattle.store_net.specs.Excerpts.{MatchBoth};
 ghost use Rattle.store_net.specs.Writing.{IsNext};
-ghost use Rattle.store.specs.Counting.{reads_bodies};
 ghost use Rattle.office_rows.specs.Statement.{ChangesNothing, CommitsNothing, Finds, LeavesNothing};
 
 use crate::counting::{reads_bodies, reads_releases};
 use catalogue::Items;
 use office::{Excerpt, decide, decide_excerpt, goes_by_excerpt};
-use office_law::releases_dont_count;
+use office_law::{bodies_dont_count, releases_dont_count};
 use office_types::{Action, Command, Decision, SpnBook, Task, Team, UsedSpns};
 use sqlite::{Alter, Error, Transaction};
 use std::alloc::Global;
@@ -156,7 +155,7 @@ fn decide_by_count<S: Alter>(
     ensures kept { CommitsNothing (state S.Store tx.old.conn.now) (state S.Store tx.new.conn.now) }
     ensures survives { LeavesNothing (state S.Store tx.old.conn.now) (state S.Store tx.new.conn.now) }
 {
-    releases_dont_count();
+    bodies_dont_count();
     let net = counted_net_at(alloc, tx, &command.net)?;
     let book = book_of(alloc, tx)?;
     let decision = decide(alloc, team, net.as_ref(), &book, command)?;

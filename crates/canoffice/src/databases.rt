@@ -6,7 +6,7 @@ use canoffice_cli::{
     Answers, Databases, Progress, ServeEnd, answer_on, answers_when_closed, look_on, migrate_on,
     nothing_answered,
 };
-use desk::{ServeFault, listen, serve};
+use desk::{Routes, ServeFault, listen, serve};
 use office_history::Arrival;
 use sqlite::{Connection, File, FileStore};
 use std::alloc::{AllocError, Global};
@@ -44,6 +44,7 @@ fn closed(conn: Connection<FileStore<File>>) -> Result<(), Lost> {
 /// Serves connections of the port by the office. Standard error says when it listens, and when the office fails.
 fn serve_at(
     rt: &HostRuntime,
+    routes: &Routes,
     office: &mut StoredOffice<FileStore<File>>,
     port: u16,
     count: u32,
@@ -54,7 +55,14 @@ fn serve_at(
     };
     let mut errors = rt.stderr();
     let _reported = writeln!(errors, "listening on {address}");
-    serve(rt.alloc(), office, &mut listener, &mut errors, count)
+    serve(
+        rt.alloc(),
+        routes,
+        office,
+        &mut listener,
+        &mut errors,
+        count,
+    )
 }
 
 /// How serving ended, as the program says it: it is lost also where all connections were served, if the office has
@@ -82,9 +90,12 @@ fn serve_on(
 ) -> (Result<(), ServeEnd>, Connection<FileStore<File>>)
     requires { (file_state conn).in_transaction ≡ false }
 {
+    let Ok(routes) = Routes::new(rt.alloc()) else {
+        return (Err(ServeEnd::IsLost(Lost::Memory)), conn);
+    };
     match StoredOffice::open(conn) {
         Ok(mut office) => {
-            let served = serve_at(rt, &mut office, port, count);
+            let served = serve_at(rt, &routes, &mut office, port, count);
             let end = end_of(served, office.is_failed());
             (end, office.close())
         }

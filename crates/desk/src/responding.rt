@@ -12,7 +12,7 @@ ghost use Rattle.desk_call.specs.Read.{IsNotWhole};
 ghost use Rattle.desk.specs.Responding.{HasBegun, HasBegunRefusal, HasGivenUp, HasRefused, HasServed};
 
 use crate::answering::response_to;
-use desk_call::read_call;
+use desk_call::{Routes, read_call};
 use desk_types::{DeskFault, Sink, Source, put_all};
 use sqlite::Alter;
 use std::alloc::Global;
@@ -31,6 +31,7 @@ use store::StoredOffice;
 /// before, or that one with the arrival that was requested.
 pub fn serve_one<S: Alter, R: Source, W: Sink>(
     alloc: Global,
+    routes: &Routes,
     office: &mut StoredOffice<S>,
     source: &mut R,
     sink: &mut W,
@@ -70,7 +71,7 @@ pub fn serve_one<S: Alter, R: Source, W: Sink>(
     ensures memory_kept { IsErrOf result DeskFault.Memory → sink.new ≡ sink.old }
 {
     office.leaves_now();
-    let call = read_call(alloc, source)?;
+    let call = read_call(alloc, routes, source)?;
     let Ok(text) = response_to(alloc, office, call) else {
         return Err(DeskFault::Memory);
     };

@@ -12,6 +12,7 @@ ghost use Rattle.desk.specs.Serving.{SaysFailure, Visit, fault_of, written_to};
 use crate::fault::ServeFault;
 use crate::listener::Listener;
 use crate::responding::serve_one;
+use desk_call::Routes;
 use desk_types::{DeskFault, Failed};
 use sqlite::Alter;
 use std::alloc::Global;
@@ -25,6 +26,7 @@ const OFFICE_FAILED: &[u8] = b"lost 72\n";
 /// is done.
 fn attend<S: Alter, L: Listener>(
     alloc: Global,
+    routes: &Routes,
     office: &mut StoredOffice<S>,
     listener: &mut L,
 ) -> Result<Result<(), DeskFault>, Failed>
@@ -46,7 +48,7 @@ fn attend<S: Alter, L: Listener>(
         × (L.ended listener.new ≡ L.ended listener.old) × NoneWaits (L.coming listener.old)) }
 {
     let (mut request, mut response) = listener.accept()?;
-    let ended = serve_one(alloc, office, &mut request, &mut response);
+    let ended = serve_one(alloc, routes, office, &mut request, &mut response);
     office.leaves_now();
     listener.finish(request, response);
     Ok(ended)
@@ -70,6 +72,7 @@ fn say_failure<E: Write>(errors: &mut E, had_failed: bool, has_failed: bool)
 /// none came any more.
 pub fn serve<S: Alter, L: Listener, E: Write>(
     alloc: Global,
+    routes: &Routes,
     office: &mut StoredOffice<S>,
     listener: &mut L,
     errors: &mut E,
@@ -89,7 +92,7 @@ pub fn serve<S: Alter, L: Listener, E: Write>(
     office.leaves_now();
     for _served in 0..count {
         let had_failed = office.is_failed();
-        match attend(alloc, office, listener) {
+        match attend(alloc, routes, office, listener) {
             Ok(_ended) => say_failure(errors, had_failed, office.is_failed()),
             Err(Failed) => return Err(ServeFault::Accept),
         }

@@ -15,6 +15,7 @@ mod reading;
 mod values;
 
 pub use call::Call;
+pub use desk_head::Routes;
 pub use laws::bytes_ask_one_thing;
 pub use office_types::Look;
 pub use reading::read_call;

@@ -13,7 +13,7 @@ ghost use Rattle.desk_call.specs.Read.{Asks, IsNotWhole};
 
 use crate::call::Call;
 use crate::calling::call_by;
-use desk_head::{Demand, HEADER_LIMIT, body_size, demand_at, empty_headers, read_head};
+use desk_head::{Demand, HEADER_LIMIT, Routes, body_size, demand_at, empty_headers, read_head};
 use desk_types::{DeskFault, Problem, Source, take_more};
 use httparse::spans::{HeaderSpan, RequestSpans};
 use std::alloc::{AllocError, Global};
@@ -65,7 +65,11 @@ fn call_read(
 /// Reads the first request of a source, as what it asks. Nothing is read once the request is whole, or known to be
 /// wrong by its head, and never more than a greatest head and a greatest body. `Read` if a call of the source fails
 /// before that, `Memory` if memory runs out.
-pub fn read_call<R: Source>(alloc: Global, source: &mut R) -> Result<Call, DeskFault>
+pub fn read_call<R: Source>(
+    alloc: Global,
+    routes: &Routes,
+    source: &mut R,
+) -> Result<Call, DeskFault>
     requires { R.failure_count source.old < 2 ^ 64 - 1 }
     ensures most { GivesAtMost (R.left source.old) (R.left source.new) request_limit }
     ensures ok { IfOk result (λ call. IfSome (R.left source.old) (λ input. Asks input (seen call))) }
@@ -83,9 +87,7 @@ pub fn read_call<R: Source>(alloc: Global, source: &mut R) -> Result<Call, DeskF
         Ok(Some(spans)) => spans,
         Ok(None) => return Ok(Call::Fails(Problem::BadRequest)),
     };
-    let Ok(demand) = demand_at(alloc, &got, &headers, spans) else {
-        return Err(DeskFault::Memory);
-    };
+    let demand = demand_at(routes, &got, &headers, spans);
     let Ok(mut rest) = Vec::from_slice(alloc, &got[spans.len..]) else {
         return Err(DeskFault::Memory);
     };

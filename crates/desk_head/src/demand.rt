@@ -1,5 +1,5 @@
 //! What the head of a request demands.
-ghost use Rattle.std.specs.Prelude.{◌≡◌, IfOk};
+ghost use Rattle.std.specs.Prelude.{◌≡◌};
 ghost use Rattle.httparse.specs.Grammar.{RequestHead};
 ghost use Rattle.httparse.specs.Spans.{IsRequestAt};
 ghost use Rattle.desk_head.specs.Demand.{demand_of, body_size, does_by};
@@ -8,11 +8,10 @@ ghost use Rattle.desk_head.specs.Head.{IsHeadAt};
 use crate::endpoint::{Endpoint, Posting, Showing};
 use crate::length::body_length;
 use crate::limits::HEADER_LIMIT;
-use crate::routes::endpoint_of;
+use crate::routes::Routes;
 use desk_types::Problem;
 use http::Method;
 use httparse::spans::{HeaderSpan, RequestSpans};
-use std::alloc::{AllocError, Global};
 
 /// What the head of a request demands.
 #[derive(Clone, Copy)]
@@ -48,31 +47,30 @@ fn does_by(posting: Posting, length: Result<u32, Problem>) -> Demand
 /// method (405); the length of a body is missing, wrong or too great (400, 411, 413).
 #[tactic(auto, unfolding(crate::specs::Demand::demand_of))]
 pub fn demand_at(
-    alloc: Global,
+    routes: &Routes,
     buf: &[u8],
     headers: &[HeaderSpan; HEADER_LIMIT],
     spans: RequestSpans,
-) -> Result<Demand, AllocError>
+) -> Demand
     requires { IsHeadAt buf.now headers.now spans }
-    ensures { IfOk result (λ demand. (h : RequestHead) → IsRequestAt buf.now headers.now spans h
-        → demand ≡ demand_of h) }
+    ensures { (h : RequestHead) → IsRequestAt buf.now headers.now spans h → result ≡ demand_of h }
 {
     let method = spans.method.of(buf);
-    match endpoint_of(alloc, spans.path.of(buf))? {
-        None => Ok(Demand::Fails(Problem::NotFound)),
+    match routes.endpoint_of(spans.path.of(buf)) {
+        None => Demand::Fails(Problem::NotFound),
         Some(Endpoint::Shows(showing)) => {
             if method == Method::GET.as_str().as_bytes() {
-                Ok(Demand::Shows(showing))
+                Demand::Shows(showing)
             } else {
-                Ok(Demand::Fails(Problem::WrongMethod))
+                Demand::Fails(Problem::WrongMethod)
             }
         }
         Some(Endpoint::Does(posting)) => {
             if method == Method::POST.as_str().as_bytes() {
                 let length = body_length(buf, &headers[..spans.headers], spans.len);
-                Ok(does_by(posting, length))
+                does_by(posting, length)
             } else {
-                Ok(Demand::Fails(Problem::WrongMethod))
+                Demand::Fails(Problem::WrongMethod)
             }
         }
     }

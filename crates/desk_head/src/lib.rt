@@ -2,7 +2,7 @@
 //!
 //! [`look`] finds the head at the front of bytes, by `httparse`, within the desk's limits, and [`read_head`] reads a
 //! source until the head is there or can't come. [`demand_at`] says what the head asks for: which [`Endpoint`],
-//! by the target's route in `matchit`'s router, and how long the body is; or which problem answers it.
+//! by the target's route in `matchit`'s router ([`Routes`]), and how long the body is; or which problem answers it.
 //! [`header_named`] gives the value of a header field, [`first_parameter`] and [`second_parameter`] the parameters of
 //! the target.
 //!
@@ -27,3 +27,4 @@ pub use limits::{BODY_LIMIT, HEAD_LIMIT, HEADER_LIMIT};
 pub use looking::{Sight, empty_headers, look};
 pub use parts::{first_parameter, second_parameter};
 pub use reading::read_head;
+pub use routes::Routes;

@@ -1,6 +1,6 @@
 //! Requests over a port of the machine, in one process.
 use crate::requests::Titled;
-use desk::{listen, serve};
+use desk::{Routes, listen, serve};
 use sqlite::Alter;
 use std::io::{self, ErrorKind, Read, Write};
 use std::net::{Shutdown, SocketAddr, TcpStream};
@@ -51,8 +51,9 @@ pub(crate) fn serve_over_port<S: Alter>(
     let Ok(count) = u32::try_from(clients.len()) else {
         return Err(ErrorKind::InvalidData)?;
     };
+    let routes = Routes::new(alloc)?;
     let mut errors = Vec::new(alloc);
-    if serve(alloc, office, &mut port, &mut errors, count).is_err() || !errors.is_empty() {
+    if serve(alloc, &routes, office, &mut port, &mut errors, count).is_err() || !errors.is_empty() {
         return Err(ErrorKind::ConnectionAborted)?;
     }
     let mut served = clients.iter_mut();

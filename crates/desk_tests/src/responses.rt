@@ -1,6 +1,6 @@
 //! Serving one request.
 use crate::pieces::{Ending, Pieces};
-use desk::{Counted, serve_one};
+use desk::{Counted, Routes, serve_one};
 use sqlite::{Alter, Connection};
 use std::alloc::Global;
 use std::io::{self, ErrorKind};
@@ -43,9 +43,10 @@ fn served<S: Alter>(
     office: &mut StoredOffice<S>,
     pieces: Pieces<'_>,
 ) -> io::Result<Vec<u8>> {
+    let routes = Routes::new(alloc)?;
     let mut source = Counted::new(pieces);
     let mut sink = Counted::new(Vec::new(alloc));
-    match serve_one(alloc, office, &mut source, &mut sink) {
+    match serve_one(alloc, &routes, office, &mut source, &mut sink) {
         Ok(()) => Ok(sink.into_inner()),
         Err(_) => Err(ErrorKind::Other)?,
     }

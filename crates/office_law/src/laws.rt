@@ -34,8 +34,8 @@ pub fn releases_dont_count()
     ensures { ReleasesDontCount }
 {}
 
-/// Only `retire`, and a bundle that has one, depends on what is in a release. Any other command is decided in the same way
-/// where its network has as many other releases.
+/// Only `retire`, and a bundle that has one, depends on what is in a release. Any other command is decided in the same
+/// way where its network has as many other releases.
 pub fn bodies_dont_count()
     ensures { BodiesDontCount }
 {}

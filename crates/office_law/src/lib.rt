@@ -5,8 +5,8 @@
 //! - [`offices_are_kept`]: what every office keeps is kept by each step and each run.
 //! - [`numbers_are_fresh`]: a number that is given out is live nowhere on its network, isn't held, and was never used.
 //! - [`networks_are_apart`]: a command reads and changes its own network alone, and leaves its releases.
-//! - [`releases_dont_count`]: what a network released counts for `retire` and `release` alone; [`bodies_dont_count`]: what
-//!   is in a release for `retire` alone.
+//! - [`releases_dont_count`]: what a network released counts for `retire` and `release` alone; [`bodies_dont_count`]:
+//!   what is in a release for `retire` alone.
 //! - [`steps_agree`]: a step is a function, but for the fault that is reported of a file that reads as no sheet.
 //! - [`outcomes_are_left`], [`replies_are_apart`], [`one_history_leaves_one_network`]: so what becomes of a network
 //!   depends on its own history alone.

@@ -5,7 +5,7 @@ use crate::disks::{Bytes, Taking, Unsynced, taken};
 use crate::lists::ELEVEN;
 use crate::offices::{Opening, Outcome, is_after, office_on, served};
 use crate::requests::{request, response};
-use desk::{Counted, DeskFault, Sink, Source, serve_one};
+use desk::{Counted, DeskFault, Routes, Sink, Source, serve_one};
 use sqlite::Alter;
 use std::alloc::Global;
 use std::io::{self, ErrorKind, Read, Write};
@@ -99,6 +99,9 @@ fn fails_to_read<S: Alter>(
     at: usize,
     failing: Failing,
 ) -> bool {
+    let Ok(routes) = Routes::new(alloc) else {
+        return false;
+    };
     let mut source = Counted::new(Reader {
         left: request,
         calls: 0,
@@ -106,7 +109,7 @@ fn fails_to_read<S: Alter>(
         failing,
     });
     let mut sink = Counted::new(Vec::new(alloc));
-    let served = serve_one(alloc, office, &mut source, &mut sink);
+    let served = serve_one(alloc, &routes, office, &mut source, &mut sink);
     let counts = source.failures() == 1 && sink.failures() == 0;
     is_fault(served, 80) && counts && sink.into_inner().is_empty()
 }
@@ -120,6 +123,9 @@ fn fails_to_write<S: Alter>(
     at: usize,
     failing: Failing,
 ) -> bool {
+    let Ok(routes) = Routes::new(alloc) else {
+        return false;
+    };
     let mut source = Counted::new(request);
     let mut sink = Counted::new(Writer {
         held: Vec::new(alloc),
@@ -127,7 +133,7 @@ fn fails_to_write<S: Alter>(
         fails_at: at,
         failing,
     });
-    let served = serve_one(alloc, office, &mut source, &mut sink);
+    let served = serve_one(alloc, &routes, office, &mut source, &mut sink);
     let counts = source.failures() == 0 && sink.failures() == 1;
     let Writer { held, .. } = sink.into_inner();
     is_fault(served, 81) && counts && response.get(..at.saturating_sub(1)) == Some(held.as_slice())

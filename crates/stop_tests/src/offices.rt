@@ -3,7 +3,7 @@ use crate::disks::{Bytes, Store, Which, connected};
 use crate::lists::{List, Step, is_live_after};
 use crate::requests::{request, response};
 use catalogue::Name;
-use desk::{Counted, serve_one};
+use desk::{Counted, Routes, serve_one};
 use office_history::{Answer, Arrival};
 use office_types::{Look, NetName};
 use sqlite::{Alter, Connection};
@@ -117,10 +117,11 @@ fn written<S: Alter>(
     office: &mut StoredOffice<S>,
     number: usize,
 ) -> io::Result<Vec<u8>> {
+    let routes = Routes::new(alloc)?;
     let request = request(alloc, number)?;
     let mut source = Counted::new(request.as_slice());
     let mut sink = Counted::new(Vec::new(alloc));
-    match serve_one(alloc, office, &mut source, &mut sink) {
+    match serve_one(alloc, &routes, office, &mut source, &mut sink) {
         Ok(()) => Ok(sink.into_inner()),
         Err(_) => Err(ErrorKind::Other)?,
     }

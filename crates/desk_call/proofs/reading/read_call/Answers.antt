@@ -23,7 +23,7 @@ returns-in-Err-read_until-clause-read g c is_read =
     let read = c.in-Err-read_until.ensures.read (ap Err fault) in
     let second : Moves (left c.read_head.new.source) (left c.read_until.new.source) (drop spans.len got) rest =
     rw tail at read.0 in
-    let demand : c.in-Ok.demand ≡ demand_of head.1.0 = c.in-Ok.ensures head.1.0 (rw c.deref.ensures.value head.1.2) in
+    let demand : c.demand_at-demand.result ≡ demand_of head.1.0 = c.demand_at-demand.ensures head.1.0 (rw c.deref.ensures.value head.1.2) in
     let short : length rest < body_size (demand_of head.1.0) =
     rw (← demand) (omega (arith, read.1, c.body_size.ensures, c.read_until.new.got.ok.0)) in
     not_whole _ _ _ got (drop spans.len got) rest head.1.0 c.in-Ok-Some.ensures.moves second head.1.1 short
@@ -39,7 +39,7 @@ returns-in-Ok-call_read-clause-ok g c =
     rw (c.deref-2.ensures.value, take_rest got spans.len) at c.in-Ok-from_slice.ensures.items in
     let second : Moves (left c.read_head.new.source) (left c.read_until.new.source) (drop spans.len got) rest =
     rw tail at c.in-Ok-read_until.ensures.moves in
-    let demand : c.in-Ok.demand ≡ demand_of head.1.0 = c.in-Ok.ensures head.1.0 (rw c.deref.ensures.value head.1.2) in
+    let demand : c.demand_at-demand.result ≡ demand_of head.1.0 = c.demand_at-demand.ensures head.1.0 (rw c.deref.ensures.value head.1.2) in
     let end : (body_size (demand_of head.1.0) ≤ length rest) ⊎ IsAtEnd (left c.read_until.new.source) =
     elim (either c.read_until.result c.in-Ok-read_until.field-0 c.in-Ok-read_until.is
     c.read_until.ensures.whole c.read_until.ensures.end) [
@@ -57,21 +57,21 @@ returns-in-Err-read_until-clause-most g c =
     let got = c.read_head.new.got.items in
     let head : IsHeadAt got c.read_head.new.headers c.in-Ok-Some.spans =
     rw c.in-Ok-Some.field-0-is at c.in-Ok-Some.ensures.head in
-    gives_request _ _ _ c.in-Ok.demand head.1.0 _ _ c.read_head.ensures.most c.read_until.ensures.most c.body_size.ensures
-    (c.in-Ok.ensures head.1.0 (rw c.deref.ensures.value head.1.2))
+    gives_request _ _ _ c.demand_at-demand.result head.1.0 _ _ c.read_head.ensures.most c.read_until.ensures.most c.body_size.ensures
+    (c.demand_at-demand.ensures head.1.0 (rw c.deref.ensures.value head.1.2))
 
 pub returns-in-Ok-call_read-clause-most : goal.returns-in-Ok-call_read-clause-most
 returns-in-Ok-call_read-clause-most g c =
     let got = c.read_head.new.got.items in
     let head : IsHeadAt got c.read_head.new.headers c.in-Ok-Some.spans =
     rw c.in-Ok-Some.field-0-is at c.in-Ok-Some.ensures.head in
-    gives_request _ _ _ c.in-Ok.demand head.1.0 _ _ c.read_head.ensures.most c.read_until.ensures.most c.body_size.ensures
-    (c.in-Ok.ensures head.1.0 (rw c.deref.ensures.value head.1.2))
+    gives_request _ _ _ c.demand_at-demand.result head.1.0 _ _ c.read_head.ensures.most c.read_until.ensures.most c.body_size.ensures
+    (c.demand_at-demand.ensures head.1.0 (rw c.deref.ensures.value head.1.2))
 
 pub returns-clause-most : goal.returns-clause-most
 returns-clause-most g c =
     let got = c.read_head.new.got.items in
     let head : IsHeadAt got c.read_head.new.headers c.in-Ok-Some.spans =
     rw c.in-Ok-Some.field-0-is at c.in-Ok-Some.ensures.head in
-    gives_request _ _ _ c.in-Ok.demand head.1.0 _ _ c.read_head.ensures.most c.read_until.ensures.most c.body_size.ensures
-    (c.in-Ok.ensures head.1.0 (rw c.deref.ensures.value head.1.2))
+    gives_request _ _ _ c.demand_at-demand.result head.1.0 _ _ c.read_head.ensures.most c.read_until.ensures.most c.body_size.ensures
+    (c.demand_at-demand.ensures head.1.0 (rw c.deref.ensures.value head.1.2))

@@ -1,6 +1,7 @@
 //! The first reason why the signals of a message do not fit together.
 ghost use Rattle.std.specs.Prelude.{◌≡◌, ◌<◌, ◌↔◌, IfSome, IsNone, IsTrue, position};
-ghost use Rattle.bitlayout.specs.Clash.{IsFirstClash, clash_after, first_clash_among, first_clash_of, collide, has_multiplexor};
+ghost use Rattle.bitlayout.specs.Clash.{IsFirstClash, clash_after, first_clash_among, first_clash_of, collide};
+ghost use Rattle.bitlayout.specs.Clash.{has_multiplexor};
 ghost use Rattle.bitlayout.specs.Clear.{IsClear};
 ghost use Rattle.bitlayout.specs.Taken.{IsStripOf, IsTakenBy, Collides};
 

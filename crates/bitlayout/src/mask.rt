@@ -136,7 +136,8 @@ impl Mask {
 
     /// Sets bits of the word at an index. Past the last word the mask stays as it is.
     fn put(&mut self, index: usize, bits: u64)
-        ensures { (q : ℕ) → Has self.new q ↔ (Has self.old q ⊎ ((q < mask_end) × (q / 64 ≡ index) × HasBit bits (q % 64))) }
+        ensures { (q : ℕ) → Has self.new q ↔ (Has self.old q
+            ⊎ ((q < mask_end) × (q / 64 ≡ index) × HasBit bits (q % 64))) }
     {
         if index < MASK_WORDS {
             self.words[index] |= bits;

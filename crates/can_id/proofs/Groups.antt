@@ -42,10 +42,10 @@ pub pgn_decides : (n : ℕ) (answer : Bool) → answer ≡ is_pgn n → IsTrue a
 pgn_decides n answer same =
     rw same ((λ e. (fields_with 0 n 0 0, group_of_fields_with 0 n 0 0 (omega arith) e (omega arith) (omega arith))), (λ (f, group). is_pgn_of_group n f group))
 
--- what is built is as it was asked for
-pub built_as_asked : (priority pgn destination source : ℕ) → priority ≤ 7 → is_pgn pgn ≡ true → (is_pdu1 (format_of pgn) ≡ false → destination ≡ 255) → destination ≤ 255 → source ≤ 255
+-- what is built is as it was requested
+pub built_as_requested : (priority pgn destination source : ℕ) → priority ≤ 7 → is_pgn pgn ≡ true → (is_pdu1 (format_of pgn) ≡ false → destination ≡ 255) → destination ≤ 255 → source ≤ 255
     → IsBuilt priority pgn destination source (fields_with priority pgn destination source)
-built_as_asked priority pgn destination source hp hg global hd hs =
+built_as_requested priority pgn destination source hp hg global hd hs =
     record {
       group = group_of_fields_with priority pgn destination source hp hg hd hs;
       priority = refl;

@@ -1,6 +1,8 @@
 //! The fields of a 29-bit identifier, and parameter group numbers (SAE J1939-21, the protocol data unit).
 ghost use Rattle.std.specs.Prelude.{◌≡◌, ◌↔◌, IsTrue, MatchResult, Ok, Option, Some};
-ghost use Rattle.can_id.specs.J1939.{AreInRange, Fields, HasFields, IsBuildFault, IsBuilt, IsPgn, build_result, fields_of, format_of, ident_fields, is_pdu1, is_pgn, number_of, pgn_count, pgn_of};
+ghost use Rattle.can_id.specs.J1939.{AreInRange, Fields, HasFields, IsBuildFault, IsBuilt, IsPgn, build_result};
+ghost use Rattle.can_id.specs.J1939.{fields_of, format_of, ident_fields, is_pdu1, is_pgn, number_of, pgn_count};
+ghost use Rattle.can_id.specs.J1939.{pgn_of};
 ghost use Rattle.can_id.specs.declared.ident.Ident.TheVariants.{Ext};
 
 use crate::fault::IdFault;
@@ -31,7 +33,8 @@ impl Model for J1939 {
 
     ghost view = { λ f. record { priority = f.priority; extended_page = f.extended_page; data_page = f.data_page; pf = f.pf; ps = f.ps; source = f.source } };
 
-    ghost invariant = { λ f. AreInRange (record { priority = f.priority; extended_page = f.extended_page; data_page = f.data_page; pf = f.pf; ps = f.ps; source = f.source }) };
+    ghost invariant = { λ f. AreInRange
+        (record { priority = f.priority; extended_page = f.extended_page; data_page = f.data_page; pf = f.pf; ps = f.ps; source = f.source }) };
 
     ghost inverse = { λ f. record { priority = f.priority; extended_page = f.extended_page; data_page = f.data_page; pf = f.pf; ps = f.ps; source = f.source } };
 }
@@ -92,7 +95,8 @@ impl J1939 {
     /// The fields of a message of this group. Where the group has no destination address (PDU2), the destination
     /// must be 255, which is every node.
     pub fn build(priority: u8, pgn: u32, destination: u8, source: u8) -> Result<J1939, IdFault>
-        ensures outcome { MatchResult result (IsBuilt priority pgn destination source) (IsBuildFault priority pgn destination) }
+        ensures outcome { MatchResult result (IsBuilt priority pgn destination source)
+            (IsBuildFault priority pgn destination) }
         ensures only { (other : Fields) → IsBuilt priority pgn destination source other → result ≡ Ok other }
         ensures computed { result ≡ build_result priority pgn destination source }
     {

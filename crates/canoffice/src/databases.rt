@@ -3,18 +3,18 @@ ghost use Rattle.std.specs.Prelude.{◌≡◌, Err, IfOk, IsFalse, IsOk, IsTrue,
 ghost use Rattle.sqlite.specs.Files.{file_state};
 
 use canoffice_cli::{
-    Answers, Databases, Progress, ServeEnd, answer_on, look_on, lost_at_once, migrate_on,
-    told_and_closed,
+    Answers, Databases, Progress, ServeEnd, answer_on, answers_when_closed, look_on, migrate_on,
+    nothing_answered,
 };
+use desk::{Routes, ServeFault, listen, serve};
 use office_history::Arrival;
-use serving::{ServeFault, listen, serve};
 use sqlite::{Connection, File, FileStore};
 use std::alloc::{AllocError, Global};
 use std::io::Write;
-use store::{Lost, Office, Question};
+use store::{Look, Lost, StoredOffice};
 
-/// The machine's database files, as SQLite has them. Nothing is known of them, since no contract speaks of the machine's
-/// disk.
+/// The machine's database files, as SQLite has them. Nothing is known of them, since no contract speaks of the
+/// machine's disk.
 #[derive(Clone, Copy)]
 pub struct HostDatabases<'r> {
     /// The runtime.
@@ -44,7 +44,8 @@ fn closed(conn: Connection<FileStore<File>>) -> Result<(), Lost> {
 /// Serves connections of the port by the office. Standard error says when it listens, and when the office fails.
 fn serve_at(
     rt: &HostRuntime,
-    office: &mut Office<FileStore<File>>,
+    routes: &Routes,
+    office: &mut StoredOffice<FileStore<File>>,
     port: u16,
     count: u32,
 ) -> Result<(), ServeFault> {
@@ -53,8 +54,15 @@ fn serve_at(
         return Err(ServeFault::Listen);
     };
     let mut errors = rt.stderr();
-    let _told = writeln!(errors, "listening on {address}");
-    serve(rt.alloc(), office, &mut listener, &mut errors, count)
+    let _reported = writeln!(errors, "listening on {address}");
+    serve(
+        rt.alloc(),
+        routes,
+        office,
+        &mut listener,
+        &mut errors,
+        count,
+    )
 }
 
 /// How serving ended, as the program says it: it is lost also where all connections were served, if the office has
@@ -82,9 +90,12 @@ fn serve_on(
 ) -> (Result<(), ServeEnd>, Connection<FileStore<File>>)
     requires { (file_state conn).in_transaction ≡ false }
 {
-    match Office::open(conn) {
+    let Ok(routes) = Routes::new(rt.alloc()) else {
+        return (Err(ServeEnd::IsLost(Lost::Memory)), conn);
+    };
+    match StoredOffice::open(conn) {
         Ok(mut office) => {
-            let served = serve_at(rt, &mut office, port, count);
+            let served = serve_at(rt, &routes, &mut office, port, count);
             let end = end_of(served, office.is_failed());
             (end, office.close())
         }
@@ -107,11 +118,11 @@ impl Databases for HostDatabases<'_> {
     ) -> Result<Answers, AllocError> {
         match opened(self.rt, path) {
             Ok(conn) => {
-                let (told, conn) = answer_on(alloc, conn, script, arrivals, progress);
+                let (reported, conn) = answer_on(alloc, conn, script, arrivals, progress);
                 let closed = closed(conn);
-                Ok(told_and_closed(told?, closed))
+                Ok(answers_when_closed(reported?, closed))
             }
-            Err(lost) => Ok(lost_at_once(alloc, lost)),
+            Err(lost) => Ok(nothing_answered(alloc, lost)),
         }
     }
 
@@ -119,7 +130,7 @@ impl Databases for HostDatabases<'_> {
         &mut self,
         alloc: Global,
         path: &str,
-        question: &Question,
+        question: &Look,
     ) -> Result<Option<Vec<u8>>, Lost> {
         let conn = opened(self.rt, path)?;
         let (shown, conn) = look_on(alloc, conn, question);

@@ -1,11 +1,11 @@
-//! The program `canoffice`: the words of its command line, the machine's files and databases, and the two streams, given to
-//! the program's library.
+//! The program `canoffice`: the words of its command line, the machine's files and databases, and the two streams,
+//! given to the program's library.
 #![tactic(auto)]
 
 mod databases;
 
 use canoffice_cli::{
-    HostFiles, LineFault, Progress, Status, deliver, fault_report, not_utf8_fault, perform,
+    HostFiles, JobFault, Progress, Status, deliver, fault_report, not_utf8_fault, perform,
 };
 use databases::HostDatabases;
 use std::alloc::AllocError;
@@ -54,10 +54,10 @@ fn run_words(rt: &HostRuntime, words: &[&str]) -> Status {
 }
 
 /// The program's arguments, the first of which is its own name.
-fn words(rt: &HostRuntime) -> Result<Vec<String>, LineFault> {
+fn words(rt: &HostRuntime) -> Result<Vec<String>, JobFault> {
     match env::args(rt) {
-        Ok(words) => words.collect(rt.alloc()).map_err(|_| LineFault::Memory),
-        Err(error) if matches!(error.kind(), ErrorKind::OutOfMemory) => Err(LineFault::Memory),
+        Ok(words) => words.collect(rt.alloc()).map_err(|_| JobFault::Memory),
+        Err(error) if matches!(error.kind(), ErrorKind::OutOfMemory) => Err(JobFault::Memory),
         Err(_) => Err(not_utf8_fault(rt.alloc())),
     }
 }

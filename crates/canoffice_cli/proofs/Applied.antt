@@ -1,4 +1,4 @@
--- What a script comes to.
+-- What a script results in.
 use Rattle.std.proofs.Common.{◌≡◌, ◌≤◌, inl, inr, List, ℕ, length, Option, None, Result, Ok, Err}
 use Rattle.std.specs.Prelude.{IfOk}
 use Rattle.std.specs.declared.alloc.AllocError.{AllocError}

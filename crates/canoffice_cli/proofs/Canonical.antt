@@ -1,7 +1,7 @@
 -- A canonical text that is formatted is printed unchanged.
 use Rattle.std.proofs.Common.{◌≡◌, ◌∙◌, ℕ, List, sym, ap, subst}
-use Rattle.catalogue.specs.Canon.{canonical_text}
-use Rattle.catalogue.specs.Reads.{Reads}
+use Rattle.dbc_grammar.specs.Canon.{canonical_text}
+use Rattle.dbc_grammar.specs.Reads.{Reads}
 use Rattle.catalogue.specs.declared.sheet.Sheet.{Sheet}
 use Rattle.dbc_law.specs.Law.{GrammarLaw}
 use Rattle.dbc_read.specs.Reading.{ReadsAsNothing}

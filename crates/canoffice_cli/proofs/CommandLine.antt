@@ -14,9 +14,9 @@ use Rattle.clap.specs.declared.parser.matches.SubCommand.{SubCommand}
 use Rattle.clap.specs.Words.{App, subcommand_name_of, subcommand_rows_of, IsAmong, Row, Text, all_of, matched_of, raw_values, first_value, fault_of, first_of, is_simple_and_free, rows_of}
 use Rattle.clap.specs.declared.error.kind.ErrorKind.{ErrorKind}
 use Rattle.clap.specs.declared.error.kind.ErrorKind.TheVariants.{OutOfMemory, ValueValidation}
-use Rattle.canoffice_cli.specs.CommandLine.{HasSome, HasWrongNumber, IsEntered, IsFaultOfKind, IsLineFault, IsWhole, canoffice_app, is_set, line_faults}
-use Rattle.canoffice_cli.specs.declared.job.LineFault.{LineFault}
-use Rattle.canoffice_cli.specs.declared.job.LineFault.TheVariants.{Help, Usage, Memory}
+use Rattle.canoffice_cli.specs.CommandLine.{HasSome, HasWrongNumber, IsEntered, IsFaultOfKind, IsJobFault, IsWhole, canoffice_app, is_set, line_faults}
+use Rattle.canoffice_cli.specs.declared.job.JobFault.{JobFault}
+use Rattle.canoffice_cli.specs.declared.job.JobFault.TheVariants.{Help, Usage, Memory}
 use Rattle.clap.specs.declared.parser.matches.Found.{Found}
 use Rattle.clap.proofs.WalkLemmas.{first_value-rows, raw_values-rows}
 
@@ -51,7 +51,7 @@ pub found_pair : (m : ArgMatches) (name : Text) (rows : List Row) → Some name 
 found_pair m name rows a b = pair_of_parts (out-ArgMatches m).subcommand name rows a b
 
 -- a fault of the kind of clap's error is one that the words have
-pub line_fault_of : (words : List Text) (kind : ErrorKind) (fault : LineFault) → (kind ≡ OutOfMemory) ⊎ IsAmong kind (line_faults words) → IsFaultOfKind kind fault → IsLineFault words fault
+pub line_fault_of : (words : List Text) (kind : ErrorKind) (fault : JobFault) → (kind ≡ OutOfMemory) ⊎ IsAmong kind (line_faults words) → IsFaultOfKind kind fault → IsJobFault words fault
 line_fault_of words kind (Help text) (inl memory) (inl help) = cc
 line_fault_of words kind (Help text) (inl memory) (inr version) = cc
 line_fault_of words kind (Help text) (inr among) (inl help) = inl (subst (λ k. IsAmong k (line_faults words)) help among)
@@ -61,7 +61,7 @@ line_fault_of words kind (Usage text) (inr among) is = inl (kind, is.0, is.1, am
 line_fault_of words kind Memory has is = tt
 
 -- a wrong number of the subcommand that was entered is one that the words have
-pub wrong_number_of : (words : List Text) (word : Text) (fault : LineFault) → HasWrongNumber words word → IsFaultOfKind ValueValidation fault → IsLineFault words fault
+pub wrong_number_of : (words : List Text) (word : Text) (fault : JobFault) → HasWrongNumber words word → IsFaultOfKind ValueValidation fault → IsJobFault words fault
 wrong_number_of words word (Help text) has (inl help) = cc
 wrong_number_of words word (Help text) has (inr version) = cc
 wrong_number_of words word (Usage text) has is = inr (word, has)
@@ -71,8 +71,8 @@ is_simple_line : is_simple_and_free canoffice_app ≡ true
 is_simple_line = refl
 
 -- clap says the kind of its error for each simple command line, and this one is simple
-pub line_fault_by : (app : App) (words : List Text) (kind : ErrorKind) (fault : LineFault) → app ≡ canoffice_app
-    → (is_simple_and_free app ≡ true → (kind ≡ OutOfMemory) ⊎ IsAmong kind (fault_of app words)) → IsFaultOfKind kind fault → IsLineFault words fault
+pub line_fault_by : (app : App) (words : List Text) (kind : ErrorKind) (fault : JobFault) → app ≡ canoffice_app
+    → (is_simple_and_free app ≡ true → (kind ≡ OutOfMemory) ⊎ IsAmong kind (fault_of app words)) → IsFaultOfKind kind fault → IsJobFault words fault
 line_fault_by app words kind fault same kinds is =
     let known = subst (λ a. is_simple_and_free a ≡ true → (kind ≡ OutOfMemory) ⊎ IsAmong kind (fault_of a words)) same kinds in
     line_fault_of words kind fault (known is_simple_line) is

@@ -1,4 +1,5 @@
--- Where clap finds no fault in the words, one of the program's subcommands was entered, with all the arguments that it needs.
+-- Where clap finds no fault in the words, one of the program's subcommands was entered, with all the arguments that it
+-- needs.
 use Rattle.std.proofs.Common.{◌≡◌, ◌∙◌, ◌&&◌, ◌||◌, inl, inr, Bool, true, false, refl, sym, ap, subst, codes, List, [], Some, true≢false}
 use Rattle.std.specs.Str.{bytes_eq}
 use Rattle.std.proofs.lemmas.Slice.Eq.{bytes_eq-Decides}

@@ -1,12 +1,12 @@
--- What a job comes to that reads a file.
+-- What a job results in that reads a file.
 use Rattle.std.proofs.Common.{◌≡◌, ℕ, List, inl, inr, subst, sym, ◌∙◌, Result, Ok, Err}
 use Rattle.std.specs.Prelude.{IfOk}
 use Rattle.std.specs.declared.alloc.AllocError.{AllocError}
 use Rattle.office_script.specs.Files.{FailsWith, Gives, Holding, unknown, absent, holding}
 use Rattle.canoffice_cli.specs.Outcome.{Outcome, outcome_of, unreadable}
 use Rattle.canoffice_cli.specs.Performance.{IsOfFile}
-use Rattle.office_script.specs.declared.files.FileFault.{FileFault}
-use Rattle.office_script.specs.declared.files.FileFault.TheVariants.{Unreadable, Memory}
+use Rattle.office_script.specs.declared.files.PathFault.{PathFault}
+use Rattle.office_script.specs.declared.files.PathFault.TheVariants.{Unreadable, Memory}
 use Rattle.canoffice_cli.specs.declared.report.Report.{Report}
 
 pub of_bytes : (NothingDone : Type 0) (IsOf : List ℕ → Outcome → Type 0) (path : List ℕ) (held : Holding) (bytes : List ℕ) (r : Result Report AllocError) → Gives held bytes
@@ -16,7 +16,7 @@ of_bytes NothingDone IsOf path unknown bytes (Ok report) gives is = inr (bytes, 
 of_bytes NothingDone IsOf path absent bytes (Ok report) gives is = absurd gives
 of_bytes NothingDone IsOf path (holding known) bytes (Ok report) gives is = subst (λ (b : List ℕ). IsOf b (outcome_of report)) gives is
 
-pub unread : (NothingDone : Type 0) (IsOf : List ℕ → Outcome → Type 0) (path : List ℕ) (held : Holding) (fault : FileFault) (r : Result Report AllocError) → NothingDone → FailsWith held fault
+pub unread : (NothingDone : Type 0) (IsOf : List ℕ → Outcome → Type 0) (path : List ℕ) (held : Holding) (fault : PathFault) (r : Result Report AllocError) → NothingDone → FailsWith held fault
     → IfOk r (λ report. (fault ≡ Unreadable) × (outcome_of report ≡ unreadable path)) → IfOk r (λ report. IsOfFile NothingDone IsOf path held (outcome_of report))
 unread NothingDone IsOf path held fault (Err lost) nothing fails is = tt
 unread NothingDone IsOf path unknown fault (Ok report) nothing fails is = inl (is.1, nothing)

@@ -5,7 +5,7 @@ pub mod Performed
 pub mod WrongWords
 pub mod Commands
 pub mod FileJobs
-pub mod SaidMore
+pub mod StatedMore
 pub mod Canonical
 pub mod PassedLines
 pub mod NoFault
@@ -14,6 +14,6 @@ pub mod FilledWalk
 pub mod GivenValues
 pub mod EnteredSubcommand
 pub mod EnteredLine
-pub mod Told
+pub mod Reported
 pub mod Opened
 pub mod Applied

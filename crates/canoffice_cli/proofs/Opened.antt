@@ -8,7 +8,7 @@ use Rattle.sqlite_trees.specs.View.{doubt}
 use Rattle.office_types.specs.declared.state.Office.{Office}
 use Rattle.office_history.specs.History.{Answered, IsLegal}
 use Rattle.store.specs.declared.lost.Lost.{Lost}
-use Rattle.store.specs.declared.question.Question.{Question}
+use Rattle.office_types.specs.declared.look.Look.{Look}
 use Rattle.store.specs.Holding.{Holding}
 use Rattle.store.specs.Looking.{IsShown}
 use Rattle.store.specs.Opening.{HasNone, HoldingInSomeForm}
@@ -43,8 +43,8 @@ held_or_none P Q (Ok x) h = inl h
 held_or_none P Q (Err e) h = tt
 
 -- nothing was answered, since the database was not opened
-pub none_told : (known : Databases) (path : List ℕ) (told : List Answered) (lost : Option Lost) → told ≡ [] → IsSome lost → InDatabase known known path told lost
-none_told known path told lost none some = record {
+pub none_reported : (known : Databases) (path : List ℕ) (reported : List Answered) (lost : Option Lost) → reported ≡ [] → IsSome lost → InDatabase known known path reported lost
+none_reported known path reported lost none some = record {
   held = λ h holds sound. subst (known.holds path) (sym (ap (λ t. h ++ t) none ∙ append-nil h)) holds;
   made = λ new sound. inr (some, none);
 }
@@ -57,18 +57,18 @@ module _ (before after : Databases) (path : List ℕ) (begin end : State) (opene
   early sound = let clean = (closed_sound sound).0 in omega (arith, doubts, clean)
 
   -- the history that was held goes on
-  pub told_in : (told : List Answered) (lost : Option Lost) → (HasCleanDisk end → IsTrue end.is_open → (h : List Answered) → Holding h begin → Holding (h ++ told) end)
-      → (HasCleanDisk end → IsTrue end.is_open → (h : List Answered) → Begins h begin → Holding (h ++ told) end ⊎ (IsSome lost × (told ≡ []))) → InDatabase before after path told lost
-  told_in told lost held begun = record {
-    held = λ h holds sound. let s = closed_sound sound in closed_held sound (h ++ told) (held s.0 s.1 h (opened_held (early sound) h holds));
+  pub reported_in : (reported : List Answered) (lost : Option Lost) → (HasCleanDisk end → IsTrue end.is_open → (h : List Answered) → Holding h begin → Holding (h ++ reported) end)
+      → (HasCleanDisk end → IsTrue end.is_open → (h : List Answered) → Begins h begin → Holding (h ++ reported) end ⊎ (IsSome lost × (reported ≡ []))) → InDatabase before after path reported lost
+  reported_in reported lost held begun = record {
+    held = λ h holds sound. let s = closed_sound sound in closed_held sound (h ++ reported) (held s.0 s.1 h (opened_held (early sound) h holds));
     made = λ new sound. let s = closed_sound sound in elim (begun s.0 s.1 [] (inr (refl, opened_none (early sound) new))) [
-      | inl holding ↦ inl (closed_held sound told holding)
+      | inl holding ↦ inl (closed_held sound reported holding)
       | inr none ↦ inr none
     ];
   }
 
   -- nothing was shown, and what was held is
-  pub looked_lost : (question : Question) (lost : Lost) → (HasCleanDisk end → IsTrue end.is_open → (h : List Answered) → Holding h begin → Holding h end) → IsLookedUp before after path question (Err lost)
+  pub looked_lost : (question : Look) (lost : Lost) → (HasCleanDisk end → IsTrue end.is_open → (h : List Answered) → Holding h begin → Holding h end) → IsLookedUp before after path question (Err lost)
   looked_lost question lost held = record {
     of_held = λ h office holds legal sound. tt;
     of_new = λ office new legal sound. tt;
@@ -77,7 +77,7 @@ module _ (before after : Databases) (path : List ℕ) (begin end : State) (opene
   }
 
   -- this was shown
-  pub looked_up : (question : Question) (shown : Option (List ℕ)) → (HasCleanDisk end → (h : List Answered) (office : Office) → Begins h begin → IsLegal h office → IsShown office question shown)
+  pub looked_up : (question : Look) (shown : Option (List ℕ)) → (HasCleanDisk end → (h : List Answered) (office : Office) → Begins h begin → IsLegal h office → IsShown office question shown)
       → (HasCleanDisk end → (h : List Answered) → Begins h begin → Holding h end) → IsLookedUp before after path question (Ok shown)
   looked_up question shown shows begun = record {
     of_held = λ h office holds legal sound. shows (closed_sound sound).0 h office (inl (opened_held (early sound) h holds)) legal;
@@ -87,7 +87,7 @@ module _ (before after : Databases) (path : List ℕ) (begin end : State) (opene
   }
 
   -- this was shown, or the call was lost
-  pub looked : {A : Type 0} (text_of : A → Option (List ℕ)) (question : Question) (shown : Result A Lost)
+  pub looked : {A : Type 0} (text_of : A → Option (List ℕ)) (question : Look) (shown : Result A Lost)
       → (HasCleanDisk end → (h : List Answered) (office : Office) → Begins h begin → IsLegal h office → IfOk shown (λ x. IsShown office question (text_of x)))
       → (HasCleanDisk end → IsTrue end.is_open → (h : List Answered) → Holding h begin → Holding h end) → (HasCleanDisk end → (h : List Answered) → Begins h begin → OnOk shown (Holding h end))
       → IsLookedUp before after path question (result_map_both text_of (λ lost. lost) shown)
@@ -109,7 +109,7 @@ module _ (before after : Databases) (path : List ℕ) (begin end : State) (opene
   }
 
 -- a database that was not opened
-pub not_opened : (known : Databases) (path : List ℕ) (question : Question) (lost : Lost) → IsLookedUp known known path question (Err lost)
+pub not_opened : (known : Databases) (path : List ℕ) (question : Look) (lost : Lost) → IsLookedUp known known path question (Err lost)
 not_opened known path question lost = record {
   of_held = λ h office holds legal sound. tt;
   of_new = λ office new legal sound. tt;
@@ -119,10 +119,10 @@ not_opened known path question lost = record {
 
 -- databases of which nothing is known
 
-pub nothing_told : (path : List ℕ) (told : List Answered) (lost : Option Lost) → InDatabase nothing_known nothing_known path told lost
-nothing_told path told lost = record { held = λ h holds sound. absurd holds; made = λ new sound. absurd new }
+pub nothing_reported : (path : List ℕ) (reported : List Answered) (lost : Option Lost) → InDatabase nothing_known nothing_known path reported lost
+nothing_reported path reported lost = record { held = λ h holds sound. absurd holds; made = λ new sound. absurd new }
 
-pub nothing_looked_up : (path : List ℕ) (question : Question) (shown : Result (Option (List ℕ)) Lost) → IsLookedUp nothing_known nothing_known path question shown
+pub nothing_looked_up : (path : List ℕ) (question : Look) (shown : Result (Option (List ℕ)) Lost) → IsLookedUp nothing_known nothing_known path question shown
 nothing_looked_up path question shown = record {
   of_held = λ h office holds legal sound. absurd holds;
   of_new = λ office new legal sound. absurd new;

@@ -4,8 +4,8 @@ use Rattle.std.specs.Prelude.{slice_get}
 use Rattle.std.specs.Borrow.{Bor}
 use Rattle.std.proofs.lemmas.Option.{slice_get-get_or}
 use Rattle.std.proofs.lemmas.List.{length-map, get_or-map, take-map}
-use Rattle.chart.specs.declared.signal.ChartSignal.{ChartSignal}
-use Rattle.chart.specs.Word.{signal_of}
+use Rattle.views.specs.declared.signal.ChartSignal.{ChartSignal}
+use Rattle.views.specs.Word.{signal_of}
 use Rattle.canoffice_cli.specs.Charted.{AreSignals, IsFirstWrongWord}
 
 abbrev texts : List (Bor (List ℕ)) → List (List ℕ)

@@ -36,8 +36,8 @@ answers_outcome answers (Some lost) = record { output = answer_lines answers; er
 abbrev pub answered_with : List Arrival → List Answer → List Answered
 answered_with arrivals answers = answered_of arrivals (map Ok answers)
 
--- The arrivals were answered in turn, up to the first that was lost, and the answers are printed, a line each, and then why
--- it was lost. What was answered goes on with the history as `GoesOn` says.
+-- The arrivals were answered in turn, up to the first that was lost, and the answers are printed, a line each, and then
+-- why it was lost. What was answered goes on with the history as `GoesOn` says.
 pub record AreAnswered (GoesOn : List Answered → Option Lost → Type 0) (arrivals : List Arrival) (o : Outcome) : Type 0 where
   pub answers : List Answer
   pub lost : Option Lost
@@ -48,10 +48,10 @@ pub record AreAnswered (GoesOn : List Answered → Option Lost → Type 0) (arri
 
 -- in memory: what was answered is a legal history
 abbrev pub InMemory : List Answered → Option Lost → Type 0
-InMemory told lost = IsLegalHistory told
+InMemory reported lost = IsLegalHistory reported
 
--- In the database of the path: the tables hold the history that they held, followed by what was answered. New tables hold
--- what was answered, or nothing was.
-pub record InDatabase (before after : Databases) (path : List ℕ) (told : List Answered) (lost : Option Lost) : Type 0 where
-  pub held : (h : List Answered) → before.holds path h → after.is_sound → after.holds path (h ++ told)
-  pub made : before.is_new path → after.is_sound → after.holds path told ⊎ (IsSome lost × (told ≡ []))
+-- In the database of the path: the tables hold the history that they held, followed by what was answered. New tables
+-- hold what was answered, or nothing was.
+pub record InDatabase (before after : Databases) (path : List ℕ) (reported : List Answered) (lost : Option Lost) : Type 0 where
+  pub held : (h : List Answered) → before.holds path h → after.is_sound → after.holds path (h ++ reported)
+  pub made : before.is_new path → after.is_sound → after.holds path reported ⊎ (IsSome lost × (reported ≡ []))

@@ -33,8 +33,8 @@ IsScriptOutcome files dash GoesOn NothingDone script o =
     ((arrivals : List Arrival) × AreArrivalsOf files dash (lines_of script) arrivals × AreAnswered GoesOn arrivals o)
     ⊎ (IsAmiss files dash script o × NothingDone)
 
--- The script is applied to a new office in memory, and nothing else is done. Or it is applied to the office in the database of
--- the path; then `-` is no key.
+-- The script is applied to a new office in memory, and nothing else is done. Or it is applied to the office in the
+-- database of the path; then `-` is no key.
 abbrev pub IsApplyOutcome : Files → Option (List ℕ) → Databases → Databases → List ℕ → Outcome → Type 0
 IsApplyOutcome files None before after script o = IsScriptOutcome files LineNumber InMemory ⊤ script o × AreKept before after
 IsApplyOutcome files (Some path) before after script o = IsScriptOutcome files Wrong (InDatabase before after path) (AreKept before after) script o

@@ -1,8 +1,8 @@
 -- The outcome of the words of a chart.
 use Rattle.std.specs.Prelude.{◌≡◌, ◌⊎◌, ℕ, List, [], map, take, Some, None, is_none, if◌then◌else◌, slice_get}
-use Rattle.chart.specs.declared.signal.ChartSignal.{ChartSignal}
-use Rattle.chart.specs.Text.{chart_of, clash_of}
-use Rattle.chart.specs.Word.{signal_of}
+use Rattle.views.specs.declared.signal.ChartSignal.{ChartSignal}
+use Rattle.views.specs.Text.{chart_of, clash_of}
+use Rattle.views.specs.Word.{signal_of}
 use Rattle.canoffice_cli.specs.Outcome.{Outcome, wrong_word}
 use Rattle.canoffice_cli.specs.declared.report.Status.TheVariants.{Success, FaultFound}
 

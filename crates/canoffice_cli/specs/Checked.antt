@@ -3,13 +3,13 @@ use Rattle.std.specs.Prelude.{◌≡◌, ◌⊎◌, ◌++◌, ℕ, List, [], Som
 use Rattle.std.specs.List.{flat_map}
 use Rattle.catalogue.specs.Fault.{code_name, code_number, message_about}
 use Rattle.catalogue.specs.Keyword.{keyword_text}
-use Rattle.catalogue.specs.Reads.{ReadsAs}
+use Rattle.dbc_grammar.specs.Reads.{ReadsAs}
 use Rattle.catalogue.specs.Sheet.{IsClearSheet, IsFirstFault}
 use Rattle.catalogue.specs.declared.fault.SheetCode.{SheetCode}
 use Rattle.catalogue.specs.declared.fault.SheetFault.{SheetFault}
 use Rattle.catalogue.specs.declared.keyword.Keyword.{Keyword}
 use Rattle.catalogue.specs.declared.sheet.Sheet.{Sheet}
-use Rattle.chart.specs.Table.{signal_count}
+use Rattle.views.specs.Table.{signal_count}
 use Rattle.dbc_lex.specs.Fault as reading
 use Rattle.dbc_lex.specs.declared.fault.ReadFault.{ReadFault}
 use Rattle.dbc_read.specs.Reading.{IsReadFault}

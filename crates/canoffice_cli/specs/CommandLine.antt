@@ -8,11 +8,11 @@ use Rattle.clap.specs.Simple.{on_top}
 use Rattle.clap.specs.declared.builder.action.ArgAction.TheVariants.{SetTrue}
 use Rattle.clap.specs.declared.error.kind.ErrorKind.{ErrorKind}
 use Rattle.clap.specs.declared.error.kind.ErrorKind.TheVariants.{DisplayHelp, DisplayVersion, OutOfMemory}
-use Rattle.chart.specs.Word.{length_of}
+use Rattle.views.specs.Word.{length_of}
 use Rattle.canoffice_cli.specs.declared.job.Job.{Job}
 use Rattle.canoffice_cli.specs.declared.job.Job.TheVariants.{Apply, Chart, Check, Export, Format, Migrate, Serve, Table}
-use Rattle.canoffice_cli.specs.declared.job.LineFault.{LineFault}
-use Rattle.canoffice_cli.specs.declared.job.LineFault.TheVariants.{Help, Usage, Memory}
+use Rattle.canoffice_cli.specs.declared.job.JobFault.{JobFault}
+use Rattle.canoffice_cli.specs.declared.job.JobFault.TheVariants.{Help, Usage, Memory}
 use Rattle.canoffice_cli.specs.declared.job.ValueFault.{ValueFault}
 use Rattle.canoffice_cli.specs.declared.job.ValueFault.TheVariants as value
 use Rattle.canoffice_cli.specs.Numbers.{count_given, port_given, release_number}
@@ -159,12 +159,13 @@ IsEntered (Some found) = IsWhole (find (λ s. bytes_eq found.0 s.name) canoffice
 -- ---- the fault of words that ask for no job
 
 -- the fault for clap's error of this kind
-abbrev pub IsFaultOfKind : ErrorKind → LineFault → Type 0
+abbrev pub IsFaultOfKind : ErrorKind → JobFault → Type 0
 IsFaultOfKind kind (Help text) = (kind ≡ DisplayHelp) ⊎ (kind ≡ DisplayVersion)
 IsFaultOfKind kind (Usage text) = (kind ≢ DisplayHelp) × (kind ≢ DisplayVersion) × (kind ≢ OutOfMemory)
 IsFaultOfKind kind Memory = Unit {0}
 
--- of the subcommand with these arguments, the word for a number gives none in its range; the port is looked at before the count
+-- of the subcommand with these arguments, the word for a number gives none in its range; the port is looked at before
+-- the count
 abbrev pub IsWrongNumber : Text → List Row → Text → Type 0
 IsWrongNumber name rows word =
     ((name ≡ codes "chart") × HasValue rows (codes "LENGTH") word × (length_of word ≡ None))
@@ -173,7 +174,8 @@ IsWrongNumber name rows word =
     ⊎ ((name ≡ codes "serve") × HasValue rows (codes "count") word × (count_given (Some word) ≡ None)
     × (port : ℕ) × (port_given (first_of (codes "port") rows) ≡ Some port))
 
--- the subcommand with these arguments makes no job: a word is a wrong number, or there was no memory for a chart's signals
+-- the subcommand with these arguments makes no job: a word is a wrong number, or there was no memory for a chart's
+-- signals
 abbrev pub IsValueFault : Text → List Row → ValueFault → Type 0
 IsValueFault name rows (value.WrongNumber number word) = IsWrongNumber name rows word.now
 IsValueFault name rows value.Memory = name ≡ codes "chart"
@@ -186,15 +188,16 @@ abbrev pub HasWrongNumber : List Text → Text → Type 0
 HasWrongNumber words word =
     (line_faults words ≡ []) × (name : Text) × (rows : List Row) × (subcommand_of canoffice_app words ≡ Some (name, rows)) × IsWrongNumber name rows word
 
--- the words ask for help, or for the version; or they have a fault of another kind, or a wrong number; or memory ran out
-abbrev pub IsLineFault : List Text → LineFault → Type 0
-IsLineFault words (Help text) = IsAmong DisplayHelp (line_faults words) ⊎ IsAmong DisplayVersion (line_faults words)
-IsLineFault words (Usage text) =
+-- the words ask for help, or for the version; or they have a fault of another kind, or a wrong number; or memory ran
+-- out
+abbrev pub IsJobFault : List Text → JobFault → Type 0
+IsJobFault words (Help text) = IsAmong DisplayHelp (line_faults words) ⊎ IsAmong DisplayVersion (line_faults words)
+IsJobFault words (Usage text) =
     ((kind : ErrorKind) × (kind ≢ DisplayHelp) × (kind ≢ DisplayVersion) × IsAmong kind (line_faults words))
     ⊎ ((word : Text) × HasWrongNumber words word)
-IsLineFault words Memory = Unit {0}
+IsJobFault words Memory = Unit {0}
 
 -- the words ask for a job, or have a fault
-abbrev pub IsLine : List Text → Result Job LineFault → Type 0
+abbrev pub IsLine : List Text → Result Job JobFault → Type 0
 IsLine words (Ok job) = IsJob words job
-IsLine words (Err fault) = IsLineFault words fault
+IsLine words (Err fault) = IsJobFault words fault

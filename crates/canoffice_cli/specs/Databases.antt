@@ -8,8 +8,8 @@ use Rattle.office_history.specs.History.{Answered}
 use Rattle.store.specs.Holding.{Holding}
 use Rattle.store.specs.Opening.{HasNone, HoldingInSomeForm}
 
--- at one moment: the history that the tables of a path hold, the one that they hold in the form of this version or of an
--- earlier one, that a path has no table, and that no disk has failed and nobody else has written
+-- at one moment: the history that the tables of a path hold, the one that they hold in the form of this version or of
+-- an earlier one, that a path has no table, and that no disk has failed and nobody else has written
 pub record Databases : Type 1 where
   pub holds : List ℕ → List Answered → Type 0
   pub holds_in_form : List ℕ → List Answered → Type 0

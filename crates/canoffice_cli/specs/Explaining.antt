@@ -1,7 +1,7 @@
 -- What `--explain` adds to the outcome of a job on the bytes of a file.
 use Rattle.std.specs.Prelude.{◌≡◌, ◌⊎◌, ℕ, Bool, true, false, List, [], Option, Some, None, map}
 use Rattle.std.specs.Borrow.{Bor}
-use Rattle.catalogue.specs.Reads.{ReadsAs}
+use Rattle.dbc_grammar.specs.Reads.{ReadsAs}
 use Rattle.catalogue.specs.declared.sheet.Sheet.{Sheet}
 use Rattle.dbc_advice.specs.Explained.{IsExplained}
 use Rattle.dbc_advice.specs.LeftOut.{left_out}
@@ -12,37 +12,38 @@ use Rattle.office_script.specs.Files.{Files}
 use Rattle.office_script.specs.Lines.{lines_of}
 use Rattle.office_script.specs.declared.keys.Dash.{Dash}
 use Rattle.office_script.specs.declared.keys.Dash.TheVariants.{LineNumber, Wrong}
-use Rattle.script_advice.specs.Explained.{IsSaidOf}
+use Rattle.script_advice.specs.Explained.{IsStatedOf}
 use Rattle.canoffice_cli.specs.Outcome.{Outcome, and_errors}
 use Rattle.canoffice_cli.specs.declared.file_jobs.FileTask.{FileTask}
 use Rattle.canoffice_cli.specs.declared.file_jobs.FileTask.TheVariants as task
 
--- what is said of a DBC text whose canonical text is printed: what its sheet leaves out, or its faults if it reads as none
-abbrev pub IsSaidOfFormat : List ℕ → List ℕ → List ℕ → Type 0
-IsSaidOfFormat name bytes said =
-    (ReadsAsNothing bytes × IsExplained name bytes said)
-    ⊎ ((s : Sheet) × (passed : List Passed) × ReadsAs bytes s (map start_and_keyword passed) × (said ≡ left_out name bytes s passed))
+-- what is stated of a DBC text whose canonical text is printed: what its sheet leaves out, or its faults if it reads as
+-- none
+abbrev pub IsStatedOfFormat : List ℕ → List ℕ → List ℕ → Type 0
+IsStatedOfFormat name bytes stated =
+    (ReadsAsNothing bytes × IsExplained name bytes stated)
+    ⊎ ((s : Sheet) × (passed : List Passed) × ReadsAs bytes s (map start_and_keyword passed) × (stated ≡ left_out name bytes s passed))
 
 -- what `-` means as a key in a script for the office in this database, or for one in memory
 abbrev pub dash_of : Option (Bor (List ℕ)) → Dash
 dash_of None = LineNumber
 dash_of (Some path) = Wrong
 
--- What is said of the file of this name with these bytes. Of a script that is its first wrong line, whatever can't be read
--- before it, or the first wrong line of a bundle's file.
-abbrev pub IsSaid : Files → FileTask → List ℕ → List ℕ → List ℕ → Type 0
-IsSaid files (task.Apply database) name bytes said = IsSaidOf files name (dash_of database) 1 (lines_of bytes) said
-IsSaid files task.Check name bytes said = IsExplained name bytes said
-IsSaid files task.Format name bytes said = IsSaidOfFormat name bytes said
-IsSaid files task.Table name bytes said = said ≡ []
+-- What is stated of the file of this name with these bytes. Of a script that is its first wrong line, whatever can't be
+-- read before it, or the first wrong line of a bundle's file.
+abbrev pub IsStated : Files → FileTask → List ℕ → List ℕ → List ℕ → Type 0
+IsStated files (task.Apply database) name bytes stated = IsStatedOf files name (dash_of database) 1 (lines_of bytes) stated
+IsStated files task.Check name bytes stated = IsExplained name bytes stated
+IsStated files task.Format name bytes stated = IsStatedOfFormat name bytes stated
+IsStated files task.Table name bytes stated = stated ≡ []
 
--- the output and the status are the plain ones, and something is said after the plain errors
-pub record Explains (IsSaid : List ℕ → Type 0) (plain o : Outcome) : Type 0 where
-  pub said : List ℕ
-  pub is : IsSaid said
-  pub whole : o ≡ and_errors plain said
+-- the output and the status are the plain ones, and something is printed after the plain errors
+pub record Explains (IsStated : List ℕ → Type 0) (plain o : Outcome) : Type 0 where
+  pub stated : List ℕ
+  pub is : IsStated stated
+  pub whole : o ≡ and_errors plain stated
 
 -- the same with `--explain` or without
 abbrev pub MayExplain : Bool → (List ℕ → Type 0) → Outcome → Outcome → Type 0
-MayExplain true IsSaid plain o = Explains IsSaid plain o
-MayExplain false IsSaid plain o = o ≡ plain
+MayExplain true IsStated plain o = Explains IsStated plain o
+MayExplain false IsStated plain o = o ≡ plain

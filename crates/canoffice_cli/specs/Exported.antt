@@ -4,8 +4,8 @@ use Rattle.office_types.specs.PlainName.{IsPlainName}
 use Rattle.office_types.specs.declared.state.Office.{Office}
 use Rattle.office_history.specs.History.{Answered, IsLegal}
 use Rattle.store.specs.declared.lost.Lost.{Lost}
-use Rattle.store.specs.declared.question.Question.{Question}
-use Rattle.store.specs.declared.question.Question.TheVariants.{Live, Release}
+use Rattle.office_types.specs.declared.look.Look.{Look}
+use Rattle.office_types.specs.declared.look.Look.TheVariants.{Live, Release}
 use Rattle.store.specs.Looking.{IsShown}
 use Rattle.canoffice_cli.specs.Answered.{answers_outcome}
 use Rattle.canoffice_cli.specs.Databases.{AreKept, Databases}
@@ -13,8 +13,8 @@ use Rattle.canoffice_cli.specs.Outcome.{Outcome, success}
 use Rattle.canoffice_cli.specs.declared.report.Status.TheVariants.{FaultFound}
 
 -- release N of a network, or its live sheet for 0
-abbrev pub sheet_asked : List ℕ → ℕ → Question
-sheet_asked net number = if number == 0 then Live net else Release net number
+abbrev pub sheet_requested : List ℕ → ℕ → Look
+sheet_requested net number = if number == 0 then Live net else Release net number
 
 abbrev pub not_found : Outcome
 not_found = record { output = []; errors = codes "not found\n"; status = FaultFound }
@@ -25,16 +25,16 @@ shown_outcome (Ok (Some text)) = success text
 shown_outcome (Ok None) = not_found
 shown_outcome (Err lost) = answers_outcome [] (Some lost)
 
--- The office in the database of the path was asked the question, and this is what it showed, unless that was lost. The tables
--- hold what they held.
-pub record IsLookedUp (before after : Databases) (path : List ℕ) (question : Question) (shown : Result (Option (List ℕ)) Lost) : Type 0 where
+-- The office in the database of the path looked the question up, and this is what it showed, unless that was lost. The
+-- tables hold what they held.
+pub record IsLookedUp (before after : Databases) (path : List ℕ) (question : Look) (shown : Result (Option (List ℕ)) Lost) : Type 0 where
   pub of_held : (h : List Answered) (office : Office) → before.holds path h → IsLegal h office → after.is_sound → IfOk shown (IsShown office question)
   pub of_new : (office : Office) → before.is_new path → IsLegal [] office → after.is_sound → IfOk shown (IsShown office question)
   pub held : (h : List Answered) → before.holds path h → after.is_sound → after.holds path h
   pub made : before.is_new path → after.is_sound → OnOk shown (after.holds path [])
 
--- The word for the network is no name of one, so that there is none; or the office is asked, and what it shows is printed.
+-- The word for the network is no name of one, so that there is none; or the office looks, and what it shows is printed.
 abbrev pub IsExportOutcome : Databases → Databases → List ℕ → List ℕ → ℕ → Outcome → Type 0
 IsExportOutcome before after path net number o =
     ((¬ IsPlainName net) × (o ≡ not_found) × AreKept before after)
-    ⊎ (IsPlainName net × (shown : Result (Option (List ℕ)) Lost) × IsLookedUp before after path (sheet_asked net number) shown × (o ≡ shown_outcome shown))
+    ⊎ (IsPlainName net × (shown : Result (Option (List ℕ)) Lost) × IsLookedUp before after path (sheet_requested net number) shown × (o ≡ shown_outcome shown))

@@ -11,8 +11,8 @@ abbrev pub migrated_outcome : Result ⊤ Lost → Outcome
 migrated_outcome (Ok done) = success (codes "profile 2\n")
 migrated_outcome (Err lost) = answers_outcome [] (Some lost)
 
--- The tables of the path hold the history that they held in the form of this version or of an earlier one, unless that was
--- lost: then they hold it as before. New tables are made where there are none.
+-- The tables of the path hold the history that they held in the form of this version or of an earlier one, unless that
+-- was lost: then they hold it as before. New tables are made where there are none.
 pub record IsMigrated (before after : Databases) (path : List ℕ) (done : Result ⊤ Lost) : Type 0 where
   pub carried : (h : List Answered) → before.holds_in_form path h → after.is_sound → OnOk done (after.holds path h)
   pub left : (h : List Answered) → before.holds_in_form path h → after.is_sound → OnErr done (after.holds_in_form path h)

@@ -2,7 +2,7 @@
 use Rattle.std.specs.Prelude.{◌≡◌, ℕ, List, Option, Some, None, codes}
 use Rattle.std.specs.Option.{option_and_then}
 use Rattle.catalogue.specs.WholeNumber.{whole_of}
-use Rattle.chart.specs.Word.{between}
+use Rattle.views.specs.Word.{between}
 use Rattle.std.proofs.Common.{refl}
 
 -- the number of a release, or 0 for the live sheet

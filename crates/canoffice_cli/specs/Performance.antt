@@ -2,7 +2,7 @@
 use Rattle.std.specs.Prelude.{◌≡◌, ◌⊎◌, ℕ, false, List, map, option_map, Result, Ok, Err, string_bytes}
 use Rattle.office_script.specs.Files.{Files, Holding, unknown, absent, holding}
 use Rattle.canoffice_cli.specs.CommandLine.{IsLine}
-use Rattle.canoffice_cli.specs.Explaining.{IsSaid, MayExplain}
+use Rattle.canoffice_cli.specs.Explaining.{IsStated, MayExplain}
 use Rattle.canoffice_cli.specs.Holding.{source_at}
 use Rattle.canoffice_cli.specs.Outcome.{Outcome, memory_lost, success, wrong_input, unreadable}
 use Rattle.canoffice_cli.specs.Databases.{AreKept, Databases}
@@ -21,8 +21,8 @@ use Rattle.canoffice_cli.specs.declared.file_jobs.FileTask.{FileTask}
 use Rattle.canoffice_cli.specs.declared.file_jobs.FileTask.TheVariants as task
 use Rattle.canoffice_cli.specs.declared.job.Job.{Job}
 use Rattle.canoffice_cli.specs.declared.job.Job.TheVariants.{Apply, Chart, Check, Export, Format, Migrate, Serve, Table}
-use Rattle.canoffice_cli.specs.declared.job.LineFault.{LineFault}
-use Rattle.canoffice_cli.specs.declared.job.LineFault.TheVariants.{Help, Usage, Memory}
+use Rattle.canoffice_cli.specs.declared.job.JobFault.{JobFault}
+use Rattle.canoffice_cli.specs.declared.job.JobFault.TheVariants.{Help, Usage, Memory}
 
 -- the outcome of a job whose file is at the path: that of its bytes, or that it can't be read; nothing is done then
 abbrev pub IsOfFile : Type 0 → (List ℕ → Outcome → Type 0) → List ℕ → Holding → Outcome → Type 0
@@ -40,7 +40,7 @@ ComesTo files before after task.Table bytes o = IsTableOutcome bytes o × AreKep
 -- the same for a job, which may explain
 abbrev pub IsOfBytes : Files → Databases → Databases → FileJob → List ℕ → Outcome → Type 0
 IsOfBytes files before after job bytes o =
-    (plain : Outcome) × ComesTo files before after job.task bytes plain × MayExplain job.explain (IsSaid files job.task job.path.now bytes) plain o
+    (plain : Outcome) × ComesTo files before after job.task bytes plain × MayExplain job.explain (IsStated files job.task job.path.now bytes) plain o
 
 abbrev pub IsFileOutcome : Files → Holding → Databases → Databases → FileJob → Outcome → Type 0
 IsFileOutcome files input before after job o =
@@ -59,19 +59,19 @@ IsDone files input before after (Serve database port count) o = IsServeOutcome b
 IsDone files input before after (Table file) o = IsFileOutcome files input before after (record { task = task.Table; path = file; explain = false }) o
 
 -- the outcome of words that ask for no job: the text of their fault
-abbrev pub IsFaultAnswer : LineFault → Outcome → Type 0
+abbrev pub IsFaultAnswer : JobFault → Outcome → Type 0
 IsFaultAnswer (Help text) o = o ≡ success (string_bytes text)
 IsFaultAnswer (Usage text) o = o ≡ wrong_input (string_bytes text)
 IsFaultAnswer Memory o = o ≡ memory_lost
 
 -- the outcome of a command line
-abbrev pub IsAnswer : Files → Holding → Databases → Databases → Result Job LineFault → Outcome → Type 0
+abbrev pub IsAnswer : Files → Holding → Databases → Databases → Result Job JobFault → Outcome → Type 0
 IsAnswer files input before after (Ok job) o = IsDone files input before after job o
 IsAnswer files input before after (Err fault) o = IsFaultAnswer fault o × AreKept before after
 
 -- the outcome of the program's words, unless memory runs out before there is one
 abbrev pub IsAnswered : List (List ℕ) → Files → Holding → Databases → Databases → Outcome → Type 0
-IsAnswered words files input before after o = (line : Result Job LineFault) × IsLine words line × IsAnswer files input before after line o
+IsAnswered words files input before after o = (line : Result Job JobFault) × IsLine words line × IsAnswer files input before after line o
 
 -- a run of the program: the outcome of its words is delivered, or that memory ran out
 abbrev pub IsPerformed : List (List ℕ) → Files → Holding → Databases → Databases → Writing → Writing → Status → Type 0

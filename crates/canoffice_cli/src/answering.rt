@@ -1,5 +1,6 @@
 //! Answering arrivals, up to the first that is lost.
-ghost use Rattle.std.specs.Prelude.{◌≡◌, ◌⊎◌, ◌≤◌, ◌++◌, [], List, length, None, Some, false, IsTrue, IsSome, IfOk, IfErr, IsOkAnd, MatchResult, OnErr};
+ghost use Rattle.std.specs.Prelude.{◌≡◌, ◌⊎◌, ◌≤◌, ◌++◌, [], List, length, None, Some, false, IsTrue, IsSome, IfOk};
+ghost use Rattle.std.specs.Prelude.{IfErr, IsOkAnd, MatchResult, OnErr};
 ghost use Rattle.sqlite.specs.Held.{state};
 ghost use Rattle.sqlite.specs.State.{HasCleanDisk};
 ghost use Rattle.sqlite_trees.specs.View.{doubt};
@@ -18,7 +19,7 @@ use office_keyed::KeyedOffice;
 use sqlite::{Alter, Connection};
 use std::alloc::{AllocError, Global};
 use std::io::Write;
-use store::{Lost, Office};
+use store::{Lost, StoredOffice};
 
 /// The answers to the first arrivals, and why the next one was lost, if one was.
 #[derive(Drop)]
@@ -28,7 +29,7 @@ pub struct Answers {
 }
 
 /// No answer, since already the first call was lost.
-pub fn lost_at_once(alloc: Global, lost: Lost) -> Answers
+pub fn nothing_answered(alloc: Global, lost: Lost) -> Answers
     ensures answers { result.answers.items ≡ [] }
     ensures lost { result.lost ≡ Some lost }
 {
@@ -39,14 +40,20 @@ pub fn lost_at_once(alloc: Global, lost: Lost) -> Answers
 }
 
 /// An office on the connection, as it is there, or a new one. If opening it is lost, the connection is given back.
-pub(crate) fn office_on<S: Alter>(conn: Connection<S>) -> Result<Office<S>, (Lost, Connection<S>)>
+pub(crate) fn office_on<S: Alter>(
+    conn: Connection<S>,
+) -> Result<StoredOffice<S>, (Lost, Connection<S>)>
     requires { (state S.Store conn).in_transaction ≡ false }
-    ensures clean { MatchResult result (λ office. doubt (state S.Store conn).is_clean ≤ doubt (state S.Store office.conn).is_clean) (λ lost. doubt (state S.Store conn).is_clean ≤ doubt (state S.Store lost.1).is_clean) }
-    ensures begun { IfOk result (λ office. HasCleanDisk (state S.Store office.conn) → (h : List Answered) → Begins h (state S.Store conn) → Holding h (state S.Store office.conn)) }
-    ensures held { IfErr result (λ lost. HasCleanDisk (state S.Store lost.1) → IsTrue (state S.Store lost.1).is_open → (h : List Answered) → Holding h (state S.Store conn) → Holding h (state S.Store lost.1)) }
+    ensures clean { MatchResult result (λ office. doubt (state S.Store conn).is_clean ≤ doubt
+        (state S.Store office.conn).is_clean) (λ lost. doubt (state S.Store conn).is_clean ≤ doubt
+        (state S.Store lost.1).is_clean) }
+    ensures begun { IfOk result (λ office. HasCleanDisk (state S.Store office.conn) → (h : List Answered)
+        → Begins h (state S.Store conn) → Holding h (state S.Store office.conn)) }
+    ensures held { IfErr result (λ lost. HasCleanDisk (state S.Store lost.1) → IsTrue (state S.Store lost.1).is_open
+        → (h : List Answered) → Holding h (state S.Store conn) → Holding h (state S.Store lost.1)) }
 {
     let _settled_before = conn.is_autocommit();
-    match Office::open(conn) {
+    match StoredOffice::open(conn) {
         Ok(office) => Ok(office),
         Err((lost, conn)) => {
             let _settled = conn.is_autocommit();
@@ -59,18 +66,21 @@ pub(crate) fn office_on<S: Alter>(conn: Connection<S>) -> Result<Office<S>, (Los
 /// arrived.
 fn answer_all<S: Alter, W: Write>(
     alloc: Global,
-    office: &mut Office<S>,
+    office: &mut StoredOffice<S>,
     script: &[u8],
     arrivals: &[Arrival],
     progress: &mut Progress<W>,
 ) -> Result<Answers, AllocError>
     ensures clean { doubt (state S.Store office.old.conn).is_clean ≤ doubt (state S.Store office.new.conn).is_clean }
-    ensures some { IfOk result (λ told. length told.answers.items ≤ length arrivals.now) }
-    ensures all { IfOk result (λ told. told.lost ≡ None → length told.answers.items ≡ length arrivals.now) }
-    ensures held { HasCleanDisk (state S.Store office.new.conn) → IsTrue (state S.Store office.new.conn).is_open → (h : List Answered) → Holding h (state S.Store office.old.conn)
-        → IfOk result (λ told. Holding (h ++ answered_with arrivals.now told.answers.items) (state S.Store office.new.conn)) }
-    ensures legal { HasCleanDisk (state S.Store office.new.conn) → (h : List Answered) → Holding h (state S.Store office.old.conn)
-        → IfOk result (λ told. IsLegalHistory (h ++ answered_with arrivals.now told.answers.items)) }
+    ensures some { IfOk result (λ reported. length reported.answers.items ≤ length arrivals.now) }
+    ensures all { IfOk result (λ reported. reported.lost ≡ None → length reported.answers.items ≡ length arrivals.now) }
+    ensures held { HasCleanDisk (state S.Store office.new.conn) → IsTrue (state S.Store office.new.conn).is_open
+        → (h : List Answered) → Holding h (state S.Store office.old.conn)
+        → IfOk result (λ reported. Holding (h ++ answered_with arrivals.now reported.answers.items)
+        (state S.Store office.new.conn)) }
+    ensures legal { HasCleanDisk (state S.Store office.new.conn) → (h : List Answered)
+        → Holding h (state S.Store office.old.conn)
+        → IfOk result (λ reported. IsLegalHistory (h ++ answered_with arrivals.now reported.answers.items)) }
     ensures err { OnErr result (office.new ≡ office.old) }
 {
     let mut answers = Vec::with_capacity(alloc, arrivals.len())?;
@@ -93,9 +103,9 @@ fn answer_all<S: Alter, W: Write>(
     })
 }
 
-/// Answers the arrivals in turn by the office on the connection, up to the first that is lost, and gives the connection back.
-/// A new office is made where the connection has no table. It is shown how far the script of the arrivals is. The error is out
-/// of memory for the answers: then nothing arrived.
+/// Answers the arrivals in turn by the office on the connection, up to the first that is lost, and gives the connection
+/// back. A new office is made where the connection has no table. It is shown how far the script of the arrivals is. The
+/// error is out of memory for the answers: then nothing arrived.
 pub fn answer_on<S: Alter + Drop, W: Write>(
     alloc: Global,
     conn: Connection<S>,
@@ -105,36 +115,42 @@ pub fn answer_on<S: Alter + Drop, W: Write>(
 ) -> (Result<Answers, AllocError>, Connection<S>)
     requires { (state S.Store conn).in_transaction ≡ false }
     ensures clean { doubt (state S.Store conn).is_clean ≤ doubt (state S.Store result.1).is_clean }
-    ensures some { IfOk result.0 (λ told. length told.answers.items ≤ length arrivals.now) }
-    ensures all { IfOk result.0 (λ told. told.lost ≡ None → length told.answers.items ≡ length arrivals.now) }
-    ensures held { HasCleanDisk (state S.Store result.1) → IsTrue (state S.Store result.1).is_open → (h : List Answered) → Holding h (state S.Store conn)
-        → IfOk result.0 (λ told. Holding (h ++ answered_with arrivals.now told.answers.items) (state S.Store result.1)) }
-    ensures begun { HasCleanDisk (state S.Store result.1) → IsTrue (state S.Store result.1).is_open → (h : List Answered) → Begins h (state S.Store conn)
-        → IfOk result.0 (λ told. Holding (h ++ answered_with arrivals.now told.answers.items) (state S.Store result.1) ⊎ (IsSome told.lost × (told.answers.items ≡ []))) }
+    ensures some { IfOk result.0 (λ reported. length reported.answers.items ≤ length arrivals.now) }
+    ensures all { IfOk result.0 (λ reported. reported.lost ≡ None
+        → length reported.answers.items ≡ length arrivals.now) }
+    ensures held { HasCleanDisk (state S.Store result.1) → IsTrue (state S.Store result.1).is_open
+        → (h : List Answered) → Holding h (state S.Store conn)
+        → IfOk result.0 (λ reported. Holding (h ++ answered_with arrivals.now reported.answers.items)
+        (state S.Store result.1)) }
+    ensures begun { HasCleanDisk (state S.Store result.1) → IsTrue (state S.Store result.1).is_open
+        → (h : List Answered) → Begins h (state S.Store conn)
+        → IfOk result.0 (λ reported. Holding (h ++ answered_with arrivals.now reported.answers.items)
+        (state S.Store result.1) ⊎ (IsSome reported.lost × (reported.answers.items ≡ []))) }
     ensures legal { HasCleanDisk (state S.Store result.1) → (h : List Answered) → Begins h (state S.Store conn)
-        → IfOk result.0 (λ told. IsLegalHistory (h ++ answered_with arrivals.now told.answers.items)) }
+        → IfOk result.0 (λ reported. IsLegalHistory (h ++ answered_with arrivals.now reported.answers.items)) }
 {
     histories_grow();
     match office_on(conn) {
         Ok(mut office) => {
-            let told = answer_all(alloc, &mut office, script, arrivals, progress);
-            (told, office.close())
+            let reported = answer_all(alloc, &mut office, script, arrivals, progress);
+            (reported, office.close())
         }
-        Err((lost, conn)) => (Ok(lost_at_once(alloc, lost)), conn),
+        Err((lost, conn)) => (Ok(nothing_answered(alloc, lost)), conn),
     }
 }
 
-/// Answers the arrivals in turn by a new office in memory, up to one for which memory runs out, which is lost. The error is out
-/// of memory for the answers.
+/// Answers the arrivals in turn by a new office in memory, up to one for which memory runs out, which is lost. The
+/// error is out of memory for the answers.
 pub(crate) fn answer_in_memory<W: Write>(
     alloc: Global,
     script: &[u8],
     arrivals: &[Arrival],
     progress: &mut Progress<W>,
 ) -> Result<Answers, AllocError>
-    ensures some { IfOk result (λ told. length told.answers.items ≤ length arrivals.now) }
-    ensures all { IfOk result (λ told. told.lost ≡ None → length told.answers.items ≡ length arrivals.now) }
-    ensures goes_on { IfOk result (λ told. InMemory (answered_with arrivals.now told.answers.items) told.lost) }
+    ensures some { IfOk result (λ reported. length reported.answers.items ≤ length arrivals.now) }
+    ensures all { IfOk result (λ reported. reported.lost ≡ None → length reported.answers.items ≡ length arrivals.now) }
+    ensures goes_on { IfOk result (λ reported. InMemory
+        (answered_with arrivals.now reported.answers.items) reported.lost) }
 {
     let mut answers = Vec::with_capacity(alloc, arrivals.len())?;
     let mut office = KeyedOffice::new(alloc);
@@ -157,14 +173,14 @@ pub(crate) fn answer_in_memory<W: Write>(
     })
 }
 
-/// What was told, and why closing the database after it was lost, if that was and nothing before.
-pub fn told_and_closed(told: Answers, closed: Result<(), Lost>) -> Answers
-    ensures answers { result.answers ≡ told.answers }
-    ensures lost { IsSome told.lost → result.lost ≡ told.lost }
-    ensures none { result.lost ≡ None → told.lost ≡ None }
-    ensures closing { IfErr closed (λ closing. told.lost ≡ None → result.lost ≡ Some closing) }
+/// What was reported, and why closing the database after it was lost, if that was and nothing before.
+pub fn answers_when_closed(reported: Answers, closed: Result<(), Lost>) -> Answers
+    ensures answers { result.answers ≡ reported.answers }
+    ensures lost { IsSome reported.lost → result.lost ≡ reported.lost }
+    ensures none { result.lost ≡ None → reported.lost ≡ None }
+    ensures closing { IfErr closed (λ closing. reported.lost ≡ None → result.lost ≡ Some closing) }
 {
-    let Answers { answers, lost } = told;
+    let Answers { answers, lost } = reported;
     match (lost, closed) {
         (None, Err(closing)) => Answers {
             answers,

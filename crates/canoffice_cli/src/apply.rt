@@ -33,15 +33,16 @@ fn apply_in_memory<F: FileSource, W: Write>(
     files: &F,
     progress: &mut Progress<W>,
 ) -> Result<Report, AllocError>
-    ensures { IfOk result (λ report. IsScriptOutcome (F.held files.now) Dash.LineNumber InMemory ⊤ script.now (outcome_of report)) }
+    ensures { IfOk result (λ report. IsScriptOutcome (F.held files.now) Dash.LineNumber InMemory ⊤ script.now
+        (outcome_of report)) }
 {
     match arrivals_of(alloc, script, Dash::LineNumber, files) {
         Ok(arrivals) => {
             // Room first, so that no answer is lost because memory for its line runs out.
             let room = Room::for_answers(alloc, arrivals.len())?;
-            let told = answer_in_memory(alloc, script, &arrivals, progress);
+            let reported = answer_in_memory(alloc, script, &arrivals, progress);
             progress.ends();
-            told?.report(alloc, room)
+            reported?.report(alloc, room)
         }
         Err(fault) => amiss_report(alloc, fault),
     }
@@ -56,15 +57,17 @@ fn apply_in_database<F: FileSource, D: Databases, W: Write>(
     path: &str,
     progress: &mut Progress<W>,
 ) -> Result<Report, AllocError>
-    ensures { IfOk result (λ report. IsScriptOutcome (F.held files.now) Dash.Wrong (InDatabase (D.known databases.old) (D.known databases.new) path.now) (AreKept (D.known databases.old) (D.known databases.new)) script.now (outcome_of report)) }
+    ensures { IfOk result (λ report. IsScriptOutcome (F.held files.now) Dash.Wrong
+        (InDatabase (D.known databases.old) (D.known databases.new) path.now)
+        (AreKept (D.known databases.old) (D.known databases.new)) script.now (outcome_of report)) }
 {
     match arrivals_of(alloc, script, Dash::Wrong, files) {
         Ok(arrivals) => {
             // Room first, so that no answer is lost because memory for its line runs out.
             let room = Room::for_answers(alloc, arrivals.len())?;
-            let told = databases.answer(alloc, path, script, &arrivals, progress);
+            let reported = databases.answer(alloc, path, script, &arrivals, progress);
             progress.ends();
-            told?.report(alloc, room)
+            reported?.report(alloc, room)
         }
         Err(fault) => amiss_report(alloc, fault),
     }
@@ -72,11 +75,11 @@ fn apply_in_database<F: FileSource, D: Databases, W: Write>(
 
 /// Applies the script of these bytes to the office in the database of the path, or to a new one in memory.
 ///
-/// The whole script is read first, and each file that it names, line by line: if a line is wrong, the number of the first
-/// one is reported, and if a file can't be read, the path of the first one; then nothing is done. Else each arrival is
-/// answered in turn, up to the first that is lost, and the answers are printed, with the status `Success` whatever was
-/// refused; after the last one `lost` and its number if one was lost, with the status `Failed`. The error is out of memory
-/// for the report. Room for the lines of all answers is taken before the first arrival.
+/// The whole script is read first, and each file that it names, line by line: if a line is wrong, the number of the
+/// first one is reported, and if a file can't be read, the path of the first one; then nothing is done. Else each
+/// arrival is answered in turn, up to the first that is lost, and the answers are printed, with the status `Success`
+/// whatever was refused; after the last one `lost` and its number if one was lost, with the status `Failed`. The error
+/// is out of memory for the report. Room for the lines of all answers is taken before the first arrival.
 pub fn apply_script<F: FileSource, D: Databases, W: Write>(
     alloc: Global,
     script: &[u8],
@@ -85,7 +88,8 @@ pub fn apply_script<F: FileSource, D: Databases, W: Write>(
     databases: &mut D,
     progress: &mut Progress<W>,
 ) -> Result<Report, AllocError>
-    ensures { IfOk result (λ report. IsApplyOutcome (F.held files.now) (option_map (λ path. path.now) database.entry) (D.known databases.old) (D.known databases.new) script.now (outcome_of report)) }
+    ensures { IfOk result (λ report. IsApplyOutcome (F.held files.now) (option_map (λ path. path.now) database.entry)
+        (D.known databases.old) (D.known databases.new) script.now (outcome_of report)) }
 {
     match database {
         None => apply_in_memory(alloc, script, files, progress),

@@ -5,8 +5,8 @@ ghost use Rattle.canoffice_cli.specs.Charted.{chart_outcome, AreSignals, IsChart
 ghost use Rattle.canoffice_cli.specs.WordFault.{IsWordFault};
 
 use crate::report::{Report, Status, bad_word};
-use chart::{ChartSignal, chart_text, first_clash_of, signal_of};
 use std::alloc::{AllocError, AllocFailed, Global};
+use views::{ChartSignal, chart_text, first_clash_of, signal_of};
 
 /// Why the words describe no signals.
 #[derive(Debug, Drop)]

@@ -1,16 +1,17 @@
 //! Checking DBC texts.
 ghost use Rattle.std.specs.Prelude.{◌≡◌, IfOk, map, string_bytes};
 ghost use Rattle.canoffice_cli.specs.Outcome.{outcome_of};
-ghost use Rattle.canoffice_cli.specs.Checked.{clear_line, fault_line, fault_output, passed_lines, unclear_line, IsCheckOutcome, IsVerdict};
+ghost use Rattle.canoffice_cli.specs.Checked.{clear_line, fault_line, fault_output, passed_lines, unclear_line};
+ghost use Rattle.canoffice_cli.specs.Checked.{IsCheckOutcome, IsVerdict};
 ghost use Rattle.dbc_read.specs.Passed.{start_and_keyword};
 
 use crate::lines::{Line, lines_of};
 use crate::report::{Report, Status};
 use catalogue::{Sheet, SheetCode, SheetFault};
-use chart::signal_count;
 use dbc_read::{Passed, ReadCode, ReadFault, Reading, read};
 use std::alloc::{AllocError, Global};
 use std::mem::forget;
+use views::signal_count;
 
 impl Line for Passed {
     ghost use Rattle.canoffice_cli.specs.Checked.{passed_line};
@@ -56,7 +57,8 @@ pub(crate) fn fault_line(alloc: Global, fault: ReadFault) -> Result<Vec<u8>, All
 
 /// The verdict on the sheet: what was skipped, and whether the sheet is clear.
 fn verdict(alloc: Global, reading: &Reading) -> Result<Report, AllocError>
-    ensures { IfOk result (λ report. IsVerdict reading.now.sheet (map start_and_keyword reading.now.passed) (outcome_of report)) }
+    ensures { IfOk result (λ report. IsVerdict reading.now.sheet (map start_and_keyword reading.now.passed)
+        (outcome_of report)) }
 {
     let mut output = passed_lines(alloc, reading.passed.as_slice())?;
     match reading.sheet.is_clear(alloc) {

@@ -2,7 +2,10 @@
 ghost use Rattle.std.specs.Prelude.{◌≡◌, IfOk, codes, false};
 ghost use Rattle.clap.specs.Words.{app_of, new_app, rule_of};
 ghost use Rattle.clap.specs.declared.builder.command.Command.TheViews.{out-Command as fields_of};
-ghost use Rattle.canoffice_cli.specs.CommandLine.{apply_app, canoffice_app, chart_app, check_app, explain_flag, export_app, format_app, migrate_app, option_word, required_option, required_word, required_words, serve_app, table_app, wants_subcommand, with_version};
+ghost use Rattle.canoffice_cli.specs.CommandLine.{apply_app, canoffice_app, chart_app, check_app, explain_flag};
+ghost use Rattle.canoffice_cli.specs.CommandLine.{export_app, format_app, migrate_app, option_word, required_option};
+ghost use Rattle.canoffice_cli.specs.CommandLine.{required_word, required_words, serve_app, table_app};
+ghost use Rattle.canoffice_cli.specs.CommandLine.{wants_subcommand, with_version};
 
 use clap::{Arg, ArgAction, Command};
 use std::alloc::{AllocError, Global};
@@ -163,7 +166,7 @@ fn table_command<'a>(alloc: Global) -> Result<Command<'a>, AllocError>
     Ok(table)
 }
 
-/// The program's command line before its subcommands, one of which is required, unless the version is asked for.
+/// The program's command line before its subcommands, one of which is required, unless the version is requested.
 fn bare_command<'a>(alloc: Global) -> Command<'a>
     ensures app { app_of result ≡ wants_subcommand (with_version (new_app (codes "canoffice"))) }
     ensures local { (fields_of result).has_globals ≡ false }

@@ -15,18 +15,19 @@ use crate::progress::Progress;
 use crate::serving::ServeEnd;
 pub use memory::MemoryDatabase;
 use office_history::Arrival;
+use office_types::Look;
 use std::alloc::{AllocError, Global};
 use std::io::Write;
-use store::{Lost, Question};
+use store::Lost;
 
 /// Databases that are found by their paths, each with the tables of an office. One is made where there is none.
 pub trait Databases {
     /// What is known of them.
     ghost known: { Self → Known };
 
-    /// Answers the arrivals in turn by the office in the database at the path, up to the first that is lost. It is shown
-    /// how far the script of the arrivals is. Opening the database, or closing it after the last answer, may be lost too.
-    /// The error is out of memory for the answers: then nothing arrived.
+    /// Answers the arrivals in turn by the office in the database at the path, up to the first that is lost. It is
+    /// shown how far the script of the arrivals is. Opening the database, or closing it after the last answer, may be
+    /// lost too. The error is out of memory for the answers: then nothing arrived.
     fn answer<W: Write>(
         &mut self,
         alloc: Global,
@@ -35,21 +36,19 @@ pub trait Databases {
         arrivals: &[Arrival],
         progress: &mut Progress<W>,
     ) -> Result<Answers, AllocError>
-        ensures some { IfOk result (λ told. length told.answers.items ≤ length arrivals.now) }
-        ensures all { IfOk result (λ told. told.lost ≡ None → length told.answers.items ≡ length arrivals.now) }
-        ensures goes_on { IfOk result (λ told. InDatabase (known self.old) (known self.new) path.now (answered_with arrivals.now told.answers.items) told.lost) };
+        ensures some { IfOk result (λ reported. length reported.answers.items ≤ length arrivals.now) }
+        ensures all { IfOk result (λ reported. reported.lost ≡ None
+            → length reported.answers.items ≡ length arrivals.now) }
+        ensures goes_on { IfOk result (λ reported. InDatabase (known self.old) (known self.new) path.now
+            (answered_with arrivals.now reported.answers.items) reported.lost) };
 
-    /// What the office in the database at the path shows when it is asked the question. The error is why that was lost.
-    fn look(
-        &mut self,
-        alloc: Global,
-        path: &str,
-        question: &Question,
-    ) -> Result<Option<Vec<u8>>, Lost>
-        ensures { IsLookedUp (known self.old) (known self.new) path.now question.now (result_map_both (option_map (λ text. text.items)) (λ lost. lost) result) };
+    /// What the office in the database at the path shows for the question. The error is why that was lost.
+    fn look(&mut self, alloc: Global, path: &str, question: &Look) -> Result<Option<Vec<u8>>, Lost>
+        ensures { IsLookedUp (known self.old) (known self.new) path.now question.now
+            (result_map_both (option_map (λ text. text.items)) (λ lost. lost) result) };
 
-    /// Makes the database at the path one of this version, with the history that it holds. It is shown which message is carried
-    /// over. The error is why that was lost.
+    /// Makes the database at the path one of this version, with the history that it holds. It is shown which message is
+    /// carried over. The error is why that was lost.
     fn migrate<W: Write>(
         &mut self,
         alloc: Global,
@@ -58,9 +57,9 @@ pub trait Databases {
     ) -> Result<(), Lost>
         ensures { IsMigrated (known self.old) (known self.new) path.now result };
 
-    /// Serves `count` connections of the port of this machine by the office in the database at the path, and tells on the
-    /// machine's standard error when it listens, and when the office fails. The error is why it ended before that, or that
-    /// the office has failed.
+    /// Serves `count` connections of the port of this machine by the office in the database at the path, and tells on
+    /// the machine's standard error when it listens, and when the office fails. The error is why it ended before that,
+    /// or that the office has failed.
     fn serve(&mut self, alloc: Global, path: &str, port: u16, count: u32) -> Result<(), ServeEnd>
         ensures { IsServed (known self.old) (known self.new) path.now count result };
 }

@@ -21,7 +21,8 @@ pub fn deliver<O: Write, E: Write>(
     out: &mut O,
     errors: &mut E,
 ) -> Status
-    ensures { IsDelivered (final_outcome report) (O.contents out.old, O.contents out.new) (E.contents errors.old, E.contents errors.new) result }
+    ensures { IsDelivered (final_outcome report) (O.contents out.old, O.contents out.new)
+        (E.contents errors.old, E.contents errors.new) result }
 {
     match report {
         Ok(
@@ -43,7 +44,8 @@ fn write_both<O: Write, E: Write>(
     out: &mut O,
     errors: &mut E,
 ) -> Status
-    ensures { IsDelivered (record { output = output.now; errors = text.now; status = status }) (O.contents out.old, O.contents out.new) (E.contents errors.old, E.contents errors.new) result }
+    ensures { IsDelivered (record { output = output.now; errors = text.now; status = status })
+        (O.contents out.old, O.contents out.new) (E.contents errors.old, E.contents errors.new) result }
 {
     if write_whole(out, output).is_err() {
         return Status::Failed;

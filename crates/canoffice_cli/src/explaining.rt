@@ -1,6 +1,6 @@
-//! What `--explain` says on standard error, after what is said there without it.
+//! What `--explain` prints on standard error, after what is printed there without it.
 ghost use Rattle.std.specs.Prelude.{◌≡◌, IfOk};
-ghost use Rattle.canoffice_cli.specs.Explaining.{IsSaid, IsSaidOfFormat, dash_of};
+ghost use Rattle.canoffice_cli.specs.Explaining.{IsStated, IsStatedOfFormat, dash_of};
 
 use crate::file_jobs::FileTask;
 use crate::files::FileSource;
@@ -9,9 +9,9 @@ use dbc_read::{ReadCode, read};
 use office_script::Dash;
 use std::alloc::{AllocError, Global};
 
-/// What is said of a DBC text whose canonical text is printed: what this leaves out, or why it reads as no sheet.
-fn said_of_format(alloc: Global, source: Source) -> Result<Vec<u8>, AllocError>
-    ensures { IfOk result (λ said. IsSaidOfFormat source.entry.name.now source.entry.text.now said.items) }
+/// What is stated of a DBC text whose canonical text is printed: what this leaves out, or why it reads as no sheet.
+fn stated_of_format(alloc: Global, source: Source) -> Result<Vec<u8>, AllocError>
+    ensures { IfOk result (λ stated. IsStatedOfFormat source.entry.name.now source.entry.text.now stated.items) }
 {
     match read(alloc, source.text) {
         Ok(reading) => left_out(alloc, source, &reading),
@@ -32,18 +32,19 @@ fn dash_of(database: Option<&str>) -> Dash
     }
 }
 
-/// What is said of a file, by what is done with its bytes. The error is out of memory.
-pub(crate) fn said<F: FileSource>(
+/// What is stated of a file, by what is done with its bytes. The error is out of memory.
+pub(crate) fn stated<F: FileSource>(
     alloc: Global,
     task: FileTask<'_>,
     source: Source,
     files: &F,
 ) -> Result<Vec<u8>, AllocError>
-    ensures { IfOk result (λ said. IsSaid (F.held files.now) task.entry source.entry.name.now source.entry.text.now said.items) }
+    ensures { IfOk result
+        (λ stated. IsStated (F.held files.now) task.entry source.entry.name.now source.entry.text.now stated.items) }
 {
     match task {
         FileTask::Check => explained(alloc, source),
-        FileTask::Format => said_of_format(alloc, source),
+        FileTask::Format => stated_of_format(alloc, source),
         FileTask::Apply(database) => {
             let dash = dash_of(database);
             script_advice::explained(alloc, source.name, source.text, dash, files)

@@ -10,24 +10,24 @@ ghost use Rattle.office_history.specs.History.{Answered, IsLegal};
 ghost use Rattle.store.specs.Holding.{Holding};
 ghost use Rattle.store.specs.Looking.{IsShown};
 ghost use Rattle.canoffice_cli.specs.Databases.{Begins};
-ghost use Rattle.canoffice_cli.specs.Exported.{IsExportOutcome, sheet_asked, not_found, shown_outcome};
+ghost use Rattle.canoffice_cli.specs.Exported.{IsExportOutcome, sheet_requested, not_found, shown_outcome};
 ghost use Rattle.canoffice_cli.specs.Outcome.{outcome_of};
 
 use crate::answering::{lost_report, office_on};
 use crate::databases::Databases;
 use crate::report::{Report, Status};
-use office_types::NetName;
+use office_types::{Look, NetName};
 use sqlite::{Alter, Connection};
 use std::alloc::{AllocError, Global};
-use store::{Lost, Question};
+use store::Lost;
 
-fn sheet_asked(net: NetName, number: u32) -> Question
-    ensures { result ≡ sheet_asked net number }
+fn sheet_requested(net: NetName, number: u32) -> Look
+    ensures { result ≡ sheet_requested net number }
 {
     if number == 0 {
-        Question::Live(net)
+        Look::Live(net)
     } else {
-        Question::Release(net, number)
+        Look::Release(net, number)
     }
 }
 
@@ -40,7 +40,8 @@ fn not_found(alloc: Global) -> Result<Report, AllocError>
 
 /// The report on what was shown.
 fn shown_report(alloc: Global, shown: Result<Option<Vec<u8>>, Lost>) -> Result<Report, AllocError>
-    ensures { IfOk result (λ report. outcome_of report ≡ shown_outcome (result_map_both (option_map (λ text. text.items)) (λ lost. lost) shown)) }
+    ensures { IfOk result (λ report. outcome_of report
+        ≡ shown_outcome (result_map_both (option_map (λ text. text.items)) (λ lost. lost) shown)) }
 {
     match shown {
         Ok(Some(text)) => Ok(Report::of_output(alloc, text, Status::Success)),
@@ -49,19 +50,22 @@ fn shown_report(alloc: Global, shown: Result<Option<Vec<u8>>, Lost>) -> Result<R
     }
 }
 
-/// What the office on the connection, which is given back, shows when it is asked the question. A new office is made where
+/// What the office on the connection, which is given back, shows for the question. A new office is made where
 /// the connection has no table.
 pub fn look_on<S: Alter + Drop>(
     alloc: Global,
     conn: Connection<S>,
-    question: &Question,
+    question: &Look,
 ) -> (Result<Option<Vec<u8>>, Lost>, Connection<S>)
     requires { (state S.Store conn).in_transaction ≡ false }
     ensures clean { doubt (state S.Store conn).is_clean ≤ doubt (state S.Store result.1).is_clean }
-    ensures shown { HasCleanDisk (state S.Store result.1) → (h : List Answered) → (office : Whole) → Begins h (state S.Store conn) → IsLegal h office
+    ensures shown { HasCleanDisk (state S.Store result.1) → (h : List Answered) → (office : Whole)
+        → Begins h (state S.Store conn) → IsLegal h office
         → IfOk result.0 (λ text. IsShown office question.now (option_map (λ bytes. bytes.items) text)) }
-    ensures held { HasCleanDisk (state S.Store result.1) → IsTrue (state S.Store result.1).is_open → (h : List Answered) → Holding h (state S.Store conn) → Holding h (state S.Store result.1) }
-    ensures begun { HasCleanDisk (state S.Store result.1) → (h : List Answered) → Begins h (state S.Store conn) → OnOk result.0 (Holding h (state S.Store result.1)) }
+    ensures held { HasCleanDisk (state S.Store result.1) → IsTrue (state S.Store result.1).is_open
+        → (h : List Answered) → Holding h (state S.Store conn) → Holding h (state S.Store result.1) }
+    ensures begun { HasCleanDisk (state S.Store result.1) → (h : List Answered) → Begins h (state S.Store conn)
+        → OnOk result.0 (Holding h (state S.Store result.1)) }
 {
     match office_on(conn) {
         Ok(mut office) => {
@@ -72,9 +76,9 @@ pub fn look_on<S: Alter + Drop>(
     }
 }
 
-/// Prints the release of the network with this number, or for 0 its live sheet, as the office in the database of the path
-/// has it, or that there is no such sheet. There is none where NET has no network name's form, and the database isn't opened
-/// then. The error is out of memory for the report.
+/// Prints the release of the network with this number, or for 0 its live sheet, as the office in the database of the
+/// path has it, or that there is no such sheet. There is none where NET has no network name's form, and the database
+/// isn't opened then. The error is out of memory for the report.
 pub fn export_report<D: Databases>(
     alloc: Global,
     databases: &mut D,
@@ -82,12 +86,13 @@ pub fn export_report<D: Databases>(
     net: &str,
     number: u32,
 ) -> Result<Report, AllocError>
-    ensures { IfOk result (λ report. IsExportOutcome (D.known databases.old) (D.known databases.new) path.now net.now number (outcome_of report)) }
+    ensures { IfOk result (λ report. IsExportOutcome (D.known databases.old)
+        (D.known databases.new) path.now net.now number (outcome_of report)) }
 {
     match NetName::of(alloc, net.as_bytes())? {
         None => not_found(alloc),
         Some(net) => {
-            let question = sheet_asked(net, number);
+            let question = sheet_requested(net, number);
             shown_report(alloc, databases.look(alloc, path, &question))
         }
     }

@@ -1,6 +1,6 @@
 //! Jobs on the bytes of one file, or of standard input.
 ghost use Rattle.std.specs.Prelude.{◌≡◌, IfOk};
-ghost use Rattle.office_script.specs.declared.files.FileFault.TheVariants.{Unreadable};
+ghost use Rattle.office_script.specs.declared.files.PathFault.TheVariants.{Unreadable};
 ghost use Rattle.canoffice_cli.specs.Databases.{AreKept};
 ghost use Rattle.canoffice_cli.specs.Outcome.{outcome_of, unreadable};
 ghost use Rattle.canoffice_cli.specs.Performance.{ComesTo, IsFileOutcome, IsOfBytes};
@@ -8,8 +8,8 @@ ghost use Rattle.canoffice_cli.specs.Performance.{ComesTo, IsFileOutcome, IsOfBy
 use crate::apply::apply_script;
 use crate::checking::check_report;
 use crate::databases::Databases;
-use crate::explaining::said;
-use crate::files::{FileFault, FileSource, StandardInput, bytes_at};
+use crate::explaining::stated;
+use crate::files::{FileSource, PathFault, StandardInput, bytes_at};
 use crate::formatting::format_report;
 use crate::progress::Progress;
 use crate::report::{Report, cannot_read};
@@ -38,7 +38,7 @@ pub(crate) struct FileJob<'a> {
     pub task: FileTask<'a>,
     /// Its path, or `-` for standard input. Messages name it so.
     pub path: &'a str,
-    /// Whether more is said of it on standard error.
+    /// Whether more is stated of it on standard error.
     pub explain: bool,
 }
 
@@ -56,12 +56,12 @@ impl<'a> FileJob<'a> {
 }
 
 /// The report that the file can't be read, unless memory ran out.
-fn unreadable_report(alloc: Global, file: &str, fault: FileFault) -> Result<Report, AllocError>
+fn unreadable_report(alloc: Global, file: &str, fault: PathFault) -> Result<Report, AllocError>
     ensures { IfOk result (λ report. (fault ≡ Unreadable) × (outcome_of report ≡ unreadable file.now)) }
 {
     match fault {
-        FileFault::Unreadable => cannot_read(alloc, file),
-        FileFault::Memory => Err(AllocError),
+        PathFault::Unreadable => cannot_read(alloc, file),
+        PathFault::Memory => Err(AllocError),
     }
 }
 
@@ -73,7 +73,8 @@ pub(crate) fn file_report<F: FileSource + StandardInput, D: Databases, W: Write>
     databases: &mut D,
     progress: &mut Progress<W>,
 ) -> Result<Report, AllocError>
-    ensures { IfOk result (λ report. IsFileOutcome (F.held files.now) (F.given files.now) (D.known databases.old) (D.known databases.new) job.entry (outcome_of report)) }
+    ensures { IfOk result (λ report. IsFileOutcome (F.held files.now) (F.given files.now) (D.known databases.old)
+        (D.known databases.new) job.entry (outcome_of report)) }
 {
     match bytes_at(alloc, files, job.path) {
         Ok(bytes) => bytes_report(alloc, job, &bytes, files, databases, progress),
@@ -90,7 +91,8 @@ fn bytes_report<F: FileSource, D: Databases, W: Write>(
     databases: &mut D,
     progress: &mut Progress<W>,
 ) -> Result<Report, AllocError>
-    ensures { IfOk result (λ report. IsOfBytes (F.held files.now) (D.known databases.old) (D.known databases.new) job.entry bytes.now (outcome_of report)) }
+    ensures { IfOk result (λ report. IsOfBytes (F.held files.now) (D.known databases.old)
+        (D.known databases.new) job.entry bytes.now (outcome_of report)) }
 {
     if job.explain {
         let source = Source {
@@ -98,9 +100,9 @@ fn bytes_report<F: FileSource, D: Databases, W: Write>(
             text: bytes,
         };
         // First of all, so that memory for this can't run out after a database has answered.
-        let said = said(alloc, job.task, source, files)?;
+        let stated = stated(alloc, job.task, source, files)?;
         let report = task_report(alloc, job.task, bytes, files, databases, progress)?;
-        report.and_errors(&said)
+        report.and_errors(&stated)
     } else {
         task_report(alloc, job.task, bytes, files, databases, progress)
     }
@@ -115,7 +117,8 @@ fn task_report<F: FileSource, D: Databases, W: Write>(
     databases: &mut D,
     progress: &mut Progress<W>,
 ) -> Result<Report, AllocError>
-    ensures { IfOk result (λ report. ComesTo (F.held files.now) (D.known databases.old) (D.known databases.new) task.entry bytes.now (outcome_of report)) }
+    ensures { IfOk result (λ report. ComesTo (F.held files.now) (D.known databases.old)
+        (D.known databases.new) task.entry bytes.now (outcome_of report)) }
 {
     match task {
         FileTask::Apply(database) => {

@@ -6,4 +6,4 @@ mod listed;
 pub use host::HostFiles;
 pub use input::{StandardInput, bytes_at};
 pub use listed::{ListedFiles, NamedFile};
-pub use office_script::{FileFault, FileSource};
+pub use office_script::{FileSource, PathFault};

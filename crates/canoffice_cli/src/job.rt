@@ -1,7 +1,8 @@
 //! The job that the words of the command line ask for.
 ghost use Rattle.std.specs.Prelude.{◌≡◌, IfOk, IfErr, map, codes};
 ghost use Rattle.clap.specs.Words.{found_of, kind_of, rows_of, subcommand_rows_of};
-ghost use Rattle.canoffice_cli.specs.CommandLine.{HasSome, IsEntered, IsJob, IsJobIn, IsJobOf, IsFaultOfKind, IsLineFault, IsValueFault, IsValueFaultIn, is_set};
+ghost use Rattle.canoffice_cli.specs.CommandLine.{HasSome, IsEntered, IsJob, IsJobIn, IsJobOf, IsFaultOfKind};
+ghost use Rattle.canoffice_cli.specs.CommandLine.{IsJobFault, IsValueFault, IsValueFaultIn, is_set};
 
 use crate::command_line::canoffice_command;
 use crate::numbers::{Number, count_given, length_given, port_given, release_number};
@@ -48,7 +49,7 @@ pub enum Job<'a> {
     Format {
         /// The path of the file, or `-`.
         file: &'a str,
-        /// Whether faults are explained, and told what is left out.
+        /// Whether faults are explained, and what is left out is reported.
         explain: bool,
     },
     /// Make a database of an earlier version one of this version.
@@ -74,7 +75,7 @@ pub enum Job<'a> {
 
 /// Why the words of the command line ask for no job.
 #[derive(Debug, Drop)]
-pub enum LineFault {
+pub enum JobFault {
     /// They ask for help, or for the version, and this is its text.
     Help(String),
     /// They are wrong; this text explains the error and the usage.
@@ -97,25 +98,25 @@ enum ValueFault<'a> {
 /// The result is a job exactly if clap finds no fault in the words and each word for a number gives one in its range,
 /// unless memory runs out: it is `Help` only if they ask for help or for the version, and `Usage` only if they have
 /// another fault, or a word for a number that gives none in its range, the first of which the text names.
-pub fn job_of<'a>(alloc: Global, words: &'a [&'a str]) -> Result<Job<'a>, LineFault>
+pub fn job_of<'a>(alloc: Global, words: &'a [&'a str]) -> Result<Job<'a>, JobFault>
     ensures job { IfOk result (IsJob (map (λ s. s.now) words.entry.now)) }
-    ensures fault { IfErr result (IsLineFault (map (λ s. s.now) words.entry.now)) }
+    ensures fault { IfErr result (IsJobFault (map (λ s. s.now) words.entry.now)) }
 {
     let Ok(command) = canoffice_command(alloc) else {
-        return Err(LineFault::Memory);
+        return Err(JobFault::Memory);
     };
     match command.try_get_matches_from(words) {
         Ok(matches) => match job_in(alloc, &matches) {
             Ok(job) => Ok(job),
             Err(ValueFault::WrongNumber(number, word)) => Err(wrong_number(alloc, number, word)),
-            Err(ValueFault::Memory) => Err(LineFault::Memory),
+            Err(ValueFault::Memory) => Err(JobFault::Memory),
         },
         Err(error) => Err(line_fault(alloc, &error)),
     }
 }
 
 /// The fault of arguments that aren't UTF-8, so that they can't be read as words: `Usage`, unless memory runs out.
-pub fn not_utf8_fault(alloc: Global) -> LineFault
+pub fn not_utf8_fault(alloc: Global) -> JobFault
     ensures { IsFaultOfKind ErrorKind.ValueValidation result }
 {
     let message = "invalid UTF-8 was detected in one or more arguments";
@@ -123,45 +124,45 @@ pub fn not_utf8_fault(alloc: Global) -> LineFault
 }
 
 /// The fault that the word gives no such number, in its range: `Usage`, unless memory runs out.
-fn wrong_number(alloc: Global, number: Number, word: &str) -> LineFault
+fn wrong_number(alloc: Global, number: Number, word: &str) -> JobFault
     ensures { IsFaultOfKind ErrorKind.ValueValidation result }
 {
     match number.refusal(alloc, word) {
         Ok(message) => validation_fault(alloc, &message),
-        Err(AllocError) => LineFault::Memory,
+        Err(AllocError) => JobFault::Memory,
     }
 }
 
 /// The fault that a word isn't as it must be, with the text that clap makes of the message.
-fn validation_fault(alloc: Global, message: &str) -> LineFault
+fn validation_fault(alloc: Global, message: &str) -> JobFault
     ensures { IsFaultOfKind ErrorKind.ValueValidation result }
 {
     let Ok(mut command) = canoffice_command(alloc) else {
-        return LineFault::Memory;
+        return JobFault::Memory;
     };
     match command.error(ErrorKind::ValueValidation, message) {
         Ok(error) => line_fault(alloc, &error),
-        Err(_) => LineFault::Memory,
+        Err(_) => JobFault::Memory,
     }
 }
 
 /// The fault for clap's error, with clap's text.
-fn line_fault(alloc: Global, error: &Error) -> LineFault
+fn line_fault(alloc: Global, error: &Error) -> JobFault
     ensures { IsFaultOfKind (kind_of error.now) result }
 {
     let Ok(text) = error.to_string(alloc) else {
-        return LineFault::Memory;
+        return JobFault::Memory;
     };
     match error.kind() {
-        ErrorKind::OutOfMemory => LineFault::Memory,
-        ErrorKind::DisplayHelp | ErrorKind::DisplayVersion => LineFault::Help(text),
-        _ => LineFault::Usage(text),
+        ErrorKind::OutOfMemory => JobFault::Memory,
+        ErrorKind::DisplayHelp | ErrorKind::DisplayVersion => JobFault::Help(text),
+        _ => JobFault::Usage(text),
     }
 }
 
 /// The job of the subcommand that was entered, which is one of the program's, with all its required arguments, or the
-/// first word that gives no number in its range. Only the list of a chart's signals takes memory, so no other subcommand
-/// can end as out of memory here.
+/// first word that gives no number in its range. Only the list of a chart's signals takes memory, so no other
+/// subcommand can end as out of memory here.
 #[tactic(auto, using(crate::proofs::CommandLine::found_pair))]
 fn job_in<'a>(alloc: Global, matches: &ArgMatches<'a>) -> Result<Job<'a>, ValueFault<'a>>
     requires { IsEntered (subcommand_rows_of matches.now) }

@@ -1,19 +1,19 @@
 //! The library of the program `canoffice`: from the words of its command line to its exit status.
 //!
 //! - `command_line` describes the subcommands and their arguments for clap; with it `job` turns the words into a `Job`
-//!   or a `LineFault`. `numbers` has the ranges of the numbers that words give.
-//! - `files` reads files and standard input: those of the machine, or those of a list in memory. `databases` has the offices
-//!   in databases, of which one in memory is here; those of the machine are in the program itself.
-//! - `apply`, `exporting`, `migrating`, `serving`, `charting`, `checking`, `formatting` and `tabling` do the jobs. `answering` answers
-//!   the arrivals of a script, by an office in memory or on a connection to a database, `progress` shows how far it is,
-//!   and `room` is taken before for what is printed after.
+//!   or a `JobFault`. `numbers` has the ranges of the numbers that words give.
+//! - `files` reads files and standard input: those of the machine, or those of a list in memory. `databases` has the
+//!   offices in databases, of which one in memory is here; those of the machine are in the program itself.
+//! - `apply`, `exporting`, `migrating`, `serving`, `charting`, `checking`, `formatting` and `tabling` do the jobs.
+//!   `answering` answers the arrivals of a script, by an office in memory or on a connection to a database, `progress`
+//!   shows how far it is, and `room` is taken before for what is printed after.
 //! - `file_jobs` does the jobs that read a file, and `explaining` says what `--explain` adds to them.
 //! - `report` is the result of a run: bytes for standard output and standard error, and a `Status`.
 //! - `delivery` writes a report to the two streams.
 //! - `program` joins them: `perform` is a whole run.
 //!
-//! The definitions in `specs/` describe the same in terms of bytes and of the histories that databases hold: `IsPerformed`
-//! is a whole run.
+//! The definitions in `specs/` describe the same in terms of bytes and of the histories that databases hold:
+//! `IsPerformed` is a whole run.
 #![tactic(auto)]
 
 mod answering;
@@ -39,7 +39,7 @@ mod room;
 mod serving;
 mod tabling;
 
-pub use answering::{Answers, answer_on, lost_at_once, told_and_closed};
+pub use answering::{Answers, answer_on, answers_when_closed, nothing_answered};
 pub use apply::apply_script;
 pub use charting::chart_report;
 pub use checking::check_report;
@@ -47,10 +47,10 @@ pub use databases::{Databases, MemoryDatabase};
 pub use delivery::deliver;
 pub use exporting::{export_report, look_on};
 pub use files::{
-    FileFault, FileSource, HostFiles, ListedFiles, NamedFile, StandardInput, bytes_at,
+    FileSource, HostFiles, ListedFiles, NamedFile, PathFault, StandardInput, bytes_at,
 };
 pub use formatting::format_report;
-pub use job::{Job, LineFault, job_of, not_utf8_fault};
+pub use job::{Job, JobFault, job_of, not_utf8_fault};
 pub use migrating::{migrate_on, migrate_report};
 pub use program::{fault_report, perform, report_of};
 pub use progress::Progress;

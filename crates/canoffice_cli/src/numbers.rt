@@ -1,11 +1,11 @@
 //! The numbers that words of the command line give.
 ghost use Rattle.std.specs.Prelude.{◌≡◌, ◌≤◌, Some, None, IfOk, IfErr};
 ghost use Rattle.std.specs.Option.{option_map};
-ghost use Rattle.chart.specs.Word.{length_of};
+ghost use Rattle.views.specs.Word.{length_of};
 ghost use Rattle.canoffice_cli.specs.Numbers.{count_given, number_given, port_given, release_number};
 
-use chart::{length_of, whole_between};
 use std::alloc::{AllocError, Global};
+use views::{length_of, whole_between};
 
 /// The port where none is given.
 const PORT: u32 = 8089;
@@ -80,8 +80,10 @@ pub(crate) fn release_number(word: &str) -> Option<u32>
 fn number_given<'a>(word: Option<&'a str>, absent: u32, limit: u32) -> Result<u32, &'a str>
     requires { absent ≤ limit }
     ensures within { IfOk result (λ number. number ≤ limit) }
-    ensures given { IfOk result (λ number. number_given absent limit (option_map (λ w. w.now) word.entry) ≡ Some number) }
-    ensures wrong { IfErr result (λ wrong. (option_map (λ w. w.now) word.entry ≡ Some wrong.now) × (number_given absent limit (option_map (λ w. w.now) word.entry) ≡ None)) }
+    ensures given { IfOk result (λ number. number_given absent limit (option_map (λ w. w.now) word.entry)
+        ≡ Some number) }
+    ensures wrong { IfErr result (λ wrong. (option_map (λ w. w.now) word.entry ≡ Some wrong.now)
+        × (number_given absent limit (option_map (λ w. w.now) word.entry) ≡ None)) }
 {
     let Some(word) = word else {
         return Ok(absent);
@@ -95,17 +97,19 @@ fn number_given<'a>(word: Option<&'a str>, absent: u32, limit: u32) -> Result<u3
 /// The port that the word gives: 1 to 65535, and 8089 where there is no word. The error is a word that gives none.
 pub(crate) fn port_given<'a>(word: Option<&'a str>) -> Result<u16, &'a str>
     ensures given { IfOk result (λ port. port_given (option_map (λ w. w.now) word.entry) ≡ Some port) }
-    ensures wrong { IfErr result (λ wrong. (option_map (λ w. w.now) word.entry ≡ Some wrong.now) × (port_given (option_map (λ w. w.now) word.entry) ≡ None)) }
+    ensures wrong { IfErr result (λ wrong. (option_map (λ w. w.now) word.entry ≡ Some wrong.now)
+        × (port_given (option_map (λ w. w.now) word.entry) ≡ None)) }
 {
     let port = number_given(word, PORT, PORT_LIMIT)?;
     Ok(port as u16)
 }
 
-/// The count of connections that the word gives: 1 to 1000000, and 1000000 where there is no word. The error is a word that
-/// gives none.
+/// The count of connections that the word gives: 1 to 1000000, and 1000000 where there is no word. The error is a word
+/// that gives none.
 pub(crate) fn count_given<'a>(word: Option<&'a str>) -> Result<u32, &'a str>
     ensures given { IfOk result (λ count. count_given (option_map (λ w. w.now) word.entry) ≡ Some count) }
-    ensures wrong { IfErr result (λ wrong. (option_map (λ w. w.now) word.entry ≡ Some wrong.now) × (count_given (option_map (λ w. w.now) word.entry) ≡ None)) }
+    ensures wrong { IfErr result (λ wrong. (option_map (λ w. w.now) word.entry ≡ Some wrong.now)
+        × (count_given (option_map (λ w. w.now) word.entry) ≡ None)) }
 {
     number_given(word, COUNT_LIMIT, COUNT_LIMIT)
 }

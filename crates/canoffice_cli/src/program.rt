@@ -9,7 +9,7 @@ use crate::delivery::deliver;
 use crate::exporting::export_report;
 use crate::file_jobs::{FileJob, FileTask, file_report};
 use crate::files::{FileSource, StandardInput};
-use crate::job::{Job, LineFault, job_of};
+use crate::job::{Job, JobFault, job_of};
 use crate::migrating::migrate_report;
 use crate::progress::Progress;
 use crate::report::{Report, Status, help, usage};
@@ -17,8 +17,8 @@ use crate::serving::serve_report;
 use std::alloc::{AllocError, Global};
 use std::io::Write;
 
-/// Does what the program's words ask for, writes the result to `out` and `errors`, and returns how the program ends. It is
-/// shown in between how far a script is.
+/// Does what the program's words ask for, writes the result to `out` and `errors`, and returns how the program ends. It
+/// is shown in between how far a script is.
 ///
 /// The first word is the program's own name. If memory runs out, `LOST_MEMORY` is written instead of anything else;
 /// only if it runs out while an arrival of a script is answered, the answers so far are written before it.
@@ -31,7 +31,9 @@ pub fn perform<'a, F: FileSource + StandardInput, D: Databases, O: Write, E: Wri
     errors: &mut E,
     progress: &mut Progress<W>,
 ) -> Status
-    ensures { IsPerformed (map (λ s. s.now) words.entry.now) (F.held files.now) (F.given files.now) (D.known databases.old) (D.known databases.new) (O.contents out.old, O.contents out.new) (E.contents errors.old, E.contents errors.new) result }
+    ensures { IsPerformed (map (λ s. s.now) words.entry.now) (F.held files.now) (F.given files.now)
+        (D.known databases.old) (D.known databases.new) (O.contents out.old, O.contents out.new)
+        (E.contents errors.old, E.contents errors.new) result }
 {
     let report = answer(alloc, words, files, databases, progress);
     deliver(report, out, errors)
@@ -45,7 +47,8 @@ fn answer<'a, F: FileSource + StandardInput, D: Databases, W: Write>(
     databases: &mut D,
     progress: &mut Progress<W>,
 ) -> Result<Report, AllocError>
-    ensures { IfOk result (λ report. IsAnswered (map (λ s. s.now) words.entry.now) (F.held files.now) (F.given files.now) (D.known databases.old) (D.known databases.new) (outcome_of report)) }
+    ensures { IfOk result (λ report. IsAnswered (map (λ s. s.now) words.entry.now) (F.held files.now)
+        (F.given files.now) (D.known databases.old) (D.known databases.new) (outcome_of report)) }
 {
     match job_of(alloc, words) {
         Ok(job) => report_of(alloc, &job, files, databases, progress),
@@ -54,13 +57,13 @@ fn answer<'a, F: FileSource + StandardInput, D: Databases, W: Write>(
 }
 
 /// The report on words that ask for no job: the text of help, or of the version, or of usage.
-pub fn fault_report(alloc: Global, fault: LineFault) -> Result<Report, AllocError>
+pub fn fault_report(alloc: Global, fault: JobFault) -> Result<Report, AllocError>
     ensures { IfOk result (λ report. IsFaultAnswer fault (outcome_of report)) }
 {
     match fault {
-        LineFault::Help(text) => Ok(help(alloc, text)),
-        LineFault::Usage(text) => Ok(usage(alloc, text)),
-        LineFault::Memory => Err(AllocError),
+        JobFault::Help(text) => Ok(help(alloc, text)),
+        JobFault::Usage(text) => Ok(usage(alloc, text)),
+        JobFault::Memory => Err(AllocError),
     }
 }
 
@@ -72,7 +75,8 @@ pub fn report_of<F: FileSource + StandardInput, D: Databases, W: Write>(
     databases: &mut D,
     progress: &mut Progress<W>,
 ) -> Result<Report, AllocError>
-    ensures { IfOk result (λ report. IsDone (F.held files.now) (F.given files.now) (D.known databases.old) (D.known databases.new) job.now (outcome_of report)) }
+    ensures { IfOk result (λ report. IsDone (F.held files.now) (F.given files.now) (D.known databases.old)
+        (D.known databases.new) job.now (outcome_of report)) }
 {
     match job {
         Job::Apply {

@@ -1,6 +1,7 @@
 //! The result of a run: bytes for the program's two streams, and its exit status.
 ghost use Rattle.std.specs.Prelude.{◌≡◌, [], IfOk, codes, string_bytes};
-ghost use Rattle.canoffice_cli.specs.Outcome.{and_errors, code_of, outcome_of, success, wrong_input, unreadable, wrong_line, wrong_word};
+ghost use Rattle.canoffice_cli.specs.Outcome.{and_errors, code_of, outcome_of, success, wrong_input, unreadable};
+ghost use Rattle.canoffice_cli.specs.Outcome.{wrong_line, wrong_word};
 
 use std::alloc::{AllocError, Global};
 

@@ -40,8 +40,8 @@ fn end_report(alloc: Global, end: Result<(), ServeEnd>) -> Result<Report, AllocE
     }
 }
 
-/// Serves the office in the database of the path, on the port of this machine and for so many connections. The error is out
-/// of memory for the report.
+/// Serves the office in the database of the path, on the port of this machine and for so many connections. The error is
+/// out of memory for the report.
 pub fn serve_report<D: Databases>(
     alloc: Global,
     databases: &mut D,
@@ -49,7 +49,8 @@ pub fn serve_report<D: Databases>(
     port: u16,
     count: u32,
 ) -> Result<Report, AllocError>
-    ensures { IfOk result (λ report. IsServeOutcome (D.known databases.old) (D.known databases.new) path.now count (outcome_of report)) }
+    ensures { IfOk result (λ report. IsServeOutcome (D.known databases.old) (D.known databases.new) path.now count
+        (outcome_of report)) }
 {
     let end = databases.serve(alloc, path, port, count);
     end_report(alloc, end)

@@ -5,12 +5,12 @@ ghost use Rattle.canoffice_cli.specs.Tabled.{IsTableOutcome};
 
 use crate::checking::fault_line;
 use crate::report::{Report, Status};
-use chart::table_of;
 use dbc_read::{ReadCode, read};
 use std::alloc::{AllocError, Global};
+use views::table_of;
 
-/// The table of the messages of the sheet that the DBC text reads as, whether it is clear or not; or, if the text reads as
-/// no sheet, the fault's code and offset on standard error, with the status `FaultFound`.
+/// The table of the messages of the sheet that the DBC text reads as, whether it is clear or not; or, if the text reads
+/// as no sheet, the fault's code and offset on standard error, with the status `FaultFound`.
 pub fn table_report(alloc: Global, source: &[u8]) -> Result<Report, AllocError>
     ensures { IfOk result (λ report. IsTableOutcome source.now (outcome_of report)) }
 {

@@ -15,7 +15,7 @@ some_none x e = cc
 pub some_same : {A : Type 0} (x y : A) → ◌≡◌ {A = Option A} (Some x) (Some y) → x ≡ y
 some_same x y e = cc
 
--- no index is told where none passes
+-- no index is found where none passes
 none_from : {A : Type 0} (p : A → Bool) (xs : List A) (i : ℕ) → position_from p i xs ≡ None → list_any p xs ≡ false
 none_from p [] i h = refl
 none_from p (x ∷ xs) i h = by_test (p x) h (none_from p xs (i + 1))

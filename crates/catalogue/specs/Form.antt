@@ -1,4 +1,4 @@
--- The forms of a sheet's parts (Vector's DBC File Format Documentation, in the ranges of this project's profile).
+-- The forms of a sheet's parts (Vector's DBC File Format Documentation, in the ranges of this project's dialect).
 use Rattle.std.specs.Prelude.{◌^◌, ◌<◌, ◌≤◌, ⊤, List, All, IfSome}
 use Rattle.bitlayout.specs.declared.layout.Layout.{Layout}
 use Rattle.bitlayout.specs.declared.place.Mux.{Mux}

@@ -1,4 +1,4 @@
--- The limits of this project's profile of DBC files. The numbers themselves are constants of the code.
+-- The limits of this project's dialect of DBC files. The numbers themselves are constants of the code.
 use Rattle.std.specs.Prelude.{ℕ}
 use Rattle.bitlayout.specs.declared.layout.TheConstants.{GREATEST_START, SIZE_LIMIT}
 use Rattle.catalogue.specs.declared.limits.TheConstants.{MESSAGE_LIMIT, ROSTER_LIMIT, VALUE_TEXT_LIMIT, NAME_LIMIT, LENGTH_LIMIT, SPN_LIMIT}

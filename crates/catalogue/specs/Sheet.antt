@@ -1,4 +1,4 @@
--- A sheet: what a DBC file describes of a network (Vector's DBC File Format Documentation, in this project's profile).
+-- A sheet: what a DBC file describes of a network (Vector's DBC File Format Documentation, in this project's dialect).
 use Rattle.std.specs.Prelude.{◌≡◌, ℕ, List, [], take, All, Some, slice_get}
 use Rattle.bitlayout.specs.Clash.{IsFirstClash}
 use Rattle.bitlayout.specs.declared.clash.Clash.{Clash}

@@ -1,5 +1,5 @@
 -- What is between the quotes of one text (Vector's DBC File Format Documentation, character strings), in this
--- project's profile: any bytes, where a backslash escapes the next byte and only an escaped byte may be a quote.
+-- project's dialect: any bytes, where a backslash escapes the next byte and only an escaped byte may be a quote.
 use Rattle.std.specs.Prelude.{◌≡◌, ◌≢◌, ◌==◌, ℕ, Bool, true, false, not, List, [], ◌∷◌, if◌then◌else◌}
 use Rattle.std.specs.List.{AllByRecursion, flat_map}
 

@@ -1,4 +1,4 @@
--- Well-formed sheets (Vector's DBC File Format Documentation, in the limits of this project's profile): names and
+-- Well-formed sheets (Vector's DBC File Format Documentation, in the limits of this project's dialect): names and
 -- numbers that are unique, lists that are not too long. The forms of names and texts and the ranges of numbers are in
 -- `Form`; a well-formed sheet need not be clear.
 use Rattle.std.specs.Prelude.{ℕ, ◌≤◌, List, length}

@@ -22,8 +22,8 @@ pub trait Rule {
         ensures keeps { IsTrue result ↔ Keeps bytes.now };
 }
 
-/// Bytes that keep the rule. Contracts see them as a list. Up to 22 of them, as most names and texts have, take no block
-/// of memory of their own.
+/// Bytes that keep the rule. Contracts see them as a list. Up to 22 of them, as most names and texts have, take no
+/// block of memory of their own.
 pub struct Checked<R: Rule> {
     bytes: Bytes,
     rule: PhantomData<R>,

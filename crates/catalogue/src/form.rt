@@ -3,7 +3,8 @@
 //! A part keeps its form by its type. The prover learns the form of a part from a call on the part, so it learns that
 //! of a whole sheet from a walk over its parts. The walk computes nothing and returns nothing.
 ghost use Rattle.std.specs.Prelude.{◌≡◌, All, IfSome};
-ghost use Rattle.catalogue.specs.Form.{IsLayout, IsMux, IsNode, IsSheet, IsValueText, KeepsMessage, KeepsSignal, KeepsTable, KeepsTexts};
+ghost use Rattle.catalogue.specs.Form.{IsLayout, IsMux, IsNode, IsSheet, IsValueText, KeepsMessage, KeepsSignal};
+ghost use Rattle.catalogue.specs.Form.{KeepsTable, KeepsTexts};
 ghost use Rattle.catalogue.specs.Name.{IsName};
 ghost use Rattle.catalogue.specs.Text.{IsText};
 

@@ -1,5 +1,6 @@
 //! A vector that contracts see as a list.
-ghost use Rattle.std.specs.Prelude.{◌≡◌, ◌++◌, ◌∷◌, [], ◌<◌, ◌≤◌, ℕ, Bool, List, length, IfOk, OnOk, OnErr, filter, insert, remove, slice_get, slice_set};
+ghost use Rattle.std.specs.Prelude.{◌≡◌, ◌++◌, ◌∷◌, [], ◌<◌, ◌≤◌, ℕ, Bool, List, length, IfOk, OnOk, OnErr, filter};
+ghost use Rattle.std.specs.Prelude.{insert, remove, slice_get, slice_set};
 ghost use Rattle.std.specs.Fn.{CalledAt};
 ghost use Rattle.std.specs.List.Retain.{IsFiltered};
 ghost use Rattle.catalogue.specs.Retain.{AnswersAs};
@@ -90,8 +91,8 @@ impl<T: Drop> Items<T> {
         self.items[at] = item;
     }
 
-    /// Keeps the items at which the test answers true, in order, and drops the others. It is called at each item in turn.
-    /// Takes no memory.
+    /// Keeps the items at which the test answers true, in order, and drops the others. It is called at each item in
+    /// turn. Takes no memory.
     pub fn retain<F: FnMut(&T) -> bool>(&mut self, test: F)
         requires { F.IsAlwaysCallable test }
         ensures called { IsFiltered (CalledAt F.FnMut) test self.old self.new }

@@ -1,18 +1,16 @@
-//! The catalogue: what a DBC file is made of, and what its text means.
+//! The catalogue: what a DBC file describes of a network.
 //!
-//! A [`Sheet`] is what a DBC file describes of a network: a version, a comment, [`Node`]s, [`ValueTable`]s, and
-//! [`Message`]s by DBC number with their [`Signal`]s. An invalid sheet can't be built, since each part keeps its form
-//! by its own type ([`sheets_are_well_formed`]); a call that would break a rule returns a [`SheetFault`] and changes
-//! nothing. [`Sheet::is_clear`] checks whether the signals of each message fit together in its payload.
-//!
-//! The grammar of DBC text is in definitions only: tokens, statements, and the sheet that these say. Its laws are the
-//! contracts of functions that do nothing; [`texts_read_as_one_sheet`] is the last of them. Another,
-//! [`same_messages_are_equal`], says that `==` of messages is equality.
+//! A [`Sheet`] is what a DBC file describes: a version, a comment, [`Node`]s, [`ValueTable`]s, and [`Message`]s by DBC
+//! number with their [`Signal`]s. An invalid sheet can't be built, since each part keeps its form by its own type
+//! ([`sheets_are_well_formed`]); a call that would break a rule returns a [`SheetFault`] and changes nothing.
+//! [`Sheet::is_clear`] checks whether the signals of each message fit together in its payload. `==` of messages is
+//! equality ([`same_messages_are_equal`]). What a DBC text is, and which sheet it reads as, is defined in
+//! `dbc_grammar`.
 //!
 //! Sheets and grammar use the words that DBC text reserves ([`Keyword`]), names ([`Name`]), texts ([`Text`]), whole
 //! numbers ([`whole_number`]), and multiplexer indicators ([`mux_of_indicator`]). Every layer above uses [`Checked`],
-//! bytes that follow a [`Rule`]; [`Items`], a vector that contracts see as a list; [`Copying`], copies of values that own
-//! memory; [`Keyed`] with [`put_item`], lists in the order of a key; and [`split_once`]. The limits of a sheet are
+//! bytes that follow a [`Rule`]; [`Items`], a vector that contracts see as a list; [`Copying`], copies of values that
+//! own memory; [`Keyed`] with [`put_item`], lists in the order of a key; and [`split_once`]. The limits of a sheet are
 //! constants, such as [`MESSAGE_LIMIT`].
 #![tactic(auto)]
 
@@ -34,20 +32,15 @@ mod name_set;
 mod node;
 mod numbers;
 mod payload;
-mod reading_law;
 mod receivers;
 mod roster;
 mod same_law;
-mod saying_law;
 mod sheet;
 mod signal;
 mod signals;
 mod split;
 mod spn;
-mod statement_law;
 mod text;
-mod token;
-mod token_law;
 mod value_table;
 mod value_texts;
 mod value_type;
@@ -68,23 +61,15 @@ pub use name::{NO_NODE, Name, continues_identifier, is_c_identifier, is_name, st
 pub use node::Node;
 pub use numbers::whole_number;
 pub use payload::PayloadLength;
-pub use reading_law::texts_read_as_one_sheet;
 pub use receivers::Receivers;
 pub use roster::{Named, Roster};
 pub use same_law::same_messages_are_equal;
-pub use saying_law::statements_say_one_sheet;
 pub use sheet::Sheet;
 pub use signal::Signal;
 pub use signals::Signals;
 pub use split::split_once;
 pub use spn::Spn;
-pub use statement_law::{
-    divisions_are_single, message_numbers_are_identifiers, numbers_are_decimals, reading_is_exact,
-    statements_are_single,
-};
 pub use text::Text;
-pub use token::TokenKind;
-pub use token_law::tokens_are_exact;
 pub use value_table::ValueTable;
 pub use value_texts::{ValueText, ValueTexts};
 pub use value_type::ValueType;

@@ -1,4 +1,4 @@
-//! The limits of a sheet (this project's profile of DBC files, except the last one).
+//! The limits of a sheet (this project's dialect of DBC files, except the last one).
 
 /// The greatest number of messages of a sheet.
 pub const MESSAGE_LIMIT: usize = 16_384;

@@ -47,7 +47,8 @@ impl Message {
     /// The indices are those of the signals. The error is out of memory.
     pub fn first_clash(&self, alloc: Global) -> Result<Option<Clash>, AllocError>
         ensures clear { IfOk result (λ clash. IsNone clash ↔ IsClearMessage self.now) }
-        ensures first { IfOk result (λ clash. IfSome clash (IsFirstClash (places_of self.now.signals) self.now.length)) }
+        ensures first { IfOk result (λ clash. IfSome clash
+            (IsFirstClash (places_of self.now.signals) self.now.length)) }
         ensures computed { IfOk result (λ clash. clash ≡ first_clash_of (places_of self.now.signals) self.now.length) }
     {
         let places = self.signals.places(alloc)?;
@@ -61,7 +62,8 @@ impl Message {
     pub fn with_signal(&mut self, alloc: Global, signal: Signal) -> Result<(), SheetFault>
         ensures ok { OnOk result (self.new ≡ record self.old { signals = self.old.signals ++ signal ∷ [] }) }
         ensures allowed { OnOk result (first_refusal (signal_tests self.old.signals signal) ≡ None) }
-        ensures refused { IfErr result (λ fault. IsRefusal (first_refusal (signal_tests self.old.signals signal)) fault.code) }
+        ensures refused { IfErr result (λ fault. IsRefusal
+            (first_refusal (signal_tests self.old.signals signal)) fault.code) }
         ensures about { IfErr result (λ fault. fault.about ≡ About.Message (number_of self.old)) }
         ensures err { OnErr result (self.new ≡ self.old) }
     {

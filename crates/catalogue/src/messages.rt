@@ -1,12 +1,14 @@
 //! The messages of one sheet.
-ghost use Rattle.std.specs.Prelude.{◌≡◌, [], ℕ, Option, None, Some, if◌then◌else◌, ◌==◌, length, nat_le, false, IfErr, IfOk, OnOk, OnErr};
+ghost use Rattle.std.specs.Prelude.{◌≡◌, [], ℕ, Option, None, Some, if◌then◌else◌, ◌==◌, length, nat_le, false};
+ghost use Rattle.std.specs.Prelude.{IfErr, IfOk, OnOk, OnErr};
 ghost use Rattle.std.specs.Option.{option_copied};
 ghost use Rattle.std.specs.List.{IsDistinct};
 ghost use Rattle.std.specs.List.Sorted.{IsStrictlySortedBy};
 ghost use Rattle.catalogue.specs.Fault.{IsRefusal};
 ghost use Rattle.catalogue.specs.Keyed.{put};
 ghost use Rattle.catalogue.specs.Limits.{message_limit};
-ghost use Rattle.catalogue.specs.Messages.{AreMessages, by_number, message_at, message_name, message_tests, number_of, without_number};
+ghost use Rattle.catalogue.specs.Messages.{AreMessages, by_number, message_at, message_name, message_tests};
+ghost use Rattle.catalogue.specs.Messages.{number_of, without_number};
 ghost use Rattle.catalogue.specs.Named.{has_name};
 ghost use Rattle.catalogue.specs.Refusing.{first_refusal};
 ghost use Rattle.catalogue.specs.Ascending.{IsAt, IsGap};
@@ -97,11 +99,12 @@ impl Messages {
 
     /// Adds a message where its number belongs. It is refused, and nothing changes, with the first of these that holds:
     /// [`SheetCode::TooMany`] where there are [`MESSAGE_LIMIT`] messages, [`SheetCode::DoubleNumber`] where one of them
-    /// has its number, [`SheetCode::DoubleName`] where one of them has its name. [`SheetCode::Memory`] is out of memory,
-    /// and nothing changes either.
+    /// has its number, [`SheetCode::DoubleName`] where one of them has its name. [`SheetCode::Memory`] is out of
+    /// memory, and nothing changes either.
     pub(crate) fn add(&mut self, alloc: Global, message: Message) -> Result<(), SheetCode>
         ensures ok { OnOk result (self.new ≡ put by_number message self.old) }
-        ensures map { OnOk result ((n : ℕ) → message_at self.new n ≡ (if number_of message == n then Some message else message_at self.old n)) }
+        ensures map { OnOk result ((n : ℕ) → message_at self.new n
+            ≡ (if number_of message == n then Some message else message_at self.old n)) }
         ensures allowed { OnOk result (first_refusal (message_tests self.old message) ≡ None) }
         ensures refused { IfErr result (IsRefusal (first_refusal (message_tests self.old message))) }
         ensures err { OnErr result (self.new ≡ self.old) }

@@ -4,7 +4,8 @@ ghost use Rattle.std.specs.Str.Parse.{IsNumeral, digits_value};
 ghost use Rattle.catalogue.specs.WholeNumber.{whole_of};
 
 fn digits_number(bytes: &[u8]) -> Option<u32>
-    ensures { SomeIff result (IsNumeral 10 bytes.now × (digits_value 10 bytes.now < 2 ^ 32)) (digits_value 10 bytes.now) }
+    ensures { SomeIff result (IsNumeral 10 bytes.now × (digits_value 10 bytes.now < 2 ^ 32))
+        (digits_value 10 bytes.now) }
 {
     if bytes.is_empty() {
         return None;
@@ -24,7 +25,8 @@ fn digits_number(bytes: &[u8]) -> Option<u32>
 /// The number that decimal digits write: `None` if the bytes aren't one or more digits and nothing else, or if the
 /// number is above 4294967295. Leading zeros don't count, however many there are.
 pub fn whole_number(bytes: &[u8]) -> Option<u32>
-    ensures meaning { SomeIff result (IsNumeral 10 bytes.now × (digits_value 10 bytes.now < 2 ^ 32)) (digits_value 10 bytes.now) }
+    ensures meaning { SomeIff result (IsNumeral 10 bytes.now × (digits_value 10 bytes.now < 2 ^ 32))
+        (digits_value 10 bytes.now) }
     ensures computed { result ≡ whole_of bytes.now }
 {
     digits_number(bytes)

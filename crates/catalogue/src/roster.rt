@@ -1,5 +1,6 @@
 //! Lists of things with unique names, such as the nodes of a sheet or the signals of a message.
-ghost use Rattle.std.specs.Prelude.{◌≡◌, ◌≤◌, ◌++◌, ◌∷◌, [], ℕ, List, None, length, nat_le, false, position, IfErr, IfOk, OnOk, OnErr, SomeIff};
+ghost use Rattle.std.specs.Prelude.{◌≡◌, ◌≤◌, ◌++◌, ◌∷◌, [], ℕ, List, None, length, nat_le, false, position, IfErr};
+ghost use Rattle.std.specs.Prelude.{IfOk, OnOk, OnErr, SomeIff};
 ghost use Rattle.std.specs.Str.{bytes_eq};
 ghost use Rattle.catalogue.specs.Changing.{ChangesAs, KeepsName};
 ghost use Rattle.catalogue.specs.Fault.{IsRefusal};
@@ -27,8 +28,9 @@ pub trait Named {
         ensures { result.now ≡ name_of self.now };
 }
 
-/// At most [`ROSTER_LIMIT`] things in the order in which they were added, no two with the same name. Contracts see it as the
-/// list of them. Unless they are few, an index of the names shows whether a name is there without a walk over them.
+/// At most [`ROSTER_LIMIT`] things in the order in which they were added, no two with the same name. Contracts see it
+/// as the list of them. Unless they are few, an index of the names shows whether a name is there without a walk over
+/// them.
 pub struct Roster<T: Named> {
     things: Vec<T>,
     names: NameIndex,
@@ -110,7 +112,8 @@ impl<T: Named> Roster<T> {
         requires callable { C.IsAlwaysCallable change }
         requires named { KeepsName C.FnOnce change T.name_of }
         ensures there { result ≡ has_name T.name_of self.old name.now }
-        ensures changed { (after : T → T) → ChangesAs C.FnOnce change after → self.new ≡ at_named T.name_of after name.now self.old }
+        ensures changed { (after : T → T) → ChangesAs C.FnOnce change after
+            → self.new ≡ at_named T.name_of after name.now self.old }
     {
         match self.index_of(name) {
             Some(at) => {
@@ -139,10 +142,11 @@ impl<T: Named> Roster<T> {
 }
 
 impl<T: Named + Drop> Roster<T> {
-    /// The things of a vector, in its order, or `None` where they can't be in one roster: more than [`ROSTER_LIMIT`], or
-    /// two of one name. None of them is copied or moved one by one. The error is out of memory.
+    /// The things of a vector, in its order, or `None` where they can't be in one roster: more than [`ROSTER_LIMIT`],
+    /// or two of one name. None of them is copied or moved one by one. The error is out of memory.
     pub fn of(alloc: Global, things: Vec<T>) -> Result<Option<Roster<T>>, AllocError>
-        ensures { IfOk result (λ found. SomeIff found (AreNamedApart T.name_of things.items × (length things.items ≤ roster_limit)) things.items) }
+        ensures { IfOk result (λ found. SomeIff found
+            (AreNamedApart T.name_of things.items × (length things.items ≤ roster_limit)) things.items) }
     {
         if things.len() > ROSTER_LIMIT {
             return Ok(None);

@@ -1,10 +1,12 @@
 //! A sheet: what a DBC file says of a network.
-ghost use Rattle.std.specs.Prelude.{◌≡◌, ◌≤◌, length, ◌++◌, ◌∷◌, [], ℕ, Option, None, Some, if◌then◌else◌, ◌==◌, IfErr, IfOk, OnOk, OnErr};
+ghost use Rattle.std.specs.Prelude.{◌≡◌, ◌≤◌, length, ◌++◌, ◌∷◌, [], ℕ, Option, None, Some, if◌then◌else◌, ◌==◌};
+ghost use Rattle.std.specs.Prelude.{IfErr, IfOk, OnOk, OnErr};
 ghost use Rattle.std.specs.Option.{option_copied};
 ghost use Rattle.catalogue.specs.Fault.{IsMemoryOr, IsRefusal};
 ghost use Rattle.catalogue.specs.Keyed.{put};
 ghost use Rattle.catalogue.specs.Limits.{roster_limit};
-ghost use Rattle.catalogue.specs.Messages.{AreMessages, by_number, message_at, message_tests, number_of, without_number};
+ghost use Rattle.catalogue.specs.Messages.{AreMessages, by_number, message_at, message_tests, number_of};
+ghost use Rattle.catalogue.specs.Messages.{without_number};
 ghost use Rattle.catalogue.specs.Named.{AreNamedApart, roster_tests};
 ghost use Rattle.catalogue.specs.Refusing.{first_refusal};
 ghost use Rattle.catalogue.specs.Sheet.{IsClearSheet, IsFirstFault, empty_sheet, node_name, table_name};
@@ -116,7 +118,8 @@ impl Sheet {
     pub fn with_node(&mut self, alloc: Global, node: Node) -> Result<(), SheetFault>
         ensures ok { OnOk result (self.new ≡ record self.old { nodes = self.old.nodes ++ node ∷ [] }) }
         ensures allowed { OnOk result (first_refusal (roster_tests node_name self.old.nodes node.name) ≡ None) }
-        ensures refused { IfErr result (λ fault. IsRefusal (first_refusal (roster_tests node_name self.old.nodes node.name)) fault.code) }
+        ensures refused { IfErr result (λ fault. IsRefusal
+            (first_refusal (roster_tests node_name self.old.nodes node.name)) fault.code) }
         ensures about { IfErr result (λ fault. fault.about ≡ About.Node) }
         ensures err { OnErr result (self.new ≡ self.old) }
     {
@@ -132,7 +135,8 @@ impl Sheet {
     pub fn with_table(&mut self, alloc: Global, table: ValueTable) -> Result<(), SheetFault>
         ensures ok { OnOk result (self.new ≡ record self.old { tables = self.old.tables ++ table ∷ [] }) }
         ensures allowed { OnOk result (first_refusal (roster_tests table_name self.old.tables table.name) ≡ None) }
-        ensures refused { IfErr result (λ fault. IsRefusal (first_refusal (roster_tests table_name self.old.tables table.name)) fault.code) }
+        ensures refused { IfErr result (λ fault. IsRefusal
+            (first_refusal (roster_tests table_name self.old.tables table.name)) fault.code) }
         ensures about { IfErr result (λ fault. fault.about ≡ About.Table) }
         ensures err { OnErr result (self.new ≡ self.old) }
     {
@@ -143,14 +147,16 @@ impl Sheet {
     }
 
     /// Adds a message where its DBC number belongs. It is refused, and nothing changes, with the first of these that
-    /// holds: 26 `TooMany` where there are [`MESSAGE_LIMIT`](crate::MESSAGE_LIMIT) messages, 20 `DoubleNumber` where one
-    /// of them has its DBC number, 21 `DoubleName` where one of them has its name. `Memory` is out of memory, and
+    /// holds: 26 `TooMany` where there are [`MESSAGE_LIMIT`](crate::MESSAGE_LIMIT) messages, 20 `DoubleNumber` where
+    /// one of them has its DBC number, 21 `DoubleName` where one of them has its name. `Memory` is out of memory, and
     /// nothing changes either. The fault is about the message.
     pub fn with_message(&mut self, alloc: Global, message: Message) -> Result<(), SheetFault>
         ensures ok { OnOk result (self.new ≡ record self.old { messages = put by_number message self.old.messages }) }
-        ensures map { OnOk result ((n : ℕ) → message_at self.new.messages n ≡ (if number_of message == n then Some message else message_at self.old.messages n)) }
+        ensures map { OnOk result ((n : ℕ) → message_at self.new.messages n
+            ≡ (if number_of message == n then Some message else message_at self.old.messages n)) }
         ensures allowed { OnOk result (first_refusal (message_tests self.old.messages message) ≡ None) }
-        ensures refused { IfErr result (λ fault. IsRefusal (first_refusal (message_tests self.old.messages message)) fault.code) }
+        ensures refused { IfErr result (λ fault. IsRefusal
+            (first_refusal (message_tests self.old.messages message)) fault.code) }
         ensures about { IfErr result (λ fault. fault.about ≡ About.Message (number_of message)) }
         ensures err { OnErr result (self.new ≡ self.old) }
     {
@@ -165,7 +171,8 @@ impl Sheet {
     pub fn without_message(&mut self, number: u32) -> Option<Message>
         ensures found { result ≡ message_at self.old.messages number }
         ensures rest { self.new ≡ record self.old { messages = without_number self.old.messages number } }
-        ensures map { (n : ℕ) → message_at self.new.messages n ≡ (if n == number then None else message_at self.old.messages n) }
+        ensures map { (n : ℕ) → message_at self.new.messages n
+            ≡ (if n == number then None else message_at self.old.messages n) }
     {
         self.messages.remove(number)
     }

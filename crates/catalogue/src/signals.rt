@@ -3,7 +3,8 @@ ghost use Rattle.std.specs.Prelude.{◌≡◌, ◌++◌, ◌∷◌, [], None, If
 ghost use Rattle.catalogue.specs.Fault.{IsRefusal};
 ghost use Rattle.catalogue.specs.Refusing.{first_refusal};
 ghost use Rattle.catalogue.specs.Named.{has_name};
-ghost use Rattle.catalogue.specs.Signals.{AreSignals, HaveOneMultiplexor, at_signal, has_multiplexor, places_of, signal_name, signal_named, signal_tests, without_signal};
+ghost use Rattle.catalogue.specs.Signals.{AreSignals, HaveOneMultiplexor, at_signal, has_multiplexor, places_of};
+ghost use Rattle.catalogue.specs.Signals.{signal_name, signal_named, signal_tests, without_signal};
 
 use crate::copying::Copying;
 use crate::fault::SheetCode;

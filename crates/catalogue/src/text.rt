@@ -41,7 +41,7 @@ impl Rule for TextRule {
 /// Contracts see it as its bytes, and the bytes stay as they are written, backslashes too.
 ///
 /// Any byte may occur. A backslash escapes the next byte, so none is alone at the end, and no other
-/// byte is a quote (Vector's DBC File Format Documentation, character strings, in this project's profile).
+/// byte is a quote (Vector's DBC File Format Documentation, character strings, in this project's dialect).
 pub type Text = Checked<TextRule>;
 
 impl Text {

@@ -1,5 +1,5 @@
-pub mod ToldMore
-pub mod ToldLines
+pub mod ReportedMore
+pub mod ReportedLines
 pub mod ClashLines
 pub mod PartedMore
 pub mod Rows

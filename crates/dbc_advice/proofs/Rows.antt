@@ -8,7 +8,7 @@ use Rattle.dbc_advice.specs.Blanked.{blanked}
 use Rattle.dbc_advice.specs.Position.{position_at}
 use Rattle.dbc_advice.specs.Sentence.{listed, sentence_of}
 use Rattle.dbc_advice.specs.Explained.{count_line}
-use Rattle.dbc_advice.specs.ToldLine.{code_label, more_text, told_line}
+use Rattle.dbc_advice.specs.ReportedLine.{code_label, more_text, reported_line}
 use Rattle.dbc_advice.specs.declared.candidate.Candidate.TheVariants as kind
 use Rattle.dbc_advice.specs.declared.found.Found.TheVariants as found
 use Rattle.dbc_advice.specs.declared.hint.Hint.TheVariants as hint
@@ -59,19 +59,19 @@ ends_too_early : sentence_of code.Unexpected found.End (kind.Semicolon ∷ []) (
 unfolding digits
 ends_too_early = refl
 
-line_of_a_fault : told_line (codes "a.dbc") (record { line = 5; column = 12 }) (code_label 39 (codes "Size")) (codes "too large") ≡ codes "a.dbc:5:12: 39 Size: too large\n"
+line_of_a_fault : reported_line (codes "a.dbc") (record { line = 5; column = 12 }) (code_label 39 (codes "Size")) (codes "too large") ≡ codes "a.dbc:5:12: 39 Size: too large\n"
 unfolding digits
 line_of_a_fault = refl
 
 -- ---- last lines
 
-hundred_faults : count_line (codes "a.dbc") 100 ending.Many ≡ codes "a.dbc: 100 told, there may be more\n"
+hundred_faults : count_line (codes "a.dbc") 100 ending.Many ≡ codes "a.dbc: 100 faults shown; there may be more\n"
 unfolding digits
 hundred_faults = refl
 
 hundred_clashes : more_text (codes "a.dbc") 100 100 (codes "clashes") ≡ []
 hundred_clashes = refl
 
-one_clash_more : more_text (codes "a.dbc") 100 101 (codes "clashes") ≡ codes "a.dbc: 100 clashes told, there are more\n"
+one_clash_more : more_text (codes "a.dbc") 100 101 (codes "clashes") ≡ codes "a.dbc: 100 clashes shown; there are more\n"
 unfolding digits
 one_clash_more = refl

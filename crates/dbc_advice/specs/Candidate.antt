@@ -1,4 +1,4 @@
--- What may come in a statement, kind by kind: the table of all that is asked for.
+-- What may come in a statement, kind by kind: the table of all that may be wanted.
 use Rattle.std.specs.Prelude.{ℕ, List, [], ◌∷◌, codes}
 use Rattle.dbc_advice.specs.declared.candidate.Candidate.{Candidate}
 use Rattle.dbc_advice.specs.declared.candidate.Candidate.TheVariants.{Number, AnyName, Name, Text, Indicator, Semicolon, Colon, Comma, Bar, At, LeftParenthesis, RightParenthesis, LeftBracket, RightBracket, Plus, Minus, Statement, Signal, Nodes, Message, EnvironmentVariable, BitTiming}

@@ -2,24 +2,25 @@
 use Rattle.std.specs.Prelude.{ℕ, ◌&&◌, Bool, false, not, is_none, List, [], ◌∷◌, ◌++◌, Option, Some, None, codes, drop, length, min, if◌then◌else◌}
 use Rattle.std.specs.Option.{option_and_then, option_map_or}
 use Rattle.std.specs.Str.{bytes_eq}
-use Rattle.catalogue.specs.Fields.{is_a}
+use Rattle.dbc_grammar.specs.Fields.{is_a}
 use Rattle.catalogue.specs.Keyword.{keyword_of, keyword_text}
-use Rattle.catalogue.specs.Lexing.{lexed}
+use Rattle.dbc_grammar.specs.Lexing.{lexed}
 use Rattle.catalogue.specs.Messages.{message_at}
 use Rattle.catalogue.specs.Named.{has_name}
 use Rattle.catalogue.specs.Sheet.{node_name}
 use Rattle.catalogue.specs.Signals.{signal_name}
-use Rattle.catalogue.specs.Token.{Token}
+use Rattle.dbc_grammar.specs.Token.{Token}
 use Rattle.catalogue.specs.WholeNumber.{whole_of}
 use Rattle.catalogue.specs.declared.keyword.Keyword.{Keyword}
 use Rattle.catalogue.specs.declared.keyword.Keyword.TheVariants as key
 use Rattle.catalogue.specs.declared.message.Message.{Message}
 use Rattle.catalogue.specs.declared.sheet.Sheet.{Sheet}
-use Rattle.catalogue.specs.declared.token.TokenKind.TheVariants.{Number}
+use Rattle.dbc_grammar.specs.declared.token.TokenKind.TheVariants.{Number}
 use Rattle.dbc_advice.specs.declared.citation.Citation.{Citation}
 use Rattle.dbc_advice.specs.declared.citation.Citation.TheVariants as citing
 
--- what is cited: a node by its name, a message by the digits of its number, or a signal by those of its message and its name
+-- what is cited: a node by its name, a message by the digits of its number, or a signal by those of its message and its
+-- name
 pub data Cited : Type 0 where
   OfNode : List ℕ → Cited
   OfMessage : List ℕ → Cited
@@ -94,7 +95,7 @@ is_missing s (OfNode name) = not (has_name node_name s.nodes name)
 is_missing s (OfMessage number) = is_none (cited_message s number)
 is_missing s (OfSignal number name) = not (has_signal s number name)
 
--- ---- what is said of it
+-- ---- what is stated of it
 
 abbrev pub cited_text : Cited → List ℕ
 cited_text (OfNode name) = codes "it is about node " ++ name

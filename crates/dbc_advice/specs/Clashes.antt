@@ -1,4 +1,4 @@
--- What is told of messages that aren't clear: a line for each of the first reasons.
+-- What is reported of messages that aren't clear: a line for each of the first reasons.
 use Rattle.std.specs.Prelude.{◌≡◌, ◌≤◌, ℕ, List, ◌++◌, map, take, length, codes}
 use Rattle.std.specs.List.{flat_map}
 use Rattle.bitlayout.specs.declared.clash.Clash.{Clash}
@@ -7,9 +7,9 @@ use Rattle.catalogue.specs.Signals.{places_of}
 use Rattle.catalogue.specs.declared.message.Message.{Message}
 use Rattle.dbc_advice.specs.Position.{position_at}
 use Rattle.dbc_advice.specs.Reasons.{reasons_from}
-use Rattle.dbc_advice.specs.ToldLine.{AreLinesOf, code_label, more_line, more_text, told_line}
+use Rattle.dbc_advice.specs.ReportedLine.{AreLinesOf, code_label, more_line, more_text, reported_line}
 use Rattle.dbc_advice.specs.Unclear.{reason_text}
-use Rattle.dbc_advice.specs.declared.clashes.TheConstants.{CLASHES_TOLD}
+use Rattle.dbc_advice.specs.declared.clashes.TheConstants.{CLASHES_REPORTED}
 use Rattle.dbc_advice.specs.declared.reasons.Reason.{Reason}
 
 -- a message, and a reason why it isn't clear
@@ -31,16 +31,16 @@ clash_label clash = code_label (code_number (clash_code clash)) (code_name (clas
 pub record IsClashLine (file text : List ℕ) (c : Clashing) (line : List ℕ) : Type 0 where
   pub at : ℕ
   pub within : at ≤ length text
-  pub is : line ≡ told_line file (position_at text at) (clash_label c.1.clash) (reason_text c.0 c.1)
+  pub is : line ≡ reported_line file (position_at text at) (clash_label c.1.clash) (reason_text c.0 c.1)
 
 -- the lines of the first reasons, in order, and whether there are more
 pub record AreClashLines (file text : List ℕ) (messages : List Message) (out : List ℕ) : Type 0 where
   pub lines : List ℕ
-  pub are : AreLinesOf (IsClashLine file text) (take CLASHES_TOLD (clashes_of messages)) lines
-  pub whole : out ≡ lines ++ more_text file CLASHES_TOLD (length (clashes_of messages)) (codes "clashes")
+  pub are : AreLinesOf (IsClashLine file text) (take CLASHES_REPORTED (clashes_of messages)) lines
+  pub whole : out ≡ lines ++ more_text file CLASHES_REPORTED (length (clashes_of messages)) (codes "clashes")
 
 -- the lines of these reasons of a message, and that there are more
 pub record AreCutLines (file text : List ℕ) (m : Message) (reasons : List Reason) (out : List ℕ) : Type 0 where
   pub lines : List ℕ
   pub are : AreLinesOf (λ (r : Reason). IsClashLine file text (m, r)) reasons lines
-  pub whole : out ≡ lines ++ more_line file CLASHES_TOLD (codes "clashes")
+  pub whole : out ≡ lines ++ more_line file CLASHES_REPORTED (codes "clashes")

@@ -1,4 +1,4 @@
--- What is said of statements that are skipped.
+-- What is stated of statements that are skipped.
 use Rattle.std.specs.Prelude.{◌≡◌, ℕ, nat_lt, Bool, List, [], ◌∷◌, ◌++◌, Option, Some, None, take, drop, length, min, codes, decimal, if◌then◌else◌}
 use Rattle.std.specs.List.{count_by, enumerate_from, flat_map, list_any}
 use Rattle.std.specs.Str.{bytes_eq}
@@ -8,9 +8,9 @@ use Rattle.catalogue.specs.declared.sheet.Sheet.{Sheet}
 use Rattle.dbc_read.specs.declared.passed.Passed.{Passed}
 use Rattle.dbc_advice.specs.Citation.{Cited, citation_at, citation_text, is_missing}
 use Rattle.dbc_advice.specs.Position.{position_at}
-use Rattle.dbc_advice.specs.ToldLine.{more_text, told_line}
+use Rattle.dbc_advice.specs.ReportedLine.{more_text, reported_line}
 use Rattle.dbc_advice.specs.declared.leaving.Parts.{Parts}
-use Rattle.dbc_advice.specs.declared.leaving.TheConstants.{CITATIONS_TOLD}
+use Rattle.dbc_advice.specs.declared.leaving.TheConstants.{CITATIONS_REPORTED}
 
 -- `passed KEYWORD`
 abbrev pub passed_label : Keyword → List ℕ
@@ -23,9 +23,9 @@ kind_count keyword passed = count_by (λ (p : Passed). bytes_eq (keyword_text p.
 abbrev pub count_text : ℕ → List ℕ
 count_text count = decimal count ++ codes " left out, the first one here"
 
--- the line of what is said of a skipped statement: at its keyword, and with this as its label
+-- the line of what is stated of a skipped statement: at its keyword, and with this as its label
 abbrev pub passed_line : List ℕ → List ℕ → Passed → List ℕ → List ℕ
-passed_line file text p sentence = told_line file (position_at text (min p.at (length text))) (passed_label p.keyword) sentence
+passed_line file text p sentence = reported_line file (position_at text (min p.at (length text))) (passed_label p.keyword) sentence
 
 -- ---- one by one
 
@@ -53,13 +53,13 @@ all_missing s text passed = flat_map (λ (p : Passed). with_missing p (missing_a
 abbrev pub missing_line : List ℕ → List ℕ → Missing → List ℕ
 missing_line file text m = passed_line file text m.0 (citation_text m.1)
 
--- the same after so many that are told: nothing, if enough are
+-- the same after so many reports: nothing, if there are enough
 abbrev pub line_after : ℕ → List ℕ → List ℕ → Missing → List ℕ
-line_after told file text m = if nat_lt told CITATIONS_TOLD then missing_line file text m else []
+line_after reported file text m = if nat_lt reported CITATIONS_REPORTED then missing_line file text m else []
 
 -- the lines of the first of them
 abbrev pub missing_lines : List ℕ → List ℕ → List Missing → List ℕ
-missing_lines file text missing = flat_map (missing_line file text) (take CITATIONS_TOLD missing)
+missing_lines file text missing = flat_map (missing_line file text) (take CITATIONS_REPORTED missing)
 
 abbrev pub without_missing : Passed → Option Cited → List Passed
 without_missing p None = p ∷ []
@@ -69,11 +69,11 @@ without_missing p (Some cited) = []
 abbrev pub all_others : Sheet → List ℕ → List Passed → List Passed
 all_others s text passed = flat_map (λ (p : Passed). without_missing p (missing_at s text p)) passed
 
--- that there are more than are told, if so
+-- that there are more than are reported, if so
 abbrev pub more_missing : List ℕ → List Missing → List ℕ
-more_missing file missing = more_text file CITATIONS_TOLD (length missing) (codes "citations")
+more_missing file missing = more_text file CITATIONS_REPORTED (length missing) (codes "citations")
 
--- the statements that are told one by one, how many there are, and the others
+-- the statements that are reported one by one, how many there are, and the others
 pub record ArePartedFrom (file text : List ℕ) (s : Sheet) (passed : List Passed) (p : Parts) : Type 0 where
   pub lines : p.lines.items ≡ missing_lines file text (all_missing s text passed)
   pub missing : p.missing ≡ length (all_missing s text passed)
@@ -85,7 +85,7 @@ pub record ArePartedFrom (file text : List ℕ) (s : Sheet) (passed : List Passe
 abbrev pub has_keyword : Keyword → List Passed → Bool
 has_keyword keyword passed = list_any (λ (p : Passed). bytes_eq (keyword_text p.keyword) (keyword_text keyword)) passed
 
--- a statement whose keyword no earlier one has is told, with how many have it
+-- a statement whose keyword no earlier one has is reported, with how many have it
 abbrev pub kind_text : List ℕ → List ℕ → List Passed → ℕ × Passed → List ℕ
 kind_text file text passed p =
     if has_keyword p.1.keyword (take p.0 passed) then [] else passed_line file text p.1 (count_text (kind_count p.1.keyword passed))
@@ -96,7 +96,7 @@ kinds_text file text passed n = flat_map (kind_text file text passed) (enumerate
 
 -- ---- all
 
--- what is told one by one, and then each kind of the others
+-- what is reported one by one, and then each kind of the others
 abbrev pub left_out : List ℕ → List ℕ → Sheet → List Passed → List ℕ
 left_out file text s passed =
     (missing_lines file text (all_missing s text passed) ++ more_missing file (all_missing s text passed))

@@ -7,7 +7,7 @@ pub mod FaultyLines
 pub mod Candidate
 pub mod MayBeThere
 pub mod Sentence
-pub mod ToldLine
+pub mod ReportedLine
 pub mod Telling
 pub mod Reasons
 pub mod Unclear

@@ -8,7 +8,7 @@ use Rattle.bitlayout.specs.declared.clash.Clash.TheVariants.{NoMultiplexor, Outs
 use Rattle.bitlayout.specs.declared.layout.Layout.{Layout}
 use Rattle.bitlayout.specs.declared.place.Place.{Place}
 use Rattle.dbc_advice.specs.declared.reasons.Reason.{Reason}
-use Rattle.dbc_advice.specs.declared.reasons.TheConstants.{REASONS_TOLD}
+use Rattle.dbc_advice.specs.declared.reasons.TheConstants.{REASONS_REPORTED}
 
 -- a position of a bit is less than this: a start is at most 65535, and a walk of 64 bits goes on for 8 bytes and a bit
 abbrev pub positions_end : ℕ
@@ -50,9 +50,9 @@ reasons_at bytes places p =
 abbrev pub reasons_from : ℕ → List Place → ℕ → List Reason
 reasons_from bytes places n = flat_map (reasons_at bytes places) (enumerate_from n (drop n places))
 
--- With those of the places that weren't looked at they are all reasons; and so many places were looked at that all were,
--- or that there are more reasons than are told.
+-- With those of the places that weren't looked at they are all reasons; and so many places were looked at that all
+-- were, or that there are more reasons than are reported.
 pub record AreReasons (bytes : ℕ) (places : List Place) (reasons : List Reason) : Type 0 where
   pub looked_at : ℕ
   pub are : reasons ++ reasons_from bytes places looked_at ≡ reasons_from bytes places 0
-  pub enough : (length places ≤ looked_at) ⊎ (REASONS_TOLD < length reasons)
+  pub enough : (length places ≤ looked_at) ⊎ (REASONS_REPORTED < length reasons)

@@ -1,4 +1,4 @@
--- What is said of a fault: one sentence.
+-- What is stated of a fault: one sentence.
 use Rattle.std.specs.Prelude.{ℕ, nat_le, nat_lt, ◌&&◌, List, [], ◌∷◌, ◌++◌, length, map, take, Option, Some, None, if◌then◌else◌, codes, decimal}
 use Rattle.catalogue.specs.Keyword.{keyword_text}
 use Rattle.catalogue.specs.declared.keyword.Keyword.{Keyword}

@@ -1,10 +1,10 @@
 -- Tokens taken one by one, and what is found where a fault is.
 use Rattle.std.specs.Prelude.{◌≡◌, ℕ, List, [], ◌∷◌, Option, Some, None, slice_get, slice_range}
 use Rattle.std.specs.Option.{unwrap_or}
-use Rattle.catalogue.specs.Fields.{key_of}
-use Rattle.catalogue.specs.Lexing.{Lexed, LexFault, StrayByte, UnclosedText, lexed}
-use Rattle.catalogue.specs.Token.{Token}
-use Rattle.catalogue.specs.TokenLaw.{tokens_then_fault, tokens_without_fault}
+use Rattle.dbc_grammar.specs.Fields.{key_of}
+use Rattle.dbc_grammar.specs.Lexing.{Lexed, LexFault, StrayByte, UnclosedText, lexed}
+use Rattle.dbc_grammar.specs.Token.{Token}
+use Rattle.dbc_grammar.specs.TokenLaw.{tokens_then_fault, tokens_without_fault}
 use Rattle.catalogue.specs.declared.keyword.Keyword.{Keyword}
 use Rattle.dbc_advice.specs.Lines.{line_end, line_start}
 use Rattle.dbc_advice.specs.declared.found.Found.{Found}
@@ -21,8 +21,8 @@ GivesToken old None new = old ≡ []
 abbrev pub BeginsWith : List Token → List ℕ → Type 0
 BeginsWith tokens bytes = (t : Token) × (rest : List Token) × (tokens ≡ t ∷ rest) × (bytes ≡ t.text)
 
--- what is read first from an offset of a text on: its end, a text that no quote closes, a byte with which no token begins,
--- or a token
+-- what is read first from an offset of a text on: its end, a text that no quote closes, a byte with which no token
+-- begins, or a token
 abbrev pub IsFound : List ℕ → Lexed → Found → Type 0
 IsFound text read found.End = read ≡ tokens_without_fault []
 IsFound text read found.Quote = (at : ℕ) × (read ≡ tokens_then_fault [] (UnclosedText at))

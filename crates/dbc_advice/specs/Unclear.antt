@@ -1,4 +1,4 @@
--- What is said of a message that isn't clear: one sentence a reason.
+-- What is stated of a message that isn't clear: one sentence a reason.
 use Rattle.std.specs.Prelude.{ℕ, true, List, [], ◌++◌, Option, Some, None, slice_get, codes, decimal}
 use Rattle.std.specs.Fmt.{digits}
 use Rattle.std.specs.Option.{option_map_or}

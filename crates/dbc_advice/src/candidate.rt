@@ -51,7 +51,7 @@ pub(crate) enum Candidate {
     BitTiming,
 }
 
-/// All of them, in the order in which they are told.
+/// All of them, in the order in which they are reported.
 pub(crate) const CANDIDATES: [Candidate; 22] = [
     Candidate::Number,
     Candidate::AnyName,
@@ -138,9 +138,9 @@ impl Candidate {
         }
     }
 
-    /// Whether this kind is told by another one, so that it need not be told too: a sign by a number, an indicator by a
-    /// name, most keywords by that of a statement, and all of these by any name.
-    pub(crate) fn is_told_by(self, other: Candidate) -> bool {
+    /// Whether another kind reports this one, so that it need not be reported too: a sign by a number, an indicator by
+    /// a name, most keywords by that of a statement, and all of these by any name.
+    pub(crate) fn is_reported_by(self, other: Candidate) -> bool {
         match other {
             Candidate::Number => matches!(self, Candidate::Plus | Candidate::Minus),
             Candidate::Name => matches!(self, Candidate::Indicator),

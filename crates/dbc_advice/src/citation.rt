@@ -4,11 +4,14 @@ ghost use Rattle.catalogue.specs.Named.{has_name};
 ghost use Rattle.catalogue.specs.Sheet.{node_name};
 ghost use Rattle.catalogue.specs.Signals.{signal_name};
 ghost use Rattle.std.specs.Option.{option_copied};
-ghost use Rattle.dbc_advice.specs.Citation.{citation_at, citation_text, cited_by_comment, cited_by_spn, cited_message, cited_node, cited_number, cited_of, cited_signal, cited_text, has_signal, is_missing};
+ghost use Rattle.dbc_advice.specs.Citation.{citation_at, citation_text, cited_by_comment, cited_by_spn};
+ghost use Rattle.dbc_advice.specs.Citation.{cited_message, cited_node, cited_number, cited_of, cited_signal};
+ghost use Rattle.dbc_advice.specs.Citation.{cited_text, has_signal, is_missing};
 ghost use Rattle.dbc_advice.specs.Tokens.{GivesToken};
 
 use crate::joined::{three, two};
-use catalogue::{Keyword, Message, Node, Sheet, Signal, TokenKind, whole_number};
+use catalogue::{Keyword, Message, Node, Sheet, Signal, whole_number};
+use dbc_grammar::TokenKind;
 use dbc_lex::{Lexer, Token};
 use std::alloc::{AllocError, Global};
 
@@ -158,7 +161,7 @@ fn cited_text(alloc: Global, citation: Citation) -> Result<Vec<u8>, AllocError>
     }
 }
 
-/// What is said of a citation of what isn't in the file. The error is out of memory.
+/// What is stated of a citation of what isn't in the file. The error is out of memory.
 pub(crate) fn citation_text(alloc: Global, citation: Citation) -> Result<Vec<u8>, AllocError>
     ensures { IfOk result (λ text. text.items ≡ citation_text (cited_of citation.entry)) }
 {

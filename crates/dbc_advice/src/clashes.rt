@@ -1,25 +1,25 @@
-//! What is told of messages that aren't clear.
+//! What is reported of messages that aren't clear.
 ghost use Rattle.std.specs.Prelude.{◌≡◌, ◌≤◌, IfOk, length};
 ghost use Rattle.bitlayout.specs.Clash.{faulty_index};
 ghost use Rattle.catalogue.specs.Signals.{places_of};
 ghost use Rattle.dbc_advice.specs.Clashes.{AreClashLines, AreCutLines, IsClashLine, clash_label};
 ghost use Rattle.dbc_advice.specs.Reasons.{AreReasons};
-ghost use Rattle.dbc_advice.specs.ToldLine.{AreLinesOf};
+ghost use Rattle.dbc_advice.specs.ReportedLine.{AreLinesOf};
 
 use crate::notes::Source;
 use crate::places::{Heading, headings, message_place, signal_place};
 use crate::position::position_of;
 use crate::reasons::{Reason, reasons_of};
-use crate::sentences::{code_label, more_line, told_line};
+use crate::sentences::{code_label, more_line, reported_line};
 use crate::unclear::reason_text;
 use bitlayout::Clash;
 use catalogue::{Message, Sheet, SheetCode};
 use std::alloc::{AllocError, Global};
 
-/// How many reasons are told why messages aren't clear.
-pub const CLASHES_TOLD: usize = 100;
+/// How many reasons are reported why messages aren't clear.
+pub const CLASHES_REPORTED: usize = 100;
 
-/// The index of the signal that the clash is told at.
+/// The index of the signal at which the clash is reported.
 fn signal_index(clash: Clash) -> usize
     ensures { result ≡ faulty_index clash }
 {
@@ -31,7 +31,7 @@ fn signal_index(clash: Clash) -> usize
     }
 }
 
-/// The offset of the signal that the reason is told at.
+/// The offset of the signal at which the reason is reported.
 fn reason_place(text: &[u8], headings: &[Heading], message: &Message, reason: Reason) -> usize
     ensures { result ≤ length text.now }
 {
@@ -58,13 +58,14 @@ fn clash_line(
     message: &Message,
     reason: Reason,
 ) -> Result<Vec<u8>, AllocError>
-    ensures { IfOk result (λ line. IsClashLine source.entry.name.now source.entry.text.now (message.now, reason) line.items) }
+    ensures { IfOk result (λ line. IsClashLine source.entry.name.now source.entry.text.now
+        (message.now, reason) line.items) }
 {
     let label = clash_label(alloc, reason.clash)?;
     let words = reason_text(alloc, message, reason)?;
     let at = reason_place(source.text, headings, message, reason);
     let position = position_of(source.text, at);
-    told_line(alloc, source.name, position, &label, &words)
+    reported_line(alloc, source.name, position, &label, &words)
 }
 
 /// The lines of these reasons why the message isn't clear, in order.
@@ -75,7 +76,8 @@ fn clash_lines(
     message: &Message,
     reasons: &[Reason],
 ) -> Result<Vec<u8>, AllocError>
-    ensures { IfOk result (λ lines. AreLinesOf (λ r. IsClashLine source.entry.name.now source.entry.text.now (message.now, r)) reasons.now lines.items) }
+    ensures { IfOk result (λ lines. AreLinesOf (λ r. IsClashLine source.entry.name.now source.entry.text.now
+        (message.now, r)) reasons.now lines.items) }
 {
     let mut lines = Vec::new(alloc);
     for reason in reasons {
@@ -85,7 +87,7 @@ fn clash_lines(
     Ok(lines)
 }
 
-/// Why the message isn't clear: all reasons, or more than are told.
+/// Why the message isn't clear: all reasons, or more than are reported.
 fn message_reasons(alloc: Global, message: &Message) -> Result<Vec<Reason>, AllocError>
     ensures { IfOk result (λ reasons. AreReasons message.now.length (places_of message.now.signals) reasons.items) }
 {
@@ -101,25 +103,27 @@ fn cut_lines(
     message: &Message,
     reasons: &[Reason],
 ) -> Result<Vec<u8>, AllocError>
-    ensures { IfOk result (λ out. AreCutLines source.entry.name.now source.entry.text.now message.now reasons.now out.items) }
+    ensures { IfOk result
+        (λ out. AreCutLines source.entry.name.now source.entry.text.now message.now reasons.now out.items) }
 {
     let mut lines = clash_lines(alloc, source, headings, message, reasons)?;
-    let more = more_line(alloc, source.name, CLASHES_TOLD, "clashes")?;
+    let more = more_line(alloc, source.name, CLASHES_REPORTED, "clashes")?;
     lines.extend_from_slice(&more)?;
     Ok(lines)
 }
 
-/// Why messages of the sheet aren't clear: a line for each of the first [`CLASHES_TOLD`] reasons, and a last one if there
-/// are more. The error is out of memory.
+/// Why messages of the sheet aren't clear: a line for each of the first [`CLASHES_REPORTED`] reasons, and a last one if
+/// there are more. The error is out of memory.
 pub(crate) fn unclear(alloc: Global, source: Source, sheet: &Sheet) -> Result<Vec<u8>, AllocError>
-    ensures { IfOk result (λ out. AreClashLines source.entry.name.now source.entry.text.now sheet.now.messages out.items) }
+    ensures { IfOk result
+        (λ out. AreClashLines source.entry.name.now source.entry.text.now sheet.now.messages out.items) }
 {
     let mut lines = Vec::new(alloc);
     let headings = headings(alloc, source.text)?;
-    let mut told = 0;
+    let mut reported = 0;
     for message in sheet.messages() {
         let reasons = message_reasons(alloc, message)?;
-        let room = CLASHES_TOLD - told;
+        let room = CLASHES_REPORTED - reported;
         if reasons.len() > room {
             let last = cut_lines(alloc, source, &headings, message, &reasons[..room])?;
             lines.extend_from_slice(&last)?;
@@ -127,7 +131,7 @@ pub(crate) fn unclear(alloc: Global, source: Source, sheet: &Sheet) -> Result<Ve
         }
         let all = clash_lines(alloc, source, &headings, message, &reasons)?;
         lines.extend_from_slice(&all)?;
-        told += reasons.len();
+        reported += reasons.len();
     }
     Ok(lines)
 }

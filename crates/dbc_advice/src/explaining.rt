@@ -1,6 +1,7 @@
-//! All that is told of a file.
+//! All that is reported of a file.
 ghost use Rattle.std.specs.Prelude.{◌≡◌, ◌≤◌, IfOk, length};
-ghost use Rattle.dbc_advice.specs.Explained.{AreFaultLines, IsExplained, IsFaultLine, IsRest, IsSaidOfSheet, count_line, ending_text};
+ghost use Rattle.dbc_advice.specs.Explained.{AreFaultLines, IsExplained, IsFaultLine, IsRest, IsStatedOfSheet};
+ghost use Rattle.dbc_advice.specs.Explained.{count_line, ending_text, fault_word};
 
 use crate::clashes::unclear;
 use crate::faulty_lines::keyword_at;
@@ -8,23 +9,30 @@ use crate::found::found_at;
 use crate::leaving::left_out;
 use crate::notes::Source;
 use crate::position::position_of;
-use crate::sentences::{code_label, sentence, told_line};
-use crate::telling::{Ending, Telling, Told, told_faults};
+use crate::sentences::{code_label, reported_line, sentence};
+use crate::telling::{Ending, Reported, Telling, reported_faults};
 use dbc_read::Reading;
 use std::alloc::{AllocError, Global};
 
 /// The line of a fault.
-fn fault_line(alloc: Global, source: Source, told: &Told) -> Result<Vec<u8>, AllocError>
-    ensures { IfOk result (λ line. IsFaultLine source.entry.name.now source.entry.text.now told.now line.items) }
+fn fault_line(alloc: Global, source: Source, reported: &Reported) -> Result<Vec<u8>, AllocError>
+    ensures { IfOk result (λ line. IsFaultLine source.entry.name.now source.entry.text.now reported.now line.items) }
 {
-    let at = told.fault.at.min(source.text.len());
-    let first = told.lines.first.min(source.text.len());
-    let code = told.fault.code;
+    let at = reported.fault.at.min(source.text.len());
+    let first = reported.lines.first.min(source.text.len());
+    let code = reported.fault.code;
     let label = code_label(alloc, code.number(), code.name())?;
     let found = found_at(source.text, at);
     let statement = keyword_at(source.text, first);
-    let words = sentence(alloc, code, found, &told.wanted, statement, told.hint)?;
-    told_line(
+    let words = sentence(
+        alloc,
+        code,
+        found,
+        &reported.wanted,
+        statement,
+        reported.hint,
+    )?;
+    reported_line(
         alloc,
         source.name,
         position_of(source.text, at),
@@ -34,30 +42,38 @@ fn fault_line(alloc: Global, source: Source, told: &Told) -> Result<Vec<u8>, All
 }
 
 /// The lines of the faults, in order.
-fn fault_lines(alloc: Global, source: Source, told: &[Told]) -> Result<Vec<u8>, AllocError>
-    ensures { IfOk result (λ lines. AreFaultLines source.entry.name.now source.entry.text.now told.now lines.items) }
+fn fault_lines(alloc: Global, source: Source, reported: &[Reported]) -> Result<Vec<u8>, AllocError>
+    ensures { IfOk result
+        (λ lines. AreFaultLines source.entry.name.now source.entry.text.now reported.now lines.items) }
 {
     let mut lines = Vec::new(alloc);
-    for one in told {
+    for one in reported {
         let line = fault_line(alloc, source, one)?;
         lines.extend_from_slice(&line)?;
     }
     Ok(lines)
 }
 
-/// Why no more faults are told.
+/// Why no more faults are reported.
 fn ending_text(ending: &Ending) -> &'static str
     ensures { result.now ≡ ending_text ending.now }
 {
     match ending {
-        Ending::Reads(_) => "the rest reads",
+        Ending::Reads(_) => "the rest is valid",
         Ending::Many => "there may be more",
         Ending::Long => "the file is too long to look for more",
         Ending::Unchanged => "no more can be looked for",
     }
 }
 
-/// The last line: how many faults are told, and why no more.
+/// One fault, or so many faults.
+fn fault_word(count: usize) -> &'static str
+    ensures { result.now ≡ fault_word count }
+{
+    if count == 1 { "fault" } else { "faults" }
+}
+
+/// The last line: how many faults are shown, and why no more.
 fn count_line(
     alloc: Global,
     file: &[u8],
@@ -67,43 +83,47 @@ fn count_line(
     ensures { IfOk result (λ line. line.items ≡ count_line file.now count ending.now) }
 {
     let rest = ending_text(ending);
-    let words = format!(in alloc; ": {count} told, {rest}\n")?;
+    let faults = fault_word(count);
+    let words = format!(in alloc; ": {count} {faults} shown; {rest}\n")?;
     let mut line = Vec::from_slice(alloc, file)?;
     line.extend_from_slice(words.as_bytes())?;
     Ok(line)
 }
 
-/// What is said of a file that reads: each reason why a message isn't clear, and what the sheet leaves out.
-fn said_of_sheet(alloc: Global, source: Source, reading: &Reading) -> Result<Vec<u8>, AllocError>
-    ensures { IfOk result (λ out. IsSaidOfSheet source.entry.name.now source.entry.text.now reading.now out.items) }
+/// What is stated of a file that reads: each reason why a message isn't clear, and what the sheet leaves out.
+fn stated_of_sheet(alloc: Global, source: Source, reading: &Reading) -> Result<Vec<u8>, AllocError>
+    ensures { IfOk result (λ out. IsStatedOfSheet source.entry.name.now source.entry.text.now reading.now out.items) }
 {
     let mut lines = unclear(alloc, source, &reading.sheet)?;
     lines.extend_from_slice(&left_out(alloc, source, reading)?)?;
     Ok(lines)
 }
 
-/// What is said after the faults: of a file that reads what is said of its sheet, and else how many faults are told.
+/// What is stated after the faults: of a file that reads what is stated of its sheet, and else how many faults are
+/// reported.
 fn rest_of(alloc: Global, source: Source, telling: &Telling) -> Result<Vec<u8>, AllocError>
-    ensures { IfOk result (λ rest. IsRest source.entry.name.now source.entry.text.now telling.now.told.items telling.now.ending rest.items) }
+    ensures { IfOk result
+        (λ rest. IsRest source.entry.name.now source.entry.text.now telling.now.reported.items telling.now.ending rest.items) }
 {
-    let count = telling.told.len();
+    let count = telling.reported.len();
     match &telling.ending {
-        Ending::Reads(reading) if count == 0 => said_of_sheet(alloc, source, reading),
+        Ending::Reads(reading) if count == 0 => stated_of_sheet(alloc, source, reading),
         ending => count_line(alloc, source.name, count, ending),
     }
 }
 
-/// All that is told of a DBC file beside what is answered. The error is out of memory.
+/// All that is reported of a DBC file beside what is answered. The error is out of memory.
 ///
-/// Of one that can't be read, a line for its fault, one for that of the text with the lines of the first blanked, and so on,
-/// at most [`FAULTS_TOLD`](crate::FAULTS_TOLD) and for at most [`BYTES_READ_AGAIN`](crate::BYTES_READ_AGAIN); and a last one
-/// with their count. Of one that reads, a line for each reason why a message isn't clear, at most
-/// [`CLASHES_TOLD`](crate::CLASHES_TOLD) and then that there are more, and what [`left_out`](crate::left_out) says.
+/// Of one that can't be read, a line for its fault, one for that of the text with the lines of the first blanked, and
+/// so on, at most [`FAULTS_REPORTED`](crate::FAULTS_REPORTED) and for at most
+/// [`BYTES_READ_AGAIN`](crate::BYTES_READ_AGAIN); and a last one with their count. Of one that reads, a line for each
+/// reason why a message isn't clear, at most [`CLASHES_REPORTED`](crate::CLASHES_REPORTED) and then that there are
+/// more, and what [`left_out`](crate::left_out) says.
 pub fn explained(alloc: Global, source: Source) -> Result<Vec<u8>, AllocError>
     ensures { IfOk result (λ out. IsExplained source.entry.name.now source.entry.text.now out.items) }
 {
-    let telling = told_faults(alloc, source.text)?;
-    let mut lines = fault_lines(alloc, source, &telling.told)?;
+    let telling = reported_faults(alloc, source.text)?;
+    let mut lines = fault_lines(alloc, source, &telling.reported)?;
     let rest = rest_of(alloc, source, &telling)?;
     lines.extend_from_slice(&rest)?;
     Ok(lines)

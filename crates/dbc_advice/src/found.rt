@@ -1,6 +1,6 @@
 //! What is found at the offset of a fault.
 ghost use Rattle.std.specs.Prelude.{◌≡◌, ◌≤◌, IfOk, drop, length, map};
-ghost use Rattle.catalogue.specs.Lexing.{lexed};
+ghost use Rattle.dbc_grammar.specs.Lexing.{lexed};
 ghost use Rattle.dbc_advice.specs.Sentence.{found_text, quoted, shown, visible};
 ghost use Rattle.dbc_advice.specs.Tokens.{IsFound};
 
@@ -55,8 +55,8 @@ fn shown(alloc: Global, bytes: &[u8]) -> Result<Vec<u8>, AllocError>
     }
 }
 
-/// The bytes in single quotes, at most 40 of them, and a question mark for each that isn't printable ASCII. The error is out
-/// of memory.
+/// The bytes in single quotes, at most 40 of them, and a question mark for each that isn't printable ASCII. The error
+/// is out of memory.
 pub fn quoted(alloc: Global, bytes: &[u8]) -> Result<Vec<u8>, AllocError>
     ensures { IfOk result (λ text. text.items ≡ quoted bytes.now) }
 {

@@ -6,7 +6,7 @@ use crate::faulty_lines::{Lines, keyword_at};
 use crate::lines::line_end;
 use crate::pieces::is_gap;
 use crate::position::position_of;
-use catalogue::TokenKind;
+use dbc_grammar::TokenKind;
 use dbc_lex::{Lexer, ReadCode, ReadFault, Token};
 use std::alloc::{AllocError, Global};
 
@@ -91,7 +91,7 @@ fn is_unfinished(text: &[u8], at: usize, lines: Lines) -> bool
         || line_end(text, lines.first) < at && (at == text.len() || keyword_at(text, at).is_some())
 }
 
-/// What is plain to do about the fault of the text, of which these lines are told.
+/// What is plain to do about the fault of the text, of which these lines are reported.
 pub(crate) fn hint_for(text: &[u8], fault: ReadFault, lines: Lines) -> Option<Hint>
     requires ordered { lines.first ≤ lines.last }
     requires within { lines.last ≤ length text.now }

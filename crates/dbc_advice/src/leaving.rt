@@ -1,20 +1,21 @@
-//! What is said of statements that are skipped: those that cite what isn't in the file one by one, the others kind by
+//! What is stated of statements that are skipped: those that cite what isn't in the file one by one, the others kind by
 //! kind.
 ghost use Rattle.std.specs.Prelude.{◌≡◌, ◌≤◌, IfOk, codes, length, option_map, string_bytes};
 ghost use Rattle.dbc_advice.specs.Citation.{cited_of};
-ghost use Rattle.dbc_advice.specs.LeftOut.{ArePartedFrom, count_text, has_keyword, kind_count, kind_text, kinds_text, left_out, line_after, missing_at, missing_line, passed_label, passed_line};
-ghost use Rattle.dbc_advice.specs.ToldLine.{more_text};
+ghost use Rattle.dbc_advice.specs.LeftOut.{ArePartedFrom, count_text, has_keyword, kind_count, kind_text, kinds_text};
+ghost use Rattle.dbc_advice.specs.LeftOut.{left_out, line_after, missing_at, missing_line, passed_label, passed_line};
+ghost use Rattle.dbc_advice.specs.ReportedLine.{more_text};
 
 use crate::citation::{Citation, citation_at, citation_text, is_missing};
 use crate::notes::Source;
 use crate::position::position_of;
-use crate::sentences::{more_line, told_line};
+use crate::sentences::{more_line, reported_line};
 use catalogue::{Keyword, Sheet};
 use dbc_read::{Passed, Reading};
 use std::alloc::{AllocError, Global};
 
-/// How many statements that cite what isn't in the file are told one by one.
-pub const CITATIONS_TOLD: usize = 100;
+/// How many statements that cite what isn't in the file are reported one by one.
+pub const CITATIONS_REPORTED: usize = 100;
 
 /// `passed` and the keyword.
 fn passed_label(alloc: Global, keyword: Keyword) -> Result<Vec<u8>, AllocError>
@@ -24,19 +25,20 @@ fn passed_label(alloc: Global, keyword: Keyword) -> Result<Vec<u8>, AllocError>
     Ok(text.into_bytes())
 }
 
-/// The line of what is said of a skipped statement: at its keyword, and with this as its label.
+/// The line of what is stated of a skipped statement: at its keyword, and with this as its label.
 fn passed_line(
     alloc: Global,
     source: Source,
     passed: Passed,
     sentence: &[u8],
 ) -> Result<Vec<u8>, AllocError>
-    ensures { IfOk result (λ line. line.items ≡ passed_line source.entry.name.now source.entry.text.now passed sentence.now) }
+    ensures { IfOk result
+        (λ line. line.items ≡ passed_line source.entry.name.now source.entry.text.now passed sentence.now) }
 {
     let label = passed_label(alloc, passed.keyword)?;
     let at = passed.at.min(source.text.len());
     let position = position_of(source.text, at);
-    told_line(alloc, source.name, position, &label, sentence)
+    reported_line(alloc, source.name, position, &label, sentence)
 }
 
 /// What the skipped statement cites, if the sheet doesn't have it.
@@ -58,23 +60,25 @@ fn missing_line(
     passed: Passed,
     citation: Citation,
 ) -> Result<Vec<u8>, AllocError>
-    ensures { IfOk result (λ line. line.items ≡ missing_line source.entry.name.now source.entry.text.now (passed, cited_of citation.entry)) }
+    ensures { IfOk result (λ line. line.items ≡ missing_line source.entry.name.now source.entry.text.now
+        (passed, cited_of citation.entry)) }
 {
     let sentence = citation_text(alloc, citation)?;
     passed_line(alloc, source, passed, &sentence)
 }
 
-/// The same after so many that are told: nothing, if enough are.
+/// The same after so many reports: nothing, if there are enough.
 fn line_after(
     alloc: Global,
-    told: usize,
+    reported: usize,
     source: Source,
     passed: Passed,
     citation: Citation,
 ) -> Result<Vec<u8>, AllocError>
-    ensures { IfOk result (λ line. line.items ≡ line_after told source.entry.name.now source.entry.text.now (passed, cited_of citation.entry)) }
+    ensures { IfOk result (λ line. line.items ≡ line_after reported source.entry.name.now source.entry.text.now
+        (passed, cited_of citation.entry)) }
 {
-    if told < CITATIONS_TOLD {
+    if reported < CITATIONS_REPORTED {
         missing_line(alloc, source, passed, citation)
     } else {
         Ok(Vec::new(alloc))
@@ -100,14 +104,14 @@ fn has_keyword(passed: &[Passed], keyword: Keyword) -> bool
         .any(|other| other.keyword.text() == keyword.text())
 }
 
-/// What is said of so many statements of a kind.
+/// What is stated of so many statements of a kind.
 fn count_text(alloc: Global, count: usize) -> Result<String, AllocError>
     ensures { IfOk result (λ text. string_bytes text ≡ count_text count) }
 {
     format!(in alloc; "{count} left out, the first one here")
 }
 
-/// What is told one by one, and the statements that are left.
+/// What is reported one by one, and the statements that are left.
 struct Parts {
     /// A line for each of the first of those that cite what isn't in the file.
     lines: Vec<u8>,
@@ -117,9 +121,10 @@ struct Parts {
     others: Vec<Passed>,
 }
 
-/// Tells each of the statements that cite what isn't in the file, up to [`CITATIONS_TOLD`].
+/// Tells each of the statements that cite what isn't in the file, up to [`CITATIONS_REPORTED`].
 fn parted(alloc: Global, source: Source, reading: &Reading) -> Result<Parts, AllocError>
-    ensures { IfOk result (ArePartedFrom source.entry.name.now source.entry.text.now reading.now.sheet reading.now.passed) }
+    ensures { IfOk result
+        (ArePartedFrom source.entry.name.now source.entry.text.now reading.now.sheet reading.now.passed) }
 {
     let mut lines = Vec::new(alloc);
     let mut others = Vec::new(alloc);
@@ -141,12 +146,12 @@ fn parted(alloc: Global, source: Source, reading: &Reading) -> Result<Parts, All
     })
 }
 
-/// The last line of those that are told one by one: there are more, if so.
+/// The last line of those that are reported one by one: there are more, if so.
 fn more_missing(alloc: Global, file: &[u8], missing: usize) -> Result<Vec<u8>, AllocError>
-    ensures { IfOk result (λ line. line.items ≡ more_text file.now CITATIONS_TOLD missing (codes "citations")) }
+    ensures { IfOk result (λ line. line.items ≡ more_text file.now CITATIONS_REPORTED missing (codes "citations")) }
 {
-    if missing > CITATIONS_TOLD {
-        more_line(alloc, file, CITATIONS_TOLD, "citations")
+    if missing > CITATIONS_REPORTED {
+        more_line(alloc, file, CITATIONS_REPORTED, "citations")
     } else {
         Ok(Vec::new(alloc))
     }
@@ -161,7 +166,8 @@ fn kind_line(
     first: Passed,
 ) -> Result<Vec<u8>, AllocError>
     requires { index ≤ length passed.now }
-    ensures { IfOk result (λ line. line.items ≡ kind_text source.entry.name.now source.entry.text.now passed.now (index, first)) }
+    ensures { IfOk result (λ line. line.items ≡ kind_text source.entry.name.now source.entry.text.now passed.now
+        (index, first)) }
 {
     if has_keyword(&passed[..index], first.keyword) {
         return Ok(Vec::new(alloc));
@@ -185,9 +191,10 @@ fn kind_lines(alloc: Global, source: Source, passed: &[Passed]) -> Result<Vec<u8
 /// What the sheet of a file leaves out. The error is out of memory.
 ///
 /// It is a line for each skipped statement that cites a node, a message or a signal which isn't in the file, at most
-/// [`CITATIONS_TOLD`] and then that there are more, and one for each keyword of the other ones, with their count.
+/// [`CITATIONS_REPORTED`] and then that there are more, and one for each keyword of the other ones, with their count.
 pub fn left_out(alloc: Global, source: Source, reading: &Reading) -> Result<Vec<u8>, AllocError>
-    ensures { IfOk result (λ out. out.items ≡ left_out source.entry.name.now source.entry.text.now reading.now.sheet reading.now.passed) }
+    ensures { IfOk result
+        (λ out. out.items ≡ left_out source.entry.name.now source.entry.text.now reading.now.sheet reading.now.passed) }
 {
     let parted = parted(alloc, source, reading)?;
     let more = more_missing(alloc, source.name, parted.missing)?;

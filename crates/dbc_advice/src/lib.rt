@@ -23,11 +23,11 @@ mod telling;
 mod unclear;
 mod wanted;
 
-pub use clashes::CLASHES_TOLD;
+pub use clashes::CLASHES_REPORTED;
 pub use explaining::explained;
 pub use found::quoted;
-pub use leaving::{CITATIONS_TOLD, left_out};
+pub use leaving::{CITATIONS_REPORTED, left_out};
 pub use notes::Source;
 pub use position::{Position, position_of};
-pub use sentences::told_line;
-pub use telling::{BYTES_READ_AGAIN, FAULTS_TOLD};
+pub use sentences::reported_line;
+pub use telling::{BYTES_READ_AGAIN, FAULTS_REPORTED};

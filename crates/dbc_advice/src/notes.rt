@@ -1,4 +1,4 @@
-//! The file that lines are told of.
+//! The file that lines report of.
 
 /// A file, by its name and its bytes.
 #[derive(Clone, Copy)]

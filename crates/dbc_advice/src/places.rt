@@ -1,7 +1,8 @@
 //! Where messages and signals are in a text that reads.
 ghost use Rattle.std.specs.Prelude.{◌≤◌, length};
 
-use catalogue::{Keyword, TokenKind, whole_number};
+use catalogue::{Keyword, whole_number};
+use dbc_grammar::TokenKind;
 use dbc_lex::{Lexer, Token};
 use std::alloc::{AllocError, Global};
 

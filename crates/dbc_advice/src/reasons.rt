@@ -3,7 +3,8 @@ ghost use Rattle.std.specs.Prelude.{◌≡◌, ◌≤◌, IfOk, length};
 ghost use Rattle.std.specs.Option.{option_to_list};
 ghost use Rattle.bitlayout.specs.Clash.{collide, has_multiplexor};
 ghost use Rattle.catalogue.specs.Limits.{length_limit};
-ghost use Rattle.dbc_advice.specs.Reasons.{first_outside, first_shared, outside_reason, overlap_reasons, reasons_at, unmultiplexed_reason, AreReasons};
+ghost use Rattle.dbc_advice.specs.Reasons.{first_outside, first_shared, outside_reason, overlap_reasons, reasons_at};
+ghost use Rattle.dbc_advice.specs.Reasons.{unmultiplexed_reason, AreReasons};
 
 use bitlayout::{Clash, Layout, Place, has_bit, inside, meet, share_bit};
 use std::alloc::{AllocError, Global};
@@ -129,11 +130,11 @@ fn reasons_at(
 }
 
 /// Above how many reasons no further signal of a message is looked at.
-pub(crate) const REASONS_TOLD: usize = 100;
+pub(crate) const REASONS_REPORTED: usize = 100;
 
 /// The reasons why the places do not fit together in a message of `bytes` bytes: of each place, in order, that a bit is
 /// outside, that there is no multiplexor, and each earlier place with which it shares a bit. After more than
-/// [`REASONS_TOLD`] no further place is looked at. The error is out of memory.
+/// [`REASONS_REPORTED`] no further place is looked at. The error is out of memory.
 pub(crate) fn reasons_of(
     alloc: Global,
     places: &[Place],
@@ -144,7 +145,7 @@ pub(crate) fn reasons_of(
 {
     let mut reasons = Vec::new(alloc);
     for (index, place) in places.iter().enumerate() {
-        if reasons.len() > REASONS_TOLD {
+        if reasons.len() > REASONS_REPORTED {
             return Ok(reasons);
         }
         let more = reasons_at(alloc, places, index, place, bytes)?;

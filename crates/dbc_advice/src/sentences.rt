@@ -1,7 +1,8 @@
-//! What is said of a fault: one sentence, and a line with it.
+//! What is stated of a fault: one sentence, and a line with it.
 ghost use Rattle.std.specs.Prelude.{◌≡◌, IfOk};
-ghost use Rattle.dbc_advice.specs.Sentence.{hinted, listed, meaning_of, plain_meaning, sentence_of, statement_text, wanted_text};
-ghost use Rattle.dbc_advice.specs.ToldLine.{code_label, more_line, told_line};
+ghost use Rattle.dbc_advice.specs.Sentence.{hinted, listed, meaning_of, plain_meaning, sentence_of, statement_text};
+ghost use Rattle.dbc_advice.specs.Sentence.{wanted_text};
+ghost use Rattle.dbc_advice.specs.ReportedLine.{code_label, more_line, reported_line};
 
 use crate::candidate::Candidate;
 use crate::found::{Found, found_text};
@@ -115,8 +116,8 @@ fn hinted(alloc: Global, hint: Option<Hint>) -> Result<Vec<u8>, AllocError>
     }
 }
 
-/// What is said of a fault of this code: what was found, what that means or what may be there, the statement, and what
-/// is plain to do. The error is out of memory.
+/// What is stated of a fault of this code: what was found, what that means or what may be there, the statement, and
+/// what is plain to do. The error is out of memory.
 pub(crate) fn sentence(
     alloc: Global,
     code: ReadCode,
@@ -144,14 +145,14 @@ pub(crate) fn code_label(alloc: Global, number: u8, name: &str) -> Result<Vec<u8
 }
 
 /// The line `FILE:LINE:COLUMN: LABEL: sentence`, with its LF. The error is out of memory.
-pub fn told_line(
+pub fn reported_line(
     alloc: Global,
     file: &[u8],
     position: Position,
     label: &[u8],
     sentence: &[u8],
 ) -> Result<Vec<u8>, AllocError>
-    ensures { IfOk result (λ line. line.items ≡ told_line file.now position label.now sentence.now) }
+    ensures { IfOk result (λ line. line.items ≡ reported_line file.now position label.now sentence.now) }
 {
     let Position { line, column } = position;
     let place = format!(in alloc; ":{line}:{column}: ")?;
@@ -164,7 +165,7 @@ pub fn told_line(
     Ok(text)
 }
 
-/// The line `FILE: LIMIT WHAT told, there are more`, with its LF.
+/// The line `FILE: LIMIT WHAT shown; there are more`, with its LF.
 pub(crate) fn more_line(
     alloc: Global,
     file: &[u8],
@@ -173,7 +174,7 @@ pub(crate) fn more_line(
 ) -> Result<Vec<u8>, AllocError>
     ensures { IfOk result (λ line. line.items ≡ more_line file.now limit what.now) }
 {
-    let words = format!(in alloc; ": {limit} {what} told, there are more\n")?;
+    let words = format!(in alloc; ": {limit} {what} shown; there are more\n")?;
     let mut line = Vec::from_slice(alloc, file)?;
     line.extend_from_slice(words.as_bytes())?;
     Ok(line)

@@ -3,7 +3,7 @@ ghost use Rattle.std.specs.Prelude.{◌≡◌, ◌<◌, ◌≤◌, ◌*◌, ◌�
 ghost use Rattle.dbc_advice.specs.FaultyLines.{AreLines};
 ghost use Rattle.dbc_advice.specs.MayBeThere.{MayBeThere};
 ghost use Rattle.dbc_advice.specs.Pieces.{statement_before};
-ghost use Rattle.dbc_advice.specs.Telling.{IsBlankUpTo, IsTelling, IsNext, IsTold, without};
+ghost use Rattle.dbc_advice.specs.Telling.{IsBlankUpTo, IsTelling, IsNext, IsReported, without};
 ghost use Rattle.dbc_read.specs.Reading.{IsReadFault};
 
 use crate::blanking::blanked;
@@ -16,14 +16,14 @@ use crate::wanted::wanted_after;
 use dbc_read::{ReadCode, ReadFault, Reading, read};
 use std::alloc::{AllocError, Global};
 
-/// How many faults of one text are told.
-pub const FAULTS_TOLD: usize = 100;
+/// How many faults of one text are reported.
+pub const FAULTS_REPORTED: usize = 100;
 
 /// How many bytes are read again to find further faults: 400 MB, which takes some ten seconds.
 pub const BYTES_READ_AGAIN: usize = 400_000_000;
 
 /// A fault, and what people need to know of it.
-pub(crate) struct Told {
+pub(crate) struct Reported {
     /// The fault.
     pub fault: ReadFault,
     /// The lines that it is about, which are blanked before the text is read again.
@@ -34,12 +34,12 @@ pub(crate) struct Told {
     pub hint: Option<Hint>,
 }
 
-/// Why no more faults are told.
+/// Why no more faults are reported.
 #[derive(Drop)]
 pub(crate) enum Ending {
     /// What is left of the text reads as a sheet.
     Reads(Reading),
-    /// [`FAULTS_TOLD`] faults are told.
+    /// [`FAULTS_REPORTED`] faults are reported.
     Many,
     /// To read the text once more would be more than [`BYTES_READ_AGAIN`].
     Long,
@@ -50,21 +50,21 @@ pub(crate) enum Ending {
 /// The faults of a text.
 pub(crate) struct Telling {
     /// The faults, in the order in which they were found.
-    pub told: Vec<Told>,
-    /// Why no more are told.
+    pub reported: Vec<Reported>,
+    /// Why no more are reported.
     pub ending: Ending,
 }
 
-/// What a text comes to.
+/// What a text gives next: a fault, or an end.
 #[derive(Drop)]
 enum Next {
     /// It reads as a sheet.
     Reads(Reading),
     /// It has a fault.
-    Fault(Told),
+    Fault(Reported),
 }
 
-/// Above this many bytes of a statement, nothing is asked of what may come after them.
+/// Above this many bytes of a statement, nothing is tested of what may come after them.
 const LONG_STATEMENT: usize = 65_536;
 
 /// The text from the line of the offset `first` up to the offset `at`, as a text of its own.
@@ -129,14 +129,14 @@ fn lines_to_blank(alloc: Global, text: &[u8], fault: ReadFault) -> Result<Lines,
 }
 
 /// The fault of the text, with what people need to know of it.
-fn told_of(alloc: Global, text: &[u8], fault: ReadFault) -> Result<Told, AllocError>
+fn reported_of(alloc: Global, text: &[u8], fault: ReadFault) -> Result<Reported, AllocError>
     requires { IsReadFault text.now fault }
-    ensures { IfOk result (IsTold text.now) }
+    ensures { IfOk result (IsReported text.now) }
 {
     let lines = lines_to_blank(alloc, text, fault)?;
     let wanted = wanted_at(alloc, text, fault, lines)?;
     let hint = hint_for(text, fault, lines);
-    Ok(Told {
+    Ok(Reported {
         fault,
         lines,
         wanted,
@@ -145,63 +145,63 @@ fn told_of(alloc: Global, text: &[u8], fault: ReadFault) -> Result<Told, AllocEr
 }
 
 /// What the text reads as, or its fault with what people need to know of it.
-fn told_next(alloc: Global, text: &[u8]) -> Result<Next, AllocError>
+fn reported_next(alloc: Global, text: &[u8]) -> Result<Next, AllocError>
     ensures { IfOk result (IsNext text.now) }
 {
     match read(alloc, text) {
         Ok(reading) => Ok(Next::Reads(reading)),
         Err(fault) => match fault.code {
             ReadCode::Memory => Err(AllocError),
-            _ => Ok(Next::Fault(told_of(alloc, text, fault)?)),
+            _ => Ok(Next::Fault(reported_of(alloc, text, fault)?)),
         },
     }
 }
 
 /// Whether a text of this size is too long to be read once more after this many faults.
-fn is_long(size: usize, told: usize) -> bool
-    ensures { IsTrue result ↔ (BYTES_READ_AGAIN < told * size) }
+fn is_long(size: usize, reported: usize) -> bool
+    ensures { IsTrue result ↔ (BYTES_READ_AGAIN < reported * size) }
 {
-    told.saturating_mul(size) > BYTES_READ_AGAIN
+    reported.saturating_mul(size) > BYTES_READ_AGAIN
 }
 
 /// The faults of the text: its fault, then that of the text with the lines of this fault blanked, and so on, until what
-/// is left reads as a sheet, or [`FAULTS_TOLD`] are told, or the text would be read again for more than
+/// is left reads as a sheet, or [`FAULTS_REPORTED`] are reported, or the text would be read again for more than
 /// [`BYTES_READ_AGAIN`], or all up to the last fault is blank already. The error is out of memory.
-pub(crate) fn told_faults(alloc: Global, source: &[u8]) -> Result<Telling, AllocError>
+pub(crate) fn reported_faults(alloc: Global, source: &[u8]) -> Result<Telling, AllocError>
     ensures { IfOk result (IsTelling source.now) }
 {
-    let mut told = Vec::new(alloc);
+    let mut reported = Vec::new(alloc);
     let mut text = Vec::from_slice(alloc, source)?;
-    for count in 0..FAULTS_TOLD {
+    for count in 0..FAULTS_REPORTED {
         if is_long(source.len(), count) {
             let ending = Ending::Long;
-            return Ok(Telling { told, ending });
+            return Ok(Telling { reported, ending });
         }
-        match told_next(alloc, &text)? {
+        match reported_next(alloc, &text)? {
             Next::Reads(reading) => {
                 let ending = Ending::Reads(reading);
-                return Ok(Telling { told, ending });
+                return Ok(Telling { reported, ending });
             }
             Next::Fault(fault) => {
                 let Lines { first, last } = fault.lines;
                 let rest = blanked(alloc, &text, first, last)?;
-                told.push(fault)?;
+                reported.push(fault)?;
                 let same = rest == text;
                 if same {
                     let ending = Ending::Unchanged;
-                    return Ok(Telling { told, ending });
+                    return Ok(Telling { reported, ending });
                 }
                 text = rest;
             }
         }
     }
     let ending = Ending::Many;
-    Ok(Telling { told, ending })
+    Ok(Telling { reported, ending })
 }
 
-impl Drop for Told {
+impl Drop for Reported {
     fn drop(self) {
-        let Told {
+        let Reported {
             fault: _fault,
             lines: _lines,
             wanted: _wanted,
@@ -213,7 +213,7 @@ impl Drop for Told {
 impl Drop for Telling {
     fn drop(self) {
         let Telling {
-            told: _told,
+            reported: _reported,
             ending: _ending,
         } = self;
     }

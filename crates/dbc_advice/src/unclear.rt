@@ -1,6 +1,7 @@
-//! What is said of messages that aren't clear.
+//! What is stated of messages that aren't clear.
 ghost use Rattle.std.specs.Prelude.{◌≡◌, ◌++◌, IfOk, codes, string_bytes};
-ghost use Rattle.dbc_advice.specs.Unclear.{bit_text, clash_text, message_text, name_at, outside_text, pair_text, reason_text, share_text};
+ghost use Rattle.dbc_advice.specs.Unclear.{bit_text, clash_text, message_text, name_at, outside_text, pair_text};
+ghost use Rattle.dbc_advice.specs.Unclear.{reason_text, share_text};
 
 use crate::joined::{three, two};
 use crate::reasons::Reason;
@@ -51,7 +52,7 @@ fn outside_text(alloc: Global, message: &Message) -> Result<Vec<u8>, AllocError>
     Ok(text)
 }
 
-/// What is said of a signal that leaves the payload.
+/// What is stated of a signal that leaves the payload.
 fn leaving_text(
     alloc: Global,
     message: &Message,
@@ -74,7 +75,9 @@ fn signal_text(
     index: usize,
     words: &[u8],
 ) -> Result<Vec<u8>, AllocError>
-    ensures { IfOk result (λ text. text.items ≡ codes "signal " ++ (name_at message.now.signals index ++ (words.now ++ message_text message.now))) }
+    ensures { IfOk result
+        (λ text. text.items
+        ≡ codes "signal " ++ (name_at message.now.signals index ++ (words.now ++ message_text message.now))) }
 {
     let mut text = Vec::from_slice(alloc, b"signal ")?;
     text.extend_from_slice(name_at(message.signals.as_slice(), index))?;
@@ -108,7 +111,7 @@ fn share_text(alloc: Global, bit: Option<u32>) -> Result<Vec<u8>, AllocError>
     Ok(text)
 }
 
-/// What is said of two signals that share a bit.
+/// What is stated of two signals that share a bit.
 fn overlap_text(
     alloc: Global,
     message: &Message,
@@ -126,8 +129,8 @@ fn overlap_text(
     Ok(text)
 }
 
-/// What is said of a reason why the message isn't clear: both signals' names and the first shared bit, or the first bit
-/// outside the payload; and the message's name and identifier, in hexadecimal digits. The error is out of memory.
+/// What is stated of a reason why the message isn't clear: both signals' names and the first shared bit, or the first
+/// bit outside the payload; and the message's name and identifier, in hexadecimal digits. The error is out of memory.
 pub(crate) fn reason_text(
     alloc: Global,
     message: &Message,

@@ -35,7 +35,7 @@ fn is_wanted(
 ) -> Result<bool, AllocError>
     ensures { IfOk result (λ is. OnTrue is (MayBeThere before.now candidate)) }
 {
-    if is_told(candidate, wanted) {
+    if is_reported(candidate, wanted) {
         Ok(false)
     } else {
         may_be_there(alloc, before, candidate)
@@ -43,8 +43,8 @@ fn is_wanted(
 }
 
 /// Whether one of these tells the kind too.
-fn is_told(candidate: Candidate, wanted: &[Candidate]) -> bool {
-    wanted.iter().any(|other| candidate.is_told_by(*other))
+fn is_reported(candidate: Candidate, wanted: &[Candidate]) -> bool {
+    wanted.iter().any(|other| candidate.is_reported_by(*other))
 }
 
 /// The kinds of which a token may come after the text, in the table's order, without those that another one tells too.

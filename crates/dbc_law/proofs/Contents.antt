@@ -3,7 +3,7 @@
 use Rattle.std.proofs.Common.{◌==◌, ℕ, List, [], ◌∷◌, ◌++◌, map, Some, if◌then◌else◌}
 use Rattle.std.specs.List.{flat_map}
 use Rattle.catalogue.specs.Messages.{number_of}
-use Rattle.catalogue.specs.Statement.{
+use Rattle.dbc_grammar.specs.Statement.{
   Content,
   VersionIs,
   NodesAre,

@@ -2,8 +2,8 @@
 use Rattle.std.specs.Prelude.{codes, Bool, List, [], ◌∷◌, ℕ, unsigned_abs, if◌then◌else◌}
 use Rattle.decimal.specs.Number.{Number}
 use Rattle.decimal.specs.Printing.{unsigned_text}
-use Rattle.catalogue.specs.Canon.{Piece, mark, tight}
-use Rattle.catalogue.specs.declared.token.TokenKind.TheVariants as kind
+use Rattle.dbc_grammar.specs.Canon.{Piece, mark, tight}
+use Rattle.dbc_grammar.specs.declared.token.TokenKind.TheVariants as kind
 
 abbrev pub digits : Number → List ℕ
 digits n = unsigned_text (unsigned_abs n.mantissa) n.exponent

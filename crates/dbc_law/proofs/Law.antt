@@ -1,11 +1,11 @@
 -- The canonical text of a sheet has tokens, these divide into statements, and the statements say the sheet.
 use Rattle.std.proofs.Common.{refl}
-use Rattle.catalogue.specs.Canon.{canonical_text}
+use Rattle.dbc_grammar.specs.Canon.{canonical_text}
 use Rattle.catalogue.specs.Form.{IsSheet}
-use Rattle.catalogue.specs.Reads.{Reads, ReadsAsOneAtMost}
-use Rattle.catalogue.specs.Saying.{passed_by}
+use Rattle.dbc_grammar.specs.Reads.{Reads, ReadsAsOneAtMost}
+use Rattle.dbc_grammar.specs.Saying.{passed_by}
 use Rattle.catalogue.specs.declared.sheet.Sheet.{Sheet}
-use Rattle.catalogue.proofs.OneReading.{reads_only}
+use Rattle.dbc_grammar.proofs.OneReading.{reads_only}
 use Rattle.dbc_law.specs.Law.{GrammarLaw}
 use Rattle.dbc_law.proofs.Saying.{contents_say}
 use Rattle.dbc_law.proofs.Statements.{lines_divide}

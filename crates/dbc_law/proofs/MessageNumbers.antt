@@ -3,11 +3,11 @@ use Rattle.std.proofs.Common.{◌≡◌, ◌<◌, ◌^◌, Some, refl, arith}
 use Rattle.can_id.specs.Ident.{IsIdentifier, dbc_number}
 use Rattle.can_id.specs.declared.ident.Ident.{Ident}
 use Rattle.can_id.specs.declared.ident.Ident.TheVariants.{Std, Ext}
-use Rattle.catalogue.specs.Fields.{ident_of}
+use Rattle.dbc_grammar.specs.Fields.{ident_of}
 use Rattle.catalogue.specs.Form.{IsMessage}
 use Rattle.catalogue.specs.Messages.{number_of}
 use Rattle.catalogue.specs.declared.message.Message.{Message}
-use Rattle.catalogue.proofs.Identifiers.{numbers_are_identifiers}
+use Rattle.dbc_grammar.proofs.Identifiers.{numbers_are_identifiers}
 
 pub number_ident : (m : Message) → IsMessage m → ident_of (number_of m) ≡ Some m.ident
 number_ident m h = (numbers_are_identifiers (number_of m) m.ident).1 (h.ident, refl)

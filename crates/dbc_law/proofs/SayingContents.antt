@@ -2,8 +2,8 @@
 use Rattle.std.proofs.Common.{◌≡◌, ◌∙◌, List, [], ◌∷◌, ◌++◌, Option, None, Some, refl, ap}
 use Rattle.std.specs.List.{cons_option, filter_map}
 use Rattle.std.proofs.lemmas.List.Elements.{filter_map-append}
-use Rattle.catalogue.specs.Saying.{each_in}
-use Rattle.catalogue.specs.Statement.{Content, Statement}
+use Rattle.dbc_grammar.specs.Saying.{each_in}
+use Rattle.dbc_grammar.specs.Statement.{Content, Statement}
 use Rattle.dbc_law.proofs.Contents.{contents_of}
 
 -- of this kind the contents say these

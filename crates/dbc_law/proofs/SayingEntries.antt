@@ -3,13 +3,13 @@ use Rattle.std.proofs.Common.{◌≡◌, ◌==◌, ◌++◌, ℕ, Bool, true, fa
 use Rattle.std.specs.List.{flat_map}
 use Rattle.std.proofs.lemmas.Bool.Decides.{nat_tests}
 use Rattle.std.proofs.lemmas.List.Elements.{filter-append}
-use Rattle.catalogue.specs.Statement.{Content, ValueTextsAre}
+use Rattle.dbc_grammar.specs.Statement.{Content, ValueTextsAre}
 use Rattle.catalogue.specs.ValueType.{value_type_number}
 use Rattle.catalogue.specs.declared.value_texts.ValueText.{ValueText}
 use Rattle.catalogue.specs.declared.value_type.ValueType.{ValueType}
 use Rattle.catalogue.specs.declared.value_type.ValueType.TheVariants.{Integer, Float, Double}
-use Rattle.catalogue.proofs.EachSaid.{kept_entries}
-use Rattle.catalogue.proofs.SheetSaid.{entries, part_entries}
+use Rattle.dbc_grammar.proofs.EachStated.{kept_entries}
+use Rattle.dbc_grammar.proofs.SheetStated.{entries, part_entries}
 use Rattle.dbc_law.proofs.Contents.{comments, texts}
 use Rattle.dbc_law.proofs.SayingContents.{Tell, ◌also◌, no_contents, speaks, tell_same}
 

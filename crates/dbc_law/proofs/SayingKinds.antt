@@ -2,15 +2,15 @@
 use Rattle.std.proofs.Common.{◌≡◌, ◌∙◌, ◌++◌, List, [], ◌∷◌, map, Option, refl, ap, append-nil}
 use Rattle.std.specs.List.{filter_map, flat_map}
 use Rattle.catalogue.specs.Messages.{number_of}
-use Rattle.catalogue.specs.Saying.{version_in, comment_in, nodes_in, table_in, message_in, node_comment_in, message_comment_in, signal_comment_in, value_texts_in, value_type_in, spn_in}
+use Rattle.dbc_grammar.specs.Saying.{version_in, comment_in, nodes_in, table_in, message_in, node_comment_in, message_comment_in, signal_comment_in, value_texts_in, value_type_in, spn_in}
 use Rattle.catalogue.specs.Sheet.{node_name}
-use Rattle.catalogue.specs.Statement.{Content, CommentIs}
+use Rattle.dbc_grammar.specs.Statement.{Content, CommentIs}
 use Rattle.catalogue.specs.declared.message.Message.{Message}
 use Rattle.catalogue.specs.declared.node.Node.{Node}
 use Rattle.catalogue.specs.declared.sheet.Sheet.{Sheet}
 use Rattle.catalogue.specs.declared.signal.Signal.{Signal}
-use Rattle.catalogue.proofs.EachSaid.{kept_entries}
-use Rattle.catalogue.proofs.SheetSaid.{entries, message_signals, part_entries, signal_key}
+use Rattle.dbc_grammar.proofs.EachStated.{kept_entries}
+use Rattle.dbc_grammar.proofs.SheetStated.{entries, message_signals, part_entries, signal_key}
 use Rattle.dbc_law.proofs.Contents.{comments, contents, each_signal, message, message_comments, message_line, node_comments, node_names, sections, spns, table, value_texts, value_types, with_spn_definitions}
 use Rattle.dbc_law.proofs.SayingContents.{Tell, ◌also◌}
 use Rattle.dbc_law.proofs.SayingEntries.{some_number, some_of, some_type}

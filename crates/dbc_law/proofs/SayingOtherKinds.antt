@@ -2,7 +2,7 @@
 use Rattle.std.proofs.Common.{◌≡◌, ◌==◌, ℕ, Bool, true, false, List, [], ◌∷◌, map, Option, None, Some, if◌then◌else◌}
 use Rattle.std.specs.List.{flat_map}
 use Rattle.catalogue.specs.Messages.{number_of}
-use Rattle.catalogue.specs.Statement.{
+use Rattle.dbc_grammar.specs.Statement.{
   Cited,
   Content,
   TableIs,

@@ -2,17 +2,17 @@
 use Rattle.std.proofs.Common.{◌==◌, Bool, List, [], ◌∷◌, map, Option, Some, refl, append-nil}
 use Rattle.std.specs.List.{flat_map}
 use Rattle.catalogue.specs.Messages.{number_of}
-use Rattle.catalogue.specs.Saying.{SignalKey, table_in, message_in, node_comment_in, message_comment_in, signal_comment_in, value_texts_in, value_type_in, spn_in}
+use Rattle.dbc_grammar.specs.Saying.{SignalKey, table_in, message_in, node_comment_in, message_comment_in, signal_comment_in, value_texts_in, value_type_in, spn_in}
 use Rattle.catalogue.specs.Sheet.{node_name}
-use Rattle.catalogue.specs.Statement.{Content, NodeCommentIs, MessageCommentIs, SignalCommentIs, ValueTypeIs, SpnIs}
+use Rattle.dbc_grammar.specs.Statement.{Content, NodeCommentIs, MessageCommentIs, SignalCommentIs, ValueTypeIs, SpnIs}
 use Rattle.catalogue.specs.ValueType.{value_type_number}
 use Rattle.catalogue.specs.declared.message.Message.{Message}
 use Rattle.catalogue.specs.declared.node.Node.{Node}
 use Rattle.catalogue.specs.declared.sheet.Sheet.{Sheet}
 use Rattle.catalogue.specs.declared.signal.Signal.{Signal}
 use Rattle.catalogue.specs.declared.value_table.ValueTable.{ValueTable}
-use Rattle.catalogue.proofs.EachSaid.{kept_entries}
-use Rattle.catalogue.proofs.SheetSaid.{entries, message_signals, part_entries, signal_key}
+use Rattle.dbc_grammar.proofs.EachStated.{kept_entries}
+use Rattle.dbc_grammar.proofs.SheetStated.{entries, message_signals, part_entries, signal_key}
 use Rattle.dbc_law.proofs.Contents.{each_signal, message, message_comments, message_line, node_comments, signal_comments, spns, table, value_texts, value_types, with_spn_definitions}
 use Rattle.dbc_law.proofs.SayingContents.{Tell, ◌also◌, no_contents, speaks, tell_same}
 use Rattle.dbc_law.proofs.SayingEntries.{chosen_tells, comment_tells, each_tells, entry, parts_tell, some_number, some_of, some_type, texts_tell}

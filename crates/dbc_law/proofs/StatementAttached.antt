@@ -3,14 +3,14 @@ use Rattle.std.proofs.Common.{◌≡◌, ◌++◌, ◌==◌, ℕ, Bool, true, fa
 use Rattle.std.specs.Prelude.{codes}
 use Rattle.std.specs.List.{All, flat_map}
 use Rattle.std.proofs.lemmas.List.{length-append}
-use Rattle.catalogue.specs.Canon as canon
-use Rattle.catalogue.specs.Fields.{type_of}
+use Rattle.dbc_grammar.specs.Canon as canon
+use Rattle.dbc_grammar.specs.Fields.{type_of}
 use Rattle.catalogue.specs.Form.{IsMessage, IsSheet, IsSignal, IsValueText}
-use Rattle.catalogue.specs.Grammar as grammar
+use Rattle.dbc_grammar.specs.Grammar as grammar
 use Rattle.catalogue.specs.Limits.{spn_limit}
 use Rattle.catalogue.specs.Messages.{number_of}
-use Rattle.catalogue.specs.Statement.{Content, PassedOver, SpnIs, ValueTextsAre, ValueTypeIs}
-use Rattle.catalogue.specs.Token.{Token}
+use Rattle.dbc_grammar.specs.Statement.{Content, PassedOver, SpnIs, ValueTextsAre, ValueTypeIs}
+use Rattle.dbc_grammar.specs.Token.{Token}
 use Rattle.catalogue.specs.ValueType.{value_type_number}
 use Rattle.catalogue.specs.declared.keyword.Keyword.TheVariants as keyword
 use Rattle.catalogue.specs.declared.message.Message.{Message}

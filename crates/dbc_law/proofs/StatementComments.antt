@@ -1,12 +1,12 @@
 -- The lines of comments are statements.
 use Rattle.std.proofs.Common.{◌++◌, ℕ, List, [], ◌∷◌, Some, refl, inl, inr}
 use Rattle.std.specs.Prelude.{codes}
-use Rattle.catalogue.specs.Canon as canon
+use Rattle.dbc_grammar.specs.Canon as canon
 use Rattle.catalogue.specs.Form.{IsMessage, IsSignal}
-use Rattle.catalogue.specs.Grammar as grammar
+use Rattle.dbc_grammar.specs.Grammar as grammar
 use Rattle.catalogue.specs.Messages.{number_of}
-use Rattle.catalogue.specs.Statement.{CommentIs, Content, MessageCommentIs, NodeCommentIs, SignalCommentIs}
-use Rattle.catalogue.specs.Token.{Token}
+use Rattle.dbc_grammar.specs.Statement.{CommentIs, Content, MessageCommentIs, NodeCommentIs, SignalCommentIs}
+use Rattle.dbc_grammar.specs.Token.{Token}
 use Rattle.catalogue.specs.declared.keyword.Keyword.TheVariants as keyword
 use Rattle.catalogue.specs.declared.message.Message.{Message}
 use Rattle.catalogue.specs.declared.node.Node.{Node}

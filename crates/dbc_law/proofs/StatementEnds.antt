@@ -4,17 +4,17 @@ use Rattle.std.specs.Prelude.{codes}
 use Rattle.std.specs.Str.{bytes_eq}
 use Rattle.std.proofs.lemmas.Bool.{and_left, and_parts, and_right, false_from_ne_true, false≢true, not_from_true}
 use Rattle.std.proofs.lemmas.Slice.Eq.{bytes_eq-Decides}
-use Rattle.catalogue.specs.Canon.{space, word}
-use Rattle.catalogue.specs.Fields.{is_key, key_of}
-use Rattle.catalogue.specs.Grammar.{next}
+use Rattle.dbc_grammar.specs.Canon.{space, word}
+use Rattle.dbc_grammar.specs.Fields.{is_key, key_of}
+use Rattle.dbc_grammar.specs.Grammar.{next}
 use Rattle.catalogue.specs.Keyword.{is_keyword}
 use Rattle.catalogue.specs.Limits.{name_limit}
 use Rattle.catalogue.specs.Name.{is_c_identifier, is_name, no_node}
-use Rattle.catalogue.specs.Token.{Token}
+use Rattle.dbc_grammar.specs.Token.{Token}
 use Rattle.catalogue.specs.declared.keyword.Keyword.TheVariants.{Signal}
-use Rattle.catalogue.specs.declared.token.TokenKind.TheVariants.{Name}
-use Rattle.catalogue.proofs.ExactFields.{kind_is}
-use Rattle.catalogue.proofs.ExactLines.{next_name}
+use Rattle.dbc_grammar.specs.declared.token.TokenKind.TheVariants.{Name}
+use Rattle.dbc_grammar.proofs.ExactFields.{kind_is}
+use Rattle.dbc_grammar.proofs.ExactLines.{next_name}
 use Rattle.dbc_law.proofs.PieceTokens.{token_of}
 use Rattle.dbc_law.proofs.StatementNodes.{EndsList}
 

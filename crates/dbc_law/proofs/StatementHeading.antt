@@ -3,12 +3,12 @@ use Rattle.std.proofs.Common.{◌≡◌, ◌∙◌, ℕ, true, List, [], ◌∷�
 use Rattle.std.specs.Prelude.{codes}
 use Rattle.std.specs.List.{All, flat_map}
 use Rattle.std.proofs.lemmas.List.Elements.{All-head, All-tail, All-weaker}
-use Rattle.catalogue.specs.Canon as canon
+use Rattle.dbc_grammar.specs.Canon as canon
 use Rattle.catalogue.specs.Form.{IsNode, IsSheet, IsTable}
-use Rattle.catalogue.specs.Grammar as grammar
+use Rattle.dbc_grammar.specs.Grammar as grammar
 use Rattle.catalogue.specs.Sheet.{node_name}
-use Rattle.catalogue.specs.Statement.{Dropped, NodesAre, VersionIs}
-use Rattle.catalogue.specs.Token.{Token}
+use Rattle.dbc_grammar.specs.Statement.{Dropped, NodesAre, VersionIs}
+use Rattle.dbc_grammar.specs.Token.{Token}
 use Rattle.catalogue.specs.declared.keyword.Keyword.TheVariants as keyword
 use Rattle.catalogue.specs.declared.node.Node.{Node}
 use Rattle.catalogue.specs.declared.sheet.Sheet.{Sheet}

@@ -3,14 +3,14 @@ use Rattle.std.proofs.Common.{◌≡◌, ◌++◌, ◌∙◌, Bool, true, false,
 use Rattle.std.specs.List.{All, flat_map}
 use Rattle.std.specs.Option.{option_map}
 use Rattle.std.proofs.lemmas.List.Elements.{All-head, All-tail}
-use Rattle.catalogue.specs.Canon.{Line, Piece, tight, word}
-use Rattle.catalogue.specs.Grammar as grammar
+use Rattle.dbc_grammar.specs.Canon.{Line, Piece, tight, word}
+use Rattle.dbc_grammar.specs.Grammar as grammar
 use Rattle.catalogue.specs.Keyword.{keyword_text}
-use Rattle.catalogue.specs.Rules.{Rule, many}
-use Rattle.catalogue.specs.Statement.{Content, Statement}
-use Rattle.catalogue.specs.Token.{Token}
+use Rattle.dbc_grammar.specs.Rules.{Rule, many}
+use Rattle.dbc_grammar.specs.Statement.{Content, Statement}
+use Rattle.dbc_grammar.specs.Token.{Token}
 use Rattle.catalogue.specs.declared.keyword.Keyword.{Keyword}
-use Rattle.catalogue.proofs.ExactStatements.{keyword_back}
+use Rattle.dbc_grammar.proofs.ExactStatements.{keyword_back}
 use Rattle.dbc_law.proofs.PieceTokens.{Front, line, lines, many_append, many_parts, token_of}
 use Rattle.dbc_law.proofs.StatementRules.{chain, finish}
 

@@ -2,15 +2,15 @@
 use Rattle.std.proofs.Common.{◌≡◌, ◌∙◌, ℕ, true, List, [], ◌∷◌, map, Option, Some, None, IfSome, unwrap_or, refl, sym, ap, inl, arith}
 use Rattle.std.specs.List.{All, flat_map}
 use Rattle.std.proofs.lemmas.List.Elements.{All-head, All-tail}
-use Rattle.catalogue.specs.Canon as canon
-use Rattle.catalogue.specs.Fields.{goes_on, message_ident, node_of, signal}
+use Rattle.dbc_grammar.specs.Canon as canon
+use Rattle.dbc_grammar.specs.Fields.{goes_on, message_ident, node_of, signal}
 use Rattle.catalogue.specs.Form.{IsMessage, IsSignal}
-use Rattle.catalogue.specs.Grammar as grammar
+use Rattle.dbc_grammar.specs.Grammar as grammar
 use Rattle.catalogue.specs.Limits.{length_limit}
 use Rattle.catalogue.specs.Messages.{number_of}
 use Rattle.catalogue.specs.Name.{IsName, no_node}
-use Rattle.catalogue.specs.Rules.{many}
-use Rattle.catalogue.specs.Token.{Token}
+use Rattle.dbc_grammar.specs.Rules.{many}
+use Rattle.dbc_grammar.specs.Token.{Token}
 use Rattle.catalogue.specs.declared.keyword.Keyword.TheVariants as keyword
 use Rattle.catalogue.specs.declared.message.Message.{Message}
 use Rattle.catalogue.specs.declared.signal.Signal.{Signal}

@@ -5,11 +5,11 @@ use Rattle.std.specs.List.{All, flat_map}
 use Rattle.std.proofs.lemmas.Bool.{or_parts}
 use Rattle.std.proofs.lemmas.List.{map-id}
 use Rattle.std.proofs.lemmas.List.Elements.{All-head, All-tail}
-use Rattle.catalogue.specs.Canon as canon
-use Rattle.catalogue.specs.Fields.{further, goes_on, no_names, node_of, nodes, some_names}
+use Rattle.dbc_grammar.specs.Canon as canon
+use Rattle.dbc_grammar.specs.Fields.{further, goes_on, no_names, node_of, nodes, some_names}
 use Rattle.catalogue.specs.Name.{IsName}
-use Rattle.catalogue.specs.Rules.{begins, many}
-use Rattle.catalogue.specs.Token.{Token}
+use Rattle.dbc_grammar.specs.Rules.{begins, many}
+use Rattle.dbc_grammar.specs.Token.{Token}
 use Rattle.dbc_law.proofs.PieceTokens.{line}
 use Rattle.dbc_law.proofs.StatementRules.{chain, finish, past, read, then_followed}
 use Rattle.dbc_law.proofs.StatementWords.{says_node}

@@ -8,12 +8,12 @@ use Rattle.bitlayout.specs.declared.layout.Order.TheVariants.{Intel, Motorola}
 use Rattle.bitlayout.specs.Order.{order_number}
 use Rattle.bitlayout.specs.declared.place.Mux.{Mux}
 use Rattle.bitlayout.specs.declared.place.Mux.TheVariants.{Always, Multiplexor, Under}
-use Rattle.catalogue.specs.Canon as canon
-use Rattle.catalogue.specs.Fields.{layout, mux_of, order_of, sign_of, signal, size_of}
+use Rattle.dbc_grammar.specs.Canon as canon
+use Rattle.dbc_grammar.specs.Fields.{layout, mux_of, order_of, sign_of, signal, size_of}
 use Rattle.catalogue.specs.Form.{IsLayout, IsMux, IsSignal}
 use Rattle.catalogue.specs.Limits.{size_limit, start_limit}
-use Rattle.catalogue.specs.Rules.{optional, token}
-use Rattle.catalogue.specs.Token.{Token}
+use Rattle.dbc_grammar.specs.Rules.{optional, token}
+use Rattle.dbc_grammar.specs.Token.{Token}
 use Rattle.catalogue.specs.declared.signal.Signal.{Signal}
 use Rattle.dbc_law.proofs.Contents.{signal_line}
 use Rattle.dbc_law.proofs.PieceTokens.{line, token_of}

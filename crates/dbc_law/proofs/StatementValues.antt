@@ -4,11 +4,11 @@ use Rattle.std.specs.Int.{is_negative}
 use Rattle.std.specs.List.{All, flat_map}
 use Rattle.std.proofs.lemmas.List.Elements.{All-head, All-tail}
 use Rattle.decimal.specs.Number.{IsDecimal, Number}
-use Rattle.catalogue.specs.Canon as canon
-use Rattle.catalogue.specs.Fields.{decimal, entry, pair}
+use Rattle.dbc_grammar.specs.Canon as canon
+use Rattle.dbc_grammar.specs.Fields.{decimal, entry, pair}
 use Rattle.catalogue.specs.Form.{IsValueText}
-use Rattle.catalogue.specs.Rules.{many}
-use Rattle.catalogue.specs.Token.{Token}
+use Rattle.dbc_grammar.specs.Rules.{many}
+use Rattle.dbc_grammar.specs.Token.{Token}
 use Rattle.catalogue.specs.declared.value_texts.ValueText.{ValueText}
 use Rattle.dbc_law.proofs.DecimalPieces.{signed_pieces}
 use Rattle.dbc_law.proofs.PieceTokens.{line}

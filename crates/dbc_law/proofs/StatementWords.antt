@@ -13,18 +13,18 @@ use Rattle.decimal.specs.Number.{IsDecimal, Number}
 use Rattle.decimal.specs.Reading.{reading}
 use Rattle.decimal.proofs.ReadsBack.{text_reads}
 use Rattle.decimal.proofs.Computed.{read_is_reading}
-use Rattle.catalogue.specs.Canon.{mark, number, quoted, space, word}
-use Rattle.catalogue.specs.Fields.{cited_number, is_mark, made_name, node_of, number_of as decimal_of, text_of, whole_where}
+use Rattle.dbc_grammar.specs.Canon.{mark, number, quoted, space, word}
+use Rattle.dbc_grammar.specs.Fields.{cited_number, is_mark, made_name, node_of, number_of as decimal_of, text_of, whole_where}
 use Rattle.catalogue.specs.Form.{IsMessage}
 use Rattle.catalogue.specs.Keyword.{is_keyword}
 use Rattle.catalogue.specs.Messages.{number_of}
 use Rattle.catalogue.specs.Limits.{name_limit}
 use Rattle.catalogue.specs.Name.{IsName, is_c_identifier, is_name, no_node}
-use Rattle.catalogue.specs.Rules.{only}
+use Rattle.dbc_grammar.specs.Rules.{only}
 use Rattle.catalogue.specs.WholeNumber.{is_numeral, whole_of}
 use Rattle.catalogue.specs.declared.message.Message.{Message}
-use Rattle.catalogue.proofs.SheetSaid.{bytes_itself}
-use Rattle.catalogue.proofs.TokenTexts.{inside_kept}
+use Rattle.dbc_grammar.proofs.SheetStated.{bytes_itself}
+use Rattle.dbc_grammar.proofs.TokenTexts.{inside_kept}
 use Rattle.catalogue.proofs.WholeNumbers.{numeral, whole_of-is}
 use Rattle.dbc_law.proofs.DecimalPieces.{digits, digits_piece}
 use Rattle.dbc_law.proofs.MessageNumbers.{number_small}

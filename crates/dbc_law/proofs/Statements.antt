@@ -1,12 +1,12 @@
 -- The tokens of the lines of a sheet's canonical text divide into statements with its contents.
 use Rattle.std.proofs.Common.{◌≡◌, List, [], ◌∷◌, refl}
-use Rattle.catalogue.specs.Canon as canon
-use Rattle.catalogue.specs.Division.{Divides}
+use Rattle.dbc_grammar.specs.Canon as canon
+use Rattle.dbc_grammar.specs.Division.{Divides}
 use Rattle.catalogue.specs.Form.{IsMessage, IsNode, IsSheet}
-use Rattle.catalogue.specs.Grammar as grammar
-use Rattle.catalogue.specs.Rules.{many}
-use Rattle.catalogue.specs.Statement.{Content, Statement}
-use Rattle.catalogue.specs.Token.{Token}
+use Rattle.dbc_grammar.specs.Grammar as grammar
+use Rattle.dbc_grammar.specs.Rules.{many}
+use Rattle.dbc_grammar.specs.Statement.{Content, Statement}
+use Rattle.dbc_grammar.specs.Token.{Token}
 use Rattle.catalogue.specs.declared.sheet.Sheet.{Sheet}
 use Rattle.dbc_law.proofs.Contents as sheet_contents
 use Rattle.dbc_law.proofs.PieceTokens.{lines}

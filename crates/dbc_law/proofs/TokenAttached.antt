@@ -2,7 +2,7 @@
 use Rattle.std.proofs.Common.{◌<◌, ◌^◌, ◌==◌, List, [], ◌∷◌, refl, arith}
 use Rattle.std.specs.List.{All, flat_map}
 use Rattle.std.specs.Prelude.{codes}
-use Rattle.catalogue.specs.Canon.{Line, each_signal, mark, number, space, spn_definitions, spn_lines, tight, type_lines, value_lines, with_spn_definitions}
+use Rattle.dbc_grammar.specs.Canon.{Line, each_signal, mark, number, space, spn_definitions, spn_lines, tight, type_lines, value_lines, with_spn_definitions}
 use Rattle.catalogue.specs.Form.{IsMessage, IsSheet, IsSignal, IsValueText}
 use Rattle.catalogue.specs.Limits.{spn_limit}
 use Rattle.catalogue.specs.Text.{IsText}

@@ -1,6 +1,6 @@
 -- The lines of comments are legible.
 use Rattle.std.proofs.Common.{ℕ, List, [], ◌∷◌}
-use Rattle.catalogue.specs.Canon.{Piece, comment_lines, message_comments, node_comment, signal_pieces}
+use Rattle.dbc_grammar.specs.Canon.{Piece, comment_lines, message_comments, node_comment, signal_pieces}
 use Rattle.catalogue.specs.Form.{IsMessage, IsNode, IsSignal}
 use Rattle.catalogue.specs.Messages.{number_of}
 use Rattle.catalogue.specs.Text.{IsText}

@@ -2,15 +2,15 @@
 use Rattle.std.proofs.Common.{◌≡◌, ℕ, ◌+◌, false, List, [], ◌∷◌, ◌++◌, length, drop, Some, sym, ap, subst, ◌∙◌, append_assoc, arith}
 use Rattle.std.specs.Option.{option_map}
 use Rattle.std.proofs.lemmas.List.{length-append}
-use Rattle.catalogue.specs.Lexing.{inside_len, word_len}
-use Rattle.catalogue.specs.Spelling.{Spells}
-use Rattle.catalogue.specs.Tokens.{IsLongest}
-use Rattle.catalogue.specs.declared.token.TokenKind.{TokenKind}
-use Rattle.catalogue.specs.declared.token.TokenKind.TheVariants.{Name, Number, Text, Mark}
+use Rattle.dbc_grammar.specs.Lexing.{inside_len, word_len}
+use Rattle.dbc_grammar.specs.Spelling.{Spells}
+use Rattle.dbc_grammar.specs.Tokens.{IsLongest}
+use Rattle.dbc_grammar.specs.declared.token.TokenKind.{TokenKind}
+use Rattle.dbc_grammar.specs.declared.token.TokenKind.TheVariants.{Name, Number, Text, Mark}
 use Rattle.catalogue.proofs.Texts.{text-Decides}
-use Rattle.catalogue.proofs.TokenBytes.{spelling_begins}
-use Rattle.catalogue.proofs.TokenTexts.{inside_exact}
-use Rattle.catalogue.proofs.TokenWords.{IsFound, longest_of_all, word_found}
+use Rattle.dbc_grammar.proofs.TokenBytes.{spelling_begins}
+use Rattle.dbc_grammar.proofs.TokenTexts.{inside_exact}
+use Rattle.dbc_grammar.proofs.TokenWords.{IsFound, longest_of_all, word_found}
 use Rattle.dbc_law.proofs.TokenLengths.{Breaks, name_exact, number_exact}
 
 -- a spelling of the kind ends before the bytes: names and numbers need it, texts and marks end by themselves

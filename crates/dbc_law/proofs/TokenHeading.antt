@@ -2,7 +2,7 @@
 use Rattle.std.proofs.Common.{List, [], ◌∷◌, map, refl}
 use Rattle.std.specs.List.{All}
 use Rattle.std.proofs.lemmas.List.Elements.{All-head, All-tail}
-use Rattle.catalogue.specs.Canon.{entries, entry, nodes_line, space, symbols_line, table_line, timing_line, version_line, word}
+use Rattle.dbc_grammar.specs.Canon.{entries, entry, nodes_line, space, symbols_line, table_line, timing_line, version_line, word}
 use Rattle.catalogue.specs.Form.{IsNode, IsSheet, IsTable, IsValueText}
 use Rattle.catalogue.specs.declared.keyword.Keyword.TheVariants as keyword
 use Rattle.catalogue.specs.declared.node.Node.{Node}

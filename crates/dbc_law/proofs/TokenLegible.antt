@@ -3,11 +3,11 @@ use Rattle.std.proofs.Common.{◌≡◌, ℕ, List, [], ◌∷◌, ◌++◌, ref
 use Rattle.std.specs.List.{All, flat_map}
 use Rattle.std.proofs.lemmas.Grind.{flat_map-append}
 use Rattle.std.proofs.lemmas.List.Elements.{All-head, All-tail}
-use Rattle.catalogue.specs.Canon.{Piece, line_text}
-use Rattle.catalogue.specs.Spelling.{Spells}
-use Rattle.catalogue.specs.Tokens.{IsGap}
-use Rattle.catalogue.specs.declared.token.TokenKind.{TokenKind}
-use Rattle.catalogue.specs.declared.token.TokenKind.TheVariants.{Name, Number, Text, Mark}
+use Rattle.dbc_grammar.specs.Canon.{Piece, line_text}
+use Rattle.dbc_grammar.specs.Spelling.{Spells}
+use Rattle.dbc_grammar.specs.Tokens.{IsGap}
+use Rattle.dbc_grammar.specs.declared.token.TokenKind.{TokenKind}
+use Rattle.dbc_grammar.specs.declared.token.TokenKind.TheVariants.{Name, Number, Text, Mark}
 use Rattle.dbc_law.proofs.TokenEnds.{Ends}
 use Rattle.dbc_law.proofs.TokenLengths.{Breaks}
 

@@ -8,10 +8,10 @@ use Rattle.std.proofs.lemmas.List.{length-append, drop_at}
 use Rattle.decimal.specs.Cutting.{fraction_len}
 use Rattle.decimal.specs.Spelling.{Spelling, IsNumberToken, are_digits, is_exponent, is_fraction, is_letter_e, is_numeral, is_power, is_sign}
 use Rattle.decimal.proofs.Tokens.{Stops, e_digit, e_point, point_digit, prefix_exact}
-use Rattle.catalogue.specs.Lexing.{exponent_len, number_len, power_len, tail_len}
+use Rattle.dbc_grammar.specs.Lexing.{exponent_len, number_len, power_len, tail_len}
 use Rattle.catalogue.specs.Name.{continues_identifier, is_c_identifier}
-use Rattle.catalogue.proofs.TokenNumbers.{numeral_parts, with_front-is}
-use Rattle.catalogue.proofs.TokenWords.{name_continues}
+use Rattle.dbc_grammar.proofs.TokenNumbers.{numeral_parts, with_front-is}
+use Rattle.dbc_grammar.proofs.TokenWords.{name_continues}
 
 -- the byte continues a name or a number
 abbrev pub continues_word : ℕ → Bool

@@ -9,7 +9,7 @@ use Rattle.bitlayout.specs.declared.layout.Order.TheVariants.{Intel, Motorola}
 use Rattle.bitlayout.specs.declared.place.Mux.{Mux}
 use Rattle.bitlayout.specs.declared.place.Mux.TheVariants.{Always, Multiplexor, Under}
 use Rattle.decimal.specs.Number.{IsDecimal, Number}
-use Rattle.catalogue.specs.Canon.{
+use Rattle.dbc_grammar.specs.Canon.{
   layout_pieces,
   mark,
   message_line,
@@ -27,7 +27,7 @@ use Rattle.catalogue.specs.Canon.{
 use Rattle.catalogue.specs.Form.{IsMessage, IsMux, IsSignal}
 use Rattle.catalogue.specs.Messages.{number_of}
 use Rattle.catalogue.specs.Name.{IsName, no_node}
-use Rattle.catalogue.specs.Spelling.{is_mark}
+use Rattle.dbc_grammar.specs.Spelling.{is_mark}
 use Rattle.catalogue.specs.declared.keyword.Keyword.TheVariants as keyword
 use Rattle.catalogue.specs.declared.message.Message.{Message}
 use Rattle.catalogue.specs.declared.signal.Signal.{Signal}

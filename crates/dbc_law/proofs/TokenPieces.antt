@@ -11,15 +11,15 @@ use Rattle.std.proofs.lemmas.List.{append-nil}
 use Rattle.decimal.specs.Number.{IsDecimal, Number}
 use Rattle.decimal.specs.Spelling.{are_digits}
 use Rattle.decimal.proofs.ReadsBack.{IsSmall, decimal_digits, decimal_numeral, text_reads}
-use Rattle.catalogue.specs.Canon.{Piece, line_text, mark, number, quoted, space, tight, value, word}
+use Rattle.dbc_grammar.specs.Canon.{Piece, line_text, mark, number, quoted, space, tight, value, word}
 use Rattle.catalogue.specs.Keyword.{keyword_text}
 use Rattle.catalogue.specs.Name.{IsName, continues_identifier, is_c_identifier, is_name}
-use Rattle.catalogue.specs.Spelling.{Spells, is_mark}
+use Rattle.dbc_grammar.specs.Spelling.{Spells, is_mark}
 use Rattle.catalogue.specs.Text.{IsText}
-use Rattle.catalogue.specs.Tokens.{IsGap}
+use Rattle.dbc_grammar.specs.Tokens.{IsGap}
 use Rattle.catalogue.specs.declared.keyword.Keyword.{Keyword}
 use Rattle.catalogue.specs.declared.keyword.Keyword.TheVariants.{Version}
-use Rattle.catalogue.specs.declared.token.TokenKind.TheVariants.{Number as NumberKind}
+use Rattle.dbc_grammar.specs.declared.token.TokenKind.TheVariants.{Number as NumberKind}
 use Rattle.dbc_law.proofs.DecimalPieces.{digits, signed_pieces}
 use Rattle.dbc_law.proofs.TokenLegible.{AreLegible, CanFollow}
 use Rattle.dbc_law.proofs.TokenLengths.{Breaks, continues_word}

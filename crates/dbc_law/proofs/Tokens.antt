@@ -1,9 +1,9 @@
 -- The canonical text of a sheet has the tokens that its lines list.
 use Rattle.std.proofs.Common.{List, []}
-use Rattle.catalogue.specs.Canon.{canonical_lines, canonical_text, message_comments, message_lines, node_comment}
+use Rattle.dbc_grammar.specs.Canon.{canonical_lines, canonical_text, message_comments, message_lines, node_comment}
 use Rattle.catalogue.specs.Form.{IsMessage, IsNode, IsSheet}
-use Rattle.catalogue.specs.Token.{Token}
-use Rattle.catalogue.specs.Tokens.{HasTokens}
+use Rattle.dbc_grammar.specs.Token.{Token}
+use Rattle.dbc_grammar.specs.Tokens.{HasTokens}
 use Rattle.catalogue.specs.declared.sheet.Sheet.{Sheet}
 use Rattle.dbc_law.proofs.PieceTokens.{lines}
 use Rattle.dbc_law.proofs.TokenAttached.{spns_legible, value_texts_legible, value_types_legible}

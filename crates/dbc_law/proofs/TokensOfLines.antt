@@ -4,10 +4,10 @@ use Rattle.std.specs.List.{AllByRecursion, flat_map, list_all}
 use Rattle.std.proofs.lemmas.Bool.{and_from}
 use Rattle.std.proofs.lemmas.List.{length-append}
 use Rattle.std.proofs.lemmas.List.Folds.{list_all-append}
-use Rattle.catalogue.specs.Canon.{Line, Piece, line_text}
-use Rattle.catalogue.specs.Spelling.{is_gap}
-use Rattle.catalogue.specs.Token.{Token}
-use Rattle.catalogue.specs.Tokens.{HasTokens, IsGap}
+use Rattle.dbc_grammar.specs.Canon.{Line, Piece, line_text}
+use Rattle.dbc_grammar.specs.Spelling.{is_gap}
+use Rattle.dbc_grammar.specs.Token.{Token}
+use Rattle.dbc_grammar.specs.Tokens.{HasTokens, IsGap}
 use Rattle.dbc_law.proofs.PieceTokens.{line, lines, token_of}
 use Rattle.dbc_law.proofs.TokenEnds.{word_longest}
 use Rattle.dbc_law.proofs.TokenLegible.{AreLegible, ends_before, pieces_text}

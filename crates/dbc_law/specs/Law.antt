@@ -1,7 +1,7 @@
 -- What is written reads as itself and as nothing else.
-use Rattle.catalogue.specs.Canon.{canonical_text}
+use Rattle.dbc_grammar.specs.Canon.{canonical_text}
 use Rattle.catalogue.specs.Form.{IsSheet}
-use Rattle.catalogue.specs.Reads.{ReadsOnlyAs}
+use Rattle.dbc_grammar.specs.Reads.{ReadsOnlyAs}
 use Rattle.catalogue.specs.declared.sheet.Sheet.{Sheet}
 
 -- The canonical text of every well-formed sheet, with each part in its form, reads as that sheet, and every sheet that

@@ -19,13 +19,13 @@
 //! - These statements say the sheet: `Saying`. Each kind of statement (`SayingContents`, `SayingKinds`) comes from one
 //!   section (`SayingEntries`, `SayingSections`), and the others have none of it (`SayingOtherKinds`).
 //!
-//! The parts share two files: `PieceTokens` defines which tokens belong to which pieces, and `Contents` lists the contents
-//! of the statements. `DecimalPieces` and `MessageNumbers` serve the first two parts.
+//! The parts share two files: `PieceTokens` defines which tokens belong to which pieces, and `Contents` lists the
+//! contents of the statements. `DecimalPieces` and `MessageNumbers` serve the first two parts.
 #![tactic(auto)]
 
 ghost use Rattle.dbc_law.specs.Law.{GrammarLaw};
 
-use catalogue::texts_read_as_one_sheet;
+use dbc_grammar::texts_read_as_one_sheet;
 
 /// The canonical text of every well-formed sheet reads as that sheet, and as no other. The function does nothing; code
 /// whose contract needs the law calls it.

@@ -9,11 +9,11 @@ use Rattle.std.proofs.Math.ListN.{drop_of_length-le}
 use Rattle.std.proofs.lemmas.List.Sums.{prefix_len-drop_yes}
 use Rattle.decimal.specs.Cutting.{fraction_len}
 use Rattle.decimal.specs.Spelling.{is_letter_e}
-use Rattle.catalogue.specs.declared.token.TokenKind.{TokenKind}
-use Rattle.catalogue.specs.declared.token.TokenKind.TheVariants.{Name, Number, Text, Mark}
-use Rattle.catalogue.specs.Lexing.{StrayByte, UnclosedText, exponent_len, kind_of, number_len, of_kind, power_len, tail_len, token_at, token_or_fault, with_front, word_len}
+use Rattle.dbc_grammar.specs.declared.token.TokenKind.{TokenKind}
+use Rattle.dbc_grammar.specs.declared.token.TokenKind.TheVariants.{Name, Number, Text, Mark}
+use Rattle.dbc_grammar.specs.Lexing.{StrayByte, UnclosedText, exponent_len, kind_of, number_len, of_kind, power_len, tail_len, token_at, token_or_fault, with_front, word_len}
 use Rattle.catalogue.specs.Name.{starts_identifier}
-use Rattle.catalogue.specs.Spelling.{is_quote, is_mark}
+use Rattle.dbc_grammar.specs.Spelling.{is_quote, is_mark}
 use Rattle.dbc_lex.specs.First.{kind_at}
 use Rattle.dbc_lex.specs.Offset.{further_by}
 use Rattle.dbc_lex.proofs.Exponents.{none_if}

@@ -6,7 +6,7 @@ use Rattle.std.proofs.lemmas.List.{drop_more, get_or_past}
 use Rattle.std.proofs.lemmas.Bool.{cases_lt}
 use Rattle.std.proofs.Math.ListN.{drop_of_length-le}
 use Rattle.decimal.specs.Spelling.{is_letter_e, is_sign}
-use Rattle.catalogue.specs.Lexing.{exponent_len, power_len, with_front}
+use Rattle.dbc_grammar.specs.Lexing.{exponent_len, power_len, with_front}
 
 -- the length of digits and of what comes before them, 0 if there are no digits
 abbrev after_front : ℕ → ℕ → ℕ

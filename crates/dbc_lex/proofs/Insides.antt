@@ -4,7 +4,7 @@ use Rattle.std.specs.Option.{option_map}
 use Rattle.dbc_lex.specs.Offset.{further_by}
 use Rattle.std.proofs.lemmas.Bool.{cases_lt, ne_eqb}
 use Rattle.std.proofs.lemmas.List.{drop_more, drop_all}
-use Rattle.catalogue.specs.Lexing.{inside_len}
+use Rattle.dbc_grammar.specs.Lexing.{inside_len}
 
 -- one byte more, counted first or last
 one_further : (n : ℕ) (o : Option ℕ) → further_by (n + 1) o ≡ further_by n (option_map suc o)

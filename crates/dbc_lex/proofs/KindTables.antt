@@ -5,9 +5,9 @@ use Rattle.std.proofs.lemmas.Bool.{cases_lt}
 use Rattle.std.proofs.lemmas.Bool.Decides.{nat_tests}
 use Rattle.std.proofs.lemmas.List.FromFn.{get_or-map-range_with_len, length-map-range_with_len}
 use Rattle.std.proofs.lemmas.Option.{slice_get_past, unwrap_or-slice_get}
-use Rattle.catalogue.specs.Lexing.{kind_of}
+use Rattle.dbc_grammar.specs.Lexing.{kind_of}
 use Rattle.catalogue.specs.Name.{continues_identifier}
-use Rattle.catalogue.specs.Spelling.{is_gap}
+use Rattle.dbc_grammar.specs.Spelling.{is_gap}
 use Rattle.dbc_lex.specs.Class.{class_of, of_kind}
 use Rattle.dbc_lex.specs.declared.kinds.Class.{Class}
 use Rattle.dbc_lex.specs.declared.kinds.Class.TheVariants.{Stray}

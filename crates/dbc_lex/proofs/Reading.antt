@@ -2,10 +2,10 @@
 use Rattle.std.proofs.Common.{◌≡◌, ℕ, ◌+◌, ◌-◌, ◌≤◌, List, drop, Option, Some, None, Result, Ok, Err, sym, ap, ◌∙◌, arith}
 use Rattle.std.specs.List.{prefix_len}
 use Rattle.std.proofs.lemmas.List.{drop-drop}
-use Rattle.catalogue.specs.Lexing.{LexFault, Lexed, first_token, lexed, token_at, with_first}
-use Rattle.catalogue.specs.Spelling.{is_gap}
-use Rattle.catalogue.specs.Token.{Token}
-use Rattle.catalogue.proofs.TokenSteps.{lexed_step}
+use Rattle.dbc_grammar.specs.Lexing.{LexFault, Lexed, first_token, lexed, token_at, with_first}
+use Rattle.dbc_grammar.specs.Spelling.{is_gap}
+use Rattle.dbc_grammar.specs.Token.{Token}
+use Rattle.dbc_grammar.proofs.TokenSteps.{lexed_step}
 
 -- what is read of the bytes from the offset on
 abbrev pub lexed_from : List ℕ → ℕ → Lexed

@@ -1,9 +1,9 @@
 -- What begins with a byte: a gap, or a token of some kind.
 use Rattle.std.specs.Prelude.{◌≡◌, ◌==◌, ℕ, Option, Some, None, if◌then◌else◌, refl}
-use Rattle.catalogue.specs.Lexing.{kind_of}
-use Rattle.catalogue.specs.Spelling.{is_gap}
-use Rattle.catalogue.specs.declared.token.TokenKind.{TokenKind}
-use Rattle.catalogue.specs.declared.token.TokenKind.TheVariants as kind
+use Rattle.dbc_grammar.specs.Lexing.{kind_of}
+use Rattle.dbc_grammar.specs.Spelling.{is_gap}
+use Rattle.dbc_grammar.specs.declared.token.TokenKind.{TokenKind}
+use Rattle.dbc_grammar.specs.declared.token.TokenKind.TheVariants as kind
 use Rattle.dbc_lex.specs.declared.kinds.Class.{Class}
 use Rattle.dbc_lex.specs.declared.kinds.Class.TheVariants.{Name, Number, Text, Mark, Gap, Stray, Space}
 

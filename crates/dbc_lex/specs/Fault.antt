@@ -1,6 +1,6 @@
 -- The faults of reading a DBC text, with their numbers and names.
 use Rattle.std.specs.Prelude.{◌≡◌, ℕ, List, codes}
-use Rattle.catalogue.specs.Lexing as lexing
+use Rattle.dbc_grammar.specs.Lexing as lexing
 use Rattle.dbc_lex.specs.declared.fault.ReadCode.{ReadCode}
 use Rattle.dbc_lex.specs.declared.fault.ReadCode.TheVariants.{DoubleNumber, DoubleName, TwoMultiplexors, TooMany, UnclosedText, StrayByte, Unexpected, UnknownStatement, ExtendedMultiplexing, Number, Identifier, Name, Length, Size, Memory}
 use Rattle.dbc_lex.specs.declared.fault.ReadFault.{ReadFault}

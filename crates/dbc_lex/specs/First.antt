@@ -1,8 +1,8 @@
 -- The first token, as the lexer returns it.
 use Rattle.std.specs.Prelude.{◌≡◌, ℕ, List, Option, Some, None, Result, Ok, Err, option_and_then, slice_get}
-use Rattle.catalogue.specs.Lexing.{LexFault, kind_of}
-use Rattle.catalogue.specs.Token.{Token}
-use Rattle.catalogue.specs.declared.token.TokenKind.{TokenKind}
+use Rattle.dbc_grammar.specs.Lexing.{LexFault, kind_of}
+use Rattle.dbc_grammar.specs.Token.{Token}
+use Rattle.dbc_grammar.specs.declared.token.TokenKind.{TokenKind}
 use Rattle.dbc_lex.specs.declared.fault.ReadFault.{ReadFault}
 use Rattle.dbc_lex.specs.declared.token.Token.{Token as TextToken}
 use Rattle.dbc_lex.specs.Fault.{fault_of}

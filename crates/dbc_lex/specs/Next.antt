@@ -1,7 +1,7 @@
 -- What a call of the lexer returns, and what it leaves.
 use Rattle.std.specs.Prelude.{◌≡◌, [], ◌∷◌, Option, Some, None, Result, Ok, Err}
-use Rattle.catalogue.specs.Lexing.{Lexed, LexFault}
-use Rattle.catalogue.specs.TokenLaw.{tokens_then_fault, tokens_without_fault}
+use Rattle.dbc_grammar.specs.Lexing.{Lexed, LexFault}
+use Rattle.dbc_grammar.specs.TokenLaw.{tokens_then_fault, tokens_without_fault}
 use Rattle.dbc_lex.specs.declared.fault.ReadFault.{ReadFault}
 use Rattle.dbc_lex.specs.declared.token.Token.{Token as TextToken}
 use Rattle.dbc_lex.specs.Fault.{fault_of}

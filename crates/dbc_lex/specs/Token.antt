@@ -1,6 +1,6 @@
 -- The lexer's tokens as tokens of the definitions of `catalogue`.
 use Rattle.dbc_lex.specs.declared.token.Token.{Token as TextToken}
-use Rattle.catalogue.specs.Token.{Token}
+use Rattle.dbc_grammar.specs.Token.{Token}
 
 -- a token of the lexer, with its bytes instead of the slice
 abbrev pub token_of : TextToken → Token

@@ -7,7 +7,7 @@ use std::fmt;
 
 /// Why a DBC text can't be read.
 ///
-/// Texts, names, numbers and statements are those of Vector's DBC File Format Documentation. This project's profile
+/// Texts, names, numbers and statements are those of Vector's DBC File Format Documentation. This project's dialect
 /// sets the limits (of names, payloads, starts and of the file as a whole), refuses extended multiplexing, and numbers
 /// the faults.
 #[derive(Clone, Copy, Debug, PartialEq, Eq)]

@@ -1,14 +1,14 @@
 //! Reading a text token by token.
 ghost use Rattle.std.specs.Prelude.{◌≡◌, ◌≤◌, [], ◌∷◌, length, min, drop, IfSome, IfOk};
-ghost use Rattle.catalogue.specs.Fields.{is_mark};
+ghost use Rattle.dbc_grammar.specs.Fields.{is_mark};
 ghost use Rattle.dbc_lex.specs.Token.{token_of};
-ghost use Rattle.catalogue.specs.Lexing.{token_at};
+ghost use Rattle.dbc_grammar.specs.Lexing.{token_at};
 ghost use Rattle.dbc_lex.specs.First.{GivesFirst, kind_at};
 
 use crate::fault::{ReadCode, ReadFault};
 use crate::spelling::{first_after_gap, mark_start, word_end};
 use crate::token::Token;
-use catalogue::TokenKind;
+use dbc_grammar::TokenKind;
 use std::marker::Model;
 
 /// The token of this kind whose first byte is at the offset; without a kind none begins there, or the text ends.
@@ -55,7 +55,7 @@ pub struct Lexer<'a> {
 
 impl<'a> Model for Lexer<'a> {
     ghost use Rattle.std.specs.Prelude.{◌≤◌, length, drop};
-    ghost use Rattle.catalogue.specs.Lexing.{Lexed, lexed};
+    ghost use Rattle.dbc_grammar.specs.Lexing.{Lexed, lexed};
 
     ghost Value = { Lexed };
 
@@ -66,10 +66,10 @@ impl<'a> Model for Lexer<'a> {
 
 impl<'a> Lexer<'a> {
     ghost use Rattle.std.specs.Prelude.{◌≡◌, [], ◌∷◌, IfNone, IfSome, Ok, Some, false, true};
-    ghost use Rattle.catalogue.specs.Rules.{starts};
-    ghost use Rattle.catalogue.specs.Fields.{is_mark};
-    ghost use Rattle.catalogue.specs.Lexing.{kind_of, lexed};
-    ghost use Rattle.catalogue.specs.declared.token.TokenKind.TheVariants.{Mark};
+    ghost use Rattle.dbc_grammar.specs.Rules.{starts};
+    ghost use Rattle.dbc_grammar.specs.Fields.{is_mark};
+    ghost use Rattle.dbc_grammar.specs.Lexing.{kind_of, lexed};
+    ghost use Rattle.dbc_grammar.specs.declared.token.TokenKind.TheVariants.{Mark};
     ghost use Rattle.dbc_lex.specs.Next.{GivesNext};
     ghost use Rattle.dbc_lex.specs.Token.{token_of};
 
@@ -107,7 +107,7 @@ impl<'a> Lexer<'a> {
     /// same again.
     ///
     /// Names, unsigned numbers, character strings and punctuation are those of Vector's DBC File Format Documentation;
-    /// that only gaps come between tokens, and that each is as long as it can be, is this project's profile. That the
+    /// that only gaps come between tokens, and that each is as long as it can be, is this project's dialect. That the
     /// tokens are slices of the text, in order, is a law of `catalogue` (`tokens_are_exact`).
     #[inline(always)]
     pub fn next_token(&mut self) -> Result<Option<Token<'a>>, ReadFault>

@@ -5,10 +5,10 @@
 //! [`ReadFault`] where no token begins, and then each further call gives the same fault.
 //!
 //! Which tokens a text has is defined in `catalogue`. Contracts see a lexer as what is left to read: the tokens, and
-//! the fault after them (`Lexing`). The law `catalogue::tokens_are_exact` states that these are the tokens of the text,
-//! each as long as it can be with only gaps between them, that they are slices of it in order, and that a fault comes
-//! exactly where no token begins. [`ReadCode`] has all faults of reading a DBC text, including those of the layers
-//! above.
+//! the fault after them (`Lexing`). The law `dbc_grammar::tokens_are_exact` states that these are the tokens of the
+//! text, each as long as it can be with only gaps between them, that they are slices of it in order, and that a fault
+//! comes exactly where no token begins. [`ReadCode`] has all faults of reading a DBC text, including those of the
+//! layers above.
 #![tactic(auto)]
 
 mod fault;

@@ -8,14 +8,14 @@ ghost use Rattle.std.specs.List.{prefix_len};
 ghost use Rattle.catalogue.specs.Name.{continues_identifier};
 ghost use Rattle.decimal.specs.Cutting.{fraction_len};
 ghost use Rattle.decimal.specs.Spelling.{is_letter_e, is_sign};
-ghost use Rattle.catalogue.specs.Spelling.{is_gap};
-ghost use Rattle.catalogue.specs.Lexing.{kind_of, exponent_len, number_len, inside_len, tail_len, word_len};
-ghost use Rattle.catalogue.specs.declared.token.TokenKind.TheVariants.{Mark, Number};
+ghost use Rattle.dbc_grammar.specs.Spelling.{is_gap};
+ghost use Rattle.dbc_grammar.specs.Lexing.{kind_of, exponent_len, number_len, inside_len, tail_len, word_len};
+ghost use Rattle.dbc_grammar.specs.declared.token.TokenKind.TheVariants.{Mark, Number};
 ghost use Rattle.dbc_lex.specs.First.{kind_at};
 ghost use Rattle.dbc_lex.specs.Offset.{further_by};
 
 use crate::kinds::{Class, class_of, continues_name};
-use catalogue::TokenKind;
+use dbc_grammar::TokenKind;
 
 /// The offset of the first byte at the offset or after it that is no gap, or the end; and the kind of the tokens that
 /// begin with that byte, if one does.

@@ -1,5 +1,5 @@
 //! A token of a DBC text.
-use catalogue::TokenKind;
+use dbc_grammar::TokenKind;
 
 /// A token of a DBC text, and where it is.
 #[derive(Clone, Copy, Debug, PartialEq, Eq)]

@@ -3,7 +3,7 @@ use Rattle.std.proofs.Common.{◌≡◌, ◌∙◌, ◌++◌, ℕ, List, [], ◌
 use Rattle.std.specs.Prelude.{drop}
 use Rattle.std.specs.List.{AllByRecursion}
 use Rattle.std.proofs.lemmas.List.Sorted.{IsPermutation-map}
-use Rattle.catalogue.specs.Statement as says
+use Rattle.dbc_grammar.specs.Statement as says
 use Rattle.catalogue.specs.declared.message.Message.{Message}
 use Rattle.catalogue.specs.declared.sheet.Sheet.{Sheet}
 use Rattle.catalogue.specs.declared.signal.Signal.{Signal}

@@ -1,8 +1,8 @@
 -- Computed rows of what a statement defines, and of too many texts.
 use Rattle.std.proofs.Common.{◌≡◌, ℕ, true, false, nat_lt, List, [], ◌∷◌, append-nil, length, refl, subst, sym}
-use Rattle.catalogue.specs.Parsing.{statements_at}
-use Rattle.catalogue.specs.Statement as says
-use Rattle.catalogue.specs.Statement.{Cited}
+use Rattle.dbc_grammar.specs.Parsing.{statements_at}
+use Rattle.dbc_grammar.specs.Statement as says
+use Rattle.dbc_grammar.specs.Statement.{Cited}
 use Rattle.catalogue.specs.declared.keyword.Keyword.TheVariants.{Nodes}
 use Rattle.catalogue.specs.declared.value_texts.ValueText.{ValueText}
 use Rattle.dbc_read.specs.Definitions.{AreDefinitions, DefineFurther, has_many_texts, is_definition}
@@ -26,4 +26,4 @@ one_node g = record { nodes = refl; tables = refl; messages = refl }
 -- no tokens define anything further
 nothing_further : (g : Gathered) → DefineFurther [] g g
 unfolding statements_at
-nothing_further g = record { said = []; read = refl; few = tt; are = λ before are. subst (λ ss. AreDefinitions ss g) (sym (append-nil before)) are }
+nothing_further g = record { stated = []; read = refl; few = tt; are = λ before are. subst (λ ss. AreDefinitions ss g) (sym (append-nil before)) are }

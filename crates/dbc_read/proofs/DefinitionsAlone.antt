@@ -9,10 +9,10 @@ use Rattle.std.proofs.lemmas.Grind.{flat_map-append}
 use Rattle.std.proofs.lemmas.List.{map-append}
 use Rattle.std.proofs.lemmas.List.Elements.{filter_map-append}
 use Rattle.catalogue.specs.Limits.{value_text_limit}
-use Rattle.catalogue.specs.Saying.{SignalKey, comment_in, each_in, last_at, last_value_of, message_comment_in, message_in, messages_of, node_comment_in, node_names_of, nodes_in, numbers_of, passed_by, same_signal, signal_comment_in, signal_keys_of, spn_in, table_in, value_texts_in, value_type_in, version_in}
-use Rattle.catalogue.specs.Parsing.{statements_at}
-use Rattle.catalogue.specs.Statement as says
-use Rattle.catalogue.specs.Token.{Token}
+use Rattle.dbc_grammar.specs.Saying.{SignalKey, comment_in, each_in, last_at, last_value_of, message_comment_in, message_in, messages_of, node_comment_in, node_names_of, nodes_in, numbers_of, passed_by, same_signal, signal_comment_in, signal_keys_of, spn_in, table_in, value_texts_in, value_type_in, version_in}
+use Rattle.dbc_grammar.specs.Parsing.{statements_at}
+use Rattle.dbc_grammar.specs.Statement as says
+use Rattle.dbc_grammar.specs.Token.{Token}
 use Rattle.catalogue.specs.WellFormed.{AreFewTexts}
 use Rattle.catalogue.specs.declared.keyword.Keyword.{Keyword}
 use Rattle.catalogue.specs.declared.value_texts.ValueText.{ValueText}
@@ -43,10 +43,10 @@ pub none_defined : (g : Gathered) → IsEmpty g → AreDefinitions [] g
 none_defined g is = record { nodes = ap names_of is.nodes; tables = ap (map table_of) is.tables; messages = ap (map message_of) is.messages }
 
 -- what one more statement defines comes after what the others do
-names_with_one : (said : List says.Statement) (s : says.Statement) → node_names_of (said ++ s ∷ []) ≡ node_names_of said ++ node_names_of (s ∷ [])
-names_with_one said s =
-    ap (flat_map (λ (names : List (List ℕ)). names)) (filter_map-append (λ (x : says.Statement). nodes_in x.content) said (s ∷ []))
-    ∙ flat_map-append (λ (names : List (List ℕ)). names) (each_in nodes_in said) (each_in nodes_in (s ∷ []))
+names_with_one : (stated : List says.Statement) (s : says.Statement) → node_names_of (stated ++ s ∷ []) ≡ node_names_of stated ++ node_names_of (s ∷ [])
+names_with_one stated s =
+    ap (flat_map (λ (names : List (List ℕ)). names)) (filter_map-append (λ (x : says.Statement). nodes_in x.content) stated (s ∷ []))
+    ∙ flat_map-append (λ (names : List (List ℕ)). names) (each_in nodes_in stated) (each_in nodes_in (s ∷ []))
 
 -- what a statement adds to the definitions
 record Adds (s : says.Statement) (old now : Gathered) : Type 0 where
@@ -80,36 +80,36 @@ adds_itself start keyword (content.Message line) p g = record {
 adds_itself start keyword c p g =
     record { nodes = sym (append-nil (names_of g.nodes)); tables = sym (append-nil (map table_of g.tables)); messages = sym (append-nil (map message_of g.messages)) }
 
-with_one : (said : List says.Statement) (s : says.Statement) (old now : Gathered) → Adds s old now → AreDefinitions said old → AreDefinitions (said ++ s ∷ []) now
-with_one said s old now adds are = record {
-  nodes = adds.nodes ∙ ap (λ l. l ++ node_names_of (s ∷ [])) are.nodes ∙ sym (names_with_one said s);
-  tables = adds.tables ∙ ap (λ l. l ++ each_in table_in (s ∷ [])) are.tables ∙ sym (filter_map-append (λ (x : says.Statement). table_in x.content) said (s ∷ []));
-  messages = adds.messages ∙ ap (λ l. l ++ messages_of (s ∷ [])) are.messages ∙ sym (filter_map-append (λ (x : says.Statement). message_in x.content) said (s ∷ []));
+with_one : (stated : List says.Statement) (s : says.Statement) (old now : Gathered) → Adds s old now → AreDefinitions stated old → AreDefinitions (stated ++ s ∷ []) now
+with_one stated s old now adds are = record {
+  nodes = adds.nodes ∙ ap (λ l. l ++ node_names_of (s ∷ [])) are.nodes ∙ sym (names_with_one stated s);
+  tables = adds.tables ∙ ap (λ l. l ++ each_in table_in (s ∷ [])) are.tables ∙ sym (filter_map-append (λ (x : says.Statement). table_in x.content) stated (s ∷ []));
+  messages = adds.messages ∙ ap (λ l. l ++ messages_of (s ∷ [])) are.messages ∙ sym (filter_map-append (λ (x : says.Statement). message_in x.content) stated (s ∷ []));
 }
 
 -- a statement that is dropped, and one that is gathered
-pub one_dropped : (s : Statement) (g : Gathered) → is_definition (content_of s.content) ≡ false → (said : List says.Statement) → AreDefinitions said g → AreDefinitions (said ++ statement_of s ∷ []) g
-one_dropped s g none said = with_one said (statement_of s) g g (adds_nothing s.start s.keyword (content_of s.content) g none)
+pub one_dropped : (s : Statement) (g : Gathered) → is_definition (content_of s.content) ≡ false → (stated : List says.Statement) → AreDefinitions stated g → AreDefinitions (stated ++ statement_of s ∷ []) g
+one_dropped s g none stated = with_one stated (statement_of s) g g (adds_nothing s.start s.keyword (content_of s.content) g none)
 
-pub one_gathered : (s : Statement) (old now : Gathered) → now ≡ gathered_after None (passed_of s) s.content old → (said : List says.Statement) → AreDefinitions said old → AreDefinitions (said ++ statement_of s ∷ []) now
-one_gathered s old now is said are =
-    let h = with_one said (statement_of s) old (gathered_after None (passed_of s) s.content old) (adds_itself s.start s.keyword s.content (passed_of s) old) are in
+pub one_gathered : (s : Statement) (old now : Gathered) → now ≡ gathered_after None (passed_of s) s.content old → (stated : List says.Statement) → AreDefinitions stated old → AreDefinitions (stated ++ statement_of s ∷ []) now
+one_gathered s old now is stated are =
+    let h = with_one stated (statement_of s) old (gathered_after None (passed_of s) s.content old) (adds_itself s.start s.keyword s.content (passed_of s) old) are in
     rw is h
 
-pub few_with_one : (said : List says.Statement) (s : says.Statement) → HaveFewTexts said → has_many_texts s.content ≡ false → HaveFewTexts (said ++ s ∷ [])
+pub few_with_one : (stated : List says.Statement) (s : says.Statement) → HaveFewTexts stated → has_many_texts s.content ≡ false → HaveFewTexts (stated ++ s ∷ [])
 few_with_one [] s h few = (few, tt)
-few_with_one (x ∷ said) s h few = (h.0, few_with_one said s h.1 few)
+few_with_one (x ∷ stated) s h few = (h.0, few_with_one stated s h.1 few)
 
 -- a statement with too many texts is one of all
-pub many_said : (said : List says.Statement) (s : says.Statement) (tokens rest : List Token) → BeginWith (said ++ s ∷ []) tokens rest → has_many_texts s.content ≡ true → TokensHaveManyTexts tokens
-many_said said s tokens rest read many all is = λ few. by few (statements_at rest) (sym is ∙ read)
+pub many_stated : (stated : List says.Statement) (s : says.Statement) (tokens rest : List Token) → BeginWith (stated ++ s ∷ []) tokens rest → has_many_texts s.content ≡ true → TokensHaveManyTexts tokens
+many_stated stated s tokens rest read many all is = λ few. by few (statements_at rest) (sym is ∙ read)
   where
-    by : HaveFewTexts all → (o : Option (List says.Statement)) → Some all ≡ option_map (λ others. (said ++ s ∷ []) ++ others) o → ⊥
+    by : HaveFewTexts all → (o : Option (List says.Statement)) → Some all ≡ option_map (λ others. (stated ++ s ∷ []) ++ others) o → ⊥
     by few None e = absurd cc
     by few (Some others) e =
-        let same : all ≡ (said ++ s ∷ []) ++ others = cc in
+        let same : all ≡ (stated ++ s ∷ []) ++ others = cc in
         let none : has_many_texts s.content ≡ false
-        = each_middle (λ (x : says.Statement). has_many_texts x.content ≡ false) said s others (subst HaveFewTexts (same ∙ append_assoc said (s ∷ []) others) few) in
+        = each_middle (λ (x : says.Statement). has_many_texts x.content ≡ false) stated s others (subst HaveFewTexts (same ∙ append_assoc stated (s ∷ []) others) few) in
         true≢false (sym many ∙ none)
 
 -- Where no statement has too many texts, no signal has.
@@ -117,12 +117,12 @@ many_said said s tokens rest read many all is = λ few. by few (statements_at re
 few_texts : (texts : List ValueText) → nat_lt value_text_limit (length texts) ≡ false → AreFewTexts texts
 few_texts texts h = grind (arith, nat_tests)
 
-each_few : (said : List says.Statement) → HaveFewTexts said → AllByRecursion (λ (p : SignalKey × List ValueText). AreFewTexts p.1) (each_in value_texts_in said)
+each_few : (stated : List says.Statement) → HaveFewTexts stated → AllByRecursion (λ (p : SignalKey × List ValueText). AreFewTexts p.1) (each_in value_texts_in stated)
 each_few [] h = tt
-each_few (s ∷ said) h = by s.content h.0 (each_few said h.1)
+each_few (s ∷ stated) h = by s.content h.0 (each_few stated h.1)
   where
-    by : (c : says.Content) → has_many_texts c ≡ false → AllByRecursion (λ (p : SignalKey × List ValueText). AreFewTexts p.1) (each_in value_texts_in said)
-        → AllByRecursion (λ (p : SignalKey × List ValueText). AreFewTexts p.1) (cons_option (value_texts_in c) (each_in value_texts_in said))
+    by : (c : says.Content) → has_many_texts c ≡ false → AllByRecursion (λ (p : SignalKey × List ValueText). AreFewTexts p.1) (each_in value_texts_in stated)
+        → AllByRecursion (λ (p : SignalKey × List ValueText). AreFewTexts p.1) (cons_option (value_texts_in c) (each_in value_texts_in stated))
     by (says.ValueTextsAre None name texts) few rest = rest
     by (says.ValueTextsAre (Some number) name texts) few rest = (few_texts texts few, rest)
     by c few rest = rest
@@ -137,10 +137,10 @@ last_few key o (p ∷ ps) h each = last_few key (if same_signal p.0 key then Som
     by true = each.0
     by false = h
 
-module _ (said : List says.Statement) where
-  texts_few : HaveFewTexts said → (keys : List SignalKey) → AllByRecursion AreFewTexts (map (λ key. last_value_of same_signal key [] value_texts_in said) keys)
+module _ (stated : List says.Statement) where
+  texts_few : HaveFewTexts stated → (keys : List SignalKey) → AllByRecursion AreFewTexts (map (λ key. last_value_of same_signal key [] value_texts_in stated) keys)
   texts_few h [] = tt
-  texts_few h (key ∷ keys) = (last_few key None (each_in value_texts_in said) tt (each_few said h), texts_few h keys)
+  texts_few h (key ∷ keys) = (last_few key None (each_in value_texts_in stated) tt (each_few stated h), texts_few h keys)
 
   abbrev pub as_passed : List (ℕ × Keyword) → List Passed
   as_passed skipped = map (λ (p : ℕ × Keyword). record { at = p.0; keyword = p.1 }) skipped
@@ -152,19 +152,19 @@ module _ (said : List says.Statement) where
   -- the definitions, with all else that the statements say
   abbrev pub with_others : Gathered → Gathered
   with_others g = record g {
-    version = last_or None (each_in version_in said);
-    comment = last_or None (each_in comment_in said);
-    node_comments = map (λ name. last_value_of bytes_eq name [] node_comment_in said) (node_names_of said);
-    message_comments = map (λ number. last_value_of nat_eq number [] message_comment_in said) (numbers_of said);
-    signal_comments = map (λ key. last_value_of same_signal key [] signal_comment_in said) (signal_keys_of said);
-    signal_values = map (λ key. last_value_of same_signal key [] value_texts_in said) (signal_keys_of said);
-    signal_types = map (λ key. last_value_of same_signal key Integer value_type_in said) (signal_keys_of said);
-    signal_spns = map (λ key. last_value_of same_signal key 0 spn_in said) (signal_keys_of said);
-    passed = as_passed (passed_by said);
+    version = last_or None (each_in version_in stated);
+    comment = last_or None (each_in comment_in stated);
+    node_comments = map (λ name. last_value_of bytes_eq name [] node_comment_in stated) (node_names_of stated);
+    message_comments = map (λ number. last_value_of nat_eq number [] message_comment_in stated) (numbers_of stated);
+    signal_comments = map (λ key. last_value_of same_signal key [] signal_comment_in stated) (signal_keys_of stated);
+    signal_values = map (λ key. last_value_of same_signal key [] value_texts_in stated) (signal_keys_of stated);
+    signal_types = map (λ key. last_value_of same_signal key Integer value_type_in stated) (signal_keys_of stated);
+    signal_spns = map (λ key. last_value_of same_signal key 0 spn_in stated) (signal_keys_of stated);
+    passed = as_passed (passed_by stated);
   }
 
-  module _ (g : Gathered) (are : AreDefinitions said g) where
-    all_gathered : AreGathered said (with_others g)
+  module _ (g : Gathered) (are : AreDefinitions stated g) where
+    all_gathered : AreGathered stated (with_others g)
     all_gathered = record {
       version = refl;
       comment = refl;
@@ -177,17 +177,17 @@ module _ (said : List says.Statement) where
       signal_values = λ distinct. refl;
       signal_types = λ distinct. refl;
       signal_spns = λ distinct. refl;
-      passed = same_passed (passed_by said);
+      passed = same_passed (passed_by stated);
     }
 
-    module _ (bytes : List ℕ) (divided : IsDivided bytes said) (few : HaveFewTexts said) where
+    module _ (bytes : List ℕ) (divided : IsDivided bytes stated) (few : HaveFewTexts stated) where
       -- a fault of the definitions is one of the text
       pub fault_of_text : (fault : ReadFault) → IsFaultOfDefinitions g fault → IsDefinitionFault bytes fault
       fault_of_text fault is = record {
         gathered = with_others g;
-        of = record { said = said; divided = divided; gathered = all_gathered };
+        of = record { stated = stated; divided = divided; gathered = all_gathered };
         is = other_parts fault is;
-        values = texts_few few (signal_keys_of said);
+        values = texts_few few (signal_keys_of stated);
       }
         where
           other_parts : (f : ReadFault) → IsFaultOfDefinitions g f → IsFaultOfDefinitions (with_others g) f
@@ -198,5 +198,5 @@ module _ (said : List says.Statement) where
 
       -- and if there is none, the text can be a sheet
       pub fault_is_found : CanNeverBeSheet bytes → ¬ AreDefined g
-      fault_is_found never = λ defined. never said divided (with_others g) all_gathered
-          (can_be_sheet (with_others g) (record { nodes = defined.nodes; tables = defined.tables; messages = defined.messages; entries = defined.entries }) (texts_few few (signal_keys_of said)))
+      fault_is_found never = λ defined. never stated divided (with_others g) all_gathered
+          (can_be_sheet (with_others g) (record { nodes = defined.nodes; tables = defined.tables; messages = defined.messages; entries = defined.entries }) (texts_few few (signal_keys_of stated)))

@@ -5,14 +5,14 @@ use Rattle.std.specs.Str.{bytes_eq}
 use Rattle.can_id.specs.Ident.{dbc_number}
 use Rattle.catalogue.specs.Messages.{number_of}
 use Rattle.catalogue.specs.Named.{AreNamedApart}
-use Rattle.catalogue.specs.Saying.{keys_of, same_signal}
+use Rattle.dbc_grammar.specs.Saying.{keys_of, same_signal}
 use Rattle.catalogue.specs.Sheet.{node_name}
 use Rattle.catalogue.specs.Signals.{signal_name}
-use Rattle.catalogue.specs.Statement.{MessageLine, SignalLine}
+use Rattle.dbc_grammar.specs.Statement.{MessageLine, SignalLine}
 use Rattle.catalogue.specs.declared.message.Message.{Message}
 use Rattle.catalogue.specs.declared.node.Node.{Node}
 use Rattle.catalogue.specs.declared.signal.Signal.{Signal}
-use Rattle.catalogue.proofs.SignalKeys.{keys_distinct}
+use Rattle.dbc_grammar.proofs.SignalKeys.{keys_distinct}
 use Rattle.std.specs.List.{flat_map}
 use Rattle.dbc_read.specs.Built.{feeds_after, messages_from, nodes_from, rest_of, signals_from}
 use Rattle.dbc_read.specs.declared.feed.Feeds.{Feeds}

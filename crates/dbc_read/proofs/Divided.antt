@@ -3,20 +3,20 @@ use Rattle.std.proofs.Common.{◌≡◌, ◌∙◌, ℕ, List, Option, None, Som
 use Rattle.std.specs.Prelude.{IfOk, IfSome}
 use Rattle.std.proofs.lemmas.Option.{IfSome_then}
 use Rattle.std.proofs.lemmas.Result.{IfOk-at_ok}
-use Rattle.catalogue.specs.Division.{Divides}
-use Rattle.catalogue.specs.Lexing.{Lexed, lexed}
-use Rattle.catalogue.specs.Parsing.{statements_at}
-use Rattle.catalogue.specs.Reads.{ReadsAs, ReadsAsOneAtMost, ReadsOnlyAs}
-use Rattle.catalogue.specs.Saying.{Says, passed_by}
-use Rattle.catalogue.specs.Statement.{Statement}
-use Rattle.catalogue.specs.Token.{Token}
-use Rattle.catalogue.specs.TokenLaw.{tokens_without_fault}
+use Rattle.dbc_grammar.specs.Division.{Divides}
+use Rattle.dbc_grammar.specs.Lexing.{Lexed, lexed}
+use Rattle.dbc_grammar.specs.Parsing.{statements_at}
+use Rattle.dbc_grammar.specs.Reads.{ReadsAs, ReadsAsOneAtMost, ReadsOnlyAs}
+use Rattle.dbc_grammar.specs.Saying.{Says, passed_by}
+use Rattle.dbc_grammar.specs.Statement.{Statement}
+use Rattle.dbc_grammar.specs.Token.{Token}
+use Rattle.dbc_grammar.specs.TokenLaw.{tokens_without_fault}
 use Rattle.catalogue.specs.declared.keyword.Keyword.{Keyword}
 use Rattle.catalogue.specs.declared.sheet.Sheet.{Sheet}
-use Rattle.catalogue.proofs.Divisions.{one_division, reading_is_exact}
-use Rattle.catalogue.proofs.OneReading.{reads_only}
-use Rattle.catalogue.proofs.TokenExact.{exact}
-use Rattle.catalogue.proofs.TokensOnce.{tokens_once}
+use Rattle.dbc_grammar.proofs.Divisions.{one_division, reading_is_exact}
+use Rattle.dbc_grammar.proofs.OneReading.{reads_only}
+use Rattle.dbc_grammar.proofs.TokenExact.{exact}
+use Rattle.dbc_grammar.proofs.TokensOnce.{tokens_once}
 use Rattle.dbc_lex.specs.declared.fault.ReadFault.{ReadFault}
 use Rattle.dbc_statements.specs.Division.{HasNoDivision, IsDivided}
 use Rattle.dbc_statements.specs.Tokens.{EndsWith}
@@ -31,7 +31,7 @@ use Rattle.dbc_read.specs.declared.gathered.Gathered.{Gathered}
 use Rattle.dbc_read.specs.declared.reading.Reading.{Reading}
 use Rattle.dbc_read.specs.declared.refusal.Refusal.{Refusal}
 use Rattle.dbc_read.proofs.FaultsRefuse.{refused_fault}
-use Rattle.dbc_read.proofs.SheetsSaid.{says_built, says_nothing}
+use Rattle.dbc_read.proofs.SheetsStated.{says_built, says_nothing}
 
 pub no_tokens_left : (bytes source : List ℕ) (fault : ReadFault) → source ≡ bytes → EndsWith (lexed 0 source) fault → HasNoDivision bytes
 no_tokens_left bytes source fault same ends = no_tokens bytes fault (subst (λ (x : List ℕ). EndsWith (lexed 0 x) fault) same ends)
@@ -45,8 +45,8 @@ module _ (bytes : List ℕ) where
   all_tokens source tokens are same none = whole bytes tokens are (subst (λ (x : List ℕ). (lexed 0 x).fault ≡ None) same none)
 
   -- what the text is divided into is what its tokens are read as
-  pub said_at : (tokens : List Token) → lexed 0 bytes ≡ tokens_without_fault tokens → (ss : List Statement) → IsDivided bytes ss → statements_at tokens ≡ Some ss
-  said_at tokens read ss d =
+  pub stated_at : (tokens : List Token) → lexed 0 bytes ≡ tokens_without_fault tokens → (ss : List Statement) → IsDivided bytes ss → statements_at tokens ≡ Some ss
+  stated_at tokens read ss d =
       let same : d.tokens ≡ tokens = ap (λ (l : Lexed). l.tokens) (sym ((exact 0 bytes d.tokens).0 d.has_tokens) ∙ read) in
       ap statements_at (sym same) ∙ (reading_is_exact d.tokens ss).0 d.divides
 
@@ -70,15 +70,15 @@ module _ (bytes : List ℕ) where
         let tokens = tokens_once 0 bytes e.tokens d.tokens e.has_tokens d.has_tokens in
         one_division d.tokens us ss (subst (λ (ts : List Token). Divides ts us) tokens e.divides) d.divides
 
-    unsaid : SaysNothing ss → ReadsAsNothing bytes
-    unsaid none s (passed, r) =
+    unstated : SaysNothing ss → ReadsAsNothing bytes
+    unstated none s (passed, r) =
         let same = same_statements r.statements (record { tokens = r.tokens; has_tokens = r.has_tokens; divides = r.divides }) in
         none s (subst (λ (us : List Statement). Says us s) same r.says)
 
     module _ (g : Gathered) (a : AreGathered ss g) where
       -- where what is gathered can't be in one sheet, the text reads as none
       pub reads_none : ¬ CanBeSheet g → ReadsAsNothing bytes
-      reads_none never = unsaid (says_nothing ss g a never)
+      reads_none never = unstated (says_nothing ss g a never)
 
       -- so it does where that has a fault
       pub reads_none_at : (fault : ReadFault) → IsFault g fault → ReadsAsNothing bytes

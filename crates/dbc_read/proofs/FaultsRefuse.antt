@@ -5,7 +5,7 @@ use Rattle.std.specs.Str.{bytes_eq}
 use Rattle.bitlayout.specs.Mux.{is_multiplexor}
 use Rattle.catalogue.specs.Limits.{message_limit, roster_limit}
 use Rattle.catalogue.specs.Named.{has_name}
-use Rattle.catalogue.specs.Statement.{Statement}
+use Rattle.dbc_grammar.specs.Statement.{Statement}
 use Rattle.catalogue.specs.WellFormed.{AreFewTexts}
 use Rattle.catalogue.specs.declared.value_texts.ValueText.{ValueText}
 use Rattle.dbc_lex.specs.declared.fault.ReadCode.{ReadCode}
@@ -22,7 +22,7 @@ use Rattle.dbc_statements.specs.declared.statement.NodeName.{NodeName}
 use Rattle.dbc_statements.specs.declared.statement.TableLine.{TableLine}
 use Rattle.dbc_read.proofs.Faultless.{defined_if_sheet}
 use Rattle.dbc_read.proofs.Refused.{each_middle, none_before}
-use Rattle.dbc_read.proofs.SheetsSaid.{values_few}
+use Rattle.dbc_read.proofs.SheetsStated.{values_few}
 
 -- an item after as many as the limit is one too many
 too_many : {A : Type 0} (limit : ℕ) (before : List A) (item : A) (after : List A) → length before ≡ limit → length (before ++ item ∷ after) ≤ limit → ⊥

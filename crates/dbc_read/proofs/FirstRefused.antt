@@ -1,5 +1,5 @@
--- Loops that look for the first item that is above a limit, or has the key of an earlier one: the items that they passed,
--- and the set of their keys.
+-- Loops that look for the first item that is above a limit, or has the key of an earlier one: the items that they
+-- passed, and the set of their keys.
 use Rattle.std.proofs.Common.{◌≡◌, ◌≤◌, ◌<◌, ◌+◌, ◌∙◌, ◌||◌, ℕ, Bool, true, false, cond, not, List, [], ◌∷◌, ◌++◌, length, take, refl, sym, ap, arith, true≢false}
 use Rattle.std.specs.BTreeSet.{BTreeSet, IsEmpty, Updates, btree_set_len, contains}
 use Rattle.std.specs.List.{AllByRecursion, IsDistinct, list_any}

@@ -1,5 +1,5 @@
--- A loop that gathers what one statement after the other says: what is gathered so far and what is left to say is all that
--- the statements say.
+-- A loop that gathers what one statement after the other says: what is gathered so far and what is left to say is all
+-- that the statements say.
 use Rattle.std.proofs.Common.{◌≡◌, ◌==◌, ◌&&◌, ◌||◌, ◌++◌, ◌∙◌, ℕ, zero, suc, Bool, true, false, not, cond, List, [], ◌∷◌, length, map, filter, replicate, Option, Some, None, is_some, if◌then◌else◌, nat_eq, refl, sym, ap, append_assoc, append-nil, subst, true≢false}
 use Rattle.std.specs.Prelude.{drop, slice_get, unwrap_or}
 use Rattle.std.specs.Cmp.{IsEquivalence, nat_eq_equiv}
@@ -7,9 +7,9 @@ use Rattle.std.specs.Cmp.Lexicographic.{lists_equiv}
 use Rattle.std.specs.List.{AllByRecursion, IsDistinct, cons_option, last_or, list_any}
 use Rattle.std.specs.Str.{bytes_eq}
 use Rattle.std.proofs.lemmas.List.{map-append}
-use Rattle.catalogue.specs.Saying.{SignalKey, comment_in, each_in, has_message, has_signal, is_passed, last_at, message_comment_in, messages_of, node_comment_in, node_names_of, numbers_of, passed_by, same_signal, signal_comment_in, signal_keys_of, spn_in, table_in, value_texts_in, value_type_in, version_in, with_signal_key}
-use Rattle.catalogue.specs.Statement as says
-use Rattle.catalogue.specs.Statement.{Cited}
+use Rattle.dbc_grammar.specs.Saying.{SignalKey, comment_in, each_in, has_message, has_signal, is_passed, last_at, message_comment_in, messages_of, node_comment_in, node_names_of, numbers_of, passed_by, same_signal, signal_comment_in, signal_keys_of, spn_in, table_in, value_texts_in, value_type_in, version_in, with_signal_key}
+use Rattle.dbc_grammar.specs.Statement as says
+use Rattle.dbc_grammar.specs.Statement.{Cited}
 use Rattle.catalogue.specs.declared.keyword.Keyword.{Keyword}
 use Rattle.catalogue.specs.declared.value_texts.ValueText.{ValueText}
 use Rattle.catalogue.specs.declared.value_type.ValueType.{ValueType}

@@ -1,8 +1,8 @@
 -- Computed rows of what is gathered.
 use Rattle.std.proofs.Common.{◌≡◌, ℕ, [], ◌∷◌, None, Some, nat_eq, refl}
 use Rattle.std.specs.Prelude.{codes}
-use Rattle.catalogue.specs.Parsing.{statements_at}
-use Rattle.catalogue.specs.Statement as says
+use Rattle.dbc_grammar.specs.Parsing.{statements_at}
+use Rattle.dbc_grammar.specs.Statement as says
 use Rattle.catalogue.specs.declared.keyword.Keyword.TheVariants.{Nodes}
 use Rattle.dbc_read.specs.Attaching.{commented}
 use Rattle.dbc_read.specs.Gathering.{BeginWith, IsGathered, finished, with_nothing_attached}

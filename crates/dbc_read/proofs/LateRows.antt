@@ -1,8 +1,8 @@
 -- Computed rows of definitions that come after something was cited.
 use Rattle.std.proofs.Common.{◌≡◌, ◌++◌, true, List, [], ◌∷◌, None, refl, sym, append-nil, subst}
 use Rattle.std.specs.Prelude.{codes}
-use Rattle.catalogue.specs.Parsing.{statements_at}
-use Rattle.catalogue.specs.Statement as says
+use Rattle.dbc_grammar.specs.Parsing.{statements_at}
+use Rattle.dbc_grammar.specs.Statement as says
 use Rattle.catalogue.specs.declared.keyword.Keyword.TheVariants.{Nodes}
 use Rattle.dbc_read.specs.Definitions.{AreDefinitions}
 use Rattle.dbc_read.specs.Gathered.{AreGathered, gathered_after, passed_of}
@@ -18,8 +18,8 @@ use Rattle.dbc_statements.specs.Statement.{content_of, statement_of}
 use Rattle.dbc_statements.specs.declared.statement.MessageLine.{MessageLine}
 use Rattle.dbc_statements.specs.declared.statement.Statement.{Statement}
 
-pub nothing_is_said : AreGathered [] nothing
-nothing_is_said = record {
+pub nothing_is_stated : AreGathered [] nothing
+nothing_is_stated = record {
   version = refl;
   comment = refl;
   nodes = refl;
@@ -38,7 +38,7 @@ nothing_is_said = record {
 late_alone : (late : Statement) (g : Gathered) → DefineLate late [] g (gathered_after None (passed_of late) late.content g)
 unfolding statements_at
 late_alone late g = record {
-  said = [];
+  stated = [];
   read = refl;
   are = λ before are. subst (λ ss. AreDefinitions ss (gathered_after None (passed_of late) late.content g)) (sym (append-nil (before ++ statement_of late ∷ []))) (one_gathered late g _ refl before are);
 }
@@ -46,12 +46,12 @@ late_alone late g = record {
 -- no tokens define nothing
 none_define : DefineAll [] nothing
 unfolding statements_at
-none_define = record { said = []; read = refl; are = record { nodes = refl; tables = refl; messages = refl } }
+none_define = record { stated = []; read = refl; are = record { nodes = refl; tables = refl; messages = refl } }
 
 -- so nothing is found of them, be it all that they say or what they define
 all_is_found : IsFound [] (found.All nothing)
 unfolding statements_at
-all_is_found = record { said = []; read = refl; gathered = nothing_is_said }
+all_is_found = record { stated = []; read = refl; gathered = nothing_is_stated }
 
 definitions_are_found : IsFound [] (found.Definitions nothing)
 definitions_are_found = none_define
@@ -84,9 +84,9 @@ definition_changes_nothing f s lines g does = skipped_apart f [] s lines lines g
 -- nothing changes where no tokens are left
 none_are_left : (f : Finders) (lines : List MessageLine) (g : Gathered) → SettlesOthers f [] lines g lines g
 unfolding statements_at
-none_are_left f lines g = record { said = []; read = refl; gathered = none_apart f lines g }
+none_are_left f lines g = record { stated = []; read = refl; gathered = none_apart f lines g }
 
 -- no tokens say nothing, where no nodes and messages are defined
 none_follow : FollowAll [] [] [] [] nothing
 unfolding statements_at
-none_follow = record { said = []; read = refl; gathered = λ nodes messages. nothing_is_said }
+none_follow = record { stated = []; read = refl; gathered = λ nodes messages. nothing_is_stated }

@@ -21,7 +21,7 @@ pub mod Multiplexors
 pub mod EntryLimits
 pub mod Faultless
 pub mod FaultsAt
-pub mod SheetsSaid
+pub mod SheetsStated
 pub mod FaultsRefuse
 pub mod DefinitionsAlone
 pub mod Divided

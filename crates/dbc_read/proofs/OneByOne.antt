@@ -1,13 +1,13 @@
--- Statements that are gathered as they come: first those that cite nothing, and then those that define nothing that could
--- be cited, which Settled.antt goes on with.
+-- Statements that are gathered as they come: first those that cite nothing, and then those that define nothing that
+-- could be cited, which Settled.antt goes on with.
 use Rattle.std.proofs.Common.{◌≡◌, ◌∙◌, ◌++◌, ℕ, true, false, List, [], ◌∷◌, length, map, Option, Some, None, refl, sym, ap, append_assoc, append-nil, subst, true≢false}
 use Rattle.std.specs.List.{cons_option, flat_map}
 use Rattle.std.specs.Option.{option_map}
 use Rattle.std.proofs.lemmas.List.Elements.{filter_map-append}
-use Rattle.catalogue.specs.Parsing.{statements_at}
-use Rattle.catalogue.specs.Saying.{each_in, message_in, messages_of, node_names_of, nodes_in, numbers_of, signal_keys_of}
-use Rattle.catalogue.specs.Statement as says
-use Rattle.catalogue.specs.Token.{Token}
+use Rattle.dbc_grammar.specs.Parsing.{statements_at}
+use Rattle.dbc_grammar.specs.Saying.{each_in, message_in, messages_of, node_names_of, nodes_in, numbers_of, signal_keys_of}
+use Rattle.dbc_grammar.specs.Statement as says
+use Rattle.dbc_grammar.specs.Token.{Token}
 use Rattle.dbc_read.specs.Gathered.{IsNothing, gathered_after, passed_of}
 use Rattle.dbc_read.specs.Gathering.{BeginWith, DefineNothing, Gathers, IsDefining, IsEmpty, cites, defines, with_definitions, with_empty, with_nothing_attached}
 use Rattle.dbc_read.specs.Lookups.{IsCitedIndex}
@@ -31,49 +31,49 @@ plain_map (Some l) = refl
 pub begin_with_none : (tokens : List Token) → BeginWith [] tokens tokens
 begin_with_none tokens = plain_map (statements_at tokens)
 
-regroup : (said : List says.Statement) (s : says.Statement) (o : Option (List says.Statement))
-    → option_map (λ others. said ++ others) (option_map (λ others. s ∷ others) o) ≡ option_map (λ others. (said ++ s ∷ []) ++ others) o
-regroup said s None = refl
-regroup said s (Some l) = ap (λ (x : List says.Statement). Some x) (sym (append_assoc said (s ∷ []) l))
+regroup : (stated : List says.Statement) (s : says.Statement) (o : Option (List says.Statement))
+    → option_map (λ others. stated ++ others) (option_map (λ others. s ∷ others) o) ≡ option_map (λ others. (stated ++ s ∷ []) ++ others) o
+regroup stated s None = refl
+regroup stated s (Some l) = ap (λ (x : List says.Statement). Some x) (sym (append_assoc stated (s ∷ []) l))
 
-pub begin_with_more : (said : List says.Statement) (s : says.Statement) (a b c : List Token) → BeginWith said a b → BeginsWith s b c → BeginWith (said ++ s ∷ []) a c
-begin_with_more said s a b c h k = h ∙ ap (option_map (λ others. said ++ others)) k.statements ∙ regroup said s (statements_at c)
+pub begin_with_more : (stated : List says.Statement) (s : says.Statement) (a b c : List Token) → BeginWith stated a b → BeginsWith s b c → BeginWith (stated ++ s ∷ []) a c
+begin_with_more stated s a b c h k = h ∙ ap (option_map (λ others. stated ++ others)) k.statements ∙ regroup stated s (statements_at c)
 
-pub begin_with_nothing : (said : List says.Statement) (a b c : List Token) → c ≡ b → BeginWith said a b → BeginWith (said ++ []) a c
-begin_with_nothing said a b c same h = subst (BeginWith (said ++ []) a) (sym same) (subst (λ (x : List says.Statement). BeginWith x a b) (sym (append-nil said)) h)
+pub begin_with_nothing : (stated : List says.Statement) (a b c : List Token) → c ≡ b → BeginWith stated a b → BeginWith (stated ++ []) a c
+begin_with_nothing stated a b c same h = subst (BeginWith (stated ++ []) a) (sym same) (subst (λ (x : List says.Statement). BeginWith x a b) (sym (append-nil stated)) h)
 
-pub begin_with_all : (said : List says.Statement) (a b : List Token) → BeginWith said a b → statements_at b ≡ Some [] → statements_at a ≡ Some said
-begin_with_all said a b h e = h ∙ ap (option_map (λ others. said ++ others)) e ∙ ap (λ (x : List says.Statement). Some x) (append-nil said)
+pub begin_with_all : (stated : List says.Statement) (a b : List Token) → BeginWith stated a b → statements_at b ≡ Some [] → statements_at a ≡ Some stated
+begin_with_all stated a b h e = h ∙ ap (option_map (λ others. stated ++ others)) e ∙ ap (λ (x : List says.Statement). Some x) (append-nil stated)
 
-pub begin_with_rest : (said more : List says.Statement) (a b : List Token) → BeginWith said a b → statements_at b ≡ Some more → statements_at a ≡ Some (said ++ more)
-begin_with_rest said more a b h e = h ∙ ap (option_map (λ others. said ++ others)) e
+pub begin_with_rest : (stated more : List says.Statement) (a b : List Token) → BeginWith stated a b → statements_at b ≡ Some more → statements_at a ≡ Some (stated ++ more)
+begin_with_rest stated more a b h e = h ∙ ap (option_map (λ others. stated ++ others)) e
 
-both_begin : (said more : List says.Statement) (o : Option (List says.Statement))
-    → option_map (λ others. said ++ others) (option_map (λ others. more ++ others) o) ≡ option_map (λ others. (said ++ more) ++ others) o
-both_begin said more None = refl
-both_begin said more (Some l) = ap (λ (x : List says.Statement). Some x) (sym (append_assoc said more l))
+both_begin : (stated more : List says.Statement) (o : Option (List says.Statement))
+    → option_map (λ others. stated ++ others) (option_map (λ others. more ++ others) o) ≡ option_map (λ others. (stated ++ more) ++ others) o
+both_begin stated more None = refl
+both_begin stated more (Some l) = ap (λ (x : List says.Statement). Some x) (sym (append_assoc stated more l))
 
 -- up to a late one
-pub begin_with_both : (said more : List says.Statement) (late : says.Statement) (a b c : List Token) → BeginWith said a b → BeginWith (more ++ late ∷ []) b c → BeginWith ((said ++ more) ++ late ∷ []) a c
-begin_with_both said more late a b c h k =
-    subst (λ (x : List says.Statement). BeginWith x a c) (sym (append_assoc said more (late ∷ [])))
-    (h ∙ ap (option_map (λ others. said ++ others)) k ∙ both_begin said (more ++ late ∷ []) (statements_at c))
+pub begin_with_both : (stated more : List says.Statement) (late : says.Statement) (a b c : List Token) → BeginWith stated a b → BeginWith (more ++ late ∷ []) b c → BeginWith ((stated ++ more) ++ late ∷ []) a c
+begin_with_both stated more late a b c h k =
+    subst (λ (x : List says.Statement). BeginWith x a c) (sym (append_assoc stated more (late ∷ [])))
+    (h ∙ ap (option_map (λ others. stated ++ others)) k ∙ both_begin stated (more ++ late ∷ []) (statements_at c))
 
-pub begin_without : (said : List says.Statement) (a b : List Token) → BeginWith said a b → statements_at b ≡ None → statements_at a ≡ None
-begin_without said a b h e = h ∙ ap (option_map (λ others. said ++ others)) e
+pub begin_without : (stated : List says.Statement) (a b : List Token) → BeginWith stated a b → statements_at b ≡ None → statements_at a ≡ None
+begin_without stated a b h e = h ∙ ap (option_map (λ others. stated ++ others)) e
 
 -- the statements that are read so far, of which something holds
 pub record ReadSoFar (holds : List says.Statement → Type 0) (tokens rest : List Token) : Type 0 where
-  pub said : List says.Statement
-  pub read : BeginWith said tokens rest
-  pub is : holds said
+  pub stated : List says.Statement
+  pub read : BeginWith stated tokens rest
+  pub is : holds stated
 
 pub none_read : (holds : List says.Statement → Type 0) (tokens : List Token) → holds [] → ReadSoFar holds tokens tokens
-none_read holds tokens h = record { said = []; read = begin_with_none tokens; is = h }
+none_read holds tokens h = record { stated = []; read = begin_with_none tokens; is = h }
 
 pub one_read : (old now : List says.Statement → Type 0) (s : says.Statement) (a b c : List Token) → BeginsWith s b c
-    → ((said : List says.Statement) → old said → now (said ++ s ∷ [])) → ReadSoFar old a b → ReadSoFar now a c
-one_read old now s a b c begins step h = record { said = h.said ++ s ∷ []; read = begin_with_more h.said s a b c h.read begins; is = step h.said h.is }
+    → ((stated : List says.Statement) → old stated → now (stated ++ s ∷ [])) → ReadSoFar old a b → ReadSoFar now a c
+one_read old now s a b c begins step h = record { stated = h.stated ++ s ∷ []; read = begin_with_more h.stated s a b c h.read begins; is = step h.stated h.is }
 
 -- Statements that define nothing leave the names, the messages and the keys as they are.
 
@@ -93,14 +93,14 @@ no_messages : (rest : List says.Statement) → DefineNothing rest → messages_o
 no_messages [] h = refl
 no_messages (s ∷ rest) h = no_message s.content (messages_of rest) h.0 ∙ no_messages rest h.1
 
-module _ (said rest : List says.Statement) (none : DefineNothing rest) where
-  pub same_names : node_names_of (said ++ rest) ≡ node_names_of said
+module _ (stated rest : List says.Statement) (none : DefineNothing rest) where
+  pub same_names : node_names_of (stated ++ rest) ≡ node_names_of stated
   same_names =
       ap (flat_map (λ (names : List (List ℕ)). names))
-      (filter_map-append (λ (s : says.Statement). nodes_in s.content) said rest ∙ ap (λ l. each_in nodes_in said ++ l) (none_named rest none) ∙ append-nil (each_in nodes_in said))
+      (filter_map-append (λ (s : says.Statement). nodes_in s.content) stated rest ∙ ap (λ l. each_in nodes_in stated ++ l) (none_named rest none) ∙ append-nil (each_in nodes_in stated))
 
-  pub same_messages : messages_of (said ++ rest) ≡ messages_of said
-  same_messages = filter_map-append (λ (s : says.Statement). message_in s.content) said rest ∙ ap (λ l. messages_of said ++ l) (no_messages rest none) ∙ append-nil (messages_of said)
+  pub same_messages : messages_of (stated ++ rest) ≡ messages_of stated
+  same_messages = filter_map-append (λ (s : says.Statement). message_in s.content) stated rest ∙ ap (λ l. messages_of stated ++ l) (no_messages rest none) ∙ append-nil (messages_of stated)
 
 -- Statements that cite nothing.
 
@@ -142,13 +142,13 @@ empty_either_way nodes messages signals p (content.ValueType cited value_type) g
 empty_either_way nodes messages signals p (content.Spn cited spn) g h = absurd (true≢false h)
 empty_either_way nodes messages signals p c g h = refl
 
-pub one_defined : (said : List says.Statement) (s : Statement) (old now : Gathered) → cites (content_of s.content) ≡ false → now ≡ gathered_after None (passed_of s) s.content old
-    → IsDefining said old → IsDefining (said ++ statement_of s ∷ []) now
-one_defined said s old now cites_none is h = λ rest.
-    let all : List says.Statement = said ++ statement_of s ∷ rest in
+pub one_defined : (stated : List says.Statement) (s : Statement) (old now : Gathered) → cites (content_of s.content) ≡ false → now ≡ gathered_after None (passed_of s) s.content old
+    → IsDefining stated old → IsDefining (stated ++ statement_of s ∷ []) now
+one_defined stated s old now cites_none is h = λ rest.
+    let all : List says.Statement = stated ++ statement_of s ∷ rest in
     let either = empty_either_way (length (node_names_of all)) (length (numbers_of all)) (length (signal_keys_of all)) (passed_of s) s.content old cites_none in
     let here : Gathers all (with_nothing_attached all now) rest = one_gathered all s rest None (with_nothing_attached all old) (with_nothing_attached all now) (no_index all s.content cites_none) (ap (with_nothing_attached all) is ∙ either) (h (statement_of s ∷ rest)) in
-    subst (λ (x : List says.Statement). Gathers x (with_nothing_attached x now) rest) (sym (append_assoc said (statement_of s ∷ []) rest)) here
+    subst (λ (x : List says.Statement). Gathers x (with_nothing_attached x now) rest) (sym (append_assoc stated (statement_of s ∷ []) rest)) here
 
 -- Statements that define nothing.
 
@@ -164,9 +164,9 @@ cited_defines_nothing (says.MessageIs line) h = absurd (true≢false (sym h))
 cited_defines_nothing c h = refl
 
 -- the names and the messages of what is gathered are all that are defined
-module _ (said : List says.Statement) (g : Gathered) (h : IsDefining said g) where
-  pub defined_names : names_of g.nodes ≡ node_names_of said
-  defined_names = sym (append-nil (names_of g.nodes)) ∙ (h []).nodes ∙ ap node_names_of (append-nil said)
+module _ (stated : List says.Statement) (g : Gathered) (h : IsDefining stated g) where
+  pub defined_names : names_of g.nodes ≡ node_names_of stated
+  defined_names = sym (append-nil (names_of g.nodes)) ∙ (h []).nodes ∙ ap node_names_of (append-nil stated)
 
-  pub defined_messages : map message_of g.messages ≡ messages_of said
-  defined_messages = sym (append-nil (map message_of g.messages)) ∙ (h []).messages ∙ ap messages_of (append-nil said)
+  pub defined_messages : map message_of g.messages ≡ messages_of stated
+  defined_messages = sym (append-nil (map message_of g.messages)) ∙ (h []).messages ∙ ap messages_of (append-nil stated)

@@ -11,7 +11,7 @@ use Rattle.std.proofs.lemmas.Bool.{cases_lt}
 use Rattle.std.proofs.lemmas.List.FromFn.{get_or-range_with_len, length-range_with_len}
 use Rattle.std.proofs.lemmas.List.Sorted.{All-permutation, IsPermutation-sym, searchable_from_sorted}
 use Rattle.catalogue.specs.Keyed.{text_cmp}
-use Rattle.catalogue.specs.Statement.{SignalLine}
+use Rattle.dbc_grammar.specs.Statement.{SignalLine}
 use Rattle.catalogue.specs.declared.signal.Signal.{Signal}
 use Rattle.dbc_read.specs.Orders.{AreOrdersOf, IsAscending, IsOrderOf, signal_names}
 use Rattle.dbc_read.specs.declared.orders.Order.{Order}

@@ -8,8 +8,8 @@ use Rattle.std.proofs.lemmas.List.{length-map}
 use Rattle.std.proofs.lemmas.List.Folds.{list_any-append}
 use Rattle.std.proofs.lemmas.Option.{slice_get_within}
 use Rattle.can_id.specs.Ident.{dbc_number}
-use Rattle.catalogue.specs.Saying.{SignalKey, keys_of, same_signal}
-use Rattle.catalogue.specs.Statement as says
+use Rattle.dbc_grammar.specs.Saying.{SignalKey, keys_of, same_signal}
+use Rattle.dbc_grammar.specs.Statement as says
 use Rattle.catalogue.specs.declared.signal.Signal.{Signal}
 use Rattle.dbc_read.specs.Attaching.{HasPlace, IsPlaceOf, all_signals, at_index, with_attachment, flat_index, index_after}
 use Rattle.dbc_read.specs.Faults.{line_number}

@@ -8,10 +8,7 @@ use Rattle.catalogue.specs.Keyed.{put}
 use Rattle.catalogue.proofs.PutKeeps.{put_cases}
 use Rattle.catalogue.specs.Messages.{by_number, has_number, number_of}
 use Rattle.catalogue.specs.declared.message.Message.{Message}
-
-or_parts : (a b : Bool) → (a || b) ≡ false → (a ≡ false) × (b ≡ false)
-or_parts true b h = absurd (true≢false h)
-or_parts false b h = (refl, h)
+use Rattle.dbc_read.proofs.Gathering.{or_parts}
 
 equal_numbers : (m n : Message) → by_number m n ≡ Equal → number_of n == number_of m ≡ true
 equal_numbers m n e = (Decides-eqb (number_of n) (number_of m)).1 (sym (ranked (number_of m) (number_of n) Equal (sym e)))

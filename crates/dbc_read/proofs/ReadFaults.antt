@@ -1,6 +1,6 @@
 -- The fault that `read` gives.
 use Rattle.std.proofs.Common.{◌≡◌, ◌≢◌, ◌≤◌, ℕ, List, length, Some, Result, Err}
-use Rattle.catalogue.specs.Lexing.{LexFault, lexed}
+use Rattle.dbc_grammar.specs.Lexing.{LexFault, lexed}
 use Rattle.dbc_lex.specs.Fault.{fault_of}
 use Rattle.dbc_lex.specs.declared.fault.ReadCode.TheVariants.{Memory}
 use Rattle.dbc_lex.specs.declared.fault.ReadFault.{ReadFault}

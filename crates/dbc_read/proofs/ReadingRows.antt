@@ -2,14 +2,14 @@
 use Rattle.std.proofs.Common.{◌≡◌, ℕ, List, [], ◌∷◌, Some, inl, inr, refl, arith}
 use Rattle.std.specs.Prelude.{codes}
 use Rattle.std.specs.List.{IsDistinct}
-use Rattle.catalogue.specs.Lexing.{StrayByte, first_token, lexed, lexed_in, token_at, word_len}
+use Rattle.dbc_grammar.specs.Lexing.{StrayByte, first_token, lexed, lexed_in, token_at, word_len}
 use Rattle.catalogue.specs.Name.{is_name}
-use Rattle.catalogue.specs.Parsing.{further_at, line_at, nodes_at, nodes_line_at, no_names_at, some_names_at, statement_at, statements_at}
-use Rattle.catalogue.specs.Statement as says
-use Rattle.catalogue.specs.Token.{Token}
-use Rattle.catalogue.specs.TokenLaw.{tokens_without_fault}
+use Rattle.dbc_grammar.specs.Parsing.{further_at, line_at, nodes_at, nodes_line_at, no_names_at, some_names_at, statement_at, statements_at}
+use Rattle.dbc_grammar.specs.Statement as says
+use Rattle.dbc_grammar.specs.Token.{Token}
+use Rattle.dbc_grammar.specs.TokenLaw.{tokens_without_fault}
 use Rattle.catalogue.specs.declared.keyword.Keyword.TheVariants.{Nodes}
-use Rattle.catalogue.specs.declared.token.TokenKind.TheVariants.{Mark, Name}
+use Rattle.dbc_grammar.specs.declared.token.TokenKind.TheVariants.{Mark, Name}
 use Rattle.dbc_lex.specs.declared.fault.ReadCode.TheVariants as code
 use Rattle.dbc_lex.specs.declared.fault.ReadFault.{ReadFault}
 use Rattle.dbc_read.specs.Faults.{IsFault, definition, node}
@@ -35,16 +35,16 @@ tokens =
     record { kind = Name; start = 0; end = 3; text = codes "BU_" } ∷ record { kind = Mark; start = 3; end = 4; text = codes ":" }
     ∷ record { kind = Name; start = 4; end = 5; text = codes "A" } ∷ record { kind = Name; start = 6; end = 7; text = codes "A" } ∷ []
 
-abbrev said : List says.Statement
-said = record { start = 0; keyword = Nodes; content = says.NodesAre (codes "A" ∷ codes "A" ∷ []) } ∷ []
+abbrev stated : List says.Statement
+stated = record { start = 0; keyword = Nodes; content = says.NodesAre (codes "A" ∷ codes "A" ∷ []) } ∷ []
 
 text_has_tokens : lexed 0 text ≡ tokens_without_fault tokens
 unfolding lexed lexed_in first_token token_at word_len
 text_has_tokens = refl
 
-tokens_are_said : statements_at tokens ≡ Some said
+tokens_are_stated : statements_at tokens ≡ Some stated
 unfolding statements_at statement_at line_at nodes_line_at nodes_at some_names_at no_names_at further_at is_name
-tokens_are_said = refl
+tokens_are_stated = refl
 
 abbrev node_at : ℕ → NodeName
 node_at offset = record { at = offset; name = codes "A" }
@@ -52,7 +52,7 @@ node_at offset = record { at = offset; name = codes "A" }
 abbrev gathered : Gathered
 gathered = record nothing { nodes = node_at 4 ∷ node_at 6 ∷ []; node_comments = [] ∷ [] ∷ [] }
 
-nodes_are_gathered : AreGathered said gathered
+nodes_are_gathered : AreGathered stated gathered
 nodes_are_gathered = record {
   version = refl;
   comment = refl;
@@ -78,7 +78,7 @@ second_node_refused = definition (node (record { before = node_at 4 ∷ []; item
 double_node : IsFaultOfText text double_name
 double_node = record {
   gathered = gathered;
-  of = record { said = said; divided = is_divided text tokens text_has_tokens said tokens_are_said; gathered = nodes_are_gathered };
+  of = record { stated = stated; divided = is_divided text tokens text_has_tokens stated tokens_are_stated; gathered = nodes_are_gathered };
   is = second_node_refused;
 }
 

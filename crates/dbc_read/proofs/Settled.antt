@@ -4,10 +4,10 @@ use Rattle.std.specs.Prelude.{IfSome}
 use Rattle.std.specs.List.{flat_map}
 use Rattle.std.proofs.lemmas.List.{length-map}
 use Rattle.can_id.specs.Ident.{dbc_number}
-use Rattle.catalogue.specs.Saying.{keys_of, messages_of, node_names_of, numbers_of, signal_keys_of}
-use Rattle.catalogue.specs.Statement as says
-use Rattle.catalogue.specs.Statement.{Cited}
-use Rattle.catalogue.specs.Token.{Token}
+use Rattle.dbc_grammar.specs.Saying.{keys_of, messages_of, node_names_of, numbers_of, signal_keys_of}
+use Rattle.dbc_grammar.specs.Statement as says
+use Rattle.dbc_grammar.specs.Statement.{Cited}
+use Rattle.dbc_grammar.specs.Token.{Token}
 use Rattle.catalogue.specs.declared.keyword.Keyword.{Keyword}
 use Rattle.catalogue.specs.declared.signal.Signal.{Signal}
 use Rattle.catalogue.specs.declared.value_type.ValueType.TheVariants.{Integer}
@@ -43,8 +43,8 @@ use Rattle.dbc_statements.specs.declared.statement.Statement.{Statement}
 same_line_numbers : (old new : List MessageLine) → map message_of new ≡ map message_of old → line_numbers new ≡ line_numbers old
 same_line_numbers old new same = sym (numbers_of_lines new) ∙ ap (map (λ (m : says.MessageLine). dbc_number m.ident)) same ∙ numbers_of_lines old
 
-pub finds_same : (f : Finders) (old new : List MessageLine) (said : List says.Statement) → map message_of new ≡ map message_of old → Finds f old said → Finds f new said
-finds_same f old new said same are = record {
+pub finds_same : (f : Finders) (old new : List MessageLine) (stated : List says.Statement) → map message_of new ≡ map message_of old → Finds f old stated → Finds f new stated
+finds_same f old new stated same are = record {
   node_names = are.node_names;
   nodes = are.nodes;
   names = are.names;
@@ -58,8 +58,8 @@ finds_signals_same f old new same are = record {
   orders = subst (λ ms. AreOrdersOf ms f.orders.items) (sym same) are.orders;
 }
 
-pub numbers_found : (f : Finders) (lines : List MessageLine) (said : List says.Statement) → Finds f lines said → f.numbers ≡ numbers_of said
-numbers_found f lines said are = are.numbers ∙ sym (numbers_of_lines lines) ∙ ap (map (λ (m : says.MessageLine). dbc_number m.ident)) are.messages
+pub numbers_found : (f : Finders) (lines : List MessageLine) (stated : List says.Statement) → Finds f lines stated → f.numbers ≡ numbers_of stated
+numbers_found f lines stated are = are.numbers ∙ sym (numbers_of_lines lines) ∙ ap (map (λ (m : says.MessageLine). dbc_number m.ident)) are.messages
 
 one_settled : (f : Finders) (s : Statement) (index : Option ℕ) (lines new_lines : List MessageLine) (old now : Gathered) → defines (content_of s.content) ≡ false
     → ((all : List says.Statement) → Finds f lines all → IsCitedIndex all (content_of s.content) index)
@@ -201,13 +201,13 @@ count_keys (line ∷ lines) = by line.signals.items (count_keys lines)
     by (s ∷ items) e = ap suc (by items e)
 
 -- Nothing is attached at first.
-pub begun_with : (said : List says.Statement) (nodes : List NodeName) (lines : List MessageLine) (old attached : Gathered) → names_of nodes ≡ node_names_of said → map message_of lines ≡ messages_of said → HaveNothing lines
-    → attached ≡ record old { node_comments = replicate (length nodes) []; message_comments = replicate (length lines) [] } → with_attached lines attached ≡ with_nothing_attached said old
-begun_with said nodes lines old attached names messages nothing begins =
-    let node_count : length nodes ≡ length (node_names_of said) = sym (length-map nodes (λ (n : NodeName). n.name)) ∙ ap length names in
-    let message_count : length lines ≡ length (numbers_of said)
-    = sym (length-map lines message_of) ∙ ap length messages ∙ sym (length-map (messages_of said) (λ (m : says.MessageLine). dbc_number m.ident)) in
-    let signal_count : length (all_signals lines) ≡ length (signal_keys_of said) = sym (count_keys lines) ∙ ap (λ ms. length (flat_map keys_of ms)) messages in
+pub begun_with : (stated : List says.Statement) (nodes : List NodeName) (lines : List MessageLine) (old attached : Gathered) → names_of nodes ≡ node_names_of stated → map message_of lines ≡ messages_of stated → HaveNothing lines
+    → attached ≡ record old { node_comments = replicate (length nodes) []; message_comments = replicate (length lines) [] } → with_attached lines attached ≡ with_nothing_attached stated old
+begun_with stated nodes lines old attached names messages nothing begins =
+    let node_count : length nodes ≡ length (node_names_of stated) = sym (length-map nodes (λ (n : NodeName). n.name)) ∙ ap length names in
+    let message_count : length lines ≡ length (numbers_of stated)
+    = sym (length-map lines message_of) ∙ ap length messages ∙ sym (length-map (messages_of stated) (λ (m : says.MessageLine). dbc_number m.ident)) in
+    let signal_count : length (all_signals lines) ≡ length (signal_keys_of stated) = sym (count_keys lines) ∙ ap (λ ms. length (flat_map keys_of ms)) messages in
     ap (with_attached lines) begins ∙ nothing (record old { node_comments = replicate (length nodes) []; message_comments = replicate (length lines) [] })
     ∙ (λ i. record old {
       node_comments = replicate (node_count i) [];
@@ -253,38 +253,38 @@ pub all_follow : (f : Finders) (nodes : List NodeName) (lines settled_lines new_
     → map message_of settled_lines ≡ map message_of lines → map message_of new_lines ≡ map message_of settled_lines
     → Settles f (one_or_none first) lines attached settled_lines settled → SettlesTo f end tokens rest settled_lines settled new_lines now → Follow nodes lines first end tokens rest old new_lines now
 all_follow f nodes lines settled_lines new_lines first end tokens rest old attached settled now citing found nothing begins same_first same_others one others = record {
-  said = others.said;
+  stated = others.stated;
   read = others.read;
   gathered = λ before h.
-      let more : List says.Statement = one_or_none first ++ others.said in
+      let more : List says.Statement = one_or_none first ++ others.stated in
       let all : List says.Statement = before ++ more in
-      let none : DefineNothing more = defining_nothing (one_or_none first) others.said (first_defines_nothing first citing) others.none in
+      let none : DefineNothing more = defining_nothing (one_or_none first) others.stated (first_defines_nothing first citing) others.none in
       let g : Gathered = with_definitions nodes lines old in
       let names : names_of nodes ≡ node_names_of all = defined_names before g h ∙ sym (same_names before more none) in
       let messages : map message_of lines ≡ messages_of all = defined_messages before g h ∙ sym (same_messages before more none) in
       let begun : with_attached lines attached ≡ with_nothing_attached all old = begun_with all nodes lines old attached names messages nothing begins in
       let start : Gathers all (with_definitions nodes lines (with_attached lines attached)) more = subst (λ (x : Gathered). Gathers all (with_definitions nodes lines x) more) (sym begun) (h more) in
-      let both : Settles f more lines attached new_lines now = settled_both f (one_or_none first) others.said lines settled_lines new_lines attached settled now same_first one others.gathered in
+      let both : Settles f more lines attached new_lines now = settled_both f (one_or_none first) others.stated lines settled_lines new_lines attached settled now same_first one others.gathered in
       let end : Gathers all (with_definitions nodes lines (with_attached new_lines now)) []
       = both all [] nodes lines (found all names messages) (subst (Gathers all (with_definitions nodes lines (with_attached lines attached))) (sym (append-nil more)) start) in
-      subst (λ (x : List says.Statement). AreGathered x (with_definitions nodes new_lines (with_attached new_lines now))) (sym (append_assoc before (one_or_none first) others.said))
+      subst (λ (x : List says.Statement). AreGathered x (with_definitions nodes new_lines (with_attached new_lines now))) (sym (append_assoc before (one_or_none first) others.stated))
       (gathered_with all nodes nodes lines new_lines (with_attached new_lines now) end names (same_others ∙ same_first ∙ messages));
 }
 
 -- All statements up to the late one: those up to the first that cites something, that one, and those after it.
 
-read_before : (end : Settled) (before said : List says.Statement) (tokens middle rest : List Token) → BeginWith before tokens middle → ReadUpTo end said middle rest → ReadUpTo end (before ++ said) tokens rest
-read_before settled.All before said tokens middle rest h k = begin_with_rest before said tokens middle h k
-read_before (settled.UpTo late) before said tokens middle rest h k = begin_with_both before said (statement_of late) tokens middle rest h k
+read_before : (end : Settled) (before stated : List says.Statement) (tokens middle rest : List Token) → BeginWith before tokens middle → ReadUpTo end stated middle rest → ReadUpTo end (before ++ stated) tokens rest
+read_before settled.All before stated tokens middle rest h k = begin_with_rest before stated tokens middle h k
+read_before (settled.UpTo late) before stated tokens middle rest h k = begin_with_both before stated (statement_of late) tokens middle rest h k
 
 pub all_settled : (end : Settled) (tokens middle rest : List Token) (empty g old now : Gathered) (first : Option Statement) (nodes seen_nodes : List NodeName) (lines new_lines : List MessageLine)
     → nodes ≡ g.nodes → seen_nodes ≡ g.nodes → lines ≡ g.messages → old ≡ with_definitions [] [] g
     → IsEmpty empty → Defines tokens middle empty g first → Follow seen_nodes lines first end middle rest old new_lines now → AreSettled end tokens rest (in_signals (with_definitions nodes new_lines now))
 all_settled end tokens middle rest empty g old now first nodes seen_nodes lines new_lines nodes_are seen_nodes_are lines_are old_is is begun others =
-    let said = begun.said in
-    let defining : IsDefining said (with_definitions seen_nodes lines old) = subst (IsDefining said) (λ i. with_definitions (sym seen_nodes_are i) (sym lines_are i) (sym old_is i)) (begun.gathered (nothing_defined empty is)) in
+    let stated = begun.stated in
+    let defining : IsDefining stated (with_definitions seen_nodes lines old) = subst (IsDefining stated) (λ i. with_definitions (sym seen_nodes_are i) (sym lines_are i) (sym old_is i)) (begun.gathered (nothing_defined empty is)) in
     record {
-      said = (said ++ one_or_none first) ++ others.said;
-      read = read_before end (said ++ one_or_none first) others.said tokens middle rest begun.read others.read;
-      gathered = subst (λ (x : List NodeName). AreGathered ((said ++ one_or_none first) ++ others.said) (in_signals (with_definitions x new_lines now))) (seen_nodes_are ∙ sym nodes_are) (others.gathered said defining);
+      stated = (stated ++ one_or_none first) ++ others.stated;
+      read = read_before end (stated ++ one_or_none first) others.stated tokens middle rest begun.read others.read;
+      gathered = subst (λ (x : List NodeName). AreGathered ((stated ++ one_or_none first) ++ others.stated) (in_signals (with_definitions x new_lines now))) (seen_nodes_are ∙ sym nodes_are) (others.gathered stated defining);
     }

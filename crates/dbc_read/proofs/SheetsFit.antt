@@ -14,8 +14,8 @@ use Rattle.catalogue.specs.WellFormed.{AreFewTexts, AreRostered}
 use Rattle.catalogue.specs.declared.fault.SheetCode.{SheetCode}
 use Rattle.catalogue.specs.declared.message.Message.{Message}
 use Rattle.catalogue.specs.declared.value_table.ValueTable.{ValueTable}
-use Rattle.catalogue.proofs.AscendingUnique.{all_permutation}
-use Rattle.catalogue.proofs.SheetSaid.{nat_flip}
+use Rattle.dbc_grammar.proofs.AscendingUnique.{all_permutation}
+use Rattle.dbc_grammar.proofs.SheetStated.{nat_flip}
 use Rattle.dbc_read.specs.Built.{AreAddable}
 use Rattle.dbc_read.specs.Fit.{CanShareSheet, IsFit, TablesFit}
 use Rattle.dbc_read.specs.Refusal.{Unless, refusal_of}

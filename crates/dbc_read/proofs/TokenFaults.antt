@@ -2,11 +2,11 @@
 use Rattle.std.proofs.Common.{◌≡◌, ◌≤◌, ◌+◌, ◌++◌, ◌∷◌, ℕ, Bool, true, false, List, [], Some, Err, length, min, refl, ap, arith}
 use Rattle.std.specs.Prelude.{if◌then◌else◌, Result}
 use Rattle.std.proofs.lemmas.List.{length-append}
-use Rattle.catalogue.specs.Lexing.{LexFault, StrayByte, UnclosedText, lexed}
-use Rattle.catalogue.specs.Spelling.{is_quote}
-use Rattle.catalogue.specs.Token.{Token}
-use Rattle.catalogue.specs.TokenLaw.{StopsWith}
-use Rattle.catalogue.proofs.TokenExact.{fault_exact}
+use Rattle.dbc_grammar.specs.Lexing.{LexFault, StrayByte, UnclosedText, lexed}
+use Rattle.dbc_grammar.specs.Spelling.{is_quote}
+use Rattle.dbc_grammar.specs.Token.{Token}
+use Rattle.dbc_grammar.specs.TokenLaw.{StopsWith}
+use Rattle.dbc_grammar.proofs.TokenExact.{fault_exact}
 use Rattle.dbc_lex.specs.Fault.{fault_of}
 use Rattle.dbc_lex.specs.declared.fault.ReadFault.{ReadFault}
 

@@ -3,8 +3,8 @@ use Rattle.std.proofs.Common.{◌≡◌, ◌∙◌, ◌++◌, ℕ, nat_eq, List,
 use Rattle.std.specs.List.{flat_map}
 use Rattle.std.specs.Str.{bytes_eq}
 use Rattle.can_id.specs.Ident.{dbc_number}
-use Rattle.catalogue.specs.Saying.{SignalKey, keys_of, last_value_of, message_comment_in, node_comment_in, same_signal, signal_comment_in, spn_in, value_texts_in, value_type_in, whole_message, whole_node, whole_signal}
-use Rattle.catalogue.specs.Statement.{MessageLine, SignalLine, Statement}
+use Rattle.dbc_grammar.specs.Saying.{SignalKey, keys_of, last_value_of, message_comment_in, node_comment_in, same_signal, signal_comment_in, spn_in, value_texts_in, value_type_in, whole_message, whole_node, whole_signal}
+use Rattle.dbc_grammar.specs.Statement.{MessageLine, SignalLine, Statement}
 use Rattle.catalogue.specs.declared.message.Message.{Message}
 use Rattle.catalogue.specs.declared.value_type.ValueType.TheVariants.{Integer}
 use Rattle.dbc_read.specs.Built.{feeds_after, messages_from, nodes_from, signals_from}
@@ -18,8 +18,8 @@ module _ (ss : List Statement) where
   message_comment number = last_value_of nat_eq number [] message_comment_in ss
 
   -- what the statements say of the signals of these keys
-  abbrev pub feeds_said : List SignalKey → Feeds
-  feeds_said keys = record {
+  abbrev pub feeds_stated : List SignalKey → Feeds
+  feeds_stated keys = record {
     comments = map (λ key. last_value_of same_signal key [] signal_comment_in ss) keys;
     values = map (λ key. last_value_of same_signal key [] value_texts_in ss) keys;
     types = map (λ key. last_value_of same_signal key Integer value_type_in ss) keys;
@@ -33,19 +33,19 @@ module _ (ss : List Statement) where
   abbrev keys_in : ℕ → List SignalLine → List SignalKey
   keys_in number lines = map (λ (s : SignalLine). (number, s.name)) lines
 
-  signals_whole : (number : ℕ) (lines : List SignalLine) (more : List SignalKey) → signals_from lines (feeds_said (keys_in number lines ++ more)) ≡ map (whole_signal ss number) lines
+  signals_whole : (number : ℕ) (lines : List SignalLine) (more : List SignalKey) → signals_from lines (feeds_stated (keys_in number lines ++ more)) ≡ map (whole_signal ss number) lines
   signals_whole number [] more = refl
   signals_whole number (line ∷ lines) more = ap (λ l. whole_signal ss number line ∷ l) (signals_whole number lines more)
 
-  after_whole : (number : ℕ) (lines : List SignalLine) (more : List SignalKey) → feeds_after lines (feeds_said (keys_in number lines ++ more)) ≡ feeds_said more
+  after_whole : (number : ℕ) (lines : List SignalLine) (more : List SignalKey) → feeds_after lines (feeds_stated (keys_in number lines ++ more)) ≡ feeds_stated more
   after_whole number [] more = refl
   after_whole number (line ∷ lines) more = after_whole number lines more
 
-  pub messages_whole : (lines : List MessageLine) → messages_from lines (map message_comment (map (λ (m : MessageLine). dbc_number m.ident) lines)) (feeds_said (flat_map keys_of lines)) ≡ map (whole_message ss) lines
+  pub messages_whole : (lines : List MessageLine) → messages_from lines (map message_comment (map (λ (m : MessageLine). dbc_number m.ident) lines)) (feeds_stated (flat_map keys_of lines)) ≡ map (whole_message ss) lines
   messages_whole [] = refl
   messages_whole (line ∷ lines) =
       let more = flat_map keys_of lines in
       let comments = map message_comment (map (λ (m : MessageLine). dbc_number m.ident) lines) in
-      ap (λ (l : List Message). record (whole_message ss line) { signals = signals_from line.signals (feeds_said (keys_of line ++ more)) } ∷ l)
+      ap (λ (l : List Message). record (whole_message ss line) { signals = signals_from line.signals (feeds_stated (keys_of line ++ more)) } ∷ l)
       (ap (messages_from lines comments) (after_whole (dbc_number line.ident) line.signals more) ∙ messages_whole lines)
       ∙ ap (λ signals. record (whole_message ss line) { signals = signals } ∷ map (whole_message ss) lines) (signals_whole (dbc_number line.ident) line.signals more)

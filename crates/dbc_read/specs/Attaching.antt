@@ -1,8 +1,8 @@
 -- Signals with what statements attach to them, in the lines of their messages.
 use Rattle.std.specs.Prelude.{◌≡◌, ◌<◌, ⊤, ℕ, zero, suc, Bool, true, false, List, [], ◌∷◌, drop, length, map, Option, Some, None}
 use Rattle.std.specs.List.{flat_map}
-use Rattle.catalogue.specs.Statement as says
-use Rattle.catalogue.specs.Statement.{Cited}
+use Rattle.dbc_grammar.specs.Statement as says
+use Rattle.dbc_grammar.specs.Statement.{Cited}
 use Rattle.catalogue.specs.declared.message.Message.{Message}
 use Rattle.catalogue.specs.declared.signal.Signal.{Signal}
 use Rattle.dbc_read.specs.Built.{feeds_after, first_or, signals_from}

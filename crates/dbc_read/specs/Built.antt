@@ -3,7 +3,7 @@ use Rattle.std.specs.Prelude.{◌≡◌, ◌++◌, ℕ, List, [], ◌∷◌, dro
 use Rattle.std.specs.List.{AllByRecursion}
 use Rattle.catalogue.specs.Form.{IsSheet}
 use Rattle.catalogue.specs.Sheet.{node_name}
-use Rattle.catalogue.specs.Statement as says
+use Rattle.dbc_grammar.specs.Statement as says
 use Rattle.catalogue.specs.WellFormed.{AreRostered}
 use Rattle.catalogue.specs.declared.message.Message.{Message}
 use Rattle.catalogue.specs.declared.node.Node.{Node}

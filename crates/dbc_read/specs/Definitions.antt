@@ -2,10 +2,10 @@
 use Rattle.std.specs.Prelude.{◌≡◌, ◌++◌, ℕ, Bool, true, false, nat_lt, List, Some, length, map}
 use Rattle.std.specs.List.{AllByRecursion}
 use Rattle.catalogue.specs.Limits.{value_text_limit}
-use Rattle.catalogue.specs.Parsing.{statements_at}
-use Rattle.catalogue.specs.Saying.{each_in, messages_of, node_names_of, table_in}
-use Rattle.catalogue.specs.Statement as says
-use Rattle.catalogue.specs.Token.{Token}
+use Rattle.dbc_grammar.specs.Parsing.{statements_at}
+use Rattle.dbc_grammar.specs.Saying.{each_in, messages_of, node_names_of, table_in}
+use Rattle.dbc_grammar.specs.Statement as says
+use Rattle.dbc_grammar.specs.Token.{Token}
 use Rattle.catalogue.specs.WellFormed.{AreFewTexts}
 use Rattle.dbc_lex.specs.declared.fault.ReadFault.{ReadFault}
 use Rattle.dbc_read.specs.Faults.{IsFaultOfDefinitions}
@@ -39,25 +39,25 @@ pub record AreDefinitions (statements : List says.Statement) (g : Gathered) : Ty
 
 -- they are those of all statements of the tokens, none of which has too many texts
 pub record AreDefinitionsOfTokens (tokens : List Token) (g : Gathered) : Type 0 where
-  pub said : List says.Statement
-  pub read : statements_at tokens ≡ Some said
-  pub few : HaveFewTexts said
-  pub are : AreDefinitions said g
+  pub stated : List says.Statement
+  pub read : statements_at tokens ≡ Some stated
+  pub few : HaveFewTexts stated
+  pub are : AreDefinitions stated g
 
 -- what the statements that are left define is gathered too, none of which has too many texts
 pub record DefineFurther (tokens : List Token) (old new : Gathered) : Type 0 where
-  pub said : List says.Statement
-  pub read : statements_at tokens ≡ Some said
-  pub few : HaveFewTexts said
-  pub are : (before : List says.Statement) → AreDefinitions before old → AreDefinitions (before ++ said) new
+  pub stated : List says.Statement
+  pub read : statements_at tokens ≡ Some stated
+  pub few : HaveFewTexts stated
+  pub are : (before : List says.Statement) → AreDefinitions before old → AreDefinitions (before ++ stated) new
 
 -- some statement of the tokens has too many texts, if they are those of statements
 abbrev pub TokensHaveManyTexts : List Token → Type 0
-TokensHaveManyTexts tokens = (said : List says.Statement) → statements_at tokens ≡ Some said → ¬ HaveFewTexts said
+TokensHaveManyTexts tokens = (stated : List says.Statement) → statements_at tokens ≡ Some stated → ¬ HaveFewTexts stated
 
 -- the same of a text
 abbrev pub HasManyTexts : List ℕ → Type 0
-HasManyTexts bytes = (said : List says.Statement) → IsDivided bytes said → ¬ HaveFewTexts said
+HasManyTexts bytes = (stated : List says.Statement) → IsDivided bytes stated → ¬ HaveFewTexts stated
 
 -- the fault is one of the text's definitions, where no signal has too many texts
 pub record IsDefinitionFault (bytes : List ℕ) (fault : ReadFault) : Type 0 where

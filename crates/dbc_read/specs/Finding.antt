@@ -2,8 +2,8 @@
 use Rattle.std.specs.Prelude.{◌≡◌, ℕ, List, map}
 use Rattle.std.specs.Borrow.{Bor}
 use Rattle.catalogue.specs.Keyed.{text_cmp}
-use Rattle.catalogue.specs.Saying.{messages_of, node_names_of}
-use Rattle.catalogue.specs.Statement.{Statement}
+use Rattle.dbc_grammar.specs.Saying.{messages_of, node_names_of}
+use Rattle.dbc_grammar.specs.Statement.{Statement}
 use Rattle.dbc_read.specs.Keys.{text_of}
 use Rattle.dbc_read.specs.Lookup.{IsLookupOf}
 use Rattle.dbc_read.specs.Numbers.{line_numbers}

@@ -2,8 +2,8 @@
 use Rattle.std.specs.Prelude.{◌≡◌, ℕ, nat_eq, List, [], ◌∷◌, ◌++◌, map, Option, Some, None, length, replicate, slice_set}
 use Rattle.std.specs.List.{IsDistinct, last_or}
 use Rattle.std.specs.Str.{bytes_eq}
-use Rattle.catalogue.specs.Saying.{comment_in, each_in, last_value_of, message_comment_in, messages_of, node_comment_in, node_names_of, numbers_of, passed_by, same_signal, signal_comment_in, signal_keys_of, spn_in, table_in, value_texts_in, value_type_in, version_in}
-use Rattle.catalogue.specs.Statement as says
+use Rattle.dbc_grammar.specs.Saying.{comment_in, each_in, last_value_of, message_comment_in, messages_of, node_comment_in, node_names_of, numbers_of, passed_by, same_signal, signal_comment_in, signal_keys_of, spn_in, table_in, value_texts_in, value_type_in, version_in}
+use Rattle.dbc_grammar.specs.Statement as says
 use Rattle.catalogue.specs.declared.value_type.ValueType.TheVariants.{Integer}
 use Rattle.dbc_read.specs.Lookups.{AreCitedIndices}
 use Rattle.dbc_read.specs.Passed.{start_and_keyword}

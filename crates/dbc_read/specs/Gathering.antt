@@ -4,10 +4,10 @@ use Rattle.std.specs.Prelude.{◌≡◌, ℕ, nat_eq, Bool, true, false, List, [
 use Rattle.std.specs.List.{AllByRecursion, IsDistinct, last_or}
 use Rattle.std.specs.Option.{option_map}
 use Rattle.std.specs.Str.{bytes_eq}
-use Rattle.catalogue.specs.Parsing.{statements_at}
-use Rattle.catalogue.specs.Saying.{comment_in, each_in, is_passed, last_at, last_value_of, message_comment_in, messages_of, node_comment_in, node_names_of, numbers_of, passed_by, same_signal, signal_comment_in, signal_keys_of, spn_in, table_in, value_texts_in, value_type_in, version_in}
-use Rattle.catalogue.specs.Statement as says
-use Rattle.catalogue.specs.Token.{Token}
+use Rattle.dbc_grammar.specs.Parsing.{statements_at}
+use Rattle.dbc_grammar.specs.Saying.{comment_in, each_in, is_passed, last_at, last_value_of, message_comment_in, messages_of, node_comment_in, node_names_of, numbers_of, passed_by, same_signal, signal_comment_in, signal_keys_of, spn_in, table_in, value_texts_in, value_type_in, version_in}
+use Rattle.dbc_grammar.specs.Statement as says
+use Rattle.dbc_grammar.specs.Token.{Token}
 use Rattle.catalogue.specs.declared.keyword.Keyword.{Keyword}
 use Rattle.catalogue.specs.declared.value_type.ValueType.TheVariants.{Integer}
 use Rattle.dbc_read.specs.Attaching.{all_signals, cites_signal, with_attached}
@@ -110,7 +110,7 @@ with_definitions nodes messages g = record g { nodes = nodes; messages = message
 
 -- the statements so far are gathered, whatever the rest is; they cite nothing
 abbrev pub IsDefining : List says.Statement → Gathered → Type 0
-IsDefining said g = (rest : List says.Statement) → Gathers (said ++ rest) (with_nothing_attached (said ++ rest) g) rest
+IsDefining stated g = (rest : List says.Statement) → Gathers (stated ++ rest) (with_nothing_attached (stated ++ rest) g) rest
 
 -- nothing is attached to the signals of each of the lines
 abbrev pub AreBare : List MessageLine → Type 0
@@ -125,7 +125,8 @@ HaveNothing lines = (g : Gathered) → with_attached lines g ≡ record g {
   signal_spns = replicate (length (all_signals lines)) 0;
 }
 
--- these statements, which define nothing, are gathered where what they cite is found; what is attached to signals is in the lines
+-- these statements, which define nothing, are gathered where what they cite is found; what is attached to signals is in
+-- the lines
 abbrev pub Settles : Finders → List says.Statement → List MessageLine → Gathered → List MessageLine → Gathered → Type 0
 Settles f more lines old new_lines new = (all rest : List says.Statement) (nodes : List NodeName) (messages : List MessageLine) → Finds f lines all
     → Gathers all (with_definitions nodes messages (with_attached lines old)) (more ++ rest) → Gathers all (with_definitions nodes messages (with_attached new_lines new)) rest
@@ -139,7 +140,7 @@ pub record IsGathered (f : Finders) (p : Passed) (c : Content) (old new : Gather
 
 -- Tokens that begin with these statements, and then the rest.
 abbrev pub BeginWith : List says.Statement → List Token → List Token → Type 0
-BeginWith said tokens rest = statements_at tokens ≡ option_map (λ others. said ++ others) (statements_at rest)
+BeginWith stated tokens rest = statements_at tokens ≡ option_map (λ others. stated ++ others) (statements_at rest)
 
 abbrev pub one_or_none : Option Statement → List says.Statement
 one_or_none None = []
@@ -147,19 +148,19 @@ one_or_none (Some s) = statement_of s ∷ []
 
 -- statements are gathered up to the first that cites something, or the last
 pub record Defines (tokens rest : List Token) (old new : Gathered) (first : Option Statement) : Type 0 where
-  pub said : List says.Statement
-  pub read : BeginWith (said ++ one_or_none first) tokens rest
+  pub stated : List says.Statement
+  pub read : BeginWith (stated ++ one_or_none first) tokens rest
   pub cites : IfSome first (λ s. cites (content_of s.content) ≡ true)
-  pub gathered : IsDefining [] old → IsDefining said new
+  pub gathered : IsDefining [] old → IsDefining stated new
 
 -- it is what all statements of the tokens say
 pub record IsOfTokens (tokens : List Token) (g : Gathered) : Type 0 where
-  pub said : List says.Statement
-  pub read : statements_at tokens ≡ Some said
-  pub gathered : AreGathered said g
+  pub stated : List says.Statement
+  pub read : statements_at tokens ≡ Some stated
+  pub gathered : AreGathered stated g
 
 -- it is what all statements of the text say
 pub record IsOfText (bytes : List ℕ) (g : Gathered) : Type 0 where
-  pub said : List says.Statement
-  pub divided : IsDivided bytes said
-  pub gathered : AreGathered said g
+  pub stated : List says.Statement
+  pub divided : IsDivided bytes stated
+  pub gathered : AreGathered stated g

@@ -1,8 +1,8 @@
 -- The keys of nodes, messages and signals, which hold references, and the keys of the definitions that they mean.
 use Rattle.std.specs.Prelude.{◌≡◌, ℕ, List, map}
 use Rattle.std.specs.Borrow.{Bor}
-use Rattle.catalogue.specs.Saying.{SignalKey, node_names_of, numbers_of, signal_keys_of}
-use Rattle.catalogue.specs.Statement.{Statement}
+use Rattle.dbc_grammar.specs.Saying.{SignalKey, node_names_of, numbers_of, signal_keys_of}
+use Rattle.dbc_grammar.specs.Statement.{Statement}
 use Rattle.dbc_read.specs.declared.keys.Keys.{Keys}
 
 abbrev pub text_of : Bor (List ℕ) → List ℕ

@@ -1,9 +1,9 @@
 -- Definitions that come after something was cited: they are gathered alone, and then all other statements without them.
 use Rattle.std.specs.Prelude.{◌≡◌, List, [], ◌∷◌, ◌++◌, map, Some}
-use Rattle.catalogue.specs.Parsing.{statements_at}
-use Rattle.catalogue.specs.Saying.{messages_of, node_names_of}
-use Rattle.catalogue.specs.Statement as says
-use Rattle.catalogue.specs.Token.{Token}
+use Rattle.dbc_grammar.specs.Parsing.{statements_at}
+use Rattle.dbc_grammar.specs.Saying.{messages_of, node_names_of}
+use Rattle.dbc_grammar.specs.Statement as says
+use Rattle.dbc_grammar.specs.Token.{Token}
 use Rattle.dbc_read.specs.Attaching.{in_signals, with_attached}
 use Rattle.dbc_read.specs.Definitions.{AreDefinitions}
 use Rattle.dbc_read.specs.Finding.{Finds}
@@ -20,15 +20,15 @@ use Rattle.dbc_statements.specs.declared.statement.Statement.{Statement}
 
 -- what the late statement and those after it define is gathered too
 pub record DefineLate (late : Statement) (tokens : List Token) (old new : Gathered) : Type 0 where
-  pub said : List says.Statement
-  pub read : statements_at tokens ≡ Some said
-  pub are : (before : List says.Statement) → AreDefinitions before old → AreDefinitions ((before ++ statement_of late ∷ []) ++ said) new
+  pub stated : List says.Statement
+  pub read : statements_at tokens ≡ Some stated
+  pub are : (before : List says.Statement) → AreDefinitions before old → AreDefinitions ((before ++ statement_of late ∷ []) ++ stated) new
 
 -- what all statements of the tokens define
 pub record DefineAll (tokens : List Token) (g : Gathered) : Type 0 where
-  pub said : List says.Statement
-  pub read : statements_at tokens ≡ Some said
-  pub are : AreDefinitions said g
+  pub stated : List says.Statement
+  pub read : statements_at tokens ≡ Some stated
+  pub are : AreDefinitions stated g
 
 abbrev pub IsFound : List Token → Found → Type 0
 IsFound tokens (found.All g) = IsOfTokens tokens (in_signals g)
@@ -47,12 +47,12 @@ SettlesApart f more lines old new_lines new = (all rest : List says.Statement) �
 
 -- all statements that are left are
 pub record SettlesOthers (f : Finders) (tokens : List Token) (lines : List MessageLine) (old : Gathered) (new_lines : List MessageLine) (new : Gathered) : Type 0 where
-  pub said : List says.Statement
-  pub read : statements_at tokens ≡ Some said
-  pub gathered : SettlesApart f said lines old new_lines new
+  pub stated : List says.Statement
+  pub read : statements_at tokens ≡ Some stated
+  pub gathered : SettlesApart f stated lines old new_lines new
 
 -- it is what all statements of the tokens say, if they define these nodes and messages
 pub record FollowAll (nodes : List NodeName) (lines : List MessageLine) (tokens : List Token) (new_lines : List MessageLine) (new : Gathered) : Type 0 where
-  pub said : List says.Statement
-  pub read : statements_at tokens ≡ Some said
-  pub gathered : names_of nodes ≡ node_names_of said → map message_of lines ≡ messages_of said → AreGathered said (with_definitions nodes new_lines (with_attached new_lines new))
+  pub stated : List says.Statement
+  pub read : statements_at tokens ≡ Some stated
+  pub gathered : names_of nodes ≡ node_names_of stated → map message_of lines ≡ messages_of stated → AreGathered stated (with_definitions nodes new_lines (with_attached new_lines new))

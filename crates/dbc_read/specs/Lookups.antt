@@ -5,8 +5,8 @@ use Rattle.std.specs.List.{flat_map}
 use Rattle.std.specs.Ordering.{nat_cmp, ordering_then}
 use Rattle.std.specs.Str.{bytes_eq}
 use Rattle.catalogue.specs.Keyed.{text_cmp}
-use Rattle.catalogue.specs.Saying.{keys_of, messages_of, node_names_of, numbers_of, same_signal, signal_keys_of}
-use Rattle.catalogue.specs.Statement.{Cited, Content, MessageCommentIs, MessageLine, NodeCommentIs, SignalCommentIs, SpnIs, Statement, ValueTextsAre, ValueTypeIs}
+use Rattle.dbc_grammar.specs.Saying.{keys_of, messages_of, node_names_of, numbers_of, same_signal, signal_keys_of}
+use Rattle.dbc_grammar.specs.Statement.{Cited, Content, MessageCommentIs, MessageLine, NodeCommentIs, SignalCommentIs, SpnIs, Statement, ValueTextsAre, ValueTypeIs}
 use Rattle.dbc_read.specs.Keys.{key_of, text_of}
 use Rattle.dbc_read.specs.Lookup.{IsIndexIn, IsLookupOf}
 use Rattle.dbc_read.specs.declared.lookups.Lookups.{Lookups}

@@ -1,8 +1,8 @@
 -- A text that reads as no sheet, and its fault.
 use Rattle.std.specs.Prelude.{◌≡◌, ◌≢◌, ◌≤◌, ◌⊎◌, ℕ, List, Some, length}
-use Rattle.catalogue.specs.Lexing.{LexFault, lexed}
-use Rattle.catalogue.specs.Reads.{Reads}
-use Rattle.catalogue.specs.Statement.{Statement}
+use Rattle.dbc_grammar.specs.Lexing.{LexFault, lexed}
+use Rattle.dbc_grammar.specs.Reads.{Reads}
+use Rattle.dbc_grammar.specs.Statement.{Statement}
 use Rattle.catalogue.specs.declared.sheet.Sheet.{Sheet}
 use Rattle.dbc_lex.specs.Fault.{fault_of}
 use Rattle.dbc_lex.specs.declared.fault.ReadCode.TheVariants.{Memory}
@@ -37,4 +37,4 @@ HasFault bytes fault = HasNoDivision bytes ⊎ IsFaultOfText bytes fault
 
 -- What the statements of the text say can't be in one sheet.
 abbrev pub CanNeverBeSheet : List ℕ → Type 0
-CanNeverBeSheet bytes = (said : List Statement) → IsDivided bytes said → (g : Gathered) → AreGathered said g → ¬ CanBeSheet g
+CanNeverBeSheet bytes = (stated : List Statement) → IsDivided bytes stated → (g : Gathered) → AreGathered stated g → ¬ CanBeSheet g

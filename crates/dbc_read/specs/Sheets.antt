@@ -1,7 +1,7 @@
 -- Statements that say no sheet.
 use Rattle.std.specs.Prelude.{List}
-use Rattle.catalogue.specs.Saying.{Says}
-use Rattle.catalogue.specs.Statement.{Statement}
+use Rattle.dbc_grammar.specs.Saying.{Says}
+use Rattle.dbc_grammar.specs.Statement.{Statement}
 use Rattle.catalogue.specs.declared.sheet.Sheet.{Sheet}
 
 abbrev pub SaysNothing : List Statement → Type 0

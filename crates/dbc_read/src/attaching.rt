@@ -56,7 +56,8 @@ fn attach_in(signals: &mut [Signal], at: usize, attachment: Attachment)
 pub(crate) fn attach_at(lines: &mut [MessageLine], place: Place, attachment: Attachment)
     requires { HasPlace lines.old place.message place.signal }
     ensures messages { map message_of lines.new ≡ map message_of lines.old }
-    ensures signals { all_signals lines.new ≡ at_index (with_attachment attachment) (all_signals lines.old) (flat_index lines.old place.message place.signal) }
+    ensures signals { all_signals lines.new ≡ at_index (with_attachment attachment) (all_signals lines.old)
+        (flat_index lines.old place.message place.signal) }
 {
     attach_in(&mut lines[place.message].signals, place.signal, attachment);
 }

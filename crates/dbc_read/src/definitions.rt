@@ -6,10 +6,11 @@
 //! signal. If there is such a statement, the definitions alone don't tell the first fault, since the texts may be of no
 //! signal, or not the last ones of theirs.
 ghost use Rattle.std.specs.Prelude.{◌≡◌, ◌++◌, [], ◌∷◌, List, None, IfErr, IfNone, IfOk, IfSome, OnOk};
-ghost use Rattle.catalogue.specs.Parsing.{statements_at};
-ghost use Rattle.catalogue.specs.Statement as says;
+ghost use Rattle.dbc_grammar.specs.Parsing.{statements_at};
+ghost use Rattle.dbc_grammar.specs.Statement as says;
 ghost use Rattle.dbc_lex.specs.Fault.{UnlessMemory};
-ghost use Rattle.dbc_read.specs.Definitions.{AreDefinitions, AreDefinitionsOfTokens, DefineFurther, HasManyTexts, IsDefinitionFault, TokensHaveManyTexts, has_many_texts, is_definition};
+ghost use Rattle.dbc_read.specs.Definitions.{AreDefinitions, AreDefinitionsOfTokens, DefineFurther, HasManyTexts};
+ghost use Rattle.dbc_read.specs.Definitions.{IsDefinitionFault, TokensHaveManyTexts, has_many_texts, is_definition};
 ghost use Rattle.dbc_read.specs.Reading.{CanNeverBeSheet};
 ghost use Rattle.dbc_statements.specs.Division.{HasNoDivision, TokensComeFirst};
 ghost use Rattle.dbc_statements.specs.Statement.{content_of, statement_of};
@@ -47,7 +48,8 @@ pub(crate) fn gather_definition(
     statement: Statement,
     gathered: &mut Gathered,
 ) -> Result<(), AllocError>
-    ensures { OnOk result ((said : List says.Statement) → AreDefinitions said gathered.old → AreDefinitions (said ++ statement_of statement.entry ∷ []) gathered.new) }
+    ensures { OnOk result ((stated : List says.Statement) → AreDefinitions stated gathered.old
+        → AreDefinitions (stated ++ statement_of statement.entry ∷ []) gathered.new) }
 {
     if is_definition(&statement.content) {
         return gather_statement(None, statement, gathered);

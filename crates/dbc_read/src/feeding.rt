@@ -18,7 +18,8 @@ fn feed_signal(alloc: Global, signal: &mut Signal, feeds: &mut Feeds) -> Result<
     ensures stays { signal_of signal.new ≡ signal_of signal.old }
     ensures fed { OnOk result (signal.new ≡ next_signal (signal_of signal.old) feeds.old) }
     ensures rest { OnOk result (feeds.new ≡ rest_of feeds.old) }
-    ensures refused { IfErr result (λ refusal. Unless refusal (¬ HaveFewTexts (next_signal (signal_of signal.old) feeds.old))) }
+    ensures refused { IfErr result (λ refusal. Unless refusal
+        (¬ HaveFewTexts (next_signal (signal_of signal.old) feeds.old))) }
 {
     let entries = feeds.values.next_or(Entries::empty(alloc));
     let values = entries.into_texts().ok_or(Refusal::NoSheet)?;
@@ -34,7 +35,8 @@ fn feed_signals(alloc: Global, signals: &mut [Signal], feeds: &mut Feeds) -> Res
     ensures stays { signals_of signals.new ≡ signals_of signals.old }
     ensures fed { OnOk result (signals.new ≡ signals_from (signals_of signals.old) feeds.old) }
     ensures rest { OnOk result (feeds.new ≡ feeds_after (signals_of signals.old) feeds.old) }
-    ensures refused { IfErr result (λ refusal. Unless refusal (¬ AllByRecursion HaveFewTexts (signals_from (signals_of signals.old) feeds.old))) }
+    ensures refused { IfErr result (λ refusal. Unless refusal
+        (¬ AllByRecursion HaveFewTexts (signals_from (signals_of signals.old) feeds.old))) }
 {
     for at in 0..signals.len() {
         feed_signal(alloc, &mut signals[at], feeds)?;
@@ -47,7 +49,8 @@ fn feed_line(alloc: Global, line: &mut MessageLine, feeds: &mut Feeds) -> Result
     ensures stays { message_of line.new ≡ message_of line.old }
     ensures fed { OnOk result (line_signals line.new ≡ signals_from (signals_of line.old.signals.items) feeds.old) }
     ensures rest { OnOk result (feeds.new ≡ feeds_after (signals_of line.old.signals.items) feeds.old) }
-    ensures refused { IfErr result (λ refusal. Unless refusal (¬ AllByRecursion HaveFewTexts (signals_from (signals_of line.old.signals.items) feeds.old))) }
+    ensures refused { IfErr result (λ refusal. Unless refusal
+        (¬ AllByRecursion HaveFewTexts (signals_from (signals_of line.old.signals.items) feeds.old))) }
 {
     feed_signals(alloc, &mut line.signals, feeds)
 }
@@ -60,7 +63,8 @@ pub(crate) fn feed_lines(
 ) -> Result<(), Refusal>
     ensures stays { map message_of lines.new ≡ map message_of lines.old }
     ensures fed { OnOk result (map line_signals lines.new ≡ each_fed (map message_of lines.old) feeds) }
-    ensures refused { IfErr result (λ refusal. Unless refusal (¬ AllByRecursion (AllByRecursion HaveFewTexts) (each_fed (map message_of lines.old) feeds))) }
+    ensures refused { IfErr result (λ refusal. Unless refusal
+        (¬ AllByRecursion (AllByRecursion HaveFewTexts) (each_fed (map message_of lines.old) feeds))) }
 {
     let mut feeds = feeds;
     for at in 0..lines.len() {

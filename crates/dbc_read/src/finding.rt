@@ -1,13 +1,13 @@
 //! Which node, message or signal of the lines each statement cites, as statements come one by one.
 //!
 //! A message is found by its number, and a signal by its name among those of its message. The one after the signal that
-//! was found last is tried first, and then that one again. If the name is another's, few signals are compared one by one,
-//! from there on and round; among many it is guessed (`guesses`), and if the guess is wrong, there is a binary search
-//! (`orders`), so that no order of citations takes long.
+//! was found last is tried first, and then that one again. If the name is another's, few signals are compared one by
+//! one, from there on and round; among many it is guessed (`guesses`), and if the guess is wrong, there is a binary
+//! search (`orders`), so that no order of citations takes long.
 ghost use Rattle.std.specs.Prelude.{◌≡◌, ◌==◌, List, IfOk, IfSome, Some, false, map, nat_eq, slice_get, true};
 ghost use Rattle.std.specs.List.{IsDistinct};
 ghost use Rattle.std.specs.Str.{bytes_eq};
-ghost use Rattle.catalogue.specs.Statement as says;
+ghost use Rattle.dbc_grammar.specs.Statement as says;
 ghost use Rattle.catalogue.specs.declared.signal.Signal.{Signal};
 ghost use Rattle.dbc_read.specs.Attaching.{IsPlaceCited, IsPlaceOf, cites_signal};
 ghost use Rattle.dbc_read.specs.Finding.{Finds, FindsAll, FindsSignals};
@@ -240,7 +240,8 @@ impl Track {
     /// The index of the node or the message that is cited, if one is and the file has it.
     pub(crate) fn index(&mut self, finders: &Finders, content: &Content) -> Option<usize>
         requires { cites_signal content.now ≡ false }
-        ensures { (lines : List MessageLine) (statements : List says.Statement) → Finds finders.now lines statements → IsCitedIndex statements (content_of content.now) result }
+        ensures { (lines : List MessageLine) (statements : List says.Statement) → Finds finders.now lines statements
+            → IsCitedIndex statements (content_of content.now) result }
     {
         match content {
             Content::NodeComment(name, _) => finders.nodes.find(name, &mut self.node),

@@ -102,7 +102,8 @@ fn name_fault<T: NamedItem>(
     limit: usize,
 ) -> Result<Option<ReadFault>, AllocError>
     ensures none { IfOk result (λ found. IfNone found (AreNamedWithin T.name_of limit items.now)) }
-    ensures fault { IfOk result (λ found. IfSome found (IsFaultAt T.offset_of (IsNameRefused T.name_of limit) items.now)) }
+    ensures fault { IfOk result (λ found. IfSome found
+        (IsFaultAt T.offset_of (IsNameRefused T.name_of limit) items.now)) }
 {
     if items.len() <= FEW_ITEMS {
         return Ok(few_names_fault(items, limit));

@@ -92,7 +92,9 @@ pub(crate) fn attach_nothing(
     messages: usize,
     gathered: &mut Gathered,
 ) -> Result<(), AllocError>
-    ensures { OnOk result (gathered.new ≡ record gathered.old { node_comments = replicate nodes []; message_comments = replicate messages [] }) }
+    ensures { OnOk result
+        (gathered.new
+        ≡ record gathered.old { node_comments = replicate nodes []; message_comments = replicate messages [] }) }
 {
     gathered.node_comments = no_texts(alloc, nodes)?;
     gathered.message_comments = no_texts(alloc, messages)?;
@@ -101,7 +103,9 @@ pub(crate) fn attach_nothing(
 
 /// Lists of what is attached to so many signals: nothing yet.
 fn list_nothing(alloc: Global, signals: usize, gathered: &mut Gathered) -> Result<(), AllocError>
-    ensures { OnOk result (gathered.new ≡ record gathered.old { signal_comments = replicate signals []; signal_values = replicate signals []; signal_types = replicate signals Integer; signal_spns = replicate signals 0 }) }
+    ensures { OnOk result
+        (gathered.new
+        ≡ record gathered.old { signal_comments = replicate signals []; signal_values = replicate signals []; signal_types = replicate signals Integer; signal_spns = replicate signals 0 }) }
 {
     gathered.signal_comments = no_texts(alloc, signals)?;
     gathered.signal_values = no_entries(alloc, signals)?;
@@ -200,7 +204,8 @@ pub(crate) fn gather_statement(
     statement: Statement,
     gathered: &mut Gathered,
 ) -> Result<(), AllocError>
-    ensures { OnOk result (gathered.new ≡ gathered_after index (passed_of statement.entry) statement.entry.content gathered.old) }
+    ensures { OnOk result (gathered.new ≡ gathered_after index
+        (passed_of statement.entry) statement.entry.content gathered.old) }
 {
     let (at, keyword, content) = statement.into_parts();
     let statement = Passed { at, keyword };
@@ -294,7 +299,8 @@ impl Gathered {
     /// Takes out what is listed of signals.
     fn take_feeds(&mut self) -> Feeds
         ensures feeds { result ≡ feeds_in self.old }
-        ensures rest { self.new ≡ record self.old { signal_comments = []; signal_values = []; signal_types = []; signal_spns = [] } }
+        ensures rest { self.new
+            ≡ record self.old { signal_comments = []; signal_values = []; signal_types = []; signal_spns = [] } }
     {
         Feeds {
             comments: Feed::of(self.signal_comments.take()),

@@ -4,12 +4,13 @@
 //! text is read a second time: its definitions are known, so they are skipped, and the other statements are gathered
 //! one by one as in any file (`settling`). No list of statements is kept.
 ghost use Rattle.std.specs.Prelude.{◌≡◌, None, IfErr, IfOk, IfSome, IsTrue, map};
-ghost use Rattle.catalogue.specs.Parsing.{statements_at};
+ghost use Rattle.dbc_grammar.specs.Parsing.{statements_at};
 ghost use Rattle.dbc_lex.specs.Fault.{UnlessMemory};
 ghost use Rattle.dbc_read.specs.Attaching.{in_signals};
 ghost use Rattle.dbc_read.specs.Gathering.{AreBare, IsEmpty, IsOfTokens};
 ghost use Rattle.dbc_read.specs.Late.{DefineAll, DefineLate, FollowAll};
-ghost use Rattle.dbc_statements.specs.Statement.{HasNothingAttached, HaveNothingAttached, message_of, signal_of, signals_of};
+ghost use Rattle.dbc_statements.specs.Statement.{HasNothingAttached, HaveNothingAttached, message_of, signal_of};
+ghost use Rattle.dbc_statements.specs.Statement.{signals_of};
 
 use crate::definitions::{further_definitions, gather_definition};
 use crate::finding::{Track, finders_of};
@@ -102,7 +103,8 @@ fn gather_again(
     requires bare { AreBare lines.old }
     requires empty { IsEmpty gathered.old }
     ensures source { statements.new.source ≡ statements.old.source }
-    ensures ok { IfOk result (λ all. IsTrue all → FollowAll nodes.now lines.old statements.old.tokens lines.new gathered.new) }
+    ensures ok { IfOk result
+        (λ all. IsTrue all → FollowAll nodes.now lines.old statements.old.tokens lines.new gathered.new) }
     ensures err { IfErr result (λ fault. UnlessMemory fault.code (statements_at statements.old.tokens ≡ None)) }
 {
     match finders_of(alloc, nodes, lines)? {
@@ -124,7 +126,8 @@ pub(crate) fn gathered_again(
 ) -> Result<Option<Gathered>, ReadFault>
     requires { DefineAll statements.old.tokens definitions }
     ensures source { statements.new.source ≡ statements.old.source }
-    ensures ok { IfOk result (λ found. IfSome found (λ gathered. IsOfTokens statements.old.tokens (in_signals gathered))) }
+    ensures ok { IfOk result (λ found. IfSome found
+        (λ gathered. IsOfTokens statements.old.tokens (in_signals gathered))) }
     ensures err { IfErr result (λ fault. UnlessMemory fault.code (statements_at statements.old.tokens ≡ None)) }
 {
     let (nodes, lines) = nodes_and_lines(alloc, definitions);

@@ -1,6 +1,6 @@
 //! Which node, message or signal of the file each statement cites.
 ghost use Rattle.std.specs.Prelude.{List, IfOk};
-ghost use Rattle.catalogue.specs.Statement as says;
+ghost use Rattle.dbc_grammar.specs.Statement as says;
 ghost use Rattle.dbc_read.specs.Keys.{AreKeys};
 ghost use Rattle.dbc_read.specs.Lookups.{AreCitedIndices, AreLookups, IsCitedIndex, IsMessageIndex, IsSignalIndex};
 ghost use Rattle.dbc_statements.specs.Statement.{content_of, statements_of};
@@ -22,7 +22,8 @@ pub(crate) struct Lookups<'s> {
 
 /// The nodes, the messages and the signals that have these keys.
 pub(crate) fn lookups_of(alloc: Global, keys: Keys<'_>) -> Result<Lookups<'_>, AllocError>
-    ensures { IfOk result (λ lookups. (statements : List says.Statement) → AreKeys keys.entry statements → AreLookups lookups statements) }
+    ensures { IfOk result (λ lookups. (statements : List says.Statement) → AreKeys keys.entry statements
+        → AreLookups lookups statements) }
 {
     let Keys {
         nodes,
@@ -38,7 +39,8 @@ pub(crate) fn lookups_of(alloc: Global, keys: Keys<'_>) -> Result<Lookups<'_>, A
 
 /// The index of the message that is cited, if the file has it.
 fn message_index(lookups: &Lookups, cited: Option<u32>, last: &mut usize) -> Option<usize>
-    ensures { (statements : List says.Statement) → AreLookups lookups.now statements → IsMessageIndex statements cited result }
+    ensures { (statements : List says.Statement) → AreLookups lookups.now statements
+        → IsMessageIndex statements cited result }
 {
     match cited {
         Some(number) => lookups.messages.find(&number, last),
@@ -48,7 +50,8 @@ fn message_index(lookups: &Lookups, cited: Option<u32>, last: &mut usize) -> Opt
 
 /// The index of the signal that is cited, if the file has it.
 fn signal_index(lookups: &Lookups, cited: &CitedSignal, last: &mut usize) -> Option<usize>
-    ensures { (statements : List says.Statement) → AreLookups lookups.now statements → IsSignalIndex statements cited.now.number cited.now.name.now result }
+    ensures { (statements : List says.Statement) → AreLookups lookups.now statements
+        → IsSignalIndex statements cited.now.number cited.now.name.now result }
 {
     match cited.number {
         Some(number) => lookups.signals.find(&(number, cited.name), last),
@@ -59,7 +62,8 @@ fn signal_index(lookups: &Lookups, cited: &CitedSignal, last: &mut usize) -> Opt
 /// The index of what the statement cites, if it cites something that the file has. The index that was found last is
 /// tried first.
 pub(crate) fn cited_index(lookups: &Lookups, content: &Content, last: &mut usize) -> Option<usize>
-    ensures { (statements : List says.Statement) → AreLookups lookups.now statements → IsCitedIndex statements (content_of content.now) result }
+    ensures { (statements : List says.Statement) → AreLookups lookups.now statements
+        → IsCitedIndex statements (content_of content.now) result }
 {
     match content {
         Content::NodeComment(name, _) => lookups.nodes.find(name, last),
@@ -78,7 +82,8 @@ pub(crate) fn cited_indices(
     lookups: &Lookups,
     statements: &[Statement],
 ) -> Result<Vec<Option<usize>>, AllocError>
-    ensures { IfOk result (λ found. (all : List says.Statement) → AreLookups lookups.now all → AreCitedIndices all (statements_of statements.now) found.items) }
+    ensures { IfOk result (λ found. (all : List says.Statement) → AreLookups lookups.now all
+        → AreCitedIndices all (statements_of statements.now) found.items) }
 {
     let mut found = Vec::with_capacity(alloc, statements.len())?;
     let mut last = 0;

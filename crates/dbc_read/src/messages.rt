@@ -20,7 +20,8 @@ pub(crate) fn message_of(
     comment: Text,
 ) -> Result<Message, Refusal>
     ensures ok { IfOk result (λ message. message ≡ message_with (message_of line) comment (line_signals line)) }
-    ensures refused { IfErr result (λ refusal. Unless refusal (¬ IsFit (message_with (message_of line) comment (line_signals line)))) }
+    ensures refused { IfErr result (λ refusal. Unless refusal
+        (¬ IsFit (message_with (message_of line) comment (line_signals line)))) }
 {
     let (mut message, signals) = line.into_message(alloc, comment);
     message.signals = signals_of(alloc, signals)?;
@@ -67,7 +68,8 @@ pub(crate) fn by_number(
     lines: Vec<MessageLine>,
     comments: Items<Text>,
 ) -> Result<(Vec<MessageLine>, Items<Text>), AllocError>
-    ensures { IfOk result (λ sorted. IsPermutation (messages_of_lines lines.items comments) (messages_of_lines sorted.0.items sorted.1)) }
+    ensures { IfOk result (λ sorted. IsPermutation (messages_of_lines lines.items comments)
+        (messages_of_lines sorted.0.items sorted.1)) }
 {
     if lines.is_sorted_by_key(|line| line.ident.to_dbc()) {
         return Ok((lines, comments));

@@ -1,7 +1,7 @@
 //! The numbers of a file's messages, in its order, so the index of a number is that of its message.
 //!
-//! They are in a hash set. A file chooses its numbers, and it could choose many that collide under a hash that is known.
-//! So a number is hashed after all numbers of the file: which of them collide depends on all of them.
+//! They are in a hash set. A file chooses its numbers, and it could choose many that collide under a hash that is
+//! known. So a number is hashed after all numbers of the file: which of them collide depends on all of them.
 ghost use Rattle.std.specs.Prelude.{◌≡◌, ◌==◌, IfOk, IfSome, nat_eq};
 ghost use Rattle.std.specs.List.{IsDistinct};
 ghost use Rattle.dbc_read.specs.Lookup.{IsIndexIn};

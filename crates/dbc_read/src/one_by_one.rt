@@ -4,7 +4,7 @@
 //! statement comes (`finding`), and it is gathered at once (`settling`). If a definition comes after that, it may be of
 //! something that was cited before. Then only the definitions are gathered to the end (`late`).
 ghost use Rattle.std.specs.Prelude.{◌≡◌, None, IfErr, IfOk, IfSome, OnOk, true};
-ghost use Rattle.catalogue.specs.Parsing.{statements_at};
+ghost use Rattle.dbc_grammar.specs.Parsing.{statements_at};
 ghost use Rattle.dbc_lex.specs.Fault.{UnlessMemory};
 ghost use Rattle.dbc_read.specs.Attaching.{in_signals};
 ghost use Rattle.dbc_read.specs.Finding.{FindsAll, FindsSignals};
@@ -84,7 +84,8 @@ fn gather_found<'a>(
     requires finds { FindsAll finders.now nodes.now lines.old }
     requires bare { AreBare lines.old }
     ensures source { statements.new.source ≡ statements.old.source }
-    ensures ok { IfOk result (λ found. IfSome found (λ settled. Follow nodes.now lines.old first.entry settled statements.old.tokens statements.new.tokens gathered.old lines.new gathered.new)) }
+    ensures ok { IfOk result (λ found. IfSome found
+        (λ settled. Follow nodes.now lines.old first.entry settled statements.old.tokens statements.new.tokens gathered.old lines.new gathered.new)) }
     ensures err { IfErr result (λ fault. UnlessMemory fault.code (statements_at statements.old.tokens ≡ None)) }
 {
     attach_nothing(alloc, nodes.len(), lines.len(), gathered)?;
@@ -108,7 +109,8 @@ fn gather_others<'a>(
     requires cites { IfSome first (λ s. cites (content_of s.content) ≡ true) }
     requires bare { AreBare lines.old }
     ensures source { statements.new.source ≡ statements.old.source }
-    ensures ok { IfOk result (λ found. IfSome found (λ settled. Follow nodes.now lines.old first.entry settled statements.old.tokens statements.new.tokens gathered.old lines.new gathered.new)) }
+    ensures ok { IfOk result (λ found. IfSome found
+        (λ settled. Follow nodes.now lines.old first.entry settled statements.old.tokens statements.new.tokens gathered.old lines.new gathered.new)) }
     ensures err { IfErr result (λ fault. UnlessMemory fault.code (statements_at statements.old.tokens ≡ None)) }
 {
     match finders_of(alloc, nodes, lines)? {
@@ -126,7 +128,8 @@ fn gather_up_to<'a>(
 ) -> Result<Option<Settled<'a>>, ReadFault>
     requires { IsEmpty gathered.old }
     ensures source { statements.new.source ≡ statements.old.source }
-    ensures ok { IfOk result (λ found. IfSome found (λ settled. AreSettled settled statements.old.tokens statements.new.tokens (in_signals gathered.new))) }
+    ensures ok { IfOk result (λ found. IfSome found
+        (λ settled. AreSettled settled statements.old.tokens statements.new.tokens (in_signals gathered.new))) }
     ensures err { IfErr result (λ fault. UnlessMemory fault.code (statements_at statements.old.tokens ≡ None)) }
 {
     let first = gather_definitions(alloc, statements, gathered)?;

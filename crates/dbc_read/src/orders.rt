@@ -1,7 +1,8 @@
 //! The signals of each message in ascending order of their names, so that one is found by binary search.
 //!
-//! Most messages have few signals, and comparing so few names one by one takes no longer. Only the others have an order.
-//! It is a list of indices: signals change when something is attached to them, so no references to names can be kept.
+//! Most messages have few signals, and comparing so few names one by one takes no longer. Only the others have an
+//! order. It is a list of indices: signals change when something is attached to them, so no references to names can be
+//! kept.
 ghost use Rattle.std.specs.Prelude.{◌≡◌, [], get_or, length, map, IfOk, IfSome};
 ghost use Rattle.std.specs.Str.{bytes_eq};
 ghost use Rattle.catalogue.specs.declared.signal.Signal.{Signal};

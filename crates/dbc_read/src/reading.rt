@@ -2,7 +2,7 @@
 //! sheet, its definitions tell the first fault. If too many texts for values leave that open, the text is read into
 //! lists.
 ghost use Rattle.std.specs.Prelude.{◌≡◌, ◌≤◌, Err, IfErr, IfNone, IfOk, IfSome, Ok, length, map};
-ghost use Rattle.catalogue.specs.Reads.{ReadsAs, ReadsOnlyAs};
+ghost use Rattle.dbc_grammar.specs.Reads.{ReadsAs, ReadsOnlyAs};
 ghost use Rattle.dbc_lex.specs.Fault.{UnlessMemory};
 ghost use Rattle.dbc_lex.specs.declared.fault.ReadCode.TheVariants.{Memory};
 ghost use Rattle.dbc_read.specs.Attaching.{in_signals};
@@ -19,7 +19,8 @@ use crate::late::gathered_again;
 use crate::one_by_one::{Found, gathered_one_by_one};
 use crate::passed::Passed;
 use crate::refusal::Refusal;
-use catalogue::{Items, Sheet, texts_read_as_one_sheet};
+use catalogue::{Items, Sheet};
+use dbc_grammar::texts_read_as_one_sheet;
 use dbc_lex::ReadFault;
 use dbc_statements::{Statements, statements_of};
 use std::alloc::Global;
@@ -102,7 +103,8 @@ fn read_lists(alloc: Global, source: &[u8]) -> Result<Reading, ReadFault>
 /// What the text reads as, or `None` if its statements aren't gathered one by one, or if what they say can't be in
 /// one sheet.
 fn read_sheet(alloc: Global, source: &[u8]) -> Result<Option<Reading>, ReadFault>
-    ensures reads { IfOk result (λ found. IfSome found (λ reading. ReadsAs source.now reading.sheet (map start_and_keyword reading.passed))) }
+    ensures reads { IfOk result (λ found. IfSome found
+        (λ reading. ReadsAs source.now reading.sheet (map start_and_keyword reading.passed))) }
     ensures only { IfOk result (λ found. IfSome found (λ reading. ReadsOnlyAs source.now reading.sheet)) }
     ensures err { IfErr result (λ fault. UnlessMemory fault.code (HasNoDivision source.now)) }
     ensures tokens { TokensComeFirst source.now result }
@@ -133,7 +135,7 @@ fn read_text(alloc: Global, source: &[u8]) -> Result<Reading, ReadFault>
 }
 
 /// The one sheet that the text reads as, and the statements that are skipped. The grammar is that of Vector's DBC File
-/// Format Documentation, in this project's profile (docs/GRAMMAR.md).
+/// Format Documentation, in this project's dialect (docs/GRAMMAR.md).
 ///
 /// A fault comes only if the text reads as no sheet, or memory ran out. It is the first fault of the first of these
 /// three kinds that the text has: code 30 or 31 at an offset where no token begins; one of 32 to 39 at a token that

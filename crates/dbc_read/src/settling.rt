@@ -2,8 +2,8 @@
 //!
 //! What they attach to signals is set in these at once, so that the last one counts.
 ghost use Rattle.std.specs.Prelude.{◌≡◌, ℕ, List, None, Some, IfErr, IfOk, IfSome, IsTrue, OnOk, false, map, true};
-ghost use Rattle.catalogue.specs.Parsing.{statements_at};
-ghost use Rattle.catalogue.specs.Statement.{Cited};
+ghost use Rattle.dbc_grammar.specs.Parsing.{statements_at};
+ghost use Rattle.dbc_grammar.specs.Statement.{Cited};
 ghost use Rattle.dbc_lex.specs.Fault.{UnlessMemory};
 ghost use Rattle.dbc_read.specs.Attaching.{HasPlaceIfAny, IsAttached, IsPlaceOf, cites_signal};
 ghost use Rattle.dbc_read.specs.Finding.{FindsSignals};
@@ -52,7 +52,8 @@ fn attach(
 ) -> Result<(), AllocError>
     requires { HasPlaceIfAny lines.old place }
     ensures messages { map message_of lines.new ≡ map message_of lines.old }
-    ensures attached { OnOk result ((number : Cited) (name : List ℕ) → IsPlaceOf lines.old number name place → IsAttached number name attachment statement lines.old lines.new passed.old passed.new) }
+    ensures attached { OnOk result ((number : Cited) (name : List ℕ) → IsPlaceOf lines.old number name place
+        → IsAttached number name attachment statement lines.old lines.new passed.old passed.new) }
 {
     match place {
         Some(place) => {
@@ -92,7 +93,8 @@ fn settle(
     requires none { defines (content_of statement.content) ≡ false }
     requires signals { FindsSignals finders.now lines.old }
     ensures messages { map message_of lines.new ≡ map message_of lines.old }
-    ensures settles { IfOk result (λ all. IsTrue all → Settles finders.now (one_or_none (Some statement.entry)) lines.old gathered.old lines.new gathered.new) }
+    ensures settles { IfOk result (λ all. IsTrue all
+        → Settles finders.now (one_or_none (Some statement.entry)) lines.old gathered.old lines.new gathered.new) }
 {
     let place = track.place_of(finders, lines, &statement.content);
     let (at, keyword, content) = statement.into_parts();
@@ -139,7 +141,8 @@ pub(crate) fn settle_first(
     requires cites { IfSome first (λ s. cites (content_of s.content) ≡ true) }
     requires signals { FindsSignals finders.now lines.old }
     ensures messages { map message_of lines.new ≡ map message_of lines.old }
-    ensures settles { IfOk result (λ all. IsTrue all → Settles finders.now (one_or_none first.entry) lines.old gathered.old lines.new gathered.new) }
+    ensures settles { IfOk result (λ all. IsTrue all
+        → Settles finders.now (one_or_none first.entry) lines.old gathered.old lines.new gathered.new) }
 {
     match first {
         Some(first) => settle(finders, first, track, lines, gathered),
@@ -161,7 +164,8 @@ pub(crate) fn settle_all<'a>(
     requires { FindsSignals finders.now lines.old }
     ensures source { statements.new.source ≡ statements.old.source }
     ensures messages { map message_of lines.new ≡ map message_of lines.old }
-    ensures ok { IfOk result (λ found. IfSome found (λ settled. SettlesTo finders.now settled statements.old.tokens statements.new.tokens lines.old gathered.old lines.new gathered.new)) }
+    ensures ok { IfOk result (λ found. IfSome found
+        (λ settled. SettlesTo finders.now settled statements.old.tokens statements.new.tokens lines.old gathered.old lines.new gathered.new)) }
     ensures err { IfErr result (λ fault. UnlessMemory fault.code (statements_at statements.old.tokens ≡ None)) }
 {
     'statements: while let Some(next) = statements.read_next(alloc)? {
@@ -189,7 +193,9 @@ pub(crate) fn settle_others(
     requires { FindsSignals finders.now lines.old }
     ensures source { statements.new.source ≡ statements.old.source }
     ensures messages { map message_of lines.new ≡ map message_of lines.old }
-    ensures ok { IfOk result (λ all. IsTrue all → SettlesOthers finders.now statements.old.tokens lines.old gathered.old lines.new gathered.new) }
+    ensures ok { IfOk result
+        (λ all. IsTrue all
+        → SettlesOthers finders.now statements.old.tokens lines.old gathered.old lines.new gathered.new) }
     ensures err { IfErr result (λ fault. UnlessMemory fault.code (statements_at statements.old.tokens ≡ None)) }
 {
     'statements: while let Some(next) = statements.read_next(alloc)? {

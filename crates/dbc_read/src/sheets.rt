@@ -43,8 +43,12 @@ pub(crate) fn add_nodes(
     comments: Items<Text>,
     sheet: &mut Sheet,
 ) -> Result<(), Refusal>
-    ensures ok { OnOk result (sheet.new ≡ record sheet.old { nodes = sheet.old.nodes ++ nodes_from (names_of nodes) comments }) }
-    ensures refused { IfErr result (λ refusal. Unless refusal (¬ AreRostered node_name (sheet.old.nodes ++ nodes_from (names_of nodes) comments))) }
+    ensures ok { OnOk result (sheet.new ≡ record sheet.old {
+      nodes = sheet.old.nodes ++ nodes_from
+          (names_of nodes) comments;
+    }) }
+    ensures refused { IfErr result (λ refusal. Unless refusal
+        (¬ AreRostered node_name (sheet.old.nodes ++ nodes_from (names_of nodes) comments))) }
 {
     let mut comments = Feed::of(comments);
     for node in nodes.into_vec() {
@@ -86,9 +90,11 @@ fn add_each(
     comments: Items<Text>,
     sheet: &mut Sheet,
 ) -> Result<(), Refusal>
-    ensures all { OnOk result (IsPermutation (sheet.old.messages ++ messages_of_lines lines.items comments) sheet.new.messages) }
+    ensures all { OnOk result
+        (IsPermutation (sheet.old.messages ++ messages_of_lines lines.items comments) sheet.new.messages) }
     ensures rest { OnOk result (sheet.new ≡ record sheet.old { messages = sheet.new.messages }) }
-    ensures refused { IfErr result (λ refusal. Unless refusal (¬ AreAddable sheet.old.messages (messages_of_lines lines.items comments))) }
+    ensures refused { IfErr result (λ refusal. Unless refusal
+        (¬ AreAddable sheet.old.messages (messages_of_lines lines.items comments))) }
 {
     let mut comments = Feed::of(comments);
     for line in lines {
@@ -106,9 +112,11 @@ pub(crate) fn add_lines(
     comments: Items<Text>,
     sheet: &mut Sheet,
 ) -> Result<(), Refusal>
-    ensures all { OnOk result (IsPermutation (sheet.old.messages ++ messages_of_lines lines comments) sheet.new.messages) }
+    ensures all { OnOk result
+        (IsPermutation (sheet.old.messages ++ messages_of_lines lines comments) sheet.new.messages) }
     ensures rest { OnOk result (sheet.new ≡ record sheet.old { messages = sheet.new.messages }) }
-    ensures refused { IfErr result (λ refusal. Unless refusal (¬ AreAddable sheet.old.messages (messages_of_lines lines comments))) }
+    ensures refused { IfErr result (λ refusal. Unless refusal
+        (¬ AreAddable sheet.old.messages (messages_of_lines lines comments))) }
 {
     let (lines, comments) = by_number(alloc, lines.into_vec(), comments)?;
     add_each(alloc, lines, comments, sheet)?;

@@ -1,11 +1,11 @@
 -- The first token that is read from an offset of a text on, and what is read after it.
 use Rattle.std.proofs.Common.{◌≡◌, ◌≤◌, ℕ, ◌-◌, List, [], ◌∷◌, ◌++◌, length, take, drop, min, slice_range, Option, Some, None, refl, sym, ap, subst, ◌∙◌, arith, append_assoc}
 use Rattle.std.proofs.lemmas.List.{length-append, length-take, take-append-drop, take_at, drop_at, at_drop_all}
-use Rattle.catalogue.specs.Lexing.{LexFault, Lexed, lexed}
-use Rattle.catalogue.specs.Token.{Token}
-use Rattle.catalogue.specs.Tokens.{IsFirst}
-use Rattle.catalogue.specs.declared.token.TokenKind.{TokenKind}
-use Rattle.catalogue.proofs.TokenExact.{IsRead, first_of, read_is_there, there_is_read}
+use Rattle.dbc_grammar.specs.Lexing.{LexFault, Lexed, lexed}
+use Rattle.dbc_grammar.specs.Token.{Token}
+use Rattle.dbc_grammar.specs.Tokens.{IsFirst}
+use Rattle.dbc_grammar.specs.declared.token.TokenKind.{TokenKind}
+use Rattle.dbc_grammar.proofs.TokenExact.{IsRead, first_of, read_is_there, there_is_read}
 use Rattle.dbc_statements.specs.Tokens.{AreTokens, EndsThere, AreSpelled, tokens_from}
 use Rattle.dbc_statements.proofs.Spelled.{read_are_spelled}
 

@@ -1,11 +1,11 @@
 -- Computed rows of the tokens that are left, and of places.
 use Rattle.std.proofs.Common.{◌≡◌, Box, Global, List, [], ◌∷◌, refl, arith}
 use Rattle.std.specs.Prelude.{codes}
-use Rattle.catalogue.specs.Parsing.{line_at, statement_at, statements_at, version_at}
-use Rattle.catalogue.specs.Statement.{Statement, VersionIs}
-use Rattle.catalogue.specs.Token.{Token}
+use Rattle.dbc_grammar.specs.Parsing.{line_at, statement_at, statements_at, version_at}
+use Rattle.dbc_grammar.specs.Statement.{Statement, VersionIs}
+use Rattle.dbc_grammar.specs.Token.{Token}
 use Rattle.catalogue.specs.declared.keyword.Keyword.TheVariants.{Version}
-use Rattle.catalogue.specs.declared.token.TokenKind.TheVariants.{Name, Text}
+use Rattle.dbc_grammar.specs.declared.token.TokenKind.TheVariants.{Name, Text}
 use Rattle.dbc_statements.specs.Left.{BeginsWith}
 use Rattle.dbc_statements.specs.Statement.{HasNoPlaces}
 use Rattle.dbc_statements.specs.declared.statement.Content.TheVariants as content

@@ -4,9 +4,9 @@ use Rattle.std.specs.Prelude.{codes, option_and_then}
 use Rattle.bitlayout.specs.declared.layout.Layout.{Layout}
 use Rattle.bitlayout.specs.declared.layout.Order.{Order}
 use Rattle.decimal.specs.Number.{Number}
-use Rattle.catalogue.specs.Fields.{order_of, sign_of, size_of, start_of}
-use Rattle.catalogue.specs.Parsing.{Parsed, decimal_at, layout_at, mark_at, pair_at, token_at}
-use Rattle.catalogue.specs.Token.{Token}
+use Rattle.dbc_grammar.specs.Fields.{order_of, sign_of, size_of, start_of}
+use Rattle.dbc_grammar.specs.Parsing.{Parsed, decimal_at, layout_at, mark_at, pair_at, token_at}
+use Rattle.dbc_grammar.specs.Token.{Token}
 use Rattle.dbc_statements.specs.Reading.{with_mark}
 
 -- a field, its mark, and what is read after these

@@ -1,13 +1,13 @@
 -- Offsets that the tokens of a text reach, and what is read after them.
 use Rattle.std.proofs.Common.{◌≡◌, ◌≤◌, ℕ, ◌+◌, List, [], ◌∷◌, ◌++◌, length, min, drop, Option, Some, inl, inr, refl, sym, ap, subst, ◌∙◌, arith, append_assoc}
 use Rattle.std.proofs.lemmas.List.{length-append, drop_at}
-use Rattle.catalogue.specs.Lexing.{LexFault, Lexed, lexed}
-use Rattle.catalogue.specs.Parsing.{statement_at}
-use Rattle.catalogue.specs.Statement.{Statement}
-use Rattle.catalogue.specs.Token.{Token}
-use Rattle.catalogue.proofs.Divisions.{statements_repeat}
-use Rattle.catalogue.proofs.Exactness.{Within, within_trans}
-use Rattle.catalogue.proofs.TokenExact.{IsRead, first_of, read_is_there, there_is_read}
+use Rattle.dbc_grammar.specs.Lexing.{LexFault, Lexed, lexed}
+use Rattle.dbc_grammar.specs.Parsing.{statement_at}
+use Rattle.dbc_grammar.specs.Statement.{Statement}
+use Rattle.dbc_grammar.specs.Token.{Token}
+use Rattle.dbc_grammar.proofs.Divisions.{statements_repeat}
+use Rattle.dbc_grammar.proofs.Exactness.{Within, within_trans}
+use Rattle.dbc_grammar.proofs.TokenExact.{IsRead, first_of, read_is_there, there_is_read}
 use Rattle.dbc_statements.specs.Tokens.{IsReached}
 
 -- the bytes after an offset, and what is read of them

@@ -1,13 +1,13 @@
 -- The statements of a whole text.
 use Rattle.std.proofs.Common.{◌≡◌, ℕ, true, false, List, [], ◌∷◌, Some, None, refl, sym, ap, ◌∙◌}
-use Rattle.catalogue.specs.Lexing.{Lexed, lexed}
-use Rattle.catalogue.specs.Parsing.{many_at, with_front, is_more, statement_at, statements_at}
-use Rattle.catalogue.specs.Statement.{Statement}
-use Rattle.catalogue.specs.Token.{Token}
-use Rattle.catalogue.specs.TokenLaw.{tokens_without_fault}
-use Rattle.catalogue.proofs.Divisions.{reading_is_exact}
-use Rattle.catalogue.proofs.Repeating.{statements_take, breaks_off, is_over}
-use Rattle.catalogue.proofs.TokenExact.{exact}
+use Rattle.dbc_grammar.specs.Lexing.{Lexed, lexed}
+use Rattle.dbc_grammar.specs.Parsing.{many_at, with_front, is_more, statement_at, statements_at}
+use Rattle.dbc_grammar.specs.Statement.{Statement}
+use Rattle.dbc_grammar.specs.Token.{Token}
+use Rattle.dbc_grammar.specs.TokenLaw.{tokens_without_fault}
+use Rattle.dbc_grammar.proofs.Divisions.{reading_is_exact}
+use Rattle.dbc_grammar.proofs.Repeating.{statements_take, breaks_off, is_over}
+use Rattle.dbc_grammar.proofs.TokenExact.{exact}
 use Rattle.dbc_statements.specs.Division.{HasNoDivision, IsDivided}
 use Rattle.dbc_lex.specs.declared.fault.ReadFault.{ReadFault}
 use Rattle.dbc_statements.specs.Tokens.{EndsWith}

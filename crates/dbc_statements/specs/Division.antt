@@ -1,10 +1,10 @@
 -- What a DBC text is divided into.
 use Rattle.std.specs.Prelude.{◌≡◌, ℕ, List, Some, Result, Err}
-use Rattle.catalogue.specs.Division.{Divides}
-use Rattle.catalogue.specs.Lexing.{LexFault, lexed}
-use Rattle.catalogue.specs.Statement.{Statement}
-use Rattle.catalogue.specs.Token.{Token}
-use Rattle.catalogue.specs.Tokens.{HasTokens}
+use Rattle.dbc_grammar.specs.Division.{Divides}
+use Rattle.dbc_grammar.specs.Lexing.{LexFault, lexed}
+use Rattle.dbc_grammar.specs.Statement.{Statement}
+use Rattle.dbc_grammar.specs.Token.{Token}
+use Rattle.dbc_grammar.specs.Tokens.{HasTokens}
 use Rattle.dbc_lex.specs.Fault.{fault_of}
 use Rattle.dbc_lex.specs.declared.fault.ReadFault.{ReadFault}
 

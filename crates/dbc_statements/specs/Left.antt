@@ -1,10 +1,10 @@
 -- What is left of a text whose statements are read one by one.
 use Rattle.std.specs.Prelude.{◌≡◌, ◌<◌, ℕ, List, ◌∷◌, ◌++◌, length}
 use Rattle.std.specs.Option.{option_map}
-use Rattle.catalogue.specs.Lexing.{lexed}
-use Rattle.catalogue.specs.Parsing.{statements_at}
-use Rattle.catalogue.specs.Statement.{Statement}
-use Rattle.catalogue.specs.Token.{Token}
+use Rattle.dbc_grammar.specs.Lexing.{lexed}
+use Rattle.dbc_grammar.specs.Parsing.{statements_at}
+use Rattle.dbc_grammar.specs.Statement.{Statement}
+use Rattle.dbc_grammar.specs.Token.{Token}
 use Rattle.dbc_statements.specs.Tokens.{IsReached}
 
 -- the text, and the tokens that are left of it

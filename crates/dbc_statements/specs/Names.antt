@@ -1,6 +1,6 @@
 -- Names of lists, without those that mean no node.
 use Rattle.std.specs.Prelude.{ℕ, ◌++◌, List, Option, Some, option_and_then, filter_map}
-use Rattle.catalogue.specs.Parsing.{Parsed}
+use Rattle.dbc_grammar.specs.Parsing.{Parsed}
 
 -- those of nodes
 abbrev pub names_in : List (Option (List ℕ)) → List (List ℕ)

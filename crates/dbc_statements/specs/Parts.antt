@@ -1,6 +1,6 @@
 -- The parts of a sheet, made of the statements' lines and of what other statements attach to them.
 use Rattle.std.specs.Prelude.{ℕ, List}
-use Rattle.catalogue.specs.Statement as says
+use Rattle.dbc_grammar.specs.Statement as says
 use Rattle.catalogue.specs.declared.message.Message.{Message}
 use Rattle.catalogue.specs.declared.signal.Signal.{Signal}
 use Rattle.catalogue.specs.declared.value_table.ValueTable.{ValueTable}

@@ -1,7 +1,7 @@
 -- What a function that reads from the front of the tokens returns, and what it leaves.
 use Rattle.std.specs.Prelude.{◌≡◌, ℕ, List, [], ◌∷◌, ◌++◌, Some, None, Result, Ok, Err, option_and_then}
-use Rattle.catalogue.specs.Parsing.{Parsed, mark_at}
-use Rattle.catalogue.specs.Token.{Token}
+use Rattle.dbc_grammar.specs.Parsing.{Parsed, mark_at}
+use Rattle.dbc_grammar.specs.Token.{Token}
 use Rattle.dbc_lex.specs.Fault.{UnlessMemory}
 use Rattle.dbc_lex.specs.declared.fault.ReadFault.{ReadFault}
 

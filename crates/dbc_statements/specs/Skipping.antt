@@ -1,9 +1,9 @@
 -- Tokens that are skipped one by one.
 use Rattle.std.specs.Prelude.{◌≡◌, Bool, not, List, Some}
-use Rattle.catalogue.specs.Grammar.{begins_next}
-use Rattle.catalogue.specs.Parsing.{many_at, one_at, with_front}
-use Rattle.catalogue.specs.Rules.{starts}
-use Rattle.catalogue.specs.Token.{Token}
+use Rattle.dbc_grammar.specs.Grammar.{begins_next}
+use Rattle.dbc_grammar.specs.Parsing.{many_at, one_at, with_front}
+use Rattle.dbc_grammar.specs.Rules.{starts}
+use Rattle.dbc_grammar.specs.Token.{Token}
 
 -- the tokens at the front that pass the test are skipped
 pub record Skips (test : Token → Bool) (tokens rest : List Token) : Type 0 where

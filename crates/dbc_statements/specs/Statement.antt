@@ -1,7 +1,7 @@
 -- The statements of the code as statements of the grammar: without the offsets of names and entries.
 use Rattle.std.specs.Prelude.{◌≡◌, ⊤, ℕ, List, [], map}
 use Rattle.std.specs.List.{AllByRecursion}
-use Rattle.catalogue.specs.Statement as says
+use Rattle.dbc_grammar.specs.Statement as says
 use Rattle.catalogue.specs.declared.signal.Signal.{Signal}
 use Rattle.catalogue.specs.declared.value_type.ValueType.TheVariants.{Integer}
 use Rattle.dbc_statements.specs.declared.statement.Content.{Content}

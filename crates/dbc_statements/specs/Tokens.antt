@@ -1,10 +1,10 @@
 -- The tokens that are left of a text: the first one, and those that are read after its end.
 use Rattle.std.specs.Prelude.{◌≡◌, ◌⊎◌, ◌≤◌, ℕ, List, [], ◌∷◌, ◌++◌, Option, Some, None, drop, length, slice_range, ⊤}
 use Rattle.std.specs.List.{AllByRecursion}
-use Rattle.catalogue.specs.Lexing.{LexFault, Lexed, lexed}
-use Rattle.catalogue.specs.Spelling.{Spells}
-use Rattle.catalogue.specs.Token.{Token}
-use Rattle.catalogue.specs.declared.token.TokenKind.{TokenKind}
+use Rattle.dbc_grammar.specs.Lexing.{LexFault, Lexed, lexed}
+use Rattle.dbc_grammar.specs.Spelling.{Spells}
+use Rattle.dbc_grammar.specs.Token.{Token}
+use Rattle.dbc_grammar.specs.declared.token.TokenKind.{TokenKind}
 use Rattle.dbc_lex.specs.Fault.{fault_of}
 use Rattle.dbc_lex.specs.Token.{token_of}
 use Rattle.dbc_lex.specs.declared.fault.ReadFault.{ReadFault}

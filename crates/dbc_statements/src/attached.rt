@@ -1,8 +1,9 @@
 //! What statements attach to signals: texts for their values, types, and suspect parameter numbers.
 ghost use Rattle.std.specs.Prelude.{◌≡◌, IfOk};
-ghost use Rattle.catalogue.specs.Fields as fields;
-ghost use Rattle.catalogue.specs.Parsing.{either_at, or_else, passed_value_texts_at, skipped_at, spn_at, value_texts_at, value_type_at};
-ghost use Rattle.catalogue.specs.Rules.{begins};
+ghost use Rattle.dbc_grammar.specs.Fields as fields;
+ghost use Rattle.dbc_grammar.specs.Parsing.{either_at, or_else, passed_value_texts_at, skipped_at, spn_at};
+ghost use Rattle.dbc_grammar.specs.Parsing.{value_texts_at, value_type_at};
+ghost use Rattle.dbc_grammar.specs.Rules.{begins};
 ghost use Rattle.dbc_statements.specs.Reading.{Reads};
 ghost use Rattle.dbc_statements.specs.Statement.{NothingIsAttached, content_of};
 
@@ -22,7 +23,8 @@ pub(crate) fn value_texts<'a>(
     alloc: Global,
     tokens: &mut Tokens<'a>,
 ) -> Result<Content<'a>, ReadFault>
-    ensures reads { Reads content_of result (either_at (begins fields.cited_number) value_texts_at passed_value_texts_at tokens.old) tokens.new }
+    ensures reads { Reads content_of result (either_at
+        (begins fields.cited_number) value_texts_at passed_value_texts_at tokens.old) tokens.new }
     ensures nothing { IfOk result NothingIsAttached }
 {
     let token = tokens.front()?;

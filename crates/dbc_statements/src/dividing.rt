@@ -1,7 +1,7 @@
 //! The statements of a text, one by one.
 ghost use Rattle.std.specs.Prelude.{◌≡◌, [], IfErr, IfNone, IfOk, IfSome, None, OnErr, Some};
-ghost use Rattle.catalogue.specs.Lexing.{lexed};
-ghost use Rattle.catalogue.specs.Parsing.{statements_at};
+ghost use Rattle.dbc_grammar.specs.Lexing.{lexed};
+ghost use Rattle.dbc_grammar.specs.Parsing.{statements_at};
 ghost use Rattle.dbc_lex.specs.Fault.{UnlessMemory};
 ghost use Rattle.dbc_statements.specs.Left.{BeginsWith};
 ghost use Rattle.dbc_statements.specs.Statement.{NothingIsAttached, statement_of};
@@ -51,12 +51,13 @@ impl<'a> Statements<'a> {
 
     /// The next statement, or `None` if no token is left.
     ///
-    /// A fault comes only if the tokens that are left aren't a sequence of statements, or memory ran out: one of 32 to 39
-    /// at the first token that can't continue the statement, or at the text's length if it ends too early. Then the
+    /// A fault comes only if the tokens that are left aren't a sequence of statements, or memory ran out: one of 32 to
+    /// 39 at the first token that can't continue the statement, or at the text's length if it ends too early. Then the
     /// statements that are left are the same as before.
     pub fn read_next(&mut self, alloc: Global) -> Result<Option<Statement<'a>>, ReadFault>
         ensures source { self.new.source ≡ self.old.source }
-        ensures next { IfOk result (λ found. IfSome found (λ s. BeginsWith (statement_of s) self.old.tokens self.new.tokens)) }
+        ensures next { IfOk result (λ found. IfSome found
+            (λ s. BeginsWith (statement_of s) self.old.tokens self.new.tokens)) }
         ensures nothing { IfOk result (λ found. IfSome found (λ s. NothingIsAttached s.content)) }
         ensures end { IfOk result (λ found. IfNone found (statements_at self.old.tokens ≡ Some [])) }
         ensures err { IfErr result (λ fault. UnlessMemory fault.code (statements_at self.old.tokens ≡ None)) }
@@ -76,8 +77,8 @@ impl<'a> Statements<'a> {
         }
     }
 
-    /// The fault of tokens that the text has, if any: code 30 or 31 at the first offset where no token begins, wherever it
-    /// is. It comes before any fault of a statement.
+    /// The fault of tokens that the text has, if any: code 30 or 31 at the first offset where no token begins, wherever
+    /// it is. It comes before any fault of a statement.
     pub fn token_fault(&self) -> Result<(), ReadFault>
         ensures ok { IfOk result (λ u. (lexed 0 self.now.source).fault ≡ None) }
         ensures err { IfErr result (λ fault. EndsWith (lexed 0 self.now.source) fault) }

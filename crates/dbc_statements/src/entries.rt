@@ -1,9 +1,10 @@
 //! Lists of values with their texts.
-ghost use Rattle.std.specs.Prelude.{◌≡◌, ◌≤◌, [], ◌∷◌, ◌++◌, IfErr, IfOk, None, OnErr, OnOk, Some, SomeIff, is_some, length, nat_lt};
-ghost use Rattle.catalogue.specs.Grammar as grammar;
+ghost use Rattle.std.specs.Prelude.{◌≡◌, ◌≤◌, [], ◌∷◌, ◌++◌, IfErr, IfOk, None, OnErr, OnOk, Some, SomeIff, is_some};
+ghost use Rattle.std.specs.Prelude.{length, nat_lt};
+ghost use Rattle.dbc_grammar.specs.Grammar as grammar;
 ghost use Rattle.catalogue.specs.Limits.{value_text_limit};
-ghost use Rattle.catalogue.specs.Parsing.{entry_at, entries_at};
-ghost use Rattle.catalogue.specs.Rules.{starts};
+ghost use Rattle.dbc_grammar.specs.Parsing.{entry_at, entries_at};
+ghost use Rattle.dbc_grammar.specs.Rules.{starts};
 ghost use Rattle.dbc_lex.specs.Fault.{UnlessMemory};
 ghost use Rattle.dbc_statements.specs.Reading.{Reads, itself, with_one};
 

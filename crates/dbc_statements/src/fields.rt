@@ -1,12 +1,13 @@
 //! The fields of statements, read from the front of the tokens. Each function removes the tokens of what it returns; a
 //! fault leaves the token that it is about.
 ghost use Rattle.std.specs.Prelude.{◌≡◌, [], ◌∷◌, Some, codes, drop, option_map};
-ghost use Rattle.catalogue.specs.Fields as fields;
-ghost use Rattle.catalogue.specs.Grammar as grammar;
-ghost use Rattle.catalogue.specs.Lexing.{kind_of};
-ghost use Rattle.catalogue.specs.Parsing.{token_at, one_at, optional_at, key_at, mark_at, decimal_at, pair_at, layout_at};
-ghost use Rattle.catalogue.specs.Rules.{begins, starts};
-ghost use Rattle.catalogue.specs.declared.token.TokenKind.TheVariants.{Mark, Number};
+ghost use Rattle.dbc_grammar.specs.Fields as fields;
+ghost use Rattle.dbc_grammar.specs.Grammar as grammar;
+ghost use Rattle.dbc_grammar.specs.Lexing.{kind_of};
+ghost use Rattle.dbc_grammar.specs.Parsing.{token_at, one_at, optional_at, key_at, mark_at, decimal_at, pair_at};
+ghost use Rattle.dbc_grammar.specs.Parsing.{layout_at};
+ghost use Rattle.dbc_grammar.specs.Rules.{begins, starts};
+ghost use Rattle.dbc_grammar.specs.declared.token.TokenKind.TheVariants.{Mark, Number};
 ghost use Rattle.dbc_statements.specs.Reading.{Reads, itself, with_mark};
 
 use crate::tokens::Tokens;
@@ -74,7 +75,8 @@ fn skip_with(tokens: &mut Tokens, spelling: u8) -> Result<(), ReadFault>
 #[inline(always)]
 #[tactic(auto, unfolding(catalogue::specs::Parsing::optional_at))]
 pub(crate) fn optional_mark(tokens: &mut Tokens, mark: u8) -> Option<()>
-    ensures { optional_at (starts (fields.is_mark (mark ∷ []))) (mark_at (mark ∷ [])) tokens.old ≡ Some (result, tokens.new) }
+    ensures { optional_at (starts (fields.is_mark (mark ∷ []))) (mark_at (mark ∷ [])) tokens.old
+        ≡ Some (result, tokens.new) }
 {
     match tokens.first() {
         Some(token) if is_mark(&token, mark) => {
@@ -338,7 +340,8 @@ pub(crate) fn pair(
 ) -> Result<(), ReadFault>
     requires between { kind_of between ≡ Some Mark }
     requires right { kind_of right ≡ Some Mark }
-    ensures { Reads (λ u. (pair.new.first, pair.new.second)) result (pair_at (left ∷ []) (between ∷ []) (right ∷ []) tokens.old) tokens.new }
+    ensures { Reads (λ u. (pair.new.first, pair.new.second)) result
+        (pair_at (left ∷ []) (between ∷ []) (right ∷ []) tokens.old) tokens.new }
 {
     mark(tokens, left)?;
     decimal_with(tokens, between, &mut pair.first)?;

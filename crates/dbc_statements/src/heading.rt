@@ -1,10 +1,11 @@
 //! The heading of a file: its version, new symbols, bit timing, nodes and value tables.
 ghost use Rattle.std.specs.Prelude.{◌≡◌, IfOk, codes};
-ghost use Rattle.catalogue.specs.Fields as fields;
-ghost use Rattle.catalogue.specs.Grammar as grammar;
-ghost use Rattle.catalogue.specs.Parsing.{registers_at, symbols_at, table_at, timing_at, timing_line_at, nodes_line_at, version_at};
-ghost use Rattle.catalogue.specs.Rules.{starts};
-ghost use Rattle.catalogue.specs.declared.token.TokenKind.TheVariants.{Number};
+ghost use Rattle.dbc_grammar.specs.Fields as fields;
+ghost use Rattle.dbc_grammar.specs.Grammar as grammar;
+ghost use Rattle.dbc_grammar.specs.Parsing.{registers_at, symbols_at, table_at, timing_at, timing_line_at};
+ghost use Rattle.dbc_grammar.specs.Parsing.{nodes_line_at, version_at};
+ghost use Rattle.dbc_grammar.specs.Rules.{starts};
+ghost use Rattle.dbc_grammar.specs.declared.token.TokenKind.TheVariants.{Number};
 ghost use Rattle.dbc_statements.specs.Reading.{Reads, itself};
 ghost use Rattle.dbc_statements.specs.Skipping.{Skips};
 ghost use Rattle.dbc_statements.specs.Statement.{NothingIsAttached, content_of, line_content};

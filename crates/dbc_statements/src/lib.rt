@@ -10,8 +10,8 @@
 //! fault, wherever it is, so after the last statement that was begun the rest of the text is searched for one
 //! (`fault_after`). The fields are read from the tokens (`words`, `fields`, `names`, `entries`), the rest of a
 //! statement after each keyword from the fields (`line`, `heading`, `messages`, `signals`, `comments`, `attached`,
-//! `passing`), and a statement is a keyword with its rest (`reading`, `dividing`). What the statements mean together, and
-//! whether that is a sheet, is left to the next layer.
+//! `passing`), and a statement is a keyword with its rest (`reading`, `dividing`). What the statements mean together,
+//! and whether that is a sheet, is left to the next layer.
 #![tactic(auto)]
 
 mod attached;

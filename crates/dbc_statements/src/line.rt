@@ -18,7 +18,8 @@ pub(crate) struct Line<'a> {
 pub(crate) fn line_without_list<'a>(
     read: Result<Content<'a>, ReadFault>,
 ) -> Result<Line<'a>, ReadFault>
-    ensures { MatchResult read.entry (λ content. IsOkAnd result (λ line. line.content ≡ content)) (λ fault. result ≡ Err fault) }
+    ensures { MatchResult read.entry (λ content. IsOkAnd result (λ line. line.content ≡ content))
+        (λ fault. result ≡ Err fault) }
 {
     match read {
         Ok(content) => Ok(Line {

@@ -1,8 +1,8 @@
 //! Messages with their signals.
 ghost use Rattle.std.specs.Prelude.{◌≡◌, IfOk};
-ghost use Rattle.catalogue.specs.Fields as fields;
-ghost use Rattle.catalogue.specs.Parsing.{either_at, independent_at, message_at};
-ghost use Rattle.catalogue.specs.Rules.{begins};
+ghost use Rattle.dbc_grammar.specs.Fields as fields;
+ghost use Rattle.dbc_grammar.specs.Parsing.{either_at, independent_at, message_at};
+ghost use Rattle.dbc_grammar.specs.Rules.{begins};
 ghost use Rattle.dbc_statements.specs.Reading.{Reads};
 ghost use Rattle.dbc_statements.specs.Statement.{NothingIsAttached, line_content};
 
@@ -48,7 +48,8 @@ pub(crate) fn message_or_independent<'a>(
     alloc: Global,
     tokens: &mut Tokens<'a>,
 ) -> Result<Line<'a>, ReadFault>
-    ensures reads { Reads line_content result (either_at (begins fields.message_ident) message_at independent_at tokens.old) tokens.new }
+    ensures reads { Reads line_content result (either_at
+        (begins fields.message_ident) message_at independent_at tokens.old) tokens.new }
     ensures nothing { IfOk result (λ line. NothingIsAttached line.content) }
 {
     if begins_message(tokens) {

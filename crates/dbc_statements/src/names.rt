@@ -1,8 +1,8 @@
 //! Lists of nodes.
 ghost use Rattle.std.specs.Prelude.{◌≡◌, ℕ, List, [], ◌∷◌, ◌++◌, option_map, Some, false, IfErr, IfOk, None, OnOk};
-ghost use Rattle.catalogue.specs.Fields as fields;
-ghost use Rattle.catalogue.specs.Parsing.{token_at, many_at, further_at, some_names_at, nodes_at};
-ghost use Rattle.catalogue.specs.Rules.{begins};
+ghost use Rattle.dbc_grammar.specs.Fields as fields;
+ghost use Rattle.dbc_grammar.specs.Parsing.{token_at, many_at, further_at, some_names_at, nodes_at};
+ghost use Rattle.dbc_grammar.specs.Rules.{begins};
 ghost use Rattle.dbc_lex.specs.Fault.{UnlessMemory};
 ghost use Rattle.dbc_statements.specs.Names.{names_in, with_names};
 ghost use Rattle.dbc_statements.specs.Reading.{Reads, itself};
@@ -164,9 +164,11 @@ fn add_further<L: NodeList>(
     tokens: &mut Tokens,
     nodes: &mut L,
 ) -> Result<(), ReadFault>
-    ensures ok { OnOk result (with_names (L.names nodes.old) (many_at fields.goes_on further_at tokens.old) ≡ Some (L.names nodes.new, tokens.new)) }
+    ensures ok { OnOk result (with_names (L.names nodes.old) (many_at fields.goes_on further_at tokens.old)
+        ≡ Some (L.names nodes.new, tokens.new)) }
     ensures end { OnOk result (fields.goes_on tokens.new ≡ false) }
-    ensures err { IfErr result (λ fault. UnlessMemory fault.code (many_at fields.goes_on further_at tokens.old ≡ None)) }
+    ensures err { IfErr result (λ fault. UnlessMemory fault.code
+        (many_at fields.goes_on further_at tokens.old ≡ None)) }
 {
     'nodes: while goes_on(tokens) {
         let next = further(alloc, tokens)?;

@@ -1,8 +1,8 @@
 //! Statements that are skipped. Only their first keyword and its offset are reported.
 ghost use Rattle.std.specs.Prelude.{◌≡◌, IfOk, true};
-ghost use Rattle.catalogue.specs.Grammar as grammar;
-ghost use Rattle.catalogue.specs.Parsing.{independent_at, passed_comment_at, passed_value_texts_at, skipped_at};
-ghost use Rattle.catalogue.specs.Rules.{starts};
+ghost use Rattle.dbc_grammar.specs.Grammar as grammar;
+ghost use Rattle.dbc_grammar.specs.Parsing.{independent_at, passed_comment_at, passed_value_texts_at, skipped_at};
+ghost use Rattle.dbc_grammar.specs.Rules.{starts};
 ghost use Rattle.dbc_lex.specs.Token.{token_of};
 ghost use Rattle.dbc_statements.specs.Reading.{Reads};
 ghost use Rattle.dbc_statements.specs.Statement.{NothingIsAttached, content_of};

@@ -1,8 +1,8 @@
 //! Statements, one after the other.
 ghost use Rattle.std.specs.Prelude.{◌≡◌, IfOk, IfErr, None, Some};
-ghost use Rattle.catalogue.specs.Grammar as grammar;
-ghost use Rattle.catalogue.specs.Parsing.{line_at, statement_at, statements_at, token_at};
-ghost use Rattle.catalogue.specs.Spelling.{Spells};
+ghost use Rattle.dbc_grammar.specs.Grammar as grammar;
+ghost use Rattle.dbc_grammar.specs.Parsing.{line_at, statement_at, statements_at, token_at};
+ghost use Rattle.dbc_grammar.specs.Spelling.{Spells};
 ghost use Rattle.dbc_lex.specs.Fault.{UnlessMemory};
 ghost use Rattle.dbc_statements.specs.Division.{HasNoDivision, IsDivided, TokensComeFirst};
 ghost use Rattle.dbc_statements.specs.Reading.{Reads, itself};
@@ -157,7 +157,7 @@ fn all_statements<'a>(
 }
 
 /// The statements of a DBC text, in order. The grammar is that of Vector's DBC File Format Documentation, in this
-/// project's profile (docs/GRAMMAR.md).
+/// project's dialect (docs/GRAMMAR.md).
 ///
 /// A fault comes only if the text isn't a sequence of statements, or memory ran out: code 30 or 31 at the first offset
 /// where no token begins, wherever it is, and else one of 32 to 39 at the first token that can't continue the

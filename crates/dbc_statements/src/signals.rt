@@ -1,8 +1,8 @@
 //! The signals of a message.
 ghost use Rattle.std.specs.Prelude.{◌≡◌, [], ◌∷◌, IfErr, IfOk, None, OnOk, Some, codes};
-ghost use Rattle.catalogue.specs.Fields as fields;
-ghost use Rattle.catalogue.specs.Parsing.{token_at, optional_at, mark_at, signal_at, signals_at};
-ghost use Rattle.catalogue.specs.Rules.{begins, starts};
+ghost use Rattle.dbc_grammar.specs.Fields as fields;
+ghost use Rattle.dbc_grammar.specs.Parsing.{token_at, optional_at, mark_at, signal_at, signals_at};
+ghost use Rattle.dbc_grammar.specs.Rules.{begins, starts};
 ghost use Rattle.catalogue.specs.declared.keyword.Keyword.TheVariants.{Signal as SignalWord};
 ghost use Rattle.dbc_lex.specs.Fault.{UnlessMemory};
 ghost use Rattle.dbc_statements.specs.Reading.{Reads, itself, with_one};
@@ -61,7 +61,8 @@ fn add_signal(
     signals: &mut Vec<Signal>,
     places: &mut Vec<SignalPlace>,
 ) -> Result<Ended, ReadFault>
-    ensures ok { OnOk result (with_one (signals_of signals.old.items) (signal_at tokens.old) ≡ Some (signals_of signals.new.items, tokens.new)) }
+    ensures ok { OnOk result (with_one (signals_of signals.old.items) (signal_at tokens.old)
+        ≡ Some (signals_of signals.new.items, tokens.new)) }
     ensures nothing { OnOk result (HaveNothingAttached signals.old.items → HaveNothingAttached signals.new.items) }
     ensures err { IfErr result (λ fault. UnlessMemory fault.code (signal_at tokens.old ≡ None)) }
 {

@@ -1,15 +1,15 @@
 //! The tokens of a text up to its end, or up to the first offset where none begins, one by one, with a look at the next
 //! one.
 ghost use Rattle.std.specs.Prelude.{◌≡◌, [], ◌∷◌, IfErr, IfOk, None, OnErr, OnOk, Some, drop, true};
-ghost use Rattle.catalogue.specs.Fields.{is_mark};
-ghost use Rattle.catalogue.specs.Lexing.{kind_of, lexed};
-ghost use Rattle.catalogue.specs.Rules.{starts};
-ghost use Rattle.catalogue.specs.Spelling.{Spells};
-ghost use Rattle.catalogue.specs.declared.token.TokenKind.TheVariants.{Mark};
+ghost use Rattle.dbc_grammar.specs.Fields.{is_mark};
+ghost use Rattle.dbc_grammar.specs.Lexing.{kind_of, lexed};
+ghost use Rattle.dbc_grammar.specs.Rules.{starts};
+ghost use Rattle.dbc_grammar.specs.Spelling.{Spells};
+ghost use Rattle.dbc_grammar.specs.declared.token.TokenKind.TheVariants.{Mark};
 ghost use Rattle.dbc_lex.specs.Token.{token_of};
 ghost use Rattle.dbc_statements.specs.Tokens.{EndsWith, IsFirst, IsReached, IsSecond, IsSpelled};
 
-use catalogue::TokenKind;
+use dbc_grammar::TokenKind;
 use dbc_lex::{Lexer, ReadCode, ReadFault, Token};
 use std::marker::Model;
 
@@ -27,7 +27,7 @@ pub(crate) struct Tokens<'a> {
 
 impl<'a> Model for Tokens<'a> {
     ghost use Rattle.std.specs.Prelude.{List};
-    ghost use Rattle.catalogue.specs.Token.{Token};
+    ghost use Rattle.dbc_grammar.specs.Token.{Token};
     ghost use Rattle.dbc_statements.specs.Tokens.{AreTokens, tokens_from};
 
     ghost Value = { List Token };

@@ -3,19 +3,20 @@ ghost use Rattle.std.specs.Prelude.{◌≡◌, [], ◌∷◌, ◌&&◌, IfOk, Is
 ghost use Rattle.std.specs.Char.{digit_value};
 ghost use Rattle.std.specs.List.{list_all};
 ghost use Rattle.std.specs.Str.{bytes_eq};
-ghost use Rattle.catalogue.specs.Fields as fields;
-ghost use Rattle.catalogue.specs.Grammar as grammar;
-ghost use Rattle.catalogue.specs.Inside.{inside_of};
+ghost use Rattle.dbc_grammar.specs.Fields as fields;
+ghost use Rattle.dbc_grammar.specs.Grammar as grammar;
+ghost use Rattle.dbc_grammar.specs.Inside.{inside_of};
 ghost use Rattle.catalogue.specs.Keyword.{keyword_text};
 ghost use Rattle.catalogue.specs.Name.{is_c_identifier, is_name, no_node};
-ghost use Rattle.catalogue.specs.Spelling.{Spells};
+ghost use Rattle.dbc_grammar.specs.Spelling.{Spells};
 ghost use Rattle.catalogue.specs.WholeNumber.{is_numeral};
-ghost use Rattle.catalogue.specs.declared.token.TokenKind.TheVariants.{Name, Number, Text, Mark};
+ghost use Rattle.dbc_grammar.specs.declared.token.TokenKind.TheVariants.{Name, Number, Text, Mark};
 ghost use Rattle.dbc_lex.specs.Token.{token_of};
 
 use bitlayout::{Mux, Order, Size};
 use can_id::Ident;
-use catalogue::{Keyword, NAME_LIMIT, NO_NODE, Spn, TokenKind, mux_of_indicator, whole_number};
+use catalogue::{Keyword, NAME_LIMIT, NO_NODE, Spn, mux_of_indicator, whole_number};
+use dbc_grammar::TokenKind;
 use dbc_lex::Token;
 use decimal::Decimal;
 
@@ -55,7 +56,7 @@ pub(crate) fn is_mark(token: &Token, mark: u8) -> bool
     }
 }
 
-/// Whether the bytes spell the keyword. The most frequent ones of those that are asked for are compared as patterns.
+/// Whether the bytes spell the keyword. The most frequent ones of those that are looked for are compared as patterns.
 #[inline(always)]
 fn spells(bytes: &[u8], keyword: Keyword) -> bool
     ensures { result ≡ bytes_eq bytes.now (keyword_text keyword) }

@@ -3,8 +3,8 @@ use Rattle.std.proofs.Common.{◌≡◌, ◌+◌, ◌<◌, ◌++◌, ℕ, List, 
 use Rattle.std.specs.List.{flat_map}
 use Rattle.std.proofs.lemmas.List.{take_more, map-append}
 use Rattle.std.proofs.lemmas.List.Concat.{flat_map-append}
-use Rattle.catalogue.specs.Canon.{Line, line_text, mark, tight, value}
-use Rattle.catalogue.specs.declared.token.TokenKind.TheVariants as kind
+use Rattle.dbc_grammar.specs.Canon.{Line, line_text, mark, tight, value}
+use Rattle.dbc_grammar.specs.declared.token.TokenKind.TheVariants as kind
 use Rattle.decimal.specs.Number.{Number}
 use Rattle.decimal.specs.Printing.{text_of, unsigned_text}
 use Rattle.std.specs.Int.{is_negative}

@@ -1,7 +1,7 @@
 -- The definitions of the attribute SPN are written if some signal has a number.
 use Rattle.std.proofs.Common.{◌≡◌, ◌==◌, ◌||◌, ◌++◌, Bool, true, false, not, if◌then◌else◌, List, [], ◌∷◌, refl, ◌∙◌}
 use Rattle.std.specs.List.{flat_map, list_any}
-use Rattle.catalogue.specs.Canon.{Line, each_signal, spn_definitions, spn_lines, with_spn_definitions}
+use Rattle.dbc_grammar.specs.Canon.{Line, each_signal, spn_definitions, spn_lines, with_spn_definitions}
 use Rattle.catalogue.specs.declared.message.Message.{Message}
 use Rattle.catalogue.specs.declared.sheet.Sheet.{Sheet}
 use Rattle.catalogue.specs.declared.signal.Signal.{Signal}

@@ -1,7 +1,7 @@
 -- What a writer appends to the text before it.
 use Rattle.std.specs.Prelude.{◌≡◌, ℕ, List, ◌++◌}
 use Rattle.std.specs.List.{flat_map}
-use Rattle.catalogue.specs.Canon.{Piece}
+use Rattle.dbc_grammar.specs.Canon.{Piece}
 
 -- a piece's gap, and its token
 abbrev pub piece_text : Piece → List ℕ

@@ -1,7 +1,7 @@
 -- What the sections after the comments give for each signal, and whether any signal has a number.
 use Rattle.std.specs.Prelude.{Bool, ◌==◌, not, List}
 use Rattle.std.specs.List.{list_any}
-use Rattle.catalogue.specs.Canon.{Line, spn_lines, type_lines, value_lines}
+use Rattle.dbc_grammar.specs.Canon.{Line, spn_lines, type_lines, value_lines}
 use Rattle.catalogue.specs.declared.message.Message.{Message}
 use Rattle.catalogue.specs.declared.sheet.Sheet.{Sheet}
 use Rattle.catalogue.specs.declared.signal.Signal.{Signal}

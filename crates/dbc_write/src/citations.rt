@@ -1,6 +1,6 @@
 //! How a line names the signal that it is about.
 ghost use Rattle.std.specs.Prelude.{OnOk};
-ghost use Rattle.catalogue.specs.Canon.{place_pieces, signal_pieces};
+ghost use Rattle.dbc_grammar.specs.Canon.{place_pieces, signal_pieces};
 ghost use Rattle.dbc_write.specs.Adding.{Adds, piece_text};
 
 use crate::tokens::{spaced_number, spaced_word};

@@ -1,7 +1,8 @@
 //! Comments: of the file, of its nodes, and of its messages and their signals.
 ghost use Rattle.std.specs.Prelude.{◌∷◌, [], OnOk, codes};
 ghost use Rattle.std.specs.List.{flat_map};
-ghost use Rattle.catalogue.specs.Canon.{comment_lines, line_text, message_comments, node_comment, number, signal_pieces, space, word};
+ghost use Rattle.dbc_grammar.specs.Canon.{comment_lines, line_text, message_comments, node_comment, number};
+ghost use Rattle.dbc_grammar.specs.Canon.{signal_pieces, space, word};
 ghost use Rattle.catalogue.specs.Messages.{number_of};
 ghost use Rattle.dbc_write.specs.Adding.{Adds};
 

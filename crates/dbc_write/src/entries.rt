@@ -1,6 +1,6 @@
 //! Values with their texts, and value tables.
 ghost use Rattle.std.specs.Prelude.{◌∷◌, [], OnOk, map};
-ghost use Rattle.catalogue.specs.Canon.{entries, entry, line_text, table_line};
+ghost use Rattle.dbc_grammar.specs.Canon.{entries, entry, line_text, table_line};
 ghost use Rattle.dbc_write.specs.Adding.{Adds, piece_text};
 
 use crate::tokens::{quoted, spaced_mark, spaced_value, spaced_word, tight_word};

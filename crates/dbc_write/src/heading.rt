@@ -1,6 +1,6 @@
 //! The four lines that every sheet has: the version, the two empty sections, and the nodes.
 ghost use Rattle.std.specs.Prelude.{◌∷◌, [], OnOk};
-ghost use Rattle.catalogue.specs.Canon.{line_text, nodes_line, symbols_line, timing_line, version_line};
+ghost use Rattle.dbc_grammar.specs.Canon.{line_text, nodes_line, symbols_line, timing_line, version_line};
 ghost use Rattle.dbc_write.specs.Adding.{Adds};
 
 use crate::tokens::{quoted, spaced_mark, spaced_word, tight_mark, tight_word};

@@ -1,7 +1,7 @@
 //! Messages with their signals.
 ghost use Rattle.std.specs.Prelude.{◌≡◌, ◌∷◌, [], OnOk, unwrap_or};
 ghost use Rattle.std.specs.List.{flat_map};
-ghost use Rattle.catalogue.specs.Canon.{line_text, message_line, message_lines};
+ghost use Rattle.dbc_grammar.specs.Canon.{line_text, message_line, message_lines};
 ghost use Rattle.catalogue.specs.Name.{no_node};
 ghost use Rattle.dbc_write.specs.Adding.{Adds};
 

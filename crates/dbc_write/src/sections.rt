@@ -2,7 +2,8 @@
 //! signal after the other.
 ghost use Rattle.std.specs.Prelude.{◌≡◌, ◌∷◌, [], OnOk};
 ghost use Rattle.std.specs.List.{flat_map};
-ghost use Rattle.catalogue.specs.Canon.{each_signal, line_text, spn_default, spn_definition, spn_lines, type_lines, value_lines, with_spn_definitions};
+ghost use Rattle.dbc_grammar.specs.Canon.{each_signal, line_text, spn_default, spn_definition, spn_lines, type_lines};
+ghost use Rattle.dbc_grammar.specs.Canon.{value_lines, with_spn_definitions};
 ghost use Rattle.dbc_write.specs.Adding.{Adds};
 ghost use Rattle.dbc_write.specs.Sections.{has_spn, message_has_spn, section_lines};
 
@@ -74,7 +75,8 @@ fn signal_line(
     message: &Message,
     signal: &Signal,
 ) -> Result<(), AllocError>
-    ensures { OnOk result (Adds line_text text.old.items text.new.items (section_lines section message.now signal.now)) }
+    ensures { OnOk result (Adds line_text text.old.items text.new.items
+        (section_lines section message.now signal.now)) }
 {
     match section {
         Section::Spns => spn_line(text, message, signal),
@@ -95,7 +97,8 @@ fn message_lines(text: &mut Vec<u8>, section: Section, message: &Message) -> Res
 
 /// The lines of a section.
 pub(crate) fn lines(text: &mut Vec<u8>, section: Section, sheet: &Sheet) -> Result<(), AllocError>
-    ensures { OnOk result (Adds line_text text.old.items text.new.items (each_signal (section_lines section) sheet.now)) }
+    ensures { OnOk result (Adds line_text text.old.items text.new.items
+        (each_signal (section_lines section) sheet.now)) }
 {
     for message in sheet.messages() {
         message_lines(text, section, message)?;
@@ -149,7 +152,8 @@ fn default_value(text: &mut Vec<u8>) -> Result<(), AllocError>
 
 /// The suspect parameter numbers; before them, if there are any, the definition of the attribute.
 pub(crate) fn spns(text: &mut Vec<u8>, sheet: &Sheet) -> Result<(), AllocError>
-    ensures { OnOk result (Adds line_text text.old.items text.new.items (with_spn_definitions (each_signal spn_lines sheet.now))) }
+    ensures { OnOk result (Adds line_text text.old.items text.new.items
+        (with_spn_definitions (each_signal spn_lines sheet.now))) }
 {
     if !has_spn(sheet) {
         return Ok(());

@@ -1,7 +1,7 @@
 //! The text of a whole sheet.
 ghost use Rattle.std.specs.Prelude.{◌≡◌, IfOk, OnOk};
-ghost use Rattle.catalogue.specs.Canon.{canonical_lines, canonical_text, line_text};
-ghost use Rattle.catalogue.specs.Reads.{ReadsOnlyAs};
+ghost use Rattle.dbc_grammar.specs.Canon.{canonical_lines, canonical_text, line_text};
+ghost use Rattle.dbc_grammar.specs.Reads.{ReadsOnlyAs};
 ghost use Rattle.dbc_write.specs.Adding.{Adds};
 
 use crate::sections::Section;

@@ -1,6 +1,6 @@
 //! The line of a signal.
 ghost use Rattle.std.specs.Prelude.{◌≡◌, ◌∷◌, [], OnOk};
-ghost use Rattle.catalogue.specs.Canon.{layout_pieces, line_text, mux_pieces, pair, receiver_pieces, signal_line};
+ghost use Rattle.dbc_grammar.specs.Canon.{layout_pieces, line_text, mux_pieces, pair, receiver_pieces, signal_line};
 ghost use Rattle.dbc_write.specs.Adding.{Adds, piece_text};
 
 use crate::tokens::{
@@ -42,7 +42,8 @@ fn pair(
     first: &Decimal,
     second: &Decimal,
 ) -> Result<(), AllocError>
-    ensures { OnOk result (Adds piece_text text.old.items text.new.items (pair (left ∷ []) (between ∷ []) (right ∷ []) first.now second.now)) }
+    ensures { OnOk result (Adds piece_text text.old.items text.new.items
+        (pair (left ∷ []) (between ∷ []) (right ∷ []) first.now second.now)) }
 {
     spaced_mark(text, left)?;
     tight_value(text, first)?;

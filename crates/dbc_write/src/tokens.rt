@@ -1,6 +1,6 @@
 //! Tokens, each after its gap.
 ghost use Rattle.std.specs.Prelude.{◌≡◌, ◌∷◌, [], ◌++◌, OnOk};
-ghost use Rattle.catalogue.specs.Canon.{mark, number, quoted, space, tight, value, word};
+ghost use Rattle.dbc_grammar.specs.Canon.{mark, number, quoted, space, tight, value, word};
 ghost use Rattle.dbc_write.specs.Adding.{Adds, piece_text};
 
 use decimal::Decimal;

@@ -1,5 +1,6 @@
 //! Printing a decimal.
-ghost use Rattle.std.specs.Prelude.{◌≡◌, ◌≤◌, ◌<◌, ◌+◌, ◌^◌, ◌++◌, length, decimal, replicate, pos, negsuc, ◌≤ℤ◌, Some, OnOk, OnErr};
+ghost use Rattle.std.specs.Prelude.{◌≡◌, ◌≤◌, ◌<◌, ◌+◌, ◌^◌, ◌++◌, length, decimal, replicate, pos, negsuc, ◌≤ℤ◌};
+ghost use Rattle.std.specs.Prelude.{Some, OnOk, OnErr};
 ghost use Rattle.arrayvec.specs.ArrayString.{array_string_len};
 ghost use Rattle.decimal.specs.Number.{IsDecimal};
 ghost use Rattle.decimal.specs.Printing.{text_of, unsigned_text, with_point, zero_padded};

@@ -1,10 +1,12 @@
 //! A number token, cut into its parts.
-ghost use Rattle.std.specs.Prelude.{◌≡◌, ◌+◌, ◌≤◌, ◌<◌, ◌^◌, ◌-ℤ◌, ◌+ℤ◌, length, IsTrue, IfSome, IfNone, pos, min, drop};
+ghost use Rattle.std.specs.Prelude.{◌≡◌, ◌+◌, ◌≤◌, ◌<◌, ◌^◌, ◌-ℤ◌, ◌+ℤ◌, length, IsTrue, IfSome, IfNone, pos, min};
+ghost use Rattle.std.specs.Prelude.{drop};
 ghost use Rattle.std.specs.Char.{is_ascii_digit};
 ghost use Rattle.std.specs.List.{prefix_len};
 ghost use Rattle.std.specs.Option.{SomeIff};
 ghost use Rattle.std.specs.Str.Parse.{digits_value};
-ghost use Rattle.decimal.specs.Spelling.{Spelling, IsNumberToken, are_digits, is_numeral, is_power, is_exponent, power_of};
+ghost use Rattle.decimal.specs.Spelling.{Spelling, IsNumberToken, are_digits, is_numeral, is_power, is_exponent};
+ghost use Rattle.decimal.specs.Spelling.{power_of};
 ghost use Rattle.decimal.specs.Number.{IsInRange};
 ghost use Rattle.decimal.specs.Cutting.{fraction_len, cut, spelling, capped_power, greatest_power};
 

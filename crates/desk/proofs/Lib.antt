@@ -1,1 +1,3 @@
 pub mod Responses
+pub mod Visits
+pub mod Turns

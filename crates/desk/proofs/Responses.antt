@@ -1,4 +1,4 @@
--- How a response is told from what the store and the writer of responses state.
+-- How a response follows from what the store and the writer of responses state.
 use Rattle.std.proofs.Common.{◌≡◌, ◌⊎◌, ℕ, List, [], ◌∷◌, ◌++◌, Option, Result, Ok, Err, IfOk, OnErr, OnOk, inl, inr, refl, sym, subst}
 use Rattle.std.specs.Prelude.{IsTrue}
 use Rattle.sqlite.specs.State.{State}
@@ -10,10 +10,10 @@ use Rattle.store.specs.Holding.{Holding, Keeps, Leaves}
 use Rattle.store.specs.Looking.{IsShown}
 use Rattle.desk_types.specs.declared.problem.Problem.{Problem}
 use Rattle.desk_types.specs.declared.problem.Problem.TheVariants.{TryAgain}
-use Rattle.desk_call.specs.Call.{Asked, Asking, arrives, fails, shows}
-use Rattle.desk_call.specs.declared.call.Look.{Look}
+use Rattle.desk_call.specs.Call.{Requested, Asking, arrives, fails, shows}
+use Rattle.office_types.specs.declared.look.Look.{Look}
 use Rattle.desk_reply.specs.Response.{answer_response, problem_response}
-use Rattle.desk.specs.Serving.{FollowsAsked, MayHaveTaken, Responds, answered_as, content_of, question_of, shown_response}
+use Rattle.desk.specs.Responding.{FollowsRequested, MayHaveTaken, Responds, answered_as, content_of, shown_response}
 
 -- what holds of a text holds of the value that has it
 pub on_text : {V E : Type 0} (items : V → List ℕ) (r : Result V E) (text : List ℕ) (Q : List ℕ → Type 0) → IfOk r (λ v. items v ≡ text) → Q text → IfOk r (λ v. Q (items v))
@@ -38,21 +38,21 @@ on_err (Err x) Q q = q
 pub left_now : (h : List Answered) (s : State) → (IsTrue s.is_open → (db : Trees) → s.may_leave db → db ≡ s.now.trees) → Holding h s → Leaves (Keeps h) s
 left_now h s law holding db may = subst (Keeps h) (sym (law holding.is_open db may)) holding.keeps
 
-pub follows_same : (h : List Answered) (asked : Asked) (s : State) → Leaves (Keeps h) s → Leaves (FollowsAsked h asked) s
-follows_same h asked s left db may = inl (left db may)
+pub follows_same : (h : List Answered) (requested : Requested) (s : State) → Leaves (Keeps h) s → Leaves (FollowsRequested h requested) s
+follows_same h requested s left db may = inl (left db may)
 
-pub follows_answer : (h : List Answered) (a : Asking) (answer : Answer) (s : State) → Leaves (Keeps (h ++ answered_as a answer ∷ [])) s → Leaves (FollowsAsked h (arrives a)) s
+pub follows_answer : (h : List Answered) (a : Asking) (answer : Answer) (s : State) → Leaves (Keeps (h ++ answered_as a answer ∷ [])) s → Leaves (FollowsRequested h (arrives a)) s
 follows_answer h a answer s left db may = inr (a, refl, answer, left db may)
 
 pub follows_lost : (h : List Answered) (a : Asking) (s : State) → Leaves (λ db. Keeps h db ⊎ ((answer : Answer) × Keeps (h ++ answered_as a answer ∷ []) db)) s
-    → Leaves (FollowsAsked h (arrives a)) s
+    → Leaves (FollowsRequested h (arrives a)) s
 follows_lost h a s left db may = elim (left db may) [ inl same ↦ inl same | inr one ↦ inr (a, refl, one.0, one.1) ]
 
-pub may_same : (h : List Answered) (asked : Asked) (s : State) → Holding h s → Leaves (Keeps h) s → MayHaveTaken h asked s
-may_same h asked s holding left = (λ opened. inl holding, follows_same h asked s left)
+pub may_same : (h : List Answered) (requested : Requested) (s : State) → Holding h s → Leaves (Keeps h) s → MayHaveTaken h requested s
+may_same h requested s holding left = (λ opened. inl holding, follows_same h requested s left)
 
-pub may_lost : (h : List Answered) (asked : Asked) (s : State) → (IsTrue s.is_open → Holding h s) → Leaves (FollowsAsked h asked) s → MayHaveTaken h asked s
-may_lost h asked s held left = (λ opened. inl (held opened), left)
+pub may_lost : (h : List Answered) (requested : Requested) (s : State) → (IsTrue s.is_open → Holding h s) → Leaves (FollowsRequested h requested) s → MayHaveTaken h requested s
+may_lost h requested s held left = (λ opened. inl (held opened), left)
 
 pub may_answered : (h : List Answered) (a : Asking) (answer : Answer) (s : State) → Holding (h ++ answered_as a answer ∷ []) s → Leaves (Keeps (h ++ answered_as a answer ∷ [])) s
     → MayHaveTaken h (arrives a) s
@@ -63,11 +63,11 @@ may_answered h a answer s holding left = (λ opened. inr (a, refl, (answer, hold
 pub fails_so : (h : List Answered) (problem : Problem) (s : State) → Holding h s → Leaves (Keeps h) s → Responds h (fails problem) (problem_response problem) s
 fails_so h problem s held left = inl (h, (refl, refl), held, left)
 
-pub try_again : (h : List Answered) (asked : Asked) (s : State) → (IsTrue s.is_open → Holding h s) → Leaves (FollowsAsked h asked) s → Responds h asked (problem_response TryAgain) s
-try_again h asked s held left = inr (refl, held, left)
+pub try_again : (h : List Answered) (requested : Requested) (s : State) → (IsTrue s.is_open → Holding h s) → Leaves (FollowsRequested h requested) s → Responds h requested (problem_response TryAgain) s
+try_again h requested s held left = inr (refl, held, left)
 
 pub looked : (h : List Answered) (l : Look) (found : Option (List ℕ)) (s : State)
-    → ((office : Office) → IsLegal h office → IsShown office (question_of l) found) → Holding h s → Leaves (Keeps h) s → Responds h (shows l) (shown_response (content_of l) found) s
+    → ((office : Office) → IsLegal h office → IsShown office l found) → Holding h s → Leaves (Keeps h) s → Responds h (shows l) (shown_response (content_of l) found) s
 looked h l found s shown held left = inl (h, (refl, λ office legal. (found, shown office legal, refl)), held, left)
 
 pub arrived : (h : List Answered) (a : Asking) (answer : Answer) (s : State)
@@ -76,6 +76,6 @@ arrived h a answer s held left = inl (h ++ answered_as a answer ∷ [], (answer,
 
 -- ---- an example: after what is no arrival a crash leaves the history alone
 
-no_arrival : (h : List Answered) (l : Look) (db : Trees) → FollowsAsked h (shows l) db → Keeps h db
+no_arrival : (h : List Answered) (l : Look) (db : Trees) → FollowsRequested h (shows l) db → Keeps h db
 no_arrival h l db (inl keeps) = keeps
 no_arrival h l db (inr one) = absurd (let arrival : shows l ≡ arrives one.0 = one.1 in cc)

@@ -1,1 +1,4 @@
+pub mod Responding
 pub mod Serving
+mod Examples
+pub mod Waiting

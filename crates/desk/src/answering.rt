@@ -1,4 +1,4 @@
-//! What the office is asked, and the responses to it.
+//! What the office is to do, and the responses to it.
 ghost use Rattle.std.specs.Prelude.{◌≡◌, ◌≤◌, List, IfOk, IsFalse, IsTrue, OnErr};
 ghost use Rattle.sqlite.specs.Held.{state};
 ghost use Rattle.sqlite.specs.State.{HasCleanDisk};
@@ -6,28 +6,16 @@ ghost use Rattle.sqlite_trees.specs.View.{doubt};
 ghost use Rattle.office_history.specs.History.{Answered};
 ghost use Rattle.store.specs.Holding.{Holding};
 ghost use Rattle.desk_call.specs.Call.{arrives, asking_seen, seen, shows};
-ghost use Rattle.desk.specs.Serving.{MayHaveTaken, Responds, content_of, failed_response, question_of};
+ghost use Rattle.desk.specs.Responding.{MayHaveTaken, Responds, content_of, failed_response};
 
-use desk_call::{Call, Look};
+use desk_call::Call;
 use desk_reply::{Content, answer_response, problem_response, text_response};
 use desk_types::Problem;
 use office_history::Arrival;
+use office_types::Look;
 use sqlite::Alter;
 use std::alloc::{AllocError, Global};
-use store::{Office, Question};
-
-/// What the store is asked.
-fn question_of(look: Look) -> Question
-    ensures { result ≡ question_of look }
-{
-    match look {
-        Look::Nets => Question::Nets,
-        Look::Table(net) => Question::Table(net),
-        Look::Live(net) => Question::Live(net),
-        Look::Release(net, number) => Question::Release(net, number),
-        Look::Chart(net, message) => Question::Chart(net, message),
-    }
-}
+use store::StoredOffice;
 
 /// What the text of a look is: DBC text, or lines.
 fn content_of(look: &Look) -> Content
@@ -40,20 +28,26 @@ fn content_of(look: &Look) -> Content
 }
 
 /// Looks something up, and gives the response that shows it.
-fn shown<S: Alter>(alloc: Global, office: &mut Office<S>, look: Look) -> Result<Vec<u8>, AllocError>
+fn shown<S: Alter>(
+    alloc: Global,
+    office: &mut StoredOffice<S>,
+    look: Look,
+) -> Result<Vec<u8>, AllocError>
     ensures clean { doubt (state S.Store office.old.conn).is_clean ≤ doubt (state S.Store office.new.conn).is_clean }
     ensures refused { IsTrue office.old.failed → office.new ≡ office.old }
     ensures failed { IsTrue office.old.failed → IfOk result (λ text. text.items ≡ failed_response (shows look)) }
-    ensures open { HasCleanDisk (state S.Store office.new.conn) → (h : List Answered) → Holding h (state S.Store office.old.conn)
+    ensures open { HasCleanDisk (state S.Store office.new.conn) → (h : List Answered)
+        → Holding h (state S.Store office.old.conn)
         → IsFalse office.new.failed → IsTrue (state S.Store office.new.conn).is_open }
-    ensures ok { HasCleanDisk (state S.Store office.new.conn) → (h : List Answered) → Holding h (state S.Store office.old.conn)
+    ensures ok { HasCleanDisk (state S.Store office.new.conn) → (h : List Answered)
+        → Holding h (state S.Store office.old.conn)
         → IfOk result (λ text. Responds h (shows look) text.items (state S.Store office.new.conn)) }
-    ensures err { HasCleanDisk (state S.Store office.new.conn) → (h : List Answered) → Holding h (state S.Store office.old.conn)
+    ensures err { HasCleanDisk (state S.Store office.new.conn) → (h : List Answered)
+        → Holding h (state S.Store office.old.conn)
         → OnErr result (MayHaveTaken h (shows look) (state S.Store office.new.conn)) }
 {
     let content = content_of(&look);
-    let question = question_of(look);
-    match office.look(alloc, &question) {
+    match office.look(alloc, &look) {
         Ok(Some(text)) => text_response(alloc, content, &text),
         Ok(None) => problem_response(alloc, Problem::NotFound),
         Err(_) => problem_response(alloc, Problem::TryAgain),
@@ -63,17 +57,22 @@ fn shown<S: Alter>(alloc: Global, office: &mut Office<S>, look: Look) -> Result<
 /// Has an arrival answered, and gives the response that tells the answer.
 fn arrived<S: Alter>(
     alloc: Global,
-    office: &mut Office<S>,
+    office: &mut StoredOffice<S>,
     arrival: &Arrival,
 ) -> Result<Vec<u8>, AllocError>
     ensures clean { doubt (state S.Store office.old.conn).is_clean ≤ doubt (state S.Store office.new.conn).is_clean }
     ensures refused { IsTrue office.old.failed → office.new ≡ office.old }
-    ensures failed { IsTrue office.old.failed → IfOk result (λ text. text.items ≡ failed_response (arrives (asking_seen arrival.now))) }
-    ensures open { HasCleanDisk (state S.Store office.new.conn) → (h : List Answered) → Holding h (state S.Store office.old.conn)
+    ensures failed { IsTrue office.old.failed → IfOk result
+        (λ text. text.items ≡ failed_response (arrives (asking_seen arrival.now))) }
+    ensures open { HasCleanDisk (state S.Store office.new.conn) → (h : List Answered)
+        → Holding h (state S.Store office.old.conn)
         → IsFalse office.new.failed → IsTrue (state S.Store office.new.conn).is_open }
-    ensures ok { HasCleanDisk (state S.Store office.new.conn) → (h : List Answered) → Holding h (state S.Store office.old.conn)
-        → IfOk result (λ text. Responds h (arrives (asking_seen arrival.now)) text.items (state S.Store office.new.conn)) }
-    ensures err { HasCleanDisk (state S.Store office.new.conn) → (h : List Answered) → Holding h (state S.Store office.old.conn)
+    ensures ok { HasCleanDisk (state S.Store office.new.conn) → (h : List Answered)
+        → Holding h (state S.Store office.old.conn)
+        → IfOk result (λ text. Responds h (arrives (asking_seen arrival.now)) text.items
+        (state S.Store office.new.conn)) }
+    ensures err { HasCleanDisk (state S.Store office.new.conn) → (h : List Answered)
+        → Holding h (state S.Store office.old.conn)
         → OnErr result (MayHaveTaken h (arrives (asking_seen arrival.now)) (state S.Store office.new.conn)) }
 {
     match office.arrive(alloc, &arrival.team, &arrival.key, &arrival.request) {
@@ -86,17 +85,20 @@ fn arrived<S: Alter>(
 /// been taken.
 pub(crate) fn response_to<S: Alter>(
     alloc: Global,
-    office: &mut Office<S>,
+    office: &mut StoredOffice<S>,
     call: Call,
 ) -> Result<Vec<u8>, AllocError>
     ensures clean { doubt (state S.Store office.old.conn).is_clean ≤ doubt (state S.Store office.new.conn).is_clean }
     ensures refused { IsTrue office.old.failed → office.new ≡ office.old }
     ensures failed { IsTrue office.old.failed → IfOk result (λ text. text.items ≡ failed_response (seen call)) }
-    ensures open { HasCleanDisk (state S.Store office.new.conn) → (h : List Answered) → Holding h (state S.Store office.old.conn)
+    ensures open { HasCleanDisk (state S.Store office.new.conn) → (h : List Answered)
+        → Holding h (state S.Store office.old.conn)
         → IsFalse office.new.failed → IsTrue (state S.Store office.new.conn).is_open }
-    ensures ok { HasCleanDisk (state S.Store office.new.conn) → (h : List Answered) → Holding h (state S.Store office.old.conn)
+    ensures ok { HasCleanDisk (state S.Store office.new.conn) → (h : List Answered)
+        → Holding h (state S.Store office.old.conn)
         → IfOk result (λ text. Responds h (seen call) text.items (state S.Store office.new.conn)) }
-    ensures err { HasCleanDisk (state S.Store office.new.conn) → (h : List Answered) → Holding h (state S.Store office.old.conn)
+    ensures err { HasCleanDisk (state S.Store office.new.conn) → (h : List Answered)
+        → Holding h (state S.Store office.old.conn)
         → OnErr result (MayHaveTaken h (seen call) (state S.Store office.new.conn)) }
 {
     office.leaves_now();

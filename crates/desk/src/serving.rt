@@ -1,67 +1,101 @@
-//! One request and one response.
-ghost use Rattle.std.specs.Prelude.{◌≡◌, ◌+◌, ◌-◌, ◌<◌, ◌≤◌, ◌^◌, ℕ, List, OnOk, IsErrOf, IsFalse, IsTrue};
-ghost use Rattle.std.specs.Io.KnownBytes.{Consumes};
+//! Serving connections in turn.
+ghost use Rattle.std.specs.Prelude.{◌≡◌, ◌<◌, ◌≤◌, List, [], ◌∷◌, length, IfOk, All, MatchResult, OnErr, IsFalse};
+ghost use Rattle.std.specs.Prelude.{IsTrue};
 ghost use Rattle.sqlite.specs.Held.{state};
 ghost use Rattle.sqlite.specs.State.{HasCleanDisk};
 ghost use Rattle.sqlite_trees.specs.View.{doubt};
 ghost use Rattle.office_history.specs.History.{Answered};
 ghost use Rattle.store.specs.Holding.{Holding};
-ghost use Rattle.desk_types.specs.Moved.{GivesAtMost};
-ghost use Rattle.desk_head.specs.Limits.{request_limit};
-ghost use Rattle.desk_call.specs.Read.{IsNotWhole};
-ghost use Rattle.desk.specs.Serving.{HasBegun, HasBegunRefusal, HasGivenUp, HasRefused, HasServed};
+ghost use Rattle.desk.specs.Serving.{AreAccepted, AreClosed, FailsOnce, HasCause, IsDeclined, LedTo, NoneWaits, Ran};
+ghost use Rattle.desk.specs.Serving.{SaysFailure, Visit, fault_of, written_to};
 
-use crate::answering::response_to;
-use desk_call::read_call;
-use desk_types::{DeskFault, Sink, Source, put_all};
+use crate::fault::ServeFault;
+use crate::listener::Listener;
+use crate::responding::serve_one;
+use desk_call::Routes;
+use desk_types::{DeskFault, Failed};
 use sqlite::Alter;
 use std::alloc::Global;
-use store::Office;
+use std::io::Write;
+use store::StoredOffice;
 
-/// Reads the first request of the source, carries it out, and writes its response to the sink. No call of a device
-/// follows one that failed. Whatever the source has, no more is read of it than a greatest head and a greatest body.
-///
-/// `Read` if the source failed before the request was whole: nothing was written, and the office is as before.
-/// `Write` if the sink failed: a beginning of the response was written, and the request is carried out as if it had all
-/// been. `Memory` if memory ran out: nothing was written, and an arrival may have been taken. A request that is sent
-/// again under its key is answered as it would have been. An office that has failed stays as it is, and each request to
-/// it is answered by 503.
-///
-/// A crash leaves the history after the response. After a 503, or where memory ran out, it leaves the history from
-/// before, or that one with the arrival that was requested.
-pub fn serve_one<S: Alter, R: Source, W: Sink>(
+/// What is printed when the office fails, as of any call that is lost because the database failed.
+const OFFICE_FAILED: &[u8] = b"lost 72\n";
+
+/// Serves the next connection, and tells whether a fault ended it. The error is that none can be accepted: then nothing
+/// is done.
+fn attend<S: Alter, L: Listener>(
     alloc: Global,
-    office: &mut Office<S>,
-    source: &mut R,
-    sink: &mut W,
-) -> Result<(), DeskFault>
-    requires reads { R.failure_count source.old < 2 ^ 64 - 1 }
-    requires writes { W.failure_count sink.old < 2 ^ 64 - 1 }
-    ensures most { GivesAtMost (R.left source.old) (R.left source.new) request_limit }
-    ensures served { HasCleanDisk (state S.Store office.new.conn) → (h : List Answered) → Holding h (state S.Store office.old.conn)
-        → OnOk result (HasServed h (R.left source.old) (W.told sink.old) (W.told sink.new) (state S.Store office.new.conn)) }
-    ensures healthy { OnOk result ((R.failure_count source.new ≡ R.failure_count source.old) × (W.failure_count sink.new ≡ W.failure_count sink.old)) }
+    routes: &Routes,
+    office: &mut StoredOffice<S>,
+    listener: &mut L,
+) -> Result<Result<(), DeskFault>, Failed>
     ensures clean { doubt (state S.Store office.old.conn).is_clean ≤ doubt (state S.Store office.new.conn).is_clean }
     ensures refused { IsTrue office.old.failed → office.new ≡ office.old }
-    ensures failed { IsTrue office.old.failed → OnOk result (HasRefused (R.left source.old) (W.told sink.old) (W.told sink.new)) }
-    ensures failed_write { IsTrue office.old.failed → IsErrOf result DeskFault.Write → HasBegunRefusal (R.left source.old) (W.told sink.old) (W.told sink.new) }
-    ensures open { HasCleanDisk (state S.Store office.new.conn) → (h : List Answered) → Holding h (state S.Store office.old.conn)
+    ensures opened { HasCleanDisk (state S.Store office.new.conn) → (h : List Answered)
+        → Holding h (state S.Store office.old.conn)
         → IsFalse office.new.failed → IsTrue (state S.Store office.new.conn).is_open }
-    ensures read { IsErrOf result DeskFault.Read → (bytes : List ℕ) × Consumes (R.left source.old) (R.left source.new) bytes × IsNotWhole bytes }
-    ensures read_failed { IsErrOf result DeskFault.Read → R.failure_count source.new ≡ R.failure_count source.old + 1 }
-    ensures read_kept { IsErrOf result DeskFault.Read → (office.new ≡ office.old) × (sink.new ≡ sink.old) }
-    ensures write { HasCleanDisk (state S.Store office.new.conn) → (h : List Answered) → Holding h (state S.Store office.old.conn)
-        → IsErrOf result DeskFault.Write → HasBegun h (R.left source.old) (W.told sink.old) (W.told sink.new) (state S.Store office.new.conn) }
-    ensures write_failed { IsErrOf result DeskFault.Write → W.failure_count sink.new ≡ W.failure_count sink.old + 1 }
-    ensures memory { HasCleanDisk (state S.Store office.new.conn) → (h : List Answered) → Holding h (state S.Store office.old.conn)
-        → IsErrOf result DeskFault.Memory → HasGivenUp h (R.left source.old) (state S.Store office.new.conn) }
-    ensures memory_counts { IsErrOf result DeskFault.Memory → (R.failure_count source.new ≡ R.failure_count source.old) × (W.failure_count sink.new ≡ W.failure_count sink.old) }
-    ensures memory_kept { IsErrOf result DeskFault.Memory → sink.new ≡ sink.old }
+    ensures served { IfOk result (λ ended. (v : Visit) × (v.fault ≡ fault_of ended)
+        × (v.office_failed ≡ office.old.failed)
+        × AreAccepted (L.coming listener.old) (L.coming listener.new) (v ∷ [])
+        × AreClosed (L.ended listener.old) (L.ended listener.new) (v ∷ [])
+        × HasCause v × IsDeclined v
+        × (HasCleanDisk (state S.Store office.new.conn) → (h : List Answered)
+        → Holding h (state S.Store office.old.conn)
+        → LedTo h v.fault v.sent (written_to v) (state S.Store office.new.conn))) }
+    ensures kept { OnErr result (office.new ≡ office.old) }
+    ensures none { OnErr result ((L.coming listener.new ≡ L.coming listener.old)
+        × (L.ended listener.new ≡ L.ended listener.old) × NoneWaits (L.coming listener.old)) }
+{
+    let (mut request, mut response) = listener.accept()?;
+    let ended = serve_one(alloc, routes, office, &mut request, &mut response);
+    office.leaves_now();
+    listener.finish(request, response);
+    Ok(ended)
+}
+
+/// Says that the office has failed, if it has by now and had not before, by one write.
+fn say_failure<E: Write>(errors: &mut E, had_failed: bool, has_failed: bool)
+    ensures { SaysFailure had_failed has_failed (E.contents errors.old) (E.contents errors.new) }
+{
+    if has_failed && !had_failed {
+        // Whether it can be printed changes nothing of what is served.
+        let _stated = errors.write(OFFICE_FAILED);
+    }
+}
+
+/// Serves `count` connections of the listener, one after the other. A fault of the desk ends its connection alone. Once
+/// the office has failed, it changes nothing any more, and whatever reaches it is answered by 503. When it fails,
+/// `lost 72` is written to `errors`, once and as far as the writer takes it.
+///
+/// `Accept` if a connection can't be accepted: then those before it were served. With a listener that tells what comes,
+/// none came any more.
+pub fn serve<S: Alter, L: Listener, E: Write>(
+    alloc: Global,
+    routes: &Routes,
+    office: &mut StoredOffice<S>,
+    listener: &mut L,
+    errors: &mut E,
+    count: u32,
+) -> Result<(), ServeFault>
+    ensures clean { doubt (state S.Store office.old.conn).is_clean ≤ doubt (state S.Store office.new.conn).is_clean }
+    ensures stated { SaysFailure office.old.failed office.new.failed (E.contents errors.old) (E.contents errors.new) }
+    ensures served { (visits : List Visit) × AreAccepted (L.coming listener.old) (L.coming listener.new) visits
+        × AreClosed (L.ended listener.old) (L.ended listener.new) visits
+        × MatchResult result (λ done. length visits ≡ count)
+        (λ fault. (fault ≡ ServeFault.Accept) × (length visits < count) × NoneWaits (L.coming listener.new))
+        × All HasCause visits × FailsOnce office.old.failed visits office.new.failed × All IsDeclined visits
+        × (HasCleanDisk (state S.Store office.new.conn) → (h : List Answered)
+        → Holding h (state S.Store office.old.conn)
+        → Ran h visits office.new.failed (state S.Store office.new.conn)) }
 {
     office.leaves_now();
-    let call = read_call(alloc, source)?;
-    let Ok(text) = response_to(alloc, office, call) else {
-        return Err(DeskFault::Memory);
-    };
-    put_all(sink, &text)
+    for _served in 0..count {
+        let had_failed = office.is_failed();
+        match attend(alloc, routes, office, listener) {
+            Ok(_ended) => say_failure(errors, had_failed, office.is_failed()),
+            Err(Failed) => return Err(ServeFault::Accept),
+        }
+    }
+    Ok(())
 }

@@ -7,7 +7,7 @@ use Rattle.serde_json.specs.Data.{Data, Items, no_items, item, Members, no_membe
 use Rattle.serde_json.specs.Find.{as_array, as_bool, as_number, as_object, as_str, as_u64, get}
 use Rattle.serde_json.specs.Read.{read}
 use Rattle.office_types.specs.declared.command.Command.{Command}
-use Rattle.office_fields.specs.Asked.{command_of}
+use Rattle.office_fields.specs.Requested.{command_of}
 use Rattle.office_fields.specs.Field.{fields_of, row_of}
 use Rattle.office_fields.specs.Given.{NamedValue}
 use Rattle.office_fields.specs.Value.{◌>>=◌, where_true}

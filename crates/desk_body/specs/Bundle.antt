@@ -6,7 +6,7 @@ use Rattle.serde_json.specs.Data.{Data, Items, no_items, item, Members, no_membe
 use Rattle.serde_json.specs.Find.{as_array, as_object, as_str, get}
 use Rattle.office_types.specs.Parts.{part_limit}
 use Rattle.office_types.specs.declared.command.Action.{Action}
-use Rattle.office_fields.specs.Asked.{part_of}
+use Rattle.office_fields.specs.Requested.{part_of}
 use Rattle.office_fields.specs.Field.{part_fields}
 use Rattle.office_fields.specs.Given.{NamedValue}
 use Rattle.office_fields.specs.Kind.{action_of_word}

@@ -8,7 +8,8 @@ ghost use Rattle.std.specs.Prelude.{codes};
 ghost use Rattle.serde_json.specs.View.{items_view, members_view, view};
 ghost use Rattle.office_fields.specs.Given.{named_values};
 ghost use Rattle.office_fields.specs.Reading.{Reads};
-ghost use Rattle.desk_body.specs.Bundle.{bundle_in, commands_in, has_just_commands, has_just_part, is_part_name, kind_in, part_in, part_values, parts_of_items};
+ghost use Rattle.desk_body.specs.Bundle.{bundle_in, commands_in, has_just_commands, has_just_part, is_part_name};
+ghost use Rattle.desk_body.specs.Bundle.{kind_in, part_in, part_values, parts_of_items};
 
 use crate::body::json_in;
 use crate::members::{given_in, is_name_of};
@@ -104,9 +105,9 @@ fn commands_in(value: &Value) -> Option<&[Value]>
     }
 }
 
-/// The parts of the bundle that the body gives. `Wrong` where the body isn't a JSON object of just `commands`, a list of
-/// 1 to 64 objects, each with the word of a command without a file as `command` and with just that command's fields but
-/// the network, as [`command_in`](crate::command_in) reads them.
+/// The parts of the bundle that the body gives. `Wrong` where the body isn't a JSON object of just `commands`, a list
+/// of 1 to 64 objects, each with the word of a command without a file as `command` and with just that command's fields
+/// but the network, as [`command_in`](crate::command_in) reads them.
 #[tactic(auto, unfolding(crate::specs::Bundle::bundle_in))]
 pub fn bundle_in(alloc: Global, body: &[u8]) -> Result<Parts<Action>, Unread>
     ensures { Reads (bundle_in body.now) result }

@@ -5,7 +5,8 @@ ghost use Rattle.std.specs.List.{list_all};
 ghost use Rattle.std.specs.Option.{option_map};
 ghost use Rattle.serde_json.specs.View.{items_view, members_view, view};
 ghost use Rattle.office_fields.specs.Given.{named_values};
-ghost use Rattle.desk_body.specs.Body.{each_given, given_by, given_in, has_just, is_name_of, json_name, one_given, values_in};
+ghost use Rattle.desk_body.specs.Body.{each_given, given_by, given_in, has_just, is_name_of, json_name, one_given};
+ghost use Rattle.desk_body.specs.Body.{values_in};
 
 use crate::values::bytes_of;
 use office_fields::{Field, GivenValue, Occurrence};

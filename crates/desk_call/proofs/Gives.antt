@@ -3,9 +3,9 @@ use Rattle.std.proofs.Common.{◌≡◌, ℕ, ◌+◌, ◌-◌, ◌≤◌, List,
 use Rattle.httparse.specs.Grammar.{RequestHead}
 use Rattle.desk_types.specs.Moved.{GivesAtMost, Moves}
 use Rattle.desk_types.proofs.Gives.{gives_more}
-use Rattle.desk_head.specs.Ahead.{ahead_of, body_size}
+use Rattle.desk_head.specs.Demand.{demand_of, body_size}
 use Rattle.desk_head.specs.Limits.{head_limit, request_limit}
-use Rattle.desk_head.specs.declared.ahead.Ahead.{Ahead}
+use Rattle.desk_head.specs.declared.demand.Demand.{Demand}
 use Rattle.desk_head.proofs.BodySizes.{size_is_small}
 
 -- those that were added to a list
@@ -14,9 +14,9 @@ pub gives_moved : (a b : Option (List ℕ)) (old new : List ℕ) (most : ℕ) �
 gives_moved a b old new most m fits = (m.0, m.2, omega (arith, length-append old m.0, ap length m.1, fits))
 
 -- a head, and then what its body lacked
-pub gives_request : (a b d : Option (List ℕ)) (ahead : Ahead) (h : RequestHead) (size there : ℕ)
-    → GivesAtMost a b head_limit → GivesAtMost b d (size - there) → size ≡ body_size ahead → ahead ≡ ahead_of h
+pub gives_request : (a b d : Option (List ℕ)) (demand : Demand) (h : RequestHead) (size there : ℕ)
+    → GivesAtMost a b head_limit → GivesAtMost b d (size - there) → size ≡ body_size demand → demand ≡ demand_of h
     → GivesAtMost a d request_limit
-gives_request a b d ahead h size there head body is_size is_ahead =
+gives_request a b d demand h size there head body is_size is_ahead =
     gives_more a b d head_limit (size - there) request_limit head body
     (omega (arith, size_is_small h, is_size, ap body_size is_ahead))

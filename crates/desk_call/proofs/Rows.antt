@@ -4,17 +4,17 @@ use Rattle.catalogue.specs.Name.{is_name}
 use Rattle.office_types.specs.declared.command.Task.TheVariants as task
 use Rattle.desk_types.specs.declared.problem.Problem.TheVariants.{BadRequest}
 use Rattle.desk_head.specs.Fields.{Headers, named}
-use Rattle.desk_head.specs.declared.ahead.Ahead.TheVariants as ahead
+use Rattle.desk_head.specs.declared.demand.Demand.TheVariants as demand
 use Rattle.desk_head.specs.declared.endpoint.Posting.TheVariants.{Import}
 use Rattle.desk_head.specs.declared.endpoint.Showing.TheVariants as showing
 use Rattle.desk_call.specs.Call.{arrives, asking_of, call_by, fails, look_of}
-use Rattle.desk_call.specs.declared.call.Look.TheVariants as look
+use Rattle.office_types.specs.declared.look.Look.TheVariants as look
 
 abbrev headers : List ℕ → List ℕ → Headers
 headers team key = (codes "Team", team) ∷ (codes "Request-Key", key) ∷ []
 
 -- bytes after the request don't count
-taken : call_by (ahead.Does Import 4) (codes "/import/truck") (headers (codes "engine") (codes "i1")) (codes "BU_:GET")
+taken : call_by (demand.Does Import 4) (codes "/import/truck") (headers (codes "engine") (codes "i1")) (codes "BU_:GET")
     ≡ arrives (record {
       team = codes "engine";
       key = codes "i1";
@@ -25,7 +25,7 @@ unfolding asking_of named
 taken = refl
 
 -- a body that ends too early
-cut_off : call_by (ahead.Does Import 5) (codes "/import/truck") (headers (codes "engine") (codes "i1")) (codes "BU_:")
+cut_off : call_by (demand.Does Import 5) (codes "/import/truck") (headers (codes "engine") (codes "i1")) (codes "BU_:")
     ≡ fails BadRequest
 cut_off = refl
 

@@ -1,4 +1,4 @@
--- What was read of a request comes to the same call as all the bytes of the source.
+-- What was read of a request gives the same call as all the bytes of the source.
 use Rattle.std.proofs.Common.{◌≡◌, ℕ, ◌≤◌, ◌<◌, ◌⊎◌, List, [], ◌++◌, length, map, Option, None, Some, IfSome, Bool, true, false, Result, Ok, inl, inr, refl, sym, ap, ◌∙◌, subst, arith, append_assoc, append-nil, length-append, nat_le}
 use Rattle.std.proofs.lemmas.List.{take-append-le}
 use Rattle.std.proofs.lemmas.Bool.Decides.{nat_tests}
@@ -7,12 +7,12 @@ use Rattle.std.specs.Io.KnownBytes.{Consumes, IsAtEnd}
 use Rattle.httparse.specs.Grammar.{RequestHead, print_request}
 use Rattle.httparse.specs.Spans.{name_and_value}
 use Rattle.desk_types.specs.Moved.{Moves}
-use Rattle.desk_head.specs.Ahead.{ahead_of, body_size}
+use Rattle.desk_head.specs.Demand.{demand_of, body_size}
 use Rattle.desk_head.specs.Fields.{Headers}
 use Rattle.desk_head.specs.Head.{HasHead}
-use Rattle.desk_head.specs.declared.ahead.Ahead.{Ahead}
-use Rattle.desk_head.specs.declared.ahead.Ahead.TheVariants.{Fails, Shows, Does}
-use Rattle.desk_call.specs.Call.{Asked, call_by, call_of}
+use Rattle.desk_head.specs.declared.demand.Demand.{Demand}
+use Rattle.desk_head.specs.declared.demand.Demand.TheVariants.{Fails, Shows, Does}
+use Rattle.desk_call.specs.Call.{Requested, call_by, call_of}
 use Rattle.desk_call.specs.Read.{Asks, IsNotWhole}
 
 pub either : {E P Q : Type 0} (r : Result Bool E) (flag : Bool) → r ≡ Ok flag → (r ≡ Ok true → P)
@@ -24,7 +24,7 @@ le_true : (m n : ℕ) → m ≤ n → nat_le m n ≡ true
 le_true m n h = grind (arith, nat_tests)
 
 -- bytes after the whole request change nothing
-by_stays : (w : Ahead) (target : List ℕ) (headers : Headers) (r z : List ℕ) → (body_size w ≤ length r) ⊎ (z ≡ [])
+by_stays : (w : Demand) (target : List ℕ) (headers : Headers) (r z : List ℕ) → (body_size w ≤ length r) ⊎ (z ≡ [])
     → call_by w target headers r ≡ call_by w target headers (r ++ z)
 by_stays (Fails problem) target headers r z h = refl
 by_stays (Shows s) target headers r z h = refl
@@ -33,10 +33,10 @@ by_stays (Does p n) target headers r z (inl h) =
     rw (le_true n (length r) h, le_true n (length (r ++ z)) longer, take-append-le n r z h) refl
 by_stays (Does p n) target headers r z (inr e) = rw (e, append-nil r) refl
 
-call_stays : (h : RequestHead) (r z : List ℕ) → (body_size (ahead_of h) ≤ length r) ⊎ (z ≡ [])
+call_stays : (h : RequestHead) (r z : List ℕ) → (body_size (demand_of h) ≤ length r) ⊎ (z ≡ [])
     → call_of h r ≡ call_of h (r ++ z)
 unfolding call_of
-call_stays h r z enough = by_stays (ahead_of h) h.target (map name_and_value h.fields) r z enough
+call_stays h r z enough = by_stays (demand_of h) h.target (map name_and_value h.fields) r z enough
 
 -- the head of the first bytes is the head of all
 goes_on : (got bs : List ℕ) (h : RequestHead) (tail : List ℕ) → HasHead got h tail → HasHead (got ++ bs) h (tail ++ bs)
@@ -44,25 +44,25 @@ goes_on got bs h tail has =
     ((has.0.0, ap (λ l. l ++ bs) has.0.1 ∙ append_assoc (print_request h) tail bs), has.1)
 
 -- what was read after the head, up to the end of the body or of the source
-pub asks : (a b d : Option (List ℕ)) (got tail rest : List ℕ) (h : RequestHead) (asked : Asked)
-    → Consumes a b got → Moves b d tail rest → HasHead got h tail → asked ≡ call_of h rest
-    → (body_size (ahead_of h) ≤ length rest) ⊎ IsAtEnd d → IfSome a (λ input. Asks input asked)
-asks None b d got tail rest h asked p m has is end = tt
-asks (Some x) None d got tail rest h asked p m has is end = absurd p
-asks (Some x) (Some y) None got tail rest h asked p m has is end = absurd m.2
-asks (Some x) (Some y) (Some z) got tail rest h asked p m has is end =
+pub asks : (a b d : Option (List ℕ)) (got tail rest : List ℕ) (h : RequestHead) (requested : Requested)
+    → Consumes a b got → Moves b d tail rest → HasHead got h tail → requested ≡ call_of h rest
+    → (body_size (demand_of h) ≤ length rest) ⊎ IsAtEnd d → IfSome a (λ input. Asks input requested)
+asks None b d got tail rest h requested p m has is end = tt
+asks (Some x) None d got tail rest h requested p m has is end = absurd p
+asks (Some x) (Some y) None got tail rest h requested p m has is end = absurd m.2
+asks (Some x) (Some y) (Some z) got tail rest h requested p m has is end =
     let bs = m.0 in
     let after : tail ++ y ≡ rest ++ z =
     ap (λ l. tail ++ l) m.2 ∙ sym (append_assoc tail bs z) ∙ ap (λ l. l ++ z) (sym m.1) in
     let there : HasHead x h (rest ++ z) =
     subst (λ (l : List ℕ). HasHead x h l) after
     (subst (λ (l : List ℕ). HasHead l h (tail ++ y)) (sym p) (goes_on got y h tail has)) in
-    let enough : (body_size (ahead_of h) ≤ length rest) ⊎ (z ≡ []) = elim end [ inl e ↦ inl e | inr e ↦ inr e ] in
+    let enough : (body_size (demand_of h) ≤ length rest) ⊎ (z ≡ []) = elim end [ inl e ↦ inl e | inr e ↦ inr e ] in
     inr (h, rest ++ z, there, is ∙ call_stays h rest z enough)
 
 -- what was read after the head, before a call of the source failed
 pub not_whole : (a b d : Option (List ℕ)) (got tail rest : List ℕ) (h : RequestHead)
-    → Consumes a b got → Moves b d tail rest → HasHead got h tail → length rest < body_size (ahead_of h)
+    → Consumes a b got → Moves b d tail rest → HasHead got h tail → length rest < body_size (demand_of h)
     → (bytes : List ℕ) × Consumes a d bytes × IsNotWhole bytes
 not_whole a b d got tail rest h p m has short =
     let bs = m.0 in

@@ -13,11 +13,11 @@ use Rattle.office_history.specs.Key.{is_key}
 use Rattle.office_history.specs.declared.arrival.Arrival.{Arrival}
 use Rattle.desk_types.specs.declared.problem.Problem.{Problem}
 use Rattle.desk_types.specs.declared.problem.Problem.TheVariants.{BadRequest, NotFound}
-use Rattle.desk_head.specs.Ahead.{ahead_of}
+use Rattle.desk_head.specs.Demand.{demand_of}
 use Rattle.desk_head.specs.Fields.{Headers, named}
 use Rattle.desk_head.specs.Target.{first_parameter, second_parameter}
-use Rattle.desk_head.specs.declared.ahead.Ahead.{Ahead}
-use Rattle.desk_head.specs.declared.ahead.Ahead.TheVariants as ahead
+use Rattle.desk_head.specs.declared.demand.Demand.{Demand}
+use Rattle.desk_head.specs.declared.demand.Demand.TheVariants as demand
 use Rattle.desk_head.specs.declared.endpoint.Posting.{Posting}
 use Rattle.desk_head.specs.declared.endpoint.Posting.TheVariants.{Act, Import, Bundle}
 use Rattle.desk_head.specs.declared.endpoint.Showing.{Showing}
@@ -26,8 +26,8 @@ use Rattle.desk_body.specs.Body.{command_in}
 use Rattle.desk_body.specs.Bundle.{bundle_in}
 use Rattle.desk_call.specs.declared.call.Call as declared
 use Rattle.desk_call.specs.declared.call.Call.TheVariants as call
-use Rattle.desk_call.specs.declared.call.Look.{Look}
-use Rattle.desk_call.specs.declared.call.Look.TheVariants as look
+use Rattle.office_types.specs.declared.look.Look.{Look}
+use Rattle.office_types.specs.declared.look.Look.TheVariants as look
 
 -- an arrival, as contracts see it
 pub record Asking : Type 0 where
@@ -36,15 +36,15 @@ pub record Asking : Type 0 where
   pub content : List ℕ
   pub command : Command
 
-pub data Asked : Type 0 where
-  fails : Problem → Asked
-  shows : Look → Asked
-  arrives : Asking → Asked
+pub data Requested : Type 0 where
+  fails : Problem → Requested
+  shows : Look → Requested
+  arrives : Asking → Requested
 
 abbrev pub asking_seen : Arrival → Asking
 asking_seen a = record { team = a.team; key = a.key; content = a.request.content.items; command = a.request.command }
 
-abbrev pub seen : declared.Call → Asked
+abbrev pub seen : declared.Call → Requested
 seen (call.Fails problem) = fails problem
 seen (call.Shows l) = shows l
 seen (call.Arrives a) = arrives (asking_seen a)
@@ -74,7 +74,7 @@ look_of showing.Live target = option_map look.Live (net_in target)
 look_of showing.Release target = release_in target
 look_of showing.Chart target = chart_in target
 
-abbrev pub show_by : Option Look → Asked
+abbrev pub show_by : Option Look → Requested
 show_by None = fails NotFound
 show_by (Some l) = shows l
 
@@ -94,7 +94,7 @@ command_of (Act k) target body = command_in k body
 command_of Import target body = import_of target body
 command_of Bundle target body = bundle_of target body
 
--- the bytes by which a repeat is told: the target, a space and the body
+-- the bytes by which a repeat is recognized: the target, a space and the body
 abbrev pub content_of : List ℕ → List ℕ → List ℕ
 content_of target body = target ++ 32 ∷ body
 
@@ -107,19 +107,19 @@ asking_of p target headers body = do
   command ← command_of p target body
   Some (record { team = team; key = key; content = content_of target body; command = command })
 
-abbrev pub arrive_by : Option Asking → Asked
+abbrev pub arrive_by : Option Asking → Requested
 arrive_by None = fails BadRequest
 arrive_by (Some a) = arrives a
 
 -- ---- all of it
 
-abbrev pub call_by : Ahead → List ℕ → Headers → List ℕ → Asked
-call_by (ahead.Fails problem) target headers rest = fails problem
-call_by (ahead.Shows s) target headers rest = show_by (look_of s target)
-call_by (ahead.Does p n) target headers rest =
+abbrev pub call_by : Demand → List ℕ → Headers → List ℕ → Requested
+call_by (demand.Fails problem) target headers rest = fails problem
+call_by (demand.Shows s) target headers rest = show_by (look_of s target)
+call_by (demand.Does p n) target headers rest =
     cond (nat_le n (length rest)) (arrive_by (asking_of p target headers (take n rest))) (fails BadRequest)
 
 -- What a request asks that has this head, in bytes that go on with the rest. In order: what the head alone answers; a
 -- body that ends too early; headers or a body that aren't of their forms; targets with nothing there.
-unfoldable pub call_of : RequestHead → List ℕ → Asked
-call_of h rest = call_by (ahead_of h) h.target (map name_and_value h.fields) rest
+unfoldable pub call_of : RequestHead → List ℕ → Requested
+call_of h rest = call_by (demand_of h) h.target (map name_and_value h.fields) rest

@@ -1,30 +1,30 @@
--- Which call the bytes of a source come to.
+-- Which call the bytes of a source are.
 use Rattle.std.specs.Prelude.{◌≡◌, ◌<◌, ◌⊎◌, ℕ, List, length, Option, Some, None, Result, Ok, Err, ⊤}
 use Rattle.httparse.specs.Grammar.{RequestHead}
 use Rattle.office_fields.specs.declared.unread.Unread.{Unread}
 use Rattle.office_fields.specs.declared.unread.Unread.TheVariants.{Wrong, Memory}
 use Rattle.office_history.specs.declared.arrival.Arrival.{Arrival}
 use Rattle.desk_types.specs.declared.problem.Problem.TheVariants.{BadRequest}
-use Rattle.desk_head.specs.Ahead.{ahead_of, body_size}
+use Rattle.desk_head.specs.Demand.{demand_of, body_size}
 use Rattle.desk_head.specs.Head.{HasHead, HasNoHead, IsUnfinished}
-use Rattle.desk_call.specs.Call.{Asked, Asking, asking_seen, call_of, fails}
+use Rattle.desk_call.specs.Call.{Requested, Asking, asking_seen, call_of, fails}
 
 -- What the bytes ask: that of the request that they begin with. Bytes without a head within the limits are a bad
 -- request.
-abbrev pub Asks : List ℕ → Asked → Type 0
-Asks bytes asked =
-    (HasNoHead bytes × (asked ≡ fails BadRequest))
-    ⊎ ((h : RequestHead) × (rest : List ℕ) × HasHead bytes h rest × (asked ≡ call_of h rest))
+abbrev pub Asks : List ℕ → Requested → Type 0
+Asks bytes requested =
+    (HasNoHead bytes × (requested ≡ fails BadRequest))
+    ⊎ ((h : RequestHead) × (rest : List ℕ) × HasHead bytes h rest × (requested ≡ call_of h rest))
 
 -- a law: no bytes ask two things
 abbrev pub BytesAskOneThing : Type 0
-BytesAskOneThing = (bytes : List ℕ) (a b : Asked) → Asks bytes a → Asks bytes b → a ≡ b
+BytesAskOneThing = (bytes : List ℕ) (a b : Requested) → Asks bytes a → Asks bytes b → a ≡ b
 
 -- the bytes hold no whole request: less than a head, or a head that asks for a body that isn't all there
 abbrev pub IsNotWhole : List ℕ → Type 0
 IsNotWhole bytes =
     IsUnfinished bytes ⊎ ((h : RequestHead) × (rest : List ℕ) × HasHead bytes h rest
-    × (length rest < body_size (ahead_of h)))
+    × (length rest < body_size (demand_of h)))
 
 -- an arrival is the one that the definition finds; out of memory states nothing
 abbrev pub ReadsArrival : Option Asking → Result Arrival Unread → Type 0

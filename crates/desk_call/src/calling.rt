@@ -6,7 +6,7 @@ ghost use Rattle.desk_call.specs.Call.{call_by, look_of, seen, show_by};
 use crate::asking::asking_of;
 use crate::call::Call;
 use crate::looks::look_of;
-use desk_head::{Ahead, Showing};
+use desk_head::{Demand, Showing};
 use desk_types::Problem;
 use httparse::spans::HeaderSpan;
 use office_fields::Unread;
@@ -26,7 +26,7 @@ fn show_at(alloc: Global, showing: Showing, target: &[u8]) -> Result<Call, Alloc
 /// buffer, and with what was read after the head.
 pub(crate) fn call_by(
     alloc: Global,
-    ahead: Ahead,
+    demand: Demand,
     target: &[u8],
     buf: &[u8],
     headers: &[HeaderSpan],
@@ -36,12 +36,12 @@ pub(crate) fn call_by(
     requires fits { len ≤ length buf.now }
     requires within { All (IsHeaderWithin len) headers.now }
     ensures { IfOk result (λ call. seen call
-        ≡ call_by ahead target.now (map (header_bytes buf.now) headers.now) rest.now) }
+        ≡ call_by demand target.now (map (header_bytes buf.now) headers.now) rest.now) }
 {
-    match ahead {
-        Ahead::Fails(problem) => Ok(Call::Fails(problem)),
-        Ahead::Shows(showing) => show_at(alloc, showing, target),
-        Ahead::Does(posting, length) => {
+    match demand {
+        Demand::Fails(problem) => Ok(Call::Fails(problem)),
+        Demand::Shows(showing) => show_at(alloc, showing, target),
+        Demand::Does(posting, length) => {
             let length = length as usize;
             if length <= rest.len() {
                 match asking_of(alloc, posting, target, buf, headers, len, &rest[..length]) {

@@ -2,8 +2,8 @@
 //!
 //! [`read_call`] reads the first request of a source, and no further than to its end, as a [`Call`]: a problem that
 //! answers it, something to look up, or an arrival. The tests are one function of the head and of what follows it
-//! (`call_of`, `specs/Call.antt`), whose first part is `ahead_of` of `desk_head`. `specs/Read.antt` says which call
-//! the bytes of a source come to; by [`bytes_ask_one_thing`] it is one.
+//! (`call_of`, `specs/Call.antt`), whose first part is `demand_of` of `desk_head`. `specs/Read.antt` says which call
+//! the bytes of a source are; by [`bytes_ask_one_thing`] it is one.
 #![tactic(auto)]
 
 mod asking;
@@ -14,6 +14,8 @@ mod looks;
 mod reading;
 mod values;
 
-pub use call::{Call, Look};
+pub use call::Call;
+pub use desk_head::Routes;
 pub use laws::bytes_ask_one_thing;
+pub use office_types::Look;
 pub use reading::read_call;

@@ -2,10 +2,10 @@
 ghost use Rattle.office_fields.specs.Reading.{Reads};
 ghost use Rattle.desk_call.specs.Call.{chart_in, look_of, release_in};
 
-use crate::call::Look;
 use crate::values::{name_of, net_in, release_number};
 use desk_head::{Showing, second_parameter};
 use office_fields::Unread;
+use office_types::Look;
 use std::alloc::Global;
 
 fn release_in(alloc: Global, target: &[u8]) -> Result<Look, Unread>

@@ -1,18 +1,19 @@
 //! Reading one request.
-ghost use Rattle.std.specs.Prelude.{◌≡◌, ◌+◌, ◌-◌, ◌<◌, ◌≤◌, ◌^◌, ℕ, List, true, false, IfOk, OnOk, IsErrOf, IfSome, vec_len, drop};
+ghost use Rattle.std.specs.Prelude.{◌≡◌, ◌+◌, ◌-◌, ◌<◌, ◌≤◌, ◌^◌, ℕ, List, true, false, IfOk, OnOk, IsErrOf, IfSome};
+ghost use Rattle.std.specs.Prelude.{vec_len, drop};
 ghost use Rattle.std.specs.Io.KnownBytes.{Consumes, IsAtEnd};
 ghost use Rattle.httparse.specs.Grammar.{RequestHead};
 ghost use Rattle.httparse.specs.Spans.{IsRequestAt};
 ghost use Rattle.desk_types.specs.Moved.{GivesAtMost, Moves};
 ghost use Rattle.desk_head.specs.Head.{IsHeadAt};
 ghost use Rattle.desk_head.specs.Limits.{request_limit};
-ghost use Rattle.desk_head.specs.Ahead.{ahead_of};
+ghost use Rattle.desk_head.specs.Demand.{demand_of};
 ghost use Rattle.desk_call.specs.Call.{call_of, seen};
 ghost use Rattle.desk_call.specs.Read.{Asks, IsNotWhole};
 
 use crate::call::Call;
 use crate::calling::call_by;
-use desk_head::{Ahead, HEADER_LIMIT, body_size, empty_headers, read_head, what_is_ahead};
+use desk_head::{Demand, HEADER_LIMIT, Routes, body_size, demand_at, empty_headers, read_head};
 use desk_types::{DeskFault, Problem, Source, take_more};
 use httparse::spans::{HeaderSpan, RequestSpans};
 use std::alloc::{AllocError, Global};
@@ -46,25 +47,29 @@ fn read_until<R: Source>(source: &mut R, got: &mut Vec<u8>, until: usize) -> Res
 #[tactic(auto, unfolding(crate::specs::Call::call_of))]
 fn call_read(
     alloc: Global,
-    ahead: Ahead,
+    demand: Demand,
     got: &[u8],
     headers: &[HeaderSpan; HEADER_LIMIT],
     spans: RequestSpans,
     rest: &[u8],
 ) -> Result<Call, AllocError>
     requires { IsHeadAt got.now headers.now spans }
-    ensures { IfOk result (λ call. (h : RequestHead) → IsRequestAt got.now headers.now spans h → ahead ≡ ahead_of h
+    ensures { IfOk result (λ call. (h : RequestHead) → IsRequestAt got.now headers.now spans h → demand ≡ demand_of h
         → seen call ≡ call_of h rest.now) }
 {
     let target = spans.path.of(got);
     let headers = &headers[..spans.headers];
-    call_by(alloc, ahead, target, got, headers, spans.len, rest)
+    call_by(alloc, demand, target, got, headers, spans.len, rest)
 }
 
 /// Reads the first request of a source, as what it asks. Nothing is read once the request is whole, or known to be
 /// wrong by its head, and never more than a greatest head and a greatest body. `Read` if a call of the source fails
 /// before that, `Memory` if memory runs out.
-pub fn read_call<R: Source>(alloc: Global, source: &mut R) -> Result<Call, DeskFault>
+pub fn read_call<R: Source>(
+    alloc: Global,
+    routes: &Routes,
+    source: &mut R,
+) -> Result<Call, DeskFault>
     requires { R.failure_count source.old < 2 ^ 64 - 1 }
     ensures most { GivesAtMost (R.left source.old) (R.left source.new) request_limit }
     ensures ok { IfOk result (λ call. IfSome (R.left source.old) (λ input. Asks input (seen call))) }
@@ -82,17 +87,15 @@ pub fn read_call<R: Source>(alloc: Global, source: &mut R) -> Result<Call, DeskF
         Ok(Some(spans)) => spans,
         Ok(None) => return Ok(Call::Fails(Problem::BadRequest)),
     };
-    let Ok(ahead) = what_is_ahead(alloc, &got, &headers, spans) else {
-        return Err(DeskFault::Memory);
-    };
+    let demand = demand_at(routes, &got, &headers, spans);
     let Ok(mut rest) = Vec::from_slice(alloc, &got[spans.len..]) else {
         return Err(DeskFault::Memory);
     };
-    match read_until(source, &mut rest, body_size(ahead) as usize) {
+    match read_until(source, &mut rest, body_size(demand) as usize) {
         Err(e) => return Err(e),
         Ok(_) => {}
     }
-    match call_read(alloc, ahead, &got, &headers, spans, &rest) {
+    match call_read(alloc, demand, &got, &headers, spans, &rest) {
         Ok(call) => Ok(call),
         Err(_) => Err(DeskFault::Memory),
     }

@@ -10,12 +10,12 @@ use Rattle.httparse.specs.Spans.{name_and_value}
 use Rattle.catalogue.specs.WholeNumber.{whole_of}
 use Rattle.desk_types.specs.declared.problem.Problem.{Problem}
 use Rattle.desk_types.specs.declared.problem.Problem.TheVariants.{BadRequest, TooLarge, WrongMethod}
-use Rattle.desk_head.specs.Ahead.{ahead_of, asks_by, body_size, does_by}
+use Rattle.desk_head.specs.Demand.{demand_of, demand_by, body_size, does_by}
 use Rattle.desk_head.specs.Fields.{Headers, body_length, length_by, named, taken_length, unless_coded}
 use Rattle.desk_head.specs.Limits.{body_limit}
 use Rattle.desk_head.specs.Target.{endpoint_of}
-use Rattle.desk_head.specs.declared.ahead.Ahead.{Ahead}
-use Rattle.desk_head.specs.declared.ahead.Ahead.TheVariants.{Fails, Shows}
+use Rattle.desk_head.specs.declared.demand.Demand.{Demand}
+use Rattle.desk_head.specs.declared.demand.Demand.TheVariants.{Fails, Shows}
 use Rattle.desk_head.specs.declared.endpoint.Endpoint.{Endpoint}
 use Rattle.desk_head.specs.declared.endpoint.Endpoint.TheVariants as endpoint
 use Rattle.desk_head.specs.declared.endpoint.Posting.{Posting}
@@ -50,18 +50,18 @@ length_is_small headers =
     let lengths = named (codes "content-length") headers in
     unless_is_small (named (codes "transfer-encoding") headers) (length_by lengths) (value_is_small lengths)
 
-abbrev HasSmallBody : Ahead → Type 0
+abbrev HasSmallBody : Demand → Type 0
 HasSmallBody a = body_size a ≤ body_limit
 
 does_small : (p : Posting) (found : Result ℕ Problem) → IsSmall found → HasSmallBody (does_by p found)
 does_small p (Ok n) small = small
 does_small p (Err problem) small = omega arith
 
-small_if : (b : Bool) (a : Ahead) → HasSmallBody a → HasSmallBody (cond b a (Fails WrongMethod))
+small_if : (b : Bool) (a : Demand) → HasSmallBody a → HasSmallBody (cond b a (Fails WrongMethod))
 small_if true a small = small
 small_if false a small = omega arith
 
-asks_small : (e : Option Endpoint) (h : RequestHead) → HasSmallBody (asks_by e h)
+asks_small : (e : Option Endpoint) (h : RequestHead) → HasSmallBody (demand_by e h)
 asks_small None h = omega arith
 asks_small (Some (endpoint.Shows s)) h = small_if (bytes_eq h.method (codes "GET")) (Shows s) (omega arith)
 asks_small (Some (endpoint.Does p)) h =
@@ -69,6 +69,6 @@ asks_small (Some (endpoint.Does p)) h =
     small_if (bytes_eq h.method (codes "POST")) (does_by p found)
     (does_small p found (length_is_small (map name_and_value h.fields)))
 
-pub size_is_small : (h : RequestHead) → body_size (ahead_of h) ≤ body_limit
-unfolding ahead_of
+pub size_is_small : (h : RequestHead) → body_size (demand_of h) ≤ body_limit
+unfolding demand_of
 size_is_small h = asks_small (endpoint_of h.target) h

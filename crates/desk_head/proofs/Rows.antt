@@ -4,10 +4,10 @@ use Rattle.httparse.specs.Grammar.{RequestHead, Field, crlf, lf, print_request, 
 use Rattle.matchit.proofs.OnLiterals.{matchit_on_literals}
 use Rattle.office_fields.specs.declared.kind.ActionKind.TheVariants as act
 use Rattle.desk_types.specs.declared.problem.Problem.TheVariants.{BadRequest, NotFound, WrongMethod, NoLength, TooLarge}
-use Rattle.desk_head.specs.Ahead.{ahead_of}
+use Rattle.desk_head.specs.Demand.{demand_of}
 use Rattle.desk_head.specs.Fields.{Headers, body_length, named}
 use Rattle.desk_head.specs.Target.{endpoint_of, first_parameter, second_parameter, the_routes, with_route}
-use Rattle.desk_head.specs.declared.ahead.Ahead.TheVariants as ahead
+use Rattle.desk_head.specs.declared.demand.Demand.TheVariants as demand
 use Rattle.desk_head.specs.declared.endpoint.Endpoint.TheVariants.{Shows, Does}
 use Rattle.desk_head.specs.declared.endpoint.Posting.TheVariants.{Act, Import}
 use Rattle.desk_head.specs.declared.endpoint.Showing.TheVariants as showing
@@ -121,10 +121,10 @@ text_of_taking : print_request (taking (codes "POST"))
 unfolding print_request
 text_of_taking = refl
 
-methods : map (λ method. ahead_of (taking method)) (codes "POST" ∷ codes "GET" ∷ codes "post" ∷ codes "HEAD" ∷ [])
-    ≡ ahead.Does (Act act.TakeIdent) 51 ∷ ahead.Fails WrongMethod ∷ ahead.Fails WrongMethod
-    ∷ ahead.Fails WrongMethod ∷ []
-unfolding ahead_of endpoint_of the_routes with_route matchit_on_literals body_length named trim_ows
+methods : map (λ method. demand_of (taking method)) (codes "POST" ∷ codes "GET" ∷ codes "post" ∷ codes "HEAD" ∷ [])
+    ≡ demand.Does (Act act.TakeIdent) 51 ∷ demand.Fails WrongMethod ∷ demand.Fails WrongMethod
+    ∷ demand.Fails WrongMethod ∷ []
+unfolding demand_of endpoint_of the_routes with_route matchit_on_literals body_length named trim_ows
 methods = refl
 
 -- on a `GET` no header of a body is looked at, and where there is nothing the method doesn't matter
@@ -139,7 +139,7 @@ coded_get target = record {
   last = lf;
 }
 
-gets : map (λ target. ahead_of (coded_get target)) (codes "/nets" ∷ codes "/net" ∷ codes "/import/truck" ∷ [])
-    ≡ ahead.Shows showing.Nets ∷ ahead.Fails NotFound ∷ ahead.Fails WrongMethod ∷ []
-unfolding ahead_of endpoint_of the_routes with_route matchit_on_literals
+gets : map (λ target. demand_of (coded_get target)) (codes "/nets" ∷ codes "/net" ∷ codes "/import/truck" ∷ [])
+    ≡ demand.Shows showing.Nets ∷ demand.Fails NotFound ∷ demand.Fails WrongMethod ∷ []
+unfolding demand_of endpoint_of the_routes with_route matchit_on_literals
 gets = refl

@@ -3,4 +3,4 @@ pub mod Head
 pub mod Sight
 pub mod Fields
 pub mod Target
-pub mod Ahead
+pub mod Demand

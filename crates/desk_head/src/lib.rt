@@ -1,16 +1,16 @@
 //! The head of a request (RFC 9112), and what it asks for.
 //!
 //! [`look`] finds the head at the front of bytes, by `httparse`, within the desk's limits, and [`read_head`] reads a
-//! source until the head is there or can't come. [`what_is_ahead`] says what the head asks for: which [`Endpoint`],
-//! by the target's route in `matchit`'s router, and how long the body is; or which problem answers it.
+//! source until the head is there or can't come. [`demand_at`] says what the head asks for: which [`Endpoint`],
+//! by the target's route in `matchit`'s router ([`Routes`]), and how long the body is; or which problem answers it.
 //! [`header_named`] gives the value of a header field, [`first_parameter`] and [`second_parameter`] the parameters of
 //! the target.
 //!
 //! The definitions are in `specs/`: `Head.antt` has the heads that bytes begin with, `Fields.antt` header fields and
-//! lengths, `Target.antt` what is at a target, and `Ahead.antt` the tests that a head has to pass, in order.
+//! lengths, `Target.antt` what is at a target, and `Demand.antt` the tests that a head has to pass, in order.
 #![tactic(auto)]
 
-mod ahead;
+mod demand;
 mod endpoint;
 mod fields;
 mod length;
@@ -20,10 +20,11 @@ mod parts;
 mod reading;
 mod routes;
 
-pub use ahead::{Ahead, body_size, what_is_ahead};
+pub use demand::{Demand, body_size, demand_at};
 pub use endpoint::{Endpoint, Posting, Showing};
 pub use fields::{Header, header_named};
 pub use limits::{BODY_LIMIT, HEAD_LIMIT, HEADER_LIMIT};
 pub use looking::{Sight, empty_headers, look};
 pub use parts::{first_parameter, second_parameter};
 pub use reading::read_head;
+pub use routes::Routes;

@@ -37,6 +37,13 @@ fn add(router: &mut Router<Route>, text: &str, route: Route) -> Result<(), Inser
     router.insert(text, route)
 }
 
+/// The routes of the desk: what is at each target. They are made once, for any number of requests.
+#[derive(Drop)]
+pub struct Routes {
+    router: Router<Route>,
+    ghost all: { router ≡ the_routes },
+}
+
 /// The router of the eight routes.
 #[tactic(auto, unfolding(crate::specs::Target::the_routes))]
 fn router(alloc: Global) -> Result<Router<Route>, InsertError>
@@ -59,19 +66,17 @@ fn router(alloc: Global) -> Result<Router<Route>, InsertError>
 }
 
 /// The route that the whole target matches.
-fn route_of(alloc: Global, target: &[u8]) -> Result<Option<Route>, AllocError>
-    requires { IsUtf8 target.now }
-    ensures { IfOk result (λ found. found ≡ route_of target.now) }
+fn route_of(router: &Router<Route>, target: &[u8]) -> Option<Route>
+    requires utf8 { IsUtf8 target.now }
+    requires all { router.now ≡ the_routes }
+    ensures { result ≡ route_of target.now }
 {
     let Ok(text) = from_utf8(target) else {
-        return Ok(None);
+        return None;
     };
-    let Ok(routes) = router(alloc) else {
-        return Err(AllocError);
-    };
-    match routes.at(text) {
-        Ok(found) => Ok(Some(*found.value)),
-        Err(_) => Ok(None),
+    match router.at(text) {
+        Ok(found) => Some(*found.value),
+        Err(_) => None,
     }
 }
 
@@ -105,14 +110,24 @@ fn endpoint_at(route: Route, target: &[u8]) -> Option<Endpoint>
     }
 }
 
-/// What is at the target, or `None` where nothing is.
-#[tactic(auto, unfolding(crate::specs::Target::endpoint_of))]
-pub(crate) fn endpoint_of(alloc: Global, target: &[u8]) -> Result<Option<Endpoint>, AllocError>
-    requires { IsUtf8 target.now }
-    ensures { IfOk result (λ found. found ≡ endpoint_of target.now) }
-{
-    match route_of(alloc, target)? {
-        Some(route) => Ok(endpoint_at(route, target)),
-        None => Ok(None),
+impl Routes {
+    /// The routes. The error is out of memory.
+    pub fn new(alloc: Global) -> Result<Routes, AllocError> {
+        match router(alloc) {
+            Ok(router) => Ok(Routes { router }),
+            Err(_) => Err(AllocError),
+        }
+    }
+
+    /// What is at the target, or `None` where nothing is.
+    #[tactic(auto, unfolding(crate::specs::Target::endpoint_of))]
+    pub(crate) fn endpoint_of(&self, target: &[u8]) -> Option<Endpoint>
+        requires { IsUtf8 target.now }
+        ensures { result ≡ endpoint_of target.now }
+    {
+        match route_of(&self.router, target) {
+            Some(route) => endpoint_at(route, target),
+            None => None,
+        }
     }
 }

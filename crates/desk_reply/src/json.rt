@@ -3,7 +3,8 @@ ghost use Rattle.std.specs.Prelude.{◌≡◌, IfOk, codes, false};
 ghost use Rattle.serde_json.specs.View.{items_view, view};
 ghost use Rattle.serde_json.specs.Data.{array, member, no_members, object};
 ghost use Rattle.serde_json.specs.Written.{has_float};
-ghost use Rattle.desk_reply.specs.Reply.{answer_data, fault_data, part_data, parts_data, problem_data, refusal_data, refused_data, reply_data};
+ghost use Rattle.desk_reply.specs.Reply.{answer_data, fault_data, part_data, parts_data, problem_data, refusal_data};
+ghost use Rattle.desk_reply.specs.Reply.{refused_data, reply_data};
 
 use desk_types::Problem;
 use office_history::Answer;

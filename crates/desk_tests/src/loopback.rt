@@ -1,10 +1,10 @@
 //! Requests over a port of the machine, in one process.
 use crate::requests::Titled;
-use serving::{listen, serve};
+use desk::{Routes, listen, serve};
 use sqlite::Alter;
 use std::io::{self, ErrorKind, Read, Write};
 use std::net::{Shutdown, SocketAddr, TcpStream};
-use store::Office;
+use store::StoredOffice;
 
 /// Whether the request is one of those that go over a port.
 pub(crate) fn goes_over_port(titled: &Titled<'_>) -> bool {
@@ -30,10 +30,11 @@ fn show(rt: &HostRuntime, title: &[u8], client: &mut TcpStream) -> io::Result<()
     out.write_all(b"\n")
 }
 
-/// Clients connect and write their requests; then they are served; then the clients read, and what they read is printed.
+/// Clients connect and write their requests; then they are served; then the clients read, and what they read is
+/// printed.
 pub(crate) fn serve_over_port<S: Alter>(
     rt: &HostRuntime,
-    office: &mut Office<S>,
+    office: &mut StoredOffice<S>,
     requests: &[Titled<'_>],
 ) -> io::Result<()> {
     let alloc = rt.alloc();
@@ -50,8 +51,9 @@ pub(crate) fn serve_over_port<S: Alter>(
     let Ok(count) = u32::try_from(clients.len()) else {
         return Err(ErrorKind::InvalidData)?;
     };
+    let routes = Routes::new(alloc)?;
     let mut errors = Vec::new(alloc);
-    if serve(alloc, office, &mut port, &mut errors, count).is_err() || !errors.is_empty() {
+    if serve(alloc, &routes, office, &mut port, &mut errors, count).is_err() || !errors.is_empty() {
         return Err(ErrorKind::ConnectionAborted)?;
     }
     let mut served = clients.iter_mut();

@@ -9,8 +9,8 @@
 //! Then all of them wait in memory and are served by one call, which must answer them so too, and find that no further
 //! connection can be accepted.
 //!
-//! Requests whose title begins with `#@` are served after the others, over a port of the machine: the clients write whole
-//! requests, then all are served, then the clients read.
+//! Requests whose title begins with `#@` are served after the others, over a port of the machine: the clients write
+//! whole requests, then all are served, then the clients read.
 //!
 //! `stdout` is what it must print, worked out from the rules of the desk.
 #![tactic(auto)]
@@ -28,13 +28,13 @@ use responses::{agree_in_pieces, agree_in_two, opened, response};
 use sqlite::{Alter, Connection};
 use std::fs;
 use std::io::{self, Write};
-use store::Office;
+use store::StoredOffice;
 use waiting::agree_in_one_call;
 
 /// Serves one request of the file, and prints what came of it.
 fn serve<S: Alter>(
     rt: &HostRuntime,
-    office: &mut Office<S>,
+    office: &mut StoredOffice<S>,
     titled: &Titled<'_>,
 ) -> io::Result<()> {
     let alloc = rt.alloc();

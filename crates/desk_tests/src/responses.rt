@@ -1,17 +1,17 @@
 //! Serving one request.
 use crate::pieces::{Ending, Pieces};
-use desk::{Counted, serve_one};
+use desk::{Counted, Routes, serve_one};
 use sqlite::{Alter, Connection};
 use std::alloc::Global;
 use std::io::{self, ErrorKind};
-use store::Office;
+use store::StoredOffice;
 
 /// A new office on the connection.
-pub(crate) fn opened<S: Alter + Drop>(conn: Connection<S>) -> io::Result<Office<S>> {
+pub(crate) fn opened<S: Alter + Drop>(conn: Connection<S>) -> io::Result<StoredOffice<S>> {
     if !conn.is_autocommit() {
         return Err(ErrorKind::InvalidData)?;
     }
-    match Office::open(conn) {
+    match StoredOffice::open(conn) {
         Ok(office) => Ok(office),
         Err(_) => Err(ErrorKind::InvalidData)?,
     }
@@ -20,7 +20,7 @@ pub(crate) fn opened<S: Alter + Drop>(conn: Connection<S>) -> io::Result<Office<
 /// What is written for the bytes, whose first piece has so many.
 pub(crate) fn response<S: Alter>(
     alloc: Global,
-    office: &mut Office<S>,
+    office: &mut StoredOffice<S>,
     request: &[u8],
     first: usize,
     ending: Ending,
@@ -40,12 +40,13 @@ pub(crate) fn response<S: Alter>(
 
 fn served<S: Alter>(
     alloc: Global,
-    office: &mut Office<S>,
+    office: &mut StoredOffice<S>,
     pieces: Pieces<'_>,
 ) -> io::Result<Vec<u8>> {
+    let routes = Routes::new(alloc)?;
     let mut source = Counted::new(pieces);
     let mut sink = Counted::new(Vec::new(alloc));
-    match serve_one(alloc, office, &mut source, &mut sink) {
+    match serve_one(alloc, &routes, office, &mut source, &mut sink) {
         Ok(()) => Ok(sink.into_inner()),
         Err(_) => Err(ErrorKind::Other)?,
     }
@@ -54,7 +55,7 @@ fn served<S: Alter>(
 /// Whether the bytes are answered by this text in pieces of each size.
 pub(crate) fn agree_in_pieces<S: Alter>(
     alloc: Global,
-    office: &mut Office<S>,
+    office: &mut StoredOffice<S>,
     request: &[u8],
     text: &[u8],
 ) -> io::Result<bool> {
@@ -75,7 +76,7 @@ pub(crate) fn agree_in_pieces<S: Alter>(
 /// Whether the bytes are answered by this text if they are cut in two at any byte.
 pub(crate) fn agree_in_two<S: Alter>(
     alloc: Global,
-    office: &mut Office<S>,
+    office: &mut StoredOffice<S>,
     request: &[u8],
     text: &[u8],
 ) -> io::Result<bool> {

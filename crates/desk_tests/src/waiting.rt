@@ -3,25 +3,27 @@ use crate::loopback::goes_over_port;
 use crate::pieces::Ending;
 use crate::requests::Titled;
 use crate::responses::response;
-use serving::{EndedConnection, ServeFault, Waiting, serve};
+use desk::{EndedConnection, Routes, ServeFault, Waiting, serve};
 use sqlite::Alter;
 use std::alloc::Global;
 use std::io::{self, ErrorKind};
-use store::Office;
+use store::StoredOffice;
 
 /// How the connections of these requests ended, which are served by one call that asks for one more than there are.
 fn ended_in_one_call<S: Alter>(
     alloc: Global,
-    office: &mut Office<S>,
+    office: &mut StoredOffice<S>,
     requests: &[&[u8]],
 ) -> io::Result<Vec<EndedConnection>> {
     let Ok(count) = u32::try_from(requests.len()) else {
         return Err(ErrorKind::InvalidData)?;
     };
+    let routes = Routes::new(alloc)?;
     let mut waiting = Waiting::new(alloc, requests);
     let mut errors = Vec::new(alloc);
     let served = serve(
         alloc,
+        &routes,
         office,
         &mut waiting,
         &mut errors,
@@ -43,7 +45,7 @@ fn was_answered(connection: &EndedConnection, text: &[u8]) -> bool {
 /// Whether the requests that don't go over a port are answered in one call as each of them is alone.
 pub(crate) fn agree_in_one_call<S: Alter>(
     alloc: Global,
-    office: &mut Office<S>,
+    office: &mut StoredOffice<S>,
     requests: &[Titled<'_>],
 ) -> io::Result<bool> {
     let mut sent: Vec<&[u8]> = Vec::new(alloc);

@@ -1,4 +1,4 @@
--- What moved from a source or to a sink. `None` is a device that doesn't tell its bytes: then nothing is said.
+-- What moved from a source or to a sink. `None` is a device that doesn't show its bytes: then nothing is stated.
 use Rattle.std.specs.Prelude.{◌≡◌, ℕ, ◌≤◌, List, ◌++◌, length, Option}
 use Rattle.std.specs.Io.KnownBytes.{Appends, Consumes}
 

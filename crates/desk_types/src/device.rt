@@ -32,7 +32,7 @@ pub trait Source {
 /// Where answers go.
 pub trait Sink {
     /// The bytes that it was given so far, if it tells them.
-    ghost told: { Self → Option (List ℕ) };
+    ghost reported: { Self → Option (List ℕ) };
 
     /// How many of its calls failed.
     ghost failure_count: { Self → ℕ };
@@ -42,7 +42,7 @@ pub trait Sink {
         requires { failure_count self.old < 2 ^ 64 - 1 }
         ensures within { IfOk result (λ n. n ≤ length bytes.now) }
         ensures some { 0 < length bytes.now → IfOk result (λ n. 0 < n) }
-        ensures bytes { WriteAppends (told self.old) (told self.new) result bytes.now }
+        ensures bytes { WriteAppends (reported self.old) (reported self.new) result bytes.now }
         ensures taken { OnOk result (failure_count self.new ≡ failure_count self.old) }
         ensures failed { OnErr result (failure_count self.new ≡ failure_count self.old + 1) };
 
@@ -107,7 +107,7 @@ impl<T: Read> Source for Counted<T> {
 }
 
 impl<T: Write> Sink for Counted<T> {
-    ghost told = { λ s. T.contents s.device };
+    ghost reported = { λ s. T.contents s.device };
 
     ghost failure_count = { λ s. s.count };
 

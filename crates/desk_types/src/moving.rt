@@ -10,9 +10,9 @@ use crate::fault::DeskFault;
 /// written.
 pub fn put_all<W: Sink>(sink: &mut W, text: &[u8]) -> Result<(), DeskFault>
     requires { W.failure_count sink.old < 2 ^ 64 - 1 }
-    ensures ok { OnOk result (Appends (W.told sink.old) (W.told sink.new) text.now) }
+    ensures ok { OnOk result (Appends (W.reported sink.old) (W.reported sink.new) text.now) }
     ensures kept { OnOk result (W.failure_count sink.new ≡ W.failure_count sink.old) }
-    ensures front { OnErr result (AppendsFront (W.told sink.old) (W.told sink.new) text.now) }
+    ensures front { OnErr result (AppendsFront (W.reported sink.old) (W.reported sink.new) text.now) }
     ensures count { OnErr result (W.failure_count sink.new ≡ W.failure_count sink.old + 1) }
     ensures fault { OnErr result (result ≡ Err DeskFault.Write) }
 {

@@ -1,4 +1,5 @@
-//! The parts and texts of decimals, and the texts of faults. What spellings read as are rows of `decimal/proofs/Rows.antt`.
+//! The parts and texts of decimals, and the texts of faults. What spellings read as are rows of
+//! `decimal/proofs/Rows.antt`.
 use decimal::Decimal;
 use std::alloc::Global;
 

@@ -1,4 +1,5 @@
-//! Layouts beside walks over their bits, and a start. Further starts, and clashes, are rows of `bitlayout/proofs/Rows.antt`.
+//! Layouts beside walks over their bits, and a start. Further starts, and clashes, are rows of
+//! `bitlayout/proofs/Rows.antt`.
 use bitlayout::{Layout, Mux, Order, Place, Size, has_bit, inside, least_start, share_bit};
 
 /// The positions of a layout as a set of numbers below 128, walked one by one as the definition says.

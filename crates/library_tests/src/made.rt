@@ -1,4 +1,4 @@
-//! Parts that the tests build. A part is `None` where memory is refused, or where it can't be built as asked.
+//! Parts that the tests build. A part is `None` where memory is refused, or where it can't be built.
 use bitlayout::{Layout, Mux, Order, Size};
 use can_id::Ident;
 use catalogue::{

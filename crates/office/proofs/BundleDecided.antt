@@ -168,10 +168,10 @@ module _ (team name : List ℕ) (before : NetAndBook) (parts : List Action) wher
 
     refused_by : (d : Decision) (r : Refusal) (out : Outcome) → next ≡ out → Leaves (λ s n e. IsLeft name (task.Act a) p.draft.net s n) out → Decides name p.draft out d
         → Some r ≡ refusal_in d.reply → whole ≡ RefusedAt (i + 1) r
-    refused_by d r (Refusing q) out left decides told =
+    refused_by d r (Refusing q) out left decides reported =
         goes_by ∙ ap (λ o. after_parts p.replies h.entries (part_then (i + 1) o others)) out
-        ∙ ap (RefusedAt (i + 1)) (let same : Some q ≡ Some r = sym (told ∙ ap refusal_in decides.reply) in let one : q ≡ r = cc in one)
-    refused_by d r (Changing s n e) out left decides told = absurd (subst IsAnswer (sym decides.reply ∙ is_refused r d.reply told) left.answer)
+        ∙ ap (RefusedAt (i + 1)) (let same : Some q ≡ Some r = sym (reported ∙ ap refusal_in decides.reply) in let one : q ≡ r = cc in one)
+    refused_by d r (Changing s n e) out left decides reported = absurd (subst IsAnswer (sym decides.reply ∙ is_refused r d.reply reported) left.answer)
 
     -- the bundle is refused where the part is
     pub next_refused : (r : Refusal) → IsPartDecided team name a p q (Some r) → (d : Decision) → d.changes ≡ [] → d.reply ≡ Refused (no.BundleRefused (refused_part (i + 1) r))

@@ -19,7 +19,7 @@ use Rattle.office_rules.specs.Importing.{FileReading, Reading, Unreadable}
 use Rattle.office_rules.specs.Profile.{Two}
 use Rattle.office_rules.specs.Step.{IsRead, IsUnreadable, fault_codes, file_wanted}
 use Rattle.office_types.specs.declared.refusal.FileFault.{FileFault}
-use Rattle.office.specs.Imported.{IsCommandDecision, IsImportDecision, IsToldFault, IsWantedReading}
+use Rattle.office.specs.Imported.{IsCommandDecision, IsImportDecision, IsReportedFault, IsWantedReading}
 
 -- Any reading will do where no file is wanted.
 pub no_reading : FileReading
@@ -69,35 +69,35 @@ import_decided team before c file d is h = record {
 }
 
 -- each code but that of memory is one that reading has
-pub code_told : (code : ReadCode) → (code ≡ Memory → ⊥) → Contains fault_codes (code_number code)
-code_told DoubleNumber other = (0, omega arith, refl)
-code_told DoubleName other = (1, omega arith, refl)
-code_told TwoMultiplexors other = (2, omega arith, refl)
-code_told TooMany other = (3, omega arith, refl)
-code_told UnclosedText other = (4, omega arith, refl)
-code_told StrayByte other = (5, omega arith, refl)
-code_told Unexpected other = (6, omega arith, refl)
-code_told UnknownStatement other = (7, omega arith, refl)
-code_told ExtendedMultiplexing other = (8, omega arith, refl)
-code_told Number other = (9, omega arith, refl)
-code_told Identifier other = (10, omega arith, refl)
-code_told Name other = (11, omega arith, refl)
-code_told Length other = (12, omega arith, refl)
-code_told Size other = (13, omega arith, refl)
-code_told Memory other = absurd (other refl)
+pub code_reported : (code : ReadCode) → (code ≡ Memory → ⊥) → Contains fault_codes (code_number code)
+code_reported DoubleNumber other = (0, omega arith, refl)
+code_reported DoubleName other = (1, omega arith, refl)
+code_reported TwoMultiplexors other = (2, omega arith, refl)
+code_reported TooMany other = (3, omega arith, refl)
+code_reported UnclosedText other = (4, omega arith, refl)
+code_reported StrayByte other = (5, omega arith, refl)
+code_reported Unexpected other = (6, omega arith, refl)
+code_reported UnknownStatement other = (7, omega arith, refl)
+code_reported ExtendedMultiplexing other = (8, omega arith, refl)
+code_reported Number other = (9, omega arith, refl)
+code_reported Identifier other = (10, omega arith, refl)
+code_reported Name other = (11, omega arith, refl)
+code_reported Length other = (12, omega arith, refl)
+code_reported Size other = (13, omega arith, refl)
+code_reported Memory other = absurd (other refl)
 
 -- a fault that `read` gives is one that the step allows
-unreadable_if_told : (file : List ℕ) (told : FileFault) → IsToldFault file told → IsUnreadable Two file told
-unreadable_if_told file told h = record {
+unreadable_if_reported : (file : List ℕ) (reported : FileFault) → IsReportedFault file reported → IsUnreadable Two file reported
+unreadable_if_reported file reported h = record {
   unread = λ s reads. h.given.nothing s reads.0;
-  code = subst (Contains fault_codes) (sym h.tells.code) (code_told h.fault.code h.tells.other);
+  code = subst (Contains fault_codes) (sym h.tells.code) (code_reported h.fault.code h.tells.other);
   offset = (let is = h.tells.offset in let within = h.given.within in omega (arith, is, within));
 }
 
 read_if_wanted : (wanted : Option (List ℕ)) (reading : FileReading) → IsWantedReading wanted reading → IsRead Two wanted reading
 read_if_wanted None reading h = tt
 read_if_wanted (Some file) (Reading s) h = (h, tt)
-read_if_wanted (Some file) (Unreadable told) h = unreadable_if_told file told h
+read_if_wanted (Some file) (Unreadable reported) h = unreadable_if_reported file reported h
 
 pub decision_if_read : (team : List ℕ) (before : NetAndBook) (c : Command) (d : Decision) → IsCommandDecision team before c d → IsDecision team before c d
 decision_if_read team before c d h = record {

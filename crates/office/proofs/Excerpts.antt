@@ -1,8 +1,8 @@
 -- What is decided by an excerpt is decided by every network that has it.
 use Rattle.std.proofs.Common.{◌≡◌, ◌∙◌, ℕ, List, Option, Some, ap, subst}
 use Rattle.std.specs.Prelude.{IfSome}
-use Rattle.office_net.specs.declared.excerpt.Excerpt.{Excerpt}
-use Rattle.office_net.specs.Excerpt.{HasExcerpt, excerpt_facts, named_message}
+use Rattle.office_facts.specs.declared.excerpt.Excerpt.{Excerpt}
+use Rattle.office_facts.specs.Excerpt.{HasExcerpt, excerpt_facts, named_message}
 use Rattle.office_types.specs.declared.book.SpnBook.{SpnBook}
 use Rattle.office_types.specs.declared.change.Decision.{Decision}
 use Rattle.office_types.specs.declared.command.Action.{Action}

@@ -17,7 +17,7 @@ use Rattle.office_rules.specs.Change.{IsDecision, left_after}
 use Rattle.office_rules.specs.Kept.{IsOffice}
 use Rattle.office_rules.specs.Outcome.{Outcome, Refusing, Changing}
 use Rattle.office_rules.specs.Profile.{Two}
-use Rattle.office_rules.specs.Step.{HasRun, asked_now, Run, Step, net_named, office_after, step_outcome}
+use Rattle.office_rules.specs.Step.{HasRun, requested_now, Run, Step, net_named, office_after, step_outcome}
 use Rattle.office_rules.proofs.Runs.{run_more}
 use Rattle.office_law.proofs.KeptOffice.{offices_are_kept}
 use Rattle.office.specs.Carried.{IsIndexOf, carried, with_both}
@@ -61,9 +61,9 @@ pub HasRun-more : (a b c : Office) (requests : List (List ℕ × Command)) (i : 
     → i < length requests → q ≡ get_or requests i q → HasRun a (take i requests) earlier before b → Step Two b q.0 q.1 r c → after ≡ before ++ r ∷ []
     → HasRun a (take (i + 1) requests) earlier after c
 HasRun-more a b c requests i q earlier before after r h e has step more = record {
-  told = has.told ++ r ∷ [];
-  added = more ∙ ap (λ (v : List Reply). v ++ r ∷ []) has.added ∙ append_assoc earlier has.told (r ∷ []);
-  run = subst (λ (v : List (List ℕ × Command)). Run a (asked_now v) (has.told ++ r ∷ []) c) (ap (λ (v : List ℕ × Command). take i requests ++ v ∷ []) e ∙ sym (take_more requests i q h))
-      (subst (λ v. Run a v (has.told ++ r ∷ []) c) (sym (map-append (λ (v : List ℕ × Command). (Two, v.0, v.1)) (take i requests) (q ∷ [])))
-      (run_more a b c (asked_now (take i requests)) has.told (Two, q.0, q.1) r has.run step));
+  reported = has.reported ++ r ∷ [];
+  added = more ∙ ap (λ (v : List Reply). v ++ r ∷ []) has.added ∙ append_assoc earlier has.reported (r ∷ []);
+  run = subst (λ (v : List (List ℕ × Command)). Run a (requested_now v) (has.reported ++ r ∷ []) c) (ap (λ (v : List ℕ × Command). take i requests ++ v ∷ []) e ∙ sym (take_more requests i q h))
+      (subst (λ v. Run a v (has.reported ++ r ∷ []) c) (sym (map-append (λ (v : List ℕ × Command). (Two, v.0, v.1)) (take i requests) (q ∷ [])))
+      (run_more a b c (requested_now (take i requests)) has.reported (Two, q.0, q.1) r has.run step));
 }

@@ -1,6 +1,6 @@
 -- What is decided on an import.
 use Rattle.std.specs.Prelude.{◌≡◌, ℕ, List, Option, Some, None, min}
-use Rattle.catalogue.specs.Reads.{Reads}
+use Rattle.dbc_grammar.specs.Reads.{Reads}
 use Rattle.dbc_lex.specs.Fault.{code_number}
 use Rattle.dbc_lex.specs.declared.fault.ReadCode.TheVariants.{Memory}
 use Rattle.dbc_lex.specs.declared.fault.ReadFault.{ReadFault}
@@ -16,30 +16,30 @@ use Rattle.office_rules.specs.Commands.{outcome}
 use Rattle.office_rules.specs.Importing.{FileReading, Reading, Unreadable, import}
 use Rattle.office_rules.specs.Step.{file_wanted}
 
--- A fault of reading, as a refusal tells it: its code and its offset, up to the greatest 32-bit number. Out of memory isn't
--- told so.
-pub record TellsFault (f : ReadFault) (told : FileFault) : Type 0 where
+-- A fault of reading, as a refusal tells it: its code and its offset, up to the greatest 32-bit number. Out of memory
+-- isn't reported so.
+pub record TellsFault (f : ReadFault) (reported : FileFault) : Type 0 where
   pub other : f.code ≡ Memory → ⊥
-  pub code : told.fault ≡ code_number f.code
-  pub offset : told.at ≡ min f.at 4294967295
+  pub code : reported.fault ≡ code_number f.code
+  pub offset : reported.at ≡ min f.at 4294967295
 
 -- a fault that `read` gives for the file, as a refusal tells it
-pub record IsToldFault (file : List ℕ) (told : FileFault) : Type 0 where
+pub record IsReportedFault (file : List ℕ) (reported : FileFault) : Type 0 where
   pub fault : ReadFault
   pub given : IsReadFault file fault
-  pub tells : TellsFault fault told
+  pub tells : TellsFault fault reported
 
 -- what `read` makes of the file: the sheet that it reads as, or else its fault
 abbrev pub IsReadAs : List ℕ → FileReading → Type 0
 IsReadAs file (Reading s) = Reads file s
-IsReadAs file (Unreadable f) = IsToldFault file f
+IsReadAs file (Unreadable f) = IsReportedFault file f
 
 -- the same of the file that is wanted, if one is
 abbrev pub IsWantedReading : Option (List ℕ) → FileReading → Type 0
 IsWantedReading None reading = Unit {0}
 IsWantedReading (Some file) reading = IsReadAs file reading
 
--- What is decided on the import of a file is what the import comes to with the reading of `read`.
+-- What is decided on the import of a file is what the import results in with the reading of `read`.
 pub record IsImportDecision (team : List ℕ) (net : Option Net) (file : List ℕ) (d : Decision) : Type 0 where
   pub reading : FileReading
   pub read : IsWantedReading (file_wanted net (Import file)) reading
@@ -51,8 +51,8 @@ pub record IsReadDecision (team : List ℕ) (net : Net) (file : List ℕ) (d : D
   pub read : IsReadAs file reading
   pub decides : (name : List ℕ) (book : SpnBook) → Decides name (record { net = Some net; book = book }) (import team (Some net) reading) d
 
--- What is decided on a command is what it comes to, for an import with the reading of `read`: so a file that reads as no
--- sheet is refused with the fault and the offset that `read` gives.
+-- What is decided on a command is what it results in, for an import with the reading of `read`: so a file that reads as
+-- no sheet is refused with the fault and the offset that `read` gives.
 pub record IsCommandDecision (team : List ℕ) (before : NetAndBook) (c : Command) (d : Decision) : Type 0 where
   pub reading : FileReading
   pub read : IsWantedReading (file_wanted before.net c.task) reading

@@ -5,7 +5,7 @@ ghost use Rattle.office_rules.specs.Opening.{bare_net};
 
 use crate::one_signal::{add_signal, remove_signal};
 use catalogue::{Copying, Items, put_item};
-use office_net::same_ident;
+use office_facts::same_ident;
 use office_types::{Change, Head, Net, NetName, SpnBook};
 use std::alloc::{AllocError, Global};
 use std::marker::Model;

@@ -11,7 +11,7 @@ use crate::applying::{Draft, change_all};
 use crate::carrying::draft_of;
 use crate::deciding::decide_action;
 use catalogue::{Copying, Items};
-use office_net::refusal_decision;
+use office_facts::refusal_decision;
 use office_types::{
     Action, Change, Decision, FileFault, Net, NetName, PartReply, Parts, Refusal, Reply, SpnBook,
     Team,
@@ -92,7 +92,8 @@ pub(crate) fn decide_bundle(
     book: &SpnBook,
     parts: &Parts<Action>,
 ) -> Result<Decision, AllocError>
-    ensures { IfOk result (Decides name.now (record { net = option_copied net.entry; book = book.now }) (bundle_outcome (parts_done team.now name.now 1 (option_copied net.entry) book.now parts.now))) }
+    ensures { IfOk result (Decides name.now (record { net = option_copied net.entry; book = book.now })
+        (bundle_outcome (parts_done team.now name.now 1 (option_copied net.entry) book.now parts.now))) }
 {
     let mut progress = Progress {
         draft: draft_of(alloc, net, book)?,

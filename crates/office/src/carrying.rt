@@ -68,7 +68,8 @@ fn carry_one_out(
     requires sorted { IsStrictlySortedBy by_name nets.old.items }
     requires index { IsIndexOf (record { nets = nets.old.items; book = book.old }) name.now index }
     requires fits { Fits change (net_named (record { nets = nets.old.items; book = book.old }) name.now) }
-    ensures ok { OnOk result (◌≡◌ {A = Office} (record { nets = nets.new.items; book = book.new }) (carried (record { nets = nets.old.items; book = book.old }) name.now (change ∷ []))) }
+    ensures ok { OnOk result (◌≡◌ {A = Office} (record { nets = nets.new.items; book = book.new })
+        (carried (record { nets = nets.old.items; book = book.old }) name.now (change ∷ []))) }
     ensures err { OnErr result ((nets.new.items ≡ nets.old.items) × (book.new ≡ book.old)) }
 {
     match change {
@@ -117,7 +118,8 @@ fn carry_all_out(
 ) -> Result<(), AllocError>
     requires index { IsIndexOf (record { nets = nets.old.items; book = book.old }) name.now index }
     requires fit { AllFit name.now changes (both_of (record { nets = nets.old.items; book = book.old }) name.now) }
-    ensures ok { OnOk result (◌≡◌ {A = Office} (record { nets = nets.new.items; book = book.new }) (carried (record { nets = nets.old.items; book = book.old }) name.now changes)) }
+    ensures ok { OnOk result (◌≡◌ {A = Office} (record { nets = nets.new.items; book = book.new })
+        (carried (record { nets = nets.old.items; book = book.old }) name.now changes)) }
     ensures err { OnErr result ((nets.new.items ≡ nets.old.items) × (book.new ≡ book.old)) }
 {
     let mut draft = draft_of(alloc, net_at(nets.as_slice(), index), book)?;
@@ -144,7 +146,8 @@ pub(crate) fn carry_out(
     requires sorted { IsStrictlySortedBy by_name nets.old.items }
     requires index { IsIndexOf (record { nets = nets.old.items; book = book.old }) name.now index }
     requires fit { AllFit name.now changes (both_of (record { nets = nets.old.items; book = book.old }) name.now) }
-    ensures ok { OnOk result (◌≡◌ {A = Office} (record { nets = nets.new.items; book = book.new }) (carried (record { nets = nets.old.items; book = book.old }) name.now changes)) }
+    ensures ok { OnOk result (◌≡◌ {A = Office} (record { nets = nets.new.items; book = book.new })
+        (carried (record { nets = nets.old.items; book = book.old }) name.now changes)) }
     ensures err { OnErr result ((nets.new.items ≡ nets.old.items) × (book.new ≡ book.old)) }
 {
     let mut changes = changes;

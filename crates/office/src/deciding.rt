@@ -7,11 +7,13 @@ ghost use Rattle.office.specs.Imported.{IsCommandDecision};
 
 use crate::bundling::decide_bundle;
 use crate::importing::decide_import_of;
-use crate::on_message::{remove_signal, retire, set_values, take_bits, take_spn};
-use office_import::decide_release;
+use office_signals::{
+    decide_remove_signal_in, decide_retire_in, decide_set_values_in, decide_take_bits_in,
+    decide_take_spn_in,
+};
 use office_take::{
-    decide_add_node, decide_approve, decide_grant, decide_open_net, decide_reject, decide_submit,
-    decide_take_ident, decide_take_pgn,
+    decide_add_node, decide_approve, decide_grant, decide_open_net, decide_reject, decide_release,
+    decide_submit, decide_take_ident, decide_take_pgn,
 };
 use office_types::{Action, Command, Decision, Net, NetName, SpnBook, Task, Team};
 use std::alloc::{AllocError, Global};
@@ -25,7 +27,8 @@ pub(crate) fn decide_action(
     book: &SpnBook,
     action: &Action,
 ) -> Result<Decision, AllocError>
-    ensures { IfOk result (Decides name.now (record { net = option_copied net.entry; book = book.now }) (acted team.now name.now (option_copied net.entry) book.now action.now)) }
+    ensures { IfOk result (Decides name.now (record { net = option_copied net.entry; book = book.now })
+        (acted team.now name.now (option_copied net.entry) book.now action.now)) }
 {
     match action {
         Action::OpenNet(open) => decide_open_net(alloc, team, name, net, open),
@@ -33,11 +36,11 @@ pub(crate) fn decide_action(
         Action::AddNode(node) => decide_add_node(alloc, net, node),
         Action::TakeIdent(take) => decide_take_ident(alloc, team, net, take),
         Action::TakePgn(take) => decide_take_pgn(alloc, team, net, take),
-        Action::TakeSpn(take) => take_spn(alloc, team, name, net, book, take),
-        Action::TakeBits(take) => take_bits(alloc, team, net, take),
-        Action::SetValues(set) => set_values(alloc, team, net, set),
-        Action::RemoveSignal(path) => remove_signal(alloc, team, net, path),
-        Action::Retire(message) => retire(alloc, team, net, message),
+        Action::TakeSpn(take) => decide_take_spn_in(alloc, team, name, net, book, take),
+        Action::TakeBits(take) => decide_take_bits_in(alloc, team, net, take),
+        Action::SetValues(set) => decide_set_values_in(alloc, team, net, set),
+        Action::RemoveSignal(path) => decide_remove_signal_in(alloc, team, net, path),
+        Action::Retire(message) => decide_retire_in(alloc, team, net, message),
         Action::Submit => decide_submit(alloc, team, net),
         Action::Approve => decide_approve(alloc, team, net),
         Action::Reject => decide_reject(alloc, team, net),
@@ -46,9 +49,9 @@ pub(crate) fn decide_action(
 }
 
 /// Decides the team's command on its network, which may not be there: the reply, and the changes that lead to the
-/// network and the book after the command. A refusal has no change. Nothing is changed here, and the file of an import is
-/// read only where the network is there and in draft. A file that reads as no sheet is refused with the fault and the
-/// offset that [`read`](dbc_read::read) gives. The error is out of memory.
+/// network and the book after the command. A refusal has no change. Nothing is changed here, and the file of an import
+/// is read only where the network is there and in draft. A file that reads as no sheet is refused with the fault and
+/// the offset that [`read`](dbc_read::read) gives. The error is out of memory.
 pub fn decide(
     alloc: Global,
     team: &Team,
@@ -56,8 +59,10 @@ pub fn decide(
     book: &SpnBook,
     command: &Command,
 ) -> Result<Decision, AllocError>
-    ensures decision { IfOk result (IsDecision team.now (record { net = option_copied net.entry; book = book.now }) command.now) }
-    ensures read { IfOk result (IsCommandDecision team.now (record { net = option_copied net.entry; book = book.now }) command.now) }
+    ensures decision { IfOk result (IsDecision team.now
+        (record { net = option_copied net.entry; book = book.now }) command.now) }
+    ensures read { IfOk result (IsCommandDecision team.now
+        (record { net = option_copied net.entry; book = book.now }) command.now) }
 {
     match &command.task {
         Task::Act(action) => decide_action(alloc, team, &command.net, net, book, action),

@@ -1,14 +1,14 @@
 //! What the office does with a command on a message, by the part of the network that it reads.
 ghost use Rattle.std.specs.Prelude.{◌≡◌, true, IfOk, Some};
-ghost use Rattle.office_net.specs.Excerpt.{IsExcerptOf, excerpt_numbers, goes_by_excerpt};
-ghost use Rattle.office_take.specs.Told.{number_facts_of};
+ghost use Rattle.office_facts.specs.Excerpt.{IsExcerptOf, excerpt_numbers, goes_by_excerpt};
+ghost use Rattle.office_take.specs.FactsOf.{number_facts_of};
 ghost use Rattle.office_types.specs.declared.book.SpnBook.{SpnBook as Book};
 ghost use Rattle.office_types.specs.declared.state.Net.{Net};
 ghost use Rattle.office_law.specs.Apart.{asks_book};
 ghost use Rattle.office_rules.specs.Change.{IsDecision};
 
+use office_facts::Excerpt;
 use office_law::numbers_elsewhere_do_not_count;
-use office_net::Excerpt;
 use office_signals::{decide_remove_signal, decide_set_values, decide_take_bits, decide_take_spn};
 use office_take::{ListedNumbers, NumberFacts, decide_take_ident_on, decide_take_pgn_on};
 use office_types::{Action, Command, Decision, SpnBook, Task, Team};
@@ -69,7 +69,8 @@ pub fn decide_excerpt(
 ) -> Result<Decision, AllocError>
     requires { goes_by_excerpt command.now.task ≡ true }
     ensures { IfOk result (λ d. (net : Net) (other : Book) → IsExcerptOf team.now net command.now.task excerpt.now
-        → (asks_book command.now.task ≡ true → other ≡ book.now) → IsDecision team.now (record { net = Some net; book = other }) command.now d) }
+        → (asks_book command.now.task ≡ true → other ≡ book.now)
+        → IsDecision team.now (record { net = Some net; book = other }) command.now d) }
 {
     numbers_elsewhere_do_not_count();
     let facts = excerpt.facts();

@@ -6,8 +6,8 @@ ghost use Rattle.office.specs.Imported.{IsImportDecision, IsReadDecision, TellsF
 
 use dbc_lex::{ReadCode, ReadFault};
 use dbc_read::read;
+use office_facts::refusal_decision;
 use office_import::{decide_import, decide_unread, decide_unreadable};
-use office_net::refusal_decision;
 use office_types::{Decision, FileFault, Net, Refusal, Team};
 use std::alloc::{AllocError, Global};
 
@@ -19,7 +19,7 @@ fn offset_of(at: usize) -> u32
 }
 
 /// The fault as a refusal tells it, `None` where it is that memory ran out.
-fn told_fault(fault: ReadFault) -> Option<FileFault>
+fn reported_fault(fault: ReadFault) -> Option<FileFault>
     ensures { MatchOption result (fault.code ≡ Memory) (TellsFault fault) }
 {
     match fault.code {
@@ -36,9 +36,9 @@ fn decide_read(alloc: Global, team: &Team, net: &Net, file: &[u8]) -> Result<Dec
 {
     match read(alloc, file) {
         Ok(reading) => decide_import(alloc, team, net, &reading.sheet),
-        Err(fault) => match told_fault(fault) {
+        Err(fault) => match reported_fault(fault) {
             None => Err(AllocError),
-            Some(told) => Ok(decide_unreadable(alloc, net, told)),
+            Some(reported) => Ok(decide_unreadable(alloc, net, reported)),
         },
     }
 }

@@ -1,8 +1,9 @@
 //! Taking bits in place.
 //!
-//! A change is carried out on a copy of its message. Where the network is in memory, that would be a copy of all signals
-//! for one more, so here the signal is added to the live message itself.
-ghost use Rattle.std.specs.Prelude.{◌≡◌, ◌<◌, None, Some, IfOk, IfSome, OnOk, OnErr, length, position, slice_get, slice_set};
+//! A change is carried out on a copy of its message. Where the network is in memory, that would be a copy of all
+//! signals for one more, so here the signal is added to the live message itself.
+ghost use Rattle.std.specs.Prelude.{◌≡◌, ◌<◌, None, Some, IfOk, IfSome, OnOk, OnErr, length, position, slice_get};
+ghost use Rattle.std.specs.Prelude.{slice_set};
 ghost use Rattle.std.specs.Str.{bytes_eq};
 ghost use Rattle.catalogue.specs.Refusing.{first_refusal};
 ghost use Rattle.catalogue.specs.Signals.{signal_tests};
@@ -11,7 +12,7 @@ ghost use Rattle.office_rules.specs.Signals.{take_bits, with_last_signal};
 ghost use Rattle.office.specs.Carried.{IsDone, bits_reply};
 
 use catalogue::{Items, Name, SheetCode, Signal};
-use office_net::message_facts;
+use office_facts::message_facts;
 use office_signals::new_signal_for;
 use office_types::{LiveMessage, Net, Refusal, Reply, TakeBits, Team};
 use std::alloc::{AllocError, Global};
@@ -40,7 +41,8 @@ pub(crate) fn add_last(
     }
 }
 
-/// Adds a signal, which isn't refused, as the last one of the message at the index. When memory runs out, nothing changes.
+/// Adds a signal, which isn't refused, as the last one of the message at the index. When memory runs out, nothing
+/// changes.
 fn add_at(
     alloc: Global,
     live: &mut Items<LiveMessage>,
@@ -48,8 +50,10 @@ fn add_at(
     signal: Signal,
 ) -> Result<(), AllocError>
     requires within { index < length live.old }
-    requires fits { IfSome (slice_get live.old index) (λ m. first_refusal (signal_tests m.message.signals signal) ≡ None) }
-    ensures ok { OnOk result (IfSome (slice_get live.old index) (λ m. live.new ≡ slice_set live.old index (with_last_signal m signal))) }
+    requires fits { IfSome (slice_get live.old index)
+        (λ m. first_refusal (signal_tests m.message.signals signal) ≡ None) }
+    ensures ok { OnOk result (IfSome (slice_get live.old index)
+        (λ m. live.new ≡ slice_set live.old index (with_last_signal m signal))) }
     ensures err { OnErr result (live.new ≡ live.old) }
 {
     let mut messages = live.take().into_vec();
@@ -68,8 +72,8 @@ pub(crate) fn bits_reply(given: Result<u16, Refusal>) -> Reply
     }
 }
 
-/// Carries the team's `take_bits` out on its network: the signal is added to its message, of which the start is given, or
-/// the command is refused and nothing changes. When memory runs out, nothing changes.
+/// Carries the team's `take_bits` out on its network: the signal is added to its message, of which the start is given,
+/// or the command is refused and nothing changes. When memory runs out, nothing changes.
 pub(crate) fn take_bits_in_place(
     alloc: Global,
     team: &Team,
@@ -77,7 +81,8 @@ pub(crate) fn take_bits_in_place(
     take: &TakeBits,
 ) -> Result<Result<u16, Refusal>, AllocError>
     requires { IsNet net.old }
-    ensures ok { IfOk result (λ given. IsDone net.old (take_bits team.now (Some net.old) take.now) (bits_reply given) net.new) }
+    ensures ok { IfOk result (λ given. IsDone net.old (take_bits team.now (Some net.old) take.now)
+        (bits_reply given) net.new) }
     ensures err { OnErr result (net.new ≡ net.old) }
 {
     let index = index_of_live(net.live.as_slice(), &take.path.message);

@@ -1,15 +1,14 @@
 //! What the office does with a command.
 //!
 //! [`decide`] decides a team's command on its network: it gives the reply, and the changes that lead to the network and
-//! the book after it. [`PlainOffice`] is an office in memory: [`PlainOffice::step`] carries a command out completely, or
-//! refuses it and changes nothing, and [`PlainOffice::run`] runs a list of commands. What it holds is always that of an
-//! office (`office_rules/specs/Kept.antt`), so the laws of `office_law` hold of what the program runs.
+//! the book after it. [`PlainOffice`] is an office in memory: [`PlainOffice::step`] carries a command out completely,
+//! or refuses it and changes nothing, and [`PlainOffice::run`] runs a list of commands. What it holds is always that of
+//! an office (`office_rules/specs/Kept.antt`), so the laws of `office_law` hold of what the program runs.
 //!
-//! The bodies of the commands are in `office_take`, `office_signals` and `office_import`; here one is chosen, an imported
-//! file is read, and changes are carried out: one change in place, more of them on copies of the network and the book
-//! first, so that nothing is changed where memory runs out.
-//! `take_bits` alone goes another way here (`in_place.rt`): its signal is added to the live message, which a change would
-//! copy.
+//! The bodies of the commands are in `office_take`, `office_signals` and `office_import`; here one is chosen, an
+//! imported file is read, and changes are carried out: one change in place, more of them on copies of the network and
+//! the book first, so that nothing is changed where memory runs out. `take_bits` alone goes another way here
+//! (`in_place.rt`): its signal is added to the live message, which a change would copy.
 //!
 //! The definitions are in `office_rules/specs`: `Commands.antt` and `Step.antt` the outcome of a command, `Change.antt`
 //! what changes do. `specs/Carried.antt` here has what they do to a whole office.
@@ -22,12 +21,11 @@ mod deciding;
 mod excerpt;
 mod importing;
 mod in_place;
-mod on_message;
 mod one_signal;
 mod plain;
 mod stepping;
 
 pub use deciding::decide;
 pub use excerpt::{decide_excerpt, goes_by_excerpt};
-pub use office_net::Excerpt;
+pub use office_facts::Excerpt;
 pub use plain::PlainOffice;

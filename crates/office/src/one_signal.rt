@@ -8,7 +8,7 @@ ghost use Rattle.office_rules.specs.Signals.{with_last_signal, with_signal_out};
 
 use crate::in_place::add_last;
 use catalogue::{Copying, Name, Signal, put_item};
-use office_net::live_named;
+use office_facts::live_named;
 use office_types::{LiveMessage, Net, SignalPath};
 use std::alloc::{AllocError, Global};
 

@@ -39,7 +39,9 @@ fn step_by_changes(
 ) -> Result<(Reply, Reply), AllocError>
     requires office { IsOffice (record { nets = nets.old.items; book = book.old }) }
     requires index { IsIndexOf (record { nets = nets.old.items; book = book.old }) command.now.net index }
-    ensures step { IfOk result (λ both. Step Two (record { nets = nets.old.items; book = book.old }) team.now command.now both.0 (record { nets = nets.new.items; book = book.new })) }
+    ensures step { IfOk result
+        (λ both. Step Two (record { nets = nets.old.items; book = book.old }) team.now command.now both.0
+        (record { nets = nets.new.items; book = book.new })) }
     ensures copy { IfOk result (λ both. both.1 ≡ both.0) }
     ensures err { OnErr result ((nets.new.items ≡ nets.old.items) × (book.new ≡ book.old)) }
 {
@@ -51,8 +53,8 @@ fn step_by_changes(
     Ok((reply, copy))
 }
 
-/// One step on these networks and this book: the team's command is carried out, or it is refused and nothing changes. The
-/// reply is given twice. If memory runs out, nothing changes.
+/// One step on these networks and this book: the team's command is carried out, or it is refused and nothing changes.
+/// The reply is given twice. If memory runs out, nothing changes.
 pub(crate) fn step(
     alloc: Global,
     team: &Team,
@@ -61,7 +63,9 @@ pub(crate) fn step(
     command: &Command,
 ) -> Result<(Reply, Reply), AllocError>
     requires { IsOffice (record { nets = nets.old.items; book = book.old }) }
-    ensures step { IfOk result (λ both. Step Two (record { nets = nets.old.items; book = book.old }) team.now command.now both.0 (record { nets = nets.new.items; book = book.new })) }
+    ensures step { IfOk result
+        (λ both. Step Two (record { nets = nets.old.items; book = book.old }) team.now command.now both.0
+        (record { nets = nets.new.items; book = book.new })) }
     ensures copy { IfOk result (λ both. both.1 ≡ both.0) }
     ensures err { OnErr result ((nets.new.items ≡ nets.old.items) × (book.new ≡ book.old)) }
 {

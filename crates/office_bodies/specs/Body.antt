@@ -1,6 +1,6 @@
 -- Bodies: texts that have a message alone.
 use Rattle.std.specs.Prelude.{ℕ, List, [], ◌∷◌, Option, Some, None}
-use Rattle.catalogue.specs.Reads.{Reads}
+use Rattle.dbc_grammar.specs.Reads.{Reads}
 use Rattle.catalogue.specs.Sheet.{empty_sheet}
 use Rattle.catalogue.specs.declared.message.Message.{Message}
 use Rattle.catalogue.specs.declared.sheet.Sheet.{Sheet}

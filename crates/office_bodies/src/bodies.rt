@@ -1,7 +1,7 @@
 //! Bodies of messages, and texts of sheets.
 ghost use Rattle.std.specs.Prelude.{◌≡◌, IfOk, None, Some};
-ghost use Rattle.catalogue.specs.Reads.{Reads};
-ghost use Rattle.catalogue.specs.declared.message.Message.{Message as Told};
+ghost use Rattle.dbc_grammar.specs.Reads.{Reads};
+ghost use Rattle.catalogue.specs.declared.message.Message.{Message as MessageModel};
 ghost use Rattle.catalogue.specs.declared.sheet.Sheet.{Sheet as Whole};
 ghost use Rattle.dbc_read.specs.Reading.{ReadsAsNothing};
 ghost use Rattle.office_bodies.specs.Body.{IsBody, only_message, sheet_alone};
@@ -74,7 +74,7 @@ fn only_message(sheet: Sheet) -> Option<Message>
 /// The message of the body: the one message of the sheet that the text reads as. `None` where it reads as no sheet, or
 /// as one with no message or several. The error is out of memory.
 pub fn message_of(alloc: Global, body: &[u8]) -> Result<Option<Message>, AllocError>
-    ensures found { IfOk result (λ found. (message : Told) → IsBody body.now message → found ≡ Some message) }
+    ensures found { IfOk result (λ found. (message : MessageModel) → IsBody body.now message → found ≡ Some message) }
     ensures only { IfOk result (λ found. (sheet : Whole) → Reads body.now sheet → found ≡ only_message sheet.messages) }
     ensures none { IfOk result (λ found. ReadsAsNothing body.now → found ≡ None) }
 {

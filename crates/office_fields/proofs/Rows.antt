@@ -12,7 +12,7 @@ use Rattle.office_fields.specs.declared.field.FieldKind.TheVariants as kind
 use Rattle.office_fields.specs.declared.kind.ActionKind.TheVariants as act
 use Rattle.office_fields.specs.declared.kind.CommandKind.TheVariants.{Act, Import}
 use Rattle.office_fields.specs.Action.{pdu_of, range_of}
-use Rattle.office_fields.specs.Asked.{asked_of}
+use Rattle.office_fields.specs.Requested.{requested_of}
 use Rattle.office_fields.specs.Given.{NamedValue, are_known, given, values_of}
 use Rattle.office_fields.specs.Kind.{kind_of_word}
 use Rattle.office_fields.specs.Value.{value_from}
@@ -150,5 +150,5 @@ destinations : map pdu_of ((named (codes "pdu") (codes "addressed") ∷ to_seven
     ≡ Some (Addressed (Some 7)) ∷ Some (Addressed None) ∷ Some Broadcast ∷ None ∷ None ∷ []
 destinations = refl
 
-another_field : asked_of (Act act.Submit) (named (codes "net") (codes "truck") ∷ named (codes "message") (codes "E1") ∷ []) ≡ None
+another_field : requested_of (Act act.Submit) (named (codes "net") (codes "truck") ∷ named (codes "message") (codes "E1") ∷ []) ≡ None
 another_field = refl

@@ -3,5 +3,5 @@ pub mod Value
 pub mod Field
 pub mod Given
 pub mod Action
-pub mod Asked
+pub mod Requested
 pub mod Reading

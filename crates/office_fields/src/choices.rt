@@ -1,6 +1,7 @@
 //! Values that are one word of a few.
 ghost use Rattle.catalogue.specs.Indicator.{mux_of_indicator};
-ghost use Rattle.office_fields.specs.Value.{addressing_of, block_form_of, ident_form_of, net_kind_of, order_of, truth_of};
+ghost use Rattle.office_fields.specs.Value.{addressing_of, block_form_of, ident_form_of, net_kind_of, order_of};
+ghost use Rattle.office_fields.specs.Value.{truth_of};
 
 use crate::addressing::Addressing;
 use crate::given::FieldValue;

@@ -1,7 +1,8 @@
 //! Values that are given under names, and looking them up.
 ghost use Rattle.std.specs.Prelude.{◌≡◌, ◌↔◌, ◌<◌, ◌∷◌, [], length, IfSome, IsTrue, MatchOption};
 ghost use Rattle.office_fields.specs.Field.{row_of};
-ghost use Rattle.office_fields.specs.Given.{named_values, values_of, is_name_of, are_known, read_once, read_at_most_once, read_each};
+ghost use Rattle.office_fields.specs.Given.{named_values, values_of, is_name_of, are_known, read_once};
+ghost use Rattle.office_fields.specs.Given.{read_at_most_once, read_each};
 ghost use Rattle.office_fields.specs.Reading.{Reads};
 
 use crate::field::Field;
@@ -39,7 +40,8 @@ struct FirstValue<'v, 'a> {
 
 fn first_of<'v, 'a>(values: &'v [GivenValue<'a>], name: &str) -> Option<FirstValue<'v, 'a>>
     ensures first { MatchOption result (values_of (named_values values.now) name.now ≡ [])
-        (λ f. values_of (named_values values.now) name.now ≡ f.value.now ∷ values_of (named_values f.rest.now) name.now) }
+        (λ f. values_of (named_values values.now) name.now
+        ≡ f.value.now ∷ values_of (named_values f.rest.now) name.now) }
     ensures shorter { IfSome result (λ f. length f.rest.now < length values.now) }
 {
     for (index, given) in values.iter().enumerate() {

@@ -15,7 +15,7 @@ use Rattle.office_types.specs.declared.state.Office.{Office}
 use Rattle.office_rules.specs.Outcome.{reply_of}
 use Rattle.office_rules.specs.Profile.{Two}
 use Rattle.office_rules.specs.Step.{IsRead, Step, file_wanted, net_named, office_after, opening, step_outcome}
-use Rattle.office_rules.proofs.Asking.{Asked, asks, bus, engine, grants, left_by, office, on_bus, opens, takes, takes_spn, truck}
+use Rattle.office_rules.proofs.Asking.{Requested, asks, bus, engine, grants, left_by, office, on_bus, opens, takes, takes_spn, truck}
 use Rattle.office_history.specs.declared.arrival.Answer.{Answer}
 use Rattle.office_history.specs.declared.arrival.Answer.TheVariants as answer
 use Rattle.office_history.specs.declared.arrival.Answer.TheVariants.{KeyReused}
@@ -23,16 +23,16 @@ use Rattle.office_history.specs.History.{Answered, IsAnsweredAs, IsLegal, IsLega
 use Rattle.office_law.specs.Apart.{asks_book}
 use Rattle.office_history.specs.Laws.{HaveOneNetwork, is_on, new_spns}
 
-abbrev answered : Asked → List ℕ → List ℕ → Answer → Answered
+abbrev answered : Requested → List ℕ → List ℕ → Answer → Answered
 answered q key content answer = record { profile = Two; team = q.team; key = key; content = content; command = q.command; answer = answer }
 
-abbrev take_1 : Asked
+abbrev take_1 : Requested
 take_1 = takes engine (codes "E1") None
 
-abbrev retire_1 : Asked
+abbrev retire_1 : Requested
 retire_1 = asks engine (act.Retire (codes "E1"))
 
-abbrev take_2 : Asked
+abbrev take_2 : Requested
 take_2 = takes engine (codes "E2") None
 
 -- the number that was given out is free again when the request for it is repeated; then its key is used for another one
@@ -46,18 +46,18 @@ moved_on =
     ∷ answered take_1 (codes "a1") (codes "take E1") (answer.Reply (Number 256))
     ∷ answered take_2 (codes "a1") (codes "take E2") KeyReused ∷ []
 
-abbrev asked_first : List Asked
-asked_first = opens Can 0 ∷ grants engine block.Std 256 258 ∷ take_1 ∷ retire_1 ∷ take_2 ∷ []
+abbrev requested_first : List Requested
+requested_first = opens Can 0 ∷ grants engine block.Std 256 258 ∷ take_1 ∷ retire_1 ∷ take_2 ∷ []
 
 the_first : first_arrivals moved_on ≡ take 5 moved_on
 the_first = refl
 
-step_of : (o : Office) (q : Asked) → IsRead Two (file_wanted (net_named o q.command.net) q.command.task) q.reading
+step_of : (o : Office) (q : Requested) → IsRead Two (file_wanted (net_named o q.command.net) q.command.task) q.reading
     → Step Two o q.team q.command (reply_of (step_outcome o q.team q.reading q.command)) (office_after o (step_outcome o q.team q.reading q.command))
 step_of o q read = record { reading = q.reading; read = read; answered = refl; left = refl }
 
 abbrev pub after : ℕ → Office
-after n = left_by opening (take n asked_first)
+after n = left_by opening (take n requested_first)
 
 pub it_is_legal : IsLegal moved_on (after 5)
 it_is_legal = record {
@@ -77,30 +77,30 @@ it_is_legal = record {
 
 -- A second release comes after the first one, which still has the message that is retired by then.
 
-abbrev released : List Asked
+abbrev released : List Requested
 released = opens Can 0 ∷ grants engine block.Std 256 258 ∷ take_1 ∷ asks engine act.Submit ∷ asks office act.Release ∷ []
 
-abbrev released_again : List Asked
+abbrev released_again : List Requested
 released_again = released ++ retire_1 ∷ take_2 ∷ asks engine act.Submit ∷ asks office act.Release ∷ []
 
 -- the names of the messages in each release
-abbrev names_released : List Asked → List (List (List ℕ))
+abbrev names_released : List Requested → List (List (List ℕ))
 names_released qs = elim (net_named (left_by opening qs) truck) [ None ↦ [] | Some net ↦ map (λ s. map (λ m. m.name) s.messages) net.releases ]
 
 it_stays : (names_released released ≡ (codes "E1" ∷ []) ∷ []) × (names_released released_again ≡ (codes "E1" ∷ []) ∷ (codes "E2" ∷ []) ∷ [])
 it_stays = (refl, refl)
 
 -- the number that was released with one name isn't given to a message of another one, though it is retired
-abbrev numbers_released : List Asked → List (List ℕ)
+abbrev numbers_released : List Requested → List (List ℕ)
 numbers_released qs = elim (net_named (left_by opening qs) truck) [ None ↦ [] | Some net ↦ map (λ s. map number_of s.messages) net.releases ]
 
 its_number_stays : numbers_released released_again ≡ (256 ∷ []) ∷ (257 ∷ []) ∷ []
 its_number_stays = refl
 
--- Two numbers are given; what is shared, refused or told again gives none.
+-- Two numbers are given; what is shared, refused or repeated gives none.
 
-abbrev spns_asked : List Answered
-spns_asked =
+abbrev spns_requested : List Answered
+spns_requested =
     answered (grants engine block.Spn 500 501) (codes "s1") (codes "grant") (answer.Reply Done)
     ∷ answered (takes_spn (codes "P") None) (codes "s2") (codes "P") (answer.Reply (Number 500))
     ∷ answered (takes_spn (codes "Q") None) (codes "s3") (codes "Q") (answer.Reply (Number 501))
@@ -108,7 +108,7 @@ spns_asked =
     ∷ answered (takes_spn (codes "R") (Some 500)) (codes "s5") (codes "R 500") (answer.Reply (Number 500))
     ∷ answered (takes_spn (codes "P") None) (codes "s2") (codes "P") (answer.Reply (Number 500)) ∷ []
 
-each_number_once : new_spns spns_asked ≡ 500 ∷ 501 ∷ []
+each_number_once : new_spns spns_requested ≡ 500 ∷ 501 ∷ []
 each_number_once = refl
 
 -- Arrivals on another network don't count on this one.

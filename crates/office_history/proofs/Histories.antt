@@ -108,12 +108,12 @@ own_again h a f is answered =
 
 legal_first : (h : List Answered) (before after : Office) (a : Answered) (reply : Reply) → IsLegal h before → first_of h a ≡ None
     → a.answer ≡ answer.Reply reply → Step a.profile before a.team a.command reply after → IsLegal (h ++ a ∷ []) after
-legal_first h before after a reply legal none told step =
+legal_first h before after a reply legal none reported step =
     let firsts = first_new h a none in
     record {
       replies = legal.replies ++ reply ∷ [];
       replied = ap (map answer_of) firsts ∙ map-append answer_of (first_arrivals h) (a ∷ [])
-          ∙ ap (λ answers. answers ++ a.answer ∷ []) legal.replied ∙ ap (λ last. map answer.Reply legal.replies ++ last ∷ []) told
+          ∙ ap (λ answers. answers ++ a.answer ∷ []) legal.replied ∙ ap (λ last. map answer.Reply legal.replies ++ last ∷ []) reported
           ∙ sym (map-append answer.Reply legal.replies (reply ∷ []));
       run = subst (λ requests. Run opening requests (legal.replies ++ reply ∷ []) after) (sym (ap (map request_of) firsts ∙ map-append request_of (first_arrivals h) (a ∷ [])))
           (run_more opening before after (map request_of (first_arrivals h)) legal.replies (request_of a) reply legal.run step);

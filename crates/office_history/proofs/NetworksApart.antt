@@ -8,7 +8,7 @@ use Rattle.std.proofs.lemmas.List.Elements.{All-cons, All-filter, All-head, All-
 use Rattle.std.proofs.lemmas.List.Folds.{find-append}
 use Rattle.std.proofs.lemmas.List.Kept.{AllPairs-cons}
 use Rattle.std.proofs.lemmas.Slice.Eq.{bytes_eq-Decides}
-use Rattle.catalogue.specs.Reads.{ReadsAsOneAtMost}
+use Rattle.dbc_grammar.specs.Reads.{ReadsAsOneAtMost}
 use Rattle.office_types.specs.declared.command.Command.{Command}
 use Rattle.office_types.specs.declared.reply.Reply.{Reply}
 use Rattle.office_types.specs.declared.reply.Reply.TheVariants.{Done}
@@ -161,15 +161,15 @@ module _ (name : List ℕ) where
 
   history_is : (list : List Answered) (rs : List Reply) → map answer_of list ≡ map answer.Reply rs
       → history name (map request_of list) rs ≡ map entry (filter (is_on name) list)
-  history_is [] rs told = refl
-  history_is (a ∷ list) [] told = absurd cc
-  history_is (a ∷ list) (r ∷ rs) told =
+  history_is [] rs reported = refl
+  history_is (a ∷ list) [] reported = absurd cc
+  history_is (a ∷ list) (r ∷ rs) reported =
       let rest = history name (map request_of list) rs in
-      let below : rest ≡ map entry (filter (is_on name) list) = history_is list rs (later_answers a list r rs told) in
+      let below : rest ≡ map entry (filter (is_on name) list) = history_is list rs (later_answers a list r rs reported) in
       elim (cases_Bool (is_on name a)) [
         | inl on ↦
             ap (λ t. if t then (a.profile, a.team, a.command, r) ∷ rest else rest) on
-            ∙ ap (λ s. (a.profile, a.team, a.command, reply_in s) ∷ rest) (sym (first_answer a list r rs told))
+            ∙ ap (λ s. (a.profile, a.team, a.command, reply_in s) ∷ rest) (sym (first_answer a list r rs reported))
             ∙ ap (λ l. entry a ∷ l) below
             ∙ sym (ap (map entry) (filter_by (is_on name) a list true on))
         | inr off ↦
@@ -198,10 +198,10 @@ one_network once name h g o p one_h one_g same answered_h answered_g =
 -- the last one is answered by a step, after a run that answers the others
 record Ends (o : Office) (list : List Answered) (a : Answered) (after : Office) : Type 0 where
   mid : Office
-  told : List Reply
+  reported : List Reply
   reply : Reply
-  replied : map answer_of list ≡ map answer.Reply told
-  run : Run o (map request_of list) told mid
+  replied : map answer_of list ≡ map answer.Reply reported
+  run : Run o (map request_of list) reported mid
   answered : a.answer ≡ answer.Reply reply
   step : Step a.profile mid a.team a.command reply after
 
@@ -210,32 +210,32 @@ only_answer a r e = cc
 
 ends : (list : List Answered) (a : Answered) (rs : List Reply) (o after : Office) → map answer_of (list ++ a ∷ []) ≡ map answer.Reply rs
     → Run o (map request_of (list ++ a ∷ [])) rs after → Ends o list a after
-ends [] a [] o after told run = absurd run
-ends [] a (r ∷ []) o after told run = record {
+ends [] a [] o after reported run = absurd run
+ends [] a (r ∷ []) o after reported run = record {
   mid = o;
-  told = [];
+  reported = [];
   reply = r;
   replied = refl;
   run = refl;
-  answered = only_answer a r told;
+  answered = only_answer a r reported;
   step = subst (Step a.profile o a.team a.command r) (sym run.2) run.1;
 }
-ends [] a (r ∷ s ∷ rs) o after told run = absurd run.2
-ends (b ∷ list) a [] o after told run = absurd run
-ends (b ∷ list) a (r ∷ rs) o after told run =
-    let below = ends list a rs run.0 after (later_answers [] b (list ++ a ∷ []) r rs told) run.2 in
+ends [] a (r ∷ s ∷ rs) o after reported run = absurd run.2
+ends (b ∷ list) a [] o after reported run = absurd run
+ends (b ∷ list) a (r ∷ rs) o after reported run =
+    let below = ends list a rs run.0 after (later_answers [] b (list ++ a ∷ []) r rs reported) run.2 in
     record {
       mid = below.mid;
-      told = r ∷ below.told;
+      reported = r ∷ below.reported;
       reply = below.reply;
-      replied = ap (λ x. x ∷ map answer_of list) (first_answer [] b (list ++ a ∷ []) r rs told) ∙ ap (λ l. answer.Reply r ∷ l) below.replied;
+      replied = ap (λ x. x ∷ map answer_of list) (first_answer [] b (list ++ a ∷ []) r rs reported) ∙ ap (λ l. answer.Reply r ∷ l) below.replied;
       run = (run.0, run.1, below.run);
       answered = below.answered;
       step = below.step;
     }
 
--- a step in an office with the same network, where the book isn't asked
-module _ (profile : Profile) (o p after : Office) (team : List ℕ) (c : Command) (r : Reply) (unasked : asks_book c.task ≡ false) (same : net_named o c.net ≡ net_named p c.net)
+-- a step in an office with the same network, where the book isn't read
+module _ (profile : Profile) (o p after : Office) (team : List ℕ) (c : Command) (r : Reply) (unrequested : asks_book c.task ≡ false) (same : net_named o c.net ≡ net_named p c.net)
     (step : Step profile o team c r after) where
   abbrev left_there : Office
   left_there = office_after p (step_outcome p team step.reading c)
@@ -245,14 +245,14 @@ module _ (profile : Profile) (o p after : Office) (team : List ℕ) (c : Command
     reading = step.reading;
     read = subst (λ n. IsRead profile (file_wanted n c.task) step.reading) same step.read;
     answered = step.answered
-        ∙ ap reply_of (task_alike team c.net step.reading (net_named o c.net) o.book p.book c.task unasked
+        ∙ ap reply_of (task_alike team c.net step.reading (net_named o c.net) o.book p.book c.task unrequested
         ∙ ap (λ n. outcome team step.reading n p.book c) same);
     left = refl;
   }
 
 -- ---- the law
 
-module _ (once : ReadsAsOneAtMost) (h g : List Answered) (a : Answered) (unasked : asks_book a.command.task ≡ false) (one_h : HaveOneNetwork (h ++ a ∷ []))
+module _ (once : ReadsAsOneAtMost) (h g : List Answered) (a : Answered) (unrequested : asks_book a.command.task ≡ false) (one_h : HaveOneNetwork (h ++ a ∷ []))
     (one_g : HaveOneNetwork (g ++ a ∷ [])) (same : filter (is_on a.command.net) h ≡ filter (is_on a.command.net) g)
     (office p : Office) (legal : IsLegal (h ++ a ∷ []) office) (other : IsLegal g p) where
   abbrev name : List ℕ
@@ -277,10 +277,10 @@ module _ (once : ReadsAsOneAtMost) (h g : List Answered) (a : Answered) (unasked
       let way = ends (first_arrivals h) a legal.replies opening office (sym (ap (map answer_of) firsts) ∙ legal.replied)
       (subst (λ list. Run opening (map request_of list) legal.replies office) firsts legal.run) in
       let net_is = one_network once name h g way.mid p (pairs_before NamesOneNetwork h a one_h) (pairs_before NamesOneNetwork g a one_g) same
-      (record { replies = way.told; replied = way.replied; run = way.run }) (record { replies = other.replies; replied = other.replied; run = other.run }) in (
-        left_there a.profile way.mid p office a.team a.command way.reply unasked net_is way.step,
-        histories_grow.first g p (left_there a.profile way.mid p office a.team a.command way.reply unasked net_is way.step) a way.reply other (one_first ∙ new) way.answered
-            (step_there a.profile way.mid p office a.team a.command way.reply unasked net_is way.step),
+      (record { replies = way.reported; replied = way.replied; run = way.run }) (record { replies = other.replies; replied = other.replied; run = other.run }) in (
+        left_there a.profile way.mid p office a.team a.command way.reply unrequested net_is way.step,
+        histories_grow.first g p (left_there a.profile way.mid p office a.team a.command way.reply unrequested net_is way.step) a way.reply other (one_first ∙ new) way.answered
+            (step_there a.profile way.mid p office a.team a.command way.reply unrequested net_is way.step),
       )
 
   repeated : (first : Answered) → first_of h a ≡ Some first → IsLegalHistory (g ++ a ∷ [])
@@ -295,5 +295,5 @@ module _ (once : ReadsAsOneAtMost) (h g : List Answered) (a : Answered) (unasked
   by_first (Some first) is = repeated first is
 
 pub answers_are_apart : ReadsAsOneAtMost → AnswersAreApart
-answers_are_apart once h g a unasked one_h one_g same legal other =
-    by_first once h g a unasked one_h one_g same legal.0 other.0 legal.1 other.1 (first_of h a) refl
+answers_are_apart once h g a unrequested one_h one_g same legal other =
+    by_first once h g a unrequested one_h one_g same legal.0 other.0 legal.1 other.1 (first_of h a) refl

@@ -43,17 +43,17 @@ firsts_go_on (a ∷ h) more =
 -- a run comes by the office that its first requests leave
 record ComesBy (o : Office) (qs ps : List Asking) (after : Office) : Type 0 where
   mid : Office
-  told : List Reply
+  reported : List Reply
   later : List Reply
-  to_there : Run o qs told mid
+  to_there : Run o qs reported mid
   from_there : Run mid ps later after
 
 comes_by : (qs ps : List Asking) (rs : List Reply) (o after : Office) → Run o (qs ++ ps) rs after → ComesBy o qs ps after
-comes_by [] ps rs o after run = record { mid = o; told = []; later = rs; to_there = refl; from_there = run }
+comes_by [] ps rs o after run = record { mid = o; reported = []; later = rs; to_there = refl; from_there = run }
 comes_by (q ∷ qs) ps [] o after run = absurd run
 comes_by (q ∷ qs) ps (r ∷ rs) o after run =
     let below = comes_by qs ps rs run.0 after run.2 in
-    record { mid = below.mid; told = r ∷ below.told; later = below.later; to_there = (run.0, run.1, below.to_there); from_there = below.from_there }
+    record { mid = below.mid; reported = r ∷ below.reported; later = below.later; to_there = (run.0, run.1, below.to_there); from_there = below.from_there }
 
 -- ---- networks stay in order
 
@@ -125,6 +125,6 @@ releases_stay agree h more before after name net legal goes_on is =
     let whole : Run opening (firsts ++ map request_of rest.0) goes_on.replies after =
     subst (λ requests. Run opening requests goes_on.replies after) (ap (map request_of) rest.1 ∙ map-append request_of (first_arrivals h) rest.0) goes_on.run in
     let way = comes_by firsts (map request_of rest.0) goes_on.replies opening after whole in
-    let same : way.mid ≡ before = one_run agree firsts way.told legal.replies opening way.mid before way.to_there legal.run in
+    let same : way.mid ≡ before = one_run agree firsts way.reported legal.replies opening way.mid before way.to_there legal.run in
     after_run name (map request_of rest.0) way.later before after net (run_in_order firsts legal.replies opening before offices_are_kept.opening_is.rising legal.run)
     (subst (λ o. Run o (map request_of rest.0) way.later after) same way.from_there) is

@@ -57,20 +57,20 @@ none_is (Some x) e = absurd (false≢true e)
 
 module _ (team name : List ℕ) (book : SpnBook) (c : TakeSpn) (n : ℕ) where
   spn_outcome : (net : Net) (out : Outcome) → c.same ≡ None → take_spn team name (Some net) book c ≡ out → reply_of out ≡ Number n → GivesNew book out n
-  spn_outcome net (Refusing r) none is told = no_number ⊥ r n told
-  spn_outcome net (Changing r after e) none is told =
+  spn_outcome net (Refusing r) none is reported = no_number ⊥ r n reported
+  spn_outcome net (Changing r after e) none is reported =
       let new = numbers_are_fresh.spns team name net after book c r e none is in
-      let same : new.number ≡ n = same_number new.number n (sym new.told ∙ told) in
+      let same : new.number ≡ n = same_number new.number n (sym new.reported ∙ reported) in
       (subst (λ k. Contains book.used k → ⊥) same new.unused, subst (Contains (entered book e).used) same new.used)
 
   on_network : (net : Option Net) → c.same ≡ None → reply_of (take_spn team name net book c) ≡ Number n → GivesNew book (take_spn team name net book c) n
-  on_network None none told = no_number ⊥ _ n told
-  on_network (Some net) none told = spn_outcome net (take_spn team name (Some net) book c) none refl told
+  on_network None none reported = no_number ⊥ _ n reported
+  on_network (Some net) none reported = spn_outcome net (take_spn team name (Some net) book c) none refl reported
 
 act_outcome : (team name : List ℕ) (net : Option Net) (book : SpnBook) (a : Action) (n : ℕ) → asks_new_spn a ≡ true
     → reply_of (acted team name net book a) ≡ Number n → GivesNew book (acted team name net book a) n
-act_outcome team name net book (act.TakeSpn c) n asks told = on_network team name book c n net (none_is c.same asks) told
-act_outcome team name net book a n asks told = absurd (false≢true asks)
+act_outcome team name net book (act.TakeSpn c) n asks reported = on_network team name book c n net (none_is c.same asks) reported
+act_outcome team name net book a n asks reported = absurd (false≢true asks)
 
 -- ---- one step
 
@@ -83,9 +83,9 @@ left_used o (Refusing r) n there = there
 left_used o (Changing r net e) n there = numbers_are_fresh.stay_used o.book e n there
 
 act_new : (profile : Profile) (o after : Office) (team name : List ℕ) (a : Action) (r : Reply) (n : ℕ) → Step profile o team (command_of name a) r after → asks_new_spn a ≡ true → r ≡ Number n → IsNewIn o.book after.book n
-act_new profile o after team name a r n step asks told =
+act_new profile o after team name a r n step asks reported =
     subst (λ (x : Office). IsNewIn o.book x.book n) (sym step.left)
-    (left_new o (acted team name (net_named o name) o.book a) n (act_outcome team name (net_named o name) o.book a n asks (sym step.answered ∙ told)))
+    (left_new o (acted team name (net_named o name) o.book a) n (act_outcome team name (net_named o name) o.book a n asks (sym step.answered ∙ reported)))
 
 step_used : (profile : Profile) (o after : Office) (team : List ℕ) (c : Command) (r : Reply) (n : ℕ) → Step profile o team c r after → Contains o.book.used n → Contains after.book.used n
 step_used profile o after team c r n step there = subst (λ (x : Office). Contains x.book.used n) (sym step.left) (left_used o (step_outcome o team step.reading c) n there)
@@ -149,7 +149,7 @@ by_action profile o after team name a (Start s) step = none_new o.book.used afte
 by_action profile o after team name a (Counts new same) step = none_new o.book.used after.book.used
 by_action profile o after team name a (Release k) step = none_new o.book.used after.book.used
 by_action profile o after team name a (Refused q) step = none_new o.book.used after.book.used
-by_action profile o after team name a (Bundled told) step = none_new o.book.used after.book.used
+by_action profile o after team name a (Bundled reported) step = none_new o.book.used after.book.used
 
 run_used : (qs : List Asking) (rs : List Reply) (o after : Office) → Run o qs rs after → Stays o.book.used after.book.used
 run_used [] [] o after run = λ n there. subst (λ (x : Office). Contains x.book.used n) (sym run) there
@@ -157,18 +157,18 @@ run_used [] (r ∷ rs) o after run = absurd run
 run_used (q ∷ qs) [] o after run = absurd run
 run_used (q ∷ qs) (r ∷ rs) o after run = λ n there. run_used qs rs run.0 after run.2 n (step_used q.0 o run.0 q.1 q.2 r n run.1 there)
 
-by_parts : (profile : Profile) (team name : List ℕ) (parts : List Action) (told : List PartReply) (o after : Office) → Run o (requests_of profile team name parts) (map whole_reply told) after
-    → AreNew o.book.used after.book.used (part_spns parts told)
-by_parts profile team name [] told o after run = none_new o.book.used after.book.used
+by_parts : (profile : Profile) (team name : List ℕ) (parts : List Action) (reported : List PartReply) (o after : Office) → Run o (requests_of profile team name parts) (map whole_reply reported) after
+    → AreNew o.book.used after.book.used (part_spns parts reported)
+by_parts profile team name [] reported o after run = none_new o.book.used after.book.used
 by_parts profile team name (a ∷ parts) [] o after run = absurd run
-by_parts profile team name (a ∷ parts) (p ∷ told) o after run =
-    both_new o.book.used run.0.book.used after.book.used (action_spns a (whole_reply p)) (part_spns parts told)
-    (λ n there. step_used profile o run.0 team (command_of name a) (whole_reply p) n run.1 there) (run_used (requests_of profile team name parts) (map whole_reply told) run.0 after run.2)
-    (by_action profile o run.0 team name a (whole_reply p) run.1) (by_parts profile team name parts told run.0 after run.2)
+by_parts profile team name (a ∷ parts) (p ∷ reported) o after run =
+    both_new o.book.used run.0.book.used after.book.used (action_spns a (whole_reply p)) (part_spns parts reported)
+    (λ n there. step_used profile o run.0 team (command_of name a) (whole_reply p) n run.1 there) (run_used (requests_of profile team name parts) (map whole_reply reported) run.0 after run.2)
+    (by_action profile o run.0 team name a (whole_reply p) run.1) (by_parts profile team name parts reported run.0 after run.2)
 
 by_bundle : (profile : Profile) (o after : Office) (team name : List ℕ) (parts : List Action) (r : Reply) → AreInOrder o → Step profile o team (bundle_of name parts) r after
     → AreNew o.book.used after.book.used (task_spns (Bundle parts) r)
-by_bundle profile o after team name parts (Bundled told) sorted step = by_parts profile team name parts told o after (bundles_run_their_parts.done profile o after team name parts told sorted step)
+by_bundle profile o after team name parts (Bundled reported) sorted step = by_parts profile team name parts reported o after (bundles_run_their_parts.done profile o after team name parts reported sorted step)
 by_bundle profile o after team name parts Done sorted step = none_new o.book.used after.book.used
 by_bundle profile o after team name parts (Number n) sorted step = none_new o.book.used after.book.used
 by_bundle profile o after team name parts (Start s) sorted step = none_new o.book.used after.book.used
@@ -192,13 +192,13 @@ later_answers a list r rs e = cc
 
 given_by_run : (list : List Answered) (rs : List Reply) (o after : Office) → AreInOrder o → map answer_of list ≡ map answer.Reply rs → Run o (map request_of list) rs after
     → AreNew o.book.used after.book.used (flat_map spns_given list)
-given_by_run [] rs o after sorted told run = none_new o.book.used after.book.used
-given_by_run (a ∷ list) [] o after sorted told run = absurd run
-given_by_run (a ∷ list) (r ∷ rs) o after sorted told run =
+given_by_run [] rs o after sorted reported run = none_new o.book.used after.book.used
+given_by_run (a ∷ list) [] o after sorted reported run = absurd run
+given_by_run (a ∷ list) (r ∷ rs) o after sorted reported run =
     both_new o.book.used run.0.book.used after.book.used (spns_given a) (flat_map spns_given list)
     (λ n there. step_used a.profile o run.0 a.team a.command r n run.1 there) (run_used (map request_of list) rs run.0 after run.2)
-    (subst (λ given. AreNew o.book.used run.0.book.used (answer_spns a.command.task given)) (sym (first_answer a list r rs told)) (by_task a.profile o run.0 a.team a.command.net a.command.task r sorted run.1))
-    (given_by_run list rs run.0 after (step_in_order a.profile o run.0 a.team a.command r sorted run.1) (later_answers a list r rs told) run.2)
+    (subst (λ given. AreNew o.book.used run.0.book.used (answer_spns a.command.task given)) (sym (first_answer a list r rs reported)) (by_task a.profile o run.0 a.team a.command.net a.command.task r sorted run.1))
+    (given_by_run list rs run.0 after (step_in_order a.profile o run.0 a.team a.command r sorted run.1) (later_answers a list r rs reported) run.2)
 
 pub spns_are_given_once : SpnsAreGivenOnce
 spns_are_given_once h office legal =

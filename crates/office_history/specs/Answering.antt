@@ -10,5 +10,5 @@ use Rattle.office_history.specs.History.{Answered}
 abbrev pub answered : List ℕ → List ℕ → Request → Answer → Answered
 answered team key request answer = record { profile = Two; team = team; key = key; content = request.content.items; command = request.command; answer = answer }
 
-abbrev pub told : Arrival → Answer → Answered
-told a answer = answered a.team a.key a.request answer
+abbrev pub reported : Arrival → Answer → Answered
+reported a answer = answered a.team a.key a.request answer

@@ -45,8 +45,8 @@ request_of a = (a.profile, a.team, a.command)
 abbrev pub answer_of : Answered → Answer
 answer_of a = a.answer
 
--- A history is legal, and leaves the office so: its first arrivals are answered by a run of the office from its opening,
--- and each arrival as the first one of its pair, where the contents are equal byte for byte.
+-- A history is legal, and leaves the office so: its first arrivals are answered by a run of the office from its
+-- opening, and each arrival as the first one of its pair, where the contents are equal byte for byte.
 pub record IsLegal (h : List Answered) (office : Office) : Type 0 where
   pub replies : List Reply
   pub replied : map answer_of (first_arrivals h) ≡ map answer.Reply replies

@@ -26,7 +26,8 @@ use Rattle.office_history.specs.declared.arrival.Answer.TheVariants as answer
 use Rattle.office_history.specs.declared.arrival.Answer.TheVariants.{KeyReused}
 use Rattle.office_history.specs.History.{Answered, IsAnsweredAs, IsLegal, IsLegalHistory, first_arrivals, first_of, request_of, same_pair}
 
--- One more arrival leaves a history legal: a first one, by a step of the office, and a repeat, by the answer of the first one.
+-- One more arrival leaves a history legal: a first one, by a step of the office, and a repeat, by the answer of the
+-- first one.
 pub record HistoriesGrow : Type 0 where
   pub begins : IsLegal [] opening
   pub first : (h : List Answered) (before after : Office) (a : Answered) (reply : Reply) → IsLegal h before → first_of h a ≡ None
@@ -38,7 +39,8 @@ pub record HistoriesGrow : Type 0 where
 abbrev pub IsInRange : Answered → Type 0
 IsInRange a = IsPlainName a.team × IsCommand a.command
 
--- What a legal history leaves is as every office is; and what was asked first, of whatever answers, leaves one office.
+-- What a legal history leaves is as every office is; and what was requested first, of whatever answers, leaves one
+-- office.
 pub record HistoriesLeaveOffices : Type 0 where
   pub kept : (h : List Answered) (office : Office) → All IsInRange h → IsLegal h office → IsOffice office
   pub one : (h g : List Answered) (a b : Office) → map request_of (first_arrivals h) ≡ map request_of (first_arrivals g) → IsLegal h a → IsLegal g b → a ≡ b
@@ -66,13 +68,13 @@ action_spns a r = []
 
 -- those that the parts of a bundle were
 abbrev pub part_spns : List Action → List PartReply → List ℕ
-part_spns [] told = []
+part_spns [] reported = []
 part_spns (a ∷ parts) [] = []
-part_spns (a ∷ parts) (p ∷ told) = action_spns a (whole_reply p) ++ part_spns parts told
+part_spns (a ∷ parts) (p ∷ reported) = action_spns a (whole_reply p) ++ part_spns parts reported
 
 abbrev pub task_spns : Task → Reply → List ℕ
 task_spns (Act a) r = action_spns a r
-task_spns (Bundle parts) (Bundled told) = part_spns parts told
+task_spns (Bundle parts) (Bundled reported) = part_spns parts reported
 task_spns task r = []
 
 -- those that an arrival was

@@ -3,9 +3,9 @@
 use crate::key::Key;
 use office_types::{Command, Reply, Team};
 
-/// What is asked of the office, and the bytes in which it was asked.
+/// A request to the office, and the bytes in which it came.
 pub struct Request {
-    /// The bytes by which a repeat is told from another request.
+    /// The bytes by which a repeat is distinguished from another request.
     pub content: Vec<u8>,
     /// The command that they say.
     pub command: Command,

@@ -1,7 +1,8 @@
 //! Laws of histories. Each is the contract of a function that does nothing.
-ghost use Rattle.office_history.specs.Laws.{AnswersAreApart, HistoriesGrow, HistoriesLeaveOffices, NumbersKeepTheirNames, ReleasesStay, SpnsAreGivenOnce};
+ghost use Rattle.office_history.specs.Laws.{AnswersAreApart, HistoriesGrow, HistoriesLeaveOffices};
+ghost use Rattle.office_history.specs.Laws.{NumbersKeepTheirNames, ReleasesStay, SpnsAreGivenOnce};
 
-use catalogue::texts_read_as_one_sheet;
+use dbc_grammar::texts_read_as_one_sheet;
 
 /// A legal history goes on with an arrival that a step of the office answers, where its pair of team and key is new,
 /// and else with one that is answered as a repeat.
@@ -17,8 +18,8 @@ pub fn histories_leave_offices()
     texts_read_as_one_sheet();
 }
 
-/// A release never changes: of a legal history that goes on with further arrivals, the networks are there still, and each
-/// has its releases as they were, in order, before any newer ones.
+/// A release never changes: of a legal history that goes on with further arrivals, the networks are there still, and
+/// each has its releases as they were, in order, before any newer ones.
 pub fn releases_stay()
     ensures { ReleasesStay }
 {
@@ -33,8 +34,8 @@ pub fn numbers_keep_their_names()
     texts_read_as_one_sheet();
 }
 
-/// In a legal history, no two first arrivals of `take_spn` that don't ask to share a number are answered the same one, on
-/// whatever networks.
+/// In a legal history, no two first arrivals of `take_spn` that don't ask to share a number are answered the same one,
+/// on whatever networks.
 pub fn spns_are_given_once()
     ensures { SpnsAreGivenOnce }
 {}

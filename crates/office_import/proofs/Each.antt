@@ -8,7 +8,7 @@ use Rattle.std.proofs.Math.Seq.{drop-cons}
 use Prim.Native.Nat.{suc}
 use Rattle.catalogue.specs.Refusing.{Test, first_refusal}
 use Rattle.office_types.specs.declared.refusal.Refusal.{Refusal}
-use Rattle.office_net.proofs.Refusing.{first-later, first-refused}
+use Rattle.office_facts.proofs.Refusing.{first-later, first-refused}
 
 none_is : (o : Option Refusal) → is_some o ≡ false → o ≡ None
 none_is None h = refl

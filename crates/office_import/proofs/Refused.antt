@@ -9,7 +9,7 @@ use Rattle.office_types.specs.declared.state.Net.{Net}
 use Rattle.office_rules.specs.Importing.{Reading, import_tests, is_too_large, message_import_tests}
 use Rattle.office_rules.specs.Outcome.{when}
 use Rattle.office_import.specs.Tests.{early_tests}
-use Rattle.office_net.proofs.Refusing.{first-held, first-later, first-passed, first-refused}
+use Rattle.office_facts.proofs.Refusing.{first-held, first-later, first-passed, first-refused}
 
 module _ (team : List ℕ) (net : Net) (s : Sheet) where
   abbrev early : List (Test Refusal)

@@ -51,7 +51,8 @@ pub(crate) fn add_messages(
     messages: &[Message],
     changes: &mut Items<Change>,
 ) -> Result<(), AllocError>
-    ensures { OnOk result (changes.new ≡ changes.old ++ map (λ m. SetMessage (owned_by team.now m)) (new_messages index.now messages.now)) }
+    ensures { OnOk result (changes.new ≡ changes.old ++ map (λ m. SetMessage (owned_by team.now m))
+        (new_messages index.now messages.now)) }
 {
     for message in messages {
         if !index.is_live(message.ident) {
@@ -63,7 +64,8 @@ pub(crate) fn add_messages(
 
 /// Adds the changes that enter the suspect parameter numbers of these signals.
 fn add_spns(signals: &[Signal], changes: &mut Items<Change>) -> Result<(), AllocError>
-    ensures { OnOk result (changes.new ≡ changes.old ++ map EnterSpn (filter (λ n. not (n == 0)) (map (λ s. s.spn) signals.now))) }
+    ensures { OnOk result (changes.new ≡ changes.old ++ map EnterSpn
+        (filter (λ n. not (n == 0)) (map (λ s. s.spn) signals.now))) }
 {
     for signal in signals {
         if let Some(spn) = UsableSpn::of_signal(signal.spn) {

@@ -20,7 +20,7 @@ use crate::limits::is_too_large;
 use crate::news::{FrameNews, frame_news};
 use crate::numbers::team_numbers;
 use catalogue::{Items, Sheet};
-use office_net::{head_with, in_review, refusal_decision};
+use office_facts::{head_with, in_review, refusal_decision};
 use office_types::{Change, Decision, FileFault, Head, Net, Refusal, Team};
 use std::alloc::{AllocError, Global};
 
@@ -72,7 +72,8 @@ fn decide_clear(
 ) -> Result<Decision, AllocError>
     requires { first_refusal (early_tests index.now file.now) ≡ None }
     ensures { IfOk result (λ d. (name : List ℕ) (book : SpnBook) →
-        Decides name (record { net = Some index.now; book = book }) (import team.now (Some index.now) (Reading file.now)) d) }
+        Decides name (record { net = Some index.now; book = book })
+        (import team.now (Some index.now) (Reading file.now)) d) }
 {
     let numbers = team_numbers(alloc, team, index.net().blocks.as_slice())?;
     if let Some(refusal) = first_refused(team, &numbers, index, file.messages()) {
@@ -93,9 +94,9 @@ fn decide_clear(
 /// these that holds: 54 `InReview` where the network is in review; 58 `FileFault` where a message isn't clear, with the
 /// code of its first clash and its DBC number; then for each message, in the order of their numbers, 51 `IdentTaken`
 /// where its identifier is that of a live message which isn't equal to it, 52 `Held` where the identifier is held, 50
-/// `NameTaken` where a live message has its name, 49 `OutsideBlock` where the team isn't the office and has no block with
-/// the identifier's number or its parameter group; then 26 `TooMany` where a limit of the catalogue would be passed. The
-/// reply tells how many messages are added and how many were live. The error is out of memory.
+/// `NameTaken` where a live message has its name, 49 `OutsideBlock` where the team isn't the office and has no block
+/// with the identifier's number or its parameter group; then 26 `TooMany` where a limit of the catalogue would be
+/// passed. The reply tells how many messages are added and how many were live. The error is out of memory.
 pub fn decide_import(
     alloc: Global,
     team: &Team,
@@ -103,7 +104,8 @@ pub fn decide_import(
     file: &Sheet,
 ) -> Result<Decision, AllocError>
     ensures { IfOk result (λ d. (name : List ℕ) (book : SpnBook) →
-        Decides name (record { net = Some net.now; book = book }) (import team.now (Some net.now) (Reading file.now)) d) }
+        Decides name (record { net = Some net.now; book = book })
+        (import team.now (Some net.now) (Reading file.now)) d) }
 {
     if let Some(refusal) = early_refusal(alloc, net, file)? {
         return Ok(refusal_decision(alloc, refusal));
@@ -116,7 +118,8 @@ pub fn decide_import(
 /// network is in review, and else with 58 `FileFault` and this fault. Takes no memory.
 pub fn decide_unreadable(alloc: Global, net: &Net, fault: FileFault) -> Decision
     ensures { (team name : List ℕ) (book : SpnBook) →
-        Decides name (record { net = Some net.now; book = book }) (import team (Some net.now) (Unreadable fault)) result }
+        Decides name (record { net = Some net.now; book = book })
+        (import team (Some net.now) (Unreadable fault)) result }
 {
     if in_review(&net.head.phase) {
         refusal_decision(alloc, Refusal::InReview)
@@ -130,9 +133,11 @@ pub fn decide_unreadable(alloc: Global, net: &Net, fault: FileFault) -> Decision
 /// Takes no memory.
 pub fn decide_unread(alloc: Global, net: Option<&Net>) -> Option<Decision>
     ensures decision { IfSome result (λ d. (team name : List ℕ) (book : SpnBook) (reading : FileReading) →
-        Decides name (record { net = option_copied net.entry; book = book }) (import team (option_copied net.entry) reading) d) }
+        Decides name (record { net = option_copied net.entry; book = book })
+        (import team (option_copied net.entry) reading) d) }
     ensures wanted { (file : List ℕ) → MatchOption result
-        (file_wanted (option_copied net.entry) (Import file) ≡ Some file) (λ d. file_wanted (option_copied net.entry) (Import file) ≡ None) }
+        (file_wanted (option_copied net.entry) (Import file) ≡ Some file)
+        (λ d. file_wanted (option_copied net.entry) (Import file) ≡ None) }
 {
     match net {
         None => Some(refusal_decision(alloc, Refusal::NoNet)),

@@ -4,7 +4,7 @@ ghost use Rattle.office_rules.specs.Facts.{lies_in};
 ghost use Rattle.office_import.specs.Numbers.{team_numbers};
 ghost use Rattle.office_import.specs.Rising.{AreRising, side};
 
-use office_net::{blocks_of, lies_in};
+use office_facts::{blocks_of, lies_in};
 use office_types::{Block, BlockForm, GrantedBlock, Team};
 use std::alloc::{AllocError, Global};
 use std::cmp::Ordering;

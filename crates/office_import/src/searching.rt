@@ -7,7 +7,7 @@ ghost use Rattle.office_rules.specs.Facts.{same_ident};
 ghost use Rattle.office_import.specs.Searching.{IsAscending, number_by};
 
 use can_id::Ident;
-use office_net::same_ident;
+use office_facts::same_ident;
 use office_types::LiveMessage;
 use std::marker::Model;
 

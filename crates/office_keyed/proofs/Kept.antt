@@ -90,7 +90,7 @@ module _ (p : Pair) (a : Answered) (team : a.team ≡ p.team) (key : a.key ≡ p
 
 pub entry_of : (p : Pair) (f : First) (a : Answered) → a.team ≡ p.team → a.key ≡ p.key → f.content.items ≡ a.content → a.answer ≡ answer.Reply f.reply
     → entry_kept (p, f) ≡ kept_of a
-entry_of p f a team key content told = λ i. record { team = sym team i; key = sym key i; content = content i; answer = sym told i }
+entry_of p f a team key content reported = λ i. record { team = sym team i; key = sym key i; content = content i; answer = sym reported i }
 
 last_kept : (h : List Answered) (a : Answered) (es : List (Pair × First)) (e : Pair × First) → first_of h a ≡ None → entry_kept e ≡ kept_of a
     → map entry_kept es ≡ map kept_of (first_arrivals h) → map entry_kept (es ++ e ∷ []) ≡ map kept_of (first_arrivals (h ++ a ∷ []))
@@ -102,8 +102,8 @@ last_kept h a es e new is same =
 pub first_holds : HistoriesGrow → (h : List Answered) (a : Answered) (reply : Reply) (before after : Office) (es left : List (Pair × First)) (e : Pair × First)
     → Holds h (record { office = before; kept = map entry_kept es }) → first_of h a ≡ None → a.answer ≡ answer.Reply reply → Step a.profile before a.team a.command reply after
     → entry_kept e ≡ kept_of a → left ≡ es ++ e ∷ [] → Holds (h ++ a ∷ []) (record { office = after; kept = map entry_kept left })
-first_holds grow h a reply before after es left e holds new told step is last = record {
-  legal = grow.first h before after a reply holds.legal new told step;
+first_holds grow h a reply before after es left e holds new reported step is last = record {
+  legal = grow.first h before after a reply holds.legal new reported step;
   kept = ap (map entry_kept) last ∙ last_kept h a es e new is holds.kept;
 }
 

@@ -2,15 +2,15 @@
 use Rattle.std.specs.Prelude.{◌≡◌, ℕ, ◌≤◌, List, [], ◌∷◌, ◌++◌, length, take}
 use Rattle.office_history.specs.declared.arrival.Answer.{Answer}
 use Rattle.office_history.specs.declared.arrival.Arrival.{Arrival}
-use Rattle.office_history.specs.Answering.{told}
+use Rattle.office_history.specs.Answering.{reported}
 use Rattle.office_history.specs.History.{Answered}
 use Rattle.office_keyed.specs.Keyed.{Holds, Keyed}
 
 -- the arrivals, each with its answer
-abbrev pub told_each : List Arrival → List Answer → List Answered
-told_each [] answers = []
-told_each (a ∷ arrivals) [] = []
-told_each (a ∷ arrivals) (answer ∷ answers) = told a answer ∷ told_each arrivals answers
+abbrev pub reported_each : List Arrival → List Answer → List Answered
+reported_each [] answers = []
+reported_each (a ∷ arrivals) [] = []
+reported_each (a ∷ arrivals) (answer ∷ answers) = reported a answer ∷ reported_each arrivals answers
 
 -- The arrivals were answered: their answers were added to the earlier ones, and every history that the office held goes
 -- on with them.
@@ -18,7 +18,7 @@ pub record HasRun (before : Keyed) (arrivals : List Arrival) (earlier answers : 
   pub new : List Answer
   pub added : answers ≡ earlier ++ new
   pub each : length new ≡ length arrivals
-  pub held : (h : List Answered) → Holds h before → Holds (h ++ told_each arrivals new) after
+  pub held : (h : List Answered) → Holds h before → Holds (h ++ reported_each arrivals new) after
 
 -- This many of the arrivals, from the first one on, were answered.
 abbrev pub HasBegun : Keyed → List Arrival → List Answer → List Answer → Keyed → Type 0

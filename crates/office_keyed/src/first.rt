@@ -1,7 +1,7 @@
 //! What came first under a pair of team and key.
 ghost use Rattle.std.specs.Prelude.{◌≡◌, List, map, None, Some, IfOk};
 ghost use Rattle.std.specs.Option.{MatchOption};
-ghost use Rattle.office_types.specs.declared.reply.Reply.{Reply as Told};
+ghost use Rattle.office_types.specs.declared.reply.Reply.{Reply as ReplyModel};
 ghost use Rattle.office_history.specs.declared.arrival.Answer.TheVariants as answer;
 ghost use Rattle.office_history.specs.History.{Answered, answer_again, first_arrivals, first_of};
 ghost use Rattle.office_keyed.specs.Keyed.{entry_kept, kept_of};
@@ -95,7 +95,8 @@ impl Drop for First {
 
 /// What a request of this content is answered whose pair came first so. The error is out of memory.
 fn answer_again(alloc: Global, first: &First, content: &[u8]) -> Result<Answer, AllocError>
-    ensures { IfOk result (λ again. (came : Answered) → came.content ≡ first.now.content.items → came.answer ≡ answer.Reply first.now.reply → again ≡ answer_again came content.now) }
+    ensures { IfOk result (λ again. (came : Answered) → came.content ≡ first.now.content.items
+        → came.answer ≡ answer.Reply first.now.reply → again ≡ answer_again came content.now) }
 {
     if first.content.as_slice() == content {
         Ok(Answer::Reply(first.reply.duplicate(alloc)?))
@@ -112,8 +113,11 @@ pub(crate) fn answer_at(
     pair: &Pair,
     content: &[u8],
 ) -> Result<Option<Answer>, AllocError>
-    ensures { IfOk result (λ found. (h : List Answered) → map entry_kept firsts.now.entries ≡ map kept_of (first_arrivals h) → (a : Answered) → a.team ≡ pair.now.team → a.key ≡ pair.now.key
-        → MatchOption found (first_of h a ≡ None) (λ answer. (first : Answered) × (first_of h a ≡ Some first) × (answer ≡ answer_again first content.now))) }
+    ensures { IfOk result (λ found. (h : List Answered)
+        → map entry_kept firsts.now.entries ≡ map kept_of (first_arrivals h) → (a : Answered) → a.team ≡ pair.now.team
+        → a.key ≡ pair.now.key
+        → MatchOption found (first_of h a ≡ None)
+        (λ answer. (first : Answered) × (first_of h a ≡ Some first) × (answer ≡ answer_again first content.now))) }
 {
     match firsts.get(pair) {
         None => Ok(None),

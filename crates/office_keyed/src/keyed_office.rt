@@ -13,8 +13,8 @@ use office_types::Team;
 use std::alloc::{AllocError, Global};
 use std::marker::Model;
 
-/// An office in memory that answers requests which may arrive again. Contracts see it as the office, and what is kept of the
-/// first arrival of each pair of team and key, in order.
+/// An office in memory that answers requests which may arrive again. Contracts see it as the office, and what is kept
+/// of the first arrival of each pair of team and key, in order.
 pub struct KeyedOffice {
     office: PlainOffice,
     firsts: IndexMap<Pair, First>,
@@ -48,15 +48,16 @@ impl KeyedOffice {
         &self.office
     }
 
-    /// Answers an arrival whose pair is new by a step of the office, and keeps its content and the reply. If memory runs
-    /// out, nothing changes.
+    /// Answers an arrival whose pair is new by a step of the office, and keeps its content and the reply. If memory
+    /// runs out, nothing changes.
     fn first_arrival(
         &mut self,
         alloc: Global,
         pair: Pair,
         request: &Request,
     ) -> Result<Answer, AllocError>
-        ensures held { IfOk result (λ answer. (h : List Answered) → Holds h self.old → first_of h (answered pair.team pair.key request.now answer) ≡ None
+        ensures held { IfOk result (λ answer. (h : List Answered) → Holds h self.old
+            → first_of h (answered pair.team pair.key request.now answer) ≡ None
             → Holds (h ++ answered pair.team pair.key request.now answer ∷ []) self.new) }
         ensures err { OnErr result (self.new ≡ self.old) }
     {
@@ -71,10 +72,10 @@ impl KeyedOffice {
         Ok(answer)
     }
 
-    /// Answers an arrival. If its pair of team and key is new, a step of the office is carried out, and its content and reply
-    /// are kept, a refusal too. If the pair came before, nothing changes: the answer is the kept reply if the content is the
-    /// kept one, byte for byte, and else [`Answer::KeyReused`]. The error is out of memory: then nothing changed, and the
-    /// arrival counts as not sent.
+    /// Answers an arrival. If its pair of team and key is new, a step of the office is carried out, and its content and
+    /// reply are kept, a refusal too. If the pair came before, nothing changes: the answer is the kept reply if the
+    /// content is the kept one, byte for byte, and else [`Answer::KeyReused`]. The error is out of memory: then nothing
+    /// changed, and the arrival counts as not sent.
     pub fn arrive(
         &mut self,
         alloc: Global,
@@ -82,7 +83,8 @@ impl KeyedOffice {
         key: &Key,
         request: &Request,
     ) -> Result<Answer, AllocError>
-        ensures held { IfOk result (λ answer. (h : List Answered) → Holds h self.old → Holds (h ++ answered team.now key.now request.now answer ∷ []) self.new) }
+        ensures held { IfOk result (λ answer. (h : List Answered) → Holds h self.old
+            → Holds (h ++ answered team.now key.now request.now answer ∷ []) self.new) }
         ensures err { OnErr result (self.new ≡ self.old) }
     {
         histories_grow();
@@ -93,8 +95,8 @@ impl KeyedOffice {
         }
     }
 
-    /// Answers the arrivals in order, each as [`KeyedOffice::arrive`] does, and adds their answers. If memory runs out, the first
-    /// arrivals of the list were answered, and their answers were added.
+    /// Answers the arrivals in order, each as [`KeyedOffice::arrive`] does, and adds their answers. If memory runs out,
+    /// the first arrivals of the list were answered, and their answers were added.
     pub fn run(
         &mut self,
         alloc: Global,

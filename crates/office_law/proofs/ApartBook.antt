@@ -52,7 +52,7 @@ parts_alike team name place net book other (a ∷ parts) h =
     (λ n e. parts_alike team name (place + 1) (Some n) (entered book e) (entered other e) parts none.1)
     ∙ ap (λ out. part_then place out (λ n e. parts_done team name (place + 1) (Some n) (entered other e) parts)) (act_alike team name net book other a none.0)
 
--- a command that doesn't ask the book comes to the same with any two books
+-- a command that doesn't read the book results in the same with any two books
 pub task_alike : (team name : List ℕ) (reading : FileReading) (net : Option Net) (book other : SpnBook) (t : Task) → asks_book t ≡ false
     → done_task team name reading net book t ≡ done_task team name reading net other t
 task_alike team name reading net book other (Act a) h = act_alike team name net book other a h

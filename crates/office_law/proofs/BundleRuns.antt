@@ -60,20 +60,20 @@ module _ (profile : Profile) (team name : List ℕ) where
     pub part : Action
     pub later : List Action
     pub split : parts ≡ earlier ++ part ∷ later
-    pub told : List Reply
+    pub reported : List Reply
     pub mid : Office
-    pub run : Run o (requests_of profile team name earlier) told mid
+    pub run : Run o (requests_of profile team name earlier) reported mid
     pub refused : Step profile mid team (command_of name part) (Refused why) mid
     pub there : at ≡ place + length earlier
 
-  pub record HaveRun (o : Office) (parts : List Action) (told : List PartReply) (n : Net) (e : Entries) : Type 0 where
+  pub record HaveRun (o : Office) (parts : List Action) (reported : List PartReply) (n : Net) (e : Entries) : Type 0 where
     pub named : n.name ≡ name
-    pub run : Run o (requests_of profile team name parts) (map whole_reply told) (after_all o n e)
+    pub run : Run o (requests_of profile team name parts) (map whole_reply reported) (after_all o n e)
 
   abbrev RunsTo : Office → ℕ → List Action → PartsOutcome → Type 0
   RunsTo o place parts (RefusedAt at r) = IsRefusedAt o place parts at r
-  RunsTo o place parts (AllDone told None e) = (net_named o name ≡ None) × (parts ≡ [])
-  RunsTo o place parts (AllDone told (Some n) e) = HaveRun o parts told n e
+  RunsTo o place parts (AllDone reported None e) = (net_named o name ≡ None) × (parts ≡ [])
+  RunsTo o place parts (AllDone reported (Some n) e) = HaveRun o parts reported n e
 
   none_some : (Q : Type 0) (n : Net) → ◌≡◌ {A = Option Net} (Some n) None → Q
   none_some Q n e = absurd cc
@@ -87,14 +87,14 @@ module _ (profile : Profile) (team name : List ℕ) where
       part = h.part;
       later = h.later;
       split = ap (λ rest. a ∷ rest) h.split;
-      told = r ∷ h.told;
+      reported = r ∷ h.reported;
       mid = h.mid;
       run = (after_all o n e, step_of o a (Changing r n e) is, h.run);
       refused = h.refused;
       there = (let w : at ≡ (place + 1) + length h.earlier = h.there in omega (arith, w));
     }
-    joined (AllDone told None f) h = none_some _ n (sym found ∙ h.0)
-    joined (AllDone told (Some m) f) h =
+    joined (AllDone reported None f) h = none_some _ n (sym found ∙ h.0)
+    joined (AllDone reported (Some m) f) h =
         let same : after_all (after_all o n e) m f ≡ after_all o m (both_entries e f) =
         ap (λ nets. record { nets = nets; book = entered (entered o.book e) f }) (put_again by_name m n (λ z. ap (λ k. by_name (record m { name = k }) z) (h.named ∙ sym named)) (equal_order m n (h.named ∙ sym named)) o.nets)
         ∙ ap (λ b. record { nets = put by_name m o.nets; book = b }) (sym (entered_both o.book e f)) in
@@ -103,7 +103,7 @@ module _ (profile : Profile) (team name : List ℕ) where
           run = (
             after_all o n e,
             subst (λ s. Step profile o team (command_of name a) s (after_all o n e)) (sym part) (step_of o a (Changing r n e) is),
-            subst (Run (after_all o n e) (requests_of profile team name parts) (map whole_reply told)) same h.run,
+            subst (Run (after_all o n e) (requests_of profile team name parts) (map whole_reply reported)) same h.run,
           );
         }
 
@@ -115,7 +115,7 @@ module _ (profile : Profile) (team name : List ℕ) where
     part = a;
     later = parts;
     split = refl;
-    told = [];
+    reported = [];
     mid = o;
     run = refl;
     refused = step_of o a (Refusing why) is;
@@ -148,17 +148,17 @@ refused_bundle r s e = cc
 
 module _ (profile : Profile) (team name : List ℕ) (parts : List Action) where
   answers_of : (out : PartsOutcome) (reply : Reply) → reply ≡ reply_of (bundle_outcome out)
-      → ((told : List PartReply) × (reply ≡ Bundle told)) ⊎ ((refusal : Refusal) × (reply ≡ Refused refusal))
+      → ((reported : List PartReply) × (reply ≡ Bundle reported)) ⊎ ((refusal : Refusal) × (reply ≡ Refused refusal))
   answers_of (RefusedAt at why) reply is = inr (no.BundleRefused (refused_part at why), is)
-  answers_of (AllDone told None e) reply is = inr (no.NoNet, is)
-  answers_of (AllDone told (Some n) e) reply is = inl (told, is)
+  answers_of (AllDone reported None e) reply is = inr (no.NoNet, is)
+  answers_of (AllDone reported (Some n) e) reply is = inl (reported, is)
 
-  done_of : (o after : Office) (told : List PartReply) (out : PartsOutcome) → RunsTo profile team name o 1 parts out → Bundle told ≡ reply_of (bundle_outcome out)
-      → after ≡ office_after o (bundle_outcome out) → Run o (requests_of profile team name parts) (map whole_reply told) after
-  done_of o after told (RefusedAt at why) run is left = absurd cc
-  done_of o after told (AllDone given None e) run is left = absurd cc
-  done_of o after told (AllDone given (Some n) e) run is left =
-      let same : given ≡ told = cc in
+  done_of : (o after : Office) (reported : List PartReply) (out : PartsOutcome) → RunsTo profile team name o 1 parts out → Bundle reported ≡ reply_of (bundle_outcome out)
+      → after ≡ office_after o (bundle_outcome out) → Run o (requests_of profile team name parts) (map whole_reply reported) after
+  done_of o after reported (RefusedAt at why) run is left = absurd cc
+  done_of o after reported (AllDone given None e) run is left = absurd cc
+  done_of o after reported (AllDone given (Some n) e) run is left =
+      let same : given ≡ reported = cc in
       subst (λ rs. Run o (requests_of profile team name parts) (map whole_reply rs) after) same (subst (Run o (requests_of profile team name parts) (map whole_reply given)) (sym left) run.run)
 
   no_parts : (Q : Type 0) → AreParts parts → parts ≡ [] → Q
@@ -173,7 +173,7 @@ module _ (profile : Profile) (team name : List ℕ) (parts : List Action) where
       part = run.part;
       later = run.later;
       split = run.split;
-      told = run.told;
+      reported = run.reported;
       mid = run.mid;
       run = run.run;
       why = why;
@@ -188,8 +188,8 @@ module _ (profile : Profile) (team name : List ℕ) (parts : List Action) where
 pub bundles_run_their_parts : BundlesRunTheirParts
 bundles_run_their_parts = record {
   answers = λ profile before after team name parts reply step. answers_of profile team name parts (parts_done team name 1 (net_named before name) before.book parts) reply step.answered;
-  done = λ profile before after team name parts told sorted step.
-      done_of profile team name parts before after told (parts_done team name 1 (net_named before name) before.book parts) (runs_to profile team name parts before 1 sorted) step.answered step.left;
+  done = λ profile before after team name parts reported sorted step.
+      done_of profile team name parts before after reported (parts_done team name 1 (net_named before name) before.book parts) (runs_to profile team name parts before 1 sorted) step.answered step.left;
   refused = λ profile before after team name parts refusal sorted some step.
       refused_of profile team name parts before after refusal (parts_done team name 1 (net_named before name) before.book parts) some (runs_to profile team name parts before 1 sorted) step.answered step.left;
 }

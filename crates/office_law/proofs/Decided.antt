@@ -22,7 +22,7 @@ use Rattle.office_rules.specs.Commands.{acted, done_task, parts_done}
 use Rattle.office_rules.specs.Facts.{blocks_of, live_named, spn_blocks_of, taken_numbers}
 use Rattle.office_rules.specs.Importing.{FileReading, Reading, Unreadable, file_imported, file_tests}
 use Rattle.office_rules.specs.Opening.{granted}
-use Rattle.office_rules.specs.Outcome.{Outcome, Refusing, Changing, asked_of, given_or, on_net, refused_or, unless, when}
+use Rattle.office_rules.specs.Outcome.{Outcome, Refusing, Changing, requested_of, given_or, on_net, refused_or, unless, when}
 use Rattle.office_law.specs.Deciding.{IsDecidedBy, TestsDecide, action_tests, bundle_tests, task_tests}
 use Rattle.office_law.proofs.Left.{either}
 use Rattle.office_law.proofs.Passing.{NoneHolds, NoneHolds-from_none}
@@ -47,20 +47,20 @@ answered_given r None out there h = absurd (false≢true (sym there))
 answered_given r (Some x) out there h = h x
 
 -- a thing that was tested further
-answered_asked : {A : Type 0} (r : Refusal) (o : Option A) (ts : A → List (Test Refusal)) (out : A → Outcome) → is_none o ≡ false → NoneHolds (asked_of o ts)
+answered_requested : {A : Type 0} (r : Refusal) (o : Option A) (ts : A → List (Test Refusal)) (out : A → Outcome) → is_none o ≡ false → NoneHolds (requested_of o ts)
     → ((x : A) → NoneHolds (ts x) → IsAnswered (out x)) → IsAnswered (given_or r o out)
-answered_asked r None ts out there none h = absurd (false≢true (sym there))
-answered_asked r (Some x) ts out there none h = h x none
+answered_requested r None ts out there none h = absurd (false≢true (sym there))
+answered_requested r (Some x) ts out there none h = h x none
 
 decided_net : (ts : Net → List (Test Refusal)) (out : Net → Outcome) (net : Option Net) → ((n : Net) → NoneHolds (ts n) → IsAnswered (out n))
     → IsDecidedBy (first_refusal (on_net net ts)) (unless (on_net net ts) (given_or no.NoNet net out))
-decided_net ts out net h = decided_unless (on_net net ts) (given_or no.NoNet net out) (λ none. answered_asked no.NoNet net ts out none.0 none.1 h)
+decided_net ts out net h = decided_unless (on_net net ts) (given_or no.NoNet net out) (λ none. answered_requested no.NoNet net ts out none.0 none.1 h)
 
 -- a command of the office alone
 decided_office : (b : Bool) (ts : Net → List (Test Refusal)) (out : Net → Outcome) (net : Option Net) → ((n : Net) → NoneHolds (ts n) → IsAnswered (out n))
     → IsDecidedBy (first_refusal (when b no.NotOffice ∷ on_net net ts)) (unless (when b no.NotOffice ∷ on_net net ts) (given_or no.NoNet net out))
 decided_office b ts out net h =
-    decided_unless (when b no.NotOffice ∷ on_net net ts) (given_or no.NoNet net out) (λ none. answered_asked no.NoNet net ts out none.1.0 none.1.1 h)
+    decided_unless (when b no.NotOffice ∷ on_net net ts) (given_or no.NoNet net out) (λ none. answered_requested no.NoNet net ts out none.1.0 none.1.1 h)
 
 -- the wanted number, or the least one where none is wanted
 chosen_there : (w x : Option ℕ) (ts : ℕ → List (Test Refusal)) (us : List (Test Refusal)) → (NoneHolds us → is_none (elim w [ Some n ↦ Some n | None ↦ x ]) ≡ false)
@@ -76,14 +76,14 @@ module _ (team name : List ℕ) (book : SpnBook) where
   decided_act net (act.TakeIdent c) = decided_net _ _ net (λ n none. answered_given no.BlockFull _ _
       (chosen_there c.want (least_free (taken_numbers n c.form) (blocks_of n.blocks team (block_form c.form)) (number_form c.form)) _ _ (λ last. last.0) none.1.1.1.1.1) (λ number. tt))
   decided_act net (act.TakePgn c) = decided_net _ _ net (λ n none. answered_given no.BlockFull _ _ none.1.1.1.1.1.1.0 (λ pgn. tt))
-  decided_act net (act.TakeSpn c) = decided_net _ _ net (λ n none. answered_asked no.NoMessage (live_named n.live c.path.message) _ _ none.1.0 none.1.1 (λ m more.
+  decided_act net (act.TakeSpn c) = decided_net _ _ net (λ n none. answered_requested no.NoMessage (live_named n.live c.path.message) _ _ none.1.0 none.1.1 (λ m more.
       answered_given no.BlockFull _ _ (chosen_there c.same (least_free book.used (spn_blocks_of book name team) Spn) _ _ (λ last. last.1.0) more.1.1) (λ number. tt)))
-  decided_act net (act.TakeBits c) = decided_net _ _ net (λ n none. answered_asked no.NoMessage (live_named n.live c.path.message) _ _ none.1.0 none.1.1 (λ m more.
+  decided_act net (act.TakeBits c) = decided_net _ _ net (λ n none. answered_requested no.NoMessage (live_named n.live c.path.message) _ _ none.1.0 none.1.1 (λ m more.
       answered_given no.NoRoom _ _
       (chosen_there c.start (least_start_of (places_of m.message.signals) m.message.length c.size c.order c.mux) _ _ (λ last. last.0) more.1.1.1.1.1.1) (λ start. tt)))
-  decided_act net (act.SetValues c) = decided_net _ _ net (λ n none. answered_asked no.NoMessage (live_named n.live c.path.message) _ _ none.1.0 none.1.1 (λ m _. tt))
-  decided_act net (act.RemoveSignal path) = decided_net _ _ net (λ n none. answered_asked no.NoMessage (live_named n.live path.message) _ _ none.1.0 none.1.1 (λ m _. tt))
-  decided_act net (act.Retire message) = decided_net _ _ net (λ n none. answered_asked no.NoMessage (live_named n.live message) _ _ none.1.0 none.1.1 (λ m _. tt))
+  decided_act net (act.SetValues c) = decided_net _ _ net (λ n none. answered_requested no.NoMessage (live_named n.live c.path.message) _ _ none.1.0 none.1.1 (λ m _. tt))
+  decided_act net (act.RemoveSignal path) = decided_net _ _ net (λ n none. answered_requested no.NoMessage (live_named n.live path.message) _ _ none.1.0 none.1.1 (λ m _. tt))
+  decided_act net (act.Retire message) = decided_net _ _ net (λ n none. answered_requested no.NoMessage (live_named n.live message) _ _ none.1.0 none.1.1 (λ m _. tt))
   decided_act net act.Submit = decided_net _ _ net (λ n _. tt)
   decided_act net act.Approve = decided_net _ _ net (λ n _. tt)
   decided_act net act.Reject = decided_net _ _ net (λ n _. tt)

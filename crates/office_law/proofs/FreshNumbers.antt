@@ -14,7 +14,7 @@ use Rattle.std.proofs.lemmas.List.Folds.{list_any_at}
 use Rattle.can_id.specs.Ident.{IsIdentifier, dbc_number, ident_of}
 use Rattle.can_id.specs.J1939.{fields_with, format_of, is_pdu1}
 use Rattle.can_id.specs.declared.ident.Ident.{Ident}
-use Rattle.can_id.proofs.Groups.{built_as_asked}
+use Rattle.can_id.proofs.Groups.{built_as_requested}
 use Rattle.office_types.specs.Command.{group_form}
 use Rattle.office_types.specs.Free.{has_form, is_taken}
 use Rattle.office_types.specs.State.{by_number}
@@ -76,7 +76,7 @@ idents team net after c reply e h =
       chosen = free.chosen;
       not_live = All-from_contains (λ m. m.message.ident ≢ ident_of c.form g.0) net.live (λ m there. not_live net (ident_of c.form g.0) m free.live there);
       not_held = All-from_contains (λ i. i ≢ ident_of c.form g.0) net.held (λ i there is. not_held net (ident_of c.form g.0) free.held (subst (Contains net.held) is there));
-      told = sym same.0;
+      reported = sym same.0;
       added = sym same.1;
       grown = λ n. subst (λ (v : Net). IsGrown net.live v.live (new_message team c.message (ident_of c.form g.0))) same.1
           (grown net (new_message team c.message (ident_of c.form g.0)) n (identifier_of c.form g.0 free.formed) free.live);
@@ -110,8 +110,8 @@ groups team net after c reply e h =
           untaken net pgn m.message.ident least.free (Contains-append_left (map (λ (x : LiveMessage). x.message.ident) net.live) net.held m.message.ident (Contains-map (λ (x : LiveMessage). x.message.ident) net.live m there)));
       not_held = All-from_contains (λ i. group_of i ≢ Some pgn) net.held (λ i there.
           untaken net pgn i least.free (Contains-append_right (map (λ (x : LiveMessage). x.message.ident) net.live) net.held i there));
-      built = λ ok. built_as_asked c.priority pgn (address_of c.pdu) c.source ok.2 (is_group c.pdu pgn least.formed) (global_only c.pdu pgn least.formed) (small_address c.pdu ok.1) (let s = ok.3 in omega (arith, s));
-      told = sym same.0;
+      built = λ ok. built_as_requested c.priority pgn (address_of c.pdu) c.source ok.2 (is_group c.pdu pgn least.formed) (global_only c.pdu pgn least.formed) (small_address c.pdu ok.1) (let s = ok.3 in omega (arith, s));
+      reported = sym same.0;
       added = sym same.1;
       grown = λ n ok. subst (λ (v : Net). IsGrown net.live v.live (new_message team c.message (ident_with c pgn))) same.1 (
           let group = group_with c pgn ok.1 ok.2 ok.3 least.formed in
@@ -140,7 +140,7 @@ spns team name net after book c reply e none h =
       least = free.least;
       unused = λ there. false≢true (sym free.free ∙ list_any_at (λ t. t == n) book.used there.0 n there.1 (ap (λ t. t == n) there.2 ∙ eq-eqb n n refl));
       used = subst (λ (f : Entries). Contains (entered book f).used n) same.2 (now_used (n ∷ []) book.used n (Contains-first n []));
-      told = sym same.0;
+      reported = sym same.0;
       added = sym same.2;
     }
 

@@ -57,7 +57,7 @@ use Rattle.office_types.specs.declared.state.Net.{Net}
 use Rattle.office_types.specs.declared.state.Phase.{Phase}
 use Rattle.office_types.specs.declared.state.Phase.TheVariants.{Draft, Review}
 use Rattle.office_rules.specs.Facts.{blocks_of, group_facts, group_of, has_node, ident_facts, in_review, is_granted, is_held, is_j1939, is_live, is_named, is_spn_granted, live_named, message_facts, spn_blocks_of, taken_groups}
-use Rattle.office_rules.specs.Importing.{FileReading, Reading, Unreadable, clear_tests, file_imported, file_tests, import, import_tests, is_too_large, message_import_tests, told_clash}
+use Rattle.office_rules.specs.Importing.{FileReading, Reading, Unreadable, clear_tests, file_imported, file_tests, import, import_tests, is_too_large, message_import_tests, reported_clash}
 use Rattle.office_rules.specs.Kept.{IsBook, IsNet}
 use Rattle.office_rules.specs.Numbers.{address_of, group_given, ident_with, new_message, number_given, take_ident, take_ident_tests, take_pgn, take_pgn_tests, with_message}
 use Rattle.office_rules.specs.Opening.{add_node, add_node_tests, grant, grant_tests, granted, is_block_taken, spn_entry, with_block, with_node}
@@ -90,7 +90,7 @@ abbrev pub IsReadingSheet : FileReading → Type 0
 IsReadingSheet (Reading s) = IsSheet s
 IsReadingSheet (Unreadable f) = Unit {0}
 
--- Parameter groups that are asked for.
+-- Parameter groups that are requested.
 
 pub is_group : (p : Pdu) (pgn : ℕ) → has_form (group_form p) pgn ≡ true → is_pgn pgn ≡ true
 is_group (Addressed d) pgn h = grind (arith, nat_tests)
@@ -392,7 +392,7 @@ module _ (team name : List ℕ) (book : SpnBook) (net : Net) where
   clear_one m h = by_clash (first_clash_of (places_of m.signals) m.length) refl h
     where
       by_clash : (o : Option Clash) → first_clash_of (places_of m.signals) m.length ≡ o
-          → NoneHolds (elim o [ Some clash ↦ when true (no.FileFault (told_clash m clash)) ∷ [] | None ↦ [] ]) → IsClearMessage m
+          → NoneHolds (elim o [ Some clash ↦ when true (no.FileFault (reported_clash m clash)) ∷ [] | None ↦ [] ]) → IsClearMessage m
       by_clash None e k = clear_from_none (places_of m.signals) m.length e
       by_clash (Some clash) e k = absurd (false≢true (sym k.0))
 

@@ -2,7 +2,7 @@
 use Rattle.std.proofs.Common.{◌≡◌, ◌⊎◌, ◌∙◌, ℕ, Bool, true, false, List, [], ◌∷◌, Option, Some, inl, inr, refl, sym, ap, subst}
 use Rattle.std.specs.Prelude.{if◌then◌else◌}
 use Rattle.std.specs.Str.{bytes_eq}
-use Rattle.catalogue.specs.Reads.{ReadsAsOneAtMost}
+use Rattle.dbc_grammar.specs.Reads.{ReadsAsOneAtMost}
 use Rattle.office_types.specs.declared.command.Command.{Command}
 use Rattle.office_types.specs.declared.command.Task.{Task}
 use Rattle.office_types.specs.declared.refusal.Refusal.{Refusal}
@@ -39,7 +39,7 @@ module _ (name : List ℕ) (t : Task) (net : Option Net) (r : Refusal) where
 -- Two offices with one network of the command's name.
 module _ (once : ReadsAsOneAtMost) (profile : Profile) (o p a b : Office) (team : List ℕ) (c : Command) (r s : Reply) (first : Step profile o team c r a) (second : Step profile p team c s b)
     (same : net_named o c.net ≡ net_named p c.net) where
-  -- what the command comes to in each of them by the second's reading
+  -- what the command results in, in each of them by the second's reading
   abbrev here : Outcome
   here = outcome team second.reading (net_named o c.net) o.book c
 
@@ -77,17 +77,17 @@ module _ (once : ReadsAsOneAtMost) (profile : Profile) (o p a b : Office) (team 
         ∙ sym (net_there sorted_too)
     | inr both ↦
         ap (λ x. net_named x c.net) both.0.left
-        ∙ sym (refused_net c.net c.task (net_named o c.net) (no.FileFault both.0.fault) there is_left (sym answered_there ∙ sym e ∙ both.0.told))
+        ∙ sym (refused_net c.net c.task (net_named o c.net) (no.FileFault both.0.fault) there is_left (sym answered_there ∙ sym e ∙ both.0.reported))
         ∙ sym (net_there sorted_too)
   ]
 
   one_answer : asks_book c.task ≡ false → (r ≡ s) ⊎ (IsFileRefused profile o c r a × IsFileRefused profile p c s b)
-  one_answer unasked =
-      let alike : here ≡ there = task_alike team c.net second.reading (net_named o c.net) o.book p.book c.task unasked in
+  one_answer unrequested =
+      let alike : here ≡ there = task_alike team c.net second.reading (net_named o c.net) o.book p.book c.task unrequested in
       elim agreed [
         | inl both ↦ inl (both.0 ∙ ap reply_of alike ∙ sym answered_there)
         | inr both ↦
-            let told : s ≡ Refused (no.FileFault both.1.fault) = answered_there ∙ sym (ap reply_of alike) ∙ both.1.told in
+            let reported : s ≡ Refused (no.FileFault both.1.fault) = answered_there ∙ sym (ap reply_of alike) ∙ both.1.reported in
             inr (
               both.0,
               record {
@@ -95,14 +95,14 @@ module _ (once : ReadsAsOneAtMost) (profile : Profile) (o p a b : Office) (team 
                 wanted = subst (λ n. file_wanted n c.task ≡ Some both.1.file) same both.1.wanted;
                 fault = both.1.fault;
                 unreadable = both.1.unreadable;
-                told = told;
-                left = left_there ∙ refused_office c.net c.task (net_named o c.net) (no.FileFault both.1.fault) p there is_left (sym answered_there ∙ told);
+                reported = reported;
+                left = left_there ∙ refused_office c.net c.task (net_named o c.net) (no.FileFault both.1.fault) p there is_left (sym answered_there ∙ reported);
               },
             )
       ]
 
 pub replies_apart : ReadsAsOneAtMost → RepliesApart
-replies_apart once profile o p a b team c r s first second same unasked = one_answer once profile o p a b team c r s first second same unasked
+replies_apart once profile o p a b team c r s first second same unrequested = one_answer once profile o p a b team c r s first second same unrequested
 
 in_order_after : (profile : Profile) (o a : Office) (team : List ℕ) (c : Command) (r : Reply) → AreInOrder o → Step profile o team c r a → AreInOrder a
 in_order_after profile o a team c r sorted step =

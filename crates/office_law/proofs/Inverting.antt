@@ -1,4 +1,4 @@
--- What is known of a command from what it comes to.
+-- What is known of a command from what it results in.
 use Rattle.std.proofs.Common.{◌≡◌, ◌⊎◌, ◌==◌, ℕ, Bool, true, false, List, [], ◌∷◌, Option, Some, None, inl, inr, refl, sym, ap, eq-eqb, ◌∙◌}
 use Rattle.std.proofs.lemmas.Bool.{false≢true}
 use Rattle.catalogue.specs.Refusing.{Test, first_refusal}

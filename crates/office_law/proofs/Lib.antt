@@ -36,3 +36,4 @@ pub mod Decided
 mod HistoryRows
 pub mod Unreleased
 pub mod OtherReleases
+pub mod OtherBodies

@@ -1,7 +1,7 @@
 -- Steps agree.
 use Rattle.std.proofs.Common.{◌≡◌, ◌⊎◌, ◌∙◌, Bool, true, false, ℕ, List, ◌∷◌, Option, Some, None, inl, inr, refl, sym, ap}
 use Rattle.std.proofs.lemmas.Bool.{false≢true}
-use Rattle.catalogue.specs.Reads.{ReadsAsOneAtMost}
+use Rattle.dbc_grammar.specs.Reads.{ReadsAsOneAtMost}
 use Rattle.catalogue.specs.declared.sheet.Sheet.{Sheet}
 use Rattle.office_types.specs.declared.book.SpnBook.{SpnBook}
 use Rattle.office_types.specs.declared.command.Command.{Command}
@@ -67,13 +67,13 @@ module _ (law : ReadsAsOneAtMost) (profile : Profile) (team name : List ℕ) (bo
   agree None (Import file) x y h k = inl refl
   agree (Some net) (Import file) x y h k = by_phase net file x y (in_review net.head.phase) refl h k
 
-told_so : (profile : Profile) (before a : Office) (team : List ℕ) (c : Command) (r : Reply) (step : Step profile before team c r a) → TellsFault profile (net_named before c.net) c.task (step_outcome before team step.reading c) → IsFileRefused profile before c r a
-told_so profile before a team c r step t = record {
+reported_so : (profile : Profile) (before a : Office) (team : List ℕ) (c : Command) (r : Reply) (step : Step profile before team c r a) → TellsFault profile (net_named before c.net) c.task (step_outcome before team step.reading c) → IsFileRefused profile before c r a
+reported_so profile before a team c r step t = record {
   file = t.file;
   wanted = t.wanted;
   fault = t.fault;
   unreadable = t.unreadable;
-  told = step.answered ∙ ap reply_of t.refusing;
+  reported = step.answered ∙ ap reply_of t.refusing;
   left = step.left ∙ ap (office_after before) t.refusing;
 }
 
@@ -81,5 +81,5 @@ pub steps_agree : ReadsAsOneAtMost → StepsAgree
 steps_agree law profile before a b team c r s first second =
     elim (agree law profile team c.net before.book (net_named before c.net) c.task first.reading second.reading first.read second.read) [
       | inl same ↦ inl (first.answered ∙ ap reply_of same ∙ sym second.answered, first.left ∙ ap (office_after before) same ∙ sym second.left)
-      | inr both ↦ inr (told_so profile before a team c r first both.0, told_so profile before b team c s second both.1)
+      | inr both ↦ inr (reported_so profile before a team c r first both.0, reported_so profile before b team c s second both.1)
     ]

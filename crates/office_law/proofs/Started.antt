@@ -98,7 +98,7 @@ module _ (team : List ℕ) (net : Net) (c : TakeBits) where
         start = g.0;
         clear = it.0;
         chosen = it.1;
-        told = sym same.0;
+        reported = sym same.0;
         added = sym same.1;
         quiet = sym same.2;
       }

@@ -1,4 +1,4 @@
--- A step is a function, but for the fault that is told of a file that reads as no sheet.
+-- A step is a function, but for the fault that is reported of a file that reads as no sheet.
 use Rattle.std.specs.Prelude.{◌≡◌, ◌⊎◌, ℕ, List, Some}
 use Rattle.office_types.specs.declared.command.Command.{Command}
 use Rattle.office_types.specs.declared.refusal.FileFault.{FileFault as Fault}
@@ -9,13 +9,13 @@ use Rattle.office_types.specs.declared.state.Office.{Office}
 use Rattle.office_rules.specs.Profile.{Profile}
 use Rattle.office_rules.specs.Step.{IsUnreadable, Step, file_wanted, net_named}
 
--- the command imports a file that reads as no sheet, and is refused with one of the faults that may be told of it
+-- the command imports a file that reads as no sheet, and is refused with one of the faults that may be reported of it
 pub record IsFileRefused (profile : Profile) (before : Office) (c : Command) (reply : Reply) (after : Office) : Type 0 where
   pub file : List ℕ
   pub wanted : file_wanted (net_named before c.net) c.task ≡ Some file
   pub fault : Fault
   pub unreadable : IsUnreadable profile file fault
-  pub told : reply ≡ Refused (FileFault fault)
+  pub reported : reply ≡ Refused (FileFault fault)
   pub left : after ≡ before
 
 -- two steps of one office by one command of one team that came under one profile are the same, or both are refused

@@ -26,16 +26,16 @@ bundle_of name parts = record { net = name; task = task.Bundle parts }
 abbrev pub requests_of : Profile → List ℕ → List ℕ → List Action → List Asking
 requests_of profile team name parts = map (λ a. (profile, team, command_of name a)) parts
 
--- The earlier parts run, and then this one is refused so. The refusal of the bundle has its place, from 1, and the number
--- of its refusal.
+-- The earlier parts run, and then this one is refused so. The refusal of the bundle has its place, from 1, and the
+-- number of its refusal.
 pub record IsPartRefused (profile : Profile) (before : Office) (team name : List ℕ) (parts : List Action) (refusal : Refusal) : Type 0 where
   pub earlier : List Action
   pub part : Action
   pub later : List Action
   pub split : parts ≡ earlier ++ part ∷ later
-  pub told : List Reply
+  pub reported : List Reply
   pub mid : Office
-  pub run : Run before (requests_of profile team name earlier) told mid
+  pub run : Run before (requests_of profile team name earlier) reported mid
   pub why : Refusal
   pub refused : Step profile mid team (command_of name part) (Refused why) mid
   pub tells : refusal ≡ no.BundleRefused (refused_part (length earlier + 1) why)
@@ -43,8 +43,8 @@ pub record IsPartRefused (profile : Profile) (before : Office) (team name : List
 -- A bundle is answered by the replies of its parts, which ran in order, or is refused, and then it changes nothing.
 pub record BundlesRunTheirParts : Type 0 where
   pub answers : (profile : Profile) (before after : Office) (team name : List ℕ) (parts : List Action) (reply : Reply)
-      → Step profile before team (bundle_of name parts) reply after → ((told : List PartReply) × (reply ≡ Bundle told)) ⊎ ((refusal : Refusal) × (reply ≡ Refused refusal))
-  pub done : (profile : Profile) (before after : Office) (team name : List ℕ) (parts : List Action) (told : List PartReply) → AreInOrder before
-      → Step profile before team (bundle_of name parts) (Bundle told) after → Run before (requests_of profile team name parts) (map whole_reply told) after
+      → Step profile before team (bundle_of name parts) reply after → ((reported : List PartReply) × (reply ≡ Bundle reported)) ⊎ ((refusal : Refusal) × (reply ≡ Refused refusal))
+  pub done : (profile : Profile) (before after : Office) (team name : List ℕ) (parts : List Action) (reported : List PartReply) → AreInOrder before
+      → Step profile before team (bundle_of name parts) (Bundle reported) after → Run before (requests_of profile team name parts) (map whole_reply reported) after
   pub refused : (profile : Profile) (before after : Office) (team name : List ℕ) (parts : List Action) (refusal : Refusal) → AreInOrder before → AreParts parts
       → Step profile before team (bundle_of name parts) (Refused refusal) after → (after ≡ before) × IsPartRefused profile before team name parts refusal

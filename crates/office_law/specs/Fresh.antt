@@ -42,8 +42,8 @@ pub record IsGrown (live next : List LiveMessage) (m : LiveMessage) : Type 0 whe
   pub kept : (o : LiveMessage) → Contains live o → Contains next o
   pub only : (o : LiveMessage) → Contains next o → (o ≡ m) ⊎ Contains live o
 
--- What a `take_ident` that isn't refused gives out and changes: an identifier of the team's blocks, the wanted one or the
--- least, that no live message has and that isn't held. The network gets one message more, which has it.
+-- What a `take_ident` that isn't refused gives out and changes: an identifier of the team's blocks, the wanted one or
+-- the least, that no live message has and that isn't held. The network gets one message more, which has it.
 pub record GivesIdent (team : List ℕ) (net : Net) (c : TakeIdent) (reply : Reply) (after : Net) (entries : Entries) : Type 0 where
   pub number : ℕ
   pub formed : has_form (number_form c.form) number ≡ true
@@ -51,13 +51,14 @@ pub record GivesIdent (team : List ℕ) (net : Net) (c : TakeIdent) (reply : Rep
   pub chosen : IsChosen c.want (taken_numbers net c.form) (blocks_of net.blocks team (block_form c.form)) (number_form c.form) number
   pub not_live : All (λ m. m.message.ident ≢ ident_of c.form number) net.live
   pub not_held : All (λ i. i ≢ ident_of c.form number) net.held
-  pub told : reply ≡ Number number
+  pub reported : reply ≡ Number number
   pub added : after ≡ with_message net (new_message team c.message (ident_of c.form number))
   pub grown : IsNet net → IsGrown net.live after.live (new_message team c.message (ident_of c.form number))
   pub quiet : entries ≡ no_entries
 
 -- What a `take_pgn` does: the least parameter group of the team's blocks that has a destination, or has none, and that
--- no live and no held 29-bit identifier has. The identifier of the new message is of that group, with the fields asked for.
+-- no live and no held 29-bit identifier has. The identifier of the new message is of that group, with the requested
+-- fields.
 pub record GivesGroup (team : List ℕ) (net : Net) (c : TakePgn) (reply : Reply) (after : Net) (entries : Entries) : Type 0 where
   pub number : ℕ
   pub formed : has_form (group_form c.pdu) number ≡ true
@@ -66,20 +67,20 @@ pub record GivesGroup (team : List ℕ) (net : Net) (c : TakePgn) (reply : Reply
   pub not_live : All (λ m. group_of m.message.ident ≢ Some number) net.live
   pub not_held : All (λ i. group_of i ≢ Some number) net.held
   pub built : IsAction (act.TakePgn c) → IsBuilt c.priority number (address_of c.pdu) c.source (fields_with c.priority number (address_of c.pdu) c.source)
-  pub told : reply ≡ Number number
+  pub reported : reply ≡ Number number
   pub added : after ≡ with_message net (new_message team c.message (ident_with c number))
   pub grown : IsNet net → IsAction (act.TakePgn c) → IsGrown net.live after.live (new_message team c.message (ident_with c number))
   pub quiet : entries ≡ no_entries
 
--- What a `take_spn` without a wanted number does: the least suspect parameter number of the team's blocks that was never
--- used, and it is used from then on.
+-- What a `take_spn` without a wanted number does: the least suspect parameter number of the team's blocks that was
+-- never used, and it is used from then on.
 pub record GivesSpn (team name : List ℕ) (book : SpnBook) (reply : Reply) (entries : Entries) : Type 0 where
   pub number : ℕ
   pub granted : lies_in number (spn_blocks_of book name team) ≡ true
   pub least : IsLeastFree book.used (spn_blocks_of book name team) Spn (Some number)
   pub unused : Contains book.used number → ⊥
   pub used : Contains (entered book entries).used number
-  pub told : reply ≡ Number number
+  pub reported : reply ≡ Number number
   pub added : entries ≡ spn_entered number
 
 -- the start that is wanted, or where none is the least from which the signals stay clear
@@ -95,7 +96,7 @@ pub record GivesStart (net : Net) (c : TakeBits) (reply : Reply) (after : Net) (
   pub start : ℕ
   pub clear : CanStartAt (places_of message.message.signals) message.message.length c.size c.order c.mux start
   pub chosen : IsStartChosen c.start (places_of message.message.signals) message.message.length c start
-  pub told : reply ≡ Start start
+  pub reported : reply ≡ Start start
   pub added : after ≡ with_message net (with_last_signal message (new_signal c start))
   pub quiet : entries ≡ no_entries
 

@@ -1,5 +1,5 @@
 -- Networks that differ in their releases alone.
-use Rattle.std.specs.Prelude.{◌≡◌, ℕ, Bool, true, false, List, Some}
+use Rattle.std.specs.Prelude.{◌≡◌, ℕ, Bool, true, false, List, length, Some}
 use Rattle.std.specs.List.{list_any}
 use Rattle.catalogue.specs.declared.sheet.Sheet.{Sheet}
 use Rattle.office_types.specs.declared.book.SpnBook.{SpnBook}
@@ -15,7 +15,8 @@ use Rattle.office_rules.specs.Commands.{outcome}
 use Rattle.office_rules.specs.Importing.{FileReading}
 use Rattle.office_rules.specs.Outcome.{Outcome, Refusing, Changing}
 
--- the commands that depend on the releases of their network: `retire` on what they have, `release` on how many there are
+-- the commands that depend on the releases of their network: `retire` on what they have, `release` on how many there
+-- are
 abbrev pub action_reads_releases : Action → Bool
 action_reads_releases (act.Retire message) = true
 action_reads_releases act.Release = true
@@ -43,3 +44,21 @@ pub record ReleasesDontCount : Type 0 where
   pub decisions : (team : List ℕ) (net : Net) (rs : List Sheet) (book : SpnBook) (c : Command) (d : Decision) → reads_releases c.task ≡ false
       → IsDecision team (record { net = Some net; book = book }) c d
       → IsDecision team (record { net = Some (with_releases rs net); book = book }) c d × (list_any is_release d.changes ≡ false)
+
+-- `retire` alone depends on what is in a release: whether it has the message's number
+abbrev pub is_retire : Action → Bool
+is_retire (act.Retire message) = true
+is_retire a = false
+
+-- and bundles that have one
+abbrev pub reads_bodies : Task → Bool
+reads_bodies (Act a) = is_retire a
+reads_bodies (Import file) = false
+reads_bodies (Bundle parts) = list_any is_retire parts
+
+-- any other command is decided in the same way where the network has as many other releases
+abbrev pub BodiesDontCount : Type 0
+BodiesDontCount = (team : List ℕ) (net : Net) (rs qs : List Sheet) (book : SpnBook) (c : Command) (d : Decision)
+    → reads_bodies c.task ≡ false → length rs ≡ length qs
+    → IsDecision team (record { net = Some (with_releases rs net); book = book }) c d
+    → IsDecision team (record { net = Some (with_releases qs net); book = book }) c d

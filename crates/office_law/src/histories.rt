@@ -1,7 +1,7 @@
 //! What becomes of a network depends on its own history alone.
 ghost use Rattle.office_law.specs.Histories.{OneHistoryOneNetwork, OutcomesAreLeft, RepliesApart};
 
-use catalogue::texts_read_as_one_sheet;
+use dbc_grammar::texts_read_as_one_sheet;
 
 /// After a command the network of its name is the one that its outcome leaves; after a refusal it is as it was.
 pub fn outcomes_are_left()

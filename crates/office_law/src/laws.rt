@@ -4,13 +4,13 @@ ghost use Rattle.office_law.specs.Apart.{NetworksAreApart};
 ghost use Rattle.office_law.specs.Fresh.{NumbersAreFresh};
 ghost use Rattle.office_law.specs.Kept.{OfficesAreKept};
 ghost use Rattle.office_law.specs.Missing.{NothingIsMissing};
-ghost use Rattle.office_law.specs.Released.{ReleasesDontCount};
+ghost use Rattle.office_law.specs.Released.{BodiesDontCount, ReleasesDontCount};
 ghost use Rattle.office_law.specs.Refusals.{LeastInsideBlocks, NeverTwoMultiplexors, RefusedForWant};
 
-use catalogue::texts_read_as_one_sheet;
+use dbc_grammar::texts_read_as_one_sheet;
 
-/// What every office keeps is kept by each step and by each run, and the opening office keeps it. Teams and commands are
-/// in range, as those of their types are.
+/// What every office keeps is kept by each step and by each run, and the opening office keeps it. Teams and commands
+/// are in range, as those of their types are.
 pub fn offices_are_kept()
     ensures { OfficesAreKept }
 {}
@@ -32,6 +32,12 @@ pub fn networks_are_apart()
 /// command has the same outcome whatever they are, and adds none: so it is decided without them.
 pub fn releases_dont_count()
     ensures { ReleasesDontCount }
+{}
+
+/// Only `retire`, and a bundle that has one, depends on what is in a release. Any other command is decided in the same
+/// way where its network has as many other releases.
+pub fn bodies_dont_count()
+    ensures { BodiesDontCount }
 {}
 
 /// A step is a function: two steps of one office by one command of one team are the same. Only where an imported file
@@ -58,8 +64,8 @@ pub fn sheets_have_one_multiplexor()
     ensures { NeverTwoMultiplexors }
 {}
 
-/// Where no test of a command refuses, the network, the message, the number, the start or the sheet that the command goes
-/// on with is there.
+/// Where no test of a command refuses, the network, the message, the number, the start or the sheet that the command
+/// goes on with is there.
 pub fn nothing_is_missing()
     ensures { NothingIsMissing }
 {}

@@ -5,14 +5,16 @@
 //! - [`offices_are_kept`]: what every office keeps is kept by each step and each run.
 //! - [`numbers_are_fresh`]: a number that is given out is live nowhere on its network, isn't held, and was never used.
 //! - [`networks_are_apart`]: a command reads and changes its own network alone, and leaves its releases.
-//! - [`releases_dont_count`]: what a network released counts for `retire` and `release` alone.
-//! - [`steps_agree`]: a step is a function, but for the fault that is told of a file that reads as no sheet.
-//! - [`outcomes_are_left`], [`replies_are_apart`], [`one_history_leaves_one_network`]: so what becomes of a network depends
-//!   on its own history alone.
+//! - [`releases_dont_count`]: what a network released counts for `retire` and `release` alone; [`bodies_dont_count`]:
+//!   what is in a release for `retire` alone.
+//! - [`steps_agree`]: a step is a function, but for the fault that is reported of a file that reads as no sheet.
+//! - [`outcomes_are_left`], [`replies_are_apart`], [`one_history_leaves_one_network`]: so what becomes of a network
+//!   depends on its own history alone.
 //! - [`tests_decide_commands`]: a command is refused by the first of its tests that holds, and else it is answered.
 //! - [`wants_are_real`]: a refusal for want of a block, a number or room comes only where there is none.
 //! - [`nothing_is_missing`]: where no test of a command refuses, there is what it goes on with.
-//! - [`numbers_elsewhere_do_not_count`] and [`sheets_have_one_multiplexor`]: what an allocator and an import needn't look at.
+//! - [`numbers_elsewhere_do_not_count`] and [`sheets_have_one_multiplexor`]: what an allocator and an import needn't
+//!   look at.
 #![tactic(auto)]
 
 mod bundles;
@@ -24,7 +26,7 @@ pub use bundles::bundles_run_their_parts;
 pub use deciding::tests_decide_commands;
 pub use histories::{one_history_leaves_one_network, outcomes_are_left, replies_are_apart};
 pub use laws::{
-    networks_are_apart, nothing_is_missing, numbers_are_fresh, numbers_elsewhere_do_not_count,
-    offices_are_kept, releases_dont_count, sheets_have_one_multiplexor, steps_agree,
-    wants_are_real,
+    bodies_dont_count, networks_are_apart, nothing_is_missing, numbers_are_fresh,
+    numbers_elsewhere_do_not_count, offices_are_kept, releases_dont_count,
+    sheets_have_one_multiplexor, steps_agree, wants_are_real,
 };

@@ -33,7 +33,7 @@ use Rattle.office_tables.proofs.Selecting.{query}
 use Rattle.office_tables.proofs.Finding.{ascending, Asks, Means, finds}
 use Rattle.office_rows.specs.Rows.{approval_row, has_two_texts, is_of_net}
 use Rattle.office_rows.specs.Shown.{approvals_order, approvals_shown}
-use Rattle.office_rows.proofs.Asked.{net_asked, one_test, texts_asked, two_tests}
+use Rattle.office_rows.proofs.Requested.{net_requested, one_test, texts_requested, two_tests}
 
 -- ---- insert_approval
 
@@ -77,7 +77,7 @@ pub delete_approvals : (net : List ℕ) (team : List ℕ) (old new : State) (r :
 unfolding office_schema
 delete_approvals net team old new r office ended ran =
     makes delete_approval_text (Text net ∷ Text team ∷ []) _ _ old new r
-    (removes 6 approval approval_placed approval_only delete_approval_text (Text net ∷ Text team ∷ []) two_tests (delete_approval_is (Text net ∷ Text team ∷ [])) delete_approval_plain (has_two_texts net team) (texts_asked net team) approval_placed old new office) ended ran
+    (removes 6 approval approval_placed approval_only delete_approval_text (Text net ∷ Text team ∷ []) two_tests (delete_approval_is (Text net ∷ Text team ∷ [])) delete_approval_plain (has_two_texts net team) (texts_requested net team) approval_placed old new office) ended ran
 
 -- ---- delete_approvals
 
@@ -97,7 +97,7 @@ pub delete_approvalss : (net : List ℕ) (old new : State) (r : Result ℕ Error
 unfolding office_schema
 delete_approvalss net old new r office ended ran =
     makes delete_approvals_text (Text net ∷ []) _ _ old new r
-    (removes 6 approval approval_placed approval_only delete_approvals_text (Text net ∷ []) one_test (delete_approvals_is (Text net ∷ [])) delete_approvals_plain (is_of_net net) (net_asked net) approval_placed old new office) ended ran
+    (removes 6 approval approval_placed approval_only delete_approvals_text (Text net ∷ []) one_test (delete_approvals_is (Text net ∷ [])) delete_approvals_plain (is_of_net net) (net_requested net) approval_placed old new office) ended ran
 
 -- ---- select_approvals
 
@@ -116,7 +116,7 @@ approvals_asks params = record { command = refl; listing = refl; plain = (refl, 
 
 approvals_means : (net : List ℕ) → Means values 11 one_test approvals_columns approvals_by (Text net ∷ []) (is_of_net net) approvals_shown approvals_order
 approvals_means net = record {
-  tests_same = net_asked net;
+  tests_same = net_requested net;
   shows_same = λ r. ap (λ v. v ∷ []) (column_is r 1);
   orders_same = λ x y. then-Equal _ ∙ rw (column_is x 1, column_is y 1) refl;
 }

@@ -35,7 +35,7 @@ use Rattle.office_tables.proofs.Finding.{ascending, Asks, Means, finds}
 use Rattle.office_rows.specs.declared.row.BlockRow.{BlockRow}
 use Rattle.office_rows.specs.Rows.{block_row, is_block, is_of_form, is_of_net}
 use Rattle.office_rows.specs.Shown.{blocks_of_form_order, blocks_of_form_shown, blocks_order, blocks_shown}
-use Rattle.office_rows.proofs.Asked.{block_asked, form_asked, form_test, net_asked, one_test, three_tests}
+use Rattle.office_rows.proofs.Requested.{block_requested, form_requested, form_test, net_requested, one_test, three_tests}
 
 -- ---- insert_block
 
@@ -79,7 +79,7 @@ pub delete_blocks : (net : List ℕ) (form : ℕ) (first : ℕ) (old new : State
 unfolding office_schema
 delete_blocks net form first old new r office ended ran =
     makes delete_block_text (Text net ∷ Int (pos form) ∷ Int (pos first) ∷ []) _ _ old new r
-    (removes 3 block block_placed block_only delete_block_text (Text net ∷ Int (pos form) ∷ Int (pos first) ∷ []) three_tests (delete_block_is (Text net ∷ Int (pos form) ∷ Int (pos first) ∷ [])) delete_block_plain (is_block net form first) (block_asked net form first) block_placed old new office) ended ran
+    (removes 3 block block_placed block_only delete_block_text (Text net ∷ Int (pos form) ∷ Int (pos first) ∷ []) three_tests (delete_block_is (Text net ∷ Int (pos form) ∷ Int (pos first) ∷ [])) delete_block_plain (is_block net form first) (block_requested net form first) block_placed old new office) ended ran
 
 -- ---- select_blocks
 
@@ -98,7 +98,7 @@ blocks_asks params = record { command = refl; listing = refl; plain = (refl, ref
 
 blocks_means : (net : List ℕ) → Means values 6 one_test blocks_columns blocks_by (Text net ∷ []) (is_of_net net) blocks_shown blocks_order
 blocks_means net = record {
-  tests_same = net_asked net;
+  tests_same = net_requested net;
   shows_same = λ r. rw (column_is r 1, column_is r 2, column_is r 3, column_is r 4) refl;
   orders_same = λ x y. ap (ordering_then (value_cmp (column x 2) (column y 2))) (then-Equal _) ∙ rw (column_is x 1, column_is y 1, column_is x 2, column_is y 2) refl;
 }
@@ -127,7 +127,7 @@ blocks_of_form_asks params = record { command = refl; listing = refl; plain = (r
 
 blocks_of_form_means : (form : ℕ) → Means values 6 form_test blocks_of_form_columns blocks_of_form_by (Int (pos form) ∷ []) (is_of_form form) blocks_of_form_shown blocks_of_form_order
 blocks_of_form_means form = record {
-  tests_same = form_asked form;
+  tests_same = form_requested form;
   shows_same = λ r. rw (column_is r 0, column_is r 2, column_is r 3, column_is r 4) refl;
   orders_same = λ x y. ap (ordering_then (value_cmp (column x 1) (column y 1))) (then-Equal _) ∙ rw (column_is x 0, column_is y 0, column_is x 2, column_is y 2) refl;
 }

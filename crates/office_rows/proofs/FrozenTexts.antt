@@ -33,7 +33,7 @@ use Rattle.office_tables.proofs.Finding.{ascending, Asks, Means, finds}
 use Rattle.office_rows.specs.declared.row.FrozenRow.{FrozenRow}
 use Rattle.office_rows.specs.Rows.{frozen_row, has_net_and_number, is_of_net}
 use Rattle.office_rows.specs.Shown.{release_numbers_order, release_numbers_shown, release_order, release_shown, releases_order, releases_shown}
-use Rattle.office_rows.proofs.Asked.{net_asked, numbered_asked, one_test, two_tests}
+use Rattle.office_rows.proofs.Requested.{net_requested, numbered_requested, one_test, two_tests}
 
 -- ---- insert_frozen
 
@@ -76,7 +76,7 @@ releases_asks params = record { command = refl; listing = refl; plain = (refl, r
 
 releases_means : (net : List ℕ) → Means values 13 one_test releases_columns releases_by (Text net ∷ []) (is_of_net net) releases_shown releases_order
 releases_means net = record {
-  tests_same = net_asked net;
+  tests_same = net_requested net;
   shows_same = λ r. rw (column_is r 1, column_is r 2) refl;
   orders_same = λ x y. then-Equal _ ∙ rw (column_is x 1, column_is y 1) refl;
 }
@@ -105,7 +105,7 @@ release_numbers_asks params = record { command = refl; listing = refl; plain = (
 
 release_numbers_means : (net : List ℕ) → Means values 13 one_test release_numbers_columns release_numbers_by (Text net ∷ []) (is_of_net net) release_numbers_shown release_numbers_order
 release_numbers_means net = record {
-  tests_same = net_asked net;
+  tests_same = net_requested net;
   shows_same = λ r. ap (λ v. v ∷ []) (column_is r 1);
   orders_same = λ x y. then-Equal _ ∙ rw (column_is x 1, column_is y 1) refl;
 }
@@ -134,7 +134,7 @@ release_asks params = record { command = refl; listing = refl; plain = (refl, re
 
 release_means : (net : List ℕ) (number : ℕ) → Means values 13 two_tests release_columns release_by (Text net ∷ Int (pos number) ∷ []) (has_net_and_number net number) release_shown release_order
 release_means net number = record {
-  tests_same = numbered_asked net number;
+  tests_same = numbered_requested net number;
   shows_same = λ r. ap (λ v. v ∷ []) (column_is r 2);
   orders_same = λ x y. then-Equal _ ∙ rw (column_is x 1, column_is y 1) refl;
 }

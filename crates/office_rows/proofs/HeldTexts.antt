@@ -33,7 +33,7 @@ use Rattle.office_tables.proofs.Selecting.{query}
 use Rattle.office_tables.proofs.Finding.{ascending, Asks, Means, finds}
 use Rattle.office_rows.specs.Rows.{has_net_and_number, held_row, is_of_net}
 use Rattle.office_rows.specs.Shown.{held_order, held_shown}
-use Rattle.office_rows.proofs.Asked.{net_asked, numbered_asked, one_test, two_tests}
+use Rattle.office_rows.proofs.Requested.{net_requested, numbered_requested, one_test, two_tests}
 
 -- ---- insert_held
 
@@ -77,7 +77,7 @@ pub delete_helds : (net : List ℕ) (number : ℕ) (old new : State) (r : Result
 unfolding office_schema
 delete_helds net number old new r office ended ran =
     makes delete_held_text (Text net ∷ Int (pos number) ∷ []) _ _ old new r
-    (removes 4 held held_placed held_only delete_held_text (Text net ∷ Int (pos number) ∷ []) two_tests (delete_held_is (Text net ∷ Int (pos number) ∷ [])) delete_held_plain (has_net_and_number net number) (numbered_asked net number) held_placed old new office) ended ran
+    (removes 4 held held_placed held_only delete_held_text (Text net ∷ Int (pos number) ∷ []) two_tests (delete_held_is (Text net ∷ Int (pos number) ∷ [])) delete_held_plain (has_net_and_number net number) (numbered_requested net number) held_placed old new office) ended ran
 
 -- ---- select_held
 
@@ -96,7 +96,7 @@ held_asks params = record { command = refl; listing = refl; plain = (refl, refl)
 
 held_means : (net : List ℕ) → Means values 8 one_test held_columns held_by (Text net ∷ []) (is_of_net net) held_shown held_order
 held_means net = record {
-  tests_same = net_asked net;
+  tests_same = net_requested net;
   shows_same = λ r. ap (λ v. v ∷ []) (column_is r 1);
   orders_same = λ x y. then-Equal _ ∙ rw (column_is x 1, column_is y 1) refl;
 }

@@ -1,4 +1,4 @@
-mod Asked
+mod Requested
 mod Examples
 mod ProfileTexts
 mod NetTexts

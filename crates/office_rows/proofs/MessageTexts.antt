@@ -34,7 +34,7 @@ use Rattle.office_tables.proofs.Finding.{ascending, Asks, Means, finds}
 use Rattle.office_rows.specs.declared.row.MessageRow.{MessageRow}
 use Rattle.office_rows.specs.Rows.{has_net_and_number, is_any, is_of_net, message_row}
 use Rattle.office_rows.specs.Shown.{messages_order, messages_shown}
-use Rattle.office_rows.proofs.Asked.{all_wanted, net_asked, none_left, numbered_asked, one_test, two_tests}
+use Rattle.office_rows.proofs.Requested.{all_wanted, net_requested, none_left, numbered_requested, one_test, two_tests}
 
 -- ---- insert_message
 
@@ -78,7 +78,7 @@ pub delete_messages : (net : List ℕ) (number : ℕ) (old new : State) (r : Res
 unfolding office_schema
 delete_messages net number old new r office ended ran =
     makes delete_message_text (Text net ∷ Int (pos number) ∷ []) _ _ old new r
-    (removes 2 message message_placed message_only delete_message_text (Text net ∷ Int (pos number) ∷ []) two_tests (delete_message_is (Text net ∷ Int (pos number) ∷ [])) delete_message_plain (has_net_and_number net number) (numbered_asked net number) message_placed old new office) ended ran
+    (removes 2 message message_placed message_only delete_message_text (Text net ∷ Int (pos number) ∷ []) two_tests (delete_message_is (Text net ∷ Int (pos number) ∷ [])) delete_message_plain (has_net_and_number net number) (numbered_requested net number) message_placed old new office) ended ran
 
 -- ---- clear_messages
 
@@ -122,7 +122,7 @@ messages_asks params = record { command = refl; listing = refl; plain = (refl, r
 
 messages_means : (net : List ℕ) → Means values 3 one_test messages_columns messages_by (Text net ∷ []) (is_of_net net) messages_shown messages_order
 messages_means net = record {
-  tests_same = net_asked net;
+  tests_same = net_requested net;
   shows_same = λ r. rw (column_is r 3, column_is r 4) refl;
   orders_same = λ x y. then-Equal _ ∙ rw (column_is x 1, column_is y 1) refl;
 }

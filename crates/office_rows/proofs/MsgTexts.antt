@@ -34,7 +34,7 @@ use Rattle.office_tables.proofs.Finding.{ascending, Asks, Means, finds}
 use Rattle.office_rows.specs.declared.row.MsgRow.{MsgRow}
 use Rattle.office_rows.specs.Rows.{has_net_and_name, has_net_and_number, has_number_between, is_of_net, msg_row}
 use Rattle.office_rows.specs.Shown.{msg_numbers_order, msg_numbers_shown, msg_named_order, msgs_order, msg_named_shown, msgs_shown}
-use Rattle.office_rows.proofs.Asked.{named_asked, net_asked, numbered_asked, name_tests, one_test, two_tests, range_asked, range_tests}
+use Rattle.office_rows.proofs.Requested.{named_requested, net_requested, numbered_requested, name_tests, one_test, two_tests, range_requested, range_tests}
 use Rattle.office_tables.proofs.Counting.{AsksCount, counts}
 use Rattle.sqlite_sql.specs.Aggregate.{count}
 
@@ -80,7 +80,7 @@ pub deletes : (net : List ℕ) (number : ℕ) (old new : State) (r : Result ℕ 
 unfolding office_schema
 deletes net number old new r office ended ran =
     makes delete_text (Text net ∷ Int (pos number) ∷ []) _ _ old new r
-    (removes 9 msg msg_placed msg_only delete_text (Text net ∷ Int (pos number) ∷ []) two_tests (delete_is (Text net ∷ Int (pos number) ∷ [])) delete_plain (has_net_and_number net number) (numbered_asked net number) msg_placed old new office) ended ran
+    (removes 9 msg msg_placed msg_only delete_text (Text net ∷ Int (pos number) ∷ []) two_tests (delete_is (Text net ∷ Int (pos number) ∷ [])) delete_plain (has_net_and_number net number) (numbered_requested net number) msg_placed old new office) ended ran
 
 -- ---- select_msg_named
 
@@ -99,7 +99,7 @@ msg_named_asks params = record { command = refl; listing = refl; plain = (refl, 
 
 msg_named_means : (net : List ℕ) (name : List ℕ) → Means values 17 name_tests msg_named_columns msg_named_by (Text net ∷ Text name ∷ []) (has_net_and_name net name) msg_named_shown msg_named_order
 msg_named_means net name = record {
-  tests_same = named_asked net name;
+  tests_same = named_requested net name;
   shows_same = λ r. rw (column_is r 1, column_is r 2, column_is r 3, column_is r 4, column_is r 5, column_is r 6) refl;
   orders_same = λ x y. then-Equal _ ∙ rw (column_is x 1, column_is y 1) refl;
 }
@@ -128,7 +128,7 @@ msgs_asks params = record { command = refl; listing = refl; plain = (refl, refl)
 
 msgs_means : (net : List ℕ) → Means values 17 one_test msgs_columns msgs_by (Text net ∷ []) (is_of_net net) msgs_shown msgs_order
 msgs_means net = record {
-  tests_same = net_asked net;
+  tests_same = net_requested net;
   shows_same = λ r. rw (column_is r 1, column_is r 2, column_is r 3, column_is r 4, column_is r 5, column_is r 6) refl;
   orders_same = λ x y. then-Equal _ ∙ rw (column_is x 1, column_is y 1) refl;
 }
@@ -151,7 +151,7 @@ count_asks params = record { command = refl; listing = refl; plain = (refl, refl
 
 pub counted_msgs : {X : Type 0} (rows_of : X → List Row) (net : List ℕ) (old new : State) (r : Result X Error) → old.now.schema ≡ office_schema
     → IfOk r (λ x. Shown count_text (Text net ∷ []) old new (rows_of x)) → IfOk r (λ x. rows_of x ≡ (count (length (filter (is_of_net net) (tables_of old.now.trees).msg)) ∷ []) ∷ [])
-counted_msgs rows_of net = counts count_text 17 one_test (Text net ∷ []) (count_asks (Text net ∷ [])) (is_of_net net) (net_asked net) rows_of
+counted_msgs rows_of net = counts count_text 17 one_test (Text net ∷ []) (count_asks (Text net ∷ [])) (is_of_net net) (net_requested net) rows_of
 
 pub count_plain : (s : Schema) → s ≡ office_schema → IsPlain (understood s count_text)
 count_plain = plain_in count_text (count_asks []).plain
@@ -167,7 +167,7 @@ msg_numbers_asks params = record { command = refl; listing = refl; plain = (refl
 
 msg_numbers_means : (net : List ℕ) (first last : ℕ) → Means values 17 range_tests (col 1 2 ∷ []) ((col 1 2, ascending) ∷ []) (Text net ∷ Int (pos first) ∷ Int (pos last) ∷ []) (has_number_between net first last) msg_numbers_shown msg_numbers_order
 msg_numbers_means net first last = record {
-  tests_same = range_asked net first last;
+  tests_same = range_requested net first last;
   shows_same = λ r. rw (column_is r 1) refl;
   orders_same = λ x y. then-Equal _ ∙ rw (column_is x 1, column_is y 1) refl;
 }

@@ -34,7 +34,7 @@ use Rattle.office_tables.proofs.Finding.{ascending, Asks, Means, finds}
 use Rattle.office_rows.specs.declared.row.NetRow.{NetRow}
 use Rattle.office_rows.specs.Rows.{is_any, is_of_net, net_row}
 use Rattle.office_rows.specs.Shown.{net_names_order, net_names_shown, net_order, net_shown}
-use Rattle.office_rows.proofs.Asked.{net_asked, one_test}
+use Rattle.office_rows.proofs.Requested.{net_requested, one_test}
 
 -- ---- insert_net
 
@@ -78,7 +78,7 @@ pub delete_nets : (name : List ℕ) (old new : State) (r : Result ℕ Error) →
 unfolding office_schema
 delete_nets name old new r office ended ran =
     makes delete_net_text (Text name ∷ []) _ _ old new r
-    (removes 1 net net_placed net_only delete_net_text (Text name ∷ []) one_test (delete_net_is (Text name ∷ [])) delete_net_plain (is_of_net name) (net_asked name) net_placed old new office) ended ran
+    (removes 1 net net_placed net_only delete_net_text (Text name ∷ []) one_test (delete_net_is (Text name ∷ [])) delete_net_plain (is_of_net name) (net_requested name) net_placed old new office) ended ran
 
 -- ---- select_net_names
 
@@ -126,7 +126,7 @@ net_asks params = record { command = refl; listing = refl; plain = (refl, refl) 
 
 net_means : (name : List ℕ) → Means values 1 one_test net_columns net_by (Text name ∷ []) (is_of_net name) net_shown net_order
 net_means name = record {
-  tests_same = net_asked name;
+  tests_same = net_requested name;
   shows_same = λ r. rw (column_is r 1, column_is r 2, column_is r 3, column_is r 4, column_is r 5) refl;
   orders_same = λ x y. then-Equal _ ∙ rw (column_is x 0, column_is y 0) refl;
 }

@@ -33,7 +33,7 @@ use Rattle.office_tables.proofs.Finding.{ascending, Asks, Means, finds}
 use Rattle.office_rows.specs.declared.row.PartRow.{PartRow}
 use Rattle.office_rows.specs.Rows.{has_two_texts, part_row}
 use Rattle.office_rows.specs.Shown.{parts_order, parts_shown}
-use Rattle.office_rows.proofs.Asked.{texts_asked, two_tests}
+use Rattle.office_rows.proofs.Requested.{texts_requested, two_tests}
 
 -- ---- insert_part
 
@@ -76,7 +76,7 @@ parts_asks params = record { command = refl; listing = refl; plain = (refl, refl
 
 parts_means : (team : List ℕ) (key : List ℕ) → Means values 27 two_tests parts_columns parts_by (Text team ∷ Text key ∷ []) (has_two_texts team key) parts_shown parts_order
 parts_means team key = record {
-  tests_same = texts_asked team key;
+  tests_same = texts_requested team key;
   shows_same = λ r. rw (column_is r 3, column_is r 4) refl;
   orders_same = λ x y. then-Equal _ ∙ rw (column_is x 2, column_is y 2) refl;
 }

@@ -32,7 +32,7 @@ use Rattle.office_tables.proofs.Selecting.{query}
 use Rattle.office_tables.proofs.Finding.{ascending, Asks, Means, finds}
 use Rattle.office_rows.specs.Rows.{is_any, mark_row}
 use Rattle.office_rows.specs.Shown.{profile_order, profile_shown}
-use Rattle.office_rows.proofs.Asked.{all_wanted, none_left}
+use Rattle.office_rows.proofs.Requested.{all_wanted, none_left}
 
 -- ---- insert_profile
 

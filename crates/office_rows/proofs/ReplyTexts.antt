@@ -33,7 +33,7 @@ use Rattle.office_tables.proofs.Finding.{ascending, Asks, Means, finds}
 use Rattle.office_rows.specs.declared.row.ReplyRow.{ReplyRow}
 use Rattle.office_rows.specs.Rows.{has_two_texts, reply_row}
 use Rattle.office_rows.specs.Shown.{reply_order, reply_shown}
-use Rattle.office_rows.proofs.Asked.{texts_asked, two_tests}
+use Rattle.office_rows.proofs.Requested.{texts_requested, two_tests}
 
 -- ---- insert_reply
 
@@ -76,7 +76,7 @@ reply_asks params = record { command = refl; listing = refl; plain = (refl, refl
 
 reply_means : (team : List ℕ) (key : List ℕ) → Means values 15 two_tests reply_columns reply_by (Text team ∷ Text key ∷ []) (has_two_texts team key) reply_shown reply_order
 reply_means team key = record {
-  tests_same = texts_asked team key;
+  tests_same = texts_requested team key;
   shows_same = λ r. rw (column_is r 2, column_is r 3, column_is r 4, column_is r 5, column_is r 6) refl;
   orders_same = λ x y. then-Equal _ ∙ rw (column_is x 1, column_is y 1) refl;
 }

@@ -35,7 +35,7 @@ use Rattle.office_rows.specs.declared.row.SigRow.{SigRow}
 use Rattle.office_rows.specs.Mux.{mux_number}
 use Rattle.office_rows.specs.Rows.{has_net_and_number, has_place_of, is_of_net, sig_row}
 use Rattle.office_rows.specs.Shown.{sigs_order, sigs_shown}
-use Rattle.office_rows.proofs.Asked.{net_asked, numbered_asked, one_test, place_asked, three_tests, two_tests}
+use Rattle.office_rows.proofs.Requested.{net_requested, numbered_requested, one_test, place_requested, three_tests, two_tests}
 use Rattle.office_tables.proofs.Counting.{AsksCount, counts}
 use Rattle.sqlite_sql.specs.Aggregate.{count}
 
@@ -81,7 +81,7 @@ pub deletes : (net : List ℕ) (number : ℕ) (old new : State) (r : Result ℕ 
 unfolding office_schema
 deletes net number old new r office ended ran =
     makes delete_text (Text net ∷ Int (pos number) ∷ []) _ _ old new r
-    (removes 10 sig sig_placed sig_only delete_text (Text net ∷ Int (pos number) ∷ []) two_tests (delete_is (Text net ∷ Int (pos number) ∷ [])) delete_plain (has_net_and_number net number) (numbered_asked net number) sig_placed old new office) ended ran
+    (removes 10 sig sig_placed sig_only delete_text (Text net ∷ Int (pos number) ∷ []) two_tests (delete_is (Text net ∷ Int (pos number) ∷ [])) delete_plain (has_net_and_number net number) (numbered_requested net number) sig_placed old new office) ended ran
 
 -- ---- delete_sig_at
 
@@ -101,7 +101,7 @@ pub deletes_at : (net : List ℕ) (number place : ℕ) (old new : State) (r : Re
 unfolding office_schema
 deletes_at net number place old new r office ended ran =
     makes delete_at_text (Text net ∷ Int (pos number) ∷ Int (pos place) ∷ []) _ _ old new r
-    (removes 10 sig sig_placed sig_only delete_at_text (Text net ∷ Int (pos number) ∷ Int (pos place) ∷ []) three_tests (delete_at_is (Text net ∷ Int (pos number) ∷ Int (pos place) ∷ [])) delete_at_plain (has_place_of net number place) (place_asked net number place) sig_placed old new office) ended ran
+    (removes 10 sig sig_placed sig_only delete_at_text (Text net ∷ Int (pos number) ∷ Int (pos place) ∷ []) three_tests (delete_at_is (Text net ∷ Int (pos number) ∷ Int (pos place) ∷ [])) delete_at_plain (has_place_of net number place) (place_requested net number place) sig_placed old new office) ended ran
 
 -- ---- select_sigs
 
@@ -120,7 +120,7 @@ sigs_asks params = record { command = refl; listing = refl; plain = (refl, refl)
 
 sigs_means : (net : List ℕ) (number : ℕ) → Means values 20 two_tests sigs_columns sigs_by (Text net ∷ Int (pos number) ∷ []) (has_net_and_number net number) sigs_shown sigs_order
 sigs_means net number = record {
-  tests_same = numbered_asked net number;
+  tests_same = numbered_requested net number;
   shows_same = λ r. rw (column_is r 2, column_is r 3, column_is r 4, column_is r 5, column_is r 6, column_is r 7, column_is r 8, column_is r 9, column_is r 10, column_is r 11, column_is r 12, column_is r 13, column_is r 14, column_is r 15, column_is r 16) refl;
   orders_same = λ x y. then-Equal _ ∙ rw (column_is x 2, column_is y 2) refl;
 }
@@ -143,7 +143,7 @@ count_asks params = record { command = refl; listing = refl; plain = (refl, refl
 
 pub counted_sigs : {X : Type 0} (rows_of : X → List Row) (net : List ℕ) (old new : State) (r : Result X Error) → old.now.schema ≡ office_schema
     → IfOk r (λ x. Shown count_text (Text net ∷ []) old new (rows_of x)) → IfOk r (λ x. rows_of x ≡ (count (length (filter (is_of_net net) (tables_of old.now.trees).sig)) ∷ []) ∷ [])
-counted_sigs rows_of net = counts count_text 20 one_test (Text net ∷ []) (count_asks (Text net ∷ [])) (is_of_net net) (net_asked net) rows_of
+counted_sigs rows_of net = counts count_text 20 one_test (Text net ∷ []) (count_asks (Text net ∷ [])) (is_of_net net) (net_requested net) rows_of
 
 pub count_plain : (s : Schema) → s ≡ office_schema → IsPlain (understood s count_text)
 count_plain = plain_in count_text (count_asks []).plain

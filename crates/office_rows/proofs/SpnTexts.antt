@@ -33,7 +33,7 @@ use Rattle.office_tables.proofs.Selecting.{query}
 use Rattle.office_tables.proofs.Finding.{ascending, Asks, Means, finds}
 use Rattle.office_rows.specs.Rows.{is_any, is_number, spn_row}
 use Rattle.office_rows.specs.Shown.{spns_order, spns_shown}
-use Rattle.office_rows.proofs.Asked.{key_test, number_asked_alone}
+use Rattle.office_rows.proofs.Requested.{key_test, number_requested_alone}
 
 -- ---- insert_spn
 
@@ -77,7 +77,7 @@ pub delete_spns : (number : ℕ) (old new : State) (r : Result ℕ Error) → Is
 unfolding office_schema
 delete_spns number old new r office ended ran =
     makes delete_spn_text (Int (pos number) ∷ []) _ _ old new r
-    (removes 5 spn spn_placed spn_only delete_spn_text (Int (pos number) ∷ []) key_test (delete_spn_is (Int (pos number) ∷ [])) delete_spn_plain (is_number number) (number_asked_alone number) spn_placed old new office) ended ran
+    (removes 5 spn spn_placed spn_only delete_spn_text (Int (pos number) ∷ []) key_test (delete_spn_is (Int (pos number) ∷ [])) delete_spn_plain (is_number number) (number_requested_alone number) spn_placed old new office) ended ran
 
 -- ---- select_spns
 

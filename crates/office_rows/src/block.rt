@@ -4,7 +4,8 @@ ghost use Rattle.office_tables.specs.Selected.{IsSelected};
 ghost use Rattle.office_rows.specs.Rows.{block_row, is_block, is_of_form, is_of_net};
 ghost use Rattle.office_rows.specs.Shown.{blocks_of_form_order, blocks_of_form_shown, blocks_order, blocks_shown};
 ghost use Rattle.sqlite.specs.Held.{state};
-ghost use Rattle.office_rows.specs.Statement.{AddsNoCommit, ChangesNothing, CommitsNothing, Finds, LeavesNothing, MakesTables};
+ghost use Rattle.office_rows.specs.Statement.{AddsNoCommit, ChangesNothing, CommitsNothing, Finds, LeavesNothing};
+ghost use Rattle.office_rows.specs.Statement.{MakesTables};
 
 use crate::row::BlockRow;
 use sqlite::types::{ToSql, ValueRef};
@@ -16,7 +17,8 @@ pub fn insert_block<S: Alter>(
     row: &BlockRow<'_>,
 ) -> Result<usize, Error>
     ensures same_reference { tx.new.conn.ghost_name ≡ tx.old.conn.ghost_name }
-    ensures added { MakesTables result (state S.Store tx.old.conn.now) (state S.Store tx.new.conn.now) (λ t. record t { block = t.block ++ block_row row.now ∷ [] }) }
+    ensures added { MakesTables result (state S.Store tx.old.conn.now) (state S.Store tx.new.conn.now)
+        (λ t. record t { block = t.block ++ block_row row.now ∷ [] }) }
     ensures rows { Finds result (state S.Store tx.old.conn.now) (state S.Store tx.new.conn.now) (λ rows t. rows ≡ 1) }
     ensures kept { AddsNoCommit (state S.Store tx.old.conn.now) (state S.Store tx.new.conn.now) }
     ensures survives { LeavesNothing (state S.Store tx.old.conn.now) (state S.Store tx.new.conn.now) }
@@ -41,8 +43,10 @@ pub fn delete_block<S: Alter>(
     first: u32,
 ) -> Result<usize, Error>
     ensures same_reference { tx.new.conn.ghost_name ≡ tx.old.conn.ghost_name }
-    ensures removed { MakesTables result (state S.Store tx.old.conn.now) (state S.Store tx.new.conn.now) (λ t. record t { block = filter (λ row. not (is_block net.now form first row)) t.block }) }
-    ensures rows { Finds result (state S.Store tx.old.conn.now) (state S.Store tx.new.conn.now) (λ rows t. rows ≡ length (filter (is_block net.now form first) t.block)) }
+    ensures removed { MakesTables result (state S.Store tx.old.conn.now) (state S.Store tx.new.conn.now)
+        (λ t. record t { block = filter (λ row. not (is_block net.now form first row)) t.block }) }
+    ensures rows { Finds result (state S.Store tx.old.conn.now) (state S.Store tx.new.conn.now)
+        (λ rows t. rows ≡ length (filter (is_block net.now form first) t.block)) }
     ensures kept { AddsNoCommit (state S.Store tx.old.conn.now) (state S.Store tx.new.conn.now) }
     ensures survives { LeavesNothing (state S.Store tx.old.conn.now) (state S.Store tx.new.conn.now) }
 {
@@ -55,7 +59,8 @@ pub fn delete_block<S: Alter>(
 /// The blocks of the network (`form`, `first`, `last`, `team`), in the order of their forms and first numbers.
 pub fn select_blocks<S: Alter>(tx: &mut Transaction<'_, S>, net: &[u8]) -> Result<Vec<Row>, Error>
     ensures same_reference { tx.new.conn.ghost_name ≡ tx.old.conn.ghost_name }
-    ensures found { Finds result (state S.Store tx.old.conn.now) (state S.Store tx.new.conn.now) (λ rows t. IsSelected (is_of_net net.now) blocks_shown blocks_order t.block rows.items) }
+    ensures found { Finds result (state S.Store tx.old.conn.now) (state S.Store tx.new.conn.now)
+        (λ rows t. IsSelected (is_of_net net.now) blocks_shown blocks_order t.block rows.items) }
     ensures same { ChangesNothing result (state S.Store tx.old.conn.now) (state S.Store tx.new.conn.now) }
     ensures kept { CommitsNothing (state S.Store tx.old.conn.now) (state S.Store tx.new.conn.now) }
     ensures survives { LeavesNothing (state S.Store tx.old.conn.now) (state S.Store tx.new.conn.now) }
@@ -66,13 +71,15 @@ pub fn select_blocks<S: Alter>(tx: &mut Transaction<'_, S>, net: &[u8]) -> Resul
     )
 }
 
-/// The blocks of a form on all networks (`net`, `first`, `last`, `team`), in the order of their networks and first numbers.
+/// The blocks of a form on all networks (`net`, `first`, `last`, `team`), in the order of their networks and first
+/// numbers.
 pub fn select_blocks_of_form<S: Alter>(
     tx: &mut Transaction<'_, S>,
     form: u32,
 ) -> Result<Vec<Row>, Error>
     ensures same_reference { tx.new.conn.ghost_name ≡ tx.old.conn.ghost_name }
-    ensures found { Finds result (state S.Store tx.old.conn.now) (state S.Store tx.new.conn.now) (λ rows t. IsSelected (is_of_form form) blocks_of_form_shown blocks_of_form_order t.block rows.items) }
+    ensures found { Finds result (state S.Store tx.old.conn.now) (state S.Store tx.new.conn.now)
+        (λ rows t. IsSelected (is_of_form form) blocks_of_form_shown blocks_of_form_order t.block rows.items) }
     ensures same { ChangesNothing result (state S.Store tx.old.conn.now) (state S.Store tx.new.conn.now) }
     ensures kept { CommitsNothing (state S.Store tx.old.conn.now) (state S.Store tx.new.conn.now) }
     ensures survives { LeavesNothing (state S.Store tx.old.conn.now) (state S.Store tx.new.conn.now) }

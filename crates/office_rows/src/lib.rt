@@ -1,16 +1,17 @@
 //! The statements of the office: one function for each fixed text, over the tables of `office_tables`.
 //!
-//! `insert_..` adds one row, `delete_..` removes the rows of a key or of the beginning of one, and `select_..` reads rows
-//! of one table in the order of its key; `clear_..` removes all rows of a table, and only the carrying over of an earlier
-//! office's tables calls it. A row is changed by removing and adding it. No text changes or removes a release or a reply.
+//! `insert_..` adds one row, `delete_..` removes the rows of a key or of the beginning of one, and `select_..` reads
+//! rows of one table in the order of its key; `clear_..` removes all rows of a table, and only the carrying over of an
+//! earlier office's tables calls it. A row is changed by removing and adding it. No text changes or removes a release
+//! or a reply.
 //!
 //! Each is called in a transaction and binds texts as bytes. On tables that are the office's, its contract gives the
-//! exact tables that it leaves, or the exact rows that it reads; on any other tables it is safe. Each answers `sqlite`'s
-//! error if there is one (memory ran out, the disk failed, a key is there already); then nothing is committed, and
-//! dropping the transaction rolls it back.
+//! exact tables that it leaves, or the exact rows that it reads; on any other tables it is safe. Each answers
+//! `sqlite`'s error if there is one (memory ran out, the disk failed, a key is there already); then nothing is
+//! committed, and dropping the transaction rolls it back.
 //!
-//! The definitions are in `specs/`: `Rows.antt` (rows by the names of their columns, and which rows a text asks for) and
-//! `Shown.antt` (which columns a SELECT shows, and its order).
+//! The definitions are in `specs/`: `Rows.antt` (rows by the names of their columns, and which rows a text asks for)
+//! and `Shown.antt` (which columns a SELECT shows, and its order).
 #![tactic(auto)]
 
 mod approval;

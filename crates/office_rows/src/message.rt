@@ -4,7 +4,8 @@ ghost use Rattle.office_tables.specs.Selected.{IsSelected};
 ghost use Rattle.office_rows.specs.Rows.{has_net_and_number, is_of_net, message_row};
 ghost use Rattle.office_rows.specs.Shown.{messages_order, messages_shown};
 ghost use Rattle.sqlite.specs.Held.{state};
-ghost use Rattle.office_rows.specs.Statement.{AddsNoCommit, ChangesNothing, CommitsNothing, Finds, LeavesNothing, MakesTables};
+ghost use Rattle.office_rows.specs.Statement.{AddsNoCommit, ChangesNothing, CommitsNothing, Finds, LeavesNothing};
+ghost use Rattle.office_rows.specs.Statement.{MakesTables};
 
 use crate::row::MessageRow;
 use sqlite::types::{ToSql, ValueRef};
@@ -16,7 +17,8 @@ pub fn insert_message<S: Alter>(
     row: &MessageRow<'_>,
 ) -> Result<usize, Error>
     ensures same_reference { tx.new.conn.ghost_name ≡ tx.old.conn.ghost_name }
-    ensures added { MakesTables result (state S.Store tx.old.conn.now) (state S.Store tx.new.conn.now) (λ t. record t { message = t.message ++ message_row row.now ∷ [] }) }
+    ensures added { MakesTables result (state S.Store tx.old.conn.now) (state S.Store tx.new.conn.now)
+        (λ t. record t { message = t.message ++ message_row row.now ∷ [] }) }
     ensures rows { Finds result (state S.Store tx.old.conn.now) (state S.Store tx.new.conn.now) (λ rows t. rows ≡ 1) }
     ensures kept { AddsNoCommit (state S.Store tx.old.conn.now) (state S.Store tx.new.conn.now) }
     ensures survives { LeavesNothing (state S.Store tx.old.conn.now) (state S.Store tx.new.conn.now) }
@@ -40,8 +42,10 @@ pub fn delete_message<S: Alter>(
     number: u32,
 ) -> Result<usize, Error>
     ensures same_reference { tx.new.conn.ghost_name ≡ tx.old.conn.ghost_name }
-    ensures removed { MakesTables result (state S.Store tx.old.conn.now) (state S.Store tx.new.conn.now) (λ t. record t { message = filter (λ row. not (has_net_and_number net.now number row)) t.message }) }
-    ensures rows { Finds result (state S.Store tx.old.conn.now) (state S.Store tx.new.conn.now) (λ rows t. rows ≡ length (filter (has_net_and_number net.now number) t.message)) }
+    ensures removed { MakesTables result (state S.Store tx.old.conn.now) (state S.Store tx.new.conn.now)
+        (λ t. record t { message = filter (λ row. not (has_net_and_number net.now number row)) t.message }) }
+    ensures rows { Finds result (state S.Store tx.old.conn.now) (state S.Store tx.new.conn.now)
+        (λ rows t. rows ≡ length (filter (has_net_and_number net.now number) t.message)) }
     ensures kept { AddsNoCommit (state S.Store tx.old.conn.now) (state S.Store tx.new.conn.now) }
     ensures survives { LeavesNothing (state S.Store tx.old.conn.now) (state S.Store tx.new.conn.now) }
 {
@@ -54,18 +58,22 @@ pub fn delete_message<S: Alter>(
 /// Removes all messages of all networks. Gives how many rows it removed.
 pub fn clear_messages<S: Alter>(tx: &mut Transaction<'_, S>) -> Result<usize, Error>
     ensures same_reference { tx.new.conn.ghost_name ≡ tx.old.conn.ghost_name }
-    ensures removed { MakesTables result (state S.Store tx.old.conn.now) (state S.Store tx.new.conn.now) (λ t. record t { message = [] }) }
-    ensures rows { Finds result (state S.Store tx.old.conn.now) (state S.Store tx.new.conn.now) (λ rows t. rows ≡ length t.message) }
+    ensures removed { MakesTables result (state S.Store tx.old.conn.now) (state S.Store tx.new.conn.now)
+        (λ t. record t { message = [] }) }
+    ensures rows { Finds result (state S.Store tx.old.conn.now) (state S.Store tx.new.conn.now)
+        (λ rows t. rows ≡ length t.message) }
     ensures kept { AddsNoCommit (state S.Store tx.old.conn.now) (state S.Store tx.new.conn.now) }
     ensures survives { LeavesNothing (state S.Store tx.old.conn.now) (state S.Store tx.new.conn.now) }
 {
     tx.execute("DELETE FROM message", &[])
 }
 
-/// The live messages of the network (`owner`, `body`; the body has the number and the name), in the order of their numbers.
+/// The live messages of the network (`owner`, `body`; the body has the number and the name), in the order of their
+/// numbers.
 pub fn select_messages<S: Alter>(tx: &mut Transaction<'_, S>, net: &[u8]) -> Result<Vec<Row>, Error>
     ensures same_reference { tx.new.conn.ghost_name ≡ tx.old.conn.ghost_name }
-    ensures found { Finds result (state S.Store tx.old.conn.now) (state S.Store tx.new.conn.now) (λ rows t. IsSelected (is_of_net net.now) messages_shown messages_order t.message rows.items) }
+    ensures found { Finds result (state S.Store tx.old.conn.now) (state S.Store tx.new.conn.now)
+        (λ rows t. IsSelected (is_of_net net.now) messages_shown messages_order t.message rows.items) }
     ensures same { ChangesNothing result (state S.Store tx.old.conn.now) (state S.Store tx.new.conn.now) }
     ensures kept { CommitsNothing (state S.Store tx.old.conn.now) (state S.Store tx.new.conn.now) }
     ensures survives { LeavesNothing (state S.Store tx.old.conn.now) (state S.Store tx.new.conn.now) }

@@ -5,7 +5,8 @@ ghost use Rattle.office_rows.specs.Rows.{has_net_and_number, has_place_of, is_of
 ghost use Rattle.office_rows.specs.Shown.{receivers_order, receivers_shown};
 ghost use Rattle.sqlite_sql.specs.Aggregate.{count};
 ghost use Rattle.sqlite.specs.Held.{state};
-ghost use Rattle.office_rows.specs.Statement.{AddsNoCommit, ChangesNothing, CommitsNothing, Finds, LeavesNothing, MakesTables};
+ghost use Rattle.office_rows.specs.Statement.{AddsNoCommit, ChangesNothing, CommitsNothing, Finds, LeavesNothing};
+ghost use Rattle.office_rows.specs.Statement.{MakesTables};
 
 use crate::row::ReceiverRow;
 use sqlite::types::{ToSql, ValueRef};
@@ -17,7 +18,8 @@ pub fn insert_receiver<S: Alter>(
     row: &ReceiverRow<'_>,
 ) -> Result<usize, Error>
     ensures same_reference { tx.new.conn.ghost_name ≡ tx.old.conn.ghost_name }
-    ensures added { MakesTables result (state S.Store tx.old.conn.now) (state S.Store tx.new.conn.now) (λ t. record t { receiver = t.receiver ++ receiver_row row.now ∷ [] }) }
+    ensures added { MakesTables result (state S.Store tx.old.conn.now) (state S.Store tx.new.conn.now)
+        (λ t. record t { receiver = t.receiver ++ receiver_row row.now ∷ [] }) }
     ensures rows { Finds result (state S.Store tx.old.conn.now) (state S.Store tx.new.conn.now) (λ rows t. rows ≡ 1) }
     ensures kept { AddsNoCommit (state S.Store tx.old.conn.now) (state S.Store tx.new.conn.now) }
     ensures survives { LeavesNothing (state S.Store tx.old.conn.now) (state S.Store tx.new.conn.now) }
@@ -41,8 +43,10 @@ pub fn delete_receivers<S: Alter>(
     number: u32,
 ) -> Result<usize, Error>
     ensures same_reference { tx.new.conn.ghost_name ≡ tx.old.conn.ghost_name }
-    ensures removed { MakesTables result (state S.Store tx.old.conn.now) (state S.Store tx.new.conn.now) (λ t. record t { receiver = filter (λ row. not (has_net_and_number net.now number row)) t.receiver }) }
-    ensures rows { Finds result (state S.Store tx.old.conn.now) (state S.Store tx.new.conn.now) (λ rows t. rows ≡ length (filter (has_net_and_number net.now number) t.receiver)) }
+    ensures removed { MakesTables result (state S.Store tx.old.conn.now) (state S.Store tx.new.conn.now)
+        (λ t. record t { receiver = filter (λ row. not (has_net_and_number net.now number row)) t.receiver }) }
+    ensures rows { Finds result (state S.Store tx.old.conn.now) (state S.Store tx.new.conn.now)
+        (λ rows t. rows ≡ length (filter (has_net_and_number net.now number) t.receiver)) }
     ensures kept { AddsNoCommit (state S.Store tx.old.conn.now) (state S.Store tx.new.conn.now) }
     ensures survives { LeavesNothing (state S.Store tx.old.conn.now) (state S.Store tx.new.conn.now) }
 {
@@ -52,7 +56,8 @@ pub fn delete_receivers<S: Alter>(
     )
 }
 
-/// Removes the rows of the signal at the place of the network's message with the number. Gives how many rows it removed.
+/// Removes the rows of the signal at the place of the network's message with the number. Gives how many rows it
+/// removed.
 pub fn delete_receivers_at<S: Alter>(
     tx: &mut Transaction<'_, S>,
     net: &[u8],
@@ -60,8 +65,10 @@ pub fn delete_receivers_at<S: Alter>(
     place: u32,
 ) -> Result<usize, Error>
     ensures same_reference { tx.new.conn.ghost_name ≡ tx.old.conn.ghost_name }
-    ensures removed { MakesTables result (state S.Store tx.old.conn.now) (state S.Store tx.new.conn.now) (λ t. record t { receiver = filter (λ row. not (has_place_of net.now number place row)) t.receiver }) }
-    ensures rows { Finds result (state S.Store tx.old.conn.now) (state S.Store tx.new.conn.now) (λ rows t. rows ≡ length (filter (has_place_of net.now number place) t.receiver)) }
+    ensures removed { MakesTables result (state S.Store tx.old.conn.now) (state S.Store tx.new.conn.now)
+        (λ t. record t { receiver = filter (λ row. not (has_place_of net.now number place row)) t.receiver }) }
+    ensures rows { Finds result (state S.Store tx.old.conn.now) (state S.Store tx.new.conn.now)
+        (λ rows t. rows ≡ length (filter (has_place_of net.now number place) t.receiver)) }
     ensures kept { AddsNoCommit (state S.Store tx.old.conn.now) (state S.Store tx.new.conn.now) }
     ensures survives { LeavesNothing (state S.Store tx.old.conn.now) (state S.Store tx.new.conn.now) }
 {
@@ -71,14 +78,17 @@ pub fn delete_receivers_at<S: Alter>(
     )
 }
 
-/// The receivers of the signals of the network's message with the number (`place`, `name`), in the order of the signals' places and then of their own.
+/// The receivers of the signals of the network's message with the number (`place`, `name`), in the order of the
+/// signals' places and then of their own.
 pub fn select_receivers<S: Alter>(
     tx: &mut Transaction<'_, S>,
     net: &[u8],
     number: u32,
 ) -> Result<Vec<Row>, Error>
     ensures same_reference { tx.new.conn.ghost_name ≡ tx.old.conn.ghost_name }
-    ensures found { Finds result (state S.Store tx.old.conn.now) (state S.Store tx.new.conn.now) (λ rows t. IsSelected (has_net_and_number net.now number) receivers_shown receivers_order t.receiver rows.items) }
+    ensures found { Finds result (state S.Store tx.old.conn.now) (state S.Store tx.new.conn.now)
+        (λ rows t. IsSelected
+        (has_net_and_number net.now number) receivers_shown receivers_order t.receiver rows.items) }
     ensures same { ChangesNothing result (state S.Store tx.old.conn.now) (state S.Store tx.new.conn.now) }
     ensures kept { CommitsNothing (state S.Store tx.old.conn.now) (state S.Store tx.new.conn.now) }
     ensures survives { LeavesNothing (state S.Store tx.old.conn.now) (state S.Store tx.new.conn.now) }
@@ -92,7 +102,8 @@ pub fn select_receivers<S: Alter>(
 /// How many receivers the signals of the network's live messages have, as one row of one number.
 pub fn count_receivers<S: Alter>(tx: &mut Transaction<'_, S>, net: &[u8]) -> Result<Vec<Row>, Error>
     ensures same_reference { tx.new.conn.ghost_name ≡ tx.old.conn.ghost_name }
-    ensures found { Finds result (state S.Store tx.old.conn.now) (state S.Store tx.new.conn.now) (λ rows t. rows.items ≡ (count (length (filter (is_of_net net.now) t.receiver)) ∷ []) ∷ []) }
+    ensures found { Finds result (state S.Store tx.old.conn.now) (state S.Store tx.new.conn.now)
+        (λ rows t. rows.items ≡ (count (length (filter (is_of_net net.now) t.receiver)) ∷ []) ∷ []) }
     ensures same { ChangesNothing result (state S.Store tx.old.conn.now) (state S.Store tx.new.conn.now) }
     ensures kept { CommitsNothing (state S.Store tx.old.conn.now) (state S.Store tx.new.conn.now) }
     ensures survives { LeavesNothing (state S.Store tx.old.conn.now) (state S.Store tx.new.conn.now) }

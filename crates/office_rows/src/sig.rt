@@ -5,7 +5,8 @@ ghost use Rattle.office_rows.specs.Rows.{has_net_and_number, has_place_of, is_of
 ghost use Rattle.office_rows.specs.Shown.{sigs_order, sigs_shown};
 ghost use Rattle.sqlite_sql.specs.Aggregate.{count};
 ghost use Rattle.sqlite.specs.Held.{state};
-ghost use Rattle.office_rows.specs.Statement.{AddsNoCommit, ChangesNothing, CommitsNothing, Finds, LeavesNothing, MakesTables};
+ghost use Rattle.office_rows.specs.Statement.{AddsNoCommit, ChangesNothing, CommitsNothing, Finds, LeavesNothing};
+ghost use Rattle.office_rows.specs.Statement.{MakesTables};
 
 use crate::row::SigRow;
 use sqlite::types::{ToSql, ValueRef};
@@ -14,7 +15,8 @@ use sqlite::{Alter, Error, Row, Transaction};
 /// Adds a signal of a live message, without its receivers and value texts. Gives 1. An error where its key is there.
 pub fn insert_sig<S: Alter>(tx: &mut Transaction<'_, S>, row: &SigRow<'_>) -> Result<usize, Error>
     ensures same_reference { tx.new.conn.ghost_name ≡ tx.old.conn.ghost_name }
-    ensures added { MakesTables result (state S.Store tx.old.conn.now) (state S.Store tx.new.conn.now) (λ t. record t { sig = t.sig ++ sig_row row.now ∷ [] }) }
+    ensures added { MakesTables result (state S.Store tx.old.conn.now) (state S.Store tx.new.conn.now)
+        (λ t. record t { sig = t.sig ++ sig_row row.now ∷ [] }) }
     ensures rows { Finds result (state S.Store tx.old.conn.now) (state S.Store tx.new.conn.now) (λ rows t. rows ≡ 1) }
     ensures kept { AddsNoCommit (state S.Store tx.old.conn.now) (state S.Store tx.new.conn.now) }
     ensures survives { LeavesNothing (state S.Store tx.old.conn.now) (state S.Store tx.new.conn.now) }
@@ -50,8 +52,10 @@ pub fn delete_sigs<S: Alter>(
     number: u32,
 ) -> Result<usize, Error>
     ensures same_reference { tx.new.conn.ghost_name ≡ tx.old.conn.ghost_name }
-    ensures removed { MakesTables result (state S.Store tx.old.conn.now) (state S.Store tx.new.conn.now) (λ t. record t { sig = filter (λ row. not (has_net_and_number net.now number row)) t.sig }) }
-    ensures rows { Finds result (state S.Store tx.old.conn.now) (state S.Store tx.new.conn.now) (λ rows t. rows ≡ length (filter (has_net_and_number net.now number) t.sig)) }
+    ensures removed { MakesTables result (state S.Store tx.old.conn.now) (state S.Store tx.new.conn.now)
+        (λ t. record t { sig = filter (λ row. not (has_net_and_number net.now number row)) t.sig }) }
+    ensures rows { Finds result (state S.Store tx.old.conn.now) (state S.Store tx.new.conn.now)
+        (λ rows t. rows ≡ length (filter (has_net_and_number net.now number) t.sig)) }
     ensures kept { AddsNoCommit (state S.Store tx.old.conn.now) (state S.Store tx.new.conn.now) }
     ensures survives { LeavesNothing (state S.Store tx.old.conn.now) (state S.Store tx.new.conn.now) }
 {
@@ -61,7 +65,8 @@ pub fn delete_sigs<S: Alter>(
     )
 }
 
-/// Removes the rows of the signal at the place of the network's message with the number. Gives how many rows it removed.
+/// Removes the rows of the signal at the place of the network's message with the number. Gives how many rows it
+/// removed.
 pub fn delete_sig_at<S: Alter>(
     tx: &mut Transaction<'_, S>,
     net: &[u8],
@@ -69,8 +74,10 @@ pub fn delete_sig_at<S: Alter>(
     place: u32,
 ) -> Result<usize, Error>
     ensures same_reference { tx.new.conn.ghost_name ≡ tx.old.conn.ghost_name }
-    ensures removed { MakesTables result (state S.Store tx.old.conn.now) (state S.Store tx.new.conn.now) (λ t. record t { sig = filter (λ row. not (has_place_of net.now number place row)) t.sig }) }
-    ensures rows { Finds result (state S.Store tx.old.conn.now) (state S.Store tx.new.conn.now) (λ rows t. rows ≡ length (filter (has_place_of net.now number place) t.sig)) }
+    ensures removed { MakesTables result (state S.Store tx.old.conn.now) (state S.Store tx.new.conn.now)
+        (λ t. record t { sig = filter (λ row. not (has_place_of net.now number place row)) t.sig }) }
+    ensures rows { Finds result (state S.Store tx.old.conn.now) (state S.Store tx.new.conn.now)
+        (λ rows t. rows ≡ length (filter (has_place_of net.now number place) t.sig)) }
     ensures kept { AddsNoCommit (state S.Store tx.old.conn.now) (state S.Store tx.new.conn.now) }
     ensures survives { LeavesNothing (state S.Store tx.old.conn.now) (state S.Store tx.new.conn.now) }
 {
@@ -80,14 +87,16 @@ pub fn delete_sig_at<S: Alter>(
     )
 }
 
-/// The signals of the network's message with the number, in the order of their places: all columns but `net` and `number`.
+/// The signals of the network's message with the number, in the order of their places: all columns but `net` and
+/// `number`.
 pub fn select_sigs<S: Alter>(
     tx: &mut Transaction<'_, S>,
     net: &[u8],
     number: u32,
 ) -> Result<Vec<Row>, Error>
     ensures same_reference { tx.new.conn.ghost_name ≡ tx.old.conn.ghost_name }
-    ensures found { Finds result (state S.Store tx.old.conn.now) (state S.Store tx.new.conn.now) (λ rows t. IsSelected (has_net_and_number net.now number) sigs_shown sigs_order t.sig rows.items) }
+    ensures found { Finds result (state S.Store tx.old.conn.now) (state S.Store tx.new.conn.now)
+        (λ rows t. IsSelected (has_net_and_number net.now number) sigs_shown sigs_order t.sig rows.items) }
     ensures same { ChangesNothing result (state S.Store tx.old.conn.now) (state S.Store tx.new.conn.now) }
     ensures kept { CommitsNothing (state S.Store tx.old.conn.now) (state S.Store tx.new.conn.now) }
     ensures survives { LeavesNothing (state S.Store tx.old.conn.now) (state S.Store tx.new.conn.now) }
@@ -101,7 +110,8 @@ pub fn select_sigs<S: Alter>(
 /// How many signals the network's live messages have, as one row of one number.
 pub fn count_sigs<S: Alter>(tx: &mut Transaction<'_, S>, net: &[u8]) -> Result<Vec<Row>, Error>
     ensures same_reference { tx.new.conn.ghost_name ≡ tx.old.conn.ghost_name }
-    ensures found { Finds result (state S.Store tx.old.conn.now) (state S.Store tx.new.conn.now) (λ rows t. rows.items ≡ (count (length (filter (is_of_net net.now) t.sig)) ∷ []) ∷ []) }
+    ensures found { Finds result (state S.Store tx.old.conn.now) (state S.Store tx.new.conn.now)
+        (λ rows t. rows.items ≡ (count (length (filter (is_of_net net.now) t.sig)) ∷ []) ∷ []) }
     ensures same { ChangesNothing result (state S.Store tx.old.conn.now) (state S.Store tx.new.conn.now) }
     ensures kept { CommitsNothing (state S.Store tx.old.conn.now) (state S.Store tx.new.conn.now) }
     ensures survives { LeavesNothing (state S.Store tx.old.conn.now) (state S.Store tx.new.conn.now) }

@@ -5,7 +5,8 @@ ghost use Rattle.office_rows.specs.Rows.{has_net_and_number, has_place_of, is_of
 ghost use Rattle.office_rows.specs.Shown.{sigvalues_order, sigvalues_shown};
 ghost use Rattle.sqlite_sql.specs.Aggregate.{count};
 ghost use Rattle.sqlite.specs.Held.{state};
-ghost use Rattle.office_rows.specs.Statement.{AddsNoCommit, ChangesNothing, CommitsNothing, Finds, LeavesNothing, MakesTables};
+ghost use Rattle.office_rows.specs.Statement.{AddsNoCommit, ChangesNothing, CommitsNothing, Finds, LeavesNothing};
+ghost use Rattle.office_rows.specs.Statement.{MakesTables};
 
 use crate::row::SigValueRow;
 use sqlite::types::{ToSql, ValueRef};
@@ -17,7 +18,8 @@ pub fn insert_sigvalue<S: Alter>(
     row: &SigValueRow<'_>,
 ) -> Result<usize, Error>
     ensures same_reference { tx.new.conn.ghost_name ≡ tx.old.conn.ghost_name }
-    ensures added { MakesTables result (state S.Store tx.old.conn.now) (state S.Store tx.new.conn.now) (λ t. record t { sigvalue = t.sigvalue ++ sigvalue_row row.now ∷ [] }) }
+    ensures added { MakesTables result (state S.Store tx.old.conn.now) (state S.Store tx.new.conn.now)
+        (λ t. record t { sigvalue = t.sigvalue ++ sigvalue_row row.now ∷ [] }) }
     ensures rows { Finds result (state S.Store tx.old.conn.now) (state S.Store tx.new.conn.now) (λ rows t. rows ≡ 1) }
     ensures kept { AddsNoCommit (state S.Store tx.old.conn.now) (state S.Store tx.new.conn.now) }
     ensures survives { LeavesNothing (state S.Store tx.old.conn.now) (state S.Store tx.new.conn.now) }
@@ -42,8 +44,10 @@ pub fn delete_sigvalues<S: Alter>(
     number: u32,
 ) -> Result<usize, Error>
     ensures same_reference { tx.new.conn.ghost_name ≡ tx.old.conn.ghost_name }
-    ensures removed { MakesTables result (state S.Store tx.old.conn.now) (state S.Store tx.new.conn.now) (λ t. record t { sigvalue = filter (λ row. not (has_net_and_number net.now number row)) t.sigvalue }) }
-    ensures rows { Finds result (state S.Store tx.old.conn.now) (state S.Store tx.new.conn.now) (λ rows t. rows ≡ length (filter (has_net_and_number net.now number) t.sigvalue)) }
+    ensures removed { MakesTables result (state S.Store tx.old.conn.now) (state S.Store tx.new.conn.now)
+        (λ t. record t { sigvalue = filter (λ row. not (has_net_and_number net.now number row)) t.sigvalue }) }
+    ensures rows { Finds result (state S.Store tx.old.conn.now) (state S.Store tx.new.conn.now)
+        (λ rows t. rows ≡ length (filter (has_net_and_number net.now number) t.sigvalue)) }
     ensures kept { AddsNoCommit (state S.Store tx.old.conn.now) (state S.Store tx.new.conn.now) }
     ensures survives { LeavesNothing (state S.Store tx.old.conn.now) (state S.Store tx.new.conn.now) }
 {
@@ -53,7 +57,8 @@ pub fn delete_sigvalues<S: Alter>(
     )
 }
 
-/// Removes the rows of the signal at the place of the network's message with the number. Gives how many rows it removed.
+/// Removes the rows of the signal at the place of the network's message with the number. Gives how many rows it
+/// removed.
 pub fn delete_sigvalues_at<S: Alter>(
     tx: &mut Transaction<'_, S>,
     net: &[u8],
@@ -61,8 +66,10 @@ pub fn delete_sigvalues_at<S: Alter>(
     place: u32,
 ) -> Result<usize, Error>
     ensures same_reference { tx.new.conn.ghost_name ≡ tx.old.conn.ghost_name }
-    ensures removed { MakesTables result (state S.Store tx.old.conn.now) (state S.Store tx.new.conn.now) (λ t. record t { sigvalue = filter (λ row. not (has_place_of net.now number place row)) t.sigvalue }) }
-    ensures rows { Finds result (state S.Store tx.old.conn.now) (state S.Store tx.new.conn.now) (λ rows t. rows ≡ length (filter (has_place_of net.now number place) t.sigvalue)) }
+    ensures removed { MakesTables result (state S.Store tx.old.conn.now) (state S.Store tx.new.conn.now)
+        (λ t. record t { sigvalue = filter (λ row. not (has_place_of net.now number place row)) t.sigvalue }) }
+    ensures rows { Finds result (state S.Store tx.old.conn.now) (state S.Store tx.new.conn.now)
+        (λ rows t. rows ≡ length (filter (has_place_of net.now number place) t.sigvalue)) }
     ensures kept { AddsNoCommit (state S.Store tx.old.conn.now) (state S.Store tx.new.conn.now) }
     ensures survives { LeavesNothing (state S.Store tx.old.conn.now) (state S.Store tx.new.conn.now) }
 {
@@ -72,14 +79,17 @@ pub fn delete_sigvalues_at<S: Alter>(
     )
 }
 
-/// The value texts of the signals of the network's message with the number (`place`, `value`, `words`), in the order of the signals' places and then of their own.
+/// The value texts of the signals of the network's message with the number (`place`, `value`, `words`), in the order of
+/// the signals' places and then of their own.
 pub fn select_sigvalues<S: Alter>(
     tx: &mut Transaction<'_, S>,
     net: &[u8],
     number: u32,
 ) -> Result<Vec<Row>, Error>
     ensures same_reference { tx.new.conn.ghost_name ≡ tx.old.conn.ghost_name }
-    ensures found { Finds result (state S.Store tx.old.conn.now) (state S.Store tx.new.conn.now) (λ rows t. IsSelected (has_net_and_number net.now number) sigvalues_shown sigvalues_order t.sigvalue rows.items) }
+    ensures found { Finds result (state S.Store tx.old.conn.now) (state S.Store tx.new.conn.now)
+        (λ rows t. IsSelected
+        (has_net_and_number net.now number) sigvalues_shown sigvalues_order t.sigvalue rows.items) }
     ensures same { ChangesNothing result (state S.Store tx.old.conn.now) (state S.Store tx.new.conn.now) }
     ensures kept { CommitsNothing (state S.Store tx.old.conn.now) (state S.Store tx.new.conn.now) }
     ensures survives { LeavesNothing (state S.Store tx.old.conn.now) (state S.Store tx.new.conn.now) }
@@ -93,7 +103,8 @@ pub fn select_sigvalues<S: Alter>(
 /// How many value texts the signals of the network's live messages have, as one row of one number.
 pub fn count_sigvalues<S: Alter>(tx: &mut Transaction<'_, S>, net: &[u8]) -> Result<Vec<Row>, Error>
     ensures same_reference { tx.new.conn.ghost_name ≡ tx.old.conn.ghost_name }
-    ensures found { Finds result (state S.Store tx.old.conn.now) (state S.Store tx.new.conn.now) (λ rows t. rows.items ≡ (count (length (filter (is_of_net net.now) t.sigvalue)) ∷ []) ∷ []) }
+    ensures found { Finds result (state S.Store tx.old.conn.now) (state S.Store tx.new.conn.now)
+        (λ rows t. rows.items ≡ (count (length (filter (is_of_net net.now) t.sigvalue)) ∷ []) ∷ []) }
     ensures same { ChangesNothing result (state S.Store tx.old.conn.now) (state S.Store tx.new.conn.now) }
     ensures kept { CommitsNothing (state S.Store tx.old.conn.now) (state S.Store tx.new.conn.now) }
     ensures survives { LeavesNothing (state S.Store tx.old.conn.now) (state S.Store tx.new.conn.now) }

@@ -30,18 +30,18 @@ use Rattle.office_rules.specs.Importing.{FileReading, Reading}
 use Rattle.office_rules.specs.Outcome.{reply_of}
 use Rattle.office_rules.specs.Step.{step_outcome, office_after}
 
--- a team's command, and what its file comes to
-pub record Asked : Type 0 where
+-- a team's command, and what its file reads as
+pub record Requested : Type 0 where
   pub team : List ℕ
   pub reading : FileReading
   pub command : Command
 
-abbrev pub replies_to : Office → List Asked → List Reply
+abbrev pub replies_to : Office → List Requested → List Reply
 replies_to o [] = []
 replies_to o (q ∷ qs) =
     reply_of (step_outcome o q.team q.reading q.command) ∷ replies_to (office_after o (step_outcome o q.team q.reading q.command)) qs
 
-abbrev pub left_by : Office → List Asked → Office
+abbrev pub left_by : Office → List Requested → Office
 left_by o [] = o
 left_by o (q ∷ qs) = left_by (office_after o (step_outcome o q.team q.reading q.command)) qs
 
@@ -60,39 +60,39 @@ truck = codes "truck"
 abbrev pub bus : List ℕ
 bus = codes "bus"
 
-abbrev pub asks : List ℕ → Action → Asked
+abbrev pub asks : List ℕ → Action → Requested
 asks team action = record { team = team; reading = Reading empty_sheet; command = record { net = truck; task = Act action } }
 
-abbrev pub imports : List ℕ → Sheet → Asked
+abbrev pub imports : List ℕ → Sheet → Requested
 imports team s = record { team = team; reading = Reading s; command = record { net = truck; task = Import [] } }
 
 -- the same request on the other network
-abbrev pub on_bus : Asked → Asked
+abbrev pub on_bus : Requested → Requested
 on_bus q = record q { command = record q.command { net = bus } }
 
-abbrev pub opens : NetKind → ℕ → Asked
+abbrev pub opens : NetKind → ℕ → Requested
 opens kind reviews = asks office (act.OpenNet (record { kind = kind; reviews = reviews }))
 
-abbrev pub grants : List ℕ → BlockForm → ℕ → ℕ → Asked
+abbrev pub grants : List ℕ → BlockForm → ℕ → ℕ → Requested
 grants team form first last = asks office (act.Grant (record { team = team; block = record { form = form; first = first; last = last } }))
 
 -- a network with a block of three identifiers
-abbrev pub setup : List Asked → List Asked
+abbrev pub setup : List Requested → List Requested
 setup qs = opens Can 0 ∷ grants engine block.Std 256 258 ∷ qs
 
-abbrev pub adds : List ℕ → Asked
+abbrev pub adds : List ℕ → Requested
 adds node = asks office (act.AddNode node)
 
 abbrev pub named : List ℕ → NewMessage
 named name = record { name = name; length = 8; node = None }
 
-abbrev pub takes : List ℕ → List ℕ → Option ℕ → Asked
+abbrev pub takes : List ℕ → List ℕ → Option ℕ → Requested
 takes team name want = asks team (act.TakeIdent (record { form = Standard; message = named name; want = want }))
 
-abbrev pub takes_ext : List ℕ → Option ℕ → Asked
+abbrev pub takes_ext : List ℕ → Option ℕ → Requested
 takes_ext name want = asks engine (act.TakeIdent (record { form = Extended; message = named name; want = want }))
 
-abbrev pub takes_group : List ℕ → Pdu → Asked
+abbrev pub takes_group : List ℕ → Pdu → Requested
 takes_group name pdu = asks engine (act.TakePgn (record { message = named name; pdu = pdu; priority = 6; source = 0 }))
 
 abbrev pub path : List ℕ → List ℕ → SignalPath
@@ -117,25 +117,25 @@ bits signal size order mux start = record {
   start = start;
 }
 
-abbrev pub takes_bits : List ℕ → ℕ → Order → Mux → Option ℕ → Asked
+abbrev pub takes_bits : List ℕ → ℕ → Order → Mux → Option ℕ → Requested
 takes_bits signal size order mux start = asks engine (act.TakeBits (bits signal size order mux start))
 
-abbrev pub takes_spn : List ℕ → Option ℕ → Asked
+abbrev pub takes_spn : List ℕ → Option ℕ → Requested
 takes_spn signal same = asks engine (act.TakeSpn (record { path = path (codes "E1") signal; same = same }))
 
 abbrev pub message : Ident → List ℕ → List Signal → Message
 message i name signals = record { ident = i; name = name; length = 8; transmitter = None; comment = []; signals = signals }
 
-abbrev pub sets_values : List ℕ → List ValueText → Asked
+abbrev pub sets_values : List ℕ → List ValueText → Requested
 sets_values signal values = asks engine (act.SetValues (record { path = path (codes "E1") signal; values = values }))
 
-abbrev pub removes : List ℕ → Asked
+abbrev pub removes : List ℕ → Requested
 removes signal = asks engine (act.RemoveSignal (path (codes "E1") signal))
 
-abbrev asked_action : Task → Action
-asked_action (Act a) = a
-asked_action task = act.Submit
+abbrev requested_action : Task → Action
+requested_action (Act a) = a
+requested_action task = act.Submit
 
 -- the requests as one bundle
-abbrev pub bundles : List ℕ → List Asked → Asked
-bundles team qs = record { team = team; reading = Reading empty_sheet; command = record { net = truck; task = Bundle (map (λ q. asked_action q.command.task) qs) } }
+abbrev pub bundles : List ℕ → List Requested → Requested
+bundles team qs = record { team = team; reading = Reading empty_sheet; command = record { net = truck; task = Bundle (map (λ q. requested_action q.command.task) qs) } }

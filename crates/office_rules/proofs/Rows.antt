@@ -37,7 +37,7 @@ use Rattle.office_rules.specs.Change.{Fits, HaveOwnBlocks, net_changed}
 use Rattle.office_rules.specs.Opening.{bare_net}
 use Rattle.office_rules.specs.Signals.{new_signal}
 use Rattle.office_rules.specs.Step.{opening}
-use Rattle.office_rules.proofs.Asking.{Asked, adds, asks, bits, brake, bundles, engine, grants, imports, left_by, message, named, number, office, on_bus, opens, path, removes, replies_to, sets_values, setup, takes, takes_bits, takes_ext, takes_group, takes_spn, truck}
+use Rattle.office_rules.proofs.Asking.{Requested, adds, asks, bits, brake, bundles, engine, grants, imports, left_by, message, named, number, office, on_bus, opens, path, removes, replies_to, sets_values, setup, takes, takes_bits, takes_ext, takes_group, takes_spn, truck}
 
 full : replies_to opening (setup (takes engine (codes "E1") None ∷ takes engine (codes "E2") None ∷ takes engine (codes "E3") None ∷ takes engine (codes "E4") None ∷ []))
     ≡ Done ∷ Done ∷ Number 256 ∷ Number 257 ∷ Number 258 ∷ Refused no.BlockFull ∷ []
@@ -151,7 +151,7 @@ opened_twice = refl
 abbrev node_names : List Net → List (List (List ℕ))
 node_names nets = map (λ net. map node_name net.head.frame.nodes) nets
 
-abbrev from_ecu : Asked
+abbrev from_ecu : Requested
 from_ecu = asks engine (act.TakeIdent (record { form = Standard; message = record (named (codes "E1")) { node = Some (codes "ECU") }; want = None }))
 
 nodes_added : replies_to opening (setup (
@@ -234,7 +234,7 @@ approvals_left = refl
 
 -- Signals: a message, four signals of it, and what is refused after them.
 
-abbrev with_bits : List Asked → List Asked
+abbrev with_bits : List Requested → List Requested
 with_bits qs =
     opens Can 0
     ∷ grants engine block.Std 256 258
@@ -284,7 +284,7 @@ signals_refused : replies_to opening (with_bits (
 unfolding walk shares_bit is_inside clash_after first_answer
 signals_refused = refl
 
-abbrev received : Asked
+abbrev received : Requested
 received = asks engine (act.TakeBits (record (bits (codes "S") 4 Intel Always None) { receivers = codes "Dash" ∷ [] }))
 
 receiver_wanted : replies_to opening (setup (takes engine (codes "E1") None ∷ received ∷ adds (codes "Dash") ∷ received ∷ []))

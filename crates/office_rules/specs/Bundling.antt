@@ -11,8 +11,8 @@ use Rattle.office_types.specs.declared.reply.Reply.TheVariants.{Bundle}
 use Rattle.office_types.specs.declared.state.Net.{Net}
 use Rattle.office_rules.specs.Outcome.{Entries, no_entries, Outcome, Refusing, Changing}
 
--- The outcome of the parts: the first that is refused, with its place; or, where none is, all their replies, the network
--- after the last of them, and what they enter into the book.
+-- The outcome of the parts: the first that is refused, with its place; or, where none is, all their replies, the
+-- network after the last of them, and what they enter into the book.
 pub data PartsOutcome : Type 0 where
   RefusedAt : ℕ → Refusal → PartsOutcome
   AllDone : List PartReply → Option Net → Entries → PartsOutcome
@@ -33,8 +33,8 @@ part_then place (Changing r net e) others = with_part r e (others net e)
 abbrev pub refused_part : ℕ → Refusal → FileFault
 refused_part place r = record { fault = refusal_number r; at = place }
 
--- The bundle is refused with its first refused part. A bundle has a part, so after all of them its network is there: the
--- last case never comes.
+-- The bundle is refused with its first refused part. A bundle has a part, so after all of them its network is there:
+-- the last case never comes.
 abbrev pub bundle_outcome : PartsOutcome → Outcome
 bundle_outcome (RefusedAt place r) = Refusing (no.BundleRefused (refused_part place r))
 bundle_outcome (AllDone replies (Some net) e) = Changing (Bundle replies) net e

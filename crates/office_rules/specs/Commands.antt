@@ -1,4 +1,4 @@
--- What a team's command on a network comes to: each command has its own definition.
+-- What a team's command on a network results in: each command has its own definition.
 use Rattle.std.specs.Prelude.{ℕ, ◌+◌, List, [], ◌∷◌, Option, Some}
 use Rattle.office_types.specs.declared.book.SpnBook.{SpnBook}
 use Rattle.office_types.specs.declared.command.Action.{Action}
@@ -39,7 +39,7 @@ parts_done team name place net book [] = AllDone [] net no_entries
 parts_done team name place net book (a ∷ parts) =
     part_then place (acted team name net book a) (λ n e. parts_done team name (place + 1) (Some n) (entered book e) parts)
 
--- an import also takes what its file comes to
+-- an import also takes what its file reads as
 abbrev pub done_task : List ℕ → List ℕ → FileReading → Option Net → SpnBook → Task → Outcome
 done_task team name reading net book (Act a) = acted team name net book a
 done_task team name reading net book (Import file) = import team net reading

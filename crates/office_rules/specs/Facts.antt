@@ -37,7 +37,7 @@ abbrev pub in_review : Phase → Bool
 in_review Draft = false
 in_review (Review submitter) = true
 
--- the team asked for the review
+-- the team requested the review
 abbrev pub is_submitter : List ℕ → Phase → Bool
 is_submitter team Draft = false
 is_submitter team (Review submitter) = bytes_eq submitter team

@@ -29,24 +29,24 @@ use Rattle.office_rules.specs.Facts.{is_live, is_held, is_named, blocks_of, in_r
 use Rattle.office_rules.specs.Lists.{put_all}
 use Rattle.office_rules.specs.Outcome.{Entries, no_entries, Outcome, Refusing, Changing, when, on_net, unless, given_or}
 
--- What the bytes of a file come to: a sheet, or a fault where they read as none.
+-- What the bytes of a file are: a sheet, or a fault where they read as none.
 pub data FileReading : Type 0 where
   Reading : Sheet → FileReading
   Unreadable : FileFault → FileReading
 
--- The sheet must be clear: the first message that isn't is told, by its number, with the code of its first clash.
+-- The sheet must be clear: the first message that isn't is reported, by its number, with the code of its first clash.
 
-abbrev pub told_clash : Message → Clash → FileFault
-told_clash m clash = record { fault = code_number (clash_code clash); at = number_of m }
+abbrev pub reported_clash : Message → Clash → FileFault
+reported_clash m clash = record { fault = code_number (clash_code clash); at = number_of m }
 
 abbrev pub clear_tests : Message → List (Test Refusal)
 clear_tests m = elim (first_clash_of (places_of m.signals) m.length) [
-  | Some clash ↦ when true (no.FileFault (told_clash m clash)) ∷ []
+  | Some clash ↦ when true (no.FileFault (reported_clash m clash)) ∷ []
   | None ↦ []
 ]
 
--- Each message of the file is live already, and equal to the live one; or it is new, and then its number isn't held, its
--- name isn't live, and the team may bring the number.
+-- Each message of the file is live already, and equal to the live one; or it is new, and then its number isn't held,
+-- its name isn't live, and the team may bring the number.
 
 abbrev pub is_live_so : Net → Message → Bool
 is_live_so net m = list_any (λ l. same_message l.message m) net.live
@@ -138,7 +138,7 @@ import_sheet team net s =
     (imported team net s)
     (spns_entered net s)
 
--- what a file comes to that no test refuses
+-- what a file results in that no test refuses
 abbrev pub file_imported : List ℕ → Net → FileReading → Outcome
 file_imported team net (Reading s) = import_sheet team net s
 file_imported team net (Unreadable f) = Refusing (no.FileFault f)

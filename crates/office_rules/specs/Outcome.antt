@@ -38,13 +38,13 @@ abbrev pub when : Bool → Refusal → Test Refusal
 when holds refusal = record { holds = holds; refusal = refusal }
 
 -- tests of a thing, where it is there
-abbrev pub asked_of : {A : Type 0} → Option A → (A → List (Test Refusal)) → List (Test Refusal)
-asked_of None tests = []
-asked_of (Some x) tests = tests x
+abbrev pub requested_of : {A : Type 0} → Option A → (A → List (Test Refusal)) → List (Test Refusal)
+requested_of None tests = []
+requested_of (Some x) tests = tests x
 
 -- the network must be there, and is tested further
 abbrev pub on_net : Option Net → (Net → List (Test Refusal)) → List (Test Refusal)
-on_net net tests = when (is_none net) no.NoNet ∷ asked_of net tests
+on_net net tests = when (is_none net) no.NoNet ∷ requested_of net tests
 
 abbrev pub refused_or : Option Refusal → Outcome → Outcome
 refused_or (Some r) out = Refusing r

@@ -1,6 +1,6 @@
 -- The profile under which an arrival came: it says which texts read as a sheet.
 use Rattle.std.specs.Prelude.{ℕ, ◌≤◌, List, All}
-use Rattle.catalogue.specs.Reads.{Reads}
+use Rattle.dbc_grammar.specs.Reads.{Reads}
 use Rattle.catalogue.specs.declared.sheet.Sheet.{Sheet}
 
 -- Under the first profile no message was longer than 64 bytes. The second one has the lengths of today.

@@ -28,7 +28,7 @@ abbrev pub submit : List ℕ → Option Net → Outcome
 submit team net =
     unless (submit_tests net) (given_or no.NoNet net (λ n. Changing Done (in_phase n (Review team)) no_entries))
 
--- Approve, or turn down: not the team that asked.
+-- Approve, or turn down: not the team that requested it.
 
 abbrev pub review_tests : List ℕ → Option Net → List (Test Refusal)
 review_tests team net =

@@ -29,14 +29,14 @@ use Rattle.office_types.specs.declared.state.Net.{Net}
 use Rattle.office_rules.specs.Facts.{MessageFacts, message_facts, in_review, has_node, live_named, spn_blocks_of}
 use Rattle.office_rules.specs.Lists.{none_of}
 use Rattle.office_rules.specs.Numbers.{with_message}
-use Rattle.office_rules.specs.Outcome.{Entries, no_entries, Outcome, Changing, when, on_net, asked_of, unless, given_or}
+use Rattle.office_rules.specs.Outcome.{Entries, no_entries, Outcome, Changing, when, on_net, requested_of, unless, given_or}
 
 -- The network is in draft, the message is live and the team's own, and is tested further.
 abbrev pub on_message : List ℕ → MessageFacts → (LiveMessage → List (Test Refusal)) → List (Test Refusal)
 on_message team facts tests =
     when (in_review facts.phase) no.InReview
     ∷ when (is_none facts.found) no.NoMessage
-    ∷ asked_of facts.found (λ m. when (not (bytes_eq m.owner team)) no.NotOwner ∷ tests m)
+    ∷ requested_of facts.found (λ m. when (not (bytes_eq m.owner team)) no.NotOwner ∷ tests m)
 
 abbrev pub has_signal : LiveMessage → List ℕ → Bool
 has_signal m name = has_name signal_name m.message.signals name

@@ -81,14 +81,14 @@ Run before (q ∷ qs) [] after = ⊥
 Run before (q ∷ qs) (r ∷ rs) after = (mid : Office) × Step q.0 before q.1 q.2 r mid × Run mid qs rs after
 
 -- Commands that come today, each with its team.
-abbrev pub asked_now : List (List ℕ × Command) → List Asking
-asked_now requests = map (λ q. (Two, q.0, q.1)) requests
+abbrev pub requested_now : List (List ℕ × Command) → List Asking
+requested_now requests = map (λ q. (Two, q.0, q.1)) requests
 
 -- The commands were run: their replies were added to the earlier ones.
 pub record HasRun (before : Office) (requests : List (List ℕ × Command)) (earlier replies : List Reply) (after : Office) : Type 0 where
-  pub told : List Reply
-  pub added : replies ≡ earlier ++ told
-  pub run : Run before (asked_now requests) told after
+  pub reported : List Reply
+  pub added : replies ≡ earlier ++ reported
+  pub run : Run before (requested_now requests) reported after
 
 -- This many of the commands, from the first one on, were run.
 abbrev pub HasBegun : Office → List (List ℕ × Command) → List Reply → List Reply → Office → Type 0

@@ -19,13 +19,13 @@ pub line_filled : (files : Files) (dash : Dash) (number : ℕ) (line : List ℕ)
     → IsArrivalOf files r arrival → AreArrivalsOfLine files dash number line (arrival ∷ [])
 line_filled files dash number line r arrival some made arrived = record {
   requests = r ∷ [];
-  asked = one_request dash number line r some made;
+  requested = one_request dash number line r some made;
   arrived = (arrived, tt);
 }
 
 -- no arrival, for this reason
 pub line_unfilled : (files : Files) (dash : Dash) (number : ℕ) (line : List ℕ) (r : LineRequest) (fault : LineFault) → says_nothing line ≡ false → request_of dash number line ≡ Some r
-    → Fills files r.text r.asked (Err fault) → IsLineFault files dash number line fault
+    → Fills files r.text r.requested (Err fault) → IsLineFault files dash number line fault
 line_unfilled files dash number line r why.Wrong some made h = inr (record {
   request = r;
   made = one_request dash number line r some made;

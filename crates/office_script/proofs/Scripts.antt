@@ -29,7 +29,7 @@ pub record IsReadSoFar (files : Files) (dash : Dash) (text rest : List ℕ) (num
 
 -- no line was read
 pub read_none : (files : Files) (dash : Dash) (text : List ℕ) → IsReadSoFar files dash text text 0 []
-read_none files dash text = record { done = []; parts = refl; numbered = refl; read = record { requests = []; asked = refl; arrived = tt }; room = omega arith }
+read_none files dash text = record { done = []; parts = refl; numbered = refl; read = record { requests = []; requested = refl; arrived = tt }; room = omega arith }
 
 -- what a line and the lines after it ask for
 abbrev join_requests : Option Requests → Option Requests → Option Requests
@@ -44,15 +44,15 @@ joined_more (Some a) (Some middle) more before here e h =
     ∙ ap Some (sym (append_assoc a middle here) ∙ ap (λ (v : Requests). v ++ here) (some_same (a ++ middle) before e))
 
 -- what one line more asks for is added
-asked_more : (dash : Dash) (first : ℕ) (done : List (List ℕ)) (line : List ℕ) (number : ℕ) (before here : Requests) → number ≡ first + length done → requests_of_lines dash first done ≡ Some before
+requested_more : (dash : Dash) (first : ℕ) (done : List (List ℕ)) (line : List ℕ) (number : ℕ) (before here : Requests) → number ≡ first + length done → requests_of_lines dash first done ≡ Some before
     → requests_of_line dash number line ≡ Some here → requests_of_lines dash first (done ++ line ∷ []) ≡ Some (before ++ here)
-asked_more dash first [] line number before here at e h =
+requested_more dash first [] line number before here at e h =
     let same : number ≡ first = omega (arith, at) in
     ap (λ (own : Option Requests). join_requests own (Some [])) (ap (λ n. requests_of_line dash n line) (sym same) ∙ h)
     ∙ ap Some (append-nil here ∙ ap (λ (v : Requests). v ++ here) (some_same [] before e))
-asked_more dash first (other ∷ done) line number before here at e h =
+requested_more dash first (other ∷ done) line number before here at e h =
     joined_more (requests_of_line dash first other) (requests_of_lines dash (first + 1) done) (requests_of_lines dash (first + 1) (done ++ line ∷ [])) before here e
-    (λ middle m. asked_more dash (first + 1) done line number middle here (omega (arith, at)) m h)
+    (λ middle m. requested_more dash (first + 1) done line number middle here (omega (arith, at)) m h)
 
 -- two lists in step, and two more
 zip_append : {A B : Type 0} (R : A → B → Type 0) (xs vs : List A) (ys ws : List B) → AllZip R xs ys → AllZip R vs ws → AllZip R (xs ++ vs) (ys ++ ws)
@@ -74,7 +74,7 @@ read_more files dash text rest left line number before here after so next shorte
   numbered = ap (λ n. n + 1) so.numbered ∙ sym (length-append so.done (line ∷ []));
   read = record {
     requests = so.read.requests ++ own.requests;
-    asked = asked_more dash 1 so.done line (number + 1) so.read.requests own.requests (let n : number ≡ length so.done = so.numbered in omega arith) so.read.asked own.asked;
+    requested = requested_more dash 1 so.done line (number + 1) so.read.requests own.requests (let n : number ≡ length so.done = so.numbered in omega arith) so.read.requested own.requested;
     arrived = rw added (arrived_more files so.read.requests own.requests before here so.read.arrived own.arrived);
   };
   room = let r : number + length rest ≤ length text = so.room in omega arith;

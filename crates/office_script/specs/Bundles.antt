@@ -3,7 +3,7 @@ use Rattle.std.specs.Prelude.{ℕ, not, ◌&&◌, ◌==◌, nat_le, List, [], �
 use Rattle.std.specs.Option.{option_map}
 use Rattle.office_types.specs.Parts.{part_limit}
 use Rattle.office_types.specs.declared.command.Action.{Action}
-use Rattle.office_fields.specs.Asked.{part_of}
+use Rattle.office_fields.specs.Requested.{part_of}
 use Rattle.office_fields.specs.Kind.{action_of_word}
 use Rattle.office_fields.specs.Value.{◌>>=◌, where_true}
 use Rattle.office_script.specs.Fields.{fields_of}

@@ -6,8 +6,8 @@ use Rattle.office_history.specs.Key.{is_key}
 use Rattle.office_script.specs.declared.keys.Dash.{Dash}
 use Rattle.office_script.specs.declared.keys.Dash.TheVariants.{LineNumber, Wrong}
 
--- the bytes that a line's first word stands for, by the number of the line, from 1: itself, but for `-`, which may stand
--- for `line-N`
+-- the bytes that a line's first word stands for, by the number of the line, from 1: itself, but for `-`, which may
+-- stand for `line-N`
 abbrev pub key_bytes : Dash → ℕ → List ℕ → List ℕ
 key_bytes LineNumber number word = if bytes_eq word (codes "-") then codes "line-" ++ decimal number else word
 key_bytes Wrong number word = word

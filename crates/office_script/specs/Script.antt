@@ -1,14 +1,14 @@
 -- What a script asks for, over the files that it names.
 use Rattle.std.specs.Prelude.{◌≡◌, ◌⊎◌, ℕ, ◌+◌, List, [], ◌∷◌, ◌++◌, length, Option, Some, None, Result, Ok, Err, ⊤}
 use Rattle.std.specs.Option.{option_map, option_and_then}
-use Rattle.office_fields.specs.declared.asked.Asked.{Asked}
-use Rattle.office_fields.specs.declared.asked.Asked.TheVariants as asked
-use Rattle.office_fields.specs.declared.asked.FileImport.{FileImport}
+use Rattle.office_fields.specs.declared.requested.Requested.{Requested}
+use Rattle.office_fields.specs.declared.requested.Requested.TheVariants as requested
+use Rattle.office_fields.specs.declared.requested.FileImport.{FileImport}
 use Rattle.office_fields.specs.declared.unread.Unread.{Unread}
 use Rattle.office_fields.specs.declared.unread.Unread.TheVariants as unread
 use Rattle.office_history.specs.declared.arrival.Arrival.{Arrival}
 use Rattle.office_history.specs.declared.arrival.Request.{Request}
-use Rattle.office_script.specs.declared.files.FileFault.TheVariants as file
+use Rattle.office_script.specs.declared.files.PathFault.TheVariants as file
 use Rattle.office_script.specs.declared.filling.LineFault.{LineFault}
 use Rattle.office_script.specs.declared.filling.LineFault.TheVariants as why
 use Rattle.office_script.specs.declared.keys.Dash.{Dash}
@@ -29,7 +29,7 @@ requests_of_lines dash number (line ∷ lines) =
 -- the lines of a script, from its first one, are right, and these are their arrivals with the bytes of the files
 pub record AreArrivalsOf (files : Files) (dash : Dash) (lines : List (List ℕ)) (arrivals : List Arrival) : Type 0 where
   pub requests : List LineRequest
-  pub asked : requests_of_lines dash 1 lines ≡ Some requests
+  pub requested : requests_of_lines dash 1 lines ≡ Some requests
   pub arrived : HaveArrived files requests arrivals
 
 -- the line of this number, from 1, is the first at which something is amiss: the lines before it have their arrivals
@@ -44,15 +44,15 @@ pub record IsFirstAmiss (files : Files) (dash : Dash) (IsAmiss : ℕ → List �
   pub amiss : IsAmiss number line
 
 -- the file of a request, which an import and a bundle have
-abbrev pub file_asked : Asked → Option (List ℕ)
-file_asked (asked.Command c) = None
-file_asked (asked.Import i) = Some i.file
-file_asked (asked.Bundle i) = Some i.file
+abbrev pub file_requested : Requested → Option (List ℕ)
+file_requested (requested.Command c) = None
+file_requested (requested.Import i) = Some i.file
+file_requested (requested.Bundle i) = Some i.file
 
 -- a request for a bundle whose file has a wrong line, no part, or too many
-pub record AsksWrongParts (files : Files) (a : Asked) : Type 0 where
+pub record AsksWrongParts (files : Files) (a : Requested) : Type 0 where
   pub bundle : FileImport
-  pub asked : a ≡ asked.Bundle bundle
+  pub requested : a ≡ requested.Bundle bundle
   pub bytes : List ℕ
   pub given : Gives (files bundle.file) bytes
   pub wrong : parts_in bytes ≡ None
@@ -61,22 +61,22 @@ pub record AsksWrongParts (files : Files) (a : Asked) : Type 0 where
 pub record NamesWrongParts (files : Files) (dash : Dash) (number : ℕ) (line : List ℕ) : Type 0 where
   pub request : LineRequest
   pub made : requests_of_line dash number line ≡ Some (request ∷ [])
-  pub names : AsksWrongParts files request.asked
+  pub names : AsksWrongParts files request.requested
 
 -- the line of this number is wrong, or the file of its bundle is
 abbrev pub IsWrong : Files → Dash → ℕ → List ℕ → Type 0
 IsWrong files dash number line = (requests_of_line dash number line ≡ None) ⊎ NamesWrongParts files dash number line
 
 -- a request that names the file of this path, which may be unreadable
-pub record AsksUnreadable (files : Files) (path : List ℕ) (a : Asked) : Type 0 where
-  pub named : file_asked a ≡ Some path
+pub record AsksUnreadable (files : Files) (path : List ℕ) (a : Requested) : Type 0 where
+  pub named : file_requested a ≡ Some path
   pub unreadable : FailsWith (files path) file.Unreadable
 
 -- the line of this number has such a request
 pub record NamesUnreadable (files : Files) (dash : Dash) (path : List ℕ) (number : ℕ) (line : List ℕ) : Type 0 where
   pub request : LineRequest
   pub made : requests_of_line dash number line ≡ Some (request ∷ [])
-  pub names : AsksUnreadable files path request.asked
+  pub names : AsksUnreadable files path request.requested
 
 -- the fault is that of the first line at which something is amiss; out of memory states nothing
 abbrev pub IsScriptFault : Files → Dash → List ℕ → ScriptFault → Type 0
@@ -87,11 +87,11 @@ IsScriptFault files dash text script.Memory = ⊤
 -- the line of this number is right, and these are its arrivals, one or none
 pub record AreArrivalsOfLine (files : Files) (dash : Dash) (number : ℕ) (line : List ℕ) (arrivals : List Arrival) : Type 0 where
   pub requests : List LineRequest
-  pub asked : requests_of_line dash number line ≡ Some requests
+  pub requested : requests_of_line dash number line ≡ Some requests
   pub arrived : HaveArrived files requests arrivals
 
 -- the request for what a text asks for, or the file that can't be read; out of memory states nothing
-abbrev pub Fills : Files → List ℕ → Asked → Result Request LineFault → Type 0
+abbrev pub Fills : Files → List ℕ → Requested → Result Request LineFault → Type 0
 Fills files text a (Ok request) = IsRequestFor files text a request
 Fills files text a (Err why.Wrong) = AsksWrongParts files a
 Fills files text a (Err (why.Unreadable path)) = AsksUnreadable files path a

@@ -1,5 +1,6 @@
 //! Written values, in which `%` and two hexadecimal digits stand for a byte.
-ghost use Rattle.std.specs.Prelude.{◌≡◌, ◌↔◌, ◌<◌, ◌+◌, ◌*◌, ◌∷◌, List, ℕ, Some, IfOk, IfSome, None, length, SomeIff, MatchOption};
+ghost use Rattle.std.specs.Prelude.{◌≡◌, ◌↔◌, ◌<◌, ◌+◌, ◌*◌, ◌∷◌, List, ℕ, Some, IfOk, IfSome, None, length, SomeIff};
+ghost use Rattle.std.specs.Prelude.{MatchOption};
 ghost use Rattle.std.specs.Option.{option_map};
 ghost use Rattle.std.specs.Char.{digit_value};
 ghost use Rattle.office_script.specs.Escapes.{StandsFor, unescaped, unescaped_digits};
@@ -8,7 +9,8 @@ use std::alloc::{AllocError, Global};
 
 /// The byte that two hexadecimal digits write.
 fn hexadecimal_byte(high: u8, low: u8) -> Option<u8>
-    ensures { SomeIff result ((digit_value high < 16) × (digit_value low < 16)) (16 * digit_value high + digit_value low) }
+    ensures { SomeIff result ((digit_value high < 16) × (digit_value low < 16))
+        (16 * digit_value high + digit_value low) }
 {
     let high_digit = char::from(high).to_digit(16)?;
     let low_digit = char::from(low).to_digit(16)?;

@@ -33,11 +33,13 @@ pub fn read_fields(
     alloc: Global,
     rest: Option<&[u8]>,
 ) -> Result<Option<Vec<GivenValue<'_>>>, AllocError>
-    ensures value { IfOk result (λ found. option_map (λ fields. named_values fields.items) found ≡ fields_of (words_after rest.entry)) }
+    ensures value { IfOk result (λ found. option_map (λ fields. named_values fields.items) found
+        ≡ fields_of (words_after rest.entry)) }
 
     // The words are the fields that are found and no others, and no fields at all if none are found.
     ensures meaning { IfOk result (λ found. (fields : List NamedValue)
-        → (AreFieldWords (words_after rest.entry) fields ↔ (option_map (λ fields. named_values fields.items) found ≡ Some fields))) }
+        → (AreFieldWords (words_after rest.entry) fields ↔
+        (option_map (λ fields. named_values fields.items) found ≡ Some fields))) }
 {
     let mut list = Vec::new(alloc);
     let mut left = rest;

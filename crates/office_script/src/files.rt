@@ -6,7 +6,7 @@ use std::alloc::Global;
 
 /// Why a file's bytes can't be had.
 #[derive(Clone, Copy, Debug, PartialEq, Eq)]
-pub enum FileFault {
+pub enum PathFault {
     /// No file can be read at the path.
     Unreadable,
     /// Memory ran out.
@@ -22,7 +22,7 @@ pub trait FileSource {
     ///
     /// If the file's bytes are known, it gives exactly these, and fails only if memory runs out. If it is known that no
     /// file can be read at the path, it fails.
-    fn read(&self, alloc: Global, path: &str) -> Result<Vec<u8>, FileFault>
+    fn read(&self, alloc: Global, path: &str) -> Result<Vec<u8>, PathFault>
         ensures bytes { IfOk result (λ v. Gives (held self.now path.now) v.items) }
         ensures fault { IfErr result (FailsWith (held self.now path.now)) };
 }

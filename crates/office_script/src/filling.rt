@@ -7,12 +7,12 @@ ghost use Rattle.office_script.specs.Files.{IsArrivalOf, IsBundleRequest};
 ghost use Rattle.office_script.specs.Script.{AddsArrivals, Fills};
 
 use crate::bundles::parts_in;
-use crate::files::{FileFault, FileSource};
+use crate::files::{PathFault, FileSource};
 use crate::keys::Dash;
 use crate::lines::says_nothing;
 use crate::requests::{LineRequest, request_of};
 use catalogue::Items;
-use office_fields::{Asked, FileImport, FilePath, Unread};
+use office_fields::{FileImport, FilePath, Requested, Unread};
 use office_history::{Arrival, Request};
 use std::alloc::{AllocError, AllocFailed, Global};
 
@@ -80,7 +80,8 @@ fn import_request(
     bytes: Vec<u8>,
 ) -> Result<Request, AllocError>
     ensures content { IfOk result (λ request. request.content.items ≡ text ++ (10 ∷ bytes.items)) }
-    ensures command { IfOk result (λ request. request.command ≡ record { net = import.net; task = task.Import bytes.items }) }
+    ensures command { IfOk result (λ request. request.command
+        ≡ record { net = import.net; task = task.Import bytes.items }) }
 {
     let content = import_content(text, &bytes)?;
     let command = import.with_bytes(bytes);
@@ -94,12 +95,12 @@ fn read_import<F: FileSource>(
     import: FileImport,
     files: &F,
 ) -> Result<Request, LineFault>
-    ensures { Fills (F.held files.now) text (Asked.Import import) result }
+    ensures { Fills (F.held files.now) text (Requested.Import import) result }
 {
     match files.read(alloc, import.file.as_str()) {
         Ok(bytes) => Ok(import_request(text, import, bytes)?),
-        Err(FileFault::Unreadable) => Err(LineFault::Unreadable(import.into_path())),
-        Err(FileFault::Memory) => Err(LineFault::Memory),
+        Err(PathFault::Unreadable) => Err(LineFault::Unreadable(import.into_path())),
+        Err(PathFault::Memory) => Err(LineFault::Memory),
     }
 }
 
@@ -126,12 +127,12 @@ fn read_bundle<F: FileSource>(
     bundle: FileImport,
     files: &F,
 ) -> Result<Request, LineFault>
-    ensures { Fills (F.held files.now) text (Asked.Bundle bundle) result }
+    ensures { Fills (F.held files.now) text (Requested.Bundle bundle) result }
 {
     match files.read(alloc, bundle.file.as_str()) {
         Ok(bytes) => Ok(bundle_request(alloc, text, bundle, &bytes)?),
-        Err(FileFault::Unreadable) => Err(LineFault::Unreadable(bundle.into_path())),
-        Err(FileFault::Memory) => Err(LineFault::Memory),
+        Err(PathFault::Unreadable) => Err(LineFault::Unreadable(bundle.into_path())),
+        Err(PathFault::Memory) => Err(LineFault::Memory),
     }
 }
 
@@ -139,18 +140,18 @@ fn read_bundle<F: FileSource>(
 fn filled<F: FileSource>(
     alloc: Global,
     text: Items<u8>,
-    asked: Asked,
+    requested: Requested,
     files: &F,
 ) -> Result<Request, LineFault>
-    ensures { Fills (F.held files.now) text asked result }
+    ensures { Fills (F.held files.now) text requested result }
 {
-    match asked {
-        Asked::Command(command) => {
+    match requested {
+        Requested::Command(command) => {
             let content = text.into_vec();
             Ok(Request { content, command })
         }
-        Asked::Import(import) => read_import(alloc, text, import, files),
-        Asked::Bundle(bundle) => read_bundle(alloc, text, bundle, files),
+        Requested::Import(import) => read_import(alloc, text, import, files),
+        Requested::Bundle(bundle) => read_bundle(alloc, text, bundle, files),
     }
 }
 
@@ -161,15 +162,15 @@ fn arrival_of<F: FileSource>(
     files: &F,
 ) -> Result<Arrival, LineFault>
     ensures ok { IfOk result (IsArrivalOf (F.held files.now) line) }
-    ensures fault { IfErr result (λ fault. Fills (F.held files.now) line.text line.asked (Err fault)) }
+    ensures fault { IfErr result (λ fault. Fills (F.held files.now) line.text line.requested (Err fault)) }
 {
     let LineRequest {
         team,
         key,
         text,
-        asked,
+        requested,
     } = line;
-    match filled(alloc, text, asked, files) {
+    match filled(alloc, text, requested, files) {
         Ok(request) => Ok(Arrival { team, key, request }),
         Err(fault) => Err(fault),
     }

@@ -3,14 +3,15 @@ ghost use Rattle.std.specs.Prelude.{◌≡◌, ◌∷◌, ℕ, IfOk, IfSome, Non
 ghost use Rattle.office_fields.specs.Kind.{kind_of_word};
 ghost use Rattle.office_fields.specs.Reading.{Reads};
 ghost use Rattle.office_script.specs.Words.{words_of, words_after};
-ghost use Rattle.office_script.specs.Requests.{asked_bundle, asked_by, bundle_file, request_of_words, request_of};
+ghost use Rattle.office_script.specs.Requests.{requested_bundle, requested_by, bundle_file, request_of_words};
+ghost use Rattle.office_script.specs.Requests.{request_of};
 
 use crate::fields::read_fields;
 use crate::keys::{Dash, key_of};
 use crate::lines::says_nothing;
 use crate::words::first_word;
 use catalogue::Items;
-use office_fields::{Asked, CommandKind, FilePath, Unread, asked_of, team_of};
+use office_fields::{CommandKind, FilePath, Requested, Unread, requested_of, team_of};
 use office_history::Key;
 use office_types::Team;
 use std::alloc::{AllocError, Global};
@@ -25,7 +26,7 @@ pub struct LineRequest {
     /// The words after the team, as they are in the line.
     pub text: Items<u8>,
     /// What they ask for.
-    pub asked: Asked,
+    pub requested: Requested,
 }
 
 /// The parts of a line: its first two words, and what follows them; of this the first word, and what follows that.
@@ -39,7 +40,8 @@ struct LineParts<'a> {
 }
 
 fn line_parts(line: &[u8]) -> Option<LineParts<'_>>
-    ensures words { MatchOption result ((dash : Dash) → (number : ℕ) → request_of_words dash number (words_of line.now) ≡ None)
+    ensures words { MatchOption result ((dash : Dash) → (number : ℕ)
+        → request_of_words dash number (words_of line.now) ≡ None)
         (λ p. words_of line.now ≡ p.key.now ∷ p.team.now ∷ words_of p.text.now) }
     ensures text { IfSome result (λ p. words_of p.text.now ≡ p.command.now ∷ words_after p.rest) }
 {
@@ -63,13 +65,13 @@ fn kind_of(word: &[u8]) -> Result<CommandKind, Unread>
 }
 
 /// What the command of this word asks for with the fields of the words in `rest`.
-#[tactic(auto, unfolding(crate::specs::Requests::asked_by))]
-fn asked_of_words(alloc: Global, word: &[u8], rest: Option<&[u8]>) -> Result<Asked, Unread>
-    ensures { Reads (asked_by word.now (words_after rest.entry)) result }
+#[tactic(auto, unfolding(crate::specs::Requests::requested_by))]
+fn requested_of_words(alloc: Global, word: &[u8], rest: Option<&[u8]>) -> Result<Requested, Unread>
+    ensures { Reads (requested_by word.now (words_after rest.entry)) result }
 {
     let kind = kind_of(word)?;
     match read_fields(alloc, rest)? {
-        Some(fields) => asked_of(alloc, kind, &fields),
+        Some(fields) => requested_of(alloc, kind, &fields),
         None => Err(Unread::Wrong),
     }
 }
@@ -87,17 +89,18 @@ fn request_of_parts(
     parts: &LineParts<'_>,
 ) -> Result<LineRequest, Unread>
     requires { words_of parts.now.text.now ≡ parts.now.command.now ∷ words_after parts.now.rest }
-    ensures { Reads (request_of_words dash number (parts.now.key.now ∷ parts.now.team.now ∷ words_of parts.now.text.now)) result }
+    ensures { Reads (request_of_words dash number
+        (parts.now.key.now ∷ parts.now.team.now ∷ words_of parts.now.text.now)) result }
 {
     let key = key_of(alloc, dash, number, parts.key)?;
     let team = team_of(alloc, parts.team)?;
-    let asked = asked_of_words(alloc, parts.command, parts.rest)?;
+    let requested = requested_of_words(alloc, parts.command, parts.rest)?;
     let text = copy_of(alloc, parts.text)?;
     Ok(LineRequest {
         team,
         key,
         text,
-        asked,
+        requested,
     })
 }
 
@@ -117,17 +120,17 @@ pub(crate) fn request_of(
 }
 
 /// The file of a bundle that is requested.
-fn asked_bundle(asked: Asked) -> Option<FilePath>
-    ensures { result ≡ asked_bundle asked }
+fn requested_bundle(requested: Requested) -> Option<FilePath>
+    ensures { result ≡ requested_bundle requested }
 {
-    match asked {
-        Asked::Bundle(bundle) => Some(bundle.into_path()),
-        Asked::Command(_) | Asked::Import(_) => None,
+    match requested {
+        Requested::Bundle(bundle) => Some(bundle.into_path()),
+        Requested::Command(_) | Requested::Import(_) => None,
     }
 }
 
-/// The file of the bundle that the line of this number, from 1, requests; `None` where it requests something else or nothing,
-/// or is wrong. The error is out of memory.
+/// The file of the bundle that the line of this number, from 1, requests; `None` where it requests something else or
+/// nothing, or is wrong. The error is out of memory.
 pub fn bundle_file(
     alloc: Global,
     dash: Dash,
@@ -140,7 +143,7 @@ pub fn bundle_file(
         return Ok(None);
     }
     match request_of(alloc, dash, number, line) {
-        Ok(request) => Ok(asked_bundle(request.asked)),
+        Ok(request) => Ok(requested_bundle(request.requested)),
         Err(Unread::Wrong) => Ok(None),
         Err(Unread::Memory) => Err(AllocError),
     }

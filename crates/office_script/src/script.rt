@@ -26,17 +26,18 @@ pub enum ScriptFault {
 ///
 /// An empty line and one that begins with `#` ask for nothing. Any other is `key team command field=value ..` with one
 /// space between words: `dash` says what `-` means as a key, any other key is a [`Key`](office_history::Key), and the
-/// command is that of its fields ([`asked_of`](office_fields::asked_of)). The content of a request is the line after its
-/// team, as it is, and for an import a line feed and the file's bytes after it. The lines are read one after the other, each
-/// with the file that it names, up to the first that is wrong or whose file can't be read: that is the fault, or else out
-/// of memory. A line whose fields are wrong is wrong, whatever file it names.
+/// command is that of its fields ([`requested_of`](office_fields::requested_of)). The content of a request is the line
+/// after its team, as it is, and for an import a line feed and the file's bytes after it. The lines are read one after
+/// the other, each with the file that it names, up to the first that is wrong or whose file can't be read: that is the
+/// fault, or else out of memory. A line whose fields are wrong is wrong, whatever file it names.
 pub fn arrivals_of<F: FileSource>(
     alloc: Global,
     text: &[u8],
     dash: Dash,
     files: &F,
 ) -> Result<Vec<Arrival>, ScriptFault>
-    ensures asked { IfOk result (λ arrivals. AreArrivalsOf (F.held files.now) dash (lines_of text.now) arrivals.items) }
+    ensures requested { IfOk result (λ arrivals. AreArrivalsOf (F.held files.now) dash
+        (lines_of text.now) arrivals.items) }
     ensures fault { IfErr result (IsScriptFault (F.held files.now) dash text.now) }
 {
     let mut arrivals = Vec::new(alloc);

@@ -4,7 +4,7 @@ ghost use Rattle.std.specs.List.{list_all};
 ghost use Rattle.bitlayout.specs.Mux.{is_multiplexor, is_under};
 ghost use Rattle.catalogue.specs.Refusing.{first_refusal};
 ghost use Rattle.catalogue.specs.Signals.{has_multiplexor, places_of, signal_tests};
-ghost use Rattle.office_net.specs.Told.{message_facts_of};
+ghost use Rattle.office_facts.specs.FactsOf.{message_facts_of};
 ghost use Rattle.office_types.specs.declared.book.SpnBook.{SpnBook};
 ghost use Rattle.office_types.specs.declared.change.Change.TheVariants.{AddSignal};
 ghost use Rattle.office_types.specs.declared.reply.Reply.TheVariants.{Start};
@@ -20,7 +20,7 @@ use bitlayout::Mux;
 use catalogue::{
     Copying, Name, Node, ROSTER_LIMIT, Receivers, Signal, Signals, Spn, Text, ValueTexts, ValueType,
 };
-use office_net::{MessageFacts, has_node, has_signal, one_change, refusal_decision};
+use office_facts::{MessageFacts, has_node, has_signal, one_change, refusal_decision};
 use office_types::{Change, Decision, LiveMessage, Refusal, Reply, TakeBits, Team};
 use std::alloc::{AllocError, Global};
 
@@ -45,7 +45,8 @@ fn has_nodes(nodes: &[Node], names: &[Name]) -> bool
     names.iter().all(|name| has_node(nodes, name))
 }
 
-/// The message that the signal may be added to wherever it starts, or the first refusal that doesn't depend on the start.
+/// The message that the signal may be added to wherever it starts, or the first refusal that doesn't depend on the
+/// start.
 fn message_for<'a>(
     team: &Team,
     facts: &MessageFacts<'a>,
@@ -55,7 +56,8 @@ fn message_for<'a>(
     ensures passed { IfOk result (λ live.
         first_refusal (take_bits_tests team.now (message_facts_of facts.now) command.now)
         ≡ first_refusal (start_tests (places_of live.now.message.signals) live.now.message.length command.now)) }
-    ensures room { IfOk result (λ live. (start : ℕ) → first_refusal (signal_tests live.now.message.signals (new_signal command.now start)) ≡ None) }
+    ensures room { IfOk result (λ live. (start : ℕ)
+        → first_refusal (signal_tests live.now.message.signals (new_signal command.now start)) ≡ None) }
     ensures refused { IfErr result (λ refusal.
         first_refusal (take_bits_tests team.now (message_facts_of facts.now) command.now)
         ≡ Some refusal) }
@@ -114,8 +116,8 @@ fn bits_taken(alloc: Global, message: &Name, signal: Signal) -> Result<Decision,
     )
 }
 
-/// The signal that the team's `take_bits` adds to its message, as the last one, on a network that has these facts for it,
-/// or the first refusal. Nothing is changed here. The error is out of memory.
+/// The signal that the team's `take_bits` adds to its message, as the last one, on a network that has these facts for
+/// it, or the first refusal. Nothing is changed here. The error is out of memory.
 pub fn new_signal_for(
     alloc: Global,
     team: &Team,

@@ -1,11 +1,11 @@
 //! The team's own live message on a network in draft, which every command on a message needs first.
 ghost use Rattle.std.specs.Prelude.{◌≡◌, IfErr, IfOk};
 ghost use Rattle.catalogue.specs.Refusing.{first_refusal};
-ghost use Rattle.office_net.specs.Told.{message_facts_of};
+ghost use Rattle.office_facts.specs.FactsOf.{message_facts_of};
 ghost use Rattle.office_rules.specs.Retiring.{retire_tests};
 ghost use Rattle.office_signals.specs.Given.{IsGiven};
 
-use office_net::{MessageFacts, in_review};
+use office_facts::{MessageFacts, in_review};
 use office_types::{LiveMessage, Refusal, Team};
 
 /// The message that the facts name, or why the team may not change it: the network is in review, there is no such
@@ -16,7 +16,8 @@ pub(crate) fn own_message<'a>(
 ) -> Result<&'a LiveMessage, Refusal>
     ensures given { IfOk result (λ live.
         IsGiven (retire_tests team.now (message_facts_of facts.now)) (message_facts_of facts.now).found (Ok live.now)) }
-    ensures refused { IfErr result (λ refusal. first_refusal (retire_tests team.now (message_facts_of facts.now)) ≡ Some refusal) }
+    ensures refused { IfErr result (λ refusal. first_refusal (retire_tests team.now (message_facts_of facts.now))
+        ≡ Some refusal) }
 {
     if in_review(facts.phase) {
         return Err(Refusal::InReview);

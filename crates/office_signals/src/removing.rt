@@ -4,7 +4,7 @@ ghost use Rattle.std.specs.List.{list_any};
 ghost use Rattle.std.specs.Str.{bytes_eq};
 ghost use Rattle.bitlayout.specs.Mux.{is_under};
 ghost use Rattle.catalogue.specs.Signals.{signal_is_multiplexor};
-ghost use Rattle.office_net.specs.Told.{message_facts_of};
+ghost use Rattle.office_facts.specs.FactsOf.{message_facts_of};
 ghost use Rattle.office_types.specs.declared.book.SpnBook.{SpnBook};
 ghost use Rattle.office_types.specs.declared.change.Change.TheVariants.{RemoveSignal};
 ghost use Rattle.office_types.specs.declared.reply.Reply.TheVariants.{Done};
@@ -15,7 +15,7 @@ ghost use Rattle.office_rules.specs.Signals.{is_needed, remove_signal};
 
 use crate::own::own_message;
 use catalogue::{Copying, Name, Signal};
-use office_net::{MessageFacts, has_signal, one_change, refusal_decision};
+use office_facts::{MessageFacts, has_signal, one_change, refusal_decision};
 use office_types::{Change, Decision, Refusal, Reply, SignalPath, Team};
 use std::alloc::{AllocError, Global};
 

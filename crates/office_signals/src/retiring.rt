@@ -1,6 +1,6 @@
 //! Taking a live message out.
 ghost use Rattle.std.specs.Prelude.{◌≡◌, ◌∷◌, [], ℕ, List, IfOk, IfSome, Some, if◌then◌else◌};
-ghost use Rattle.office_net.specs.Told.{message_facts_of};
+ghost use Rattle.office_facts.specs.FactsOf.{message_facts_of};
 ghost use Rattle.office_types.specs.declared.book.SpnBook.{SpnBook};
 ghost use Rattle.office_types.specs.declared.change.Change.TheVariants.{Hold, RemoveMessage};
 ghost use Rattle.office_types.specs.declared.reply.Reply.TheVariants.{Done};
@@ -12,7 +12,7 @@ ghost use Rattle.office_rules.specs.Retiring.{retire};
 use crate::own::own_message;
 use can_id::Ident;
 use catalogue::Name;
-use office_net::{MessageFacts, message_facts, one_change, refusal_decision, two_changes};
+use office_facts::{MessageFacts, message_facts, one_change, refusal_decision, two_changes};
 use office_types::{Change, Decision, FrozenSheet, Net, Reply, Team};
 use std::alloc::{AllocError, Global};
 
@@ -23,10 +23,11 @@ fn was_released(releases: &[FrozenSheet], ident: &Ident) -> bool
     releases.iter().any(|release| release.has(*ident))
 }
 
-/// The decision that takes the message of the identifier out, and holds the identifier where a release has it. The error
-/// is out of memory.
+/// The decision that takes the message of the identifier out, and holds the identifier where a release has it. The
+/// error is out of memory.
 fn message_retired(alloc: Global, ident: &Ident, released: bool) -> Result<Decision, AllocError>
-    ensures changes { IfOk result (λ d. d.changes ≡ RemoveMessage ident.now ∷ (if released then Hold ident.now ∷ [] else [])) }
+    ensures changes { IfOk result
+        (λ d. d.changes ≡ RemoveMessage ident.now ∷ (if released then Hold ident.now ∷ [] else [])) }
     ensures reply { IfOk result (λ d. d.reply ≡ Done) }
 {
     let remove = Change::RemoveMessage(*ident);
@@ -37,8 +38,8 @@ fn message_retired(alloc: Global, ident: &Ident, released: bool) -> Result<Decis
     }
 }
 
-/// Decides the team's `retire` of a message on a network that has these facts for it; `released` says whether one of the
-/// network's releases has the message's identifier. The error is out of memory.
+/// Decides the team's `retire` of a message on a network that has these facts for it; `released` says whether one of
+/// the network's releases has the message's identifier. The error is out of memory.
 pub fn decide_retire_by_facts(
     alloc: Global,
     team: &Team,

@@ -1,6 +1,6 @@
 //! Taking a suspect parameter number for a signal.
 ghost use Rattle.std.specs.Prelude.{◌≡◌, ◌∷◌, [], IfOk, IsTrue, None, Some};
-ghost use Rattle.office_net.specs.Told.{message_facts_of};
+ghost use Rattle.office_facts.specs.FactsOf.{message_facts_of};
 ghost use Rattle.office_types.specs.Book.{is_spn_number};
 ghost use Rattle.office_types.specs.Free.{is_taken};
 ghost use Rattle.office_types.specs.declared.change.Change.TheVariants.{EnterSpn, SetMessage};
@@ -13,7 +13,7 @@ ghost use Rattle.office_signals.specs.Given.{IsGiven};
 
 use crate::own::own_message;
 use catalogue::{Copying, Name, Spn};
-use office_net::{MessageFacts, has_signal, refusal_decision, spn_blocks_of, two_changes};
+use office_facts::{MessageFacts, has_signal, refusal_decision, spn_blocks_of, two_changes};
 use office_types::{
     Block, Change, Decision, Form, LiveMessage, NetName, Refusal, Reply, SpnBook, TakeSpn, Team,
     UsableSpn, least_free,
@@ -47,7 +47,8 @@ fn same_spn(
     number: u32,
 ) -> Result<UsableSpn, Refusal>
     requires { command.now.same ≡ Some number }
-    ensures { IsGiven (spn_tests team.now name.now book.now command.now) (spn_given team.now name.now book.now command.now) result }
+    ensures { IsGiven (spn_tests team.now name.now book.now command.now)
+        (spn_given team.now name.now book.now command.now) result }
 {
     let used = book.used.as_slice();
     if is_used(used, number) {
@@ -67,7 +68,8 @@ fn least_spn(
 ) -> Result<UsableSpn, Refusal>
     requires wanted { command.now.same ≡ None }
     requires blocks { blocks.now ≡ spn_blocks_of book.now name.now team.now }
-    ensures { IsGiven (spn_tests team.now name.now book.now command.now) (spn_given team.now name.now book.now command.now) result }
+    ensures { IsGiven (spn_tests team.now name.now book.now command.now)
+        (spn_given team.now name.now book.now command.now) result }
 {
     if blocks.is_empty() {
         return Err(Refusal::NoBlock);
@@ -86,7 +88,8 @@ fn spn_for(
     book: &SpnBook,
     command: &TakeSpn,
 ) -> Result<Result<UsableSpn, Refusal>, AllocError>
-    ensures { IfOk result (IsGiven (spn_tests team.now name.now book.now command.now) (spn_given team.now name.now book.now command.now)) }
+    ensures { IfOk result (IsGiven (spn_tests team.now name.now book.now command.now)
+        (spn_given team.now name.now book.now command.now)) }
 {
     match command.same {
         Some(number) => Ok(same_spn(team, name, book, command, number)),
@@ -117,7 +120,8 @@ fn spn_taken(
     command: &TakeSpn,
     spn: UsableSpn,
 ) -> Result<Decision, AllocError>
-    ensures changes { IfOk result (λ d. d.changes ≡ SetMessage (with_spn live.now command.now.path.signal spn) ∷ EnterSpn spn ∷ []) }
+    ensures changes { IfOk result (λ d. d.changes ≡ SetMessage
+        (with_spn live.now command.now.path.signal spn) ∷ EnterSpn spn ∷ []) }
     ensures reply { IfOk result (λ d. d.reply ≡ Number spn) }
 {
     let number = spn.number();
@@ -130,8 +134,8 @@ fn spn_taken(
     )
 }
 
-/// Decides the team's `take_spn` on the network of this name, which has these facts for the command's message. The error
-/// is out of memory.
+/// Decides the team's `take_spn` on the network of this name, which has these facts for the command's message. The
+/// error is out of memory.
 pub fn decide_take_spn(
     alloc: Global,
     team: &Team,
@@ -142,7 +146,8 @@ pub fn decide_take_spn(
 ) -> Result<Decision, AllocError>
     ensures { IfOk result (λ d. (net : Net) →
         message_facts_of facts.now ≡ message_facts net command.now.path.message →
-        Decides name.now (record { net = Some net; book = book.now }) (take_spn team.now name.now (Some net) book.now command.now) d) }
+        Decides name.now (record { net = Some net; book = book.now })
+        (take_spn team.now name.now (Some net) book.now command.now) d) }
 {
     match own_message(team, facts) {
         Err(refusal) => Ok(refusal_decision(alloc, refusal)),

@@ -54,7 +54,8 @@ fn sorted_places(alloc: Global, signals: &Signals) -> Result<Vec<Place>, AllocEr
 
 /// Whether the message has a clash with one more place. The error is out of memory.
 fn clashes(alloc: Global, message: &Message, place: Place) -> Result<bool, AllocError>
-    ensures { IfOk result (λ clash. clash ≡ is_some (first_clash_of (places_of message.now.signals ++ place ∷ []) message.now.length)) }
+    ensures { IfOk result (λ clash. clash ≡ is_some
+        (first_clash_of (places_of message.now.signals ++ place ∷ []) message.now.length)) }
 {
     let mut places = sorted_places(alloc, &message.signals)?;
     places.push(place)?;
@@ -67,7 +68,8 @@ fn least_start_in(
     message: &Message,
     command: &TakeBits,
 ) -> Result<Option<u16>, AllocError>
-    ensures { IfOk result (λ start. start ≡ least_start_of (places_of message.now.signals) message.now.length command.now.size command.now.order command.now.mux) }
+    ensures { IfOk result (λ start. start ≡ least_start_of
+        (places_of message.now.signals) message.now.length command.now.size command.now.order command.now.mux) }
 {
     let places = sorted_places(alloc, &message.signals)?;
     let length = message.length.bytes();

@@ -1,7 +1,7 @@
 //! Setting the texts of a signal's values.
 ghost use Rattle.std.specs.Prelude.{◌≡◌, ◌≤◌, ◌∷◌, [], ℕ, List, IfOk, Some, length};
 ghost use Rattle.catalogue.specs.Limits.{value_text_limit};
-ghost use Rattle.office_net.specs.Told.{message_facts_of};
+ghost use Rattle.office_facts.specs.FactsOf.{message_facts_of};
 ghost use Rattle.office_types.specs.declared.book.SpnBook.{SpnBook};
 ghost use Rattle.office_types.specs.declared.change.Change.TheVariants.{SetMessage};
 ghost use Rattle.office_types.specs.declared.reply.Reply.TheVariants.{Done};
@@ -12,7 +12,7 @@ ghost use Rattle.office_rules.specs.Signals.{set_values, with_values};
 
 use crate::own::own_message;
 use catalogue::{Copying, Items, VALUE_TEXT_LIMIT, ValueText, ValueTexts};
-use office_net::{MessageFacts, has_signal, one_change, refusal_decision};
+use office_facts::{MessageFacts, has_signal, one_change, refusal_decision};
 use office_types::{Change, Decision, LiveMessage, Refusal, Reply, SetValues, Team};
 use std::alloc::{AllocError, Global};
 

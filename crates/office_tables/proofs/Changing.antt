@@ -212,7 +212,7 @@ module _ (at : ℕ) (table : Table) (placed : slice_get office_schema.tables at 
 
   -- ---- DELETE
   module _ (sql : List ℕ) (params : Row) (tests : List Term) (is : command_of (understood office_schema sql) ≡ Delete at (record { lets = []; body = query tree tests (col 1 0 ∷ []) [] params }))
-      (plain : IsPlain (understood office_schema sql)) (wants : Row → Bool) (asked : (r : Row) → wants (row_by table.key r) ≡ wanted tree tests (col 1 0 ∷ []) [] params r) where
+      (plain : IsPlain (understood office_schema sql)) (wants : Row → Bool) (requested : (r : Row) → wants (row_by table.key r) ≡ wanted tree tests (col 1 0 ∷ []) [] params r) where
     ids_shown : (found : List Row) → ids_of (map (λ r. column r 0 ∷ []) found) ≡ ids_of found
     ids_shown [] = refl
     ids_shown (r ∷ found) = ap (◌∷◌ (id_in (rowid r))) (ids_shown found)
@@ -233,8 +233,8 @@ module _ (at : ℕ) (table : Table) (placed : slice_get office_schema.tables at 
         done.1.2.rows ∙ ap (without_all before) ids ∙ leaves_others found_by before f.found shaped same in
         let it = settled old new office done.0 w.sound done.1.2.tables (rw left (IsShaped-filter shape.Table _ before shaped)) in
         let less : map (row_by table.key) (new.now.trees tree) ≡ filter (λ row. not (wants row)) (map (row_by table.key) before) =
-        ap (map (row_by table.key)) left ∙ filter_map_is (row_by table.key) _ _ (λ r. ap not (asked r)) before in
-        let shown : map (row_by table.key) (filter found_by before) ≡ filter wants (map (row_by table.key) before) = filter_map_is (row_by table.key) wants found_by asked before in
+        ap (map (row_by table.key)) left ∙ filter_map_is (row_by table.key) _ _ (λ r. ap not (requested r)) before in
+        let shown : map (row_by table.key) (filter found_by before) ≡ filter wants (map (row_by table.key) before) = filter_map_is (row_by table.key) wants found_by requested before in
         let found : length done.1.0 ≡ length f.found = ap length f.is ∙ length-map f.found (λ r. column r 0 ∷ []) in
         let kept : length (filter found_by before) ≡ length f.found = omega (arith, length_permutation (filter found_by before) f.found same) in
         let rows = done.1.3 ∙ found ∙ sym kept ∙ sym (length-map (filter found_by before) (row_by table.key)) ∙ ap length shown in

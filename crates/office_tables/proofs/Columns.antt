@@ -42,11 +42,11 @@ unfolding unary
 cast_int n = either _ (Int n)
 
 -- what WHERE asks of a column is what the definition asks
-pub text_asked : (at : ℕ) (text : List ℕ) (r : Row) → has_text at text (values r) ≡ is_true (binary (Compare Eq Binary) (column r (suc at)) (Text text))
-text_asked at text r = ap (λ v. is_eq (value_cmp v (Text text))) (column_is r at) ∙ sym (holds_text (column r (suc at)) text)
+pub text_requested : (at : ℕ) (text : List ℕ) (r : Row) → has_text at text (values r) ≡ is_true (binary (Compare Eq Binary) (column r (suc at)) (Text text))
+text_requested at text r = ap (λ v. is_eq (value_cmp v (Text text))) (column_is r at) ∙ sym (holds_text (column r (suc at)) text)
 
-pub number_asked : (at n : ℕ) (r : Row) → has_number at n (values r) ≡ is_true (binary (Compare Eq Binary) (column r (suc at)) (Int (pos n)))
-number_asked at n r = ap (λ v. is_eq (value_cmp v (Int (pos n)))) (column_is r at) ∙ sym (holds_int (column r (suc at)) (pos n))
+pub number_requested : (at n : ℕ) (r : Row) → has_number at n (values r) ≡ is_true (binary (Compare Eq Binary) (column r (suc at)) (Int (pos n)))
+number_requested at n r = ap (λ v. is_eq (value_cmp v (Int (pos n)))) (column_is r at) ∙ sym (holds_int (column r (suc at)) (pos n))
 
-pub key_asked : (n : ℕ) (r : Row) → has_number 0 n (keyed_values r) ≡ is_true (binary (Compare Eq Binary) (column r 0) (Int (pos n)))
-key_asked n r = sym (holds_int (column r 0) (pos n))
+pub key_requested : (n : ℕ) (r : Row) → has_number 0 n (keyed_values r) ≡ is_true (binary (Compare Eq Binary) (column r 0) (Int (pos n)))
+key_requested n r = sym (holds_int (column r 0) (pos n))

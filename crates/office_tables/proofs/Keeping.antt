@@ -84,8 +84,8 @@ inside_keeps sql params old new (Err e) (inl (ran, inl same)) = unchanged_keeps 
 inside_keeps sql params old new (Err e) (inl (ran, inr back)) = rolled_keeps old new back
 inside_keeps sql params old new (Err e) (inr ends) = unchanged_keeps old new ends.2
 
--- what a statement inside a transaction leaves of the last commit, whatever its text: `search` reads a long text letter by
--- letter, and gives up
+-- what a statement inside a transaction leaves of the last commit, whatever its text: `search` reads a long text letter
+-- by letter, and gives up
 pub execute_keeps : (sql : List ℕ) (params : Row) (old new : State) (r : Result ℕ Error) → (old.in_transaction ≡ false → new ≡ old)
     → (IsTrue old.in_transaction → ExecutesInside 0 sql params old new r) → KeepsCommit old new
 execute_keeps sql params old new r ended ran = elim (cases_Bool old.in_transaction) [

@@ -81,7 +81,8 @@ counts schema sql table it old new (Ok count) has none ended ran =
 
 -- ---- a table that is made beside others, whose rows stay
 
--- inside a transaction, a table was added to those of the schema: it has no row, and the others have those that they had
+-- inside a transaction, a table was added to those of the schema: it has no row, and the others have those that they
+-- had
 added : (schema : Schema) (sql : List ℕ) (table : Table) → Defines schema sql table → (old new : State) (count : ℕ) → old.now.schema ≡ schema → Executes sql [] old new (Ok count)
     → IsAdded schema table old.now.trees new.now
 added schema sql table it old new count has h =

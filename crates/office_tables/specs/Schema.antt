@@ -1,5 +1,5 @@
--- The tables of the office, in the order in which they are made. A new table is made last: the number of each tree hangs
--- on this order.
+-- The tables of the office, in the order in which they are made. A new table is made last: the number of each tree
+-- hangs on this order.
 use Rattle.std.specs.Prelude.{◌≡◌, ◌⊎◌, false, true, [], ◌∷◌, None, Some, codes, List, ℕ}
 use Rattle.sqlite.specs.declared.types.Value.TheVariants.{Null}
 use Rattle.sqlite.specs.Collation.TheVariants.{Binary}
@@ -197,7 +197,7 @@ unfoldable pub office_schema : Schema
 unfolding schema_13
 office_schema = created schema_13 part
 
--- the tables that an office of some time has: those before messages had rows of their own, those before there were bundles,
--- or all
+-- the tables that an office of some time has: those before messages had rows of their own, those before there were
+-- bundles, or all
 abbrev pub IsOfficeSchema : Schema → Type 0
 IsOfficeSchema schema = (schema ≡ schema_9) ⊎ (schema ≡ schema_13) ⊎ (schema ≡ office_schema)

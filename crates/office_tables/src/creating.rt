@@ -1,9 +1,11 @@
 //! Making the tables: one function for the text of each, in the one order that the trees' numbers hang on.
 //!
-//! Each answers the error of `sqlite` if there is one (memory ran out, the disk failed, the table is there). Then nothing
-//! is committed, and the transaction is to be dropped, which rolls it back.
+//! Each answers the error of `sqlite` if there is one (memory ran out, the disk failed, the table is there). Then
+//! nothing is committed, and the transaction is to be dropped, which rolls it back.
 ghost use Rattle.std.specs.Prelude.{◌≡◌, IfOk, OnOk};
-ghost use Rattle.office_tables.specs.Schema.{no_schema, schema_1, schema_2, schema_3, schema_4, schema_5, schema_6, schema_7, schema_8, schema_9, schema_10, schema_11, schema_12, schema_13, office_schema};
+ghost use Rattle.office_tables.specs.Schema.{no_schema, schema_1, schema_2, schema_3, schema_4, schema_5, schema_6};
+ghost use Rattle.office_tables.specs.Schema.{schema_7, schema_8, schema_9, schema_10, schema_11, schema_12};
+ghost use Rattle.office_tables.specs.Schema.{schema_13, office_schema};
 ghost use Rattle.office_tables.specs.Statements.{AreMade, Grows, IsEmptyOffice, IsOfficeWith};
 ghost use Rattle.sqlite.specs.Held.{state};
 ghost use Rattle.sqlite.specs.State.{HasCleanDisk, Survives, KeepsCommit};
@@ -13,9 +15,13 @@ use sqlite::{Alter, Error, Transaction};
 /// Makes `profile` where there is no table. Gives 0: no row was written.
 pub fn create_profile<S: Alter>(tx: &mut Transaction<'_, S>) -> Result<usize, Error>
     ensures same_reference { tx.new.conn.ghost_name ≡ tx.old.conn.ghost_name }
-    ensures made { HasCleanDisk (state S.Store tx.new.conn.now) → (state S.Store tx.old.conn.now).now.schema ≡ no_schema → OnOk result (AreMade schema_1 (state S.Store tx.new.conn.now)) }
-    ensures rows { HasCleanDisk (state S.Store tx.new.conn.now) → (state S.Store tx.old.conn.now).now.schema ≡ no_schema → IfOk result (λ rows. rows ≡ 0) }
-    ensures kept { HasCleanDisk (state S.Store tx.new.conn.now) → KeepsCommit (state S.Store tx.old.conn.now) (state S.Store tx.new.conn.now) }
+    ensures made { HasCleanDisk (state S.Store tx.new.conn.now)
+        → (state S.Store tx.old.conn.now).now.schema ≡ no_schema
+        → OnOk result (AreMade schema_1 (state S.Store tx.new.conn.now)) }
+    ensures rows { HasCleanDisk (state S.Store tx.new.conn.now)
+        → (state S.Store tx.old.conn.now).now.schema ≡ no_schema → IfOk result (λ rows. rows ≡ 0) }
+    ensures kept { HasCleanDisk (state S.Store tx.new.conn.now)
+        → KeepsCommit (state S.Store tx.old.conn.now) (state S.Store tx.new.conn.now) }
     ensures survives { Survives (state S.Store tx.old.conn.now) (state S.Store tx.new.conn.now) (λ _. ⊥) }
 {
     tx.execute(
@@ -27,9 +33,12 @@ pub fn create_profile<S: Alter>(tx: &mut Transaction<'_, S>) -> Result<usize, Er
 /// Makes `net` where the tables up to `profile` were just made. Gives 0: no row was written.
 pub fn create_net<S: Alter>(tx: &mut Transaction<'_, S>) -> Result<usize, Error>
     ensures same_reference { tx.new.conn.ghost_name ≡ tx.old.conn.ghost_name }
-    ensures made { HasCleanDisk (state S.Store tx.new.conn.now) → AreMade schema_1 (state S.Store tx.old.conn.now) → OnOk result (AreMade schema_2 (state S.Store tx.new.conn.now)) }
-    ensures rows { HasCleanDisk (state S.Store tx.new.conn.now) → AreMade schema_1 (state S.Store tx.old.conn.now) → IfOk result (λ rows. rows ≡ 0) }
-    ensures kept { HasCleanDisk (state S.Store tx.new.conn.now) → KeepsCommit (state S.Store tx.old.conn.now) (state S.Store tx.new.conn.now) }
+    ensures made { HasCleanDisk (state S.Store tx.new.conn.now) → AreMade schema_1 (state S.Store tx.old.conn.now)
+        → OnOk result (AreMade schema_2 (state S.Store tx.new.conn.now)) }
+    ensures rows { HasCleanDisk (state S.Store tx.new.conn.now) → AreMade schema_1 (state S.Store tx.old.conn.now)
+        → IfOk result (λ rows. rows ≡ 0) }
+    ensures kept { HasCleanDisk (state S.Store tx.new.conn.now)
+        → KeepsCommit (state S.Store tx.old.conn.now) (state S.Store tx.new.conn.now) }
     ensures survives { Survives (state S.Store tx.old.conn.now) (state S.Store tx.new.conn.now) (λ _. ⊥) }
 {
     tx.execute(
@@ -41,9 +50,12 @@ pub fn create_net<S: Alter>(tx: &mut Transaction<'_, S>) -> Result<usize, Error>
 /// Makes `message` where the tables up to `net` were just made. Gives 0: no row was written.
 pub fn create_message<S: Alter>(tx: &mut Transaction<'_, S>) -> Result<usize, Error>
     ensures same_reference { tx.new.conn.ghost_name ≡ tx.old.conn.ghost_name }
-    ensures made { HasCleanDisk (state S.Store tx.new.conn.now) → AreMade schema_2 (state S.Store tx.old.conn.now) → OnOk result (AreMade schema_3 (state S.Store tx.new.conn.now)) }
-    ensures rows { HasCleanDisk (state S.Store tx.new.conn.now) → AreMade schema_2 (state S.Store tx.old.conn.now) → IfOk result (λ rows. rows ≡ 0) }
-    ensures kept { HasCleanDisk (state S.Store tx.new.conn.now) → KeepsCommit (state S.Store tx.old.conn.now) (state S.Store tx.new.conn.now) }
+    ensures made { HasCleanDisk (state S.Store tx.new.conn.now) → AreMade schema_2 (state S.Store tx.old.conn.now)
+        → OnOk result (AreMade schema_3 (state S.Store tx.new.conn.now)) }
+    ensures rows { HasCleanDisk (state S.Store tx.new.conn.now) → AreMade schema_2 (state S.Store tx.old.conn.now)
+        → IfOk result (λ rows. rows ≡ 0) }
+    ensures kept { HasCleanDisk (state S.Store tx.new.conn.now)
+        → KeepsCommit (state S.Store tx.old.conn.now) (state S.Store tx.new.conn.now) }
     ensures survives { Survives (state S.Store tx.old.conn.now) (state S.Store tx.new.conn.now) (λ _. ⊥) }
 {
     tx.execute(
@@ -55,9 +67,12 @@ pub fn create_message<S: Alter>(tx: &mut Transaction<'_, S>) -> Result<usize, Er
 /// Makes `block` where the tables up to `message` were just made. Gives 0: no row was written.
 pub fn create_block<S: Alter>(tx: &mut Transaction<'_, S>) -> Result<usize, Error>
     ensures same_reference { tx.new.conn.ghost_name ≡ tx.old.conn.ghost_name }
-    ensures made { HasCleanDisk (state S.Store tx.new.conn.now) → AreMade schema_3 (state S.Store tx.old.conn.now) → OnOk result (AreMade schema_4 (state S.Store tx.new.conn.now)) }
-    ensures rows { HasCleanDisk (state S.Store tx.new.conn.now) → AreMade schema_3 (state S.Store tx.old.conn.now) → IfOk result (λ rows. rows ≡ 0) }
-    ensures kept { HasCleanDisk (state S.Store tx.new.conn.now) → KeepsCommit (state S.Store tx.old.conn.now) (state S.Store tx.new.conn.now) }
+    ensures made { HasCleanDisk (state S.Store tx.new.conn.now) → AreMade schema_3 (state S.Store tx.old.conn.now)
+        → OnOk result (AreMade schema_4 (state S.Store tx.new.conn.now)) }
+    ensures rows { HasCleanDisk (state S.Store tx.new.conn.now) → AreMade schema_3 (state S.Store tx.old.conn.now)
+        → IfOk result (λ rows. rows ≡ 0) }
+    ensures kept { HasCleanDisk (state S.Store tx.new.conn.now)
+        → KeepsCommit (state S.Store tx.old.conn.now) (state S.Store tx.new.conn.now) }
     ensures survives { Survives (state S.Store tx.old.conn.now) (state S.Store tx.new.conn.now) (λ _. ⊥) }
 {
     tx.execute(
@@ -69,9 +84,12 @@ pub fn create_block<S: Alter>(tx: &mut Transaction<'_, S>) -> Result<usize, Erro
 /// Makes `held` where the tables up to `block` were just made. Gives 0: no row was written.
 pub fn create_held<S: Alter>(tx: &mut Transaction<'_, S>) -> Result<usize, Error>
     ensures same_reference { tx.new.conn.ghost_name ≡ tx.old.conn.ghost_name }
-    ensures made { HasCleanDisk (state S.Store tx.new.conn.now) → AreMade schema_4 (state S.Store tx.old.conn.now) → OnOk result (AreMade schema_5 (state S.Store tx.new.conn.now)) }
-    ensures rows { HasCleanDisk (state S.Store tx.new.conn.now) → AreMade schema_4 (state S.Store tx.old.conn.now) → IfOk result (λ rows. rows ≡ 0) }
-    ensures kept { HasCleanDisk (state S.Store tx.new.conn.now) → KeepsCommit (state S.Store tx.old.conn.now) (state S.Store tx.new.conn.now) }
+    ensures made { HasCleanDisk (state S.Store tx.new.conn.now) → AreMade schema_4 (state S.Store tx.old.conn.now)
+        → OnOk result (AreMade schema_5 (state S.Store tx.new.conn.now)) }
+    ensures rows { HasCleanDisk (state S.Store tx.new.conn.now) → AreMade schema_4 (state S.Store tx.old.conn.now)
+        → IfOk result (λ rows. rows ≡ 0) }
+    ensures kept { HasCleanDisk (state S.Store tx.new.conn.now)
+        → KeepsCommit (state S.Store tx.old.conn.now) (state S.Store tx.new.conn.now) }
     ensures survives { Survives (state S.Store tx.old.conn.now) (state S.Store tx.new.conn.now) (λ _. ⊥) }
 {
     tx.execute(
@@ -83,9 +101,12 @@ pub fn create_held<S: Alter>(tx: &mut Transaction<'_, S>) -> Result<usize, Error
 /// Makes `spn` where the tables up to `held` were just made. Gives 0: no row was written.
 pub fn create_spn<S: Alter>(tx: &mut Transaction<'_, S>) -> Result<usize, Error>
     ensures same_reference { tx.new.conn.ghost_name ≡ tx.old.conn.ghost_name }
-    ensures made { HasCleanDisk (state S.Store tx.new.conn.now) → AreMade schema_5 (state S.Store tx.old.conn.now) → OnOk result (AreMade schema_6 (state S.Store tx.new.conn.now)) }
-    ensures rows { HasCleanDisk (state S.Store tx.new.conn.now) → AreMade schema_5 (state S.Store tx.old.conn.now) → IfOk result (λ rows. rows ≡ 0) }
-    ensures kept { HasCleanDisk (state S.Store tx.new.conn.now) → KeepsCommit (state S.Store tx.old.conn.now) (state S.Store tx.new.conn.now) }
+    ensures made { HasCleanDisk (state S.Store tx.new.conn.now) → AreMade schema_5 (state S.Store tx.old.conn.now)
+        → OnOk result (AreMade schema_6 (state S.Store tx.new.conn.now)) }
+    ensures rows { HasCleanDisk (state S.Store tx.new.conn.now) → AreMade schema_5 (state S.Store tx.old.conn.now)
+        → IfOk result (λ rows. rows ≡ 0) }
+    ensures kept { HasCleanDisk (state S.Store tx.new.conn.now)
+        → KeepsCommit (state S.Store tx.old.conn.now) (state S.Store tx.new.conn.now) }
     ensures survives { Survives (state S.Store tx.old.conn.now) (state S.Store tx.new.conn.now) (λ _. ⊥) }
 {
     tx.execute("CREATE TABLE spn (number INTEGER PRIMARY KEY) STRICT", &[])
@@ -94,9 +115,12 @@ pub fn create_spn<S: Alter>(tx: &mut Transaction<'_, S>) -> Result<usize, Error>
 /// Makes `approval` where the tables up to `spn` were just made. Gives 0: no row was written.
 pub fn create_approval<S: Alter>(tx: &mut Transaction<'_, S>) -> Result<usize, Error>
     ensures same_reference { tx.new.conn.ghost_name ≡ tx.old.conn.ghost_name }
-    ensures made { HasCleanDisk (state S.Store tx.new.conn.now) → AreMade schema_6 (state S.Store tx.old.conn.now) → OnOk result (AreMade schema_7 (state S.Store tx.new.conn.now)) }
-    ensures rows { HasCleanDisk (state S.Store tx.new.conn.now) → AreMade schema_6 (state S.Store tx.old.conn.now) → IfOk result (λ rows. rows ≡ 0) }
-    ensures kept { HasCleanDisk (state S.Store tx.new.conn.now) → KeepsCommit (state S.Store tx.old.conn.now) (state S.Store tx.new.conn.now) }
+    ensures made { HasCleanDisk (state S.Store tx.new.conn.now) → AreMade schema_6 (state S.Store tx.old.conn.now)
+        → OnOk result (AreMade schema_7 (state S.Store tx.new.conn.now)) }
+    ensures rows { HasCleanDisk (state S.Store tx.new.conn.now) → AreMade schema_6 (state S.Store tx.old.conn.now)
+        → IfOk result (λ rows. rows ≡ 0) }
+    ensures kept { HasCleanDisk (state S.Store tx.new.conn.now)
+        → KeepsCommit (state S.Store tx.old.conn.now) (state S.Store tx.new.conn.now) }
     ensures survives { Survives (state S.Store tx.old.conn.now) (state S.Store tx.new.conn.now) (λ _. ⊥) }
 {
     tx.execute(
@@ -108,9 +132,12 @@ pub fn create_approval<S: Alter>(tx: &mut Transaction<'_, S>) -> Result<usize, E
 /// Makes `frozen` where the tables up to `approval` were just made. Gives 0: no row was written.
 pub fn create_frozen<S: Alter>(tx: &mut Transaction<'_, S>) -> Result<usize, Error>
     ensures same_reference { tx.new.conn.ghost_name ≡ tx.old.conn.ghost_name }
-    ensures made { HasCleanDisk (state S.Store tx.new.conn.now) → AreMade schema_7 (state S.Store tx.old.conn.now) → OnOk result (AreMade schema_8 (state S.Store tx.new.conn.now)) }
-    ensures rows { HasCleanDisk (state S.Store tx.new.conn.now) → AreMade schema_7 (state S.Store tx.old.conn.now) → IfOk result (λ rows. rows ≡ 0) }
-    ensures kept { HasCleanDisk (state S.Store tx.new.conn.now) → KeepsCommit (state S.Store tx.old.conn.now) (state S.Store tx.new.conn.now) }
+    ensures made { HasCleanDisk (state S.Store tx.new.conn.now) → AreMade schema_7 (state S.Store tx.old.conn.now)
+        → OnOk result (AreMade schema_8 (state S.Store tx.new.conn.now)) }
+    ensures rows { HasCleanDisk (state S.Store tx.new.conn.now) → AreMade schema_7 (state S.Store tx.old.conn.now)
+        → IfOk result (λ rows. rows ≡ 0) }
+    ensures kept { HasCleanDisk (state S.Store tx.new.conn.now)
+        → KeepsCommit (state S.Store tx.old.conn.now) (state S.Store tx.new.conn.now) }
     ensures survives { Survives (state S.Store tx.old.conn.now) (state S.Store tx.new.conn.now) (λ _. ⊥) }
 {
     tx.execute(
@@ -122,9 +149,12 @@ pub fn create_frozen<S: Alter>(tx: &mut Transaction<'_, S>) -> Result<usize, Err
 /// Makes `reply` where the tables up to `frozen` were just made. Gives 0: no row was written.
 pub fn create_reply<S: Alter>(tx: &mut Transaction<'_, S>) -> Result<usize, Error>
     ensures same_reference { tx.new.conn.ghost_name ≡ tx.old.conn.ghost_name }
-    ensures made { HasCleanDisk (state S.Store tx.new.conn.now) → AreMade schema_8 (state S.Store tx.old.conn.now) → OnOk result (AreMade schema_9 (state S.Store tx.new.conn.now)) }
-    ensures rows { HasCleanDisk (state S.Store tx.new.conn.now) → AreMade schema_8 (state S.Store tx.old.conn.now) → IfOk result (λ rows. rows ≡ 0) }
-    ensures kept { HasCleanDisk (state S.Store tx.new.conn.now) → KeepsCommit (state S.Store tx.old.conn.now) (state S.Store tx.new.conn.now) }
+    ensures made { HasCleanDisk (state S.Store tx.new.conn.now) → AreMade schema_8 (state S.Store tx.old.conn.now)
+        → OnOk result (AreMade schema_9 (state S.Store tx.new.conn.now)) }
+    ensures rows { HasCleanDisk (state S.Store tx.new.conn.now) → AreMade schema_8 (state S.Store tx.old.conn.now)
+        → IfOk result (λ rows. rows ≡ 0) }
+    ensures kept { HasCleanDisk (state S.Store tx.new.conn.now)
+        → KeepsCommit (state S.Store tx.old.conn.now) (state S.Store tx.new.conn.now) }
     ensures survives { Survives (state S.Store tx.old.conn.now) (state S.Store tx.new.conn.now) (λ _. ⊥) }
 {
     tx.execute(
@@ -136,10 +166,15 @@ pub fn create_reply<S: Alter>(tx: &mut Transaction<'_, S>) -> Result<usize, Erro
 /// Makes `msg` where the tables up to `reply` were just made. Gives 0: no row was written.
 pub fn create_msg<S: Alter>(tx: &mut Transaction<'_, S>) -> Result<usize, Error>
     ensures same_reference { tx.new.conn.ghost_name ≡ tx.old.conn.ghost_name }
-    ensures made { HasCleanDisk (state S.Store tx.new.conn.now) → AreMade schema_9 (state S.Store tx.old.conn.now) → OnOk result (AreMade schema_10 (state S.Store tx.new.conn.now)) }
-    ensures grown { HasCleanDisk (state S.Store tx.new.conn.now) → IsOfficeWith schema_9 (state S.Store tx.old.conn.now).now → OnOk result (Grows schema_9 schema_10 (state S.Store tx.old.conn.now) (state S.Store tx.new.conn.now)) }
-    ensures rows { HasCleanDisk (state S.Store tx.new.conn.now) → AreMade schema_9 (state S.Store tx.old.conn.now) → IfOk result (λ rows. rows ≡ 0) }
-    ensures kept { HasCleanDisk (state S.Store tx.new.conn.now) → KeepsCommit (state S.Store tx.old.conn.now) (state S.Store tx.new.conn.now) }
+    ensures made { HasCleanDisk (state S.Store tx.new.conn.now) → AreMade schema_9 (state S.Store tx.old.conn.now)
+        → OnOk result (AreMade schema_10 (state S.Store tx.new.conn.now)) }
+    ensures grown { HasCleanDisk (state S.Store tx.new.conn.now)
+        → IsOfficeWith schema_9 (state S.Store tx.old.conn.now).now
+        → OnOk result (Grows schema_9 schema_10 (state S.Store tx.old.conn.now) (state S.Store tx.new.conn.now)) }
+    ensures rows { HasCleanDisk (state S.Store tx.new.conn.now) → AreMade schema_9 (state S.Store tx.old.conn.now)
+        → IfOk result (λ rows. rows ≡ 0) }
+    ensures kept { HasCleanDisk (state S.Store tx.new.conn.now)
+        → KeepsCommit (state S.Store tx.old.conn.now) (state S.Store tx.new.conn.now) }
     ensures survives { Survives (state S.Store tx.old.conn.now) (state S.Store tx.new.conn.now) (λ _. ⊥) }
 {
     tx.execute(
@@ -151,10 +186,15 @@ pub fn create_msg<S: Alter>(tx: &mut Transaction<'_, S>) -> Result<usize, Error>
 /// Makes `sig` where the tables up to `msg` were just made. Gives 0: no row was written.
 pub fn create_sig<S: Alter>(tx: &mut Transaction<'_, S>) -> Result<usize, Error>
     ensures same_reference { tx.new.conn.ghost_name ≡ tx.old.conn.ghost_name }
-    ensures made { HasCleanDisk (state S.Store tx.new.conn.now) → AreMade schema_10 (state S.Store tx.old.conn.now) → OnOk result (AreMade schema_11 (state S.Store tx.new.conn.now)) }
-    ensures grown { HasCleanDisk (state S.Store tx.new.conn.now) → IsOfficeWith schema_10 (state S.Store tx.old.conn.now).now → OnOk result (Grows schema_10 schema_11 (state S.Store tx.old.conn.now) (state S.Store tx.new.conn.now)) }
-    ensures rows { HasCleanDisk (state S.Store tx.new.conn.now) → AreMade schema_10 (state S.Store tx.old.conn.now) → IfOk result (λ rows. rows ≡ 0) }
-    ensures kept { HasCleanDisk (state S.Store tx.new.conn.now) → KeepsCommit (state S.Store tx.old.conn.now) (state S.Store tx.new.conn.now) }
+    ensures made { HasCleanDisk (state S.Store tx.new.conn.now) → AreMade schema_10 (state S.Store tx.old.conn.now)
+        → OnOk result (AreMade schema_11 (state S.Store tx.new.conn.now)) }
+    ensures grown { HasCleanDisk (state S.Store tx.new.conn.now)
+        → IsOfficeWith schema_10 (state S.Store tx.old.conn.now).now
+        → OnOk result (Grows schema_10 schema_11 (state S.Store tx.old.conn.now) (state S.Store tx.new.conn.now)) }
+    ensures rows { HasCleanDisk (state S.Store tx.new.conn.now) → AreMade schema_10 (state S.Store tx.old.conn.now)
+        → IfOk result (λ rows. rows ≡ 0) }
+    ensures kept { HasCleanDisk (state S.Store tx.new.conn.now)
+        → KeepsCommit (state S.Store tx.old.conn.now) (state S.Store tx.new.conn.now) }
     ensures survives { Survives (state S.Store tx.old.conn.now) (state S.Store tx.new.conn.now) (λ _. ⊥) }
 {
     tx.execute(
@@ -166,10 +206,15 @@ pub fn create_sig<S: Alter>(tx: &mut Transaction<'_, S>) -> Result<usize, Error>
 /// Makes `receiver` where the tables up to `sig` were just made. Gives 0: no row was written.
 pub fn create_receiver<S: Alter>(tx: &mut Transaction<'_, S>) -> Result<usize, Error>
     ensures same_reference { tx.new.conn.ghost_name ≡ tx.old.conn.ghost_name }
-    ensures made { HasCleanDisk (state S.Store tx.new.conn.now) → AreMade schema_11 (state S.Store tx.old.conn.now) → OnOk result (AreMade schema_12 (state S.Store tx.new.conn.now)) }
-    ensures grown { HasCleanDisk (state S.Store tx.new.conn.now) → IsOfficeWith schema_11 (state S.Store tx.old.conn.now).now → OnOk result (Grows schema_11 schema_12 (state S.Store tx.old.conn.now) (state S.Store tx.new.conn.now)) }
-    ensures rows { HasCleanDisk (state S.Store tx.new.conn.now) → AreMade schema_11 (state S.Store tx.old.conn.now) → IfOk result (λ rows. rows ≡ 0) }
-    ensures kept { HasCleanDisk (state S.Store tx.new.conn.now) → KeepsCommit (state S.Store tx.old.conn.now) (state S.Store tx.new.conn.now) }
+    ensures made { HasCleanDisk (state S.Store tx.new.conn.now) → AreMade schema_11 (state S.Store tx.old.conn.now)
+        → OnOk result (AreMade schema_12 (state S.Store tx.new.conn.now)) }
+    ensures grown { HasCleanDisk (state S.Store tx.new.conn.now)
+        → IsOfficeWith schema_11 (state S.Store tx.old.conn.now).now
+        → OnOk result (Grows schema_11 schema_12 (state S.Store tx.old.conn.now) (state S.Store tx.new.conn.now)) }
+    ensures rows { HasCleanDisk (state S.Store tx.new.conn.now) → AreMade schema_11 (state S.Store tx.old.conn.now)
+        → IfOk result (λ rows. rows ≡ 0) }
+    ensures kept { HasCleanDisk (state S.Store tx.new.conn.now)
+        → KeepsCommit (state S.Store tx.old.conn.now) (state S.Store tx.new.conn.now) }
     ensures survives { Survives (state S.Store tx.old.conn.now) (state S.Store tx.new.conn.now) (λ _. ⊥) }
 {
     tx.execute(
@@ -181,10 +226,15 @@ pub fn create_receiver<S: Alter>(tx: &mut Transaction<'_, S>) -> Result<usize, E
 /// Makes `sigvalue` where the tables up to `receiver` were just made. Gives 0: no row was written.
 pub fn create_sigvalue<S: Alter>(tx: &mut Transaction<'_, S>) -> Result<usize, Error>
     ensures same_reference { tx.new.conn.ghost_name ≡ tx.old.conn.ghost_name }
-    ensures made { HasCleanDisk (state S.Store tx.new.conn.now) → AreMade schema_12 (state S.Store tx.old.conn.now) → OnOk result (AreMade schema_13 (state S.Store tx.new.conn.now)) }
-    ensures grown { HasCleanDisk (state S.Store tx.new.conn.now) → IsOfficeWith schema_12 (state S.Store tx.old.conn.now).now → OnOk result (Grows schema_12 schema_13 (state S.Store tx.old.conn.now) (state S.Store tx.new.conn.now)) }
-    ensures rows { HasCleanDisk (state S.Store tx.new.conn.now) → AreMade schema_12 (state S.Store tx.old.conn.now) → IfOk result (λ rows. rows ≡ 0) }
-    ensures kept { HasCleanDisk (state S.Store tx.new.conn.now) → KeepsCommit (state S.Store tx.old.conn.now) (state S.Store tx.new.conn.now) }
+    ensures made { HasCleanDisk (state S.Store tx.new.conn.now) → AreMade schema_12 (state S.Store tx.old.conn.now)
+        → OnOk result (AreMade schema_13 (state S.Store tx.new.conn.now)) }
+    ensures grown { HasCleanDisk (state S.Store tx.new.conn.now)
+        → IsOfficeWith schema_12 (state S.Store tx.old.conn.now).now
+        → OnOk result (Grows schema_12 schema_13 (state S.Store tx.old.conn.now) (state S.Store tx.new.conn.now)) }
+    ensures rows { HasCleanDisk (state S.Store tx.new.conn.now) → AreMade schema_12 (state S.Store tx.old.conn.now)
+        → IfOk result (λ rows. rows ≡ 0) }
+    ensures kept { HasCleanDisk (state S.Store tx.new.conn.now)
+        → KeepsCommit (state S.Store tx.old.conn.now) (state S.Store tx.new.conn.now) }
     ensures survives { Survives (state S.Store tx.old.conn.now) (state S.Store tx.new.conn.now) (λ _. ⊥) }
 {
     tx.execute(
@@ -196,10 +246,15 @@ pub fn create_sigvalue<S: Alter>(tx: &mut Transaction<'_, S>) -> Result<usize, E
 /// Makes `part` where the tables up to `sigvalue` were just made. Gives 0: no row was written.
 pub fn create_part<S: Alter>(tx: &mut Transaction<'_, S>) -> Result<usize, Error>
     ensures same_reference { tx.new.conn.ghost_name ≡ tx.old.conn.ghost_name }
-    ensures made { HasCleanDisk (state S.Store tx.new.conn.now) → AreMade schema_13 (state S.Store tx.old.conn.now) → OnOk result (AreMade office_schema (state S.Store tx.new.conn.now)) }
-    ensures grown { HasCleanDisk (state S.Store tx.new.conn.now) → IsOfficeWith schema_13 (state S.Store tx.old.conn.now).now → OnOk result (Grows schema_13 office_schema (state S.Store tx.old.conn.now) (state S.Store tx.new.conn.now)) }
-    ensures rows { HasCleanDisk (state S.Store tx.new.conn.now) → AreMade schema_13 (state S.Store tx.old.conn.now) → IfOk result (λ rows. rows ≡ 0) }
-    ensures kept { HasCleanDisk (state S.Store tx.new.conn.now) → KeepsCommit (state S.Store tx.old.conn.now) (state S.Store tx.new.conn.now) }
+    ensures made { HasCleanDisk (state S.Store tx.new.conn.now) → AreMade schema_13 (state S.Store tx.old.conn.now)
+        → OnOk result (AreMade office_schema (state S.Store tx.new.conn.now)) }
+    ensures grown { HasCleanDisk (state S.Store tx.new.conn.now)
+        → IsOfficeWith schema_13 (state S.Store tx.old.conn.now).now
+        → OnOk result (Grows schema_13 office_schema (state S.Store tx.old.conn.now) (state S.Store tx.new.conn.now)) }
+    ensures rows { HasCleanDisk (state S.Store tx.new.conn.now) → AreMade schema_13 (state S.Store tx.old.conn.now)
+        → IfOk result (λ rows. rows ≡ 0) }
+    ensures kept { HasCleanDisk (state S.Store tx.new.conn.now)
+        → KeepsCommit (state S.Store tx.old.conn.now) (state S.Store tx.new.conn.now) }
     ensures survives { Survives (state S.Store tx.old.conn.now) (state S.Store tx.new.conn.now) (λ _. ⊥) }
 {
     tx.execute(
@@ -211,8 +266,11 @@ pub fn create_part<S: Alter>(tx: &mut Transaction<'_, S>) -> Result<usize, Error
 /// Makes `profile`, `net`, `message`.
 fn make_first<S: Alter>(tx: &mut Transaction<'_, S>) -> Result<(), Error>
     ensures same_reference { tx.new.conn.ghost_name ≡ tx.old.conn.ghost_name }
-    ensures made { HasCleanDisk (state S.Store tx.new.conn.now) → (state S.Store tx.old.conn.now).now.schema ≡ no_schema → OnOk result (AreMade schema_3 (state S.Store tx.new.conn.now)) }
-    ensures kept { HasCleanDisk (state S.Store tx.new.conn.now) → KeepsCommit (state S.Store tx.old.conn.now) (state S.Store tx.new.conn.now) }
+    ensures made { HasCleanDisk (state S.Store tx.new.conn.now)
+        → (state S.Store tx.old.conn.now).now.schema ≡ no_schema
+        → OnOk result (AreMade schema_3 (state S.Store tx.new.conn.now)) }
+    ensures kept { HasCleanDisk (state S.Store tx.new.conn.now)
+        → KeepsCommit (state S.Store tx.old.conn.now) (state S.Store tx.new.conn.now) }
     ensures survives { Survives (state S.Store tx.old.conn.now) (state S.Store tx.new.conn.now) (λ _. ⊥) }
 {
     create_profile(tx)?;
@@ -224,8 +282,10 @@ fn make_first<S: Alter>(tx: &mut Transaction<'_, S>) -> Result<(), Error>
 /// Makes `block`, `held`, `spn`.
 fn make_second<S: Alter>(tx: &mut Transaction<'_, S>) -> Result<(), Error>
     ensures same_reference { tx.new.conn.ghost_name ≡ tx.old.conn.ghost_name }
-    ensures made { HasCleanDisk (state S.Store tx.new.conn.now) → AreMade schema_3 (state S.Store tx.old.conn.now) → OnOk result (AreMade schema_6 (state S.Store tx.new.conn.now)) }
-    ensures kept { HasCleanDisk (state S.Store tx.new.conn.now) → KeepsCommit (state S.Store tx.old.conn.now) (state S.Store tx.new.conn.now) }
+    ensures made { HasCleanDisk (state S.Store tx.new.conn.now) → AreMade schema_3 (state S.Store tx.old.conn.now)
+        → OnOk result (AreMade schema_6 (state S.Store tx.new.conn.now)) }
+    ensures kept { HasCleanDisk (state S.Store tx.new.conn.now)
+        → KeepsCommit (state S.Store tx.old.conn.now) (state S.Store tx.new.conn.now) }
     ensures survives { Survives (state S.Store tx.old.conn.now) (state S.Store tx.new.conn.now) (λ _. ⊥) }
 {
     create_block(tx)?;
@@ -237,8 +297,10 @@ fn make_second<S: Alter>(tx: &mut Transaction<'_, S>) -> Result<(), Error>
 /// Makes `approval`, `frozen`, `reply`.
 fn make_third<S: Alter>(tx: &mut Transaction<'_, S>) -> Result<(), Error>
     ensures same_reference { tx.new.conn.ghost_name ≡ tx.old.conn.ghost_name }
-    ensures made { HasCleanDisk (state S.Store tx.new.conn.now) → AreMade schema_6 (state S.Store tx.old.conn.now) → OnOk result (AreMade schema_9 (state S.Store tx.new.conn.now)) }
-    ensures kept { HasCleanDisk (state S.Store tx.new.conn.now) → KeepsCommit (state S.Store tx.old.conn.now) (state S.Store tx.new.conn.now) }
+    ensures made { HasCleanDisk (state S.Store tx.new.conn.now) → AreMade schema_6 (state S.Store tx.old.conn.now)
+        → OnOk result (AreMade schema_9 (state S.Store tx.new.conn.now)) }
+    ensures kept { HasCleanDisk (state S.Store tx.new.conn.now)
+        → KeepsCommit (state S.Store tx.old.conn.now) (state S.Store tx.new.conn.now) }
     ensures survives { Survives (state S.Store tx.old.conn.now) (state S.Store tx.new.conn.now) (λ _. ⊥) }
 {
     create_approval(tx)?;
@@ -250,9 +312,13 @@ fn make_third<S: Alter>(tx: &mut Transaction<'_, S>) -> Result<(), Error>
 /// Makes `msg`, `sig`, `receiver`.
 fn make_fourth<S: Alter>(tx: &mut Transaction<'_, S>) -> Result<(), Error>
     ensures same_reference { tx.new.conn.ghost_name ≡ tx.old.conn.ghost_name }
-    ensures made { HasCleanDisk (state S.Store tx.new.conn.now) → AreMade schema_9 (state S.Store tx.old.conn.now) → OnOk result (AreMade schema_12 (state S.Store tx.new.conn.now)) }
-    ensures grown { HasCleanDisk (state S.Store tx.new.conn.now) → IsOfficeWith schema_9 (state S.Store tx.old.conn.now).now → OnOk result (Grows schema_9 schema_12 (state S.Store tx.old.conn.now) (state S.Store tx.new.conn.now)) }
-    ensures kept { HasCleanDisk (state S.Store tx.new.conn.now) → KeepsCommit (state S.Store tx.old.conn.now) (state S.Store tx.new.conn.now) }
+    ensures made { HasCleanDisk (state S.Store tx.new.conn.now) → AreMade schema_9 (state S.Store tx.old.conn.now)
+        → OnOk result (AreMade schema_12 (state S.Store tx.new.conn.now)) }
+    ensures grown { HasCleanDisk (state S.Store tx.new.conn.now)
+        → IsOfficeWith schema_9 (state S.Store tx.old.conn.now).now
+        → OnOk result (Grows schema_9 schema_12 (state S.Store tx.old.conn.now) (state S.Store tx.new.conn.now)) }
+    ensures kept { HasCleanDisk (state S.Store tx.new.conn.now)
+        → KeepsCommit (state S.Store tx.old.conn.now) (state S.Store tx.new.conn.now) }
     ensures survives { Survives (state S.Store tx.old.conn.now) (state S.Store tx.new.conn.now) (λ _. ⊥) }
 {
     create_msg(tx)?;
@@ -264,9 +330,13 @@ fn make_fourth<S: Alter>(tx: &mut Transaction<'_, S>) -> Result<(), Error>
 /// Makes `sigvalue`, `part`.
 fn make_fifth<S: Alter>(tx: &mut Transaction<'_, S>) -> Result<(), Error>
     ensures same_reference { tx.new.conn.ghost_name ≡ tx.old.conn.ghost_name }
-    ensures made { HasCleanDisk (state S.Store tx.new.conn.now) → AreMade schema_12 (state S.Store tx.old.conn.now) → OnOk result (AreMade office_schema (state S.Store tx.new.conn.now)) }
-    ensures grown { HasCleanDisk (state S.Store tx.new.conn.now) → IsOfficeWith schema_12 (state S.Store tx.old.conn.now).now → OnOk result (Grows schema_12 office_schema (state S.Store tx.old.conn.now) (state S.Store tx.new.conn.now)) }
-    ensures kept { HasCleanDisk (state S.Store tx.new.conn.now) → KeepsCommit (state S.Store tx.old.conn.now) (state S.Store tx.new.conn.now) }
+    ensures made { HasCleanDisk (state S.Store tx.new.conn.now) → AreMade schema_12 (state S.Store tx.old.conn.now)
+        → OnOk result (AreMade office_schema (state S.Store tx.new.conn.now)) }
+    ensures grown { HasCleanDisk (state S.Store tx.new.conn.now)
+        → IsOfficeWith schema_12 (state S.Store tx.old.conn.now).now
+        → OnOk result (Grows schema_12 office_schema (state S.Store tx.old.conn.now) (state S.Store tx.new.conn.now)) }
+    ensures kept { HasCleanDisk (state S.Store tx.new.conn.now)
+        → KeepsCommit (state S.Store tx.old.conn.now) (state S.Store tx.new.conn.now) }
     ensures survives { Survives (state S.Store tx.old.conn.now) (state S.Store tx.new.conn.now) (λ _. ⊥) }
 {
     create_sigvalue(tx)?;
@@ -277,9 +347,13 @@ fn make_fifth<S: Alter>(tx: &mut Transaction<'_, S>) -> Result<(), Error>
 /// Makes the tables of live messages and of bundles, after the others.
 pub fn make_last<S: Alter>(tx: &mut Transaction<'_, S>) -> Result<(), Error>
     ensures same_reference { tx.new.conn.ghost_name ≡ tx.old.conn.ghost_name }
-    ensures made { HasCleanDisk (state S.Store tx.new.conn.now) → AreMade schema_9 (state S.Store tx.old.conn.now) → OnOk result (AreMade office_schema (state S.Store tx.new.conn.now)) }
-    ensures grown { HasCleanDisk (state S.Store tx.new.conn.now) → IsOfficeWith schema_9 (state S.Store tx.old.conn.now).now → OnOk result (Grows schema_9 office_schema (state S.Store tx.old.conn.now) (state S.Store tx.new.conn.now)) }
-    ensures kept { HasCleanDisk (state S.Store tx.new.conn.now) → KeepsCommit (state S.Store tx.old.conn.now) (state S.Store tx.new.conn.now) }
+    ensures made { HasCleanDisk (state S.Store tx.new.conn.now) → AreMade schema_9 (state S.Store tx.old.conn.now)
+        → OnOk result (AreMade office_schema (state S.Store tx.new.conn.now)) }
+    ensures grown { HasCleanDisk (state S.Store tx.new.conn.now)
+        → IsOfficeWith schema_9 (state S.Store tx.old.conn.now).now
+        → OnOk result (Grows schema_9 office_schema (state S.Store tx.old.conn.now) (state S.Store tx.new.conn.now)) }
+    ensures kept { HasCleanDisk (state S.Store tx.new.conn.now)
+        → KeepsCommit (state S.Store tx.old.conn.now) (state S.Store tx.new.conn.now) }
     ensures survives { Survives (state S.Store tx.old.conn.now) (state S.Store tx.new.conn.now) (λ _. ⊥) }
 {
     make_fourth(tx)?;
@@ -289,8 +363,11 @@ pub fn make_last<S: Alter>(tx: &mut Transaction<'_, S>) -> Result<(), Error>
 /// Makes the tables, each after those before it.
 fn make_each<S: Alter>(tx: &mut Transaction<'_, S>) -> Result<(), Error>
     ensures same_reference { tx.new.conn.ghost_name ≡ tx.old.conn.ghost_name }
-    ensures made { HasCleanDisk (state S.Store tx.new.conn.now) → (state S.Store tx.old.conn.now).now.schema ≡ no_schema → OnOk result (AreMade office_schema (state S.Store tx.new.conn.now)) }
-    ensures kept { HasCleanDisk (state S.Store tx.new.conn.now) → KeepsCommit (state S.Store tx.old.conn.now) (state S.Store tx.new.conn.now) }
+    ensures made { HasCleanDisk (state S.Store tx.new.conn.now)
+        → (state S.Store tx.old.conn.now).now.schema ≡ no_schema
+        → OnOk result (AreMade office_schema (state S.Store tx.new.conn.now)) }
+    ensures kept { HasCleanDisk (state S.Store tx.new.conn.now)
+        → KeepsCommit (state S.Store tx.old.conn.now) (state S.Store tx.new.conn.now) }
     ensures survives { Survives (state S.Store tx.old.conn.now) (state S.Store tx.new.conn.now) (λ _. ⊥) }
 {
     make_first(tx)?;
@@ -302,8 +379,11 @@ fn make_each<S: Alter>(tx: &mut Transaction<'_, S>) -> Result<(), Error>
 /// Makes all tables where there is none: they are the office's, with no row.
 pub fn make_tables<S: Alter>(tx: &mut Transaction<'_, S>) -> Result<(), Error>
     ensures same_reference { tx.new.conn.ghost_name ≡ tx.old.conn.ghost_name }
-    ensures made { HasCleanDisk (state S.Store tx.new.conn.now) → (state S.Store tx.old.conn.now).now.schema ≡ no_schema → OnOk result (IsEmptyOffice (state S.Store tx.new.conn.now)) }
-    ensures kept { HasCleanDisk (state S.Store tx.new.conn.now) → KeepsCommit (state S.Store tx.old.conn.now) (state S.Store tx.new.conn.now) }
+    ensures made { HasCleanDisk (state S.Store tx.new.conn.now)
+        → (state S.Store tx.old.conn.now).now.schema ≡ no_schema
+        → OnOk result (IsEmptyOffice (state S.Store tx.new.conn.now)) }
+    ensures kept { HasCleanDisk (state S.Store tx.new.conn.now)
+        → KeepsCommit (state S.Store tx.old.conn.now) (state S.Store tx.new.conn.now) }
     ensures survives { Survives (state S.Store tx.old.conn.now) (state S.Store tx.new.conn.now) (λ _. ⊥) }
 {
     make_each(tx)

@@ -1,13 +1,15 @@
 //! The tables of the office: their schema, the rows that they keep, and making them.
 //!
-//! [`make_tables`] makes all tables on an empty store, in one fixed order: `profile`, `net`, `message`, `block`, `held`,
-//! `spn`, `approval`, `frozen`, `reply`, `msg`, `sig`, `receiver`, `sigvalue`, `part`. A table that comes later is made last. docs/DESIGN.md says what each row means.
+//! [`make_tables`] makes all tables on an empty store, in one fixed order: `profile`, `net`, `message`, `block`,
+//! `held`, `spn`, `approval`, `frozen`, `reply`, `msg`, `sig`, `receiver`, `sigvalue`, `part`. A table that comes later
+//! is made last. docs/DESIGN.md says what each row means.
 //!
-//! [`is_new`] tells whether there is a table yet, and [`knows_schema`] that trees of the office are read with its schema;
-//! [`knows_tables`] says so of every schema, as those of earlier times (`IsOfficeSchema`).
+//! [`is_new`] tells whether there is a table yet, and [`knows_schema`] that trees of the office are read with its
+//! schema; [`knows_tables`] says so of every schema, as those of earlier times (`IsOfficeSchema`).
 //!
 //! The statements that read and write rows are in the crate `office_rows`. What a statement of each form makes of the
-//! tables is proved here once, for any table: `proofs/Changing.antt` has INSERT and DELETE, `proofs/Selecting.antt` SELECT.
+//! tables is proved here once, for any table: `proofs/Changing.antt` has INSERT and DELETE, `proofs/Selecting.antt`
+//! SELECT.
 //!
 //! The definitions are in `specs/`: `Schema.antt` (the tables, as `sqlite` has them), `Tables.antt` (their rows),
 //! `Statements.antt` (what a statement makes of them) and `Selected.antt` (what a SELECT shows).

@@ -4,7 +4,7 @@ use Rattle.std.specs.Prelude.{is_none}
 use Rattle.catalogue.specs.Refusing.{first_refusal}
 use Rattle.office_types.specs.declared.refusal.Refusal.TheVariants as no
 use Rattle.office_rules.specs.Outcome.{when}
-use Rattle.office_take.specs.Told.{refused_or_full}
+use Rattle.office_take.specs.FactsOf.{refused_or_full}
 
 pub first-full : (given : Option ℕ) → first_refusal (when (is_none given) no.BlockFull ∷ []) ≡ refused_or_full None given
 first-full None = refl

@@ -16,7 +16,7 @@ use Rattle.office_rules.specs.Lists.{none_of}
 use Rattle.office_rules.specs.Numbers.{ident_with, name_tests, new_message, take_ident, take_pgn, with_message}
 use Rattle.office_rules.specs.Outcome.{Outcome, Changing, given_or, no_entries, unless, when}
 use Rattle.office_law.specs.Refusals.{LeastInsideBlocks}
-use Rattle.office_net.specs.By.{AreGroupFacts, AreIdentFacts, take_ident_by, take_pgn_by}
+use Rattle.office_facts.specs.By.{AreGroupFacts, AreIdentFacts, take_ident_by, take_pgn_by}
 
 -- by the facts of the network the outcome is that of the command
 own_ident : (team : List ℕ) (net : Net) (c : TakeIdent) → take_ident_by team (ident_facts net c.message.name c.form c.want) net c ≡ take_ident team (Some net) c

@@ -6,7 +6,7 @@ use Rattle.office_types.specs.declared.change.Change.{Change}
 use Rattle.office_types.specs.declared.change.Change.TheVariants.{SetBlock, SetSpnBlock}
 use Rattle.office_types.specs.declared.refusal.Refusal.TheVariants as no
 use Rattle.office_take.specs.Granting.{grant_change}
-use Rattle.office_take.specs.Told.{refused_or_full}
+use Rattle.office_take.specs.FactsOf.{refused_or_full}
 
 -- a block of identifiers is set on the network, one of suspect parameter numbers in the book, with the network's name
 on_net : ◌≡◌ {A = Change} (grant_change (codes "truck") (record { team = codes "engine"; block = record { form = Std; first = 256; last = 258 } }))

@@ -1,2 +1,2 @@
 pub mod Granting
-pub mod Told
+pub mod FactsOf

@@ -11,7 +11,7 @@ ghost use Rattle.office_rules.specs.Facts.{has_node};
 ghost use Rattle.office_rules.specs.Opening.{add_node, add_node_tests, with_node};
 
 use catalogue::{Copying, Name, Node, ROSTER_LIMIT, Sheet, SheetCode, Text};
-use office_net::{has_node, head_with, in_review, one_change, refusal_decision};
+use office_facts::{has_node, head_with, in_review, one_change, refusal_decision};
 use office_types::{Change, Decision, Net, Refusal, Reply};
 use std::alloc::{AllocError, Global};
 
@@ -51,7 +51,8 @@ fn frame_with(alloc: Global, frame: &Sheet, node: Node) -> Result<Sheet, AllocEr
 fn node_added(alloc: Global, net: &Net, name: &Name) -> Result<Decision, AllocError>
     requires room { nat_le roster_limit (length net.now.head.frame.nodes) ≡ false }
     requires new { has_node net.now.head.frame.nodes name.now ≡ false }
-    ensures changes { IfOk result (λ d. d.changes ≡ SetHead (with_node net.now (record { name = name.now; comment = [] })).head ∷ []) }
+    ensures changes { IfOk result (λ d. d.changes ≡ SetHead
+        (with_node net.now (record { name = name.now; comment = [] })).head ∷ []) }
     ensures reply { IfOk result (λ d. d.reply ≡ Done) }
 {
     let node = Node {
@@ -70,7 +71,9 @@ pub fn decide_add_node(
     net: Option<&Net>,
     name: &Name,
 ) -> Result<Decision, AllocError>
-    ensures { IfOk result (λ d. (at : List ℕ) (book : SpnBook) → Decides at (record { net = option_copied net.entry; book = book }) (add_node (option_copied net.entry) name.now) d) }
+    ensures { IfOk result (λ d. (at : List ℕ) (book : SpnBook)
+        → Decides at (record { net = option_copied net.entry; book = book })
+        (add_node (option_copied net.entry) name.now) d) }
 {
     match net {
         None => Ok(refusal_decision(alloc, Refusal::NoNet)),

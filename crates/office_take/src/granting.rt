@@ -9,7 +9,7 @@ ghost use Rattle.office_rules.specs.Opening.{grant, grant_tests, is_block_taken}
 ghost use Rattle.office_take.specs.Granting.{grant_change};
 
 use catalogue::Copying;
-use office_net::{is_j1939, one_change, refusal_decision};
+use office_facts::{is_j1939, one_change, refusal_decision};
 use office_types::{
     BlockForm, Change, Decision, FormBlock, Grant, GrantedBlock, Net, NetName, Refusal, Reply,
     SpnBlock, SpnBook, Team, is_office,
@@ -114,7 +114,8 @@ pub fn decide_grant(
     book: &SpnBook,
     command: &Grant,
 ) -> Result<Decision, AllocError>
-    ensures { IfOk result (Decides name.now (record { net = option_copied net.entry; book = book.now }) (grant team.now name.now (option_copied net.entry) book.now command.now)) }
+    ensures { IfOk result (Decides name.now (record { net = option_copied net.entry; book = book.now })
+        (grant team.now name.now (option_copied net.entry) book.now command.now)) }
 {
     if let Some(refusal) = grant_refusal(team, net, book, command) {
         return Ok(refusal_decision(alloc, refusal));

@@ -9,13 +9,13 @@ ghost use Rattle.office_types.specs.declared.state.Net.{Net};
 ghost use Rattle.office_rules.specs.Change.{Decides};
 ghost use Rattle.office_rules.specs.Facts.{group_facts, taken_groups};
 ghost use Rattle.office_rules.specs.Numbers.{address_of, group_given, ident_with, take_pgn, take_pgn_tests};
-ghost use Rattle.office_net.specs.By.{take_pgn_by};
-ghost use Rattle.office_take.specs.Told.{number_facts_of, refused_or_full};
+ghost use Rattle.office_facts.specs.By.{take_pgn_by};
+ghost use Rattle.office_take.specs.FactsOf.{number_facts_of, refused_or_full};
 
 use crate::numbers::{NumberFacts, group_facts, message_taken, name_refusal, taken_idents};
 use crate::taken::{Taken, ascending, least_of_team};
 use can_id::{Ident, J1939};
-use office_net::{group_of, has_block, is_j1939, refusal_decision};
+use office_facts::{group_of, has_block, is_j1939, refusal_decision};
 use office_types::{BlockForm, Decision, Net, Pdu, Refusal, TakePgn, Team};
 use std::alloc::{AllocError, Global};
 
@@ -50,7 +50,8 @@ impl Taken for TakenGroups<'_> {
 
 /// Why the command is refused, whatever is taken.
 fn take_pgn_refusal(team: &Team, facts: &NumberFacts<'_>, command: &TakePgn) -> Option<Refusal>
-    ensures { (taken : List ℕ) → first_refusal (take_pgn_tests team.now (number_facts_of facts.now taken) command.now) ≡ refused_or_full result (group_given team.now (number_facts_of facts.now taken) command.now) }
+    ensures { (taken : List ℕ) → first_refusal (take_pgn_tests team.now (number_facts_of facts.now taken) command.now)
+        ≡ refused_or_full result (group_given team.now (number_facts_of facts.now taken) command.now) }
 {
     if !is_j1939(facts.kind) {
         return Some(Refusal::NotJ1939);
@@ -97,7 +98,9 @@ pub fn decide_take_pgn_on<T: Taken>(
     taken: &T,
     command: &TakePgn,
 ) -> Result<Decision, AllocError>
-    ensures { IfOk result (λ d. (name : List ℕ) (net : Net) (book : SpnBook) → Decides name (record { net = Some net; book = book }) (take_pgn_by team.now (number_facts_of facts.now (T.numbers taken.now)) net command.now) d) }
+    ensures { IfOk result (λ d. (name : List ℕ) (net : Net) (book : SpnBook)
+        → Decides name (record { net = Some net; book = book })
+        (take_pgn_by team.now (number_facts_of facts.now (T.numbers taken.now)) net command.now) d) }
 {
     if let Some(refusal) = take_pgn_refusal(team, facts, command) {
         return Ok(refusal_decision(alloc, refusal));
@@ -119,7 +122,9 @@ pub fn decide_take_pgn(
     net: Option<&Net>,
     command: &TakePgn,
 ) -> Result<Decision, AllocError>
-    ensures { IfOk result (λ d. (name : List ℕ) (book : SpnBook) → Decides name (record { net = option_copied net.entry; book = book }) (take_pgn team.now (option_copied net.entry) command.now) d) }
+    ensures { IfOk result (λ d. (name : List ℕ) (book : SpnBook)
+        → Decides name (record { net = option_copied net.entry; book = book })
+        (take_pgn team.now (option_copied net.entry) command.now) d) }
 {
     match net {
         None => Ok(refusal_decision(alloc, Refusal::NoNet)),

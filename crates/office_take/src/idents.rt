@@ -9,13 +9,13 @@ ghost use Rattle.office_types.specs.declared.state.Net.{Net};
 ghost use Rattle.office_rules.specs.Change.{Decides};
 ghost use Rattle.office_rules.specs.Facts.{ident_facts, taken_numbers};
 ghost use Rattle.office_rules.specs.Numbers.{number_given, take_ident, take_ident_tests, want_tests};
-ghost use Rattle.office_net.specs.By.{take_ident_by};
-ghost use Rattle.office_take.specs.Told.{number_facts_of, refused_or_full};
+ghost use Rattle.office_facts.specs.By.{take_ident_by};
+ghost use Rattle.office_take.specs.FactsOf.{number_facts_of, refused_or_full};
 
 use crate::numbers::{NumberFacts, ident_facts, message_taken, name_refusal, taken_idents};
 use crate::taken::{Taken, ascending, least_of_team};
 use can_id::{Ident, IdentForm};
-use office_net::{has_block, has_number, number_in, refusal_decision};
+use office_facts::{has_block, has_number, number_in, refusal_decision};
 use office_types::{BlockForm, Decision, Form, Net, Refusal, TakeIdent, Team};
 use std::alloc::{AllocError, Global};
 
@@ -48,7 +48,9 @@ impl Taken for TakenIdents<'_> {
 
 /// Why the number that the command gives out is refused, but for that there is none.
 fn want_refusal(team: &Team, facts: &NumberFacts<'_>, command: &TakeIdent) -> Option<Refusal>
-    ensures first { (taken : List ℕ) → first_refusal (want_tests team.now (number_facts_of facts.now taken) command.now) ≡ refused_or_full result (number_given team.now (number_facts_of facts.now taken) command.now) }
+    ensures first { (taken : List ℕ) → first_refusal
+        (want_tests team.now (number_facts_of facts.now taken) command.now)
+        ≡ refused_or_full result (number_given team.now (number_facts_of facts.now taken) command.now) }
     ensures formed { IfNone result (IfSome command.now.want (λ n. has_form (number_form command.now.form) n ≡ true)) }
 {
     match command.want {
@@ -71,7 +73,9 @@ fn want_refusal(team: &Team, facts: &NumberFacts<'_>, command: &TakeIdent) -> Op
 
 /// Why the command is refused, whatever is taken.
 fn take_ident_refusal(team: &Team, facts: &NumberFacts<'_>, command: &TakeIdent) -> Option<Refusal>
-    ensures first { (taken : List ℕ) → first_refusal (take_ident_tests team.now (number_facts_of facts.now taken) command.now) ≡ refused_or_full result (number_given team.now (number_facts_of facts.now taken) command.now) }
+    ensures first { (taken : List ℕ) → first_refusal
+        (take_ident_tests team.now (number_facts_of facts.now taken) command.now)
+        ≡ refused_or_full result (number_given team.now (number_facts_of facts.now taken) command.now) }
     ensures formed { IfNone result (IfSome command.now.want (λ n. has_form (number_form command.now.form) n ≡ true)) }
 {
     match name_refusal(facts, &command.message) {
@@ -96,7 +100,8 @@ fn number_given<T: Taken>(
     command: &TakeIdent,
 ) -> Result<Option<u32>, AllocError>
     requires { IfSome command.now.want (λ n. has_form (number_form command.now.form) n ≡ true) }
-    ensures given { IfOk result (λ given. given ≡ number_given team.now (number_facts_of facts.now (T.numbers taken.now)) command.now) }
+    ensures given { IfOk result (λ given. given ≡ number_given team.now
+        (number_facts_of facts.now (T.numbers taken.now)) command.now) }
     ensures formed { IfOk result (λ given. IfSome given (λ n. has_form (number_form command.now.form) n ≡ true)) }
 {
     match command.want {
@@ -126,7 +131,9 @@ pub fn decide_take_ident_on<T: Taken>(
     taken: &T,
     command: &TakeIdent,
 ) -> Result<Decision, AllocError>
-    ensures { IfOk result (λ d. (name : List ℕ) (net : Net) (book : SpnBook) → Decides name (record { net = Some net; book = book }) (take_ident_by team.now (number_facts_of facts.now (T.numbers taken.now)) net command.now) d) }
+    ensures { IfOk result (λ d. (name : List ℕ) (net : Net) (book : SpnBook)
+        → Decides name (record { net = Some net; book = book })
+        (take_ident_by team.now (number_facts_of facts.now (T.numbers taken.now)) net command.now) d) }
 {
     if let Some(refusal) = take_ident_refusal(team, facts, command) {
         return Ok(refusal_decision(alloc, refusal));
@@ -148,7 +155,9 @@ pub fn decide_take_ident(
     net: Option<&Net>,
     command: &TakeIdent,
 ) -> Result<Decision, AllocError>
-    ensures { IfOk result (λ d. (name : List ℕ) (book : SpnBook) → Decides name (record { net = option_copied net.entry; book = book }) (take_ident team.now (option_copied net.entry) command.now) d) }
+    ensures { IfOk result (λ d. (name : List ℕ) (book : SpnBook)
+        → Decides name (record { net = option_copied net.entry; book = book })
+        (take_ident team.now (option_copied net.entry) command.now) d) }
 {
     match net {
         None => Ok(refusal_decision(alloc, Refusal::NoNet)),

@@ -1,9 +1,9 @@
-//! Decisions on the commands that open networks, grant blocks, add nodes, give out numbers for new messages, and
-//! review.
+//! Decisions on the commands that open networks, grant blocks, add nodes, give out numbers for new messages, review,
+//! and release.
 //!
-//! Each `decide_..` gives what its command comes to by the definition of `office_rules` that has its name: a reply, and
-//! the changes that lead to what the command leaves. `opening` opens a network, `granting` grants a block, `adding`
-//! adds a node and `reviewing` has reviews.
+//! Each `decide_..` gives what its command results in by the definition of `office_rules` that has its name: a reply,
+//! and the changes that lead to what the command leaves. `opening` opens a network, `granting` grants a block, `adding`
+//! adds a node, `reviewing` has reviews, and `releasing` freezes the live sheet.
 //!
 //! `idents` gives out identifiers and `groups` parameter groups. Both read [`NumberFacts`] of a network, and the
 //! numbers that are taken by a [`Taken`], which gathers and sorts them only where no other test refuses; so a refusal
@@ -18,6 +18,7 @@ mod idents;
 mod listed;
 mod numbers;
 mod opening;
+mod releasing;
 mod reviewing;
 mod taken;
 
@@ -28,5 +29,6 @@ pub use idents::{decide_take_ident, decide_take_ident_on};
 pub use listed::ListedNumbers;
 pub use numbers::{NumberFacts, group_facts, ident_facts};
 pub use opening::decide_open_net;
+pub use releasing::decide_release;
 pub use reviewing::{decide_approve, decide_reject, decide_submit};
 pub use taken::Taken;

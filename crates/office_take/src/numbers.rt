@@ -4,13 +4,14 @@ ghost use Rattle.can_id.specs.Ident.{ident_of};
 ghost use Rattle.catalogue.specs.Refusing.{first_refusal};
 ghost use Rattle.office_types.specs.declared.change.Change.TheVariants.{SetMessage};
 ghost use Rattle.office_types.specs.declared.reply.Reply.TheVariants.{Number};
-ghost use Rattle.office_rules.specs.Facts.{group_facts, ident_facts, is_held, is_live, taken_groups, taken_idents, taken_numbers};
+ghost use Rattle.office_rules.specs.Facts.{group_facts, ident_facts, is_held, is_live, taken_groups, taken_idents};
+ghost use Rattle.office_rules.specs.Facts.{taken_numbers};
 ghost use Rattle.office_rules.specs.Numbers.{name_tests, new_message};
-ghost use Rattle.office_take.specs.Told.{number_facts_of};
+ghost use Rattle.office_take.specs.FactsOf.{number_facts_of};
 
 use can_id::{Ident, IdentForm};
 use catalogue::{Copying, MESSAGE_LIMIT, Message, Name, Node, Signals, Text};
-use office_net::{has_ident, ident_is, in_review, is_named, knows_node, one_change};
+use office_facts::{has_ident, ident_is, in_review, is_named, knows_node, one_change};
 use office_types::{
     Change, Decision, GrantedBlock, LiveMessage, Net, NetKind, NewMessage, Phase, Refusal, Reply,
     TakeIdent, Team,
@@ -78,7 +79,8 @@ pub(crate) fn taken_idents(alloc: Global, net: &Net) -> Result<Vec<Ident>, Alloc
 
 /// What the network has for the command, but for the numbers that are taken. Takes no memory.
 pub fn ident_facts<'a>(net: &'a Net, command: &TakeIdent) -> NumberFacts<'a>
-    ensures { number_facts_of result (taken_numbers net.now command.now.form) ≡ ident_facts net.now command.now.message.name command.now.form command.now.want }
+    ensures { number_facts_of result (taken_numbers net.now command.now.form)
+        ≡ ident_facts net.now command.now.message.name command.now.form command.now.want }
 {
     let form = command.form;
     let (want_live, want_held) = match command.want {

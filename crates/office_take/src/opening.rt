@@ -7,7 +7,7 @@ ghost use Rattle.office_rules.specs.Change.{Decides};
 ghost use Rattle.office_rules.specs.Opening.{open_net, open_net_tests};
 
 use catalogue::Sheet;
-use office_net::{one_change, refusal_decision};
+use office_facts::{one_change, refusal_decision};
 use office_types::{
     Change, Decision, Head, Net, NetName, OpenNet, Phase, Refusal, Reply, Team, is_office,
 };
@@ -35,7 +35,9 @@ pub fn decide_open_net(
     net: Option<&Net>,
     command: &OpenNet,
 ) -> Result<Decision, AllocError>
-    ensures { IfOk result (λ d. (book : SpnBook) → Decides name.now (record { net = option_copied net.entry; book = book }) (open_net team.now name.now (option_copied net.entry) command.now) d) }
+    ensures { IfOk result (λ d. (book : SpnBook) → Decides name.now
+        (record { net = option_copied net.entry; book = book })
+        (open_net team.now name.now (option_copied net.entry) command.now) d) }
 {
     if let Some(refusal) = open_net_refusal(team, net) {
         return Ok(refusal_decision(alloc, refusal));

@@ -9,7 +9,7 @@ ghost use Rattle.office_rules.specs.Change.{Decides};
 ghost use Rattle.office_rules.specs.Reviewing.{approve, in_phase, reject, review_tests, submit};
 
 use catalogue::Copying;
-use office_net::{head_in, in_review, is_submitter, one_change, refusal_decision, two_changes};
+use office_facts::{head_in, in_review, is_submitter, one_change, refusal_decision, two_changes};
 use office_types::{Change, Decision, Net, Phase, Refusal, Reply, Team};
 use std::alloc::{AllocError, Global};
 
@@ -29,7 +29,9 @@ fn phase_set(alloc: Global, net: &Net, phase: Phase) -> Result<Decision, AllocEr
 
 /// Decides the team's `submit` on the network, which may not be there. It reads no book. The error is out of memory.
 pub fn decide_submit(alloc: Global, team: &Team, net: Option<&Net>) -> Result<Decision, AllocError>
-    ensures { IfOk result (λ d. (name : List ℕ) (book : SpnBook) → Decides name (record { net = option_copied net.entry; book = book }) (submit team.now (option_copied net.entry)) d) }
+    ensures { IfOk result (λ d. (name : List ℕ) (book : SpnBook)
+        → Decides name (record { net = option_copied net.entry; book = book })
+        (submit team.now (option_copied net.entry)) d) }
 {
     match net {
         None => Ok(refusal_decision(alloc, Refusal::NoNet)),
@@ -58,7 +60,9 @@ fn review_refusal(team: &Team, net: &Net) -> Option<Refusal>
 
 /// Decides the team's `approve` on the network, which may not be there. It reads no book. The error is out of memory.
 pub fn decide_approve(alloc: Global, team: &Team, net: Option<&Net>) -> Result<Decision, AllocError>
-    ensures { IfOk result (λ d. (name : List ℕ) (book : SpnBook) → Decides name (record { net = option_copied net.entry; book = book }) (approve team.now (option_copied net.entry)) d) }
+    ensures { IfOk result (λ d. (name : List ℕ) (book : SpnBook)
+        → Decides name (record { net = option_copied net.entry; book = book })
+        (approve team.now (option_copied net.entry)) d) }
 {
     match net {
         None => Ok(refusal_decision(alloc, Refusal::NoNet)),
@@ -74,7 +78,9 @@ pub fn decide_approve(alloc: Global, team: &Team, net: Option<&Net>) -> Result<D
 
 /// Decides the team's `reject` on the network, which may not be there. It reads no book. The error is out of memory.
 pub fn decide_reject(alloc: Global, team: &Team, net: Option<&Net>) -> Result<Decision, AllocError>
-    ensures { IfOk result (λ d. (name : List ℕ) (book : SpnBook) → Decides name (record { net = option_copied net.entry; book = book }) (reject team.now (option_copied net.entry)) d) }
+    ensures { IfOk result (λ d. (name : List ℕ) (book : SpnBook)
+        → Decides name (record { net = option_copied net.entry; book = book })
+        (reject team.now (option_copied net.entry)) d) }
 {
     match net {
         None => Ok(refusal_decision(alloc, Refusal::NoNet)),

@@ -4,7 +4,7 @@ ghost use Rattle.std.specs.List.Sorted.{IsStrictlyIncreasing};
 ghost use Rattle.office_types.specs.Free.{has_form, is_taken, least_free};
 ghost use Rattle.office_rules.specs.Facts.{blocks_of};
 
-use office_net::blocks_of;
+use office_facts::blocks_of;
 use office_types::{BlockForm, Form, GrantedBlock, Team, is_ascending, least_free};
 use std::alloc::{AllocError, Global};
 
@@ -42,7 +42,8 @@ pub(crate) fn least_of_team<T: Taken>(
     block_form: BlockForm,
     form: Form,
 ) -> Result<Option<u32>, AllocError>
-    ensures least { IfOk result (λ least. least ≡ least_free (T.numbers taken.now) (blocks_of blocks.now team.now block_form) form) }
+    ensures least { IfOk result (λ least. least ≡ least_free (T.numbers taken.now)
+        (blocks_of blocks.now team.now block_form) form) }
     ensures formed { IfOk result (λ least. IfSome least (λ n. has_form form n ≡ true)) }
 {
     let blocks = blocks_of(alloc, blocks, team, block_form)?;

@@ -1,4 +1,4 @@
--- Refusals are told by their numbers.
+-- Refusals differ by their numbers.
 use Rattle.std.proofs.Common.{◌≡◌, Some, refl}
 use Rattle.office_types.specs.Refusal.{refusal_number, refusal_at, fault_of}
 use Rattle.office_types.specs.declared.refusal.Refusal.{Refusal}

@@ -32,7 +32,7 @@ kind_number J1939 = 1
 abbrev pub kind_at : ℕ → Option NetKind
 kind_at n = if n == 0 then Some Can else (if n == 1 then Some J1939 else None)
 
--- the form of the parameter groups that are asked for, as numbers
+-- the form of the requested parameter groups, as numbers
 abbrev pub group_form : Pdu → Form
 group_form (Addressed destination) = Pdu1
 group_form Broadcast = Pdu2

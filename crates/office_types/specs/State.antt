@@ -27,7 +27,7 @@ by_first = then_cmp (on (λ g. form_number g.block.form) nat_cmp) (on (λ g. g.b
 abbrev pub by_ident : Ident → Ident → Ordering
 by_ident = on dbc_number nat_cmp
 
--- the number of a phase, and the team that asked for a review
+-- the number of a phase, and the team that requested a review
 abbrev pub phase_number : Phase → ℕ
 phase_number Draft = 0
 phase_number (Review submitter) = 1

@@ -125,7 +125,8 @@ impl FormBlock {
     /// The block of the numbers from `first` to `last`, inclusive, or `None` where `last` is below `first` or one of
     /// them is no number of the form.
     pub fn new(form: BlockForm, first: u32, last: u32) -> Option<FormBlock>
-        ensures { SomeIff result (IsRange (record { form = form; first = first; last = last })) (record { form = form; first = first; last = last }) }
+        ensures { SomeIff result (IsRange (record { form = form; first = first; last = last }))
+            (record { form = form; first = first; last = last }) }
     {
         if form.least() <= first && first <= last && last <= form.greatest() {
             Some(FormBlock { form, first, last })

@@ -17,7 +17,7 @@ use std::alloc::{AllocError, Global};
 pub struct Command {
     /// The network that the command is about.
     pub net: NetName,
-    /// What is asked of it.
+    /// What it is to do.
     pub task: Task,
 }
 
@@ -31,7 +31,7 @@ pub enum Task {
     Bundle(Parts<Action>),
 }
 
-/// The things that are asked of a network without a file.
+/// What a network is to do without a file.
 pub enum Action {
     /// Open the network, empty.
     OpenNet(OpenNet),

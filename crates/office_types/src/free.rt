@@ -1,7 +1,9 @@
 //! The allocator: the least free number of some blocks.
-ghost use Rattle.std.specs.Prelude.{◌≡◌, ℕ, ◌+◌, ◌*◌, ◌^◌, ◌<◌, ◌≤◌, ◌↔◌, ◌∷◌, [], ◌&&◌, ◌==◌, nat_le, nat_lt, IsTrue, IfSome, List, length, slice_index};
+ghost use Rattle.std.specs.Prelude.{◌≡◌, ℕ, ◌+◌, ◌*◌, ◌^◌, ◌<◌, ◌≤◌, ◌↔◌, ◌∷◌, [], ◌&&◌, ◌==◌, nat_le, nat_lt};
+ghost use Rattle.std.specs.Prelude.{IsTrue, IfSome, List, length, slice_index};
 ghost use Rattle.std.specs.List.Sorted.{IsStrictlyIncreasing};
-ghost use Rattle.office_types.specs.Free.{has_form, greatest_number, lesser_of, IsLeastFree, IsNextFormed, IsNextOf, SplitsAt, least_free};
+ghost use Rattle.office_types.specs.Free.{has_form, greatest_number, lesser_of, IsLeastFree, IsNextFormed, IsNextOf};
+ghost use Rattle.office_types.specs.Free.{SplitsAt, least_free};
 ghost use Rattle.office_types.specs.Least.{IsLeastOf};
 ghost use Rattle.office_types.specs.declared.block.Block.{Block};
 ghost use Rattle.office_types.specs.declared.block.TheConstants.{GREATEST_PGN};
@@ -12,7 +14,7 @@ use crate::block::{Block, GREATEST_PGN};
 use can_id::{IdentForm, has_destination};
 use catalogue::SPN_LIMIT;
 
-/// What the numbers that are asked for are.
+/// What the requested numbers are.
 #[derive(Clone, Copy, Debug, PartialEq, Eq)]
 pub enum Form {
     /// 11-bit identifiers, 0 to 2047.
@@ -68,7 +70,8 @@ impl Form {
 
 /// The least free number, as it is computed, is the least number that is free, and it is none only where none is free.
 pub fn least_numbers_are_least()
-    ensures { (taken : List ℕ) (blocks : List Block) (form : Form) → IsLeastFree taken blocks form (least_free taken blocks form) }
+    ensures { (taken : List ℕ) (blocks : List Block) (form : Form)
+        → IsLeastFree taken blocks form (least_free taken blocks form) }
 {}
 
 /// Whether each number is above the one before it. None or one number rises.
@@ -159,8 +162,8 @@ fn next_until(form: Form, from: u32, last: u32) -> Option<u32>
     }
 }
 
-/// The least number of the block that has the form and isn't taken, and the turns of its search. A turn compares a taken
-/// number with the candidate, the least number of the form that may still be free, or ends the block.
+/// The least number of the block that has the form and isn't taken, and the turns of its search. A turn compares a
+/// taken number with the candidate, the least number of the form that may still be free, or ends the block.
 fn least_in(taken: &[u32], block: Block, form: Form) -> (Option<u32>, u128)
     requires { IsStrictlyIncreasing taken.now }
     ensures least { IsLeastFree taken.now (block ∷ []) form result.0 }
@@ -196,8 +199,9 @@ fn lesser(a: Option<u32>, b: Option<u32>) -> Option<u32>
     }
 }
 
-/// [`least_free`], and the turns of its search. A turn compares a number of `taken` with the candidate, the least number of
-/// a block and the form that may still be free, or ends a block: so the turns don't grow with the size of the blocks.
+/// [`least_free`], and the turns of its search. A turn compares a number of `taken` with the candidate, the least
+/// number of a block and the form that may still be free, or ends a block: so the turns don't grow with the size of the
+/// blocks.
 pub fn least_free_counted(taken: &[u32], blocks: &[Block], form: Form) -> (Option<u32>, u128)
     requires { IsStrictlyIncreasing taken.now }
     ensures least { IsLeastFree taken.now blocks.now form result.0 }

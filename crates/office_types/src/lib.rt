@@ -18,6 +18,7 @@ mod book;
 mod change;
 mod command;
 mod free;
+mod look;
 mod net_name;
 mod parts;
 mod plain_name;
@@ -40,6 +41,7 @@ pub use command::{
 pub use free::{
     Form, is_ascending, least_free, least_free_counted, least_numbers_are_least, next_of,
 };
+pub use look::Look;
 pub use net_name::NetName;
 pub use parts::{PART_LIMIT, Parts};
 pub use quantity::{Priority, ReviewCount};

@@ -1,7 +1,7 @@
 //! Commands are in range.
 //!
 //! Each field keeps its range by its type, so there is no other command. Contracts learn the range of a field where the
-//! field is asked for it. Nothing is read here and nothing answered.
+//! field is tested for it. Nothing is read here and nothing answered.
 ghost use Rattle.std.specs.Prelude.{◌<◌, ◌^◌, All, IfSome};
 ghost use Rattle.office_types.specs.Command.{IsAction, IsCommand, IsNewMessage, IsPath, IsPdu, IsTakeBits, IsTask};
 

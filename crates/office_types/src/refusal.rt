@@ -59,7 +59,7 @@ pub enum Refusal {
     InReview,
     /// 55: the network is not in review.
     NotInReview,
-    /// 56: the team asked for the review itself.
+    /// 56: the team requested the review itself.
     OwnReview,
     /// 57: more teams have to approve first.
     NeedsMore,

@@ -1,6 +1,8 @@
 //! What the office replies to a command.
 ghost use Rattle.std.specs.Prelude.{◌≡◌, Some};
-ghost use Rattle.office_types.specs.Reply.{IsPartReply, IsReply, bundle_at, part_at, part_numbers, part_reply, part_start_at, refused_at, reply_at, reply_numbers, reply_parts, single_at, start_at};
+ghost use Rattle.office_types.specs.Reply.{IsPartReply, IsReply, bundle_at, part_at, part_numbers, part_reply};
+ghost use Rattle.office_types.specs.Reply.{part_start_at, refused_at, reply_at, reply_numbers, reply_parts};
+ghost use Rattle.office_types.specs.Reply.{single_at, start_at};
 ghost use Rattle.office_types.specs.declared.reply.PartReply.{PartReply};
 ghost use Rattle.office_types.specs.declared.reply.Reply.{Reply};
 
@@ -194,11 +196,11 @@ fn refused_of(number: u32, fault: u32, at: u32) -> Option<Reply>
     ensures { result ≡ refused_at number fault at }
 {
     if fault <= 255 {
-        let told = FileFault {
+        let reported = FileFault {
             fault: fault as u8,
             at,
         };
-        Refusal::of_number(number, told).map(|refusal| Reply::Refused(refusal))
+        Refusal::of_number(number, reported).map(|refusal| Reply::Refused(refusal))
     } else {
         None
     }

@@ -56,9 +56,9 @@ pub struct Head {
 pub enum Phase {
     /// Teams may change the network.
     Draft,
-    /// The network is under review, which this team asked for.
+    /// The network is under review, which this team requested.
     Review {
-        /// The team that asked for the review.
+        /// The team that requested the review.
         submitter: Team,
     },
 }
@@ -93,7 +93,7 @@ impl Phase {
         }
     }
 
-    /// The team that asked for the review, `None` in draft.
+    /// The team that requested the review, `None` in draft.
     pub fn submitter(&self) -> Option<&Team>
         ensures { option_copied result ≡ submitter_of self.now }
     {

@@ -1,6 +1,6 @@
 //! A file that is cut at each of its bytes.
 use crate::run::run_on;
-use canoffice_cli::{FileFault, FileSource, MemoryDatabase, StandardInput, Status};
+use canoffice_cli::{PathFault, FileSource, MemoryDatabase, StandardInput, Status};
 use std::alloc::Global;
 
 /// A whole file: the names after `NS_` in lines of their own, an independent message, a unit with a byte above 127.
@@ -33,10 +33,10 @@ impl FileSource for Cut<'_> {
 
     ghost held = { λ _ _. unknown };
 
-    fn read(&self, alloc: Global, _path: &str) -> Result<Vec<u8>, FileFault> {
+    fn read(&self, alloc: Global, _path: &str) -> Result<Vec<u8>, PathFault> {
         match Vec::from_slice(alloc, self.bytes) {
             Ok(bytes) => Ok(bytes),
-            Err(_) => Err(FileFault::Memory),
+            Err(_) => Err(PathFault::Memory),
         }
     }
 }
@@ -46,13 +46,13 @@ impl StandardInput for Cut<'_> {
 
     ghost given = { λ _. unknown };
 
-    fn read_input(&self, alloc: Global) -> Result<Vec<u8>, FileFault> {
+    fn read_input(&self, alloc: Global) -> Result<Vec<u8>, PathFault> {
         self.read(alloc, "-")
     }
 }
 
-/// Whether a check of the bytes ends with a verdict or a fault. That the offset of a fault is inside them or at their end is
-/// proved.
+/// Whether a check of the bytes ends with a verdict or a fault. That the offset of a fault is inside them or at their
+/// end is proved.
 fn is_answered(alloc: Global, command: &str, cut: Cut) -> bool {
     let words = ["canoffice", command, "file"];
     let printed = run_on(alloc, &words, &cut, &mut MemoryDatabase { conn: None });

@@ -1,7 +1,7 @@
 //! Writers that fail, and memory that runs out.
 use crate::run::run_on;
 use canoffice_cli::{
-    FileFault, FileSource, MemoryDatabase, Report, StandardInput, Status, deliver,
+    PathFault, FileSource, MemoryDatabase, Report, StandardInput, Status, deliver,
 };
 use std::alloc::{AllocError, Global};
 use std::io::{self, ErrorKind, Write};
@@ -122,8 +122,8 @@ impl FileSource for Exhausted {
 
     ghost held = { λ _ _. unknown };
 
-    fn read(&self, _alloc: Global, _path: &str) -> Result<Vec<u8>, FileFault> {
-        Err(FileFault::Memory)
+    fn read(&self, _alloc: Global, _path: &str) -> Result<Vec<u8>, PathFault> {
+        Err(PathFault::Memory)
     }
 }
 
@@ -132,8 +132,8 @@ impl StandardInput for Exhausted {
 
     ghost given = { λ _. unknown };
 
-    fn read_input(&self, _alloc: Global) -> Result<Vec<u8>, FileFault> {
-        Err(FileFault::Memory)
+    fn read_input(&self, _alloc: Global) -> Result<Vec<u8>, PathFault> {
+        Err(PathFault::Memory)
     }
 }
 

@@ -8,11 +8,11 @@ use Rattle.office_fields.specs.declared.kind.ActionKind.TheVariants as act
 use Rattle.office_fields.specs.declared.kind.CommandKind.TheVariants.{Act}
 use Rattle.office_script.specs.Files.{Files, absent}
 use Rattle.office_script.specs.Lines.{lines_of}
-use Rattle.office_script.specs.Requests.{asked_by}
+use Rattle.office_script.specs.Requests.{requested_by}
 use Rattle.office_script.specs.Words.{words_of}
 use Rattle.office_script.specs.declared.keys.Dash.TheVariants as dash
 use Rattle.script_advice.specs.Cause.{part_wrong, wrong_at, wrong_of}
-use Rattle.script_advice.specs.Explained.{IsSaidOf, wrong_parts}
+use Rattle.script_advice.specs.Explained.{IsStatedOf, wrong_parts}
 use Rattle.script_advice.specs.Phrase.{phrase_of}
 use Rattle.script_advice.specs.Places.{offset_of, word_of}
 use Rattle.script_advice.specs.Sentence.{sentence_of}
@@ -46,7 +46,7 @@ first_words = refl
 dash_in_a_database : wrong_of dash.Wrong 7 (codes "- engine submit net=truck") ≡ Some (wrong_at 0 (Key dash.Wrong))
 dash_in_a_database = refl
 
--- a word that is no field is told before an unknown field that comes before it
+-- a word that is no field is reported before an unknown field that comes before it
 forms : wrongs (codes "k1 engine submit" ∷ codes "k1 engine submit net" ∷ codes "k1 engine submit net=truck " ∷ codes "k1 engine submit nets=truck net=tru%c" ∷ [])
     ≡ Some (wrong_at 2 (Missing field.Net)) ∷ Some (wrong_at 3 NoField) ∷ Some (wrong_at 4 NoField) ∷ Some (wrong_at 4 Escape) ∷ []
 forms = refl
@@ -66,7 +66,7 @@ missing_field : wrongs (codes "k1 engine retire net=truck" ∷ codes "k1 engine 
 unfolding is_name
 missing_field = refl
 
--- the value is told, though a field is missing too
+-- the value is reported, though a field is missing too
 wrong_value : wrongs (codes "k1 office open_net net=truck kind=can reviews=10" ∷ codes "k1 engine retire net=Truck" ∷ [])
     ≡ Some (wrong_at 5 (WrongValue field.Reviews)) ∷ Some (wrong_at 3 (WrongValue field.Net)) ∷ []
 wrong_value = refl
@@ -108,13 +108,13 @@ wrong_part_words = refl
 abbrev no_files : Files
 no_files path = absent
 
-first_wrong_line : IsSaidOf no_files (codes "a.txt") dash.LineNumber 1 (lines_of (codes "- engine submit net=truck\n\n- engine retire mesage=E1\n- engine fly\n"))
+first_wrong_line : IsStatedOf no_files (codes "a.txt") dash.LineNumber 1 (lines_of (codes "- engine submit net=truck\n\n- engine retire mesage=E1\n- engine fly\n"))
     (codes "a.txt:3:17: bad line: found 'mesage=E1', but the fields of retire are net, message\n")
-unfolding digits asked_by
+unfolding digits requested_by
 first_wrong_line = inr (tt, inr (tt, refl))
 
-no_wrong_line : IsSaidOf no_files (codes "a.txt") dash.LineNumber 1 (lines_of (codes "# nothing\n- engine submit net=truck")) []
-unfolding digits asked_by
+no_wrong_line : IsStatedOf no_files (codes "a.txt") dash.LineNumber 1 (lines_of (codes "# nothing\n- engine submit net=truck")) []
+unfolding digits requested_by
 no_wrong_line = inr (tt, inr (tt, refl))
 
 -- of a bundle's file, and of one that has no command

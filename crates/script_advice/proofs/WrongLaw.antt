@@ -1,13 +1,13 @@
--- A line is told to be wrong exactly if it is.
+-- A line is reported as wrong exactly if it is.
 use Rattle.std.proofs.Common.{◌≡◌, ◌==◌, ℕ, ◌+◌, ◌∙◌, ◌||◌, Bool, true, false, List, [], ◌∷◌, Option, Some, None, refl}
 use Rattle.std.specs.Prelude.{is_none, is_some, if◌then◌else◌}
 use Rattle.std.specs.List.{after_first, before_first, join_with_byte, list_any}
 use Rattle.std.specs.Option.{option_and_then, option_map, option_map_or}
-use Rattle.office_fields.specs.Asked.{asked_of, part_of}
+use Rattle.office_fields.specs.Requested.{requested_of, part_of}
 use Rattle.office_fields.specs.Given.{NamedValue}
 use Rattle.office_fields.specs.Kind.{action_of_word, kind_of_word}
 use Rattle.office_fields.specs.Value.{plain_name_of}
-use Rattle.office_fields.specs.declared.asked.Asked.{Asked}
+use Rattle.office_fields.specs.declared.requested.Requested.{Requested}
 use Rattle.office_fields.specs.declared.kind.ActionKind.{ActionKind}
 use Rattle.office_fields.specs.declared.kind.CommandKind.{CommandKind}
 use Rattle.office_script.specs.Bundles.{part_by, part_of_words}
@@ -15,7 +15,7 @@ use Rattle.office_script.specs.Escapes.{unescaped}
 use Rattle.office_script.specs.Fields.{field_of, fields_of}
 use Rattle.office_script.specs.Keys.{key_of}
 use Rattle.office_script.specs.Lines.{says_nothing}
-use Rattle.office_script.specs.Requests.{asked_by, request_of, request_of_words, requests_of_line}
+use Rattle.office_script.specs.Requests.{requested_by, request_of, request_of_words, requests_of_line}
 use Rattle.office_script.specs.Words.{words_of}
 use Rattle.office_script.specs.declared.keys.Dash.{Dash}
 use Rattle.office_script.specs.declared.requests.LineRequest.{LineRequest}
@@ -70,12 +70,12 @@ read_step read None = refl
 read_step read (Some values) = refl
 
 command_step : (kind : Option CommandKind) (words : List (List ℕ))
-    → is_none (command_wrong kind words) ≡ is_some (option_and_then (λ k. option_and_then (λ values. asked_of k values) (fields_of words)) kind)
+    → is_none (command_wrong kind words) ≡ is_some (option_and_then (λ k. option_and_then (λ values. requested_of k values) (fields_of words)) kind)
 command_step None words = refl
-command_step (Some kind) words = fields_step (Whole kind) words (fields_of words) (form_law (first_field (Whole kind)) words) ∙ read_step (asked_of kind) (fields_of words)
+command_step (Some kind) words = fields_step (Whole kind) words (fields_of words) (form_law (first_field (Whole kind)) words) ∙ read_step (requested_of kind) (fields_of words)
 
-command_law : (word : List ℕ) (words : List (List ℕ)) → is_none (command_wrong (kind_of_word word) words) ≡ is_some (asked_by word words)
-unfolding asked_by
+command_law : (word : List ℕ) (words : List (List ℕ)) → is_none (command_wrong (kind_of_word word) words) ≡ is_some (requested_by word words)
+unfolding requested_by
 command_law word words = command_step (kind_of_word word) words
 
 -- ---- the command of a bundle
@@ -99,23 +99,23 @@ part_law line = nothing_step (says_nothing line) (part_words_wrong (words_of lin
 
 -- ---- lines
 
-abbrev request : List ℕ → List ℕ → List ℕ → Asked → LineRequest
-request text key team asked = record { team = team; key = key; text = text; asked = asked }
+abbrev request : List ℕ → List ℕ → List ℕ → Requested → LineRequest
+request text key team requested = record { team = team; key = key; text = text; requested = requested }
 
-parts_step : (text : List ℕ) (key team : Option (List ℕ)) (asked : Option Asked) (wrong : Option Wrong) (no_team no_key : Wrong) → is_none wrong ≡ is_some asked
+parts_step : (text : List ℕ) (key team : Option (List ℕ)) (requested : Option Requested) (wrong : Option Wrong) (no_team no_key : Wrong) → is_none wrong ≡ is_some requested
     → is_none (if is_some key then (if is_some team then wrong else Some no_team) else Some no_key)
-    ≡ is_some (option_and_then (λ k. option_and_then (λ t. option_and_then (λ a. Some (request text k t a)) asked) team) key)
-parts_step text None team asked wrong no_team no_key e = refl
-parts_step text (Some key) None asked wrong no_team no_key e = refl
+    ≡ is_some (option_and_then (λ k. option_and_then (λ t. option_and_then (λ a. Some (request text k t a)) requested) team) key)
+parts_step text None team requested wrong no_team no_key e = refl
+parts_step text (Some key) None requested wrong no_team no_key e = refl
 parts_step text (Some key) (Some team) None wrong no_team no_key e = e
-parts_step text (Some key) (Some team) (Some asked) wrong no_team no_key e = e
+parts_step text (Some key) (Some team) (Some requested) wrong no_team no_key e = e
 
 words_law : (dash : Dash) (number : ℕ) (words : List (List ℕ)) → is_none (words_wrong dash number words) ≡ is_some (request_of_words dash number words)
 words_law dash number [] = refl
 words_law dash number (first ∷ []) = refl
 words_law dash number (first ∷ second ∷ []) = refl
 words_law dash number (first ∷ second ∷ word ∷ rest) =
-    parts_step (join_with_byte 32 (word ∷ rest)) (key_of dash number first) (plain_name_of second) (asked_by word rest) (command_wrong (kind_of_word word) rest) _ _ (command_law word rest)
+    parts_step (join_with_byte 32 (word ∷ rest)) (key_of dash number first) (plain_name_of second) (requested_by word rest) (command_wrong (kind_of_word word) rest) _ _ (command_law word rest)
 
 line_step : (nothing : Bool) (wrong : Option Wrong) (request : Option LineRequest) → is_none wrong ≡ is_some request
     → is_none (if nothing then None else wrong) ≡ is_some (if nothing then Some [] else option_map (λ r. r ∷ []) request)

@@ -1,14 +1,14 @@
 -- Why a line of a script is wrong, and which of its words is to blame.
 --
--- The words are looked at from left to right: the key, the team, the command, then each field by its form. If all fields
--- have the form of one, and still the command can't be had of them, the first is told that the command has no field of,
--- that is given before, or whose value isn't of its kind; else the first field that is missing; else the one that does
--- not go with the others.
+-- The words are looked at from left to right: the key, the team, the command, then each field by its form. If all
+-- fields have the form of one, and still the command can't be had of them, the first is reported that the command has
+-- no field of, that is given before, or whose value isn't of its kind; else the first field that is missing; else the
+-- one that does not go with the others.
 use Rattle.std.specs.Prelude.{ℕ, ◌==◌, ◌+◌, Bool, true, false, not, ◌&&◌, is_some, if◌then◌else◌, List, [], ◌∷◌, Option, Some, None, find, take}
 use Rattle.std.specs.Option.{option_map_or}
 use Rattle.std.specs.List.{after_first, list_any}
 use Rattle.std.specs.Str.{bytes_eq}
-use Rattle.office_fields.specs.Asked.{asked_of, part_of}
+use Rattle.office_fields.specs.Requested.{requested_of, part_of}
 use Rattle.office_fields.specs.Field.{fields_of, part_fields, row_of}
 use Rattle.office_fields.specs.Given.{NamedValue}
 use Rattle.office_fields.specs.Kind.{action_of_word, action_word, kind_of_word, word_of}
@@ -47,7 +47,7 @@ command_fields (Whole kind) = fields_of kind
 command_fields (Part kind) = part_fields kind
 
 abbrev pub can_be_had : LineCommand → List NamedValue → Bool
-can_be_had (Whole kind) values = is_some (asked_of kind values)
+can_be_had (Whole kind) values = is_some (requested_of kind values)
 can_be_had (Part kind) values = is_some (part_of kind values)
 
 -- the index of its word in the line, after key and team or as the first one, and that of its first field
@@ -92,8 +92,8 @@ must_be_given Repeated = false
 abbrev pub field_named : LineCommand → List ℕ → Option Field
 field_named c name = find (λ f. bytes_eq (row_of f).name name) (command_fields c)
 
--- what is wrong with the value of a field, after these values: the field is given before, and may be given once only, or
--- the value isn't one of its kind
+-- what is wrong with the value of a field, after these values: the field is given before, and may be given once only,
+-- or the value isn't one of its kind
 abbrev pub field_cause : Field → List NamedValue → List ℕ → Option Cause
 field_cause f earlier value =
     if not (may_repeat (row_of f).occurrence) && is_given earlier (row_of f).name then Some (Doubled f)

@@ -1,4 +1,4 @@
--- What is said of a wrong line: one sentence.
+-- What is stated of a wrong line: one sentence.
 use Rattle.std.specs.Prelude.{ℕ, ◌==◌, Bool, List, [], ◌∷◌, ◌++◌, length, map, if◌then◌else◌, codes, decimal}
 use Rattle.std.specs.List.{list_any}
 use Rattle.dbc_advice.specs.Sentence.{quoted}

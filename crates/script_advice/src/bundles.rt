@@ -1,4 +1,4 @@
-//! What is said of the file of a bundle.
+//! What is stated of the file of a bundle.
 ghost use Rattle.std.specs.Prelude.{◌≡◌, IfOk, MatchOption, is_some};
 ghost use Rattle.office_script.specs.Bundles.{parts_in};
 ghost use Rattle.office_script.specs.Lines.{lines_of};
@@ -9,12 +9,12 @@ use crate::cause::{Cause, Wrong};
 use crate::explaining::wrong_line;
 use crate::finding::part_wrong;
 use office_fields::Unread;
-use office_script::{Dash, FileFault, FileSource, bundle_file, first_line, parts_in};
+use office_script::{Dash, PathFault, FileSource, bundle_file, first_line, parts_in};
 use std::alloc::{AllocError, Global};
 
-/// What is said of the first wrong line of the file, or nothing if no line is wrong.
+/// What is stated of the first wrong line of the file, or nothing if no line is wrong.
 fn first_wrong_part(alloc: Global, path: &[u8], bytes: &[u8]) -> Result<Vec<u8>, AllocError>
-    ensures { IfOk result (λ said. said.items ≡ first_wrong_part path.now 1 (lines_of bytes.now)) }
+    ensures { IfOk result (λ stated. stated.items ≡ first_wrong_part path.now 1 (lines_of bytes.now)) }
 {
     let mut number = 0usize;
     let mut rest = bytes;
@@ -39,7 +39,7 @@ fn has_parts(alloc: Global, bytes: &[u8]) -> Result<bool, AllocError>
     }
 }
 
-/// What is said of a bundle, which the script's line of this number requests, and whose file has no parts.
+/// What is stated of a bundle, which the script's line of this number requests, and whose file has no parts.
 fn wrong_parts(
     alloc: Global,
     name: &[u8],
@@ -48,11 +48,11 @@ fn wrong_parts(
     path: &[u8],
     bytes: &[u8],
 ) -> Result<Vec<u8>, AllocError>
-    ensures { IfOk result (λ said. said.items ≡ wrong_parts name.now number line.now path.now bytes.now) }
+    ensures { IfOk result (λ stated. stated.items ≡ wrong_parts name.now number line.now path.now bytes.now) }
 {
-    let said = first_wrong_part(alloc, path, bytes)?;
-    if !said.is_empty() {
-        return Ok(said);
+    let stated = first_wrong_part(alloc, path, bytes)?;
+    if !stated.is_empty() {
+        return Ok(stated);
     }
     let wrong = Wrong {
         word: 2,
@@ -61,8 +61,9 @@ fn wrong_parts(
     wrong_line(alloc, name, number, line, wrong)
 }
 
-/// What is said of what the script's line of this number requests: something if it is a bundle whose file has no parts.
-pub(crate) fn said_of_bundle<F: FileSource>(
+/// What is stated of what the script's line of this number requests: something if it is a bundle whose file has no
+/// parts.
+pub(crate) fn stated_of_bundle<F: FileSource>(
     alloc: Global,
     name: &[u8],
     dash: Dash,
@@ -70,8 +71,10 @@ pub(crate) fn said_of_bundle<F: FileSource>(
     line: &[u8],
     files: &F,
 ) -> Result<Option<Vec<u8>>, AllocError>
-    ensures { IfOk result (λ said. MatchOption said (SaysNothing (F.held files.now) (bundle_file dash number line.now))
-        (λ text. Says (F.held files.now) (wrong_parts name.now number line.now) (bundle_file dash number line.now) text.items)) }
+    ensures { IfOk result (λ stated. MatchOption stated
+        (SaysNothing (F.held files.now) (bundle_file dash number line.now))
+        (λ text. Says (F.held files.now) (wrong_parts name.now number line.now)
+        (bundle_file dash number line.now) text.items)) }
 {
     let Some(path) = bundle_file(alloc, dash, number, line)? else {
         return Ok(None);
@@ -84,7 +87,7 @@ pub(crate) fn said_of_bundle<F: FileSource>(
             let path = path.as_str().as_bytes();
             Ok(Some(wrong_parts(alloc, name, number, line, path, &bytes)?))
         }
-        Err(FileFault::Unreadable) => Ok(None),
-        Err(FileFault::Memory) => Err(AllocError),
+        Err(PathFault::Unreadable) => Ok(None),
+        Err(PathFault::Memory) => Err(AllocError),
     }
 }

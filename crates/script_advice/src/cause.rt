@@ -58,7 +58,7 @@ impl LineCommand {
 /// Why a line is wrong, of one of its words.
 #[derive(Clone, Copy)]
 pub enum Cause {
-    /// The line has fewer than three words. This is said of the first.
+    /// The line has fewer than three words. This is reported of the first.
     Short,
     /// The word is no key, where `-` means this.
     Key(Dash),
@@ -80,7 +80,7 @@ pub enum Cause {
     Doubled(Field),
     /// The value isn't one of the field's.
     WrongValue(Field),
-    /// The field must be given, and isn't. This is said of the command.
+    /// The field must be given, and isn't. This is reported of the command.
     Missing(Field),
     /// The field's value does not go with those of other fields.
     Apart(Field),

@@ -1,25 +1,25 @@
-//! All that is said of a script.
+//! All that is stated of a script.
 ghost use Rattle.std.specs.Prelude.{◌≡◌, ◌||◌, IfOk, ℕ, List, is_none, is_some};
 ghost use Rattle.office_script.specs.Bundles.{part_of_words};
 ghost use Rattle.office_script.specs.Lines.{lines_of, says_nothing};
 ghost use Rattle.office_script.specs.Requests.{requests_of_line};
 ghost use Rattle.office_script.specs.Words.{words_of};
 ghost use Rattle.script_advice.specs.Cause.{part_wrong, wrong_of};
-ghost use Rattle.script_advice.specs.Explained.{IsSaidOf, wrong_line};
+ghost use Rattle.script_advice.specs.Explained.{IsStatedOf, wrong_line};
 
-use crate::bundles::said_of_bundle;
+use crate::bundles::stated_of_bundle;
 use crate::cause::Wrong;
 use crate::finding::wrong_of;
 use crate::places::word_at;
 use crate::sentences::sentence_of;
-use dbc_advice::{Position, told_line};
+use dbc_advice::{Position, reported_line};
 use office_script::{Dash, FileSource, first_line};
 use std::alloc::{AllocError, Global};
 
 /// What stands before the sentence, as a code does of a DBC file: a wrong line has none.
 const LABEL: &[u8] = b"bad line";
 
-/// What is said of the line of this number.
+/// What is stated of the line of this number.
 pub(crate) fn wrong_line(
     alloc: Global,
     name: &[u8],
@@ -27,7 +27,7 @@ pub(crate) fn wrong_line(
     line: &[u8],
     wrong: Wrong,
 ) -> Result<Vec<u8>, AllocError>
-    ensures { IfOk result (λ told. told.items ≡ wrong_line name.now number line.now wrong) }
+    ensures { IfOk result (λ reported. reported.items ≡ wrong_line name.now number line.now wrong) }
 {
     let placed = word_at(line, wrong.word);
     let column = placed.offset + 1;
@@ -36,10 +36,11 @@ pub(crate) fn wrong_line(
         column,
     };
     let sentence = sentence_of(alloc, wrong.cause, placed.word)?;
-    told_line(alloc, name, position, LABEL, &sentence)
+    reported_line(alloc, name, position, LABEL, &sentence)
 }
 
-/// What is said of the first wrong line of the script, or of the first whose bundle's file is wrong; nothing if there is none.
+/// What is stated of the first wrong line of the script, or of the first whose bundle's file is wrong; nothing if there
+/// is none.
 fn first_wrong_line<F: FileSource>(
     alloc: Global,
     name: &[u8],
@@ -47,7 +48,7 @@ fn first_wrong_line<F: FileSource>(
     dash: Dash,
     files: &F,
 ) -> Result<Vec<u8>, AllocError>
-    ensures { IfOk result (λ said. IsSaidOf (F.held files.now) name.now dash 1 (lines_of text.now) said.items) }
+    ensures { IfOk result (λ stated. IsStatedOf (F.held files.now) name.now dash 1 (lines_of text.now) stated.items) }
 {
     let mut number = 0usize;
     let mut rest = text;
@@ -56,19 +57,19 @@ fn first_wrong_line<F: FileSource>(
         if let Some(wrong) = wrong_of(alloc, dash, number, first.line)? {
             return wrong_line(alloc, name, number, first.line, wrong);
         }
-        if let Some(said) = said_of_bundle(alloc, name, dash, number, first.line, files)? {
-            return Ok(said);
+        if let Some(stated) = stated_of_bundle(alloc, name, dash, number, first.line, files)? {
+            return Ok(stated);
         }
         rest = first.rest;
     }
     Ok(Vec::new(alloc))
 }
 
-/// What is said of a script under its name, beside what is answered: the line `NAME:LINE:COLUMN: bad line: sentence` of its
-/// first wrong line, at the word that is to blame, or nothing if no line is wrong. A line is wrong as well if it requests a
-/// bundle whose file is: then the line is of that file, under its path, or of the script if there is no command or too many.
-/// `dash` is what `-` means as a key. Files that can't be read, and those of imports, aren't looked at. The error is out of
-/// memory.
+/// What is stated of a script under its name, beside what is answered: the line `NAME:LINE:COLUMN: bad line: sentence`
+/// of its first wrong line, at the word that is to blame, or nothing if no line is wrong. A line is wrong as well if it
+/// requests a bundle whose file is: then the line is of that file, under its path, or of the script if there is no
+/// command or too many. `dash` is what `-` means as a key. Files that can't be read, and those of imports, aren't
+/// looked at. The error is out of memory.
 pub fn explained<F: FileSource>(
     alloc: Global,
     name: &[u8],
@@ -76,11 +77,14 @@ pub fn explained<F: FileSource>(
     dash: Dash,
     files: &F,
 ) -> Result<Vec<u8>, AllocError>
-    ensures said { IfOk result (λ said. IsSaidOf (F.held files.now) name.now dash 1 (lines_of text.now) said.items) }
+    ensures stated { IfOk result (λ stated. IsStatedOf (F.held files.now) name.now dash 1
+        (lines_of text.now) stated.items) }
 
-    // A line is said to be wrong exactly if it is; and so is one of a bundle's file.
-    ensures wrong { (number : ℕ) → (line : List ℕ) → is_none (wrong_of dash number line) ≡ is_some (requests_of_line dash number line) }
-    ensures parts { (line : List ℕ) → is_none (part_wrong line) ≡ (says_nothing line || is_some (part_of_words (words_of line))) }
+    // A line is reported as wrong exactly if it is; and so is one of a bundle's file.
+    ensures wrong { (number : ℕ) → (line : List ℕ)
+        → is_none (wrong_of dash number line) ≡ is_some (requests_of_line dash number line) }
+    ensures parts { (line : List ℕ) → is_none (part_wrong line)
+        ≡ (says_nothing line || is_some (part_of_words (words_of line))) }
 {
     first_wrong_line(alloc, name, text, dash, files)
 }

@@ -1,6 +1,6 @@
 //! The word of a line that is to blame.
 ghost use Rattle.std.specs.Prelude.{◌≡◌, ◌∷◌, IfOk, None, Some, is_some, if◌then◌else◌};
-ghost use Rattle.office_fields.specs.Asked.{asked_of, part_of};
+ghost use Rattle.office_fields.specs.Requested.{requested_of, part_of};
 ghost use Rattle.office_fields.specs.Given.{named_values};
 ghost use Rattle.office_fields.specs.Value.{plain_name_of};
 ghost use Rattle.office_script.specs.Keys.{key_of};
@@ -12,7 +12,7 @@ use crate::cause::{Cause, LineCommand, Wrong};
 use crate::forms::form_wrong;
 use crate::places::{LineParts, line_parts};
 use crate::values::values_wrong;
-use office_fields::{ActionKind, CommandKind, GivenValue, Unread, asked_of, part_of, team_of};
+use office_fields::{ActionKind, CommandKind, GivenValue, Unread, part_of, requested_of, team_of};
 use office_script::{Dash, first_word, key_of, read_fields, says_nothing};
 use std::alloc::{AllocError, Global};
 
@@ -44,10 +44,10 @@ fn whole_can_be_had(
     kind: CommandKind,
     values: &[GivenValue<'_>],
 ) -> Result<bool, AllocError>
-    ensures { IfOk result (λ can. can ≡ is_some (asked_of kind (named_values values.now))) }
+    ensures { IfOk result (λ can. can ≡ is_some (requested_of kind (named_values values.now))) }
 {
-    match asked_of(alloc, kind, values) {
-        Ok(_asked) => Ok(true),
+    match requested_of(alloc, kind, values) {
+        Ok(_requested) => Ok(true),
         Err(Unread::Wrong) => Ok(false),
         Err(Unread::Memory) => Err(AllocError),
     }
@@ -88,7 +88,8 @@ fn had_wrong(
     command: LineCommand,
     values: &[GivenValue<'_>],
 ) -> Result<Option<Wrong>, AllocError>
-    ensures { IfOk result (λ found. found ≡ (if can_be_had command (named_values values.now) then None else Some (values_wrong command (named_values values.now)))) }
+    ensures { IfOk result (λ found. found ≡ (if can_be_had command (named_values values.now) then None else Some
+        (values_wrong command (named_values values.now)))) }
 {
     if can_be_had(alloc, command, values)? {
         Ok(None)
@@ -103,7 +104,8 @@ fn fields_wrong(
     command: LineCommand,
     rest: Option<&[u8]>,
 ) -> Result<Option<Wrong>, AllocError>
-    ensures { IfOk result (λ found. found ≡ fields_wrong command (words_after rest.entry) (script.fields_of (words_after rest.entry))) }
+    ensures { IfOk result (λ found. found ≡ fields_wrong command (words_after rest.entry)
+        (script.fields_of (words_after rest.entry))) }
 {
     match read_fields(alloc, rest)? {
         Some(values) => had_wrong(alloc, command, &values),
@@ -121,7 +123,8 @@ fn parts_wrong(
     number: usize,
     parts: LineParts<'_>,
 ) -> Result<Option<Wrong>, AllocError>
-    ensures { IfOk result (λ found. found ≡ words_wrong dash number (parts.entry.key.now ∷ parts.entry.team.now ∷ parts.entry.command.now ∷ words_after parts.entry.rest)) }
+    ensures { IfOk result (λ found. found ≡ words_wrong dash number
+        (parts.entry.key.now ∷ parts.entry.team.now ∷ parts.entry.command.now ∷ words_after parts.entry.rest)) }
 {
     if !is_key(alloc, dash, number, parts.key)? {
         let cause = Cause::Key(dash);

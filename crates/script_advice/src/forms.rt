@@ -21,7 +21,8 @@ fn form_cause(alloc: Global, word: &[u8]) -> Result<Option<Cause>, AllocError>
     }
 }
 
-/// The first of the words of a line after its command that is no field, where `first` is the index of the first of them.
+/// The first of the words of a line after its command that is no field, where `first` is the index of the first of
+/// them.
 pub(crate) fn form_wrong(
     alloc: Global,
     first: usize,

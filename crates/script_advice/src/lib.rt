@@ -1,10 +1,11 @@
 //! What people need of a script with a wrong line, beside the number of the line: which of its words is to blame, why,
 //! and what may be there.
 //!
-//! [`explained`] gives the bytes for standard error. `specs/Cause.antt` defines why a line is wrong, in terms of the words of
-//! a line (`office_script`) and of the table of fields (`office_fields`), `specs/Places.antt` where a word is,
-//! `specs/Sentence.antt` and `specs/Phrase.antt` what is said, and `specs/Explained.antt` the whole. Whether a line is
-//! wrong is the matter of `office_script`, and by the contract of [`explained`] what is told here agrees with it.
+//! [`explained`] gives the bytes for standard error. `specs/Cause.antt` defines why a line is wrong, in terms of the
+//! words of a line (`office_script`) and of the table of fields (`office_fields`), `specs/Places.antt` where a word is,
+//! `specs/Sentence.antt` and `specs/Phrase.antt` what is stated, and `specs/Explained.antt` the whole. Whether a line
+//! is wrong is the matter of `office_script`, and by the contract of [`explained`] what is reported here agrees with
+//! it.
 #![tactic(auto)]
 
 mod bundles;

@@ -1,7 +1,8 @@
-//! What is said of a wrong line: one sentence.
+//! What is stated of a wrong line: one sentence.
 ghost use Rattle.std.specs.Prelude.{◌≡◌, ◌++◌, IfOk, OnOk};
 ghost use Rattle.script_advice.specs.declared.cause.Cause.TheVariants as why;
-ghost use Rattle.script_advice.specs.Sentence.{apart_text, block_range, block_text, field_name, has_carriage_return, hint_of, is_text, key_meaning, meaning_of, sentence_of};
+ghost use Rattle.script_advice.specs.Sentence.{apart_text, block_range, block_text, field_name, has_carriage_return};
+ghost use Rattle.script_advice.specs.Sentence.{hint_of, is_text, key_meaning, meaning_of, sentence_of};
 
 use crate::cause::{Cause, LineCommand};
 use crate::lists::{command_words, field_names};
@@ -182,7 +183,7 @@ fn hint_of(word: &[u8]) -> &'static str
     }
 }
 
-/// What is said of the word: what was found, what that means, and what to do. The error is out of memory.
+/// What is stated of the word: what was found, what that means, and what to do. The error is out of memory.
 pub(crate) fn sentence_of(alloc: Global, cause: Cause, word: &[u8]) -> Result<Vec<u8>, AllocError>
     ensures { IfOk result (λ text. text.items ≡ sentence_of cause word.now) }
 {

@@ -5,11 +5,11 @@ use crate::disks::{Bytes, Taking, Unsynced, taken};
 use crate::lists::ELEVEN;
 use crate::offices::{Opening, Outcome, is_after, office_on, served};
 use crate::requests::{request, response};
-use desk::{Counted, DeskFault, Sink, Source, serve_one};
+use desk::{Counted, DeskFault, Routes, Sink, Source, serve_one};
 use sqlite::Alter;
 use std::alloc::Global;
 use std::io::{self, ErrorKind, Read, Write};
-use store::Office;
+use store::StoredOffice;
 
 /// How a call fails.
 #[derive(Clone, Copy, PartialEq, Eq)]
@@ -94,11 +94,14 @@ fn is_fault(served: Result<(), DeskFault>, code: u8) -> bool {
 /// written.
 fn fails_to_read<S: Alter>(
     alloc: Global,
-    office: &mut Office<S>,
+    office: &mut StoredOffice<S>,
     request: &[u8],
     at: usize,
     failing: Failing,
 ) -> bool {
+    let Ok(routes) = Routes::new(alloc) else {
+        return false;
+    };
     let mut source = Counted::new(Reader {
         left: request,
         calls: 0,
@@ -106,7 +109,7 @@ fn fails_to_read<S: Alter>(
         failing,
     });
     let mut sink = Counted::new(Vec::new(alloc));
-    let served = serve_one(alloc, office, &mut source, &mut sink);
+    let served = serve_one(alloc, &routes, office, &mut source, &mut sink);
     let counts = source.failures() == 1 && sink.failures() == 0;
     is_fault(served, 80) && counts && sink.into_inner().is_empty()
 }
@@ -115,11 +118,14 @@ fn fails_to_read<S: Alter>(
 /// response as the calls before it took.
 fn fails_to_write<S: Alter>(
     alloc: Global,
-    office: &mut Office<S>,
+    office: &mut StoredOffice<S>,
     (request, response): (&[u8], &[u8]),
     at: usize,
     failing: Failing,
 ) -> bool {
+    let Ok(routes) = Routes::new(alloc) else {
+        return false;
+    };
     let mut source = Counted::new(request);
     let mut sink = Counted::new(Writer {
         held: Vec::new(alloc),
@@ -127,14 +133,14 @@ fn fails_to_write<S: Alter>(
         fails_at: at,
         failing,
     });
-    let served = serve_one(alloc, office, &mut source, &mut sink);
+    let served = serve_one(alloc, &routes, office, &mut source, &mut sink);
     let counts = source.failures() == 0 && sink.failures() == 1;
     let Writer { held, .. } = sink.into_inner();
     is_fault(served, 81) && counts && response.get(..at.saturating_sub(1)) == Some(held.as_slice())
 }
 
 /// Whether the requests before this one get their responses.
-fn serves_before<S: Alter>(alloc: Global, office: &mut Office<S>, number: usize) -> bool {
+fn serves_before<S: Alter>(alloc: Global, office: &mut StoredOffice<S>, number: usize) -> bool {
     for earlier in 0..number {
         if served(alloc, office, earlier) != Outcome::Right {
             return false;
@@ -149,7 +155,7 @@ const TAKE: usize = 2;
 /// Whether the request isn't carried out where its reader fails, and gets its response when it is sent again.
 fn is_unread<S: Alter>(
     alloc: Global,
-    office: &mut Office<S>,
+    office: &mut StoredOffice<S>,
     request: &[u8],
     at: usize,
     failing: Failing,
@@ -163,7 +169,7 @@ fn is_unread<S: Alter>(
 /// Whether the request is carried out where its writer fails, and gets its response when it is sent again.
 fn is_unwritten<S: Alter>(
     alloc: Global,
-    office: &mut Office<S>,
+    office: &mut StoredOffice<S>,
     texts: (&[u8], &[u8]),
     at: usize,
     failing: Failing,
@@ -226,7 +232,7 @@ fn try_writers(rt: &HostRuntime, request: &[u8], response: &[u8]) -> io::Result<
 /// Whether the request of this number fails at the first call of its writer, and those before it get their responses.
 fn is_unanswered<S: Alter>(
     alloc: Global,
-    office: &mut Office<S>,
+    office: &mut StoredOffice<S>,
     request: &[u8],
     number: usize,
 ) -> bool {

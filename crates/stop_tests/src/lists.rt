@@ -1,6 +1,6 @@
 //! The lists of requests, with what each request is answered and leaves.
 use office_history::Arrival;
-use office_script::{Dash, FileFault, FileSource, arrivals_of};
+use office_script::{Dash, FileSource, PathFault, arrivals_of};
 use std::alloc::{AllocError, Global};
 use std::io::{self, ErrorKind};
 
@@ -173,13 +173,13 @@ impl FileSource for NamedFiles {
 
     ghost held = { λ _ _. unknown };
 
-    fn read(&self, alloc: Global, path: &str) -> Result<Vec<u8>, FileFault> {
+    fn read(&self, alloc: Global, path: &str) -> Result<Vec<u8>, PathFault> {
         let Some(bytes) = bytes_of(path) else {
-            return Err(FileFault::Unreadable);
+            return Err(PathFault::Unreadable);
         };
         match Vec::from_slice(alloc, bytes) {
             Ok(bytes) => Ok(bytes),
-            Err(AllocError) => Err(FileFault::Memory),
+            Err(AllocError) => Err(PathFault::Memory),
         }
     }
 }

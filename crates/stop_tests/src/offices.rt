@@ -3,13 +3,13 @@ use crate::disks::{Bytes, Store, Which, connected};
 use crate::lists::{List, Step, is_live_after};
 use crate::requests::{request, response};
 use catalogue::Name;
-use desk::{Counted, serve_one};
+use desk::{Counted, Routes, serve_one};
 use office_history::{Answer, Arrival};
-use office_types::NetName;
+use office_types::{Look, NetName};
 use sqlite::{Alter, Connection};
 use std::alloc::Global;
 use std::io::{self, ErrorKind};
-use store::{Lost, Office, Question, Watch};
+use store::{Lost, StoredOffice, Watch};
 
 /// How an office is opened.
 #[derive(Clone, Copy, PartialEq, Eq)]
@@ -53,13 +53,13 @@ pub(crate) fn opened(
     alloc: Global,
     conn: Connection<Store>,
     opening: Opening,
-) -> Result<Office<Store>, (Lost, Connection<Store>)> {
+) -> Result<StoredOffice<Store>, (Lost, Connection<Store>)> {
     if !conn.is_autocommit() {
         return Err((Lost::Store, conn));
     }
     match opening {
-        Opening::Open => Office::open(conn),
-        Opening::Migrate => Office::migrate(alloc, conn, &mut Nobody),
+        Opening::Open => StoredOffice::open(conn),
+        Opening::Migrate => StoredOffice::migrate(alloc, conn, &mut Nobody),
     }
 }
 
@@ -68,7 +68,7 @@ pub(crate) fn office_on(
     alloc: Global,
     bytes: &Bytes,
     opening: Opening,
-) -> Result<Office<Store>, Lost> {
+) -> Result<StoredOffice<Store>, Lost> {
     let Ok(files) = bytes.files(alloc, Which::Neither, 0) else {
         return Err(Lost::Memory);
     };
@@ -94,7 +94,7 @@ fn is_reply(alloc: Global, answer: &Answer, words: &str) -> bool {
 
 fn arrived<S: Alter>(
     alloc: Global,
-    office: &mut Office<S>,
+    office: &mut StoredOffice<S>,
     arrival: &Arrival,
     words: &str,
 ) -> Outcome {
@@ -112,18 +112,27 @@ fn arrived<S: Alter>(
 }
 
 /// What is written for the request of this number.
-fn written<S: Alter>(alloc: Global, office: &mut Office<S>, number: usize) -> io::Result<Vec<u8>> {
+fn written<S: Alter>(
+    alloc: Global,
+    office: &mut StoredOffice<S>,
+    number: usize,
+) -> io::Result<Vec<u8>> {
+    let routes = Routes::new(alloc)?;
     let request = request(alloc, number)?;
     let mut source = Counted::new(request.as_slice());
     let mut sink = Counted::new(Vec::new(alloc));
-    match serve_one(alloc, office, &mut source, &mut sink) {
+    match serve_one(alloc, &routes, office, &mut source, &mut sink) {
         Ok(()) => Ok(sink.into_inner()),
         Err(_) => Err(ErrorKind::Other)?,
     }
 }
 
 /// Serves the request of this number, from 0, of the list of eleven.
-pub(crate) fn served<S: Alter>(alloc: Global, office: &mut Office<S>, number: usize) -> Outcome {
+pub(crate) fn served<S: Alter>(
+    alloc: Global,
+    office: &mut StoredOffice<S>,
+    number: usize,
+) -> Outcome {
     let Ok(right) = response(alloc, number) else {
         return Outcome::Wrong;
     };
@@ -141,7 +150,7 @@ pub(crate) fn served<S: Alter>(alloc: Global, office: &mut Office<S>, number: us
 
 fn send<S: Alter>(
     alloc: Global,
-    office: &mut Office<S>,
+    office: &mut StoredOffice<S>,
     list: List<'_>,
     way: Way,
     number: usize,
@@ -159,7 +168,7 @@ fn send<S: Alter>(
 /// then been answered; `None` if a reply is wrong.
 pub(crate) fn sent<S: Alter>(
     alloc: Global,
-    office: &mut Office<S>,
+    office: &mut StoredOffice<S>,
     list: List<'_>,
     way: Way,
     first: usize,
@@ -177,7 +186,7 @@ pub(crate) fn sent<S: Alter>(
 /// Whether the network's live sheet is that after the first steps, so many, or after at most so many more.
 pub(crate) fn is_after<S: Alter>(
     alloc: Global,
-    office: &mut Office<S>,
+    office: &mut StoredOffice<S>,
     steps: &[Step],
     count: usize,
     more: usize,
@@ -185,7 +194,7 @@ pub(crate) fn is_after<S: Alter>(
     let Ok(Some(net)) = NetName::of(alloc, b"truck") else {
         return false;
     };
-    let Ok(sheet) = office.look(alloc, &Question::Live(net)) else {
+    let Ok(sheet) = office.look(alloc, &Look::Live(net)) else {
         return false;
     };
     let text = sheet.as_deref();

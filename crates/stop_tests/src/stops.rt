@@ -6,7 +6,7 @@ use office_history::Arrival;
 use sqlite::Files;
 use std::alloc::Global;
 use std::io;
-use store::{Lost, Office};
+use store::{Lost, StoredOffice};
 
 /// What an office does, and is stopped at.
 #[derive(Clone, Copy)]
@@ -47,7 +47,7 @@ struct Tried {
 /// is wrong.
 fn worked(
     alloc: Global,
-    mut office: Office<Store>,
+    mut office: StoredOffice<Store>,
     work: Work<'_>,
     taking: Taking,
 ) -> (Option<usize>, Files<Fused>) {
@@ -84,7 +84,7 @@ fn is_old_or_new(alloc: Global, bytes: &Bytes, work: Work<'_>) -> bool {
 /// is then as it must be.
 fn answers_again(
     alloc: Global,
-    mut office: Office<Store>,
+    mut office: StoredOffice<Store>,
     work: Work<'_>,
     answered: usize,
 ) -> bool {

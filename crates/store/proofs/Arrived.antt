@@ -61,7 +61,7 @@ AreFollowed name before changes t u = IsHeadFirst before.net changes → HaveOwn
 pub first_holds : HistoriesLeaveOffices → (h : List Answered) (a : Answered) (d : Decision) (t u v : Tables) (holds : Holds h t) → a.profile ≡ Two → IsInRange a → first_of h a ≡ None → a.answer ≡ answer.Reply d.reply
     → IsDecision a.team (before_of holds.holds.office a.command.net) a.command d → AreFollowed a.command.net (before_of holds.holds.office a.command.net) d.changes t u
     → v ≡ with_reply a d u → Holds (h ++ a ∷ []) v
-first_holds laws h a d t u v holds today ranged new told decision followed kept =
+first_holds laws h a d t u v holds today ranged new reported decision followed kept =
     let o = holds.holds.office in
     let name = a.command.net in
     let decides = decision.decides in
@@ -77,12 +77,12 @@ first_holds laws h a d t u v holds today ranged new told decision followed kept 
     subst (Holds (h ++ a ∷ [])) (sym kept) (record {
       holds = record {
         office = after;
-        legal = histories_grow.first h o after a d.reply holds.holds.legal new told (subst (λ (p : Profile). Step p o a.team a.command d.reply after) (sym today) step);
+        legal = histories_grow.first h o after a d.reply holds.holds.legal new reported (subst (λ (p : Profile). Step p o a.team a.command d.reply after) (sym today) step);
         in_range = All-push IsInRange h a holds.holds.in_range ranged;
         book = record { blocks = book.blocks; used = book.used };
         nets = λ other. same_net other u (with_reply a d u) (net_named after other) (record { rest = refl; live = refl }) (nets other);
-        replies = subst (λ rows. AreKept (h ++ a ∷ []) (rows ++ kept_row a.team a.key a.content d.reply ∷ [])) (sym follows.replies) (first_kept h a d.reply t.reply new told holds.holds.replies);
-        parts = subst (λ rows. AreKeptParts (h ++ a ∷ []) (rows ++ part_rows a.team a.key 1 (reply_parts d.reply))) (sym follows.parts) (first_parts h a d.reply t.part new told holds.holds.parts);
+        replies = subst (λ rows. AreKept (h ++ a ∷ []) (rows ++ kept_row a.team a.key a.content d.reply ∷ [])) (sym follows.replies) (first_kept h a d.reply t.reply new reported holds.holds.replies);
+        parts = subst (λ rows. AreKeptParts (h ++ a ∷ []) (rows ++ part_rows a.team a.key 1 (reply_parts d.reply))) (sym follows.parts) (first_parts h a d.reply t.part new reported holds.holds.parts);
         profile = follows.profile ∙ holds.holds.profile;
       };
       emptied = follows.bodies ∙ holds.emptied;
@@ -97,10 +97,10 @@ some_of f None y is = absurd (cc)
 some_of f (Some x) y is = (x, refl, cc)
 
 pub again_holds : (h : List Answered) (a first : Answered) (t : Tables) → Holds h t → IsInRange a → first_of h a ≡ Some first → IsAnsweredAs a first → Holds (h ++ a ∷ []) t
-again_holds h a first t holds ranged found told = record {
+again_holds h a first t holds ranged found reported = record {
   holds = record {
     office = holds.holds.office;
-    legal = histories_grow.again h holds.holds.office a first holds.holds.legal found told;
+    legal = histories_grow.again h holds.holds.office a first holds.holds.legal found reported;
     in_range = All-push IsInRange h a holds.holds.in_range ranged;
     book = holds.holds.book;
     nets = holds.holds.nets;

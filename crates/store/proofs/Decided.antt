@@ -18,8 +18,8 @@ use Rattle.office_rules.specs.Commands.{done_task, outcome}
 use Rattle.office_rules.specs.Importing.{FileReading}
 use Rattle.office_rules.specs.Outcome.{Refusing, reply_of}
 use Rattle.office_law.specs.Released.{ReleasesDontCount, reads_releases, with_releases}
-use Rattle.office_net.specs.Excerpt.{IsExcerptOf, goes_by_excerpt}
-use Rattle.office_net.specs.declared.excerpt.Excerpt.{Excerpt}
+use Rattle.office_facts.specs.Excerpt.{IsExcerptOf, goes_by_excerpt}
+use Rattle.office_facts.specs.declared.excerpt.Excerpt.{Excerpt}
 use Rattle.office_rows.specs.Rows.{net_row}
 use Rattle.office_rows.specs.Shown.{net_order}
 use Rattle.office_tables.specs.Tables.{Tables}

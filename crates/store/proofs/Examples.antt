@@ -10,11 +10,11 @@ use Rattle.office_history.specs.declared.arrival.Arrival.{Arrival}
 use Rattle.store.specs.declared.lost.Lost.{Lost}
 use Rattle.store.specs.declared.lost.Lost.TheVariants.{Memory, Store}
 use Rattle.store.specs.Lost.{lost_by, lost_number}
-use Rattle.office_history.specs.Answering.{told}
+use Rattle.office_history.specs.Answering.{reported}
 use Rattle.store.specs.Running.{FailsBy, answered_of, lost_of}
 
 -- a lost arrival isn't in the history, one that is sent again is there twice, with both answers
-the_answered : (a b : Arrival) (x : Answer) → answered_of (a ∷ b ∷ a ∷ b ∷ []) (Err Memory ∷ Ok x ∷ Ok x ∷ Ok KeyReused ∷ []) ≡ told b x ∷ told a x ∷ told b KeyReused ∷ []
+the_answered : (a b : Arrival) (x : Answer) → answered_of (a ∷ b ∷ a ∷ b ∷ []) (Err Memory ∷ Ok x ∷ Ok x ∷ Ok KeyReused ∷ []) ≡ reported b x ∷ reported a x ∷ reported b KeyReused ∷ []
 the_answered a b x = refl
 
 the_lost : (a b : Arrival) (x : Answer) → lost_of (a ∷ b ∷ a ∷ []) (Err Memory ∷ Ok x ∷ Err Store ∷ []) ≡ a ∷ a ∷ []

@@ -18,7 +18,7 @@ either_left old last new Before After clean inside ends leaves after db left = e
   | inr is ↦ inr (subst After (sym is) after)
 ]
 
--- what a crash may leave, said with less
+-- what a crash may leave, stated with less
 pub survives_more : (old new : State) (P Q : Trees → Type 0) → ((db : Trees) → P db → Q db) → Survives old new P → Survives old new Q
 survives_more old new P Q more s = record {
   clean = s.clean;

@@ -15,19 +15,19 @@ use Rattle.store.specs.declared.lost.Lost.{Lost}
 use Rattle.store.specs.declared.lost.Lost.TheVariants.{Memory, NewerProfile, OlderProfile, Store}
 use Rattle.store.specs.Lost.{IsOfCall}
 use Rattle.store.specs.Holding.{Holding, Keeps, Leaves}
-use Rattle.store.specs.Office.{StoredOffice}
+use Rattle.store.specs.Office.{OfficeView}
 use Rattle.store.specs.Headline.{HasRun}
-use Rattle.office_history.specs.Answering.{told}
+use Rattle.office_history.specs.Answering.{reported}
 use Rattle.store.specs.Running.{FailsBy, IsNoProfile, KeepsWithOne, answered_of, is_failure, lost_of}
 
 -- ---- one more arrival
 
 answered_more : (xs : List Arrival) (rs : List (Result Answer Lost)) (a : Arrival) (answer : Answer) → length rs ≡ length xs
-    → answered_of (xs ++ a ∷ []) (rs ++ Ok answer ∷ []) ≡ answered_of xs rs ++ told a answer ∷ []
+    → answered_of (xs ++ a ∷ []) (rs ++ Ok answer ∷ []) ≡ answered_of xs rs ++ reported a answer ∷ []
 answered_more [] [] a answer each = refl
 answered_more [] (r ∷ rs) a answer each = absurd (omega (arith, each))
 answered_more (x ∷ xs) [] a answer each = absurd (omega (arith, each))
-answered_more (x ∷ xs) (Ok b ∷ rs) a answer each = ap (◌∷◌ (told x b)) (answered_more xs rs a answer (omega (arith, each)))
+answered_more (x ∷ xs) (Ok b ∷ rs) a answer each = ap (◌∷◌ (reported x b)) (answered_more xs rs a answer (omega (arith, each)))
 answered_more (x ∷ xs) (Err lost ∷ rs) a answer each = answered_more xs rs a answer (omega (arith, each))
 
 answered_same : (xs : List Arrival) (rs : List (Result Answer Lost)) (a : Arrival) (lost : Lost) → length rs ≡ length xs
@@ -35,7 +35,7 @@ answered_same : (xs : List Arrival) (rs : List (Result Answer Lost)) (a : Arriva
 answered_same [] [] a lost each = refl
 answered_same [] (r ∷ rs) a lost each = absurd (omega (arith, each))
 answered_same (x ∷ xs) [] a lost each = absurd (omega (arith, each))
-answered_same (x ∷ xs) (Ok b ∷ rs) a lost each = ap (◌∷◌ (told x b)) (answered_same xs rs a lost (omega (arith, each)))
+answered_same (x ∷ xs) (Ok b ∷ rs) a lost each = ap (◌∷◌ (reported x b)) (answered_same xs rs a lost (omega (arith, each)))
 answered_same (x ∷ xs) (Err e ∷ rs) a lost each = answered_same xs rs a lost (omega (arith, each))
 
 lost_more : (xs : List Arrival) (rs : List (Result Answer Lost)) (a : Arrival) (lost : Lost) → length rs ≡ length xs
@@ -100,7 +100,7 @@ run_none h failed s is_open holding left = record {
   left = λ db may. inl (subst (λ l. Keeps l db) (sym (append-nil h)) (left db may));
 }
 
-module _ {S : Type 0} (g : Ghosts S) (h : List Answered) (xs : List Arrival) (rs : List (Result Answer Lost)) (a : Arrival) (old new : StoredOffice S) (before : HasRun h xs rs old.failed (state g old.conn)) where
+module _ {S : Type 0} (g : Ghosts S) (h : List Answered) (xs : List Arrival) (rs : List (Result Answer Lost)) (a : Arrival) (old new : OfficeView S) (before : HasRun h xs rs old.failed (state g old.conn)) where
   -- a failed office answers nothing, and stays as it is
   failed_more : (lost : Lost) → old.failed ≡ true → HasRun h (xs ++ a ∷ []) (rs ++ Err lost ∷ []) old.failed (state g old.conn)
   failed_more lost failed = record {
@@ -114,14 +114,14 @@ module _ {S : Type 0} (g : Ghosts S) (h : List Answered) (xs : List Arrival) (rs
   }
 
   -- an answer goes into the history
-  answered_next : (answer : Answer) → Holding ((h ++ answered_of xs rs) ++ told a answer ∷ []) (state g new.conn) → Leaves (Keeps ((h ++ answered_of xs rs) ++ told a answer ∷ [])) (state g new.conn)
+  answered_next : (answer : Answer) → Holding ((h ++ answered_of xs rs) ++ reported a answer ∷ []) (state g new.conn) → Leaves (Keeps ((h ++ answered_of xs rs) ++ reported a answer ∷ [])) (state g new.conn)
       → HasRun h (xs ++ a ∷ []) (rs ++ Ok answer ∷ []) new.failed (state g new.conn)
   answered_next answer holding left =
-      let line = append_assoc h (answered_of xs rs) (told a answer ∷ []) ∙ ap (λ l. h ++ l) (sym (answered_more xs rs a answer before.each)) in
+      let line = append_assoc h (answered_of xs rs) (reported a answer ∷ []) ∙ ap (λ l. h ++ l) (sym (answered_more xs rs a answer before.each)) in
       record {
         each = each_more xs rs a (Ok answer) before.each;
-        legal = subst IsLegalHistory line (legal_of ((h ++ answered_of xs rs) ++ told a answer ∷ []) (state g new.conn) holding);
-        in_range = subst (All IsInRange) line (ranged_of ((h ++ answered_of xs rs) ++ told a answer ∷ []) (state g new.conn) holding);
+        legal = subst IsLegalHistory line (legal_of ((h ++ answered_of xs rs) ++ reported a answer ∷ []) (state g new.conn) holding);
+        in_range = subst (All IsInRange) line (ranged_of ((h ++ answered_of xs rs) ++ reported a answer ∷ []) (state g new.conn) holding);
         is_open = λ _. holding.is_open;
         held = λ now. subst (λ l. Holding l (state g new.conn)) line holding;
         left = λ db may. inl (subst (λ l. Keeps l db) line (left db may));
@@ -129,7 +129,7 @@ module _ {S : Type 0} (g : Ghosts S) (h : List Answered) (xs : List Arrival) (rs
 
   -- a loss leaves the history, or a crash may leave it with that arrival
   lost_next : (lost : Lost) → (new.failed ≡ false → IsTrue (state g new.conn).is_open) → (IsTrue (state g new.conn).is_open → Holding (h ++ answered_of xs rs) (state g new.conn))
-      → Leaves (λ db. Keeps (h ++ answered_of xs rs) db ⊎ ((answer : Answer) × Keeps ((h ++ answered_of xs rs) ++ told a answer ∷ []) db)) (state g new.conn)
+      → Leaves (λ db. Keeps (h ++ answered_of xs rs) db ⊎ ((answer : Answer) × Keeps ((h ++ answered_of xs rs) ++ reported a answer ∷ []) db)) (state g new.conn)
       → HasRun h (xs ++ a ∷ []) (rs ++ Err lost ∷ []) new.failed (state g new.conn)
   lost_next lost is_open held left =
       let same = answered_same xs rs a lost before.each in
@@ -154,17 +154,17 @@ module _ {S : Type 0} (g : Ghosts S) (h : List Answered) (xs : List Arrival) (rs
   by_memory OlderProfile failed named working = absurd (named.1 refl)
 
   pub run_more : (r : Result Answer Lost) → (IsTrue new.failed ↔ (r ≡ Err Store)) → (IsTrue old.failed → new ≡ old) → IfErr r IsOfCall
-      → ((k : List Answered) → Holding k (state g old.conn) → IfOk r (λ answer. Holding (k ++ told a answer ∷ []) (state g new.conn) × Leaves (Keeps (k ++ told a answer ∷ [])) (state g new.conn)))
+      → ((k : List Answered) → Holding k (state g old.conn) → IfOk r (λ answer. Holding (k ++ reported a answer ∷ []) (state g new.conn) × Leaves (Keeps (k ++ reported a answer ∷ [])) (state g new.conn)))
       → ((k : List Answered) → Holding k (state g old.conn) → IsTrue (state g new.conn).is_open → OnErr r (Holding k (state g new.conn)))
       → IfErr r (λ lost. lost ≡ Memory → IsTrue (state g new.conn).is_open)
-      → ((k : List Answered) → Holding k (state g old.conn) → OnErr r (Leaves (λ db. Keeps k db ⊎ ((answer : Answer) × Keeps (k ++ told a answer ∷ []) db)) (state g new.conn)))
+      → ((k : List Answered) → Holding k (state g old.conn) → OnErr r (Leaves (λ db. Keeps k db ⊎ ((answer : Answer) × Keeps (k ++ reported a answer ∷ []) db)) (state g new.conn)))
       → HasRun h (xs ++ a ∷ []) (rs ++ r ∷ []) new.failed (state g new.conn)
   run_more (Ok answer) failed refused named answered lost is_open left = elim (cases_Bool old.failed) [
-    | inl over ↦ absurd (let both = failed.0 (ap (λ (o : StoredOffice S). o.failed) (refused over) ∙ over) in cc)
+    | inl over ↦ absurd (let both = failed.0 (ap (λ (o : OfficeView S). o.failed) (refused over) ∙ over) in cc)
     | inr working ↦ let both = answered (h ++ answered_of xs rs) (before.held (before.is_open working)) in answered_next answer both.0 both.1
   ]
   run_more (Err e) failed refused named answered lost is_open left = elim (cases_Bool old.failed) [
-    | inl over ↦ subst (λ (o : StoredOffice S). HasRun h (xs ++ a ∷ []) (rs ++ Err e ∷ []) o.failed (state g o.conn)) (sym (refused over)) (failed_more e over)
+    | inl over ↦ subst (λ (o : OfficeView S). HasRun h (xs ++ a ∷ []) (rs ++ Err e ∷ []) o.failed (state g o.conn)) (sym (refused over)) (failed_more e over)
     | inr working ↦
         let held = before.held (before.is_open working) in
         lost_next e (λ fine. is_open (by_memory e failed named fine)) (λ now. lost (h ++ answered_of xs rs) held now) (left (h ++ answered_of xs rs) held)

@@ -19,8 +19,8 @@ use Rattle.office_history.specs.History.{Answered, IsLegal, IsLegalHistory}
 use Rattle.office_history.specs.Laws.{HaveOneNetwork, is_on, new_spns}
 use Rattle.store.specs.Holds.{Holds}
 
--- Of a network with these rows: no two live messages have one identifier, and no message has two signals that share a bit
--- when both are present. Its rows of `msg` have the numbers of the live messages, each once, and no other.
+-- Of a network with these rows: no two live messages have one identifier, and no message has two signals that share a
+-- bit when both are present. Its rows of `msg` have the numbers of the live messages, each once, and no other.
 pub record IsClearInRows (name : List ℕ) (t : Tables) (net : Net) : Type 0 where
   pub clear : IsClearSheet (sheet_of net)
   pub ascending : IsStrictlySortedBy by_number (live_messages net.live)

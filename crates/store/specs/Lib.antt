@@ -2,7 +2,6 @@ pub mod Office
 pub mod Lost
 pub mod Holds
 pub mod Holding
-pub mod Counting
 pub mod Opening
 pub mod Running
 pub mod Headline

@@ -1,16 +1,16 @@
 -- What is shown of an office.
 use Rattle.std.specs.Prelude.{◌≡◌, ℕ, List, Option, Some}
-use Rattle.net_list.specs.Text.{nets_text}
+use Rattle.views.specs.NetList.{nets_text}
 use Rattle.office_types.specs.declared.state.Office.{Office}
 use Rattle.office_rules.specs.Step.{net_named}
 use Rattle.store_net.specs.Texts.{IsTextOf, live_chart, live_table, live_text, release_at, release_text}
-use Rattle.store.specs.declared.question.Question.{Question}
-use Rattle.store.specs.declared.question.Question.TheVariants.{Chart, Live, Nets, Release, Table}
+use Rattle.office_types.specs.declared.look.Look.{Look}
+use Rattle.office_types.specs.declared.look.Look.TheVariants.{Chart, Live, Nets, Release, Table}
 
--- The list of networks; of a network, the table and the canonical text of its live sheet; of a release, the canonical text
--- of it, which reads as it and as no other sheet; of a live message, its chart. Nothing exactly where there is no such
--- network, release or message.
-abbrev pub IsShown : Office → Question → Option (List ℕ) → Type 0
+-- The list of networks; of a network, the table and the canonical text of its live sheet; of a release, the canonical
+-- text of it, which reads as it and as no other sheet; of a live message, its chart. Nothing exactly where there is no
+-- such network, release or message.
+abbrev pub IsShown : Office → Look → Option (List ℕ) → Type 0
 IsShown office Nets text = text ≡ Some (nets_text office.nets)
 IsShown office (Table net) text = text ≡ live_table (net_named office net)
 IsShown office (Live net) text = text ≡ live_text (net_named office net)

@@ -6,14 +6,14 @@ use Rattle.office_history.specs.declared.arrival.Arrival.{Arrival}
 use Rattle.office_history.specs.History.{Answered}
 use Rattle.store.specs.declared.lost.Lost.{Lost}
 use Rattle.store.specs.declared.lost.Lost.TheVariants.{NewerProfile, OlderProfile, Store}
-use Rattle.office_history.specs.Answering.{told}
+use Rattle.office_history.specs.Answering.{reported}
 use Rattle.store.specs.Holding.{Keeps}
 
 -- the arrivals that were answered, in order, with their answers
 abbrev pub answered_of : List Arrival → List (Result Answer Lost) → List Answered
 answered_of [] results = []
 answered_of (a ∷ arrivals) [] = []
-answered_of (a ∷ arrivals) (Ok answer ∷ results) = told a answer ∷ answered_of arrivals results
+answered_of (a ∷ arrivals) (Ok answer ∷ results) = reported a answer ∷ answered_of arrivals results
 answered_of (a ∷ arrivals) (Err lost ∷ results) = answered_of arrivals results
 
 -- the arrivals that were lost
@@ -40,4 +40,4 @@ FailsBy before (r ∷ results) after = (IsTrue before → r ≡ Err Store) × Fa
 
 -- the trees keep the history, or it and one of the lost arrivals, with an answer
 abbrev pub KeepsWithOne : List Answered → List Arrival → Trees → Type 0
-KeepsWithOne h lost db = Keeps h db ⊎ ((a : Arrival) × Contains lost a × (answer : Answer) × Keeps (h ++ told a answer ∷ []) db)
+KeepsWithOne h lost db = Keeps h db ⊎ ((a : Arrival) × Contains lost a × (answer : Answer) × Keeps (h ++ reported a answer ∷ []) db)

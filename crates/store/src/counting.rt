@@ -1,8 +1,7 @@
 //! What a command reads of the releases of its network: nothing, how many there are, or what is in them.
 ghost use Rattle.std.specs.Prelude.{◌≡◌};
 ghost use Rattle.std.specs.List.{list_any};
-ghost use Rattle.office_law.specs.Released.{action_reads_releases, reads_releases};
-ghost use Rattle.store.specs.Counting.{is_retire, reads_bodies};
+ghost use Rattle.office_law.specs.Released.{action_reads_releases, is_retire, reads_bodies, reads_releases};
 
 use office_types::{Action, Task};
 

@@ -1,15 +1,15 @@
 //! What is decided on a request that comes for the first time, on what its command reads of the tables.
 //!
-//! Six commands read an excerpt of their network: those on a signal their message alone, those that give out a number the
-//! numbers that could be given out. The others read all of their network but its releases; of these `release` reads how
-//! many there are, and `retire` alone what is in them, and so do bundles with one of them. The book is read where the
-//! command depends on it, and for a bundle.
+//! Six commands read an excerpt of their network: those on a signal their message alone, those that give out a number
+//! the numbers that could be given out. The others read all of their network but its releases; of these `release` reads
+//! how many there are, and `retire` alone what is in them, and so do bundles with one of them. The book is read where
+//! the command depends on it, and for a bundle.
 ghost use Rattle.std.specs.Prelude.{◌≡◌, true, false, Option, Some};
 ghost use Rattle.std.specs.List.{list_any};
 ghost use Rattle.sqlite.specs.Held.{state};
 ghost use Rattle.office_law.specs.Apart.{asks_book};
-ghost use Rattle.office_law.specs.Released.{reads_releases};
-ghost use Rattle.office_net.specs.Excerpt.{IsExcerptOf, goes_by_excerpt};
+ghost use Rattle.office_law.specs.Released.{reads_bodies, reads_releases};
+ghost use Rattle.office_facts.specs.Excerpt.{IsExcerptOf, goes_by_excerpt};
 ghost use Rattle.office_rules.specs.Change.{IsDecision, is_release};
 ghost use Rattle.office_types.specs.declared.book.SpnBook.{SpnBook as Book};
 ghost use Rattle.office_types.specs.declared.state.Net.{Net as Network};
@@ -17,13 +17,12 @@ ghost use Rattle.store_rows.specs.NetIn.{IsNetAt};
 ghost use Rattle.store_rows.specs.Rows.{IsBookIn};
 ghost use Rattle.store_net.specs.Excerpts.{MatchBoth};
 ghost use Rattle.store_net.specs.Writing.{IsNext};
-ghost use Rattle.store.specs.Counting.{reads_bodies};
 ghost use Rattle.office_rows.specs.Statement.{ChangesNothing, CommitsNothing, Finds, LeavesNothing};
 
 use crate::counting::{reads_bodies, reads_releases};
 use catalogue::Items;
 use office::{Excerpt, decide, decide_excerpt, goes_by_excerpt};
-use office_law::releases_dont_count;
+use office_law::{bodies_dont_count, releases_dont_count};
 use office_types::{Action, Command, Decision, SpnBook, Task, Team, UsedSpns};
 use sqlite::{Alter, Error, Transaction};
 use std::alloc::Global;
@@ -41,7 +40,8 @@ fn excerpt_at<S: Alter>(
 ) -> Result<Option<Excerpt>, Error>
     requires { goes_by_excerpt command.now.task ≡ true }
     ensures same_reference { tx.new.conn.ghost_name ≡ tx.old.conn.ghost_name }
-    ensures found { Finds result (state S.Store tx.old.conn.now) (state S.Store tx.new.conn.now) (λ found t. (net : Option Network) → IsNetAt command.now.net t net
+    ensures found { Finds result (state S.Store tx.old.conn.now) (state S.Store tx.new.conn.now)
+        (λ found t. (net : Option Network) → IsNetAt command.now.net t net
         → MatchBoth (λ net e. IsExcerptOf team.now net command.now.task e) net found) }
     ensures same { ChangesNothing result (state S.Store tx.old.conn.now) (state S.Store tx.new.conn.now) }
     ensures kept { CommitsNothing (state S.Store tx.old.conn.now) (state S.Store tx.new.conn.now) }
@@ -89,8 +89,10 @@ fn decide_by_excerpt<S: Alter>(
 ) -> Result<Decision, Error>
     requires { goes_by_excerpt command.now.task ≡ true }
     ensures same_reference { tx.new.conn.ghost_name ≡ tx.old.conn.ghost_name }
-    ensures decided { Finds result (state S.Store tx.old.conn.now) (state S.Store tx.new.conn.now) (λ d t. (net : Option Network) (book : Book) → IsNetAt command.now.net t net → IsBookIn t book
-        → IsDecision team.now (record { net = net; book = book }) command.now d × (list_any is_release d.changes ≡ false)) }
+    ensures decided { Finds result (state S.Store tx.old.conn.now) (state S.Store tx.new.conn.now)
+        (λ d t. (net : Option Network) (book : Book) → IsNetAt command.now.net t net → IsBookIn t book
+        → IsDecision team.now (record { net = net; book = book }) command.now d
+        × (list_any is_release d.changes ≡ false)) }
     ensures same { ChangesNothing result (state S.Store tx.old.conn.now) (state S.Store tx.new.conn.now) }
     ensures kept { CommitsNothing (state S.Store tx.old.conn.now) (state S.Store tx.new.conn.now) }
     ensures survives { LeavesNothing (state S.Store tx.old.conn.now) (state S.Store tx.new.conn.now) }
@@ -122,7 +124,8 @@ fn decide_without_releases<S: Alter>(
 ) -> Result<(Decision, Option<u32>), Error>
     requires { reads_releases command.now.task ≡ false }
     ensures same_reference { tx.new.conn.ghost_name ≡ tx.old.conn.ghost_name }
-    ensures decided { Finds result (state S.Store tx.old.conn.now) (state S.Store tx.new.conn.now) (λ it t. (net : Option Network) (book : Book) → IsNetAt command.now.net t net → IsBookIn t book
+    ensures decided { Finds result (state S.Store tx.old.conn.now) (state S.Store tx.new.conn.now)
+        (λ it t. (net : Option Network) (book : Book) → IsNetAt command.now.net t net → IsBookIn t book
         → IsDecision team.now (record { net = net; book = book }) command.now it.0 × IsNext it.1 net it.0.changes) }
     ensures same { ChangesNothing result (state S.Store tx.old.conn.now) (state S.Store tx.new.conn.now) }
     ensures kept { CommitsNothing (state S.Store tx.old.conn.now) (state S.Store tx.new.conn.now) }
@@ -145,13 +148,14 @@ fn decide_by_count<S: Alter>(
 ) -> Result<(Decision, Option<u32>), Error>
     requires { reads_bodies command.now.task ≡ false }
     ensures same_reference { tx.new.conn.ghost_name ≡ tx.old.conn.ghost_name }
-    ensures decided { Finds result (state S.Store tx.old.conn.now) (state S.Store tx.new.conn.now) (λ it t. (net : Option Network) (book : Book) → IsNetAt command.now.net t net → IsBookIn t book
+    ensures decided { Finds result (state S.Store tx.old.conn.now) (state S.Store tx.new.conn.now)
+        (λ it t. (net : Option Network) (book : Book) → IsNetAt command.now.net t net → IsBookIn t book
         → IsDecision team.now (record { net = net; book = book }) command.now it.0 × IsNext it.1 net it.0.changes) }
     ensures same { ChangesNothing result (state S.Store tx.old.conn.now) (state S.Store tx.new.conn.now) }
     ensures kept { CommitsNothing (state S.Store tx.old.conn.now) (state S.Store tx.new.conn.now) }
     ensures survives { LeavesNothing (state S.Store tx.old.conn.now) (state S.Store tx.new.conn.now) }
 {
-    releases_dont_count();
+    bodies_dont_count();
     let net = counted_net_at(alloc, tx, &command.net)?;
     let book = book_of(alloc, tx)?;
     let decision = decide(alloc, team, net.as_ref(), &book, command)?;
@@ -167,7 +171,8 @@ fn decide_by_net<S: Alter>(
     command: &Command,
 ) -> Result<(Decision, Option<u32>), Error>
     ensures same_reference { tx.new.conn.ghost_name ≡ tx.old.conn.ghost_name }
-    ensures decided { Finds result (state S.Store tx.old.conn.now) (state S.Store tx.new.conn.now) (λ it t. (net : Option Network) (book : Book) → IsNetAt command.now.net t net → IsBookIn t book
+    ensures decided { Finds result (state S.Store tx.old.conn.now) (state S.Store tx.new.conn.now)
+        (λ it t. (net : Option Network) (book : Book) → IsNetAt command.now.net t net → IsBookIn t book
         → IsDecision team.now (record { net = net; book = book }) command.now it.0 × IsNext it.1 net it.0.changes) }
     ensures same { ChangesNothing result (state S.Store tx.old.conn.now) (state S.Store tx.new.conn.now) }
     ensures kept { CommitsNothing (state S.Store tx.old.conn.now) (state S.Store tx.new.conn.now) }
@@ -180,8 +185,9 @@ fn decide_by_net<S: Alter>(
     Ok((decision, Some(next)))
 }
 
-/// Decides the team's command on what the tables have, and gives the number of the network's next release if the changes
-/// may have one. An error is out of memory, what `sqlite` answers, or `InvalidQuery` where the rows are no office's.
+/// Decides the team's command on what the tables have, and gives the number of the network's next release if the
+/// changes may have one. An error is out of memory, what `sqlite` answers, or `InvalidQuery` where the rows are no
+/// office's.
 pub(crate) fn decide_on_tables<S: Alter>(
     alloc: Global,
     tx: &mut Transaction<'_, S>,
@@ -189,7 +195,8 @@ pub(crate) fn decide_on_tables<S: Alter>(
     command: &Command,
 ) -> Result<(Decision, Option<u32>), Error>
     ensures same_reference { tx.new.conn.ghost_name ≡ tx.old.conn.ghost_name }
-    ensures decided { Finds result (state S.Store tx.old.conn.now) (state S.Store tx.new.conn.now) (λ it t. (net : Option Network) (book : Book) → IsNetAt command.now.net t net → IsBookIn t book
+    ensures decided { Finds result (state S.Store tx.old.conn.now) (state S.Store tx.new.conn.now)
+        (λ it t. (net : Option Network) (book : Book) → IsNetAt command.now.net t net → IsBookIn t book
         → IsDecision team.now (record { net = net; book = book }) command.now it.0 × IsNext it.1 net it.0.changes) }
     ensures same { ChangesNothing result (state S.Store tx.old.conn.now) (state S.Store tx.new.conn.now) }
     ensures kept { CommitsNothing (state S.Store tx.old.conn.now) (state S.Store tx.new.conn.now) }

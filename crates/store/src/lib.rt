@@ -1,11 +1,12 @@
 //! The store: an office on SQLite tables, which answers requests that may arrive again.
 //!
-//! [`Office::open`] makes the tables on a database that has none, or takes those of an earlier run. [`Office::arrive`]
-//! answers one arrival, in one transaction, and [`Office::run`] a list of them. [`Office::look`] gives the text of a
-//! live sheet or of a release. [`Office::close`] gives the connection back. A call that is [`Lost`] counts as not made.
+//! [`StoredOffice::open`] makes the tables on a database that has none, or takes those of an earlier run.
+//! [`StoredOffice::arrive`] answers one arrival, in one transaction, and [`StoredOffice::run`] a list of them.
+//! [`StoredOffice::look`] gives the text of a live sheet or of a release. [`StoredOffice::close`] gives the connection
+//! back. A call that is [`Lost`] counts as not made.
 //!
 //! Tables hold a history (`specs/Holds.antt`) if it is legal, their rows stand for the office that it leaves, and there
-//! is one kept reply for each first arrival. The main theorem is the contract of [`Office::run`]
+//! is one kept reply for each first arrival. The main theorem is the contract of [`StoredOffice::run`]
 //! (`specs/Headline.antt`): for every list of arrivals, the history that the tables held before, followed by the
 //! arrivals that were answered, in order and with their answers, is what they hold after. [`held_networks_are_clear`]
 //! says what then holds of each network, [`held_numbers_mean_one_thing`] of numbers that were given out, and
@@ -25,13 +26,12 @@ mod losing;
 mod lost;
 mod migrating;
 mod opening;
-mod question;
 mod running;
 mod stored_office;
 
 pub use laws::{held_networks_are_apart, held_networks_are_clear, held_numbers_mean_one_thing};
 pub use lost::Lost;
 pub use office_history::{Answer, Arrival, Key, Request};
-pub use question::Question;
+pub use office_types::Look;
 pub use store_carry::Watch;
-pub use stored_office::Office;
+pub use stored_office::StoredOffice;

@@ -12,9 +12,12 @@ fn is_open<S: Alter>(conn: &mut Connection<S>) -> bool
     requires { (state S.Store conn.old).in_transaction ≡ false }
     ensures autocommit { (state S.Store conn.new).in_transaction ≡ false }
     ensures open { HasCleanDisk (state S.Store conn.new) → IsTrue result → IsTrue (state S.Store conn.new).is_open }
-    ensures was_open { HasCleanDisk (state S.Store conn.new) → IsTrue (state S.Store conn.new).is_open → IsTrue (state S.Store conn.old).is_open }
-    ensures same { HasCleanDisk (state S.Store conn.new) → IsTrue (state S.Store conn.new).is_open → (state S.Store conn.new).now ≡ (state S.Store conn.old).now }
-    ensures committed { HasCleanDisk (state S.Store conn.new) → IsTrue (state S.Store conn.new).is_open → (state S.Store conn.new).committed ≡ (state S.Store conn.old).committed }
+    ensures was_open { HasCleanDisk (state S.Store conn.new) → IsTrue (state S.Store conn.new).is_open
+        → IsTrue (state S.Store conn.old).is_open }
+    ensures same { HasCleanDisk (state S.Store conn.new) → IsTrue (state S.Store conn.new).is_open
+        → (state S.Store conn.new).now ≡ (state S.Store conn.old).now }
+    ensures committed { HasCleanDisk (state S.Store conn.new) → IsTrue (state S.Store conn.new).is_open
+        → (state S.Store conn.new).committed ≡ (state S.Store conn.old).committed }
     ensures survives { Survives (state S.Store conn.old) (state S.Store conn.new) (λ _. ⊥) }
 {
     let _settled_before = conn.is_autocommit();
@@ -29,10 +32,14 @@ pub(crate) fn loss_by<S: Alter>(conn: &mut Connection<S>, error: Error) -> Lost
     requires { (state S.Store conn.old).in_transaction ≡ false }
     ensures autocommit { (state S.Store conn.new).in_transaction ≡ false }
     ensures named { IsOfCall result }
-    ensures open { HasCleanDisk (state S.Store conn.new) → result ≡ Lost.Memory → IsTrue (state S.Store conn.new).is_open }
-    ensures was_open { HasCleanDisk (state S.Store conn.new) → IsTrue (state S.Store conn.new).is_open → IsTrue (state S.Store conn.old).is_open }
-    ensures same { HasCleanDisk (state S.Store conn.new) → IsTrue (state S.Store conn.new).is_open → (state S.Store conn.new).now ≡ (state S.Store conn.old).now }
-    ensures committed { HasCleanDisk (state S.Store conn.new) → IsTrue (state S.Store conn.new).is_open → (state S.Store conn.new).committed ≡ (state S.Store conn.old).committed }
+    ensures open { HasCleanDisk (state S.Store conn.new) → result ≡ Lost.Memory
+        → IsTrue (state S.Store conn.new).is_open }
+    ensures was_open { HasCleanDisk (state S.Store conn.new) → IsTrue (state S.Store conn.new).is_open
+        → IsTrue (state S.Store conn.old).is_open }
+    ensures same { HasCleanDisk (state S.Store conn.new) → IsTrue (state S.Store conn.new).is_open
+        → (state S.Store conn.new).now ≡ (state S.Store conn.old).now }
+    ensures committed { HasCleanDisk (state S.Store conn.new) → IsTrue (state S.Store conn.new).is_open
+        → (state S.Store conn.new).committed ≡ (state S.Store conn.old).committed }
     ensures survives { Survives (state S.Store conn.old) (state S.Store conn.new) (λ _. ⊥) }
 {
     let lost = Lost::from(error);

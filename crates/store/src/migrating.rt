@@ -13,11 +13,12 @@ ghost use Rattle.store_carry.specs.Marks.{HasMarks};
 ghost use Rattle.store_carry.specs.declared.forms.Form.{Form as FormOf};
 ghost use Rattle.store.specs.Holding.{Holding, Keeps, Leaves};
 ghost use Rattle.store.specs.Lost.{IsOfCall};
-ghost use Rattle.store.specs.Opening.{HasNone, HasOffice, HasTables, HoldingInSomeForm, IsCarried, IsGrown, IsNew, KeepsInSomeForm, MayCarry, MayMigrate};
+ghost use Rattle.store.specs.Opening.{HasNone, HasOffice, HasTables, HoldingInSomeForm, IsCarried, IsGrown, IsNew};
+ghost use Rattle.store.specs.Opening.{KeepsInSomeForm, MayCarry, MayMigrate};
 
 use crate::lost::Lost;
 use crate::opening::{complete, leaves_committed, start};
-use crate::stored_office::Office;
+use crate::stored_office::StoredOffice;
 use office_tables::{is_new, knows_tables};
 use sqlite::{Alter, Connection, Error};
 use std::alloc::Global;
@@ -32,11 +33,16 @@ fn carry_all<S: Alter, W: Watch>(
 ) -> Result<(), Error>
     requires { (state S.Store conn.old).in_transaction ≡ false }
     ensures autocommit { (state S.Store conn.new).in_transaction ≡ false }
-    ensures carried { HasCleanDisk (state S.Store conn.new) → (form : FormOf) → form ≢ Form.Foreign → IsOfficeWith (schema_of form) (state S.Store conn.old).now
-        → OnOk result (IsCarried form (state S.Store conn.old).now.trees (state S.Store conn.new).now × ((state S.Store conn.new).committed ≡ (state S.Store conn.new).now) × IsTrue (state S.Store conn.new).is_open) }
-    ensures back { HasCleanDisk (state S.Store conn.new) → (form : FormOf) → form ≢ Form.Foreign → IsOfficeWith (schema_of form) (state S.Store conn.old).now → IsTrue (state S.Store conn.new).is_open
+    ensures carried { HasCleanDisk (state S.Store conn.new) → (form : FormOf) → form ≢ Form.Foreign
+        → IsOfficeWith (schema_of form) (state S.Store conn.old).now
+        → OnOk result (IsCarried form (state S.Store conn.old).now.trees (state S.Store conn.new).now
+        × ((state S.Store conn.new).committed ≡ (state S.Store conn.new).now)
+        × IsTrue (state S.Store conn.new).is_open) }
+    ensures back { HasCleanDisk (state S.Store conn.new) → (form : FormOf) → form ≢ Form.Foreign
+        → IsOfficeWith (schema_of form) (state S.Store conn.old).now → IsTrue (state S.Store conn.new).is_open
         → OnErr result ((state S.Store conn.new).committed ≡ (state S.Store conn.old).committed) }
-    ensures survives { Survives (state S.Store conn.old) (state S.Store conn.new) (MayCarry (state S.Store conn.old).now) }
+    ensures survives { Survives (state S.Store conn.old) (state S.Store conn.new)
+        (MayCarry (state S.Store conn.old).now) }
     ensures clean { doubt (state S.Store conn.old).is_clean ≤ doubt (state S.Store conn.new).is_clean }
 {
     let form = form_of(conn);
@@ -54,22 +60,39 @@ fn make_current<S: Alter, W: Watch>(
     requires { (state S.Store conn.old).in_transaction ≡ false }
     ensures autocommit { (state S.Store conn.new).in_transaction ≡ false }
     ensures made { HasCleanDisk (state S.Store conn.new) → (state S.Store conn.old).now.schema ≡ no_schema
-        → OnOk result (IsNew (state S.Store conn.new).now × ((state S.Store conn.new).committed ≡ (state S.Store conn.new).now) × IsTrue (state S.Store conn.new).is_open) }
-    ensures same { HasCleanDisk (state S.Store conn.new) → (state S.Store conn.old).now.schema ≡ office_schema → HasMarks (tables_of (state S.Store conn.old).now.trees) Marks.Second
+        → OnOk result (IsNew (state S.Store conn.new).now
+        × ((state S.Store conn.new).committed ≡ (state S.Store conn.new).now)
+        × IsTrue (state S.Store conn.new).is_open) }
+    ensures same { HasCleanDisk (state S.Store conn.new) → (state S.Store conn.old).now.schema ≡ office_schema
+        → HasMarks (tables_of (state S.Store conn.old).now.trees) Marks.Second
         → OnOk result (IsUnchanged (state S.Store conn.old) (state S.Store conn.new)) }
-    ensures grown { HasCleanDisk (state S.Store conn.new) → IsOfficeWith schema_13 (state S.Store conn.old).now → HasMarks (tables_of (state S.Store conn.old).now.trees) Marks.Second
-        → OnOk result (IsGrown (state S.Store conn.old).now.trees (state S.Store conn.new).now × ((state S.Store conn.new).committed ≡ (state S.Store conn.new).now) × IsTrue (state S.Store conn.new).is_open) }
-    ensures carried { HasCleanDisk (state S.Store conn.new) → (form : FormOf) → form ≢ Form.Foreign → IsOfficeWith (schema_of form) (state S.Store conn.old).now → ¬ HasMarks (tables_of (state S.Store conn.old).now.trees) Marks.Second
-        → OnOk result (IsCarried form (state S.Store conn.old).now.trees (state S.Store conn.new).now × ((state S.Store conn.new).committed ≡ (state S.Store conn.new).now) × IsTrue (state S.Store conn.new).is_open) }
-    ensures newer { HasCleanDisk (state S.Store conn.new) → IsOfficeSchema (state S.Store conn.old).now.schema → IfErr result (λ lost. lost ≡ Lost.NewerProfile → HasMarks (tables_of (state S.Store conn.old).now.trees) Marks.Newer) }
+    ensures grown { HasCleanDisk (state S.Store conn.new) → IsOfficeWith schema_13 (state S.Store conn.old).now
+        → HasMarks (tables_of (state S.Store conn.old).now.trees) Marks.Second
+        → OnOk result (IsGrown (state S.Store conn.old).now.trees (state S.Store conn.new).now
+        × ((state S.Store conn.new).committed ≡ (state S.Store conn.new).now)
+        × IsTrue (state S.Store conn.new).is_open) }
+    ensures carried { HasCleanDisk (state S.Store conn.new) → (form : FormOf) → form ≢ Form.Foreign
+        → IsOfficeWith (schema_of form) (state S.Store conn.old).now
+        → ¬ HasMarks (tables_of (state S.Store conn.old).now.trees) Marks.Second
+        → OnOk result (IsCarried form (state S.Store conn.old).now.trees (state S.Store conn.new).now
+        × ((state S.Store conn.new).committed ≡ (state S.Store conn.new).now)
+        × IsTrue (state S.Store conn.new).is_open) }
+    ensures newer { HasCleanDisk (state S.Store conn.new) → IsOfficeSchema (state S.Store conn.old).now.schema
+        → IfErr result (λ lost. lost ≡ Lost.NewerProfile
+        → HasMarks (tables_of (state S.Store conn.old).now.trees) Marks.Newer) }
     ensures never_older { IfErr result (λ lost. lost ≢ Lost.OlderProfile) }
     ensures named { (state S.Store conn.old).now.schema ≡ no_schema → IfErr result (λ lost. IsOfCall lost) }
-    ensures back { HasCleanDisk (state S.Store conn.new) → (form : FormOf) → form ≢ Form.Foreign → IsOfficeWith (schema_of form) (state S.Store conn.old).now → IsTrue (state S.Store conn.new).is_open
+    ensures back { HasCleanDisk (state S.Store conn.new) → (form : FormOf) → form ≢ Form.Foreign
+        → IsOfficeWith (schema_of form) (state S.Store conn.old).now → IsTrue (state S.Store conn.new).is_open
         → OnErr result ((state S.Store conn.new).committed ≡ (state S.Store conn.old).committed) }
-    ensures new_back { HasCleanDisk (state S.Store conn.new) → (state S.Store conn.old).now.schema ≡ no_schema → IsTrue (state S.Store conn.new).is_open
+    ensures new_back { HasCleanDisk (state S.Store conn.new) → (state S.Store conn.old).now.schema ≡ no_schema
+        → IsTrue (state S.Store conn.new).is_open
         → OnErr result ((state S.Store conn.new).committed ≡ (state S.Store conn.old).committed) }
-    ensures new_survives { (state S.Store conn.old).now.schema ≡ no_schema → Survives (state S.Store conn.old) (state S.Store conn.new) (λ trees. (db : Database) × IsNew db × (trees ≡ db.trees)) }
-    ensures survives { IsOfficeSchema (state S.Store conn.old).now.schema → Survives (state S.Store conn.old) (state S.Store conn.new) (MayMigrate (state S.Store conn.old).now) }
+    ensures new_survives { (state S.Store conn.old).now.schema ≡ no_schema
+        → Survives (state S.Store conn.old) (state S.Store conn.new)
+        (λ trees. (db : Database) × IsNew db × (trees ≡ db.trees)) }
+    ensures survives { IsOfficeSchema (state S.Store conn.old).now.schema
+        → Survives (state S.Store conn.old) (state S.Store conn.new) (MayMigrate (state S.Store conn.old).now) }
     ensures clean { doubt (state S.Store conn.old).is_clean ≤ doubt (state S.Store conn.new).is_clean }
 {
     if is_new(conn) {
@@ -86,30 +109,43 @@ fn make_current<S: Alter, W: Watch>(
     }
 }
 
-impl<S: Alter> Office<S> {
-    /// Opens the office on the connection as [`Office::open`] does, and carries tables of the first profile over before:
-    /// with the same history and every kept reply, in one transaction, so that a crash leaves the old tables or the new.
-    /// Where it is lost, the tables are as before, and the connection is given back; [`Lost::NewerProfile`] where they are
-    /// of a profile that isn't known here.
+impl<S: Alter> StoredOffice<S> {
+    /// Opens the office on the connection as [`StoredOffice::open`] does, and carries tables of the first profile over
+    /// before: with the same history and every kept reply, in one transaction, so that a crash leaves the old tables or
+    /// the new. Where it is lost, the tables are as before, and the connection is given back; [`Lost::NewerProfile`]
+    /// where they are of a profile that isn't known here.
     pub fn migrate<W: Watch>(
         alloc: Global,
         conn: Connection<S>,
         watch: &mut W,
-    ) -> Result<Office<S>, (Lost, Connection<S>)>
+    ) -> Result<StoredOffice<S>, (Lost, Connection<S>)>
         requires { (state S.Store conn).in_transaction ≡ false }
         ensures autocommit { IfErr result (λ lost. (state S.Store lost.1).in_transaction ≡ false) }
         ensures working { IfOk result (λ office. office.failed ≡ false) }
-        ensures made { IfOk result (λ office. HasCleanDisk (state S.Store office.conn) → HasNone (state S.Store conn) → Holding [] (state S.Store office.conn) × Leaves (Keeps []) (state S.Store office.conn)) }
-        ensures unmade { IfErr result (λ lost. HasCleanDisk (state S.Store lost.1) → HasNone (state S.Store conn) → Leaves (λ db. (db ≡ (state S.Store conn).committed.trees) ⊎ Keeps [] db) (state S.Store lost.1)) }
-        ensures same { IfOk result (λ office. HasCleanDisk (state S.Store office.conn) → HasTables (state S.Store conn) → HasMarks (tables_of (state S.Store conn).now.trees) Marks.Second → IsUnchanged (state S.Store conn) (state S.Store office.conn)) }
-        ensures migrated { IfOk result (λ office. HasCleanDisk (state S.Store office.conn) → (h : List Answered) → HoldingInSomeForm h (state S.Store conn) → Holding h (state S.Store office.conn) × Leaves (Keeps h) (state S.Store office.conn)) }
-        ensures newer { IfErr result (λ lost. HasCleanDisk (state S.Store lost.1) → HasOffice (state S.Store conn) → lost.0 ≡ Lost.NewerProfile → HasMarks (tables_of (state S.Store conn).now.trees) Marks.Newer) }
+        ensures made { IfOk result (λ office. HasCleanDisk (state S.Store office.conn) → HasNone (state S.Store conn)
+            → Holding [] (state S.Store office.conn) × Leaves (Keeps []) (state S.Store office.conn)) }
+        ensures unmade { IfErr result (λ lost. HasCleanDisk (state S.Store lost.1) → HasNone (state S.Store conn)
+            → Leaves (λ db. (db ≡ (state S.Store conn).committed.trees) ⊎ Keeps [] db) (state S.Store lost.1)) }
+        ensures same { IfOk result (λ office. HasCleanDisk (state S.Store office.conn) → HasTables (state S.Store conn)
+            → HasMarks (tables_of (state S.Store conn).now.trees) Marks.Second
+            → IsUnchanged (state S.Store conn) (state S.Store office.conn)) }
+        ensures migrated { IfOk result (λ office. HasCleanDisk (state S.Store office.conn) → (h : List Answered)
+            → HoldingInSomeForm h (state S.Store conn) → Holding h (state S.Store office.conn)
+            × Leaves (Keeps h) (state S.Store office.conn)) }
+        ensures newer { IfErr result (λ lost. HasCleanDisk (state S.Store lost.1) → HasOffice (state S.Store conn)
+            → lost.0 ≡ Lost.NewerProfile → HasMarks (tables_of (state S.Store conn).now.trees) Marks.Newer) }
         ensures never_older { IfErr result (λ lost. lost.0 ≢ Lost.OlderProfile) }
         ensures named { IfErr result (λ lost. HasNone (state S.Store conn) → IsOfCall lost.0) }
-        ensures back { IfErr result (λ lost. HasCleanDisk (state S.Store lost.1) → HasOffice (state S.Store conn) ⊎ HasNone (state S.Store conn) → IsTrue (state S.Store lost.1).is_open → (state S.Store lost.1).committed ≡ (state S.Store conn).committed) }
+        ensures back { IfErr result (λ lost. HasCleanDisk (state S.Store lost.1) → HasOffice (state S.Store conn)
+            ⊎ HasNone (state S.Store conn) → IsTrue (state S.Store lost.1).is_open
+            → (state S.Store lost.1).committed ≡ (state S.Store conn).committed) }
         ensures left { (h : List Answered) → HoldingInSomeForm h (state S.Store conn)
-            → MatchResult result (λ office. HasCleanDisk (state S.Store office.conn) → Leaves (KeepsInSomeForm h) (state S.Store office.conn)) (λ lost. HasCleanDisk (state S.Store lost.1) → Leaves (KeepsInSomeForm h) (state S.Store lost.1)) }
-        ensures clean { MatchResult result (λ office. doubt (state S.Store conn).is_clean ≤ doubt (state S.Store office.conn).is_clean) (λ lost. doubt (state S.Store conn).is_clean ≤ doubt (state S.Store lost.1).is_clean) }
+            → MatchResult result (λ office. HasCleanDisk (state S.Store office.conn)
+            → Leaves (KeepsInSomeForm h) (state S.Store office.conn))
+            (λ lost. HasCleanDisk (state S.Store lost.1) → Leaves (KeepsInSomeForm h) (state S.Store lost.1)) }
+        ensures clean { MatchResult result (λ office. doubt (state S.Store conn).is_clean ≤ doubt
+            (state S.Store office.conn).is_clean)
+            (λ lost. doubt (state S.Store conn).is_clean ≤ doubt (state S.Store lost.1).is_clean) }
     {
         let mut conn = conn;
         knows_tables(&conn);
@@ -118,7 +154,7 @@ impl<S: Alter> Office<S> {
         match make_current(alloc, &mut conn, watch) {
             Ok(()) => {
                 leaves_committed(&conn);
-                Ok(Office {
+                Ok(StoredOffice {
                     conn,
                     failed: false,
                 })

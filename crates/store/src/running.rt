@@ -9,21 +9,23 @@ ghost use Rattle.store.specs.Headline.{HasRun};
 ghost use Rattle.store.specs.Running.{FailsBy, IsNoProfile};
 
 use crate::lost::Lost;
-use crate::stored_office::Office;
+use crate::stored_office::StoredOffice;
 use office_history::{Answer, Arrival};
 use sqlite::Alter;
 use std::alloc::{AllocError, Global};
 
-impl<S: Alter> Office<S> {
-    /// Answers the arrivals in turn, each as [`Office::arrive`] does, and goes on after one that is lost. Gives the
-    /// results, in order. The error is out of memory for them: then nothing arrived.
+impl<S: Alter> StoredOffice<S> {
+    /// Answers the arrivals in turn, each as [`StoredOffice::arrive`] does, and goes on after one that is lost. Gives
+    /// the results, in order. The error is out of memory for them: then nothing arrived.
     pub fn run(
         &mut self,
         alloc: Global,
         arrivals: &[Arrival],
     ) -> Result<Vec<Result<Answer, Lost>>, AllocError>
-        ensures ran { HasCleanDisk (state S.Store self.new.conn) → (h : List Answered) → Holding h (state S.Store self.old.conn)
-            → IfOk result (λ results. HasRun h arrivals.now results.items self.new.failed (state S.Store self.new.conn)) }
+        ensures ran { HasCleanDisk (state S.Store self.new.conn) → (h : List Answered)
+            → Holding h (state S.Store self.old.conn)
+            → IfOk result (λ results. HasRun h arrivals.now results.items self.new.failed
+            (state S.Store self.new.conn)) }
         ensures refused { IsTrue self.old.failed → self.new ≡ self.old }
         ensures failed { IfOk result (λ results. FailsBy self.old.failed results.items self.new.failed) }
         ensures named { IfOk result (λ results. All IsNoProfile results.items) }

@@ -8,17 +8,17 @@ use sqlite::{Alter, Connection};
 use std::marker::Model;
 
 /// An office that is kept in the tables of a connection. Between calls no transaction is open.
-pub struct Office<S: Alter> {
+pub struct StoredOffice<S: Alter> {
     pub(crate) conn: Connection<S>,
     pub(crate) failed: bool,
 }
 
-impl<S: Alter> Model for Office<S> {
+impl<S: Alter> Model for StoredOffice<S> {
     ghost use Rattle.std.specs.Prelude.{◌≡◌, false};
     ghost use Rattle.sqlite.specs.Held.{state};
-    ghost use Rattle.store.specs.Office.{StoredOffice, stored_code};
+    ghost use Rattle.store.specs.Office.{OfficeView, stored_code};
 
-    ghost Value = { StoredOffice S };
+    ghost Value = { OfficeView S };
 
     ghost coded = { stored_code S.code };
 
@@ -27,7 +27,7 @@ impl<S: Alter> Model for Office<S> {
     ghost invariant = { λ office. (state S.Store office.conn).in_transaction ≡ false };
 }
 
-impl<S: Alter> Office<S> {
+impl<S: Alter> StoredOffice<S> {
     /// Whether a call was lost because of the store. Then each later arrival and look is lost too, and changes nothing.
     pub fn is_failed(&self) -> bool
         ensures { result ≡ self.now.failed }
@@ -37,7 +37,8 @@ impl<S: Alter> Office<S> {
 
     /// Does nothing. Its contract is a law: while the connection is open, a crash leaves what it shows.
     pub fn leaves_now(&self)
-        ensures { IsTrue (state S.Store self.now.conn).is_open → (db : Trees) → (state S.Store self.now.conn).may_leave db → db ≡ (state S.Store self.now.conn).now.trees }
+        ensures { IsTrue (state S.Store self.now.conn).is_open → (db : Trees)
+            → (state S.Store self.now.conn).may_leave db → db ≡ (state S.Store self.now.conn).now.trees }
     {
         leaves_committed(&self.conn);
         let _settled = self.conn.is_autocommit();
@@ -48,7 +49,7 @@ impl<S: Alter> Office<S> {
         ensures same { result ≡ self.conn }
         ensures settled { (state S.Store result).in_transaction ≡ false }
     {
-        let Office {
+        let StoredOffice {
             conn,
             failed: _failed,
         } = self;
@@ -56,9 +57,9 @@ impl<S: Alter> Office<S> {
     }
 }
 
-impl<S: Alter + Drop> Drop for Office<S> {
+impl<S: Alter + Drop> Drop for StoredOffice<S> {
     fn drop(self) {
-        let Office {
+        let StoredOffice {
             conn: _conn,
             failed: _failed,
         } = self;

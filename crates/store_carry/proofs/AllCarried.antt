@@ -1,4 +1,5 @@
--- Tables that hold a history hold it in another form, once the live messages are carried over or the profile is renewed.
+-- Tables that hold a history hold it in another form, once the live messages are carried over or the profile is
+-- renewed.
 use Rattle.std.proofs.Common.{◌≡◌, ◌∙◌, ℕ, List, [], ◌∷◌, filter, map, refl, sym, ap, subst, arith}
 use Rattle.std.specs.Ordering.{match_ordering}
 use Rattle.sqlite.specs.Order.{Row}

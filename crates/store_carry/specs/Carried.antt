@@ -14,8 +14,8 @@ use Rattle.store_rows.specs.NetIn.{HasBodies, HasRows}
 abbrev pub but_live : Tables → Tables
 but_live t = record t { msg = []; sig = []; receiver = []; sigvalue = [] }
 
--- From t to t2 these live messages are added, as rows, to a network that had none so; the other networks' rows stay, and
--- so do the other tables.
+-- From t to t2 these live messages are added, as rows, to a network that had none so; the other networks' rows stay,
+-- and so do the other tables.
 pub record AddsLive (name : List ℕ) (live : List LiveMessage) (t t2 : Tables) : Type 0 where
   pub here : IsStrictlySortedBy by_number live → HasRows name t [] → HasRows name t2 live
   pub others : (other : List ℕ) → bytes_eq name other ≡ false → live_rows other t2 ≡ live_rows other t

@@ -9,7 +9,8 @@ ghost use Rattle.sqlite.specs.State.{HasCleanDisk};
 ghost use Rattle.store_net.specs.Nets.{AreKnownNets};
 ghost use Rattle.store_carry.specs.Carried.{AddsLive, CarriesNet, CarriesNets};
 ghost use Rattle.store_carry.specs.Forms.{HoldsAsBodies, HoldsAsRows, row_marks};
-ghost use Rattle.office_rows.specs.Statement.{AddsNoCommit, CommitsNothing, LeavesNothing, MakesTables, StaysOffice, Writes};
+ghost use Rattle.office_rows.specs.Statement.{AddsNoCommit, CommitsNothing, LeavesNothing, MakesTables, StaysOffice};
+ghost use Rattle.office_rows.specs.Statement.{Writes};
 
 use crate::renewing::renew_profile;
 use crate::watch::Watch;
@@ -29,7 +30,8 @@ fn write_messages<S: Alter, W: Watch>(
     watch: &mut W,
 ) -> Result<(), Error>
     ensures same_reference { tx.new.conn.ghost_name ≡ tx.old.conn.ghost_name }
-    ensures added { Writes result (state S.Store tx.old.conn.now) (state S.Store tx.new.conn.now) (λ before after. AddsLive name.now live.now before after) }
+    ensures added { Writes result (state S.Store tx.old.conn.now) (state S.Store tx.new.conn.now)
+        (λ before after. AddsLive name.now live.now before after) }
     ensures office { StaysOffice result (state S.Store tx.old.conn.now) (state S.Store tx.new.conn.now) }
     ensures kept { AddsNoCommit (state S.Store tx.old.conn.now) (state S.Store tx.new.conn.now) }
     ensures survives { LeavesNothing (state S.Store tx.old.conn.now) (state S.Store tx.new.conn.now) }
@@ -49,7 +51,8 @@ fn carry_network<S: Alter, W: Watch>(
     watch: &mut W,
 ) -> Result<(), Error>
     ensures same_reference { tx.new.conn.ghost_name ≡ tx.old.conn.ghost_name }
-    ensures carried { Writes result (state S.Store tx.old.conn.now) (state S.Store tx.new.conn.now) (λ before after. CarriesNet name.now before after) }
+    ensures carried { Writes result (state S.Store tx.old.conn.now) (state S.Store tx.new.conn.now)
+        (λ before after. CarriesNet name.now before after) }
     ensures office { StaysOffice result (state S.Store tx.old.conn.now) (state S.Store tx.new.conn.now) }
     ensures kept { CommitsNothing (state S.Store tx.old.conn.now) (state S.Store tx.new.conn.now) }
     ensures survives { LeavesNothing (state S.Store tx.old.conn.now) (state S.Store tx.new.conn.now) }
@@ -66,7 +69,8 @@ fn carry_networks<S: Alter, W: Watch>(
     watch: &mut W,
 ) -> Result<(), Error>
     ensures same_reference { tx.new.conn.ghost_name ≡ tx.old.conn.ghost_name }
-    ensures carried { Writes result (state S.Store tx.old.conn.now) (state S.Store tx.new.conn.now) (λ before after. CarriesNets names.now before after) }
+    ensures carried { Writes result (state S.Store tx.old.conn.now) (state S.Store tx.new.conn.now)
+        (λ before after. CarriesNets names.now before after) }
     ensures office { StaysOffice result (state S.Store tx.old.conn.now) (state S.Store tx.new.conn.now) }
     ensures kept { CommitsNothing (state S.Store tx.old.conn.now) (state S.Store tx.new.conn.now) }
     ensures survives { LeavesNothing (state S.Store tx.old.conn.now) (state S.Store tx.new.conn.now) }
@@ -84,7 +88,8 @@ fn carry_live<S: Alter, W: Watch>(
     watch: &mut W,
 ) -> Result<(), Error>
     ensures same_reference { tx.new.conn.ghost_name ≡ tx.old.conn.ghost_name }
-    ensures carried { Writes result (state S.Store tx.old.conn.now) (state S.Store tx.new.conn.now) (λ before after. (nets : List Network) → AreKnownNets before nets
+    ensures carried { Writes result (state S.Store tx.old.conn.now) (state S.Store tx.new.conn.now)
+        (λ before after. (nets : List Network) → AreKnownNets before nets
         → CarriesNets (map (λ net. net.name) nets) before after) }
     ensures office { StaysOffice result (state S.Store tx.old.conn.now) (state S.Store tx.new.conn.now) }
     ensures kept { CommitsNothing (state S.Store tx.old.conn.now) (state S.Store tx.new.conn.now) }
@@ -97,7 +102,8 @@ fn carry_live<S: Alter, W: Watch>(
 /// Empties `message`, and renews the profile.
 fn end_bodies<S: Alter>(tx: &mut Transaction<'_, S>) -> Result<(), Error>
     ensures same_reference { tx.new.conn.ghost_name ≡ tx.old.conn.ghost_name }
-    ensures ended { MakesTables result (state S.Store tx.old.conn.now) (state S.Store tx.new.conn.now) (λ t. record t { message = []; profile = row_marks Two }) }
+    ensures ended { MakesTables result (state S.Store tx.old.conn.now) (state S.Store tx.new.conn.now)
+        (λ t. record t { message = []; profile = row_marks Two }) }
     ensures kept { AddsNoCommit (state S.Store tx.old.conn.now) (state S.Store tx.new.conn.now) }
     ensures survives { LeavesNothing (state S.Store tx.old.conn.now) (state S.Store tx.new.conn.now) }
 {
@@ -105,9 +111,10 @@ fn end_bodies<S: Alter>(tx: &mut Transaction<'_, S>) -> Result<(), Error>
     renew_profile(tx)
 }
 
-/// Carries the live messages of all networks over from bodies to rows, empties `message`, and renews the profile. Tables
-/// with live messages as bodies that hold a history of profile 1 hold the same history as rows then, under profile 2. This
-/// is of all of the office's tables, those of rows too; [`carry_bodies`](crate::carry_bodies) makes them first.
+/// Carries the live messages of all networks over from bodies to rows, empties `message`, and renews the profile.
+/// Tables with live messages as bodies that hold a history of profile 1 hold the same history as rows then, under
+/// profile 2. This is of all of the office's tables, those of rows too; [`carry_bodies`](crate::carry_bodies) makes
+/// them first.
 ///
 /// The error is out of memory, what `sqlite` answers, or `InvalidQuery` where rows are no office's.
 pub fn carry_over<S: Alter, W: Watch>(
@@ -116,9 +123,11 @@ pub fn carry_over<S: Alter, W: Watch>(
     watch: &mut W,
 ) -> Result<(), Error>
     ensures same_reference { tx.new.conn.ghost_name ≡ tx.old.conn.ghost_name }
-    ensures held { Writes result (state S.Store tx.old.conn.now) (state S.Store tx.new.conn.now) (λ before after. (h : List Answered) → HoldsAsBodies h before → HoldsAsRows Two h after) }
+    ensures held { Writes result (state S.Store tx.old.conn.now) (state S.Store tx.new.conn.now)
+        (λ before after. (h : List Answered) → HoldsAsBodies h before → HoldsAsRows Two h after) }
     ensures office { StaysOffice result (state S.Store tx.old.conn.now) (state S.Store tx.new.conn.now) }
-    ensures inside { HasCleanDisk (state S.Store tx.new.conn.now) → IsOffice (state S.Store tx.old.conn.now).now → OnOk result (IsTrue (state S.Store tx.new.conn.now).in_transaction) }
+    ensures inside { HasCleanDisk (state S.Store tx.new.conn.now) → IsOffice (state S.Store tx.old.conn.now).now
+        → OnOk result (IsTrue (state S.Store tx.new.conn.now).in_transaction) }
     ensures kept { CommitsNothing (state S.Store tx.old.conn.now) (state S.Store tx.new.conn.now) }
     ensures survives { LeavesNothing (state S.Store tx.old.conn.now) (state S.Store tx.new.conn.now) }
 {

@@ -21,7 +21,8 @@ pub enum Form {
 
 /// Which tables the connection has, by how many they are: of an office's it is exact.
 pub fn form_of<S: Alter>(conn: &Connection<S>) -> Form
-    ensures { (form : FormOf) → form ≢ Form.Foreign → (state S.Store conn.now).now.schema ≡ schema_of form → result ≡ form }
+    ensures { (form : FormOf) → form ≢ Form.Foreign → (state S.Store conn.now).now.schema ≡ schema_of form
+        → result ≡ form }
 {
     match conn.schema().tables.len() {
         9 => Form::Bodies,

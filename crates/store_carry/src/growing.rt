@@ -21,33 +21,49 @@ use office_tables::{create_part, make_last};
 use sqlite::{Alter, Error, Transaction};
 use std::alloc::Global;
 
-/// Makes the tables that the first offices lack, and carries their live messages over: tables of theirs that hold a history
-/// become all of the office's, and hold it as rows under profile 2. The errors are those of [`carry_over`].
+/// Makes the tables that the first offices lack, and carries their live messages over: tables of theirs that hold a
+/// history become all of the office's, and hold it as rows under profile 2. The errors are those of [`carry_over`].
 pub fn carry_bodies<S: Alter, W: Watch>(
     alloc: Global,
     tx: &mut Transaction<'_, S>,
     watch: &mut W,
 ) -> Result<(), Error>
     ensures same_reference { tx.new.conn.ghost_name ≡ tx.old.conn.ghost_name }
-    ensures held { HasCleanDisk (state S.Store tx.new.conn.now) → IsOfficeWith schema_9 (state S.Store tx.old.conn.now).now
-        → OnOk result ((h : List Answered) → HoldsAsBodies h (tables_in schema_9 (state S.Store tx.old.conn.now).now.trees) → HoldsAsRows Two h (tables_of (state S.Store tx.new.conn.now).now.trees)) }
-    ensures office { HasCleanDisk (state S.Store tx.new.conn.now) → IsOfficeWith schema_9 (state S.Store tx.old.conn.now).now → OnOk result (IsOffice (state S.Store tx.new.conn.now).now) }
-    ensures inside { HasCleanDisk (state S.Store tx.new.conn.now) → IsOfficeWith schema_9 (state S.Store tx.old.conn.now).now → OnOk result (IsTrue (state S.Store tx.new.conn.now).in_transaction) }
-    ensures kept { HasCleanDisk (state S.Store tx.new.conn.now) → IsOfficeWith schema_9 (state S.Store tx.old.conn.now).now → KeepsCommit (state S.Store tx.old.conn.now) (state S.Store tx.new.conn.now) }
+    ensures held { HasCleanDisk (state S.Store tx.new.conn.now)
+        → IsOfficeWith schema_9 (state S.Store tx.old.conn.now).now
+        → OnOk result ((h : List Answered) → HoldsAsBodies h
+        (tables_in schema_9 (state S.Store tx.old.conn.now).now.trees)
+        → HoldsAsRows Two h (tables_of (state S.Store tx.new.conn.now).now.trees)) }
+    ensures office { HasCleanDisk (state S.Store tx.new.conn.now)
+        → IsOfficeWith schema_9 (state S.Store tx.old.conn.now).now
+        → OnOk result (IsOffice (state S.Store tx.new.conn.now).now) }
+    ensures inside { HasCleanDisk (state S.Store tx.new.conn.now)
+        → IsOfficeWith schema_9 (state S.Store tx.old.conn.now).now
+        → OnOk result (IsTrue (state S.Store tx.new.conn.now).in_transaction) }
+    ensures kept { HasCleanDisk (state S.Store tx.new.conn.now)
+        → IsOfficeWith schema_9 (state S.Store tx.old.conn.now).now
+        → KeepsCommit (state S.Store tx.old.conn.now) (state S.Store tx.new.conn.now) }
     ensures survives { LeavesNothing (state S.Store tx.old.conn.now) (state S.Store tx.new.conn.now) }
 {
     make_last(tx)?;
     carry_over(alloc, tx, watch)
 }
 
-/// Makes the table of bundles' parts, and renews the profile: tables without it that hold a history as rows under profile 1
-/// become all of the office's, and hold it under profile 2. The errors are those of [`renew_profile`].
+/// Makes the table of bundles' parts, and renews the profile: tables without it that hold a history as rows under
+/// profile 1 become all of the office's, and hold it under profile 2. The errors are those of [`renew_profile`].
 pub fn carry_rows<S: Alter>(tx: &mut Transaction<'_, S>) -> Result<(), Error>
     ensures same_reference { tx.new.conn.ghost_name ≡ tx.old.conn.ghost_name }
-    ensures held { HasCleanDisk (state S.Store tx.new.conn.now) → IsOfficeWith schema_13 (state S.Store tx.old.conn.now).now
-        → OnOk result ((h : List Answered) → HoldsAsRows One h (tables_in schema_13 (state S.Store tx.old.conn.now).now.trees) → HoldsAsRows Two h (tables_of (state S.Store tx.new.conn.now).now.trees)) }
-    ensures office { HasCleanDisk (state S.Store tx.new.conn.now) → IsOfficeWith schema_13 (state S.Store tx.old.conn.now).now → OnOk result (IsOffice (state S.Store tx.new.conn.now).now) }
-    ensures inside { HasCleanDisk (state S.Store tx.new.conn.now) → IsOfficeWith schema_13 (state S.Store tx.old.conn.now).now → OnOk result (IsTrue (state S.Store tx.new.conn.now).in_transaction) }
+    ensures held { HasCleanDisk (state S.Store tx.new.conn.now)
+        → IsOfficeWith schema_13 (state S.Store tx.old.conn.now).now
+        → OnOk result ((h : List Answered) → HoldsAsRows One h
+        (tables_in schema_13 (state S.Store tx.old.conn.now).now.trees)
+        → HoldsAsRows Two h (tables_of (state S.Store tx.new.conn.now).now.trees)) }
+    ensures office { HasCleanDisk (state S.Store tx.new.conn.now)
+        → IsOfficeWith schema_13 (state S.Store tx.old.conn.now).now
+        → OnOk result (IsOffice (state S.Store tx.new.conn.now).now) }
+    ensures inside { HasCleanDisk (state S.Store tx.new.conn.now)
+        → IsOfficeWith schema_13 (state S.Store tx.old.conn.now).now
+        → OnOk result (IsTrue (state S.Store tx.new.conn.now).in_transaction) }
     ensures kept { AddsNoCommit (state S.Store tx.old.conn.now) (state S.Store tx.new.conn.now) }
     ensures survives { LeavesNothing (state S.Store tx.old.conn.now) (state S.Store tx.new.conn.now) }
 {
@@ -55,8 +71,9 @@ pub fn carry_rows<S: Alter>(tx: &mut Transaction<'_, S>) -> Result<(), Error>
     renew_profile(tx)
 }
 
-/// Carries tables of the first profile over, in a transaction, by what their profile says and which they are. An error is out of memory, what `sqlite` answers, or `InvalidQuery` where rows are no office's, or the tables aren't
-/// those that the profile speaks of.
+/// Carries tables of the first profile over, in a transaction, by what their profile says and which they are. An error
+/// is out of memory, what `sqlite` answers, or `InvalidQuery` where rows are no office's, or the tables aren't those
+/// that the profile speaks of.
 pub fn carry<S: Alter, W: Watch>(
     alloc: Global,
     tx: &mut Transaction<'_, S>,
@@ -65,11 +82,20 @@ pub fn carry<S: Alter, W: Watch>(
     watch: &mut W,
 ) -> Result<(), Error>
     ensures same_reference { tx.new.conn.ghost_name ≡ tx.old.conn.ghost_name }
-    ensures held { HasCleanDisk (state S.Store tx.new.conn.now) → IsOfficeWith (schema_of form) (state S.Store tx.old.conn.now).now
-        → OnOk result ((h : List Answered) → HoldsAs One form h (tables_in (schema_of form) (state S.Store tx.old.conn.now).now.trees) → HoldsAsRows Two h (tables_of (state S.Store tx.new.conn.now).now.trees)) }
-    ensures office { HasCleanDisk (state S.Store tx.new.conn.now) → IsOfficeWith (schema_of form) (state S.Store tx.old.conn.now).now → OnOk result (IsOffice (state S.Store tx.new.conn.now).now) }
-    ensures inside { HasCleanDisk (state S.Store tx.new.conn.now) → IsOfficeWith (schema_of form) (state S.Store tx.old.conn.now).now → OnOk result (IsTrue (state S.Store tx.new.conn.now).in_transaction) }
-    ensures kept { HasCleanDisk (state S.Store tx.new.conn.now) → IsOfficeWith (schema_of form) (state S.Store tx.old.conn.now).now → KeepsCommit (state S.Store tx.old.conn.now) (state S.Store tx.new.conn.now) }
+    ensures held { HasCleanDisk (state S.Store tx.new.conn.now)
+        → IsOfficeWith (schema_of form) (state S.Store tx.old.conn.now).now
+        → OnOk result ((h : List Answered) → HoldsAs One form h
+        (tables_in (schema_of form) (state S.Store tx.old.conn.now).now.trees)
+        → HoldsAsRows Two h (tables_of (state S.Store tx.new.conn.now).now.trees)) }
+    ensures office { HasCleanDisk (state S.Store tx.new.conn.now)
+        → IsOfficeWith (schema_of form) (state S.Store tx.old.conn.now).now
+        → OnOk result (IsOffice (state S.Store tx.new.conn.now).now) }
+    ensures inside { HasCleanDisk (state S.Store tx.new.conn.now)
+        → IsOfficeWith (schema_of form) (state S.Store tx.old.conn.now).now
+        → OnOk result (IsTrue (state S.Store tx.new.conn.now).in_transaction) }
+    ensures kept { HasCleanDisk (state S.Store tx.new.conn.now)
+        → IsOfficeWith (schema_of form) (state S.Store tx.old.conn.now).now
+        → KeepsCommit (state S.Store tx.old.conn.now) (state S.Store tx.new.conn.now) }
     ensures survives { LeavesNothing (state S.Store tx.old.conn.now) (state S.Store tx.new.conn.now) }
 {
     match (marks, form) {

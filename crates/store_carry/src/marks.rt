@@ -73,10 +73,14 @@ pub fn marks_of(rows: &[Row]) -> Marks
 pub fn read_marks<S: Alter>(conn: &mut Connection<S>) -> Result<Marks, Error>
     requires { (state S.Store conn.old).in_transaction ≡ false }
     ensures autocommit { (state S.Store conn.new).in_transaction ≡ false }
-    ensures found { HasCleanDisk (state S.Store conn.new) → IsOfficeSchema (state S.Store conn.old).now.schema → IfOk result (λ marks. HasMarks (tables_of (state S.Store conn.old).now.trees) marks) }
-    ensures same { HasCleanDisk (state S.Store conn.new) → IsOfficeSchema (state S.Store conn.old).now.schema → OnOk result (IsUnchanged (state S.Store conn.old) (state S.Store conn.new)) }
-    ensures kept { HasCleanDisk (state S.Store conn.new) → IsOfficeSchema (state S.Store conn.old).now.schema → KeepsCommit (state S.Store conn.old) (state S.Store conn.new) }
-    ensures survives { IsOfficeSchema (state S.Store conn.old).now.schema → Survives (state S.Store conn.old) (state S.Store conn.new) (λ _. ⊥) }
+    ensures found { HasCleanDisk (state S.Store conn.new) → IsOfficeSchema (state S.Store conn.old).now.schema
+        → IfOk result (λ marks. HasMarks (tables_of (state S.Store conn.old).now.trees) marks) }
+    ensures same { HasCleanDisk (state S.Store conn.new) → IsOfficeSchema (state S.Store conn.old).now.schema
+        → OnOk result (IsUnchanged (state S.Store conn.old) (state S.Store conn.new)) }
+    ensures kept { HasCleanDisk (state S.Store conn.new) → IsOfficeSchema (state S.Store conn.old).now.schema
+        → KeepsCommit (state S.Store conn.old) (state S.Store conn.new) }
+    ensures survives { IsOfficeSchema (state S.Store conn.old).now.schema
+        → Survives (state S.Store conn.old) (state S.Store conn.new) (λ _. ⊥) }
     ensures clean { doubt (state S.Store conn.old).is_clean ≤ doubt (state S.Store conn.new).is_clean }
 {
     let rows = select_profile(conn)?;

@@ -15,9 +15,11 @@ use sqlite::{Alter, Error, Transaction};
 /// messages as rows become tables of profile 2, with the same history. The error is `sqlite`'s.
 pub fn renew_profile<S: Alter>(tx: &mut Transaction<'_, S>) -> Result<(), Error>
     ensures same_reference { tx.new.conn.ghost_name ≡ tx.old.conn.ghost_name }
-    ensures renewed { MakesTables result (state S.Store tx.old.conn.now) (state S.Store tx.new.conn.now) (λ t. record t { profile = row_marks Two }) }
+    ensures renewed { MakesTables result (state S.Store tx.old.conn.now) (state S.Store tx.new.conn.now)
+        (λ t. record t { profile = row_marks Two }) }
     ensures held { HasCleanDisk (state S.Store tx.new.conn.now) → IsOffice (state S.Store tx.old.conn.now).now
-        → OnOk result ((h : List Answered) → HoldsAsRows One h (tables_of (state S.Store tx.old.conn.now).now.trees) → HoldsAsRows Two h (tables_of (state S.Store tx.new.conn.now).now.trees)) }
+        → OnOk result ((h : List Answered) → HoldsAsRows One h (tables_of (state S.Store tx.old.conn.now).now.trees)
+        → HoldsAsRows Two h (tables_of (state S.Store tx.new.conn.now).now.trees)) }
     ensures kept { AddsNoCommit (state S.Store tx.old.conn.now) (state S.Store tx.new.conn.now) }
     ensures survives { LeavesNothing (state S.Store tx.old.conn.now) (state S.Store tx.new.conn.now) }
 {

@@ -9,7 +9,7 @@ use Rattle.catalogue.specs.Messages.{by_number}
 use Rattle.catalogue.specs.declared.message.Message.{Message}
 use Rattle.catalogue.specs.declared.sheet.Sheet.{Sheet}
 use Rattle.catalogue.specs.declared.signal.Signal.{Signal}
-use Rattle.chart.specs.Table.{message_line, signal_count, table_of}
+use Rattle.views.specs.Table.{message_line, signal_count, table_of}
 use Rattle.office_types.specs.State.{live_messages, sheet_with}
 use Rattle.office_types.specs.declared.state.Head.{Head}
 use Rattle.office_types.specs.declared.state.LiveMessage.{LiveMessage}

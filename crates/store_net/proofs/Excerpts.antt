@@ -1,6 +1,6 @@
 -- An excerpt that is read part by part is the network's.
 use Rattle.std.proofs.Common.{◌≡◌, ℕ, List, [], Option, Some, None, sym, subst}
-use Rattle.office_net.specs.declared.excerpt.Excerpt.{Excerpt}
+use Rattle.office_facts.specs.declared.excerpt.Excerpt.{Excerpt}
 use Rattle.office_types.specs.declared.state.GrantedBlock.{GrantedBlock}
 use Rattle.office_types.specs.declared.state.Head.{Head}
 use Rattle.office_types.specs.declared.state.LiveMessage.{LiveMessage}
@@ -35,13 +35,13 @@ pub one_there : (P : Net → Excerpt → Type 0) (name : List ℕ) (t : Tables) 
 one_there P name t None e head holds at = none_some e.head (sym (head None at))
 one_there P name t (Some net) e head holds at = holds net at (one_some e.head net.head (head (Some net.head) at.head))
 
-pub none_told : (name message : List ℕ) (t : Tables) (net : Option Net) → ((other : Option Head) → HasHead name t other → None ≡ other) → IsReadIn name t net → TellsExcerpt message net None
-none_told name message t net head at = none_there (IsExcerptFor message) name t net head at
+pub none_reported : (name message : List ℕ) (t : Tables) (net : Option Net) → ((other : Option Head) → HasHead name t other → None ≡ other) → IsReadIn name t net → TellsExcerpt message net None
+none_reported name message t net head at = none_there (IsExcerptFor message) name t net head at
 
-pub one_told : (name message : List ℕ) (t : Tables) (net : Option Net) (e : Excerpt) → ((other : Option Head) → HasHead name t other → Some e.head ≡ other)
+pub one_reported : (name message : List ℕ) (t : Tables) (net : Option Net) (e : Excerpt) → ((other : Option Head) → HasHead name t other → Some e.head ≡ other)
     → ((others : List GrantedBlock) → HasBlocks name t others → e.blocks ≡ others) → ((live : List LiveMessage) → AreLiveRows name (live_rows name t) live → e.found ≡ live_named live message)
     → IsReadIn name t net → TellsExcerpt message net (Some e)
-one_told name message t net e head blocks found at =
+one_reported name message t net e head blocks found at =
     one_there (IsExcerptFor message) name t net e head (λ n parts same. record { head = same; blocks = blocks n.blocks parts.blocks; found = found n.live parts.live }) at
 
 -- an excerpt made of another: none of none, and one of one

@@ -17,7 +17,7 @@ use Rattle.office_types.specs.Free.{is_taken}
 use Rattle.office_types.specs.declared.block.Block.{Block}
 use Rattle.office_types.specs.declared.state.LiveMessage.{LiveMessage}
 use Rattle.office_rules.specs.Facts.{group_of, has_ident, lies_in, number_in, same_ident}
-use Rattle.office_net.specs.By.{AgreeInside}
+use Rattle.office_facts.specs.By.{AgreeInside}
 use Rattle.store_rows.proofs.Keys.{and_left, and_right}
 use Rattle.store_net.specs.Numbers.{dbc_of, idents_between, idents_inside, is_in, live_idents}
 
@@ -86,7 +86,8 @@ taken_of f n (i ∷ idents) = by_number (f i) (taken_of f n idents)
     by_number None rest = rest
     by_number (Some m) rest = ap (λ b. (m == n) || b) rest
 
--- where a number is given by some live identifier that was read if it is given by any, it is taken as among all, with what is held
+-- where a number is given by some live identifier that was read if it is given by any, it is taken as among all, with
+-- what is held
 with_held : (f : Ident → Option ℕ) (n : ℕ) (some all held : List Ident) → list_any (gives f n) some ≡ list_any (gives f n) all
     → is_taken n (filter_map f (some ++ held)) ≡ is_taken n (filter_map f (all ++ held))
 with_held f n some all held same =

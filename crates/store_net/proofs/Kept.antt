@@ -32,12 +32,12 @@ none_kept = record { found = []; same = IsPermutation-refl []; each = tt }
 
 pub first_kept : (h : List Answered) (a : Answered) (reply : Reply) (rows : List Row) → first_of h a ≡ None → a.answer ≡ answer.Reply reply → AreKept h rows
     → AreKept (h ++ a ∷ []) (rows ++ kept_row a.team a.key a.content reply ∷ [])
-first_kept h a reply rows none told kept =
+first_kept h a reply rows none reported kept =
     let row = kept_row a.team a.key a.content reply in
     record {
       found = kept.found ++ row ∷ [];
       same = IsPermutation-append rows kept.found (row ∷ []) (row ∷ []) kept.same (IsPermutation-refl (row ∷ []));
-      each = subst (λ l. AreShown IsKept l (kept.found ++ row ∷ [])) (sym (first_new h a none)) (last_shown IsKept a row (first_arrivals h) kept.found (reply, told, refl) kept.each);
+      each = subst (λ l. AreShown IsKept l (kept.found ++ row ∷ [])) (sym (first_new h a none)) (last_shown IsKept a row (first_arrivals h) kept.found (reply, reported, refl) kept.each);
     }
 
 pub again_kept : (h : List Answered) (a first : Answered) (rows : List Row) → first_of h a ≡ Some first → AreKept h rows → AreKept (h ++ a ∷ []) rows
@@ -47,11 +47,11 @@ again_kept h a first rows found kept =
 -- the rows of the parts of a bundle's reply, too
 pub first_parts : (h : List Answered) (a : Answered) (reply : Reply) (rows : List Row) → first_of h a ≡ None → a.answer ≡ answer.Reply reply → AreKeptParts h rows
     → AreKeptParts (h ++ a ∷ []) (rows ++ part_rows a.team a.key 1 (reply_parts reply))
-first_parts h a reply rows none told kept =
+first_parts h a reply rows none reported kept =
     let own = part_rows a.team a.key 1 (reply_parts reply) in
     let earlier = flat_map kept_parts (first_arrivals h) in
     subst (IsPermutation (rows ++ own))
-    (ap (λ (l : List Row). earlier ++ l) (sym (append-nil own) ∙ ap (λ (x : Answer). part_rows a.team a.key 1 (answer_parts x) ++ []) (sym told))
+    (ap (λ (l : List Row). earlier ++ l) (sym (append-nil own) ∙ ap (λ (x : Answer). part_rows a.team a.key 1 (answer_parts x) ++ []) (sym reported))
     ∙ sym (flat_map-append kept_parts (first_arrivals h) (a ∷ []))
     ∙ ap (flat_map kept_parts) (sym (first_new h a none)))
     (IsPermutation-append rows earlier own own kept (IsPermutation-refl own))
@@ -89,10 +89,10 @@ module _ (a : Answered) where
   pair_shown : (h : List Answered) (table rows : List Row) → AreKept h table → IsSelected (has_two_texts a.team a.key) reply_shown reply_order table rows
       → AreShown ShowsKept (option_to_list (first_of h a)) rows
   pair_shown h table rows kept sel =
-      let asked = has_two_texts a.team a.key in
-      let alone = subst (λ l. AreShown IsKept l (filter asked kept.found)) (pair_alone a h) (filter_shown (has_pair a) asked wanted (first_arrivals h) kept.found kept.each) in
-      let same = IsPermutation-trans (filter asked kept.found) (filter asked table) sel.found (IsPermutation-sym (filter asked table) (filter asked kept.found) (IsPermutation-filter asked table kept.found kept.same)) sel.same in
-      subst (AreShown ShowsKept (option_to_list (first_of h a))) (sym sel.is) (alone_shown (first_of h a) (filter asked kept.found) sel.found alone same)
+      let requested = has_two_texts a.team a.key in
+      let alone = subst (λ l. AreShown IsKept l (filter requested kept.found)) (pair_alone a h) (filter_shown (has_pair a) requested wanted (first_arrivals h) kept.found kept.each) in
+      let same = IsPermutation-trans (filter requested kept.found) (filter requested table) sel.found (IsPermutation-sym (filter requested table) (filter requested kept.found) (IsPermutation-filter requested table kept.found kept.same)) sel.same in
+      subst (AreShown ShowsKept (option_to_list (first_of h a))) (sym sel.is) (alone_shown (first_of h a) (filter requested kept.found) sel.found alone same)
 
   -- where no row is shown, none of the pair came first
   pub not_kept : (h : List Answered) (team key : List ℕ) (table rows : List Row) → AreKept h table → IsSelected (has_two_texts team key) reply_shown reply_order table rows

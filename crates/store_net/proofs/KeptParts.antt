@@ -1,4 +1,5 @@
--- The rows of the parts of answered bundles: those of one pair of team and key are those of its first arrival, in order.
+-- The rows of the parts of answered bundles: those of one pair of team and key are those of its first arrival, in
+-- order.
 use Rattle.std.proofs.Common.{◌≡◌, ◌∙◌, ℕ, ◌+◌, ◌<◌, Bool, true, false, cond, ◌&&◌, List, [], ◌∷◌, ◌++◌, length, filter, Some, refl, sym, ap, subst, arith, append-nil, inl, inr}
 use Rattle.std.specs.List.{AllByRecursion, flat_map}
 use Rattle.std.specs.List.Sorted.{IsStrictlySortedBy}

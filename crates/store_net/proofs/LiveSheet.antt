@@ -12,9 +12,9 @@ use Rattle.catalogue.specs.Keyed.{put}
 use Rattle.catalogue.specs.Messages.{AreMessages, by_number, has_number, number_of}
 use Rattle.catalogue.specs.declared.message.Message.{Message}
 use Rattle.catalogue.specs.declared.sheet.Sheet.{Sheet}
-use Rattle.catalogue.proofs.AscendingUnique.{one_ascending}
+use Rattle.dbc_grammar.proofs.AscendingUnique.{one_ascending}
 use Rattle.dbc_read.proofs.Putting.{one_put}
-use Rattle.chart.specs.Message.{message_chart}
+use Rattle.views.specs.Message.{message_chart}
 use Rattle.office_types.specs.State.{live_messages, sheet_of, sheet_with}
 use Rattle.office_types.specs.declared.state.Head.{Head}
 use Rattle.office_types.specs.declared.state.LiveMessage.{LiveMessage}
@@ -83,16 +83,16 @@ pub no_sheet : (net : Option Net) → None ≡ head_in net → None ≡ option_m
 no_sheet None none = refl
 no_sheet (Some net) none = absurd (cc)
 
--- ---- what is told of the live sheet
+-- ---- what is known of the live sheet
 
-pub nothing_told : (tell : Sheet → List ℕ) (net : Option Net) → None ≡ option_map sheet_of net → None ≡ option_map (λ (n : Net). tell (sheet_of n)) net
-nothing_told tell None none = refl
-nothing_told tell (Some net) none = absurd (cc)
+pub nothing_reported : (tell : Sheet → List ℕ) (net : Option Net) → None ≡ option_map sheet_of net → None ≡ option_map (λ (n : Net). tell (sheet_of n)) net
+nothing_reported tell None none = refl
+nothing_reported tell (Some net) none = absurd (cc)
 
-pub told : (tell : Sheet → List ℕ) (net : Option Net) (sheet : Sheet) (text : List ℕ) → Some sheet ≡ option_map sheet_of net → text ≡ tell sheet
+pub reported : (tell : Sheet → List ℕ) (net : Option Net) (sheet : Sheet) (text : List ℕ) → Some sheet ≡ option_map sheet_of net → text ≡ tell sheet
     → Some text ≡ option_map (λ (n : Net). tell (sheet_of n)) net
-told tell None sheet text found is = absurd (cc)
-told tell (Some net) sheet text found is = let same : sheet ≡ sheet_of net = cc in ap Some (is ∙ ap tell same)
+reported tell None sheet text found is = absurd (cc)
+reported tell (Some net) sheet text found is = let same : sheet ≡ sheet_of net = cc in ap Some (is ∙ ap tell same)
 
 -- the message of a name in the live sheet is that of the live message
 named_in_sheet : (live : List LiveMessage) (name : List ℕ)

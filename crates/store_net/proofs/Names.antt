@@ -1,5 +1,5 @@
--- The list of networks: the names that a query of all networks shows are those of the networks, in order, and so are the
--- lines that are written of them.
+-- The list of networks: the names that a query of all networks shows are those of the networks, in order, and so are
+-- the lines that are written of them.
 use Rattle.std.proofs.Common.{◌≡◌, ◌<◌, ◌≤◌, ◌+◌, ℕ, suc, List, [], ◌∷◌, ◌++◌, map, length, take, take_all, get_or, Bool, true, false, cond, not, ◌||◌, Some, None, refl, sym, ap, subst, ◌∙◌, arith}
 use Rattle.std.specs.Prelude.{IsPermutation, filter, find}
 use Rattle.std.specs.List.{AllByRecursion, list_any}
@@ -26,8 +26,8 @@ use Rattle.office_tables.specs.Tables.{Tables}
 use Rattle.office_tables.specs.Selected.{IsSelected}
 use Rattle.office_rows.specs.Rows.{frozen_row, is_any, is_of_net, net_row}
 use Rattle.office_rows.specs.Shown.{net_names_order, net_names_shown, net_order, release_numbers_order, release_numbers_shown}
-use Rattle.chart.proofs.Pieces.{items_more}
-use Rattle.net_list.specs.Text.{line_of, net_line, nets_text}
+use Rattle.views.proofs.Pieces.{items_more}
+use Rattle.views.specs.NetList.{line_of, net_line, nets_text}
 use Rattle.store_rows.specs.Listed.{AreListed, AreShown}
 use Rattle.store_rows.specs.NetIn.{IsNetAt, IsRestAt, RestRows, rest_of}
 use Rattle.store_rows.specs.Rows.{IsFrozenRow, IsNetRow, IsRowOf, numbered}
@@ -248,14 +248,14 @@ name_in nets i name d low is = is ∙ get_or-map name_of nets i d name low
 pub lines_more : (t : Tables) (names : List (List ℕ)) (nets : List Net) (i : ℕ) (name : List ℕ) (before line after : List ℕ) → names ≡ map name_of nets
     → AllByRecursion (λ (net : Net). IsNetAt net.name t (Some net)) nets → i < length names → name ≡ get_or names i name → before ≡ nets_text (take i nets)
     → ((net : Net) → IsNetAt name t (Some net) → line ≡ net_line net) → after ≡ before ++ line → after ≡ nets_text (take (i + 1) nets)
-lines_more t names [] i name before line after same there within is told one more = absurd (let low : i < 0 = subst (λ l. i < length l) same within in omega (arith, low))
-lines_more t names (net ∷ nets) i name before line after same there within is told one more =
+lines_more t names [] i name before line after same there within is reported one more = absurd (let low : i < 0 = subst (λ l. i < length l) same within in omega (arith, low))
+lines_more t names (net ∷ nets) i name before line after same there within is reported one more =
     let all = net ∷ nets in
     let low : i < length all = subst (λ n. i < n) (ap length same ∙ length-map all name_of) within in
     let this = get_or all i net in
     let named : name ≡ this.name = name_in all i name net low (is ∙ ap (λ l. get_or l i name) same) in
     let here = All-from_recursion (λ (n : Net). IsNetAt n.name t (Some n)) all there i net low in
-    items_more net_line all i net before line after low told (one this (subst (λ n. IsNetAt n t (Some this)) (sym named) here)) more
+    items_more net_line all i net before line after low reported (one this (subst (λ n. IsNetAt n t (Some this)) (sym named) here)) more
 
 pub lines_whole : (names : List (List ℕ)) (nets : List Net) (i : ℕ) (text : List ℕ) → names ≡ map name_of nets → length names ≤ i → text ≡ nets_text (take i nets) → text ≡ nets_text nets
-lines_whole names nets i text same ended told = told ∙ ap nets_text (take_all i nets (subst (λ n. n ≤ i) (ap length same ∙ length-map nets name_of) ended))
+lines_whole names nets i text same ended reported = reported ∙ ap nets_text (take_all i nets (subst (λ n. n ≤ i) (ap length same ∙ length-map nets name_of) ended))

@@ -14,9 +14,9 @@ use Rattle.office_types.specs.declared.command.TakePgn.{TakePgn}
 use Rattle.office_types.specs.declared.command.Task.TheVariants.{Act}
 use Rattle.office_types.specs.declared.state.Net.{Net}
 use Rattle.office_rules.specs.Facts.{blocks_of, group_of, is_held, is_live, is_wanted, number_in, taken_groups, taken_numbers}
-use Rattle.office_net.specs.By.{AgreeInside}
-use Rattle.office_net.specs.Excerpt.{IsExcerptOf}
-use Rattle.office_net.specs.declared.excerpt.Excerpt.{Excerpt}
+use Rattle.office_facts.specs.By.{AgreeInside}
+use Rattle.office_facts.specs.Excerpt.{IsExcerptOf}
+use Rattle.office_facts.specs.declared.excerpt.Excerpt.{Excerpt}
 use Rattle.store_net.specs.Excerpts.{HasNameAndCount}
 use Rattle.store_net.specs.Numbers.{idents_between, idents_inside, live_idents}
 use Rattle.store_net.proofs.Inside.{groups_inside, numbers_inside}

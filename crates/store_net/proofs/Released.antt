@@ -6,7 +6,7 @@ use Rattle.std.specs.Ordering.{is_eq, nat_cmp}
 use Rattle.std.proofs.lemmas.Bool.Decides.{nat_tests}
 use Rattle.sqlite.specs.declared.types.Value.TheVariants.{Int, Blob}
 use Rattle.sqlite.specs.Order.{Row, column, value_cmp}
-use Rattle.catalogue.specs.Reads.{Reads}
+use Rattle.dbc_grammar.specs.Reads.{Reads}
 use Rattle.catalogue.specs.declared.sheet.Sheet.{Sheet}
 use Rattle.office_types.specs.declared.state.Net.{Net}
 use Rattle.office_tables.specs.Tables.{Tables}

@@ -32,18 +32,18 @@ fault_row : kept_row (codes "engine") (codes "a3") (codes "import") (Refused (no
     ≡ Text (codes "engine") ∷ Text (codes "a3") ∷ Blob (codes "import") ∷ Int (pos 5) ∷ Int (pos 58) ∷ Int (pos 34) ∷ Int (pos 120) ∷ []
 fault_row = refl
 
-abbrev asked : Answered
-asked = record { profile = Two; team = engine; key = codes "a1"; content = codes "take E1"; command = (takes engine (codes "E1") None).command; answer = answer.Reply (Number 256) }
+abbrev requested : Answered
+requested = record { profile = Two; team = engine; key = codes "a1"; content = codes "take E1"; command = (takes engine (codes "E1") None).command; answer = answer.Reply (Number 256) }
 
 -- a request that came twice has one row
-repeat_kept : AreKept (asked ∷ asked ∷ []) (kept_row engine (codes "a1") (codes "take E1") (Number 256) ∷ [])
+repeat_kept : AreKept (requested ∷ requested ∷ []) (kept_row engine (codes "a1") (codes "take E1") (Number 256) ∷ [])
 repeat_kept = record { found = kept_row engine (codes "a1") (codes "take E1") (Number 256) ∷ []; same = IsPermutation-refl _; each = ((Number 256, refl, refl), tt) }
 
 -- the rows of two keys are kept in either order
 abbrev other : Answered
-other = record asked { key = codes "a2" }
+other = record requested { key = codes "a2" }
 
-either_order : AreKept (asked ∷ other ∷ []) (kept_row engine (codes "a2") (codes "take E1") (Number 256) ∷ kept_row engine (codes "a1") (codes "take E1") (Number 256) ∷ [])
+either_order : AreKept (requested ∷ other ∷ []) (kept_row engine (codes "a2") (codes "take E1") (Number 256) ∷ kept_row engine (codes "a1") (codes "take E1") (Number 256) ∷ [])
 either_order = record {
   found = kept_row engine (codes "a1") (codes "take E1") (Number 256) ∷ kept_row engine (codes "a2") (codes "take E1") (Number 256) ∷ [];
   same = IsPermutation-to_front (kept_row engine (codes "a2") (codes "take E1") (Number 256) ∷ []) (kept_row engine (codes "a1") (codes "take E1") (Number 256));
@@ -61,10 +61,10 @@ bundle_parts : part_rows (codes "engine") (codes "a4") 1 (part.Number 256 ∷ pa
 bundle_parts = refl
 
 abbrev bundled : Answered
-bundled = record asked { key = codes "a4"; answer = answer.Reply (Bundle (part.Number 256 ∷ part.Start 0 ∷ [])) }
+bundled = record requested { key = codes "a4"; answer = answer.Reply (Bundle (part.Number 256 ∷ part.Start 0 ∷ [])) }
 
 -- other answers have no parts
-parts_kept : AreKeptParts (asked ∷ bundled ∷ asked ∷ bundled ∷ []) (part_rows engine (codes "a4") 1 (part.Number 256 ∷ part.Start 0 ∷ []))
+parts_kept : AreKeptParts (requested ∷ bundled ∷ requested ∷ bundled ∷ []) (part_rows engine (codes "a4") 1 (part.Number 256 ∷ part.Start 0 ∷ []))
 parts_kept = IsPermutation-refl _
 
 first_release : next_number None ≡ 1

@@ -3,7 +3,7 @@ use Rattle.std.proofs.Common.{◌≡◌, [], ◌∷◌, Some, None, codes, refl}
 use Rattle.std.specs.Fmt.{digits}
 use Rattle.bitlayout.specs.First.{first_answer}
 use Rattle.can_id.specs.declared.ident.Ident.TheVariants.{Std}
-use Rattle.catalogue.specs.Canon.{canonical_text}
+use Rattle.dbc_grammar.specs.Canon.{canonical_text}
 use Rattle.catalogue.specs.Sheet.{empty_sheet}
 use Rattle.catalogue.specs.declared.message.Message.{Message}
 use Rattle.catalogue.specs.declared.sheet.Sheet.{Sheet}
@@ -29,8 +29,8 @@ no_release_of_none : release_at None 1 ≡ None
 no_release_of_none = refl
 
 -- where there is no release there is no text
-nothing_told : IsTextOf None None
-nothing_told = refl
+nothing_reported : IsTextOf None None
+nothing_reported = refl
 
 -- a text that is missing is none of a release
 something_missing : (release : Sheet) → IsTextOf (Some release) None → ⊥

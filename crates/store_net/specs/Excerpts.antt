@@ -1,6 +1,6 @@
 -- Networks of rows, as an excerpt reads them: the head, the blocks, the held identifiers and the live messages.
 use Rattle.std.specs.Prelude.{◌≡◌, ℕ, false, List, length, Option, Some, None}
-use Rattle.office_net.specs.declared.excerpt.Excerpt.{Excerpt}
+use Rattle.office_facts.specs.declared.excerpt.Excerpt.{Excerpt}
 use Rattle.office_types.specs.declared.state.Net.{Net}
 use Rattle.office_rules.specs.Facts.{is_named, live_named}
 use Rattle.office_tables.specs.Tables.{Tables}

@@ -2,12 +2,12 @@
 use Rattle.std.specs.Prelude.{◌≡◌, ◌==◌, ℕ, List, Option, Some, None, find}
 use Rattle.std.specs.Option.{option_map}
 use Rattle.std.specs.Str.{bytes_eq}
-use Rattle.catalogue.specs.Canon.{canonical_text}
-use Rattle.catalogue.specs.Reads.{ReadsOnlyAs}
+use Rattle.dbc_grammar.specs.Canon.{canonical_text}
+use Rattle.dbc_grammar.specs.Reads.{ReadsOnlyAs}
 use Rattle.catalogue.specs.declared.message.Message.{Message}
 use Rattle.catalogue.specs.declared.sheet.Sheet.{Sheet}
-use Rattle.chart.specs.Message.{message_chart}
-use Rattle.chart.specs.Table.{table_of}
+use Rattle.views.specs.Message.{message_chart}
+use Rattle.views.specs.Table.{table_of}
 use Rattle.office_types.specs.State.{sheet_of}
 use Rattle.office_types.specs.declared.state.Net.{Net}
 use Rattle.store_rows.specs.Rows.{numbered}

@@ -3,7 +3,9 @@ ghost use Rattle.std.specs.Prelude.{◌≡◌, false, Option, Some, OnOk};
 ghost use Rattle.sqlite.specs.Held.{state};
 ghost use Rattle.sqlite.specs.State.{HasCleanDisk};
 ghost use Rattle.office_types.specs.Block.{is_spn};
-ghost use Rattle.office_types.specs.declared.change.Change.TheVariants.{SetHead, SetBlock, SetSpnBlock, Hold, EnterSpn, SetApproval, ClearApprovals, AddRelease};
+ghost use Rattle.office_types.specs.declared.change.Change.TheVariants.{SetHead, SetBlock, SetSpnBlock, Hold};
+ghost use Rattle.office_types.specs.declared.change.Change.TheVariants.{EnterSpn, SetApproval, ClearApprovals};
+ghost use Rattle.office_types.specs.declared.change.Change.TheVariants.{AddRelease};
 ghost use Rattle.office_types.specs.declared.state.Net.{Net as Network};
 ghost use Rattle.office_tables.specs.Tables.{IsOffice};
 ghost use Rattle.store_rows.specs.Rows.{next_release, submitter_text};
@@ -40,8 +42,10 @@ pub(crate) fn write_head<S: Alter>(
     head: &Head,
 ) -> Result<(), Error>
     ensures same_reference { tx.new.conn.ghost_name ≡ tx.old.conn.ghost_name }
-    ensures written { Writes result (state S.Store tx.old.conn.now) (state S.Store tx.new.conn.now) (λ before after. (net : Option Network) → IsWritten name.now (SetHead head.now) net before after) }
-    ensures inside { HasCleanDisk (state S.Store tx.new.conn.now) → IsOffice (state S.Store tx.old.conn.now).now → OnOk result (IsInside (state S.Store tx.new.conn.now)) }
+    ensures written { Writes result (state S.Store tx.old.conn.now) (state S.Store tx.new.conn.now)
+        (λ before after. (net : Option Network) → IsWritten name.now (SetHead head.now) net before after) }
+    ensures inside { HasCleanDisk (state S.Store tx.new.conn.now) → IsOffice (state S.Store tx.old.conn.now).now
+        → OnOk result (IsInside (state S.Store tx.new.conn.now)) }
     ensures kept { AddsNoCommit (state S.Store tx.old.conn.now) (state S.Store tx.new.conn.now) }
     ensures survives { LeavesNothing (state S.Store tx.old.conn.now) (state S.Store tx.new.conn.now) }
 {
@@ -64,8 +68,11 @@ pub(crate) fn write_block<S: Alter>(
     granted: &GrantedBlock,
 ) -> Result<(), Error>
     ensures same_reference { tx.new.conn.ghost_name ≡ tx.old.conn.ghost_name }
-    ensures written { Writes result (state S.Store tx.old.conn.now) (state S.Store tx.new.conn.now) (λ before after. (net : Option Network) → is_spn granted.now.block.form ≡ false → IsWritten name.now (SetBlock granted.now) net before after) }
-    ensures inside { HasCleanDisk (state S.Store tx.new.conn.now) → IsOffice (state S.Store tx.old.conn.now).now → OnOk result (IsInside (state S.Store tx.new.conn.now)) }
+    ensures written { Writes result (state S.Store tx.old.conn.now) (state S.Store tx.new.conn.now)
+        (λ before after. (net : Option Network) → is_spn granted.now.block.form ≡ false
+        → IsWritten name.now (SetBlock granted.now) net before after) }
+    ensures inside { HasCleanDisk (state S.Store tx.new.conn.now) → IsOffice (state S.Store tx.old.conn.now).now
+        → OnOk result (IsInside (state S.Store tx.new.conn.now)) }
     ensures kept { AddsNoCommit (state S.Store tx.old.conn.now) (state S.Store tx.new.conn.now) }
     ensures survives { LeavesNothing (state S.Store tx.old.conn.now) (state S.Store tx.new.conn.now) }
 {
@@ -87,8 +94,10 @@ pub(crate) fn write_spn_block<S: Alter>(
     block: &SpnBlock,
 ) -> Result<(), Error>
     ensures same_reference { tx.new.conn.ghost_name ≡ tx.old.conn.ghost_name }
-    ensures written { Writes result (state S.Store tx.old.conn.now) (state S.Store tx.new.conn.now) (λ before after. (net : Option Network) → IsWritten name.now (SetSpnBlock block.now) net before after) }
-    ensures inside { HasCleanDisk (state S.Store tx.new.conn.now) → IsOffice (state S.Store tx.old.conn.now).now → OnOk result (IsInside (state S.Store tx.new.conn.now)) }
+    ensures written { Writes result (state S.Store tx.old.conn.now) (state S.Store tx.new.conn.now)
+        (λ before after. (net : Option Network) → IsWritten name.now (SetSpnBlock block.now) net before after) }
+    ensures inside { HasCleanDisk (state S.Store tx.new.conn.now) → IsOffice (state S.Store tx.old.conn.now).now
+        → OnOk result (IsInside (state S.Store tx.new.conn.now)) }
     ensures kept { AddsNoCommit (state S.Store tx.old.conn.now) (state S.Store tx.new.conn.now) }
     ensures survives { LeavesNothing (state S.Store tx.old.conn.now) (state S.Store tx.new.conn.now) }
 {
@@ -109,8 +118,10 @@ pub(crate) fn write_held<S: Alter>(
     ident: Ident,
 ) -> Result<(), Error>
     ensures same_reference { tx.new.conn.ghost_name ≡ tx.old.conn.ghost_name }
-    ensures written { Writes result (state S.Store tx.old.conn.now) (state S.Store tx.new.conn.now) (λ before after. (net : Option Network) → IsWritten name.now (Hold ident) net before after) }
-    ensures inside { HasCleanDisk (state S.Store tx.new.conn.now) → IsOffice (state S.Store tx.old.conn.now).now → OnOk result (IsInside (state S.Store tx.new.conn.now)) }
+    ensures written { Writes result (state S.Store tx.old.conn.now) (state S.Store tx.new.conn.now)
+        (λ before after. (net : Option Network) → IsWritten name.now (Hold ident) net before after) }
+    ensures inside { HasCleanDisk (state S.Store tx.new.conn.now) → IsOffice (state S.Store tx.old.conn.now).now
+        → OnOk result (IsInside (state S.Store tx.new.conn.now)) }
     ensures kept { AddsNoCommit (state S.Store tx.old.conn.now) (state S.Store tx.new.conn.now) }
     ensures survives { LeavesNothing (state S.Store tx.old.conn.now) (state S.Store tx.new.conn.now) }
 {
@@ -125,8 +136,10 @@ pub(crate) fn write_spn<S: Alter>(
     spn: UsableSpn,
 ) -> Result<(), Error>
     ensures same_reference { tx.new.conn.ghost_name ≡ tx.old.conn.ghost_name }
-    ensures written { Writes result (state S.Store tx.old.conn.now) (state S.Store tx.new.conn.now) (λ before after. (net : Option Network) → IsWritten name.now (EnterSpn spn) net before after) }
-    ensures inside { HasCleanDisk (state S.Store tx.new.conn.now) → IsOffice (state S.Store tx.old.conn.now).now → OnOk result (IsInside (state S.Store tx.new.conn.now)) }
+    ensures written { Writes result (state S.Store tx.old.conn.now) (state S.Store tx.new.conn.now)
+        (λ before after. (net : Option Network) → IsWritten name.now (EnterSpn spn) net before after) }
+    ensures inside { HasCleanDisk (state S.Store tx.new.conn.now) → IsOffice (state S.Store tx.old.conn.now).now
+        → OnOk result (IsInside (state S.Store tx.new.conn.now)) }
     ensures kept { AddsNoCommit (state S.Store tx.old.conn.now) (state S.Store tx.new.conn.now) }
     ensures survives { LeavesNothing (state S.Store tx.old.conn.now) (state S.Store tx.new.conn.now) }
 {
@@ -140,8 +153,10 @@ pub(crate) fn write_approval<S: Alter>(
     team: &Team,
 ) -> Result<(), Error>
     ensures same_reference { tx.new.conn.ghost_name ≡ tx.old.conn.ghost_name }
-    ensures written { Writes result (state S.Store tx.old.conn.now) (state S.Store tx.new.conn.now) (λ before after. (net : Option Network) → IsWritten name.now (SetApproval team.now) net before after) }
-    ensures inside { HasCleanDisk (state S.Store tx.new.conn.now) → IsOffice (state S.Store tx.old.conn.now).now → OnOk result (IsInside (state S.Store tx.new.conn.now)) }
+    ensures written { Writes result (state S.Store tx.old.conn.now) (state S.Store tx.new.conn.now)
+        (λ before after. (net : Option Network) → IsWritten name.now (SetApproval team.now) net before after) }
+    ensures inside { HasCleanDisk (state S.Store tx.new.conn.now) → IsOffice (state S.Store tx.old.conn.now).now
+        → OnOk result (IsInside (state S.Store tx.new.conn.now)) }
     ensures kept { AddsNoCommit (state S.Store tx.old.conn.now) (state S.Store tx.new.conn.now) }
     ensures survives { LeavesNothing (state S.Store tx.old.conn.now) (state S.Store tx.new.conn.now) }
 {
@@ -154,8 +169,10 @@ pub(crate) fn clear_approvals<S: Alter>(
     name: &NetName,
 ) -> Result<(), Error>
     ensures same_reference { tx.new.conn.ghost_name ≡ tx.old.conn.ghost_name }
-    ensures written { Writes result (state S.Store tx.old.conn.now) (state S.Store tx.new.conn.now) (λ before after. (net : Option Network) → IsWritten name.now ClearApprovals net before after) }
-    ensures inside { HasCleanDisk (state S.Store tx.new.conn.now) → IsOffice (state S.Store tx.old.conn.now).now → OnOk result (IsInside (state S.Store tx.new.conn.now)) }
+    ensures written { Writes result (state S.Store tx.old.conn.now) (state S.Store tx.new.conn.now)
+        (λ before after. (net : Option Network) → IsWritten name.now ClearApprovals net before after) }
+    ensures inside { HasCleanDisk (state S.Store tx.new.conn.now) → IsOffice (state S.Store tx.old.conn.now).now
+        → OnOk result (IsInside (state S.Store tx.new.conn.now)) }
     ensures kept { AddsNoCommit (state S.Store tx.old.conn.now) (state S.Store tx.new.conn.now) }
     ensures survives { LeavesNothing (state S.Store tx.old.conn.now) (state S.Store tx.new.conn.now) }
 {
@@ -173,8 +190,11 @@ pub(crate) fn write_release<S: Alter>(
     release: &FrozenSheet,
 ) -> Result<(), Error>
     ensures same_reference { tx.new.conn.ghost_name ≡ tx.old.conn.ghost_name }
-    ensures written { Writes result (state S.Store tx.old.conn.now) (state S.Store tx.new.conn.now) (λ before after. (net : Network) → number ≡ next_release net → IsWritten name.now (AddRelease release.now) (Some net) before after) }
-    ensures inside { HasCleanDisk (state S.Store tx.new.conn.now) → IsOffice (state S.Store tx.old.conn.now).now → OnOk result (IsInside (state S.Store tx.new.conn.now)) }
+    ensures written { Writes result (state S.Store tx.old.conn.now) (state S.Store tx.new.conn.now)
+        (λ before after. (net : Network) → number ≡ next_release net
+        → IsWritten name.now (AddRelease release.now) (Some net) before after) }
+    ensures inside { HasCleanDisk (state S.Store tx.new.conn.now) → IsOffice (state S.Store tx.old.conn.now).now
+        → OnOk result (IsInside (state S.Store tx.new.conn.now)) }
     ensures kept { AddsNoCommit (state S.Store tx.old.conn.now) (state S.Store tx.new.conn.now) }
     ensures survives { LeavesNothing (state S.Store tx.old.conn.now) (state S.Store tx.new.conn.now) }
 {

@@ -8,7 +8,7 @@ ghost use Rattle.office_rows.specs.Statement.{ChangesNothing, CommitsNothing, Fi
 use crate::message::message_at;
 use crate::parts::{blocks_of, head_of};
 use catalogue::{Items, Name};
-use office_net::Excerpt;
+use office_facts::Excerpt;
 use office_types::{GrantedBlock, Head, LiveMessage, NetName};
 use sqlite::{Alter, Error, Transaction};
 use std::alloc::Global;
@@ -44,7 +44,8 @@ pub fn message_excerpt_at<S: Alter>(
     message: &Name,
 ) -> Result<Option<Excerpt>, Error>
     ensures same_reference { tx.new.conn.ghost_name ≡ tx.old.conn.ghost_name }
-    ensures found { Finds result (state S.Store tx.old.conn.now) (state S.Store tx.new.conn.now) (λ found t. (net : Option Network) → IsReadIn name.now t net → TellsExcerpt message.now net found) }
+    ensures found { Finds result (state S.Store tx.old.conn.now) (state S.Store tx.new.conn.now)
+        (λ found t. (net : Option Network) → IsReadIn name.now t net → TellsExcerpt message.now net found) }
     ensures same { ChangesNothing result (state S.Store tx.old.conn.now) (state S.Store tx.new.conn.now) }
     ensures kept { CommitsNothing (state S.Store tx.old.conn.now) (state S.Store tx.new.conn.now) }
     ensures survives { LeavesNothing (state S.Store tx.old.conn.now) (state S.Store tx.new.conn.now) }

@@ -20,7 +20,9 @@ pub(crate) fn is_named_at<S: Alter>(
     message: &Name,
 ) -> Result<bool, Error>
     ensures same_reference { tx.new.conn.ghost_name ≡ tx.old.conn.ghost_name }
-    ensures found { Finds result (state S.Store tx.old.conn.now) (state S.Store tx.new.conn.now) (λ named t. (live : List Live) → AreLiveRows name.now (live_rows name.now t) live → named ≡ has_name live_name live message.now) }
+    ensures found { Finds result (state S.Store tx.old.conn.now) (state S.Store tx.new.conn.now)
+        (λ named t. (live : List Live) → AreLiveRows name.now (live_rows name.now t) live
+        → named ≡ has_name live_name live message.now) }
     ensures same { ChangesNothing result (state S.Store tx.old.conn.now) (state S.Store tx.new.conn.now) }
     ensures kept { CommitsNothing (state S.Store tx.old.conn.now) (state S.Store tx.new.conn.now) }
     ensures survives { LeavesNothing (state S.Store tx.old.conn.now) (state S.Store tx.new.conn.now) }
@@ -36,7 +38,8 @@ pub(crate) fn count_at<S: Alter>(
     name: &NetName,
 ) -> Result<usize, Error>
     ensures same_reference { tx.new.conn.ghost_name ≡ tx.old.conn.ghost_name }
-    ensures found { Finds result (state S.Store tx.old.conn.now) (state S.Store tx.new.conn.now) (λ count t. (live : List Live) → AreLiveRows name.now (live_rows name.now t) live → count ≡ length live) }
+    ensures found { Finds result (state S.Store tx.old.conn.now) (state S.Store tx.new.conn.now)
+        (λ count t. (live : List Live) → AreLiveRows name.now (live_rows name.now t) live → count ≡ length live) }
     ensures same { ChangesNothing result (state S.Store tx.old.conn.now) (state S.Store tx.new.conn.now) }
     ensures kept { CommitsNothing (state S.Store tx.old.conn.now) (state S.Store tx.new.conn.now) }
     ensures survives { LeavesNothing (state S.Store tx.old.conn.now) (state S.Store tx.new.conn.now) }

@@ -10,8 +10,8 @@
 //!
 //! A command on one message reads that message alone ([`message_excerpt_at`]). One that gives out a number reads no
 //! message: of the identifiers of live messages [`ident_excerpt_at`] reads those in the team's blocks, and
-//! [`group_excerpt_at`] those of 29 bits (`heads`, `ranges`). `IsExcerptOf` of `office_net` says what is decided by such
-//! an excerpt as by the network.
+//! [`group_excerpt_at`] those of 29 bits (`heads`, `ranges`). `IsExcerptOf` of `office_facts` says what is decided by
+//! such an excerpt as by the network.
 //!
 //! Writing: [`write_changes`] writes the rows of a list of changes (`writing`, `change_rows`, `setting`): each removes
 //! the rows of its key and adds its own, so that the tables follow what the changes do at the network and in the book.
@@ -23,9 +23,9 @@
 //! transaction is to be rolled back then.
 //!
 //! The definitions are in `specs/`: `Parts.antt` (the parts of a network in the tables), `Excerpts.antt` and
-//! `Numbers.antt` (the part that a command reads), `Nets.antt` (all networks of the tables), `Texts.antt` (the texts of a
-//! network), `Writing.antt` (what writing a change leaves), `Kept.antt` (the rows of answered requests). The lemmas on
-//! them, for the crates above, are in `proofs/`.
+//! `Numbers.antt` (the part that a command reads), `Nets.antt` (all networks of the tables), `Texts.antt` (the texts of
+//! a network), `Writing.antt` (what writing a change leaves), `Kept.antt` (the rows of answered requests). The lemmas
+//! on them, for the crates above, are in `proofs/`.
 #![tactic(auto)]
 
 mod change_rows;

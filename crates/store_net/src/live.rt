@@ -4,7 +4,7 @@ ghost use Rattle.std.specs.List.Sorted.{IsStrictlySortedBy};
 ghost use Rattle.std.specs.Option.{option_map};
 ghost use Rattle.catalogue.specs.Keyed.{put};
 ghost use Rattle.catalogue.specs.Messages.{by_number, has_number, number_of};
-ghost use Rattle.chart.specs.Table.{table_of};
+ghost use Rattle.views.specs.Table.{table_of};
 ghost use Rattle.office_types.specs.State.{live_messages, sheet_of, sheet_with};
 ghost use Rattle.office_types.specs.declared.state.Net.{Net as Network};
 ghost use Rattle.sqlite.specs.Held.{state};
@@ -16,12 +16,12 @@ use crate::live_list::{bare_messages, live_messages};
 use crate::message::message_at;
 use crate::parts::head_of;
 use catalogue::{Copying, Message, Name, Sheet, SheetCode};
-use chart::{message_chart, table_of};
 use dbc_write::text_of;
 use office_types::{Head, LiveMessage, NetName};
 use sqlite::{Alter, Error, Transaction};
 use std::alloc::{AllocError, Global};
 use std::mem::replace;
+use views::{message_chart, table_of};
 
 /// The frame of the head, without a message.
 fn frame_of(alloc: Global, head: Head) -> Sheet
@@ -51,7 +51,8 @@ fn add_message(alloc: Global, sheet: &mut Sheet, message: Message) -> Result<(),
 /// The live sheet: the frame with the live messages, which are in ascending order of their DBC numbers. An error is out
 /// of memory, or `InvalidQuery` where these messages can't be in one sheet.
 fn live_sheet(alloc: Global, head: Head, live: &[LiveMessage]) -> Result<Sheet, Error>
-    ensures { IfOk result (λ sheet. IsStrictlySortedBy by_number (live_messages live.now) → sheet ≡ sheet_with head.frame live.now) }
+    ensures { IfOk result (λ sheet. IsStrictlySortedBy by_number (live_messages live.now)
+        → sheet ≡ sheet_with head.frame live.now) }
 {
     let mut sheet = frame_of(alloc, head);
     for one in live {
@@ -70,7 +71,8 @@ fn sheet_at<S: Alter>(
     name: &NetName,
 ) -> Result<Option<Sheet>, Error>
     ensures same_reference { tx.new.conn.ghost_name ≡ tx.old.conn.ghost_name }
-    ensures found { Finds result (state S.Store tx.old.conn.now) (state S.Store tx.new.conn.now) (λ found t. (net : Option Network) → IsNetAt name.now t net → found ≡ option_map sheet_of net) }
+    ensures found { Finds result (state S.Store tx.old.conn.now) (state S.Store tx.new.conn.now)
+        (λ found t. (net : Option Network) → IsNetAt name.now t net → found ≡ option_map sheet_of net) }
     ensures same { ChangesNothing result (state S.Store tx.old.conn.now) (state S.Store tx.new.conn.now) }
     ensures kept { CommitsNothing (state S.Store tx.old.conn.now) (state S.Store tx.new.conn.now) }
     ensures survives { LeavesNothing (state S.Store tx.old.conn.now) (state S.Store tx.new.conn.now) }
@@ -91,7 +93,8 @@ fn bare_sheet_at<S: Alter>(
     name: &NetName,
 ) -> Result<Option<Sheet>, Error>
     ensures same_reference { tx.new.conn.ghost_name ≡ tx.old.conn.ghost_name }
-    ensures found { Finds result (state S.Store tx.old.conn.now) (state S.Store tx.new.conn.now) (λ found t. (net : Option Network) → IsNetAt name.now t net → option_map table_of found ≡ live_table net) }
+    ensures found { Finds result (state S.Store tx.old.conn.now) (state S.Store tx.new.conn.now)
+        (λ found t. (net : Option Network) → IsNetAt name.now t net → option_map table_of found ≡ live_table net) }
     ensures same { ChangesNothing result (state S.Store tx.old.conn.now) (state S.Store tx.new.conn.now) }
     ensures kept { CommitsNothing (state S.Store tx.old.conn.now) (state S.Store tx.new.conn.now) }
     ensures survives { LeavesNothing (state S.Store tx.old.conn.now) (state S.Store tx.new.conn.now) }
@@ -112,7 +115,9 @@ pub fn live_text<S: Alter>(
     name: &NetName,
 ) -> Result<Option<Vec<u8>>, Error>
     ensures same_reference { tx.new.conn.ghost_name ≡ tx.old.conn.ghost_name }
-    ensures found { Finds result (state S.Store tx.old.conn.now) (state S.Store tx.new.conn.now) (λ found t. (net : Option Network) → IsNetAt name.now t net → option_map (λ text. text.items) found ≡ live_text net) }
+    ensures found { Finds result (state S.Store tx.old.conn.now) (state S.Store tx.new.conn.now)
+        (λ found t. (net : Option Network) → IsNetAt name.now t net
+        → option_map (λ text. text.items) found ≡ live_text net) }
     ensures same { ChangesNothing result (state S.Store tx.old.conn.now) (state S.Store tx.new.conn.now) }
     ensures kept { CommitsNothing (state S.Store tx.old.conn.now) (state S.Store tx.new.conn.now) }
     ensures survives { LeavesNothing (state S.Store tx.old.conn.now) (state S.Store tx.new.conn.now) }
@@ -131,7 +136,9 @@ pub fn live_table<S: Alter>(
     name: &NetName,
 ) -> Result<Option<Vec<u8>>, Error>
     ensures same_reference { tx.new.conn.ghost_name ≡ tx.old.conn.ghost_name }
-    ensures found { Finds result (state S.Store tx.old.conn.now) (state S.Store tx.new.conn.now) (λ found t. (net : Option Network) → IsNetAt name.now t net → option_map (λ text. text.items) found ≡ live_table net) }
+    ensures found { Finds result (state S.Store tx.old.conn.now) (state S.Store tx.new.conn.now)
+        (λ found t. (net : Option Network) → IsNetAt name.now t net
+        → option_map (λ text. text.items) found ≡ live_table net) }
     ensures same { ChangesNothing result (state S.Store tx.old.conn.now) (state S.Store tx.new.conn.now) }
     ensures kept { CommitsNothing (state S.Store tx.old.conn.now) (state S.Store tx.new.conn.now) }
     ensures survives { LeavesNothing (state S.Store tx.old.conn.now) (state S.Store tx.new.conn.now) }
@@ -151,7 +158,9 @@ pub fn live_chart<S: Alter>(
     message: &Name,
 ) -> Result<Option<Vec<u8>>, Error>
     ensures same_reference { tx.new.conn.ghost_name ≡ tx.old.conn.ghost_name }
-    ensures found { Finds result (state S.Store tx.old.conn.now) (state S.Store tx.new.conn.now) (λ found t. (net : Option Network) → IsNetAt name.now t net → option_map (λ text. text.items) found ≡ live_chart net message.now) }
+    ensures found { Finds result (state S.Store tx.old.conn.now) (state S.Store tx.new.conn.now)
+        (λ found t. (net : Option Network) → IsNetAt name.now t net
+        → option_map (λ text. text.items) found ≡ live_chart net message.now) }
     ensures same { ChangesNothing result (state S.Store tx.old.conn.now) (state S.Store tx.new.conn.now) }
     ensures kept { CommitsNothing (state S.Store tx.old.conn.now) (state S.Store tx.new.conn.now) }
     ensures survives { LeavesNothing (state S.Store tx.old.conn.now) (state S.Store tx.new.conn.now) }

@@ -32,10 +32,13 @@ fn with_signals<S: Alter>(
     detail: Detail,
 ) -> Result<LiveMessage, Error>
     ensures same_reference { tx.new.conn.ghost_name ≡ tx.old.conn.ghost_name }
-    ensures found { Finds result (state S.Store tx.old.conn.now) (state S.Store tx.new.conn.now) (λ found t. (other : Live) → ShowsLive other row.now
-        → AreSignalsOf net.now (dbc_number other.message.ident) (live_rows net.now t) other.message.signals → found ≡ live_in detail other) }
+    ensures found { Finds result (state S.Store tx.old.conn.now) (state S.Store tx.new.conn.now)
+        (λ found t. (other : Live) → ShowsLive other row.now
+        → AreSignalsOf net.now (dbc_number other.message.ident) (live_rows net.now t) other.message.signals
+        → found ≡ live_in detail other) }
     ensures same { StaysSame result (state S.Store tx.old.conn.now) (state S.Store tx.new.conn.now) }
-    ensures unchanged { HasCleanDisk (state S.Store tx.new.conn.now) → IsOffice (state S.Store tx.old.conn.now).now → OnOk result ((state S.Store tx.new.conn.now).now ≡ (state S.Store tx.old.conn.now).now) }
+    ensures unchanged { HasCleanDisk (state S.Store tx.new.conn.now) → IsOffice (state S.Store tx.old.conn.now).now
+        → OnOk result ((state S.Store tx.new.conn.now).now ≡ (state S.Store tx.old.conn.now).now) }
     ensures kept { CommitsNothing (state S.Store tx.old.conn.now) (state S.Store tx.new.conn.now) }
     ensures survives { LeavesNothing (state S.Store tx.old.conn.now) (state S.Store tx.new.conn.now) }
 {
@@ -53,8 +56,10 @@ fn each_with_signals<S: Alter>(
     detail: Detail,
 ) -> Result<Vec<LiveMessage>, Error>
     ensures same_reference { tx.new.conn.ghost_name ≡ tx.old.conn.ghost_name }
-    ensures found { Finds result (state S.Store tx.old.conn.now) (state S.Store tx.new.conn.now) (λ found t. (live : List Live) → AreShown ShowsLive live rows.now
-        → AllByRecursion (λ (m : Live). AreSignalsOf net.now (dbc_number m.message.ident) (live_rows net.now t) m.message.signals) live
+    ensures found { Finds result (state S.Store tx.old.conn.now) (state S.Store tx.new.conn.now)
+        (λ found t. (live : List Live) → AreShown ShowsLive live rows.now
+        → AllByRecursion (λ (m : Live). AreSignalsOf net.now (dbc_number m.message.ident)
+        (live_rows net.now t) m.message.signals) live
         → found.items ≡ map (live_in detail) live) }
     ensures same { StaysSame result (state S.Store tx.old.conn.now) (state S.Store tx.new.conn.now) }
     ensures kept { CommitsNothing (state S.Store tx.old.conn.now) (state S.Store tx.new.conn.now) }
@@ -68,15 +73,16 @@ fn each_with_signals<S: Alter>(
     Ok(messages)
 }
 
-/// The live messages of the network, in ascending order of their DBC numbers. `InvalidQuery` also where there are rows of
-/// signals, receivers or value texts that none of them has.
+/// The live messages of the network, in ascending order of their DBC numbers. `InvalidQuery` also where there are rows
+/// of signals, receivers or value texts that none of them has.
 pub fn live_messages<S: Alter>(
     alloc: Global,
     tx: &mut Transaction<'_, S>,
     name: &NetName,
 ) -> Result<Items<LiveMessage>, Error>
     ensures same_reference { tx.new.conn.ghost_name ≡ tx.old.conn.ghost_name }
-    ensures found { Finds result (state S.Store tx.old.conn.now) (state S.Store tx.new.conn.now) (λ found t. (live : List Live) → AreLiveRows name.now (live_rows name.now t) live → found ≡ live) }
+    ensures found { Finds result (state S.Store tx.old.conn.now) (state S.Store tx.new.conn.now)
+        (λ found t. (live : List Live) → AreLiveRows name.now (live_rows name.now t) live → found ≡ live) }
     ensures same { ChangesNothing result (state S.Store tx.old.conn.now) (state S.Store tx.new.conn.now) }
     ensures kept { CommitsNothing (state S.Store tx.old.conn.now) (state S.Store tx.new.conn.now) }
     ensures survives { LeavesNothing (state S.Store tx.old.conn.now) (state S.Store tx.new.conn.now) }
@@ -94,7 +100,9 @@ pub(crate) fn bare_messages<S: Alter>(
     name: &NetName,
 ) -> Result<Items<LiveMessage>, Error>
     ensures same_reference { tx.new.conn.ghost_name ≡ tx.old.conn.ghost_name }
-    ensures found { Finds result (state S.Store tx.old.conn.now) (state S.Store tx.new.conn.now) (λ found t. (live : List Live) → AreLiveRows name.now (live_rows name.now t) live → found ≡ map (live_in read.Bare) live) }
+    ensures found { Finds result (state S.Store tx.old.conn.now) (state S.Store tx.new.conn.now)
+        (λ found t. (live : List Live) → AreLiveRows name.now (live_rows name.now t) live
+        → found ≡ map (live_in read.Bare) live) }
     ensures same { ChangesNothing result (state S.Store tx.old.conn.now) (state S.Store tx.new.conn.now) }
     ensures kept { CommitsNothing (state S.Store tx.old.conn.now) (state S.Store tx.new.conn.now) }
     ensures survives { LeavesNothing (state S.Store tx.old.conn.now) (state S.Store tx.new.conn.now) }

@@ -1,6 +1,6 @@
 //! One live message of a network, as the tables have it: no other message is read.
 ghost use Rattle.std.specs.Prelude.{◌≡◌, List, map, Option};
-ghost use Rattle.catalogue.specs.declared.signal.Signal.{Signal as Told};
+ghost use Rattle.catalogue.specs.declared.signal.Signal.{Signal as SignalModel};
 ghost use Rattle.office_rules.specs.Facts.{live_named};
 ghost use Rattle.office_types.specs.declared.state.LiveMessage.{LiveMessage as Live};
 ghost use Rattle.sqlite.specs.Held.{state};
@@ -24,7 +24,9 @@ fn signals_at<S: Alter>(
     number: u32,
 ) -> Result<Signals, Error>
     ensures same_reference { tx.new.conn.ghost_name ≡ tx.old.conn.ghost_name }
-    ensures found { Finds result (state S.Store tx.old.conn.now) (state S.Store tx.new.conn.now) (λ signals t. (others : List Told) → AreSignalsOf net.now number (live_rows net.now t) others → signals ≡ others) }
+    ensures found { Finds result (state S.Store tx.old.conn.now) (state S.Store tx.new.conn.now)
+        (λ signals t. (others : List SignalModel) → AreSignalsOf net.now number (live_rows net.now t) others
+        → signals ≡ others) }
     ensures same { ChangesNothing result (state S.Store tx.old.conn.now) (state S.Store tx.new.conn.now) }
     ensures kept { CommitsNothing (state S.Store tx.old.conn.now) (state S.Store tx.new.conn.now) }
     ensures survives { LeavesNothing (state S.Store tx.old.conn.now) (state S.Store tx.new.conn.now) }
@@ -43,7 +45,9 @@ fn bare_signals_at<S: Alter>(
     number: u32,
 ) -> Result<Signals, Error>
     ensures same_reference { tx.new.conn.ghost_name ≡ tx.old.conn.ghost_name }
-    ensures found { Finds result (state S.Store tx.old.conn.now) (state S.Store tx.new.conn.now) (λ signals t. (others : List Told) → AreSignalsOf net.now number (live_rows net.now t) others → signals ≡ map bare_signal others) }
+    ensures found { Finds result (state S.Store tx.old.conn.now) (state S.Store tx.new.conn.now)
+        (λ signals t. (others : List SignalModel) → AreSignalsOf net.now number (live_rows net.now t) others
+        → signals ≡ map bare_signal others) }
     ensures same { ChangesNothing result (state S.Store tx.old.conn.now) (state S.Store tx.new.conn.now) }
     ensures kept { CommitsNothing (state S.Store tx.old.conn.now) (state S.Store tx.new.conn.now) }
     ensures survives { LeavesNothing (state S.Store tx.old.conn.now) (state S.Store tx.new.conn.now) }
@@ -61,7 +65,9 @@ pub(crate) fn signals_for<S: Alter>(
     detail: Detail,
 ) -> Result<Signals, Error>
     ensures same_reference { tx.new.conn.ghost_name ≡ tx.old.conn.ghost_name }
-    ensures found { Finds result (state S.Store tx.old.conn.now) (state S.Store tx.new.conn.now) (λ signals t. (others : List Told) → AreSignalsOf net.now number (live_rows net.now t) others → signals ≡ signals_in detail others) }
+    ensures found { Finds result (state S.Store tx.old.conn.now) (state S.Store tx.new.conn.now)
+        (λ signals t. (others : List SignalModel) → AreSignalsOf net.now number (live_rows net.now t) others
+        → signals ≡ signals_in detail others) }
     ensures same { ChangesNothing result (state S.Store tx.old.conn.now) (state S.Store tx.new.conn.now) }
     ensures kept { CommitsNothing (state S.Store tx.old.conn.now) (state S.Store tx.new.conn.now) }
     ensures survives { LeavesNothing (state S.Store tx.old.conn.now) (state S.Store tx.new.conn.now) }
@@ -80,7 +86,9 @@ pub fn message_at<S: Alter>(
     message: &Name,
 ) -> Result<Option<LiveMessage>, Error>
     ensures same_reference { tx.new.conn.ghost_name ≡ tx.old.conn.ghost_name }
-    ensures found { Finds result (state S.Store tx.old.conn.now) (state S.Store tx.new.conn.now) (λ found t. (live : List Live) → AreLiveRows name.now (live_rows name.now t) live → found ≡ live_named live message.now) }
+    ensures found { Finds result (state S.Store tx.old.conn.now) (state S.Store tx.new.conn.now)
+        (λ found t. (live : List Live) → AreLiveRows name.now (live_rows name.now t) live
+        → found ≡ live_named live message.now) }
     ensures same { ChangesNothing result (state S.Store tx.old.conn.now) (state S.Store tx.new.conn.now) }
     ensures kept { CommitsNothing (state S.Store tx.old.conn.now) (state S.Store tx.new.conn.now) }
     ensures survives { LeavesNothing (state S.Store tx.old.conn.now) (state S.Store tx.new.conn.now) }

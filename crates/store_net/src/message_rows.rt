@@ -9,8 +9,10 @@ ghost use Rattle.office_tables.specs.Tables.{IsOffice};
 ghost use Rattle.sqlite.specs.Held.{state};
 ghost use Rattle.sqlite.specs.State.{HasCleanDisk};
 ghost use Rattle.store_rows.specs.Live.{HasDecimals, flag_number, motorola_number, mux_column, sender_text, sig_values};
-ghost use Rattle.store_rows.specs.LiveWritten.{IsLive, IsSignal, placed_from, receiver_rows, value_rows, with_live, with_msg, with_signal, with_signals, without_live};
-ghost use Rattle.office_rows.specs.Statement.{AddsNoCommit, LeavesNothing, MakesTables, StaysInside, StaysOffice, Writes};
+ghost use Rattle.store_rows.specs.LiveWritten.{IsLive, IsSignal, placed_from, receiver_rows, value_rows, with_live};
+ghost use Rattle.store_rows.specs.LiveWritten.{with_msg, with_signal, with_signals, without_live};
+ghost use Rattle.office_rows.specs.Statement.{AddsNoCommit, LeavesNothing, MakesTables, StaysInside, StaysOffice};
+ghost use Rattle.office_rows.specs.Statement.{Writes};
 
 use crate::writing::number_above;
 use bitlayout::{Mux, Order};
@@ -34,7 +36,8 @@ pub fn write_receivers<S: Alter>(
     receivers: &[Name],
 ) -> Result<(), Error>
     ensures same_reference { tx.new.conn.ghost_name ≡ tx.old.conn.ghost_name }
-    ensures written { Writes result (state S.Store tx.old.conn.now) (state S.Store tx.new.conn.now) (λ before after. after
+    ensures written { Writes result (state S.Store tx.old.conn.now) (state S.Store tx.new.conn.now)
+        (λ before after. after
         ≡ (record before { receiver = before.receiver ++ receiver_rows net.now number place 0 receivers.now })) }
     ensures office { StaysOffice result (state S.Store tx.old.conn.now) (state S.Store tx.new.conn.now) }
     ensures inside { StaysInside result (state S.Store tx.old.conn.now) (state S.Store tx.new.conn.now) }
@@ -77,7 +80,8 @@ pub fn write_values<S: Alter>(
 ) -> Result<(), Error>
     ensures same_reference { tx.new.conn.ghost_name ≡ tx.old.conn.ghost_name }
     ensures decimals { OnOk result (AllByRecursion (λ (v : Entry). IsDecimal v.value) values.now) }
-    ensures written { Writes result (state S.Store tx.old.conn.now) (state S.Store tx.new.conn.now) (λ before after. after
+    ensures written { Writes result (state S.Store tx.old.conn.now) (state S.Store tx.new.conn.now)
+        (λ before after. after
         ≡ (record before { sigvalue = before.sigvalue ++ value_rows net.now number place 0 values.now })) }
     ensures office { StaysOffice result (state S.Store tx.old.conn.now) (state S.Store tx.new.conn.now) }
     ensures inside { StaysInside result (state S.Store tx.old.conn.now) (state S.Store tx.new.conn.now) }
@@ -140,7 +144,8 @@ fn write_sig<S: Alter>(
 ) -> Result<(), Error>
     ensures same_reference { tx.new.conn.ghost_name ≡ tx.old.conn.ghost_name }
     ensures decimals { OnOk result (HasDecimals signal.now) }
-    ensures written { MakesTables result (state S.Store tx.old.conn.now) (state S.Store tx.new.conn.now) (λ t. record t { sig = t.sig ++ sig_values net.now number place signal.now ∷ [] }) }
+    ensures written { MakesTables result (state S.Store tx.old.conn.now) (state S.Store tx.new.conn.now)
+        (λ t. record t { sig = t.sig ++ sig_values net.now number place signal.now ∷ [] }) }
     ensures kept { AddsNoCommit (state S.Store tx.old.conn.now) (state S.Store tx.new.conn.now) }
     ensures survives { LeavesNothing (state S.Store tx.old.conn.now) (state S.Store tx.new.conn.now) }
 {
@@ -182,9 +187,11 @@ pub(crate) fn write_signal<S: Alter>(
 ) -> Result<(), Error>
     ensures same_reference { tx.new.conn.ghost_name ≡ tx.old.conn.ghost_name }
     ensures signal { OnOk result (IsSignal signal.now) }
-    ensures written { Writes result (state S.Store tx.old.conn.now) (state S.Store tx.new.conn.now) (λ before after. after ≡ with_signal net.now number place signal.now before) }
+    ensures written { Writes result (state S.Store tx.old.conn.now) (state S.Store tx.new.conn.now)
+        (λ before after. after ≡ with_signal net.now number place signal.now before) }
     ensures office { StaysOffice result (state S.Store tx.old.conn.now) (state S.Store tx.new.conn.now) }
-    ensures inside { HasCleanDisk (state S.Store tx.new.conn.now) → IsOffice (state S.Store tx.old.conn.now).now → OnOk result (IsTrue (state S.Store tx.new.conn.now).in_transaction) }
+    ensures inside { HasCleanDisk (state S.Store tx.new.conn.now) → IsOffice (state S.Store tx.old.conn.now).now
+        → OnOk result (IsTrue (state S.Store tx.new.conn.now).in_transaction) }
     ensures kept { AddsNoCommit (state S.Store tx.old.conn.now) (state S.Store tx.new.conn.now) }
     ensures survives { LeavesNothing (state S.Store tx.old.conn.now) (state S.Store tx.new.conn.now) }
 {
@@ -203,7 +210,8 @@ fn write_signals<S: Alter>(
 ) -> Result<(), Error>
     ensures same_reference { tx.new.conn.ghost_name ≡ tx.old.conn.ghost_name }
     ensures signals { OnOk result (AllByRecursion IsSignal signals.now) }
-    ensures written { Writes result (state S.Store tx.old.conn.now) (state S.Store tx.new.conn.now) (λ before after. after ≡ with_signals net.now number (placed_from 0 signals.now) before) }
+    ensures written { Writes result (state S.Store tx.old.conn.now) (state S.Store tx.new.conn.now)
+        (λ before after. after ≡ with_signals net.now number (placed_from 0 signals.now) before) }
     ensures office { StaysOffice result (state S.Store tx.old.conn.now) (state S.Store tx.new.conn.now) }
     ensures inside { StaysInside result (state S.Store tx.old.conn.now) (state S.Store tx.new.conn.now) }
     ensures kept { AddsNoCommit (state S.Store tx.old.conn.now) (state S.Store tx.new.conn.now) }
@@ -237,7 +245,8 @@ fn write_msg<S: Alter>(
     ensures same_reference { tx.new.conn.ghost_name ≡ tx.old.conn.ghost_name }
     ensures identifier { IsIdentifier live.now.message.ident }
     ensures sent { IfSome live.now.message.transmitter (λ n. n ≢ []) }
-    ensures written { MakesTables result (state S.Store tx.old.conn.now) (state S.Store tx.new.conn.now) (with_msg net.now live.now) }
+    ensures written { MakesTables result (state S.Store tx.old.conn.now) (state S.Store tx.new.conn.now)
+        (with_msg net.now live.now) }
     ensures kept { AddsNoCommit (state S.Store tx.old.conn.now) (state S.Store tx.new.conn.now) }
     ensures survives { LeavesNothing (state S.Store tx.old.conn.now) (state S.Store tx.new.conn.now) }
 {
@@ -261,7 +270,8 @@ fn remove_numbered<S: Alter>(
     number: u32,
 ) -> Result<(), Error>
     ensures same_reference { tx.new.conn.ghost_name ≡ tx.old.conn.ghost_name }
-    ensures removed { MakesTables result (state S.Store tx.old.conn.now) (state S.Store tx.new.conn.now) (without_live net.now number) }
+    ensures removed { MakesTables result (state S.Store tx.old.conn.now) (state S.Store tx.new.conn.now)
+        (without_live net.now number) }
     ensures kept { AddsNoCommit (state S.Store tx.old.conn.now) (state S.Store tx.new.conn.now) }
     ensures survives { LeavesNothing (state S.Store tx.old.conn.now) (state S.Store tx.new.conn.now) }
 {
@@ -280,7 +290,8 @@ pub fn remove_message<S: Alter>(
 ) -> Result<(), Error>
     ensures same_reference { tx.new.conn.ghost_name ≡ tx.old.conn.ghost_name }
     ensures identifier { IsIdentifier ident }
-    ensures removed { MakesTables result (state S.Store tx.old.conn.now) (state S.Store tx.new.conn.now) (without_live name.now (dbc_number ident)) }
+    ensures removed { MakesTables result (state S.Store tx.old.conn.now) (state S.Store tx.new.conn.now)
+        (without_live name.now (dbc_number ident)) }
     ensures kept { AddsNoCommit (state S.Store tx.old.conn.now) (state S.Store tx.new.conn.now) }
     ensures survives { LeavesNothing (state S.Store tx.old.conn.now) (state S.Store tx.new.conn.now) }
 {
@@ -297,9 +308,11 @@ pub fn write_message<S: Alter>(
 ) -> Result<(), Error>
     ensures same_reference { tx.new.conn.ghost_name ≡ tx.old.conn.ghost_name }
     ensures live { OnOk result (IsLive live.now) }
-    ensures written { Writes result (state S.Store tx.old.conn.now) (state S.Store tx.new.conn.now) (λ before after. after ≡ with_live name.now live.now before) }
+    ensures written { Writes result (state S.Store tx.old.conn.now) (state S.Store tx.new.conn.now)
+        (λ before after. after ≡ with_live name.now live.now before) }
     ensures office { StaysOffice result (state S.Store tx.old.conn.now) (state S.Store tx.new.conn.now) }
-    ensures inside { HasCleanDisk (state S.Store tx.new.conn.now) → IsOffice (state S.Store tx.old.conn.now).now → OnOk result (IsTrue (state S.Store tx.new.conn.now).in_transaction) }
+    ensures inside { HasCleanDisk (state S.Store tx.new.conn.now) → IsOffice (state S.Store tx.old.conn.now).now
+        → OnOk result (IsTrue (state S.Store tx.new.conn.now).in_transaction) }
     ensures kept { AddsNoCommit (state S.Store tx.old.conn.now) (state S.Store tx.new.conn.now) }
     ensures survives { LeavesNothing (state S.Store tx.old.conn.now) (state S.Store tx.new.conn.now) }
 {

@@ -3,19 +3,19 @@ ghost use Rattle.std.specs.Prelude.{◌≡◌, List, Some, length, map, IfOk};
 ghost use Rattle.std.specs.List.{AllByRecursion};
 ghost use Rattle.office_types.specs.declared.state.Net.{Net as Network};
 ghost use Rattle.sqlite.specs.Held.{state};
-ghost use Rattle.net_list.specs.Text.{net_line, nets_text};
+ghost use Rattle.views.specs.NetList.{net_line, nets_text};
 ghost use Rattle.store_rows.specs.Listed.{AreShown};
 ghost use Rattle.store_rows.specs.NetIn.{IsNetAt};
 ghost use Rattle.store_net.specs.Nets.{AreKnownNets, AreNets, IsNamed};
 ghost use Rattle.office_rows.specs.Statement.{ChangesNothing, CommitsNothing, Finds, LeavesNothing, StaysSame};
 
 use crate::parts::head_of;
-use net_list::net_line;
 use office_rows::{select_net_names, select_release_numbers};
 use office_types::NetName;
 use sqlite::types::ValueRef;
 use sqlite::{Alter, Error, Row, Transaction};
 use std::alloc::Global;
+use views::net_line;
 
 /// The name that the row shows. An error where it shows none, or memory ran out.
 fn name_in(alloc: Global, row: &Row) -> Result<NetName, Error>
@@ -46,7 +46,8 @@ fn names_in(alloc: Global, rows: &[Row]) -> Result<Vec<NetName>, Error>
 /// `sqlite` answers, or `InvalidQuery` where a row is no network's.
 pub fn names_of<S: Alter>(alloc: Global, tx: &mut Transaction<'_, S>) -> Result<Vec<NetName>, Error>
     ensures same_reference { tx.new.conn.ghost_name ≡ tx.old.conn.ghost_name }
-    ensures found { Finds result (state S.Store tx.old.conn.now) (state S.Store tx.new.conn.now) (λ names t. (nets : List Network) → AreKnownNets t nets → names.items ≡ map (λ net. net.name) nets) }
+    ensures found { Finds result (state S.Store tx.old.conn.now) (state S.Store tx.new.conn.now)
+        (λ names t. (nets : List Network) → AreKnownNets t nets → names.items ≡ map (λ net. net.name) nets) }
     ensures same { ChangesNothing result (state S.Store tx.old.conn.now) (state S.Store tx.new.conn.now) }
     ensures kept { CommitsNothing (state S.Store tx.old.conn.now) (state S.Store tx.new.conn.now) }
     ensures survives { LeavesNothing (state S.Store tx.old.conn.now) (state S.Store tx.new.conn.now) }
@@ -61,7 +62,8 @@ pub(crate) fn release_count<S: Alter>(
     name: &NetName,
 ) -> Result<usize, Error>
     ensures same_reference { tx.new.conn.ghost_name ≡ tx.old.conn.ghost_name }
-    ensures found { Finds result (state S.Store tx.old.conn.now) (state S.Store tx.new.conn.now) (λ count t. (net : Network) → IsNetAt name.now t (Some net) → count ≡ length net.releases) }
+    ensures found { Finds result (state S.Store tx.old.conn.now) (state S.Store tx.new.conn.now)
+        (λ count t. (net : Network) → IsNetAt name.now t (Some net) → count ≡ length net.releases) }
     ensures same { ChangesNothing result (state S.Store tx.old.conn.now) (state S.Store tx.new.conn.now) }
     ensures kept { CommitsNothing (state S.Store tx.old.conn.now) (state S.Store tx.new.conn.now) }
     ensures survives { LeavesNothing (state S.Store tx.old.conn.now) (state S.Store tx.new.conn.now) }
@@ -78,7 +80,8 @@ fn line_at<S: Alter>(
     name: &NetName,
 ) -> Result<Vec<u8>, Error>
     ensures same_reference { tx.new.conn.ghost_name ≡ tx.old.conn.ghost_name }
-    ensures found { Finds result (state S.Store tx.old.conn.now) (state S.Store tx.new.conn.now) (λ line t. (net : Network) → IsNetAt name.now t (Some net) → line.items ≡ net_line net) }
+    ensures found { Finds result (state S.Store tx.old.conn.now) (state S.Store tx.new.conn.now)
+        (λ line t. (net : Network) → IsNetAt name.now t (Some net) → line.items ≡ net_line net) }
     ensures same { ChangesNothing result (state S.Store tx.old.conn.now) (state S.Store tx.new.conn.now) }
     ensures kept { CommitsNothing (state S.Store tx.old.conn.now) (state S.Store tx.new.conn.now) }
     ensures survives { LeavesNothing (state S.Store tx.old.conn.now) (state S.Store tx.new.conn.now) }
@@ -97,7 +100,8 @@ fn lines_at<S: Alter>(
     names: &[NetName],
 ) -> Result<Vec<u8>, Error>
     ensures same_reference { tx.new.conn.ghost_name ≡ tx.old.conn.ghost_name }
-    ensures found { Finds result (state S.Store tx.old.conn.now) (state S.Store tx.new.conn.now) (λ text t. (nets : List Network) → AllByRecursion (λ net. IsNetAt net.name t (Some net)) nets
+    ensures found { Finds result (state S.Store tx.old.conn.now) (state S.Store tx.new.conn.now)
+        (λ text t. (nets : List Network) → AllByRecursion (λ net. IsNetAt net.name t (Some net)) nets
         → names.now ≡ map (λ net. net.name) nets → text.items ≡ nets_text nets) }
     ensures same { StaysSame result (state S.Store tx.old.conn.now) (state S.Store tx.new.conn.now) }
     ensures kept { CommitsNothing (state S.Store tx.old.conn.now) (state S.Store tx.new.conn.now) }
@@ -115,7 +119,8 @@ fn lines_at<S: Alter>(
 /// memory, what `sqlite` answers, or `InvalidQuery` where rows are no network's.
 pub fn nets_text<S: Alter>(alloc: Global, tx: &mut Transaction<'_, S>) -> Result<Vec<u8>, Error>
     ensures same_reference { tx.new.conn.ghost_name ≡ tx.old.conn.ghost_name }
-    ensures found { Finds result (state S.Store tx.old.conn.now) (state S.Store tx.new.conn.now) (λ text t. (nets : List Network) → AreNets t nets → text.items ≡ nets_text nets) }
+    ensures found { Finds result (state S.Store tx.old.conn.now) (state S.Store tx.new.conn.now)
+        (λ text t. (nets : List Network) → AreNets t nets → text.items ≡ nets_text nets) }
     ensures same { ChangesNothing result (state S.Store tx.old.conn.now) (state S.Store tx.new.conn.now) }
     ensures kept { CommitsNothing (state S.Store tx.old.conn.now) (state S.Store tx.new.conn.now) }
     ensures survives { LeavesNothing (state S.Store tx.old.conn.now) (state S.Store tx.new.conn.now) }

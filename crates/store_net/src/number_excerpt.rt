@@ -3,7 +3,7 @@
 //! No message is read.
 ghost use Rattle.std.specs.Prelude.{◌≡◌, ◌++◌, ℕ, List, Option, IfOk};
 ghost use Rattle.std.specs.List.{filter_map, list_any};
-ghost use Rattle.office_net.specs.Excerpt.{IsExcerptOf};
+ghost use Rattle.office_facts.specs.Excerpt.{IsExcerptOf};
 ghost use Rattle.office_rules.specs.Facts.{group_of, is_wanted, number_in, same_ident};
 ghost use Rattle.office_types.specs.declared.command.Action.TheVariants as act;
 ghost use Rattle.office_types.specs.declared.command.Task.TheVariants.{Act};
@@ -17,7 +17,7 @@ use crate::parts::{blocks_of, head_of, held_of};
 use crate::ranges::{live_idents_at, live_inside_at, want_live_at};
 use can_id::{EXTENDED_FLAG, GREATEST_EXTENDED, Ident, IdentForm};
 use catalogue::{Items, Name};
-use office_net::{Excerpt, blocks_of as team_blocks, group_of, has_ident, number_in};
+use office_facts::{Excerpt, blocks_of as team_blocks, group_of, has_ident, number_in};
 use office_types::{BlockForm, NetName, TakeIdent, TakePgn, Team};
 use sqlite::{Alter, Error, Transaction};
 use std::alloc::{AllocError, Global};
@@ -31,7 +31,9 @@ fn counted_excerpt_at<S: Alter>(
     message: &Name,
 ) -> Result<Option<Excerpt>, Error>
     ensures same_reference { tx.new.conn.ghost_name ≡ tx.old.conn.ghost_name }
-    ensures found { Finds result (state S.Store tx.old.conn.now) (state S.Store tx.new.conn.now) (λ found t. (net : Option Network) → IsReadIn name.now t net → MatchBoth (HasNameAndCount message.now) net found) }
+    ensures found { Finds result (state S.Store tx.old.conn.now) (state S.Store tx.new.conn.now)
+        (λ found t. (net : Option Network) → IsReadIn name.now t net
+        → MatchBoth (HasNameAndCount message.now) net found) }
     ensures same { ChangesNothing result (state S.Store tx.old.conn.now) (state S.Store tx.new.conn.now) }
     ensures kept { CommitsNothing (state S.Store tx.old.conn.now) (state S.Store tx.new.conn.now) }
     ensures survives { LeavesNothing (state S.Store tx.old.conn.now) (state S.Store tx.new.conn.now) }
@@ -100,7 +102,8 @@ pub fn ident_excerpt_at<S: Alter>(
     take: &TakeIdent,
 ) -> Result<Option<Excerpt>, Error>
     ensures same_reference { tx.new.conn.ghost_name ≡ tx.old.conn.ghost_name }
-    ensures found { Finds result (state S.Store tx.old.conn.now) (state S.Store tx.new.conn.now) (λ found t. (net : Option Network) → IsReadIn name.now t net
+    ensures found { Finds result (state S.Store tx.old.conn.now) (state S.Store tx.new.conn.now)
+        (λ found t. (net : Option Network) → IsReadIn name.now t net
         → MatchBoth (λ net e. IsExcerptOf team.now net (Act (act.TakeIdent take.now)) e) net found) }
     ensures same { ChangesNothing result (state S.Store tx.old.conn.now) (state S.Store tx.new.conn.now) }
     ensures kept { CommitsNothing (state S.Store tx.old.conn.now) (state S.Store tx.new.conn.now) }
@@ -135,7 +138,8 @@ pub fn group_excerpt_at<S: Alter>(
     take: &TakePgn,
 ) -> Result<Option<Excerpt>, Error>
     ensures same_reference { tx.new.conn.ghost_name ≡ tx.old.conn.ghost_name }
-    ensures found { Finds result (state S.Store tx.old.conn.now) (state S.Store tx.new.conn.now) (λ found t. (net : Option Network) → IsReadIn name.now t net
+    ensures found { Finds result (state S.Store tx.old.conn.now) (state S.Store tx.new.conn.now)
+        (λ found t. (net : Option Network) → IsReadIn name.now t net
         → (team : List ℕ) → MatchBoth (λ net e. IsExcerptOf team net (Act (act.TakePgn take.now)) e) net found) }
     ensures same { ChangesNothing result (state S.Store tx.old.conn.now) (state S.Store tx.new.conn.now) }
     ensures kept { CommitsNothing (state S.Store tx.old.conn.now) (state S.Store tx.new.conn.now) }

@@ -14,7 +14,8 @@ ghost use Rattle.store_rows.specs.Live.{AreLiveRows, live_rows};
 ghost use Rattle.store_rows.specs.LiveWritten.{IsAdded, IsTakenOut, without_place, without_places};
 ghost use Rattle.store_rows.specs.SignalShowing.{PlacesAscend, ShowsPlaced};
 ghost use Rattle.store_net.specs.Places.{places_named};
-ghost use Rattle.office_rows.specs.Statement.{AddsNoCommit, ChangesNothing, CommitsNothing, Finds, LeavesNothing, MakesTables, StaysInside, StaysOffice, Writes};
+ghost use Rattle.office_rows.specs.Statement.{AddsNoCommit, ChangesNothing, CommitsNothing, Finds, LeavesNothing};
+ghost use Rattle.office_rows.specs.Statement.{MakesTables, StaysInside, StaysOffice, Writes};
 
 use crate::message_rows::write_signal;
 use crate::writing::number_above;
@@ -34,7 +35,8 @@ fn number_named<S: Alter>(
     message: &Name,
 ) -> Result<Option<u32>, Error>
     ensures same_reference { tx.new.conn.ghost_name ≡ tx.old.conn.ghost_name }
-    ensures found { Finds result (state S.Store tx.old.conn.now) (state S.Store tx.new.conn.now) (λ found t. (live : List Live) → AreLiveRows name.now (live_rows name.now t) live
+    ensures found { Finds result (state S.Store tx.old.conn.now) (state S.Store tx.new.conn.now)
+        (λ found t. (live : List Live) → AreLiveRows name.now (live_rows name.now t) live
         → found ≡ option_map (λ (m : Live). dbc_number m.message.ident) (live_named live message.now)) }
     ensures same { ChangesNothing result (state S.Store tx.old.conn.now) (state S.Store tx.new.conn.now) }
     ensures kept { CommitsNothing (state S.Store tx.old.conn.now) (state S.Store tx.new.conn.now) }
@@ -49,7 +51,8 @@ fn number_named<S: Alter>(
 
 /// The place after those of the signals that the rows show.
 fn place_after(rows: &[Row]) -> Result<u32, Error>
-    ensures { IfOk result (λ place. (placed : List (ℕ × Other)) → AreShown ShowsPlaced placed rows.now → PlacesAscend placed → AllByRecursion (λ (q : ℕ × Other). q.0 < place) placed) }
+    ensures { IfOk result (λ place. (placed : List (ℕ × Other)) → AreShown ShowsPlaced placed rows.now
+        → PlacesAscend placed → AllByRecursion (λ (q : ℕ × Other). q.0 < place) placed) }
 {
     match rows.last() {
         None => Ok(0),
@@ -66,10 +69,12 @@ pub(crate) fn add_signal<S: Alter>(
     signal: &Signal,
 ) -> Result<(), Error>
     ensures same_reference { tx.new.conn.ghost_name ≡ tx.old.conn.ghost_name }
-    ensures written { Writes result (state S.Store tx.old.conn.now) (state S.Store tx.new.conn.now) (λ before after. (live : List Live) → AreLiveRows name.now (live_rows name.now before) live
+    ensures written { Writes result (state S.Store tx.old.conn.now) (state S.Store tx.new.conn.now)
+        (λ before after. (live : List Live) → AreLiveRows name.now (live_rows name.now before) live
         → IsAdded name.now message.now signal.now live before after) }
     ensures office { StaysOffice result (state S.Store tx.old.conn.now) (state S.Store tx.new.conn.now) }
-    ensures inside { HasCleanDisk (state S.Store tx.new.conn.now) → IsOffice (state S.Store tx.old.conn.now).now → OnOk result (IsTrue (state S.Store tx.new.conn.now).in_transaction) }
+    ensures inside { HasCleanDisk (state S.Store tx.new.conn.now) → IsOffice (state S.Store tx.old.conn.now).now
+        → OnOk result (IsTrue (state S.Store tx.new.conn.now).in_transaction) }
     ensures kept { CommitsNothing (state S.Store tx.old.conn.now) (state S.Store tx.new.conn.now) }
     ensures survives { LeavesNothing (state S.Store tx.old.conn.now) (state S.Store tx.new.conn.now) }
 {
@@ -90,7 +95,8 @@ fn remove_place<S: Alter>(
     place: u32,
 ) -> Result<(), Error>
     ensures same_reference { tx.new.conn.ghost_name ≡ tx.old.conn.ghost_name }
-    ensures removed { MakesTables result (state S.Store tx.old.conn.now) (state S.Store tx.new.conn.now) (without_place net.now number place) }
+    ensures removed { MakesTables result (state S.Store tx.old.conn.now) (state S.Store tx.new.conn.now)
+        (without_place net.now number place) }
     ensures kept { AddsNoCommit (state S.Store tx.old.conn.now) (state S.Store tx.new.conn.now) }
     ensures survives { LeavesNothing (state S.Store tx.old.conn.now) (state S.Store tx.new.conn.now) }
 {
@@ -109,7 +115,8 @@ fn remove_if_named<S: Alter>(
     signal: &Name,
 ) -> Result<(), Error>
     ensures same_reference { tx.new.conn.ghost_name ≡ tx.old.conn.ghost_name }
-    ensures removed { Writes result (state S.Store tx.old.conn.now) (state S.Store tx.new.conn.now) (λ before after. after ≡ without_places net.now number (places_named signal.now (row.now ∷ [])) before) }
+    ensures removed { Writes result (state S.Store tx.old.conn.now) (state S.Store tx.new.conn.now)
+        (λ before after. after ≡ without_places net.now number (places_named signal.now (row.now ∷ [])) before) }
     ensures office { StaysOffice result (state S.Store tx.old.conn.now) (state S.Store tx.new.conn.now) }
     ensures inside { StaysInside result (state S.Store tx.old.conn.now) (state S.Store tx.new.conn.now) }
     ensures kept { AddsNoCommit (state S.Store tx.old.conn.now) (state S.Store tx.new.conn.now) }
@@ -130,7 +137,8 @@ fn remove_named<S: Alter>(
     signal: &Name,
 ) -> Result<(), Error>
     ensures same_reference { tx.new.conn.ghost_name ≡ tx.old.conn.ghost_name }
-    ensures removed { Writes result (state S.Store tx.old.conn.now) (state S.Store tx.new.conn.now) (λ before after. after ≡ without_places net.now number (places_named signal.now rows.now) before) }
+    ensures removed { Writes result (state S.Store tx.old.conn.now) (state S.Store tx.new.conn.now)
+        (λ before after. after ≡ without_places net.now number (places_named signal.now rows.now) before) }
     ensures office { StaysOffice result (state S.Store tx.old.conn.now) (state S.Store tx.new.conn.now) }
     ensures inside { StaysInside result (state S.Store tx.old.conn.now) (state S.Store tx.new.conn.now) }
     ensures kept { AddsNoCommit (state S.Store tx.old.conn.now) (state S.Store tx.new.conn.now) }
@@ -149,7 +157,8 @@ pub(crate) fn take_signal_out<S: Alter>(
     path: &SignalPath,
 ) -> Result<(), Error>
     ensures same_reference { tx.new.conn.ghost_name ≡ tx.old.conn.ghost_name }
-    ensures written { Writes result (state S.Store tx.old.conn.now) (state S.Store tx.new.conn.now) (λ before after. (live : List Live) → AreLiveRows name.now (live_rows name.now before) live
+    ensures written { Writes result (state S.Store tx.old.conn.now) (state S.Store tx.new.conn.now)
+        (λ before after. (live : List Live) → AreLiveRows name.now (live_rows name.now before) live
         → IsTakenOut name.now path.now live before after) }
     ensures office { StaysOffice result (state S.Store tx.old.conn.now) (state S.Store tx.new.conn.now) }
     ensures inside { StaysInside result (state S.Store tx.old.conn.now) (state S.Store tx.new.conn.now) }

@@ -7,7 +7,8 @@ ghost use Rattle.office_types.specs.declared.state.GrantedBlock.{GrantedBlock as
 ghost use Rattle.office_types.specs.declared.state.Head.{Head as Heading};
 ghost use Rattle.office_types.specs.declared.state.LiveMessage.{LiveMessage as Live};
 ghost use Rattle.sqlite.specs.Held.{state};
-ghost use Rattle.store_net.specs.Parts.{HasApprovals, HasBlocks, HasHead, HasHeld, HasLive, HasReleases, HasSpnBlocks, HasUsed};
+ghost use Rattle.store_net.specs.Parts.{HasApprovals, HasBlocks, HasHead, HasHeld, HasLive, HasReleases};
+ghost use Rattle.store_net.specs.Parts.{HasSpnBlocks, HasUsed};
 ghost use Rattle.office_rows.specs.Statement.{ChangesNothing, CommitsNothing, Finds, LeavesNothing};
 
 use can_id::Ident;
@@ -30,7 +31,8 @@ pub(crate) fn head_of<S: Alter>(
     name: &NetName,
 ) -> Result<Option<Head>, Error>
     ensures same_reference { tx.new.conn.ghost_name ≡ tx.old.conn.ghost_name }
-    ensures found { Finds result (state S.Store tx.old.conn.now) (state S.Store tx.new.conn.now) (λ head t. (other : Option Heading) → HasHead name.now t other → head ≡ other) }
+    ensures found { Finds result (state S.Store tx.old.conn.now) (state S.Store tx.new.conn.now)
+        (λ head t. (other : Option Heading) → HasHead name.now t other → head ≡ other) }
     ensures same { ChangesNothing result (state S.Store tx.old.conn.now) (state S.Store tx.new.conn.now) }
     ensures kept { CommitsNothing (state S.Store tx.old.conn.now) (state S.Store tx.new.conn.now) }
     ensures survives { LeavesNothing (state S.Store tx.old.conn.now) (state S.Store tx.new.conn.now) }
@@ -42,15 +44,16 @@ pub(crate) fn head_of<S: Alter>(
     }
 }
 
-/// The live messages of the network that are there as bodies, in ascending order of their DBC numbers. An error is out of
-/// memory, what `sqlite` answers, or `InvalidQuery` where a row is no live message's.
+/// The live messages of the network that are there as bodies, in ascending order of their DBC numbers. An error is out
+/// of memory, what `sqlite` answers, or `InvalidQuery` where a row is no live message's.
 pub fn live_of<S: Alter>(
     alloc: Global,
     tx: &mut Transaction<'_, S>,
     name: &NetName,
 ) -> Result<Items<LiveMessage>, Error>
     ensures same_reference { tx.new.conn.ghost_name ≡ tx.old.conn.ghost_name }
-    ensures found { Finds result (state S.Store tx.old.conn.now) (state S.Store tx.new.conn.now) (λ live t. (others : List Live) → HasLive name.now t others → live ≡ others) }
+    ensures found { Finds result (state S.Store tx.old.conn.now) (state S.Store tx.new.conn.now)
+        (λ live t. (others : List Live) → HasLive name.now t others → live ≡ others) }
     ensures same { ChangesNothing result (state S.Store tx.old.conn.now) (state S.Store tx.new.conn.now) }
     ensures kept { CommitsNothing (state S.Store tx.old.conn.now) (state S.Store tx.new.conn.now) }
     ensures survives { LeavesNothing (state S.Store tx.old.conn.now) (state S.Store tx.new.conn.now) }
@@ -66,7 +69,8 @@ pub(crate) fn blocks_of<S: Alter>(
     name: &NetName,
 ) -> Result<Items<GrantedBlock>, Error>
     ensures same_reference { tx.new.conn.ghost_name ≡ tx.old.conn.ghost_name }
-    ensures found { Finds result (state S.Store tx.old.conn.now) (state S.Store tx.new.conn.now) (λ blocks t. (others : List Granted) → HasBlocks name.now t others → blocks ≡ others) }
+    ensures found { Finds result (state S.Store tx.old.conn.now) (state S.Store tx.new.conn.now)
+        (λ blocks t. (others : List Granted) → HasBlocks name.now t others → blocks ≡ others) }
     ensures same { ChangesNothing result (state S.Store tx.old.conn.now) (state S.Store tx.new.conn.now) }
     ensures kept { CommitsNothing (state S.Store tx.old.conn.now) (state S.Store tx.new.conn.now) }
     ensures survives { LeavesNothing (state S.Store tx.old.conn.now) (state S.Store tx.new.conn.now) }
@@ -82,7 +86,8 @@ pub(crate) fn held_of<S: Alter>(
     name: &NetName,
 ) -> Result<Items<Ident>, Error>
     ensures same_reference { tx.new.conn.ghost_name ≡ tx.old.conn.ghost_name }
-    ensures found { Finds result (state S.Store tx.old.conn.now) (state S.Store tx.new.conn.now) (λ held t. (others : List Identifier) → HasHeld name.now t others → held ≡ others) }
+    ensures found { Finds result (state S.Store tx.old.conn.now) (state S.Store tx.new.conn.now)
+        (λ held t. (others : List Identifier) → HasHeld name.now t others → held ≡ others) }
     ensures same { ChangesNothing result (state S.Store tx.old.conn.now) (state S.Store tx.new.conn.now) }
     ensures kept { CommitsNothing (state S.Store tx.old.conn.now) (state S.Store tx.new.conn.now) }
     ensures survives { LeavesNothing (state S.Store tx.old.conn.now) (state S.Store tx.new.conn.now) }
@@ -98,7 +103,8 @@ pub(crate) fn approvals_of<S: Alter>(
     name: &NetName,
 ) -> Result<Items<Team>, Error>
     ensures same_reference { tx.new.conn.ghost_name ≡ tx.old.conn.ghost_name }
-    ensures found { Finds result (state S.Store tx.old.conn.now) (state S.Store tx.new.conn.now) (λ teams t. (others : List (List ℕ)) → HasApprovals name.now t others → teams ≡ others) }
+    ensures found { Finds result (state S.Store tx.old.conn.now) (state S.Store tx.new.conn.now)
+        (λ teams t. (others : List (List ℕ)) → HasApprovals name.now t others → teams ≡ others) }
     ensures same { ChangesNothing result (state S.Store tx.old.conn.now) (state S.Store tx.new.conn.now) }
     ensures kept { CommitsNothing (state S.Store tx.old.conn.now) (state S.Store tx.new.conn.now) }
     ensures survives { LeavesNothing (state S.Store tx.old.conn.now) (state S.Store tx.new.conn.now) }
@@ -114,7 +120,8 @@ pub(crate) fn releases_of<S: Alter>(
     name: &NetName,
 ) -> Result<Items<FrozenSheet>, Error>
     ensures same_reference { tx.new.conn.ghost_name ≡ tx.old.conn.ghost_name }
-    ensures found { Finds result (state S.Store tx.old.conn.now) (state S.Store tx.new.conn.now) (λ releases t. (others : List Sheet) → HasReleases name.now t others → releases ≡ others) }
+    ensures found { Finds result (state S.Store tx.old.conn.now) (state S.Store tx.new.conn.now)
+        (λ releases t. (others : List Sheet) → HasReleases name.now t others → releases ≡ others) }
     ensures same { ChangesNothing result (state S.Store tx.old.conn.now) (state S.Store tx.new.conn.now) }
     ensures kept { CommitsNothing (state S.Store tx.old.conn.now) (state S.Store tx.new.conn.now) }
     ensures survives { LeavesNothing (state S.Store tx.old.conn.now) (state S.Store tx.new.conn.now) }
@@ -129,7 +136,8 @@ pub(crate) fn spn_blocks_of<S: Alter>(
     tx: &mut Transaction<'_, S>,
 ) -> Result<Items<SpnBlock>, Error>
     ensures same_reference { tx.new.conn.ghost_name ≡ tx.old.conn.ghost_name }
-    ensures found { Finds result (state S.Store tx.old.conn.now) (state S.Store tx.new.conn.now) (λ blocks t. (others : List SpnRange) → HasSpnBlocks t others → blocks ≡ others) }
+    ensures found { Finds result (state S.Store tx.old.conn.now) (state S.Store tx.new.conn.now)
+        (λ blocks t. (others : List SpnRange) → HasSpnBlocks t others → blocks ≡ others) }
     ensures same { ChangesNothing result (state S.Store tx.old.conn.now) (state S.Store tx.new.conn.now) }
     ensures kept { CommitsNothing (state S.Store tx.old.conn.now) (state S.Store tx.new.conn.now) }
     ensures survives { LeavesNothing (state S.Store tx.old.conn.now) (state S.Store tx.new.conn.now) }
@@ -144,7 +152,8 @@ pub(crate) fn used_of<S: Alter>(
     tx: &mut Transaction<'_, S>,
 ) -> Result<Items<u32>, Error>
     ensures same_reference { tx.new.conn.ghost_name ≡ tx.old.conn.ghost_name }
-    ensures found { Finds result (state S.Store tx.old.conn.now) (state S.Store tx.new.conn.now) (λ used t. (others : List ℕ) → HasUsed t others → used ≡ others) }
+    ensures found { Finds result (state S.Store tx.old.conn.now) (state S.Store tx.new.conn.now)
+        (λ used t. (others : List ℕ) → HasUsed t others → used ≡ others) }
     ensures same { ChangesNothing result (state S.Store tx.old.conn.now) (state S.Store tx.new.conn.now) }
     ensures kept { CommitsNothing (state S.Store tx.old.conn.now) (state S.Store tx.new.conn.now) }
     ensures survives { LeavesNothing (state S.Store tx.old.conn.now) (state S.Store tx.new.conn.now) }

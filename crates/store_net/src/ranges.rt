@@ -10,7 +10,7 @@ ghost use Rattle.office_rows.specs.Statement.{ChangesNothing, CommitsNothing, Fi
 
 use can_id::{EXTENDED_FLAG, Ident, IdentForm};
 use catalogue::Items;
-use office_net::has_ident;
+use office_facts::has_ident;
 use office_rows::select_msg_numbers;
 use office_types::{Block, NetName};
 use sqlite::{Alter, Error, Transaction};
@@ -28,7 +28,9 @@ pub fn live_idents_at<S: Alter>(
     last: u32,
 ) -> Result<Items<Ident>, Error>
     ensures same_reference { tx.new.conn.ghost_name ≡ tx.old.conn.ghost_name }
-    ensures found { Finds result (state S.Store tx.old.conn.now) (state S.Store tx.new.conn.now) (λ found t. (live : List Live) → AreLiveRows name.now (live_rows name.now t) live → found ≡ idents_between first last live) }
+    ensures found { Finds result (state S.Store tx.old.conn.now) (state S.Store tx.new.conn.now)
+        (λ found t. (live : List Live) → AreLiveRows name.now (live_rows name.now t) live
+        → found ≡ idents_between first last live) }
     ensures same { ChangesNothing result (state S.Store tx.old.conn.now) (state S.Store tx.new.conn.now) }
     ensures kept { CommitsNothing (state S.Store tx.old.conn.now) (state S.Store tx.new.conn.now) }
     ensures survives { LeavesNothing (state S.Store tx.old.conn.now) (state S.Store tx.new.conn.now) }
@@ -57,7 +59,9 @@ pub(crate) fn live_inside_at<S: Alter>(
     blocks: &[Block],
 ) -> Result<Vec<Ident>, Error>
     ensures same_reference { tx.new.conn.ghost_name ≡ tx.old.conn.ghost_name }
-    ensures found { Finds result (state S.Store tx.old.conn.now) (state S.Store tx.new.conn.now) (λ found t. (live : List Live) → AreLiveRows name.now (live_rows name.now t) live → found.items ≡ idents_inside form blocks.now live) }
+    ensures found { Finds result (state S.Store tx.old.conn.now) (state S.Store tx.new.conn.now)
+        (λ found t. (live : List Live) → AreLiveRows name.now (live_rows name.now t) live
+        → found.items ≡ idents_inside form blocks.now live) }
     ensures same { StaysSame result (state S.Store tx.old.conn.now) (state S.Store tx.new.conn.now) }
     ensures kept { CommitsNothing (state S.Store tx.old.conn.now) (state S.Store tx.new.conn.now) }
     ensures survives { LeavesNothing (state S.Store tx.old.conn.now) (state S.Store tx.new.conn.now) }
@@ -81,7 +85,8 @@ fn is_live_at<S: Alter>(
     number: u32,
 ) -> Result<bool, Error>
     ensures same_reference { tx.new.conn.ghost_name ≡ tx.old.conn.ghost_name }
-    ensures found { Finds result (state S.Store tx.old.conn.now) (state S.Store tx.new.conn.now) (λ found t. (live : List Live) → AreLiveRows name.now (live_rows name.now t) live
+    ensures found { Finds result (state S.Store tx.old.conn.now) (state S.Store tx.new.conn.now)
+        (λ found t. (live : List Live) → AreLiveRows name.now (live_rows name.now t) live
         → found ≡ is_wanted (λ i. list_any (has_ident i) live) form (Some number)) }
     ensures same { ChangesNothing result (state S.Store tx.old.conn.now) (state S.Store tx.new.conn.now) }
     ensures kept { CommitsNothing (state S.Store tx.old.conn.now) (state S.Store tx.new.conn.now) }
@@ -102,7 +107,8 @@ pub(crate) fn want_live_at<S: Alter>(
     want: Option<u32>,
 ) -> Result<bool, Error>
     ensures same_reference { tx.new.conn.ghost_name ≡ tx.old.conn.ghost_name }
-    ensures found { Finds result (state S.Store tx.old.conn.now) (state S.Store tx.new.conn.now) (λ found t. (live : List Live) → AreLiveRows name.now (live_rows name.now t) live
+    ensures found { Finds result (state S.Store tx.old.conn.now) (state S.Store tx.new.conn.now)
+        (λ found t. (live : List Live) → AreLiveRows name.now (live_rows name.now t) live
         → found ≡ is_wanted (λ i. list_any (has_ident i) live) form want) }
     ensures same { StaysSame result (state S.Store tx.old.conn.now) (state S.Store tx.new.conn.now) }
     ensures kept { CommitsNothing (state S.Store tx.old.conn.now) (state S.Store tx.new.conn.now) }

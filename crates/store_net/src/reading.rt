@@ -20,16 +20,17 @@ use office_types::{FrozenSheet, Net, NetName, SpnBook, UsedSpns};
 use sqlite::{Alter, Error, Transaction};
 use std::alloc::{AllocError, Global};
 
-/// The network of the name with all its parts but its releases, of which it has none; `None` where it isn't there. No body
-/// of a release is read. If the tables have a network under the name, it is that one without its releases. An error is out
-/// of memory, what `sqlite` answers, or `InvalidQuery` where the rows are no network's.
+/// The network of the name with all its parts but its releases, of which it has none; `None` where it isn't there. No
+/// body of a release is read. If the tables have a network under the name, it is that one without its releases. An
+/// error is out of memory, what `sqlite` answers, or `InvalidQuery` where the rows are no network's.
 pub fn unreleased_net_at<S: Alter>(
     alloc: Global,
     tx: &mut Transaction<'_, S>,
     name: &NetName,
 ) -> Result<Option<Net>, Error>
     ensures same_reference { tx.new.conn.ghost_name ≡ tx.old.conn.ghost_name }
-    ensures found { Finds result (state S.Store tx.old.conn.now) (state S.Store tx.new.conn.now) (λ found t. (net : Option Network) → IsNetAt name.now t net → found ≡ option_map (with_releases []) net) }
+    ensures found { Finds result (state S.Store tx.old.conn.now) (state S.Store tx.new.conn.now)
+        (λ found t. (net : Option Network) → IsNetAt name.now t net → found ≡ option_map (with_releases []) net) }
     ensures same { ChangesNothing result (state S.Store tx.old.conn.now) (state S.Store tx.new.conn.now) }
     ensures kept { CommitsNothing (state S.Store tx.old.conn.now) (state S.Store tx.new.conn.now) }
     ensures survives { LeavesNothing (state S.Store tx.old.conn.now) (state S.Store tx.new.conn.now) }
@@ -64,15 +65,16 @@ fn empty_sheets(alloc: Global, count: usize) -> Result<Items<FrozenSheet>, Alloc
 }
 
 /// The network of the name, with sheets without anything in the place of its releases, as many as it has, for a command
-/// that depends on how many there are; `None` where it isn't there. No body of a release is read. The errors are those of
-/// [`unreleased_net_at`].
+/// that depends on how many there are; `None` where it isn't there. No body of a release is read. The errors are those
+/// of [`unreleased_net_at`].
 pub fn counted_net_at<S: Alter>(
     alloc: Global,
     tx: &mut Transaction<'_, S>,
     name: &NetName,
 ) -> Result<Option<Net>, Error>
     ensures same_reference { tx.new.conn.ghost_name ≡ tx.old.conn.ghost_name }
-    ensures found { Finds result (state S.Store tx.old.conn.now) (state S.Store tx.new.conn.now) (λ found t. (net : Option Network) → IsNetAt name.now t net → HasAsMany net found) }
+    ensures found { Finds result (state S.Store tx.old.conn.now) (state S.Store tx.new.conn.now)
+        (λ found t. (net : Option Network) → IsNetAt name.now t net → HasAsMany net found) }
     ensures same { ChangesNothing result (state S.Store tx.old.conn.now) (state S.Store tx.new.conn.now) }
     ensures kept { CommitsNothing (state S.Store tx.old.conn.now) (state S.Store tx.new.conn.now) }
     ensures survives { LeavesNothing (state S.Store tx.old.conn.now) (state S.Store tx.new.conn.now) }
@@ -93,7 +95,8 @@ pub fn net_at<S: Alter>(
     name: &NetName,
 ) -> Result<Option<Net>, Error>
     ensures same_reference { tx.new.conn.ghost_name ≡ tx.old.conn.ghost_name }
-    ensures found { Finds result (state S.Store tx.old.conn.now) (state S.Store tx.new.conn.now) (λ found t. (net : Option Network) → IsNetAt name.now t net → found ≡ net) }
+    ensures found { Finds result (state S.Store tx.old.conn.now) (state S.Store tx.new.conn.now)
+        (λ found t. (net : Option Network) → IsNetAt name.now t net → found ≡ net) }
     ensures same { ChangesNothing result (state S.Store tx.old.conn.now) (state S.Store tx.new.conn.now) }
     ensures kept { CommitsNothing (state S.Store tx.old.conn.now) (state S.Store tx.new.conn.now) }
     ensures survives { LeavesNothing (state S.Store tx.old.conn.now) (state S.Store tx.new.conn.now) }
@@ -110,7 +113,8 @@ pub fn net_at<S: Alter>(
 /// rows are no book's.
 pub fn book_of<S: Alter>(alloc: Global, tx: &mut Transaction<'_, S>) -> Result<SpnBook, Error>
     ensures same_reference { tx.new.conn.ghost_name ≡ tx.old.conn.ghost_name }
-    ensures found { Finds result (state S.Store tx.old.conn.now) (state S.Store tx.new.conn.now) (λ found t. (book : Book) → IsBookIn t book → found ≡ book) }
+    ensures found { Finds result (state S.Store tx.old.conn.now) (state S.Store tx.new.conn.now)
+        (λ found t. (book : Book) → IsBookIn t book → found ≡ book) }
     ensures same { ChangesNothing result (state S.Store tx.old.conn.now) (state S.Store tx.new.conn.now) }
     ensures kept { CommitsNothing (state S.Store tx.old.conn.now) (state S.Store tx.new.conn.now) }
     ensures survives { LeavesNothing (state S.Store tx.old.conn.now) (state S.Store tx.new.conn.now) }

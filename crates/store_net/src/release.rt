@@ -1,8 +1,8 @@
 //! The text of a release.
 ghost use Rattle.std.specs.Prelude.{◌≡◌, Option, IfOk};
-ghost use Rattle.catalogue.specs.Canon.{canonical_text};
-ghost use Rattle.catalogue.specs.Reads.{Reads, ReadsOnlyAs};
-ghost use Rattle.catalogue.specs.declared.sheet.Sheet.{Sheet as Told};
+ghost use Rattle.dbc_grammar.specs.Canon.{canonical_text};
+ghost use Rattle.dbc_grammar.specs.Reads.{Reads, ReadsOnlyAs};
+ghost use Rattle.catalogue.specs.declared.sheet.Sheet.{Sheet as SheetModel};
 ghost use Rattle.std.specs.Option.{option_map};
 ghost use Rattle.office_types.specs.declared.state.Net.{Net as Network};
 ghost use Rattle.sqlite.specs.Held.{state};
@@ -21,8 +21,9 @@ use store_rows::blob_at;
 /// The canonical text of the sheet that the body reads as. An error is out of memory, or `InvalidQuery` where it reads
 /// as none.
 fn canonical_of(alloc: Global, body: &[u8]) -> Result<Vec<u8>, Error>
-    ensures text { IfOk result (λ text. (sheet : Told) → Reads body.now sheet → text.items ≡ canonical_text sheet) }
-    ensures reads { IfOk result (λ text. (sheet : Told) → Reads body.now sheet → ReadsOnlyAs text.items sheet) }
+    ensures text { IfOk result (λ text. (sheet : SheetModel) → Reads body.now sheet
+        → text.items ≡ canonical_text sheet) }
+    ensures reads { IfOk result (λ text. (sheet : SheetModel) → Reads body.now sheet → ReadsOnlyAs text.items sheet) }
 {
     match sheet_of(alloc, body)? {
         Some(sheet) => Ok(text_of(alloc, &sheet)?),
@@ -40,8 +41,12 @@ pub fn release_text<S: Alter>(
     number: u32,
 ) -> Result<Option<Vec<u8>>, Error>
     ensures same_reference { tx.new.conn.ghost_name ≡ tx.old.conn.ghost_name }
-    ensures found { Finds result (state S.Store tx.old.conn.now) (state S.Store tx.new.conn.now) (λ found t. (net : Option Network) → IsNetAt name.now t net → option_map (λ text. text.items) found ≡ release_text net number) }
-    ensures reads { Finds result (state S.Store tx.old.conn.now) (state S.Store tx.new.conn.now) (λ found t. (net : Option Network) → IsNetAt name.now t net → IsTextOf (release_at net number) (option_map (λ text. text.items) found)) }
+    ensures found { Finds result (state S.Store tx.old.conn.now) (state S.Store tx.new.conn.now)
+        (λ found t. (net : Option Network) → IsNetAt name.now t net
+        → option_map (λ text. text.items) found ≡ release_text net number) }
+    ensures reads { Finds result (state S.Store tx.old.conn.now) (state S.Store tx.new.conn.now)
+        (λ found t. (net : Option Network) → IsNetAt name.now t net
+        → IsTextOf (release_at net number) (option_map (λ text. text.items) found)) }
     ensures same { ChangesNothing result (state S.Store tx.old.conn.now) (state S.Store tx.new.conn.now) }
     ensures kept { CommitsNothing (state S.Store tx.old.conn.now) (state S.Store tx.new.conn.now) }
     ensures survives { LeavesNothing (state S.Store tx.old.conn.now) (state S.Store tx.new.conn.now) }

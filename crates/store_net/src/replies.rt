@@ -3,10 +3,11 @@ ghost use Rattle.std.specs.Prelude.{◌≡◌, ◌++◌, ◌∷◌, [], List, So
 ghost use Rattle.std.specs.Option.{option_map};
 ghost use Rattle.sqlite.specs.Held.{state};
 ghost use Rattle.office_types.specs.Reply.{reply_parts};
-ghost use Rattle.office_types.specs.declared.reply.Reply.{Reply as Told};
+ghost use Rattle.office_types.specs.declared.reply.Reply.{Reply as ReplyModel};
 ghost use Rattle.office_history.specs.History.{Answered, answer_again, first_of};
 ghost use Rattle.store_net.specs.Kept.{AreKept, AreKeptParts, ShowsKept, ShowsReply, answer_parts, kept_row, part_rows};
-ghost use Rattle.office_rows.specs.Statement.{AddsNoCommit, ChangesNothing, CommitsNothing, Finds, LeavesNothing, StaysInside, StaysOffice, Writes};
+ghost use Rattle.office_rows.specs.Statement.{AddsNoCommit, ChangesNothing, CommitsNothing, Finds, LeavesNothing};
+ghost use Rattle.office_rows.specs.Statement.{StaysInside, StaysOffice, Writes};
 
 use crate::writing::number_above;
 use catalogue::Items;
@@ -25,7 +26,8 @@ fn write_parts<S: Alter>(
     parts: &[PartReply],
 ) -> Result<(), Error>
     ensures same_reference { tx.new.conn.ghost_name ≡ tx.old.conn.ghost_name }
-    ensures written { Writes result (state S.Store tx.old.conn.now) (state S.Store tx.new.conn.now) (λ before after. after
+    ensures written { Writes result (state S.Store tx.old.conn.now) (state S.Store tx.new.conn.now)
+        (λ before after. after
         ≡ (record before { part = before.part ++ part_rows team.now key.now 1 parts.now })) }
     ensures office { StaysOffice result (state S.Store tx.old.conn.now) (state S.Store tx.new.conn.now) }
     ensures inside { StaysInside result (state S.Store tx.old.conn.now) (state S.Store tx.new.conn.now) }
@@ -49,9 +51,9 @@ fn write_parts<S: Alter>(
     Ok(())
 }
 
-/// Adds the row of the reply to a team's request under a key, with the bytes of the request, and, where the reply is that
-/// of a bundle, a row for each part. The error is `sqlite`'s: out of memory, the disk's, or that the pair of team and key
-/// has a row already.
+/// Adds the row of the reply to a team's request under a key, with the bytes of the request, and, where the reply is
+/// that of a bundle, a row for each part. The error is `sqlite`'s: out of memory, the disk's, or that the pair of team
+/// and key has a row already.
 pub fn keep_reply<S: Alter>(
     tx: &mut Transaction<'_, S>,
     team: &Team,
@@ -89,8 +91,10 @@ fn parts_at<S: Alter>(
     key: &Key,
 ) -> Result<Items<PartReply>, Error>
     ensures same_reference { tx.new.conn.ghost_name ≡ tx.old.conn.ghost_name }
-    ensures found { Finds result (state S.Store tx.old.conn.now) (state S.Store tx.new.conn.now) (λ parts t. (h : List Answered) → AreKeptParts h t.part
-        → (a first : Answered) → a.team ≡ team.now → a.key ≡ key.now → first_of h a ≡ Some first → parts ≡ answer_parts first.answer) }
+    ensures found { Finds result (state S.Store tx.old.conn.now) (state S.Store tx.new.conn.now)
+        (λ parts t. (h : List Answered) → AreKeptParts h t.part
+        → (a first : Answered) → a.team ≡ team.now → a.key ≡ key.now → first_of h a ≡ Some first
+        → parts ≡ answer_parts first.answer) }
     ensures same { ChangesNothing result (state S.Store tx.old.conn.now) (state S.Store tx.new.conn.now) }
     ensures kept { CommitsNothing (state S.Store tx.old.conn.now) (state S.Store tx.new.conn.now) }
     ensures survives { LeavesNothing (state S.Store tx.old.conn.now) (state S.Store tx.new.conn.now) }
@@ -101,7 +105,8 @@ fn parts_at<S: Alter>(
 
 /// The reply in the second to the fifth column, with these parts. An error where they are the numbers of none.
 fn reply_in(row: &Row, parts: Items<PartReply>) -> Result<Reply, Error>
-    ensures { IfOk result (λ reply. (other : Told) → ShowsReply other row.now → parts ≡ reply_parts other → reply ≡ other) }
+    ensures { IfOk result (λ reply. (other : ReplyModel) → ShowsReply other row.now → parts ≡ reply_parts other
+        → reply ≡ other) }
 {
     let numbers = ReplyNumbers {
         kind: number_at(row, 1)?,
@@ -118,7 +123,8 @@ fn reply_in(row: &Row, parts: Items<PartReply>) -> Result<Reply, Error>
 /// What a request of this content is answered, where the row is that of the first one of its pair, which was answered
 /// with these parts.
 fn answer_in(row: &Row, parts: Items<PartReply>, content: &[u8]) -> Result<Answer, Error>
-    ensures { IfOk result (λ answer. (first : Answered) → ShowsKept first row.now → parts ≡ answer_parts first.answer → answer ≡ answer_again first content.now) }
+    ensures { IfOk result (λ answer. (first : Answered) → ShowsKept first row.now → parts ≡ answer_parts first.answer
+        → answer ≡ answer_again first content.now) }
 {
     let kept = blob_at(row, 0)?;
     let reply = reply_in(row, parts)?;
@@ -140,9 +146,11 @@ pub fn answer_at<S: Alter>(
     content: &[u8],
 ) -> Result<Option<Answer>, Error>
     ensures same_reference { tx.new.conn.ghost_name ≡ tx.old.conn.ghost_name }
-    ensures found { Finds result (state S.Store tx.old.conn.now) (state S.Store tx.new.conn.now) (λ found t. (h : List Answered) → AreKept h t.reply
+    ensures found { Finds result (state S.Store tx.old.conn.now) (state S.Store tx.new.conn.now)
+        (λ found t. (h : List Answered) → AreKept h t.reply
         → AreKeptParts h t.part
-        → (a : Answered) → a.team ≡ team.now → a.key ≡ key.now → a.content ≡ content.now → found ≡ option_map (λ first. answer_again first a.content) (first_of h a)) }
+        → (a : Answered) → a.team ≡ team.now → a.key ≡ key.now → a.content ≡ content.now
+        → found ≡ option_map (λ first. answer_again first a.content) (first_of h a)) }
     ensures same { ChangesNothing result (state S.Store tx.old.conn.now) (state S.Store tx.new.conn.now) }
     ensures kept { CommitsNothing (state S.Store tx.old.conn.now) (state S.Store tx.new.conn.now) }
     ensures survives { LeavesNothing (state S.Store tx.old.conn.now) (state S.Store tx.new.conn.now) }

@@ -1,7 +1,8 @@
 //! Rows in place of those of their key: the rows of the key are removed, and the row is added.
 ghost use Rattle.std.specs.Prelude.{◌≡◌};
 ghost use Rattle.sqlite.specs.Held.{state};
-ghost use Rattle.store_rows.specs.Written.{with_net_row, with_block_row, with_held_row, with_spn_row, with_approval_row};
+ghost use Rattle.store_rows.specs.Written.{with_net_row, with_block_row, with_held_row, with_spn_row};
+ghost use Rattle.store_rows.specs.Written.{with_approval_row};
 ghost use Rattle.office_rows.specs.Statement.{AddsNoCommit, LeavesNothing, MakesTables};
 
 use office_rows::{
@@ -13,7 +14,8 @@ use sqlite::{Alter, Error, Transaction};
 /// Sets the row of a network.
 pub(crate) fn set_net<S: Alter>(tx: &mut Transaction<'_, S>, row: &NetRow<'_>) -> Result<(), Error>
     ensures same_reference { tx.new.conn.ghost_name ≡ tx.old.conn.ghost_name }
-    ensures set { MakesTables result (state S.Store tx.old.conn.now) (state S.Store tx.new.conn.now) (with_net_row row.now) }
+    ensures set { MakesTables result (state S.Store tx.old.conn.now) (state S.Store tx.new.conn.now)
+        (with_net_row row.now) }
     ensures kept { AddsNoCommit (state S.Store tx.old.conn.now) (state S.Store tx.new.conn.now) }
     ensures survives { LeavesNothing (state S.Store tx.old.conn.now) (state S.Store tx.new.conn.now) }
 {
@@ -28,7 +30,8 @@ pub(crate) fn set_block<S: Alter>(
     row: &BlockRow<'_>,
 ) -> Result<(), Error>
     ensures same_reference { tx.new.conn.ghost_name ≡ tx.old.conn.ghost_name }
-    ensures set { MakesTables result (state S.Store tx.old.conn.now) (state S.Store tx.new.conn.now) (with_block_row row.now) }
+    ensures set { MakesTables result (state S.Store tx.old.conn.now) (state S.Store tx.new.conn.now)
+        (with_block_row row.now) }
     ensures kept { AddsNoCommit (state S.Store tx.old.conn.now) (state S.Store tx.new.conn.now) }
     ensures survives { LeavesNothing (state S.Store tx.old.conn.now) (state S.Store tx.new.conn.now) }
 {
@@ -44,7 +47,8 @@ pub(crate) fn set_held<S: Alter>(
     number: u32,
 ) -> Result<(), Error>
     ensures same_reference { tx.new.conn.ghost_name ≡ tx.old.conn.ghost_name }
-    ensures set { MakesTables result (state S.Store tx.old.conn.now) (state S.Store tx.new.conn.now) (with_held_row net.now number) }
+    ensures set { MakesTables result (state S.Store tx.old.conn.now) (state S.Store tx.new.conn.now)
+        (with_held_row net.now number) }
     ensures kept { AddsNoCommit (state S.Store tx.old.conn.now) (state S.Store tx.new.conn.now) }
     ensures survives { LeavesNothing (state S.Store tx.old.conn.now) (state S.Store tx.new.conn.now) }
 {
@@ -56,7 +60,8 @@ pub(crate) fn set_held<S: Alter>(
 /// Sets the row of a used suspect parameter number.
 pub(crate) fn set_spn<S: Alter>(tx: &mut Transaction<'_, S>, number: u32) -> Result<(), Error>
     ensures same_reference { tx.new.conn.ghost_name ≡ tx.old.conn.ghost_name }
-    ensures set { MakesTables result (state S.Store tx.old.conn.now) (state S.Store tx.new.conn.now) (with_spn_row number) }
+    ensures set { MakesTables result (state S.Store tx.old.conn.now) (state S.Store tx.new.conn.now)
+        (with_spn_row number) }
     ensures kept { AddsNoCommit (state S.Store tx.old.conn.now) (state S.Store tx.new.conn.now) }
     ensures survives { LeavesNothing (state S.Store tx.old.conn.now) (state S.Store tx.new.conn.now) }
 {
@@ -72,7 +77,8 @@ pub(crate) fn set_approval<S: Alter>(
     team: &[u8],
 ) -> Result<(), Error>
     ensures same_reference { tx.new.conn.ghost_name ≡ tx.old.conn.ghost_name }
-    ensures set { MakesTables result (state S.Store tx.old.conn.now) (state S.Store tx.new.conn.now) (with_approval_row net.now team.now) }
+    ensures set { MakesTables result (state S.Store tx.old.conn.now) (state S.Store tx.new.conn.now)
+        (with_approval_row net.now team.now) }
     ensures kept { AddsNoCommit (state S.Store tx.old.conn.now) (state S.Store tx.new.conn.now) }
     ensures survives { LeavesNothing (state S.Store tx.old.conn.now) (state S.Store tx.new.conn.now) }
 {

@@ -32,8 +32,8 @@ pub(crate) fn number_above(number: u32) -> Result<u32, Error>
     }
 }
 
-/// The number of the network's next release; a network that isn't there begins with 1. An error where it has more than 32
-/// bits; no network has so many releases.
+/// The number of the network's next release; a network that isn't there begins with 1. An error where it has more than
+/// 32 bits; no network has so many releases.
 pub fn next_release(net: Option<&Net>) -> Result<u32, Error>
     ensures { IfOk result (λ number. number ≡ next_number (option_copied net.entry)) }
 {
@@ -48,7 +48,9 @@ pub fn next_release(net: Option<&Net>) -> Result<u32, Error>
 
 /// The number of the next release after the change, where it was this one before.
 fn number_after(number: Option<u32>, change: &Change) -> Result<Option<u32>, Error>
-    ensures { IfOk result (λ after. (name : List ℕ) (net : Option Network) (rest : List Changing) → IsHeadFirst net (change.now ∷ []) → IsNext number net (change.now ∷ rest) → IsNext after (changed_net name change.now net) rest) }
+    ensures { IfOk result (λ after. (name : List ℕ) (net : Option Network) (rest : List Changing)
+        → IsHeadFirst net (change.now ∷ []) → IsNext number net (change.now ∷ rest)
+        → IsNext after (changed_net name change.now net) rest) }
 {
     match change {
         Change::AddRelease(_) => match number {
@@ -68,7 +70,9 @@ fn write_change<S: Alter>(
     change: &Change,
 ) -> Result<(), Error>
     ensures same_reference { tx.new.conn.ghost_name ≡ tx.old.conn.ghost_name }
-    ensures written { Writes result (state S.Store tx.old.conn.now) (state S.Store tx.new.conn.now) (λ before after. (net : Option Network) → IsNetAt name.now before net → IsHeadFirst net (change.now ∷ []) → HaveOwnBlocks (change.now ∷ []) → IsNext number net (change.now ∷ [])
+    ensures written { Writes result (state S.Store tx.old.conn.now) (state S.Store tx.new.conn.now)
+        (λ before after. (net : Option Network) → IsNetAt name.now before net → IsHeadFirst net (change.now ∷ [])
+        → HaveOwnBlocks (change.now ∷ []) → IsNext number net (change.now ∷ [])
         → IsWritten name.now change.now net before after) }
     ensures office { StaysOffice result (state S.Store tx.old.conn.now) (state S.Store tx.new.conn.now) }
     ensures inside { StaysInside result (state S.Store tx.old.conn.now) (state S.Store tx.new.conn.now) }
@@ -94,15 +98,15 @@ fn write_change<S: Alter>(
     }
 }
 
-/// Writes the changes of a command at the network of this name, in order. The rows of the network and of the book become
-/// those of the network and the book that the changes lead to; other networks' rows, the kept replies and the profile
-/// stay. This is promised of changes as a decision has them: where the network isn't there, its head comes first, no
-/// block of suspect parameter numbers is set on the network itself, and `next` is the number of the network's next
-/// release, if the changes have one. A signal that is added or removed is written by its own rows alone.
+/// Writes the changes of a command at the network of this name, in order. The rows of the network and of the book
+/// become those of the network and the book that the changes lead to; other networks' rows, the kept replies and the
+/// profile stay. This is promised of changes as a decision has them: where the network isn't there, its head comes
+/// first, no block of suspect parameter numbers is set on the network itself, and `next` is the number of the network's
+/// next release, if the changes have one. A signal that is added or removed is written by its own rows alone.
 ///
 /// The error is `sqlite`'s: out of memory, the disk's, or that of rows with keys that are there already;
-/// [`Error::InvalidQuery`] where a release has no number or one of more than 32 bits, or its messages are no sheet's, and
-/// where a signal is added to a message that isn't there.
+/// [`Error::InvalidQuery`] where a release has no number or one of more than 32 bits, or its messages are no sheet's,
+/// and where a signal is added to a message that isn't there.
 pub fn write_changes<S: Alter>(
     alloc: Global,
     tx: &mut Transaction<'_, S>,
@@ -111,7 +115,9 @@ pub fn write_changes<S: Alter>(
     changes: &[Change],
 ) -> Result<(), Error>
     ensures same_reference { tx.new.conn.ghost_name ≡ tx.old.conn.ghost_name }
-    ensures written { Writes result (state S.Store tx.old.conn.now) (state S.Store tx.new.conn.now) (λ before after. (net : Option Network) (book : Book) → IsNetAt name.now before net → IsHeadFirst net changes.now → HaveOwnBlocks changes.now → IsNext next net changes.now
+    ensures written { Writes result (state S.Store tx.old.conn.now) (state S.Store tx.new.conn.now)
+        (λ before after. (net : Option Network) (book : Book) → IsNetAt name.now before net
+        → IsHeadFirst net changes.now → HaveOwnBlocks changes.now → IsNext next net changes.now
         → Follows name.now before after
         (record { net = net; book = book }) (all_applied name.now changes.now (record { net = net; book = book }))) }
     ensures office { StaysOffice result (state S.Store tx.old.conn.now) (state S.Store tx.new.conn.now) }

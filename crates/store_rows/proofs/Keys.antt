@@ -1,4 +1,5 @@
--- Columns as keys: texts and numbers are in the order that the office's lists have, and a value is one text or one number.
+-- Columns as keys: texts and numbers are in the order that the office's lists have, and a value is one text or one
+-- number.
 use Rattle.std.proofs.Common.{◌≡◌, ℕ, ◌<◌, pos, Bool, true, false, ◌&&◌, not, List, refl, sym, ap, subst, ◌∙◌, arith}
 use Rattle.std.proofs.lemmas.Int.{ints}
 use Rattle.std.proofs.lemmas.Bool.Decides.{nat_tests}

@@ -1,5 +1,5 @@
--- Rows that stand for the items of a list, in the order of a key: a row that is set is an item that is put, a row that is
--- removed an item that is left out, and rows in order show the items.
+-- Rows that stand for the items of a list, in the order of a key: a row that is set is an item that is put, a row that
+-- is removed an item that is left out, and rows in order show the items.
 use Rattle.std.proofs.Common.{◌≡◌, inl, inr, ◌+◌, List, [], ◌∷◌, ◌++◌, get_or, Bool, true, false, cond, not, ◌&&◌, refl, sym, ap, subst, ◌∙◌, arith}
 use Rattle.std.specs.Prelude.{IsPermutation, IsSorted, filter}
 use Rattle.std.specs.List.{AllByRecursion}

@@ -65,7 +65,7 @@ sets_message name m net book t is =
       bodies = refl;
     })
 
--- identifiers of live messages are told apart by their numbers
+-- identifiers of live messages differ by their numbers
 by_ident : (name : List ℕ) (i : Ident) → IsIdentifier i → (live : List LiveMessage) (rows : List Row) → AreShown (IsMsgRow name) live rows
     → filter (λ m. not (dbc_number m.message.ident == dbc_number i)) live ≡ filter (λ m. not (has_ident i m)) live
 by_ident name i is [] rows shown = refl

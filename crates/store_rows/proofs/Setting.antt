@@ -66,8 +66,8 @@ module _ {X : Type 0} where
   pub set_elsewhere : (p d : X → Bool) (r : X) (xs : List X) → p r ≡ false → ((x : X) → p x ≡ true → d x ≡ false) → filter p (filter (λ x. not (d x)) xs ++ r ∷ []) ≡ filter p xs
   set_elsewhere p d r xs other apart = added_elsewhere p r (filter (λ x. not (d x)) xs) other ∙ left_others p d apart xs
 
--- The rows that pass p stand for a list. One of them is set, by a DELETE of those that pass d, which on such rows are those
--- with its key: its item is put.
+-- The rows that pass p stand for a list. One of them is set, by a DELETE of those that pass d, which on such rows are
+-- those with its key: its item is put.
 pub set_in : {A X : Type 0} {by : X → X → Ordering} {R : A → X → Type 0} (o : IsTotalOrder by) (order : A → A → Ordering) (p d : X → Bool) (a : A) (r : X) (xs : List X) (items : List A)
     → p r ≡ true → ((x : X) → p x ≡ true → d x ≡ is_eq (by x r)) → R a r → ((b : A) (x : X) → R b x → order a b ≡ by r x)
     → AreListed by R (filter p xs) items → AreListed by R (filter p (filter (λ x. not (d x)) xs ++ r ∷ [])) (put order a items)

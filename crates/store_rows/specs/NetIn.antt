@@ -1,5 +1,5 @@
--- The rows of a network. Its live messages are rows of four tables; before that they were bodies, each in one row. So the
--- form of live messages is a parameter, and a network in tables of either form is one definition.
+-- The rows of a network. Its live messages are rows of four tables; before that they were bodies, each in one row. So
+-- the form of live messages is a parameter, and a network in tables of either form is one definition.
 use Rattle.std.specs.Prelude.{◌≡◌, ℕ, List, [], ◌∷◌, Option, Some, None, filter}
 use Rattle.sqlite.specs.Order.{Row}
 use Rattle.office_types.specs.declared.state.LiveMessage.{LiveMessage}

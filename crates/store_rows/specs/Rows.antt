@@ -3,7 +3,7 @@ use Rattle.std.specs.Prelude.{◌≡◌, ℕ, ◌+◌, List, [], ◌∷◌, Bool
 use Rattle.sqlite.specs.Order.{Row}
 use Rattle.can_id.specs.Ident.{IsIdentifier, dbc_number}
 use Rattle.can_id.specs.declared.ident.Ident.{Ident}
-use Rattle.catalogue.specs.Reads.{Reads}
+use Rattle.dbc_grammar.specs.Reads.{Reads}
 use Rattle.catalogue.specs.declared.sheet.Sheet.{Sheet}
 use Rattle.office_types.specs.Block.{form_number}
 use Rattle.office_types.specs.Command.{kind_number}
@@ -33,7 +33,7 @@ use Rattle.store_rows.specs.Listed.{AreListed}
 abbrev pub IsRowOf : {T A : Type 0} → (T → Row) → (A → T → Type 0) → A → Row → Type 0
 IsRowOf {T} row_of Tells item row = (it : T) × Tells item it × (row ≡ row_of it)
 
--- the team that asked for the review, empty in draft
+-- the team that requested the review, empty in draft
 abbrev pub submitter_text : Phase → List ℕ
 submitter_text phase = unwrap_or (submitter_of phase) []
 

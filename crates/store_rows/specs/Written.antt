@@ -37,8 +37,8 @@ without_approval_rows name t = record t { approval = filter (λ row. not (is_of_
 abbrev pub with_frozen_row : FrozenRow → Tables → Tables
 with_frozen_row it t = record t { frozen = t.frozen ++ frozen_row it ∷ [] }
 
--- The change at the network of this name was written: the tables t became t2. A network's own block isn't one of suspect
--- parameter numbers, and a release is added where the network is there.
+-- The change at the network of this name was written: the tables t became t2. A network's own block isn't one of
+-- suspect parameter numbers, and a release is added where the network is there.
 abbrev pub IsWritten : List ℕ → Change → Option Net → Tables → Tables → Type 0
 IsWritten name (SetHead h) net t t2 = (it : NetRow) × IsNetRow name h it × (t2 ≡ with_net_row it t)
 IsWritten name (SetMessage m) net t t2 = IsLive m × (t2 ≡ with_live name m t)

@@ -2,8 +2,8 @@
 ghost use Rattle.std.specs.Prelude.{◌≡◌, ℕ, List, IfOk, pos};
 ghost use Rattle.sqlite.specs.declared.types.Value.TheVariants.{Int, Text, Blob};
 ghost use Rattle.sqlite.specs.Order.{column};
-ghost use Rattle.catalogue.specs.Reads.{Reads};
-ghost use Rattle.catalogue.specs.declared.sheet.Sheet.{Sheet as Told};
+ghost use Rattle.dbc_grammar.specs.Reads.{Reads};
+ghost use Rattle.catalogue.specs.declared.sheet.Sheet.{Sheet as SheetModel};
 
 use catalogue::Sheet;
 use office_bodies::sheet_of;
@@ -52,7 +52,8 @@ pub(crate) fn team_at(alloc: Global, row: &Row, at: usize) -> Result<Team, Error
 
 /// The sheet that the blob in the column reads as.
 pub(crate) fn sheet_at(alloc: Global, row: &Row, at: usize) -> Result<Sheet, Error>
-    ensures { IfOk result (λ sheet. (text : List ℕ) → (other : Told) → column row.now at ≡ Blob text → Reads text other → sheet ≡ other) }
+    ensures { IfOk result (λ sheet. (text : List ℕ) → (other : SheetModel) → column row.now at ≡ Blob text
+        → Reads text other → sheet ≡ other) }
 {
     let text = blob_at(row, at)?;
     match sheet_of(alloc, text)? {

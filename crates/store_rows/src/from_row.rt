@@ -5,8 +5,9 @@ ghost use Rattle.sqlite.specs.declared.types.Value.TheVariants.{Int};
 ghost use Rattle.office_types.specs.Block.{Range};
 ghost use Rattle.office_types.specs.Command.{kind_number};
 ghost use Rattle.office_types.specs.declared.command.NetKind.{NetKind as Kind};
-ghost use Rattle.office_types.specs.declared.state.Phase.{Phase as Told};
-ghost use Rattle.store_rows.specs.Showing.{ShowsBlock, ShowsHead, ShowsIdent, ShowsMessage, ShowsNumber, ShowsPart, ShowsPhase, ShowsRange, ShowsRelease, ShowsSpnBlock, ShowsTeam};
+ghost use Rattle.office_types.specs.declared.state.Phase.{Phase as PhaseModel};
+ghost use Rattle.store_rows.specs.Showing.{ShowsBlock, ShowsHead, ShowsIdent, ShowsMessage, ShowsNumber, ShowsPart};
+ghost use Rattle.store_rows.specs.Showing.{ShowsPhase, ShowsRange, ShowsRelease, ShowsSpnBlock, ShowsTeam};
 
 use crate::columns::{blob_at, number_at, sheet_at, team_at, text_at};
 use can_id::Ident;
@@ -164,7 +165,7 @@ fn reviews_at(row: &Row) -> Result<ReviewCount, Error>
 
 /// The phase in the third and the fourth column.
 fn phase_at(alloc: Global, row: &Row) -> Result<Phase, Error>
-    ensures { IfOk result (λ phase. (other : Told) → ShowsPhase other row.now → phase ≡ other) }
+    ensures { IfOk result (λ phase. (other : PhaseModel) → ShowsPhase other row.now → phase ≡ other) }
 {
     let number = number_at(row, 2)?;
     if number == 0 {

@@ -22,7 +22,8 @@ fn is_own(row: &Row) -> Result<bool, Error>
 /// The blocks that the rows show, in order, but those of suspect parameter numbers. An error where a row shows none, or
 /// memory ran out.
 pub fn granted_of(alloc: Global, rows: &[Row]) -> Result<Items<GrantedBlock>, Error>
-    ensures { IfOk result (λ items. (others : List Granted) → AreShown ShowsBlock others (filter is_own rows.now) → items ≡ others) }
+    ensures { IfOk result (λ items. (others : List Granted) → AreShown ShowsBlock others (filter is_own rows.now)
+        → items ≡ others) }
 {
     let mut items = Items::new(alloc);
     for row in rows {

@@ -18,7 +18,8 @@ use std::alloc::Global;
 
 /// The identifier of the number in the first column.
 fn ident_at(row: &Row) -> Result<Ident, Error>
-    ensures { IfOk result (λ ident. (other : Identifier) → IsIdentifier other → column row.now 0 ≡ Int (pos (dbc_number other)) → ident ≡ other) }
+    ensures { IfOk result (λ ident. (other : Identifier) → IsIdentifier other
+        → column row.now 0 ≡ Int (pos (dbc_number other)) → ident ≡ other) }
 {
     let number = number_at(row, 0)?;
     match Ident::from_dbc(number) {
@@ -52,7 +53,8 @@ fn sender_at(alloc: Global, row: &Row) -> Result<Option<Name>, Error>
 
 /// The live message that the row shows, with these signals. An error where it shows none, or memory ran out.
 pub fn live_message_of(alloc: Global, row: &Row, signals: Signals) -> Result<LiveMessage, Error>
-    ensures { IfOk result (λ live. (other : Live) → ShowsLive other row.now → signals ≡ other.message.signals → live ≡ other) }
+    ensures { IfOk result (λ live. (other : Live) → ShowsLive other row.now → signals ≡ other.message.signals
+        → live ≡ other) }
 {
     let ident = ident_at(row)?;
     let name = name_at(alloc, row, 1)?;

@@ -1,11 +1,12 @@
 //! The signals of a message, of their rows, their receivers' and their value texts'.
 ghost use Rattle.std.specs.Prelude.{◌≡◌, ◌≤◌, ℕ, List, IfOk, map, length, pos, IsTrue};
 ghost use Rattle.std.specs.List.{prefix_len};
-ghost use Rattle.catalogue.specs.declared.signal.Signal.{Signal as Told};
+ghost use Rattle.catalogue.specs.declared.signal.Signal.{Signal as SignalModel};
 ghost use Rattle.catalogue.specs.declared.value_texts.ValueText.{ValueText as Described};
 ghost use Rattle.store_rows.specs.Listed.{AreShown};
 ghost use Rattle.store_rows.specs.Live.{parts_of};
-ghost use Rattle.store_rows.specs.SignalShowing.{has_place, PlacesAscend, ShowsPart, ShowsPlaced, ShowsReceiver, ShowsValueText};
+ghost use Rattle.store_rows.specs.SignalShowing.{has_place, PlacesAscend, ShowsPart, ShowsPlaced, ShowsReceiver};
+ghost use Rattle.store_rows.specs.SignalShowing.{ShowsValueText};
 
 use crate::columns::number_at;
 use crate::items::items_of;
@@ -38,7 +39,8 @@ fn rows_at(rows: &[Row], place: u32) -> usize
 
 /// The receivers that the rows show.
 fn receivers_in(alloc: Global, rows: &[Row]) -> Result<Receivers, Error>
-    ensures { IfOk result (λ receivers. (others : List (List ℕ)) → AreShown ShowsReceiver others rows.now → receivers ≡ others) }
+    ensures { IfOk result (λ receivers. (others : List (List ℕ)) → AreShown ShowsReceiver others rows.now
+        → receivers ≡ others) }
 {
     let names = items_of::<Name>(alloc, rows)?;
     Ok(Receivers::from_vec(names.into_vec()))
@@ -46,7 +48,8 @@ fn receivers_in(alloc: Global, rows: &[Row]) -> Result<Receivers, Error>
 
 /// The value texts that the rows show.
 fn values_in(alloc: Global, rows: &[Row]) -> Result<ValueTexts, Error>
-    ensures { IfOk result (λ values. (others : List Described) → AreShown ShowsValueText others rows.now → values ≡ others) }
+    ensures { IfOk result (λ values. (others : List Described) → AreShown ShowsValueText others rows.now
+        → values ≡ others) }
 {
     let texts = items_of::<ValueText>(alloc, rows)?;
     match ValueTexts::of(texts.into_vec()) {
@@ -55,17 +58,19 @@ fn values_in(alloc: Global, rows: &[Row]) -> Result<ValueTexts, Error>
     }
 }
 
-/// The signals of the rows of `sig`, each with those rows of `receiver` and of `sigvalue` that have its place. An error also
-/// where rows of these have the place of no signal.
+/// The signals of the rows of `sig`, each with those rows of `receiver` and of `sigvalue` that have its place. An error
+/// also where rows of these have the place of no signal.
 fn signals_in(
     alloc: Global,
     sigs: &[Row],
     receivers: &[Row],
     values: &[Row],
 ) -> Result<Vec<Signal>, Error>
-    ensures { IfOk result (λ signals. (placed : List (ℕ × Told)) → PlacesAscend placed → AreShown ShowsPlaced placed sigs.now
+    ensures { IfOk result (λ signals. (placed : List (ℕ × SignalModel)) → PlacesAscend placed
+        → AreShown ShowsPlaced placed sigs.now
         → AreShown (ShowsPart ShowsReceiver) (parts_of (λ s. s.receivers) placed) receivers.now
-        → AreShown (ShowsPart ShowsValueText) (parts_of (λ s. s.values) placed) values.now → signals.items ≡ map (λ p. p.1) placed) }
+        → AreShown (ShowsPart ShowsValueText) (parts_of (λ s. s.values) placed) values.now
+        → signals.items ≡ map (λ p. p.1) placed) }
 {
     let mut signals = Vec::new(alloc);
     let mut names = receivers;
@@ -87,17 +92,19 @@ fn signals_in(
 }
 
 /// The signals that the rows of a message show: those of `sig`, of `receiver` and of `sigvalue`, each in the order of
-/// the signals' places. An error where they show none, also where a receiver or a value text has the place of no signal,
-/// or memory ran out.
+/// the signals' places. An error where they show none, also where a receiver or a value text has the place of no
+/// signal, or memory ran out.
 pub fn signals_of(
     alloc: Global,
     sigs: &[Row],
     receivers: &[Row],
     values: &[Row],
 ) -> Result<Signals, Error>
-    ensures { IfOk result (λ signals. (placed : List (ℕ × Told)) → PlacesAscend placed → AreShown ShowsPlaced placed sigs.now
+    ensures { IfOk result (λ signals. (placed : List (ℕ × SignalModel)) → PlacesAscend placed
+        → AreShown ShowsPlaced placed sigs.now
         → AreShown (ShowsPart ShowsReceiver) (parts_of (λ s. s.receivers) placed) receivers.now
-        → AreShown (ShowsPart ShowsValueText) (parts_of (λ s. s.values) placed) values.now → signals ≡ map (λ p. p.1) placed) }
+        → AreShown (ShowsPart ShowsValueText) (parts_of (λ s. s.values) placed) values.now
+        → signals ≡ map (λ p. p.1) placed) }
 {
     let list = signals_in(alloc, sigs, receivers, values)?;
     match Signals::of(alloc, list)? {

@@ -4,7 +4,7 @@ ghost use Rattle.sqlite.specs.declared.types.Value.TheVariants.{Int};
 ghost use Rattle.sqlite.specs.Order.{column};
 ghost use Rattle.bitlayout.specs.declared.layout.Layout.{Layout as Lies};
 ghost use Rattle.catalogue.specs.ValueType.{value_type_number};
-ghost use Rattle.catalogue.specs.declared.signal.Signal.{Signal as Told};
+ghost use Rattle.catalogue.specs.declared.signal.Signal.{Signal as SignalModel};
 ghost use Rattle.catalogue.specs.declared.value_type.ValueType.{ValueType as Kind};
 ghost use Rattle.store_rows.specs.SignalShowing.{ShowsLayout, ShowsReceiver, ShowsSignal, ShowsValueText};
 
@@ -18,7 +18,7 @@ use std::alloc::Global;
 
 /// The layout in the third to the fifth column.
 fn layout_at(row: &Row) -> Result<Layout, Error>
-    ensures { IfOk result (λ layout. (other : Told) → ShowsLayout other row.now → layout ≡ other.layout) }
+    ensures { IfOk result (λ layout. (other : SignalModel) → ShowsLayout other row.now → layout ≡ other.layout) }
 {
     let start = number_at(row, 2)?;
     let bits = number_at(row, 3)?;
@@ -45,7 +45,8 @@ fn spn_at(row: &Row, at: usize) -> Result<Spn, Error>
 
 /// The value type in the column.
 fn type_at(row: &Row, at: usize) -> Result<ValueType, Error>
-    ensures { IfOk result (λ kind. (other : Kind) → column row.now at ≡ Int (pos (value_type_number other)) → kind ≡ other) }
+    ensures { IfOk result (λ kind. (other : Kind) → column row.now at ≡ Int (pos (value_type_number other))
+        → kind ≡ other) }
 {
     let number = number_at(row, at)?;
     match ValueType::of(number) {
@@ -79,7 +80,8 @@ pub(crate) fn signal_of(
     receivers: Receivers,
     values: ValueTexts,
 ) -> Result<Signal, Error>
-    ensures { IfOk result (λ signal. (other : Told) → ShowsSignal other row.now → receivers ≡ other.receivers → values ≡ other.values → signal ≡ other) }
+    ensures { IfOk result (λ signal. (other : SignalModel) → ShowsSignal other row.now → receivers ≡ other.receivers
+        → values ≡ other.values → signal ≡ other) }
 {
     let name = name_at(alloc, row, 1)?;
     let layout = layout_at(row)?;

@@ -70,7 +70,8 @@ fn decimal_of(bytes: &[u8]) -> Result<Decimal, Error>
 
 /// The decimal in the column.
 pub(crate) fn decimal_at(row: &Row, at: usize) -> Result<Decimal, Error>
-    ensures { IfOk result (λ d. (other : Number) → IsDecimal other → column row.now at ≡ Text (text_of other) → d ≡ other) }
+    ensures { IfOk result (λ d. (other : Number) → IsDecimal other → column row.now at ≡ Text (text_of other)
+        → d ≡ other) }
 {
     let text = text_at(row, at)?;
     decimal_of(text)

@@ -4,14 +4,14 @@ use crate::looking::is_seen;
 use office_history::{Answer, Arrival};
 use sqlite::{Alter, Connection};
 use std::io::{self, ErrorKind};
-use store::{Lost, Office};
+use store::{Lost, StoredOffice};
 
 /// A new office on the connection.
-fn opened<S: Alter + Drop>(conn: Connection<S>) -> io::Result<Office<S>> {
+fn opened<S: Alter + Drop>(conn: Connection<S>) -> io::Result<StoredOffice<S>> {
     if !conn.is_autocommit() {
         return Err(ErrorKind::InvalidData)?;
     }
-    match Office::open(conn) {
+    match StoredOffice::open(conn) {
         Ok(office) => Ok(office),
         Err(_) => Err(ErrorKind::InvalidData)?,
     }
@@ -27,7 +27,7 @@ fn is_same(answered: &Result<Answer, Lost>, expected: &Answer) -> bool {
 /// Whether each arrival is answered as expected, one after the other, and the tables are then as expected.
 fn answers_each<S: Alter>(
     rt: &HostRuntime,
-    office: &mut Office<S>,
+    office: &mut StoredOffice<S>,
     arrivals: &[Arrival],
     expected: &Expected,
 ) -> io::Result<bool> {
@@ -53,7 +53,7 @@ pub(crate) fn is_answered(
 /// Whether the list is answered as expected, and the tables are then as expected.
 fn runs<S: Alter>(
     rt: &HostRuntime,
-    office: &mut Office<S>,
+    office: &mut StoredOffice<S>,
     arrivals: &[Arrival],
     expected: &Expected,
 ) -> io::Result<bool> {

@@ -1,5 +1,5 @@
 //! The files of a case.
-use office_script::{FileFault, FileSource};
+use office_script::{FileSource, PathFault};
 use std::alloc::{AllocError, Global};
 use std::fs;
 
@@ -28,13 +28,13 @@ impl FileSource for Folder<'_> {
 
     ghost held = { λ _ _. unknown };
 
-    fn read(&self, alloc: Global, path: &str) -> Result<Vec<u8>, FileFault> {
+    fn read(&self, alloc: Global, path: &str) -> Result<Vec<u8>, PathFault> {
         let Ok(path) = self.path_of(alloc, path) else {
-            return Err(FileFault::Memory);
+            return Err(PathFault::Memory);
         };
         match fs::read(self.rt, path.as_str()) {
             Ok(bytes) => Ok(bytes),
-            Err(_) => Err(FileFault::Unreadable),
+            Err(_) => Err(PathFault::Unreadable),
         }
     }
 }

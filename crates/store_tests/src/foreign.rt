@@ -1,7 +1,7 @@
 //! Tables of something else.
 use sqlite::Connection;
 use std::io::{self, ErrorKind};
-use store::Office;
+use store::StoredOffice;
 
 /// Tells what opening an office on them says.
 pub(crate) fn try_foreign(rt: &HostRuntime) -> io::Result<()> {
@@ -10,7 +10,7 @@ pub(crate) fn try_foreign(rt: &HostRuntime) -> io::Result<()> {
     if made.is_err() || !conn.is_autocommit() {
         return Err(ErrorKind::InvalidData)?;
     }
-    match Office::open(conn) {
+    match StoredOffice::open(conn) {
         Ok(_) => println!(rt; "tables of something else: opened"),
         Err((lost, _)) => {
             let number = lost.number();

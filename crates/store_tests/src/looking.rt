@@ -1,14 +1,13 @@
 //! Looks at the list of networks, and at every network, live message and release.
 use crate::expecting::Expected;
 use catalogue::{Copying, Message, Name, Sheet, SheetCode};
-use chart::{message_chart, table_of};
 use dbc_write::text_of;
-use net_list::net_line;
-use office_types::{FrozenSheet, Net, NetName};
+use office_types::{FrozenSheet, Look, Net, NetName};
 use sqlite::Alter;
 use std::alloc::{AllocError, Global};
 use std::io::{self, ErrorKind};
-use store::{Office, Question};
+use store::StoredOffice;
+use views::{message_chart, net_line, table_of};
 
 /// Adds a copy of the message to the sheet.
 fn add(alloc: Global, sheet: &mut Sheet, message: &Message) -> io::Result<()> {
@@ -39,11 +38,11 @@ fn release_text(alloc: Global, release: &FrozenSheet) -> io::Result<Vec<u8>> {
     Ok(text_of(alloc, &sheet)?)
 }
 
-/// Whether the office shows this text when it is asked the question, or that there is none.
+/// Whether the office shows this text for the question, or that there is none.
 fn shows<S: Alter>(
     alloc: Global,
-    office: &mut Office<S>,
-    question: &Question,
+    office: &mut StoredOffice<S>,
+    question: &Look,
     text: Option<&[u8]>,
 ) -> bool {
     match office.look(alloc, question) {
@@ -53,58 +52,66 @@ fn shows<S: Alter>(
     }
 }
 
-/// Of how many live messages of a network the chart is asked, since each question reads the network.
+/// Of how many live messages of a network the chart is requested, since each look reads the network.
 const CHARTS: usize = 8;
 
 /// Whether the charts of the first live messages are seen, and none of a message that isn't there.
-fn charts_are_seen<S: Alter>(alloc: Global, office: &mut Office<S>, net: &Net) -> io::Result<bool> {
+fn charts_are_seen<S: Alter>(
+    alloc: Global,
+    office: &mut StoredOffice<S>,
+    net: &Net,
+) -> io::Result<bool> {
     let mut right = true;
     for live in net.live.as_slice().iter().take(CHARTS) {
         let chart = message_chart(alloc, &live.message)?;
         let name = live.message.name.duplicate(alloc)?;
-        let question = Question::Chart(net.name.duplicate(alloc)?, name);
+        let question = Look::Chart(net.name.duplicate(alloc)?, name);
         right = shows(alloc, office, &question, Some(&chart)) && right;
     }
     let Some(absent) = Name::of(alloc, b"NoMessageOfThisName")? else {
         return Err(ErrorKind::InvalidData)?;
     };
-    let question = Question::Chart(net.name.duplicate(alloc)?, absent);
+    let question = Look::Chart(net.name.duplicate(alloc)?, absent);
     Ok(shows(alloc, office, &question, None) && right)
 }
 
 /// Whether the live sheet is seen, and its table.
-fn live_is_seen<S: Alter>(alloc: Global, office: &mut Office<S>, net: &Net) -> io::Result<bool> {
+fn live_is_seen<S: Alter>(
+    alloc: Global,
+    office: &mut StoredOffice<S>,
+    net: &Net,
+) -> io::Result<bool> {
     let sheet = live_sheet(alloc, net)?;
     let text = text_of(alloc, &sheet)?;
     let table = table_of(alloc, &sheet)?;
-    let live = Question::Live(net.name.duplicate(alloc)?);
+    let live = Look::Live(net.name.duplicate(alloc)?);
     let right = shows(alloc, office, &live, Some(&text));
-    let question = Question::Table(net.name.duplicate(alloc)?);
+    let question = Look::Table(net.name.duplicate(alloc)?);
     Ok(shows(alloc, office, &question, Some(&table)) && right)
 }
 
 /// Whether each release is seen, and none after the last one.
 fn releases_are_seen<S: Alter>(
     alloc: Global,
-    office: &mut Office<S>,
+    office: &mut StoredOffice<S>,
     net: &Net,
 ) -> io::Result<bool> {
     let mut right = true;
     let mut number = 1u32;
     for release in net.releases.as_slice() {
         let text = release_text(alloc, release)?;
-        let question = Question::Release(net.name.duplicate(alloc)?, number);
+        let question = Look::Release(net.name.duplicate(alloc)?, number);
         right = shows(alloc, office, &question, Some(&text)) && right;
         number = number.saturating_add(1);
     }
-    let next = Question::Release(net.name.duplicate(alloc)?, number);
+    let next = Look::Release(net.name.duplicate(alloc)?, number);
     Ok(shows(alloc, office, &next, None) && right)
 }
 
 /// Whether the list has a line for each of these networks, in order.
 fn list_is_seen<S: Alter>(
     alloc: Global,
-    office: &mut Office<S>,
+    office: &mut StoredOffice<S>,
     expected: &Expected,
 ) -> io::Result<bool> {
     let mut list = Vec::new(alloc);
@@ -112,24 +119,24 @@ fn list_is_seen<S: Alter>(
         let line = net_line(alloc, &net.name, &net.head, net.releases.as_slice().len())?;
         list.extend_from_slice(&line)?;
     }
-    Ok(shows(alloc, office, &Question::Nets, Some(&list)))
+    Ok(shows(alloc, office, &Look::Nets, Some(&list)))
 }
 
 /// Whether nothing is seen of a network that isn't there.
-fn nothing_is_seen<S: Alter>(alloc: Global, office: &mut Office<S>) -> io::Result<bool> {
+fn nothing_is_seen<S: Alter>(alloc: Global, office: &mut StoredOffice<S>) -> io::Result<bool> {
     let Some(absent) = NetName::of(alloc, b"there-is-no-network-of-this-name")? else {
         return Err(ErrorKind::InvalidData)?;
     };
-    let live = Question::Live(absent.duplicate(alloc)?);
+    let live = Look::Live(absent.duplicate(alloc)?);
     let right = shows(alloc, office, &live, None);
-    Ok(shows(alloc, office, &Question::Table(absent), None) && right)
+    Ok(shows(alloc, office, &Look::Table(absent), None) && right)
 }
 
-/// Whether the list of networks is seen, each live sheet with its table and charts, and each release; and nothing of what
-/// isn't there.
+/// Whether the list of networks is seen, each live sheet with its table and charts, and each release; and nothing of
+/// what isn't there.
 pub(crate) fn is_seen<S: Alter>(
     rt: &HostRuntime,
-    office: &mut Office<S>,
+    office: &mut StoredOffice<S>,
     expected: &Expected,
 ) -> io::Result<bool> {
     let alloc = rt.alloc();

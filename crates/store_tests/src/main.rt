@@ -1,12 +1,13 @@
 //! Answers lists of arrivals by the office in tables, and compares each answer with that of a legal history, which is
 //! made of an office in memory and of what came first under each key.
 //!
-//! The words are folders of cases, whose scripts are the lists; each line arrives twice, under a key of its own. Each list
-//! goes to two offices in memory, by `arrive` and by `run`. After it, every network's live sheet and every release are
-//! looked at. A line is printed for each list: how many arrivals there were, and whether all of them were answered so.
+//! The words are folders of cases, whose scripts are the lists; each line arrives twice, under a key of its own. Each
+//! list goes to two offices in memory, by `arrive` and by `run`. After it, every network's live sheet and every release
+//! are looked at. A line is printed for each list: how many arrivals there were, and whether all of them were answered
+//! so.
 //!
-//! Without words it tries each text of `office_rows` on real tables (`rows`), tables of something else, and a list that a
-//! generator makes. The words `rows DATABASE` ask for the first alone.
+//! Without words it tries each text of `office_rows` on real tables (`rows`), tables of something else, and a list that
+//! a generator makes. The words `rows DATABASE` ask for the first alone.
 #![tactic(auto)]
 
 mod comparing;

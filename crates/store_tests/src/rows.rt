@@ -1,5 +1,6 @@
-//! Each text of the office on real tables: keys of the least and the greatest length, bytes above 127, the least and the
-//! greatest number. What each SELECT shows is printed, and must be what is worked out by hand from the rows in `filling`.
+//! Each text of the office on real tables: keys of the least and the greatest length, bytes above 127, the least and
+//! the greatest number. What each SELECT shows is printed, and must be what is worked out by hand from the rows in
+//! `filling`.
 mod clearing;
 mod filling;
 mod reading;

@@ -8,16 +8,17 @@ ghost use Rattle.store.specs.Opening.{HasNone, HoldingInSomeForm};
 ghost use Rattle.canoffice_cli.specs.Databases.{known_of};
 
 use super::Databases;
-use crate::answering::{Answers, answer_on, lost_at_once};
+use crate::answering::{Answers, answer_on, nothing_answered};
 use crate::exporting::look_on;
 use crate::migrating::migrate_on;
 use crate::progress::Progress;
 use crate::serving::ServeEnd;
 use office_history::Arrival;
+use office_types::Look;
 use sqlite::{Connection, MemStore};
 use std::alloc::{AllocError, Global};
 use std::io::Write;
-use store::{Lost, Question};
+use store::Lost;
 
 /// One database in memory, which is found under any path.
 #[derive(Drop)]
@@ -30,9 +31,12 @@ impl MemoryDatabase {
     /// The connection, which is taken out.
     fn taken(&mut self) -> Result<Connection<MemStore>, Lost>
         ensures settled { IfOk result (λ conn. (state over_memory conn).in_transaction ≡ false) }
-        ensures held { IfOk result (λ conn. (path : List ℕ) (h : List Answered) → (known_of self.old.conn).holds path h → Holding h (state over_memory conn)) }
-        ensures in_form { IfOk result (λ conn. (path : List ℕ) (h : List Answered) → (known_of self.old.conn).holds_in_form path h → HoldingInSomeForm h (state over_memory conn)) }
-        ensures none { IfOk result (λ conn. (path : List ℕ) → (known_of self.old.conn).is_new path → HasNone (state over_memory conn)) }
+        ensures held { IfOk result (λ conn. (path : List ℕ) (h : List Answered) → (known_of self.old.conn).holds path h
+            → Holding h (state over_memory conn)) }
+        ensures in_form { IfOk result (λ conn. (path : List ℕ) (h : List Answered)
+            → (known_of self.old.conn).holds_in_form path h → HoldingInSomeForm h (state over_memory conn)) }
+        ensures none { IfOk result (λ conn. (path : List ℕ) → (known_of self.old.conn).is_new path
+            → HasNone (state over_memory conn)) }
         ensures err { OnErr result (self.new ≡ self.old) }
     {
         match &self.conn {
@@ -61,11 +65,11 @@ impl Databases for MemoryDatabase {
     ) -> Result<Answers, AllocError> {
         match self.taken() {
             Ok(conn) => {
-                let (told, conn) = answer_on(alloc, conn, script, arrivals, progress);
+                let (reported, conn) = answer_on(alloc, conn, script, arrivals, progress);
                 self.conn = Some(conn);
-                told
+                reported
             }
-            Err(lost) => Ok(lost_at_once(alloc, lost)),
+            Err(lost) => Ok(nothing_answered(alloc, lost)),
         }
     }
 
@@ -73,7 +77,7 @@ impl Databases for MemoryDatabase {
         &mut self,
         alloc: Global,
         _path: &str,
-        question: &Question,
+        question: &Look,
     ) -> Result<Option<Vec<u8>>, Lost> {
         let conn = self.taken()?;
         let (shown, conn) = look_on(alloc, conn, question);

@@ -2,13 +2,14 @@
 ghost use Rattle.std.specs.Prelude.{◌≡◌, ◌↔◌};
 ghost use Rattle.std.specs.IoError.{error_kind};
 
-use super::{FileFault, FileSource, StandardInput};
+use super::{FileSource, PathFault, StandardInput};
 use std::alloc::Global;
 use std::fs::File;
 use std::io::{self, ErrorKind, Input, Read};
 use std::rt::Files;
 
-/// The machine's files and its standard input, as the runtime opens them. Nothing is known of them before they are read.
+/// The machine's files and its standard input, as the runtime opens them. Nothing is known of them before they are
+/// read.
 #[derive(Clone, Copy)]
 pub struct HostFiles<'r, R> {
     /// The runtime.
@@ -20,14 +21,14 @@ impl<R: Files> FileSource for HostFiles<'_, R> {
 
     ghost held = { λ _ _. unknown };
 
-    fn read(&self, alloc: Global, path: &str) -> Result<Vec<u8>, FileFault> {
+    fn read(&self, alloc: Global, path: &str) -> Result<Vec<u8>, PathFault> {
         let mut file = match File::open(self.rt, path) {
             Ok(file) => file,
             Err(error) => return Err(fault_of(&error)),
         };
         let mut bytes = match Vec::with_capacity(alloc, length_of(self.rt, path)) {
             Ok(bytes) => bytes,
-            Err(_) => return Err(FileFault::Memory),
+            Err(_) => return Err(PathFault::Memory),
         };
         match file.read_to_end(&mut bytes) {
             Ok(_) => Ok(bytes),
@@ -49,7 +50,7 @@ impl<R: Input> StandardInput for HostFiles<'_, R> {
 
     ghost given = { λ _. unknown };
 
-    fn read_input(&self, alloc: Global) -> Result<Vec<u8>, FileFault> {
+    fn read_input(&self, alloc: Global) -> Result<Vec<u8>, PathFault> {
         let mut input = self.rt.reader();
         let mut bytes = Vec::new(alloc);
         match input.read_to_end(&mut bytes) {
@@ -60,12 +61,12 @@ impl<R: Input> StandardInput for HostFiles<'_, R> {
 }
 
 /// Why a file can't be read: out of memory, or any other reason.
-fn fault_of(error: &io::Error) -> FileFault
-    ensures { (result ≡ FileFault.Memory) ↔ (error_kind error.now ≡ ErrorKind.OutOfMemory) }
+fn fault_of(error: &io::Error) -> PathFault
+    ensures { (result ≡ PathFault.Memory) ↔ (error_kind error.now ≡ ErrorKind.OutOfMemory) }
 {
     if matches!(error.kind(), ErrorKind::OutOfMemory) {
-        FileFault::Memory
+        PathFault::Memory
     } else {
-        FileFault::Unreadable
+        PathFault::Unreadable
     }
 }

@@ -3,7 +3,7 @@ ghost use Rattle.std.specs.Prelude.{IfErr, IfOk};
 ghost use Rattle.office_script.specs.Files.{FailsWith, Gives, Holding};
 ghost use Rattle.canoffice_cli.specs.Holding.{source_at};
 
-use super::{FileFault, FileSource};
+use super::{FileSource, PathFault};
 use std::alloc::Global;
 
 /// Where standard input can be read.
@@ -15,7 +15,7 @@ pub trait StandardInput {
     ///
     /// If the bytes are known, it gives exactly these, and fails only if memory runs out. If it is known that standard
     /// input can't be read, it fails.
-    fn read_input(&self, alloc: Global) -> Result<Vec<u8>, FileFault>
+    fn read_input(&self, alloc: Global) -> Result<Vec<u8>, PathFault>
         ensures bytes { IfOk result (λ v. Gives (given self.now) v.items) }
         ensures fault { IfErr result (FailsWith (given self.now)) };
 }
@@ -26,7 +26,7 @@ pub fn bytes_at<F: FileSource + StandardInput>(
     alloc: Global,
     files: &F,
     word: &str,
-) -> Result<Vec<u8>, FileFault>
+) -> Result<Vec<u8>, PathFault>
     ensures bytes { IfOk result (λ v. Gives (source_at (F.held files.now) (F.given files.now) word.now) v.items) }
     ensures fault { IfErr result (FailsWith (source_at (F.held files.now) (F.given files.now) word.now)) }
 {

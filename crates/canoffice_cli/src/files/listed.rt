@@ -2,7 +2,7 @@
 ghost use Rattle.std.specs.Prelude.{◌≡◌, find, option_map};
 ghost use Rattle.std.specs.Str.{bytes_eq};
 
-use super::{FileFault, FileSource, StandardInput};
+use super::{FileSource, PathFault, StandardInput};
 use std::alloc::Global;
 
 /// The bytes of a file, and the path that names it.
@@ -28,13 +28,13 @@ impl FileSource for ListedFiles<'_> {
 
     ghost held = { λ s path. file_at s.files.now path };
 
-    fn read(&self, alloc: Global, path: &str) -> Result<Vec<u8>, FileFault> {
+    fn read(&self, alloc: Global, path: &str) -> Result<Vec<u8>, PathFault> {
         match first_at(self.files, path) {
             Some(file) => match Vec::from_slice(alloc, file.bytes) {
                 Ok(bytes) => Ok(bytes),
-                Err(_) => Err(FileFault::Memory),
+                Err(_) => Err(PathFault::Memory),
             },
-            None => Err(FileFault::Unreadable),
+            None => Err(PathFault::Unreadable),
         }
     }
 }
@@ -44,10 +44,10 @@ impl StandardInput for ListedFiles<'_> {
 
     ghost given = { λ s. holding s.input.now };
 
-    fn read_input(&self, alloc: Global) -> Result<Vec<u8>, FileFault> {
+    fn read_input(&self, alloc: Global) -> Result<Vec<u8>, PathFault> {
         match Vec::from_slice(alloc, self.input) {
             Ok(bytes) => Ok(bytes),
-            Err(_) => Err(FileFault::Memory),
+            Err(_) => Err(PathFault::Memory),
         }
     }
 }

@@ -155,8 +155,8 @@ fn removed<S: Alter>(tx: &mut Transaction<'_, S>) -> Result<[usize; 9], Error> {
     ])
 }
 
-/// Removes a message of the network of the short name, and all rows of `message`, of which one was removed before, and of
-/// `profile`. An error where a number of rows is wrong.
+/// Removes a message of the network of the short name, and all rows of `message`, of which one was removed before, and
+/// of `profile`. An error where a number of rows is wrong.
 pub(crate) fn clear_signals<S: Alter>(tx: &mut Transaction<'_, S>) -> Result<(), Error> {
     if removed(tx)? == [1, 2, 1, 1, 2, 1, 1, 5, 1] {
         Ok(())

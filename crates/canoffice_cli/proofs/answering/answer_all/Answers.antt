@@ -4,7 +4,7 @@ use Rattle.sqlite.specs.Held.{state}
 use Rattle.sqlite.specs.State.{HasCleanDisk}
 use Rattle.store.specs.Holding.{Holding}
 use Rattle.office_history.specs.History.{IsLegalHistory}
-use Rattle.canoffice_cli.proofs.Told.{held_is_legal, history_at_first, history_so_far, told_next}
+use Rattle.canoffice_cli.proofs.Reported.{held_is_legal, history_at_first, history_so_far, reported_next}
 use Rattle.canoffice_cli.proofs.answering.answer_all.Goals as goal
 
 pub loop-arrival-init : goal.loop-arrival-init
@@ -43,7 +43,7 @@ loop-arrival-preserved g c =
       clean = let early = i.clean in omega (arith, early, arrive.clean);
       held = λ clean h holding.
           let early : HasCleanDisk mid = omega (arith, arrive.clean, clean) in
-          told_next (λ k. Holding k now) h arrivals at items _ item c.in-Ok.answer within next i.each c.push_reserved.ensures.items (arrive.answered clean _ (i.held early h holding)).0;
+          reported_next (λ k. Holding k now) h arrivals at items _ item c.in-Ok.answer within next i.each c.push_reserved.ensures.items (arrive.answered clean _ (i.held early h holding)).0;
     }
 
 pub returns-in-Err-clause-held : goal.returns-in-Err-clause-held

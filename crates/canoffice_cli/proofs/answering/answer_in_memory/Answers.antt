@@ -2,7 +2,7 @@ use Rattle.std.proofs.Common.{◌≡◌, ◌+◌, ◌<◌, ◌++◌, ◌∷◌, 
 use Rattle.std.proofs.lemmas.List.{take_more}
 use Rattle.office_keyed.specs.Keyed.{Holds}
 use Rattle.office_history.specs.History.{IsLegalHistory}
-use Rattle.canoffice_cli.proofs.Told.{history_at_first, history_so_far, told_next}
+use Rattle.canoffice_cli.proofs.Reported.{history_at_first, history_so_far, reported_next}
 use Rattle.canoffice_cli.proofs.answering.answer_in_memory.Goals as goal
 
 pub loop-arrival-init : goal.loop-arrival-init
@@ -33,7 +33,7 @@ loop-arrival-preserved g c =
       len = let len = i.len in let more = c.push_reserved.ensures.len in omega (arith, len, more);
       room = let room = i.room in let same = c.push_reserved.ensures.capacity in omega (arith, room, same);
       each = let each = i.each in let one = length-append items (c.in-Ok.answer ∷ []) in ap length c.push_reserved.ensures.items ∙ omega (arith, each, one);
-      held = told_next (λ k. Holds k now) [] arrivals at items _ item c.in-Ok.answer within next i.each c.push_reserved.ensures.items (c.in-Ok.ensures.held _ i.held);
+      held = reported_next (λ k. Holds k now) [] arrivals at items _ item c.in-Ok.answer within next i.each c.push_reserved.ensures.items (c.in-Ok.ensures.held _ i.held);
     }
 
 pub returns-in-Err-clause-goes_on : goal.returns-in-Err-clause-goes_on

@@ -1,6 +1,6 @@
 use Rattle.std.proofs.Common.{◌∙◌, inl, not, ap}
 use Rattle.sqlite.specs.Held.{state}
-use Rattle.canoffice_cli.proofs.Told.{begins_held, still_held}
+use Rattle.canoffice_cli.proofs.Reported.{begins_held, still_held}
 use Rattle.canoffice_cli.proofs.answering.office_on.Goals as goal
 
 pub returns-in-Ok-clause-begun : goal.returns-in-Ok-clause-begun

@@ -2,7 +2,7 @@ use Rattle.std.proofs.Common.{◌∙◌, Some, List, ap, map, option_map, refl, 
 use Rattle.std.specs.Borrow.{Bor}
 use Rattle.std.specs.Option.{option_and_then}
 use Rattle.clap.specs.Words.{Text, found_of}
-use Rattle.chart.specs.Word.{length_of}
+use Rattle.views.specs.Word.{length_of}
 use Rattle.canoffice_cli.proofs.CommandLine.{optional_in_rows, values_in_rows}
 use Rattle.canoffice_cli.proofs.job.chart_job.Goals as goal
 

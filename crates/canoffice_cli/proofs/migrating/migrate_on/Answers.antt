@@ -1,7 +1,7 @@
 use Rattle.std.proofs.Common.{◌≡◌, ◌∙◌, inl, not, ap}
 use Rattle.sqlite.specs.Held.{state}
 use Rattle.store.proofs.InForm.{in_form}
-use Rattle.canoffice_cli.proofs.Told.{still_held, still_in_form}
+use Rattle.canoffice_cli.proofs.Reported.{still_held, still_in_form}
 use Rattle.canoffice_cli.proofs.migrating.migrate_on.Goals as goal
 
 pub returns-in-Ok-clause-carried : goal.returns-in-Ok-clause-carried

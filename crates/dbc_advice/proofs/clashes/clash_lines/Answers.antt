@@ -1,7 +1,7 @@
 use Rattle.std.proofs.Common.{ℕ, List, ◌++◌, ap, ◌∙◌}
 use Rattle.dbc_advice.specs.Clashes.{IsClashLine}
 use Rattle.dbc_advice.specs.declared.reasons.Reason.{Reason}
-use Rattle.dbc_advice.proofs.ToldLines.{line_after}
+use Rattle.dbc_advice.proofs.ReportedLines.{line_after}
 use Rattle.dbc_advice.proofs.clashes.clash_lines.Goals as goal
 
 pub loop-reason-preserved : goal.loop-reason-preserved

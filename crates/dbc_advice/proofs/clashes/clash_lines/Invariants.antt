@@ -1,6 +1,6 @@
 use Rattle.std.proofs.Common.{take}
 use Rattle.dbc_advice.specs.Clashes.{IsClashLine}
-use Rattle.dbc_advice.specs.ToldLine.{AreLinesOf}
+use Rattle.dbc_advice.specs.ReportedLine.{AreLinesOf}
 use Rattle.dbc_advice.specs.declared.reasons.Reason.{Reason}
 use Rattle.dbc_advice.proofs.clashes.clash_lines.Given as goal
 

@@ -1,11 +1,11 @@
 use Rattle.std.proofs.Common.{ℕ, List, ◌++◌, ap, subst, ◌∙◌}
 use Rattle.dbc_advice.specs.Explained.{AreFaultLines}
-use Rattle.dbc_advice.specs.declared.telling.Told.{Told}
+use Rattle.dbc_advice.specs.declared.telling.Reported.{Reported}
 use Rattle.dbc_advice.proofs.explaining.explained.Goals as goal
 
 pub returns : goal.returns
 returns c =
-    let P : List Told → Type 0 = λ told. AreFaultLines c.args.source.name.now c.args.source.text.now told c.in_ok-lines.lines.items in
+    let P : List Reported → Type 0 = λ reported. AreFaultLines c.args.source.name.now c.args.source.text.now reported c.in_ok-lines.lines.items in
     record {
       telling = c.in_ok-telling.telling;
       is = c.in_ok-telling.ensures;

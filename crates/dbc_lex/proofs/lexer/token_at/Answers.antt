@@ -1,5 +1,5 @@
 use Rattle.std.proofs.Common.{◌<◌, length, refl, sym, ◌∙◌, arith}
-use Rattle.catalogue.specs.Lexing.{StrayByte, UnclosedText}
+use Rattle.dbc_grammar.specs.Lexing.{StrayByte, UnclosedText}
 use Rattle.dbc_lex.proofs.Ends.{kind_there, stray_here, there_if_kind, token_here, unclosed_here}
 use Rattle.dbc_lex.proofs.lexer.token_at.Goals as goal
 

@@ -1,5 +1,5 @@
 use Rattle.std.proofs.Common.{◌≢◌, false, get_or, drop, rules, arith, eq-eqb}
-use Rattle.catalogue.specs.Lexing.{inside_len}
+use Rattle.dbc_grammar.specs.Lexing.{inside_len}
 use Rattle.dbc_lex.specs.Offset.{further_by}
 use Rattle.dbc_lex.proofs.Insides.{at_quote, at_end, past_backslash, past_other}
 use Rattle.dbc_lex.proofs.spelling.closing_quote.Goals as goal

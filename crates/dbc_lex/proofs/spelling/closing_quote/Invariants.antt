@@ -1,5 +1,5 @@
 use Rattle.std.proofs.Common.{◌≡◌, ◌-◌, false, length, drop}
-use Rattle.catalogue.specs.Lexing.{inside_len}
+use Rattle.dbc_grammar.specs.Lexing.{inside_len}
 use Rattle.dbc_lex.specs.Offset.{further_by}
 use Rattle.dbc_lex.proofs.spelling.closing_quote.Given as goal
 

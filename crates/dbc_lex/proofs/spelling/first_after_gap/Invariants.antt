@@ -1,6 +1,6 @@
 use Rattle.std.proofs.Common.{◌≡◌, ◌+◌, ◌≤◌, ◌-◌, length, drop}
 use Rattle.std.specs.List.{prefix_len}
-use Rattle.catalogue.specs.Spelling.{is_gap}
+use Rattle.dbc_grammar.specs.Spelling.{is_gap}
 use Rattle.dbc_lex.proofs.spelling.first_after_gap.Given as goal
 
 abbrev pub invariant-loop-end : goal.invariant-loop-end

@@ -3,7 +3,7 @@ use Rattle.std.proofs.lemmas.Option.{IfSome_then}
 use Rattle.std.proofs.lemmas.Result.{err_from_is_err_and}
 use Rattle.dbc_statements.proofs.WholeText.{is_divided, no_division}
 use Rattle.dbc_read.proofs.DefinitionsAlone.{fault_is_found, fault_of_text}
-use Rattle.dbc_read.proofs.Divided.{all_tokens, no_tokens_left, said_at}
+use Rattle.dbc_read.proofs.Divided.{all_tokens, no_tokens_left, stated_at}
 use Rattle.dbc_read.proofs.FaultsAt.{none_weaker}
 use Rattle.dbc_read.proofs.definitions.fault_of_definitions.Goals as goal
 
@@ -24,20 +24,20 @@ pub returns-in-None-clause-many : goal.returns-in-None-clause-many
 returns-in-None-clause-many c =
     let source = c.definitions_of-read.ensures.source ∙ c.of-statements.ensures.source in
     let read = all_tokens c.args.source.now c.definitions_of-read.new.statements.source c.of-statements.result.tokens c.of-statements.ensures.tokens source c.in_ok-token_fault.ensures.ok in
-    λ never said divided. (rw c.in-None.is at c.in_ok-gathered.ensures.many) said (said_at c.args.source.now c.of-statements.result.tokens read said divided)
+    λ never stated divided. (rw c.in-None.is at c.in_ok-gathered.ensures.many) stated (stated_at c.args.source.now c.of-statements.result.tokens read stated divided)
 
 pub returns-in_ok-fault-in-Some-clause-fault : goal.returns-in_ok-fault-in-Some-clause-fault
 returns-in_ok-fault-in-Some-clause-fault c =
     let of = rw c.in-Some.is at c.in_ok-gathered.ensures.ok in
     let source = c.definitions_of-read.ensures.source ∙ c.of-statements.ensures.source in
     let read = all_tokens c.args.source.now c.definitions_of-read.new.statements.source c.of-statements.result.tokens c.of-statements.ensures.tokens source c.in_ok-token_fault.ensures.ok in
-    let divided = is_divided c.args.source.now c.of-statements.result.tokens read of.said of.read in
-    IfSome_then c.in_ok-fault-in-Some.fault c.in_ok-fault-in-Some.ensures.fault (λ fault is. fault_of_text of.said c.in-Some.gathered of.are c.args.source.now divided of.few fault is)
+    let divided = is_divided c.args.source.now c.of-statements.result.tokens read of.stated of.read in
+    IfSome_then c.in_ok-fault-in-Some.fault c.in_ok-fault-in-Some.ensures.fault (λ fault is. fault_of_text of.stated c.in-Some.gathered of.are c.args.source.now divided of.few fault is)
 
 pub returns-in_ok-fault-in-Some-clause-many : goal.returns-in_ok-fault-in-Some-clause-many
 returns-in_ok-fault-in-Some-clause-many c =
     let of = rw c.in-Some.is at c.in_ok-gathered.ensures.ok in
     let source = c.definitions_of-read.ensures.source ∙ c.of-statements.ensures.source in
     let read = all_tokens c.args.source.now c.definitions_of-read.new.statements.source c.of-statements.result.tokens c.of-statements.ensures.tokens source c.in_ok-token_fault.ensures.ok in
-    let divided = is_divided c.args.source.now c.of-statements.result.tokens read of.said of.read in
-    none_weaker c.in_ok-fault-in-Some.fault _ _ (λ defined never. absurd (fault_is_found of.said c.in-Some.gathered of.are c.args.source.now divided of.few never defined)) c.in_ok-fault-in-Some.ensures.none
+    let divided = is_divided c.args.source.now c.of-statements.result.tokens read of.stated of.read in
+    none_weaker c.in_ok-fault-in-Some.fault _ _ (λ defined never. absurd (fault_is_found of.stated c.in-Some.gathered of.are c.args.source.now divided of.few never defined)) c.in_ok-fault-in-Some.ensures.none

@@ -1,6 +1,6 @@
 use Rattle.std.proofs.Common.{◌≡◌, ◌∙◌, [], ap, length, replicate, subst, sym}
 use Rattle.std.proofs.lemmas.List.{length-map}
-use Rattle.catalogue.specs.Saying.{node_names_of, numbers_of, signal_keys_of}
+use Rattle.dbc_grammar.specs.Saying.{node_names_of, numbers_of, signal_keys_of}
 use Rattle.catalogue.specs.declared.value_type.ValueType.TheVariants.{Integer}
 use Rattle.dbc_read.specs.Gathered.{IsNothing}
 use Rattle.dbc_read.specs.Gathering.{with_empty, with_nothing_attached}

@@ -1,7 +1,7 @@
 use Rattle.std.proofs.Common.{◌≡◌, ◌++◌, drop, map}
 use Rattle.can_id.specs.Ident.{dbc_number}
-use Rattle.catalogue.specs.Saying.{keys_of}
-use Rattle.catalogue.specs.Statement.{SignalLine}
+use Rattle.dbc_grammar.specs.Saying.{keys_of}
+use Rattle.dbc_grammar.specs.Statement.{SignalLine}
 use Rattle.dbc_read.specs.Keys.{key_of}
 use Rattle.dbc_statements.specs.Statement.{message_of, signals_of}
 use Rattle.dbc_read.proofs.keys.add_keys.Given as goal

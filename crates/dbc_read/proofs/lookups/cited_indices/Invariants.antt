@@ -1,5 +1,5 @@
 use Rattle.std.proofs.Common.{◌++◌, ℕ, List, Option, drop}
-use Rattle.catalogue.specs.Statement as says
+use Rattle.dbc_grammar.specs.Statement as says
 use Rattle.dbc_read.specs.Lookups.{AreCitedIndices, AreLookups}
 use Rattle.dbc_statements.specs.Statement.{statements_of}
 use Rattle.dbc_read.proofs.lookups.cited_indices.Given as goal

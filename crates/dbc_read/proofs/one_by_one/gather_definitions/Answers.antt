@@ -1,6 +1,6 @@
 use Rattle.std.proofs.Common.{◌≡◌, ◌∙◌, ◌++◌, false, [], ◌∷◌, None, ap, refl, subst, sym}
 use Rattle.std.proofs.lemmas.Result.{err_from_is_err_and}
-use Rattle.catalogue.specs.Statement as says
+use Rattle.dbc_grammar.specs.Statement as says
 use Rattle.dbc_read.specs.Gathered.{passed_of}
 use Rattle.dbc_read.specs.Gathering.{AreBare, IsDefining, cites}
 use Rattle.dbc_read.specs.declared.gathered.Gathered.{Gathered}
@@ -25,9 +25,9 @@ statements-preserved c =
     record {
       source = c.read_next.ensures.source ∙ at.invariant.source;
       read = one_read _ _ (statement_of next) c.args.statements.now.tokens at.statements.tokens c.read_next.new.self.tokens (rw c.in-Some.is at c.in_ok-next.ensures.next)
-          (λ said h begun.
-          subst (λ (s : says.Statement). IsDefining (said ++ s ∷ []) c.gather_statement.new.gathered) c.without_places.ensures.says
-          (one_defined said kept at.gathered c.gather_statement.new.gathered cites_none c.in_ok-gather_statement.ensures (h begun))) at.invariant.read;
+          (λ stated h begun.
+          subst (λ (s : says.Statement). IsDefining (stated ++ s ∷ []) c.gather_statement.new.gathered) c.without_places.ensures.says
+          (one_defined stated kept at.gathered c.gather_statement.new.gathered cites_none c.in_ok-gather_statement.ensures (h begun))) at.invariant.read;
       bare = λ h. subst (λ (g : Gathered). AreBare g.messages) (sym c.in_ok-gather_statement.ensures)
           (bare_after None (passed_of kept) kept.content at.gathered (c.without_places.ensures.nothing (rw c.in-Some.is at c.in_ok-next.ensures.nothing)) (at.invariant.bare h));
     }
@@ -36,15 +36,15 @@ pub returns-in_err-next-clause-err : goal.returns-in_err-next-clause-err
 returns-in_err-next-clause-err c =
     let at = c.statements in
     let p = err_from_is_err_and c.from_residual.result c.from_residual.ensures.1 in
-    rw (p.1, p.2) (λ memory. begin_without at.invariant.read.said c.args.statements.now.tokens at.statements.tokens at.invariant.read.read (c.in_err-next.ensures.err memory))
+    rw (p.1, p.2) (λ memory. begin_without at.invariant.read.stated c.args.statements.now.tokens at.statements.tokens at.invariant.read.read (c.in_err-next.ensures.err memory))
 
 pub returns-then-cites-clause-ok : goal.returns-then-cites-clause-ok
 returns-then-cites-clause-ok c =
     let at = c.statements in
     let begun = at.invariant.read in
     record {
-      said = begun.said;
-      read = begin_with_more begun.said (statement_of c.in-Some.next) c.args.statements.now.tokens at.statements.tokens c.read_next.new.self.tokens begun.read (rw c.in-Some.is at c.in_ok-next.ensures.next);
+      stated = begun.stated;
+      read = begin_with_more begun.stated (statement_of c.in-Some.next) c.args.statements.now.tokens at.statements.tokens c.read_next.new.self.tokens begun.read (rw c.in-Some.is at c.in_ok-next.ensures.next);
       cites = sym c.cites.ensures ∙ c.if-cites.true;
       gathered = begun.is;
     }
@@ -55,8 +55,8 @@ returns-clause-ok c =
     let begun = at.invariant.read in
     let same : c.read_next.new.self ≡ at.statements = rw c.in_default.is at c.in_ok-next.ensures.last in
     record {
-      said = begun.said;
-      read = begin_with_nothing begun.said c.args.statements.now.tokens at.statements.tokens c.read_next.new.self.tokens (ap (λ (s : Left). s.tokens) same) begun.read;
+      stated = begun.stated;
+      read = begin_with_nothing begun.stated c.args.statements.now.tokens at.statements.tokens c.read_next.new.self.tokens (ap (λ (s : Left). s.tokens) same) begun.read;
       cites = tt;
       gathered = begun.is;
     }

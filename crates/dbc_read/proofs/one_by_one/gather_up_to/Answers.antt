@@ -20,7 +20,7 @@ pub returns-in_err-settled-clause-err : goal.returns-in_err-settled-clause-err
 returns-in_err-settled-clause-err c =
     let begun = c.in_ok-first.ensures.ok in
     let p = err_from_is_err_and c.from_residual-in_err-settled.result c.from_residual-in_err-settled.ensures.1 in
-    rw (p.1, p.2) (λ memory. begin_without (begun.said ++ one_or_none c.in_ok-first.first) c.args.statements.now.tokens c.gather_definitions.new.statements.tokens begun.read (c.in_err-settled.ensures.err memory))
+    rw (p.1, p.2) (λ memory. begin_without (begun.stated ++ one_or_none c.in_ok-first.first) c.args.statements.now.tokens c.gather_definitions.new.statements.tokens begun.read (c.in_err-settled.ensures.err memory))
 
 pub returns-clause-ok : goal.returns-clause-ok
 returns-clause-ok c =

@@ -23,11 +23,11 @@ returns-in-Some-All-clause-ok c =
     let source = c.gathered_one_by_one-read.ensures.source ∙ c.of-statements.ensures.source in
     let read = all_tokens c.args.source.now c.gathered_one_by_one-read.new.statements.source c.of-statements.result.tokens c.of-statements.ensures.tokens source c.in_ok-token_fault.ensures.ok in
     let of = rw c.in-Some-All.field-0-is at (rw c.in-Some-All.is at c.in_ok-found.ensures.ok) in
-    record { said = of.said; divided = is_divided c.args.source.now c.of-statements.result.tokens read of.said of.read; gathered = of.gathered }
+    record { stated = of.stated; divided = is_divided c.args.source.now c.of-statements.result.tokens read of.stated of.read; gathered = of.gathered }
 
 pub returns-else-is_some-clause-ok : goal.returns-else-is_some-clause-ok
 returns-else-is_some-clause-ok c =
     let source = c.gathered_one_by_one-read.ensures.source ∙ c.of-statements.ensures.source in
     let read = all_tokens c.args.source.now c.gathered_one_by_one-read.new.statements.source c.of.result.tokens c.of.ensures.tokens source c.in_ok-token_fault.ensures.ok in
     IfOk-weaker c.gathered_again.result _ _ (λ found all.
-    IfSome_then found all (λ g of. record { said = of.said; divided = is_divided c.args.source.now c.of.result.tokens read of.said of.read; gathered = of.gathered })) c.gathered_again.ensures.ok
+    IfSome_then found all (λ g of. record { stated = of.stated; divided = is_divided c.args.source.now c.of.result.tokens read of.stated of.read; gathered = of.gathered })) c.gathered_again.ensures.ok

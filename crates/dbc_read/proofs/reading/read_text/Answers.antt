@@ -22,7 +22,7 @@ returns-in_err-fault-in-None-clause-none c =
 pub returns-in-Some-2-clause-none : goal.returns-in-Some-2-clause-none
 returns-in-Some-2-clause-none c =
     let found = rw c.in-Some-2.is at c.in_ok-fault-in-None.ensures.fault in
-    λ memory. reads_none_at c.args.source.now found.of.said found.of.divided found.gathered found.of.gathered c.in-Some-2.fault (faults.definition found.is)
+    λ memory. reads_none_at c.args.source.now found.of.stated found.of.divided found.gathered found.of.gathered c.in-Some-2.fault (faults.definition found.is)
 
 pub returns-in_err-fault-in-None-clause-faults : goal.returns-in_err-fault-in-None-clause-faults
 returns-in_err-fault-in-None-clause-faults c =

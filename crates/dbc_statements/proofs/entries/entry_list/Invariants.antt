@@ -1,7 +1,7 @@
 use Rattle.std.proofs.Common.{◌≡◌, length}
-use Rattle.catalogue.specs.Grammar.{is_open}
-use Rattle.catalogue.specs.Parsing.{with_front, many_at, entry_at, entries_at}
-use Rattle.catalogue.specs.Rules.{starts}
+use Rattle.dbc_grammar.specs.Grammar.{is_open}
+use Rattle.dbc_grammar.specs.Parsing.{with_front, many_at, entry_at, entries_at}
+use Rattle.dbc_grammar.specs.Rules.{starts}
 use Rattle.dbc_statements.proofs.entries.entry_list.Given as goal
 
 abbrev pub invariant-entries : goal.invariant-entries

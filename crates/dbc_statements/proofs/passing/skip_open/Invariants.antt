@@ -1,5 +1,5 @@
 use Rattle.std.proofs.Common.{length}
-use Rattle.catalogue.specs.Grammar.{is_open}
+use Rattle.dbc_grammar.specs.Grammar.{is_open}
 use Rattle.dbc_statements.specs.Skipping.{IsSkipping}
 use Rattle.dbc_statements.proofs.passing.skip_open.Given as goal
 

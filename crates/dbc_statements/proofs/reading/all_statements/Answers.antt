@@ -1,10 +1,10 @@
 use Rattle.std.proofs.Common.{List, [], ◌∷◌, inl, refl, ap}
 use Rattle.std.proofs.lemmas.List.{map-append}
 use Rattle.std.proofs.lemmas.Result.{err_from_is_err_and}
-use Rattle.catalogue.specs.Parsing.{many_at, is_more, statement_at}
-use Rattle.catalogue.specs.Statement.{Statement}
-use Rattle.catalogue.specs.Token.{Token}
-use Rattle.catalogue.proofs.Repeating.{statements_take, goes_round}
+use Rattle.dbc_grammar.specs.Parsing.{many_at, is_more, statement_at}
+use Rattle.dbc_grammar.specs.Statement.{Statement}
+use Rattle.dbc_grammar.specs.Token.{Token}
+use Rattle.dbc_grammar.proofs.Repeating.{statements_take, goes_round}
 use Rattle.dbc_lex.specs.Token.{token_of}
 use Rattle.dbc_statements.specs.Statement.{statements_of, statement_of}
 use Rattle.dbc_statements.proofs.Offsets.{first_reached, statement_within}

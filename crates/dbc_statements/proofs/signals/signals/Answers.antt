@@ -1,9 +1,9 @@
 use Rattle.std.proofs.Common.{sym, ◌∙◌}
-use Rattle.catalogue.specs.Fields.{is_key}
-use Rattle.catalogue.specs.Parsing.{many_at, signal_at, signals_at}
-use Rattle.catalogue.specs.Rules.{starts}
+use Rattle.dbc_grammar.specs.Fields.{is_key}
+use Rattle.dbc_grammar.specs.Parsing.{many_at, signal_at, signals_at}
+use Rattle.dbc_grammar.specs.Rules.{starts}
 use Rattle.catalogue.specs.declared.keyword.Keyword.TheVariants.{Signal}
-use Rattle.catalogue.proofs.Repeating.{signals_take}
+use Rattle.dbc_grammar.proofs.Repeating.{signals_take}
 use Rattle.dbc_statements.specs.Statement.{signals_of}
 use Rattle.dbc_statements.proofs.LoopRounds.{at_start, fewer, one_more}
 use Rattle.dbc_statements.proofs.signals.signals.Goals as goal

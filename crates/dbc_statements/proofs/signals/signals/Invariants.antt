@@ -1,7 +1,7 @@
 use Rattle.std.proofs.Common.{◌≡◌, length}
-use Rattle.catalogue.specs.Fields.{is_key}
-use Rattle.catalogue.specs.Parsing.{with_front, many_at, signal_at, signals_at}
-use Rattle.catalogue.specs.Rules.{starts}
+use Rattle.dbc_grammar.specs.Fields.{is_key}
+use Rattle.dbc_grammar.specs.Parsing.{with_front, many_at, signal_at, signals_at}
+use Rattle.dbc_grammar.specs.Rules.{starts}
 use Rattle.catalogue.specs.declared.keyword.Keyword.TheVariants.{Signal}
 use Rattle.dbc_statements.specs.Statement.{HaveNothingAttached, signals_of}
 use Rattle.dbc_statements.proofs.signals.signals.Given as goal

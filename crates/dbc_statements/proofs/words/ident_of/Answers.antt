@@ -5,8 +5,8 @@ use Rattle.can_id.specs.Ident.{IsIdentifier, dbc_number}
 use Rattle.can_id.specs.declared.fault.IdFault.{IdFault}
 use Rattle.can_id.specs.declared.fault.IdFault.TheVariants.{NotIdentifier}
 use Rattle.can_id.specs.declared.ident.Ident.{Ident}
-use Rattle.catalogue.specs.Fields.{ident_of}
-use Rattle.catalogue.proofs.Identifiers.{numbers_are_identifiers}
+use Rattle.dbc_grammar.specs.Fields.{ident_of}
+use Rattle.dbc_grammar.proofs.Identifiers.{numbers_are_identifiers}
 use Rattle.dbc_statements.proofs.words.ident_of.Goals as goal
 
 none : (n : ℕ) (o : Option Ident) → ident_of n ≡ o → ((ident : Ident) → IsIdentifier ident → dbc_number ident ≡ n → ⊥) → None ≡ o

@@ -1,6 +1,6 @@
 use Rattle.std.proofs.Common.{take}
 use Rattle.std.specs.List.{flat_map}
-use Rattle.catalogue.specs.Canon.{comment_lines, line_text, signal_pieces}
+use Rattle.dbc_grammar.specs.Canon.{comment_lines, line_text, signal_pieces}
 use Rattle.catalogue.specs.declared.signal.Signal.{Signal}
 use Rattle.dbc_write.specs.Adding.{Adds}
 use Rattle.dbc_write.proofs.comments.with_signals.Given as goal

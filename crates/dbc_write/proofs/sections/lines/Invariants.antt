@@ -1,6 +1,6 @@
 use Rattle.std.proofs.Common.{take}
 use Rattle.std.specs.List.{flat_map}
-use Rattle.catalogue.specs.Canon.{line_text}
+use Rattle.dbc_grammar.specs.Canon.{line_text}
 use Rattle.catalogue.specs.declared.message.Message.{Message}
 use Rattle.dbc_write.specs.Adding.{Adds}
 use Rattle.dbc_write.specs.Sections.{section_lines}

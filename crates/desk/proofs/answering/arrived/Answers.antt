@@ -3,7 +3,7 @@ use Rattle.sqlite.specs.Held.{state}
 use Rattle.desk_types.specs.declared.problem.Problem.TheVariants.{TryAgain}
 use Rattle.desk_call.specs.Call.{arrives, asking_seen}
 use Rattle.desk_reply.specs.Response.{answer_response, problem_response}
-use Rattle.desk.specs.Serving.{MayHaveTaken, Responds}
+use Rattle.desk.specs.Responding.{MayHaveTaken, Responds}
 use Rattle.desk.proofs.Responses.{arrived, follows_lost, may_answered, may_lost, on_err, on_text, try_again}
 use Rattle.desk.proofs.answering.arrived.Goals as goal
 
@@ -21,8 +21,8 @@ pub returns-in-Ok-clause-err : goal.returns-in-Ok-clause-err
 returns-in-Ok-clause-err g c clean h holds =
     let s = state g.S.Store c.arrive.new.self.conn in
     let a = asking_seen c.args.arrival.now in
-    let told = c.in-Ok.ensures.answered clean h holds in
-    on_err c.answer_response.result (MayHaveTaken h (arrives a) s) (may_answered h a c.in-Ok.answer s told.0 told.1)
+    let reported = c.in-Ok.ensures.answered clean h holds in
+    on_err c.answer_response.result (MayHaveTaken h (arrives a) s) (may_answered h a c.in-Ok.answer s reported.0 reported.1)
 
 pub returns-in-Err-clause-ok : goal.returns-in-Err-clause-ok
 returns-in-Err-clause-ok g c clean h holds =

@@ -3,7 +3,7 @@ use Rattle.sqlite.specs.Held.{state}
 use Rattle.desk_call.specs.Call.{fails, seen}
 use Rattle.desk_call.specs.declared.call.Call.{Call}
 use Rattle.desk_reply.specs.Response.{problem_response}
-use Rattle.desk.specs.Serving.{MayHaveTaken, Responds}
+use Rattle.desk.specs.Responding.{MayHaveTaken, Responds}
 use Rattle.desk.proofs.Responses.{fails_so, left_now, may_same, on_err, on_text}
 use Rattle.desk.proofs.answering.response_to.Goals as goal
 

@@ -3,21 +3,19 @@ use Rattle.sqlite.specs.Held.{state}
 use Rattle.office_types.specs.declared.state.Office.{Office}
 use Rattle.office_history.specs.History.{IsLegal}
 use Rattle.store.specs.Looking.{IsShown}
-use Rattle.store.specs.declared.question.Question.{Question}
 use Rattle.desk_types.specs.declared.problem.Problem.TheVariants.{NotFound, TryAgain}
 use Rattle.desk_call.specs.Call.{shows}
 use Rattle.desk_reply.specs.Response.{problem_response, text_response}
 use Rattle.desk_reply.specs.declared.responses.Content.{Content}
-use Rattle.desk.specs.Serving.{MayHaveTaken, Responds, content_of, question_of}
+use Rattle.desk.specs.Responding.{MayHaveTaken, Responds, content_of}
 use Rattle.desk.proofs.Responses.{follows_same, looked, may_lost, may_same, on_err, on_text, try_again}
 use Rattle.desk.proofs.answering.shown.Goals as goal
 
 pub returns-in-Ok-Some-clause-ok : goal.returns-in-Ok-Some-clause-ok
 returns-in-Ok-Some-clause-ok g c clean h holds =
     let s = state g.S.Store c.look.new.self.conn in
-    let shown : (office : Office) → IsLegal h office → IsShown office (question_of c.args.look) (Some c.in-Ok-Some.text.items) =
-    λ office legal. subst (λ (q : Question). IsShown office q (Some c.in-Ok-Some.text.items)) c.question_of-question.ensures
-    (rw c.in-Ok-Some.field-0-is at (c.in-Ok-Some.ensures.shown clean h office holds legal)) in
+    let shown : (office : Office) → IsLegal h office → IsShown office c.args.look (Some c.in-Ok-Some.text.items) =
+    λ office legal. rw c.in-Ok-Some.field-0-is at (c.in-Ok-Some.ensures.shown clean h office holds legal) in
     on_text (λ (v : Vec ℕ Global). v.items) c.text_response.result (text_response c.content_of-content.result c.deref.result.now) (λ t. Responds h (shows c.args.look) t s) c.text_response.ensures
     (subst (λ (k : Content). Responds h (shows c.args.look) (text_response k c.deref.result.now) s) (sym c.content_of-content.ensures)
     (subst (λ (l : List ℕ). Responds h (shows c.args.look) (text_response (content_of c.args.look) l) s) (sym c.deref.ensures.value)
@@ -26,9 +24,8 @@ returns-in-Ok-Some-clause-ok g c clean h holds =
 pub returns-in-Ok-None-clause-ok : goal.returns-in-Ok-None-clause-ok
 returns-in-Ok-None-clause-ok g c clean h holds =
     let s = state g.S.Store c.look.new.self.conn in
-    let shown : (office : Office) → IsLegal h office → IsShown office (question_of c.args.look) None =
-    λ office legal. subst (λ (q : Question). IsShown office q None) c.question_of-question.ensures
-    (rw c.in-Ok-None.field-0-is at (c.in-Ok-None.ensures.shown clean h office holds legal)) in
+    let shown : (office : Office) → IsLegal h office → IsShown office c.args.look None =
+    λ office legal. rw c.in-Ok-None.field-0-is at (c.in-Ok-None.ensures.shown clean h office holds legal) in
     on_text (λ (v : Vec ℕ Global). v.items) c.problem_response.result (problem_response NotFound) (λ t. Responds h (shows c.args.look) t s) c.problem_response.ensures
     (looked h c.args.look None s shown (c.in-Ok-None.ensures.held clean h holds) (c.in-Ok-None.ensures.left clean h holds))
 

@@ -3,7 +3,7 @@ use Rattle.std.proofs.lemmas.List.{take_rest}
 use Rattle.std.specs.Io.KnownBytes.{IsAtEnd}
 use Rattle.desk_types.specs.Moved.{Moves}
 use Rattle.desk_types.specs.declared.fault.DeskFault.TheVariants.{Read}
-use Rattle.desk_head.specs.Ahead.{ahead_of, body_size}
+use Rattle.desk_head.specs.Demand.{demand_of, body_size}
 use Rattle.desk_head.specs.Head.{IsHeadAt}
 use Rattle.desk_call.specs.Call.{call_of, seen}
 use Rattle.desk_call.proofs.Gives.{gives_request}
@@ -23,9 +23,9 @@ returns-in-Err-read_until-clause-read g c is_read =
     let read = c.in-Err-read_until.ensures.read (ap Err fault) in
     let second : Moves (left c.read_head.new.source) (left c.read_until.new.source) (drop spans.len got) rest =
     rw tail at read.0 in
-    let ahead : c.in-Ok.ahead ≡ ahead_of head.1.0 = c.in-Ok.ensures head.1.0 (rw c.deref.ensures.value head.1.2) in
-    let short : length rest < body_size (ahead_of head.1.0) =
-    rw (← ahead) (omega (arith, read.1, c.body_size.ensures, c.read_until.new.got.ok.0)) in
+    let demand : c.demand_at-demand.result ≡ demand_of head.1.0 = c.demand_at-demand.ensures head.1.0 (rw c.deref.ensures.value head.1.2) in
+    let short : length rest < body_size (demand_of head.1.0) =
+    rw (← demand) (omega (arith, read.1, c.body_size.ensures, c.read_until.new.got.ok.0)) in
     not_whole _ _ _ got (drop spans.len got) rest head.1.0 c.in-Ok-Some.ensures.moves second head.1.1 short
 
 pub returns-in-Ok-call_read-clause-ok : goal.returns-in-Ok-call_read-clause-ok
@@ -39,16 +39,16 @@ returns-in-Ok-call_read-clause-ok g c =
     rw (c.deref-2.ensures.value, take_rest got spans.len) at c.in-Ok-from_slice.ensures.items in
     let second : Moves (left c.read_head.new.source) (left c.read_until.new.source) (drop spans.len got) rest =
     rw tail at c.in-Ok-read_until.ensures.moves in
-    let ahead : c.in-Ok.ahead ≡ ahead_of head.1.0 = c.in-Ok.ensures head.1.0 (rw c.deref.ensures.value head.1.2) in
-    let end : (body_size (ahead_of head.1.0) ≤ length rest) ⊎ IsAtEnd (left c.read_until.new.source) =
+    let demand : c.demand_at-demand.result ≡ demand_of head.1.0 = c.demand_at-demand.ensures head.1.0 (rw c.deref.ensures.value head.1.2) in
+    let end : (body_size (demand_of head.1.0) ≤ length rest) ⊎ IsAtEnd (left c.read_until.new.source) =
     elim (either c.read_until.result c.in-Ok-read_until.field-0 c.in-Ok-read_until.is
     c.read_until.ensures.whole c.read_until.ensures.end) [
-      | inl a ↦ inl (rw (← ahead) (omega (arith, a, c.body_size.ensures, c.read_until.new.got.ok.0)))
+      | inl a ↦ inl (rw (← demand) (omega (arith, a, c.body_size.ensures, c.read_until.new.got.ok.0)))
       | inr e ↦ inr e.0
     ] in
     let is : seen c.in-Ok-call_read.call ≡ call_of head.1.0 rest =
     rw c.deref-4.ensures.value at
-    (c.in-Ok-call_read.ensures head.1.0 (rw c.deref-3.ensures.value head.1.2) ahead) in
+    (c.in-Ok-call_read.ensures head.1.0 (rw c.deref-3.ensures.value head.1.2) demand) in
     asks (left c.args.source.now) _ _ got (drop spans.len got) rest head.1.0 _
     c.in-Ok-Some.ensures.moves second head.1.1 is end
 
@@ -57,21 +57,21 @@ returns-in-Err-read_until-clause-most g c =
     let got = c.read_head.new.got.items in
     let head : IsHeadAt got c.read_head.new.headers c.in-Ok-Some.spans =
     rw c.in-Ok-Some.field-0-is at c.in-Ok-Some.ensures.head in
-    gives_request _ _ _ c.in-Ok.ahead head.1.0 _ _ c.read_head.ensures.most c.read_until.ensures.most c.body_size.ensures
-    (c.in-Ok.ensures head.1.0 (rw c.deref.ensures.value head.1.2))
+    gives_request _ _ _ c.demand_at-demand.result head.1.0 _ _ c.read_head.ensures.most c.read_until.ensures.most c.body_size.ensures
+    (c.demand_at-demand.ensures head.1.0 (rw c.deref.ensures.value head.1.2))
 
 pub returns-in-Ok-call_read-clause-most : goal.returns-in-Ok-call_read-clause-most
 returns-in-Ok-call_read-clause-most g c =
     let got = c.read_head.new.got.items in
     let head : IsHeadAt got c.read_head.new.headers c.in-Ok-Some.spans =
     rw c.in-Ok-Some.field-0-is at c.in-Ok-Some.ensures.head in
-    gives_request _ _ _ c.in-Ok.ahead head.1.0 _ _ c.read_head.ensures.most c.read_until.ensures.most c.body_size.ensures
-    (c.in-Ok.ensures head.1.0 (rw c.deref.ensures.value head.1.2))
+    gives_request _ _ _ c.demand_at-demand.result head.1.0 _ _ c.read_head.ensures.most c.read_until.ensures.most c.body_size.ensures
+    (c.demand_at-demand.ensures head.1.0 (rw c.deref.ensures.value head.1.2))
 
 pub returns-clause-most : goal.returns-clause-most
 returns-clause-most g c =
     let got = c.read_head.new.got.items in
     let head : IsHeadAt got c.read_head.new.headers c.in-Ok-Some.spans =
     rw c.in-Ok-Some.field-0-is at c.in-Ok-Some.ensures.head in
-    gives_request _ _ _ c.in-Ok.ahead head.1.0 _ _ c.read_head.ensures.most c.read_until.ensures.most c.body_size.ensures
-    (c.in-Ok.ensures head.1.0 (rw c.deref.ensures.value head.1.2))
+    gives_request _ _ _ c.demand_at-demand.result head.1.0 _ _ c.read_head.ensures.most c.read_until.ensures.most c.body_size.ensures
+    (c.demand_at-demand.ensures head.1.0 (rw c.deref.ensures.value head.1.2))

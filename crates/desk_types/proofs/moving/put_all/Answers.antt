@@ -7,14 +7,14 @@ use Rattle.desk_types.proofs.moving.put_all.Goals as goal
 
 pub loop-at-preserved : goal.loop-at-preserved
 loop-at-preserved g c =
-    let told = g.W.Sink.told in
+    let reported = g.W.Sink.reported in
     let text = c.args.text.now in
-    let both : Appends (told c.args.sink.now) (told c.put.new.self)
+    let both : Appends (reported c.args.sink.now) (reported c.put.new.self)
     (take c.loop-at.at text ++ take c.in-Ok.n (drop c.loop-at.at text)) =
-    Appends-trans _ _ _ _ _ c.loop-at.invariant.told (rw (take_rest text c.loop-at.at) at c.in-Ok.ensures.bytes) in
+    Appends-trans _ _ _ _ _ c.loop-at.invariant.reported (rw (take_rest text c.loop-at.at) at c.in-Ok.ensures.bytes) in
     record {
       within = omega (arith, c.in-Ok.ensures.within);
-      told = rw (take-add c.loop-at.at c.in-Ok.n text) both;
+      reported = rw (take-add c.loop-at.at c.in-Ok.n text) both;
       count = search rules;
     }
 
@@ -23,5 +23,5 @@ returns-in-Err-clause-front g c = (
   take c.loop-at.at c.args.text.now,
   drop c.loop-at.at c.args.text.now,
   sym (take-append-drop c.loop-at.at c.args.text.now),
-  Appends-kept _ _ _ _ c.loop-at.invariant.told c.in-Err.ensures.bytes,
+  Appends-kept _ _ _ _ c.loop-at.invariant.reported c.in-Err.ensures.bytes,
 )

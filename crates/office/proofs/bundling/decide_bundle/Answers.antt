@@ -37,13 +37,13 @@ returns-in-Some c =
     let before : NetAndBook = record { net = option_copied c.args.net; book = c.args.book.now } in
     let i = c.loop-part.part-index in
     let r = c.in-Some.refusal in
-    let told = c.refusal_decision-decision.ensures.reply in
+    let reported = c.refusal_decision-decision.ensures.reply in
     next_refused c.args.team.now c.args.name.now before c.args.parts.now i c.part-item.result c.loop-part.progress c.add_part.new.progress
     (next_is c.as_slice-part-items.result.now c.args.parts.now i c.part-item.result c.as_slice-part-items.ensures.things c.loop-part-test.true c.part-item.is)
     c.loop-part.invariant.1 r
     (subst (λ (o : Option Refusal). IsPartDecided c.args.team.now c.args.name.now c.part-item.result c.loop-part.progress c.add_part.new.progress o) c.in-Some.is c.in_ok-refusal.ensures)
     c.refusal_decision-decision.result c.refusal_decision-decision.ensures.changes
-    (told
+    (reported
     ∙ ap (λ (n : ℕ). Refused (no.BundleRefused (record { fault = n; at = c.loop-part.place + 1 }))) c.number.ensures
     ∙ ap (λ (k : ℕ). Refused (no.BundleRefused (record { fault = refusal_number r; at = k + 1 }))) c.loop-part.invariant.0)
 

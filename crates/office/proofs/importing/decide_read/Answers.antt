@@ -16,7 +16,7 @@ returns-in-Some c =
     let other = c.in-Some.ensures.other in
     let given = read_fault c.args.file.now c.in-Err.fault _ refl other (c.in-Err.ensures.none other) c.in-Err.ensures.within c.in-Err.ensures.tokens in
     record {
-      reading = Unreadable c.in-Some.told;
+      reading = Unreadable c.in-Some.reported;
       read = record { fault = c.in-Err.fault; given = given; tells = c.in-Some.ensures };
       decides = c.decide_unreadable.ensures c.args.team.now;
     }

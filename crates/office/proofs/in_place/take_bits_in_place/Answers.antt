@@ -2,7 +2,7 @@ use Rattle.std.proofs.Common.{◌∙◌, ap, sym, subst}
 use Rattle.std.specs.List.{position}
 use Rattle.std.specs.Str.{bytes_eq}
 use Rattle.office_types.specs.declared.state.LiveMessage.{LiveMessage}
-use Rattle.office_net.specs.Told.{message_facts_of}
+use Rattle.office_facts.specs.FactsOf.{message_facts_of}
 use Rattle.office_signals.specs.Adding.{IsNewSignal}
 use Rattle.office.proofs.InPlace.{bits_refused_there, bits_taken, fits_there, has_index, is_within}
 use Rattle.office.proofs.in_place.take_bits_in_place.Goals as goal

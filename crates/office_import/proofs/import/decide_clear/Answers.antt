@@ -7,7 +7,7 @@ use Rattle.office_types.specs.declared.refusal.Refusal.TheVariants as no
 use Rattle.office_types.specs.declared.state.Net.{Net}
 use Rattle.office_rules.specs.Importing.{Reading, import_sheet, import_tests, message_import_tests}
 use Rattle.office_import.specs.News.{CanWiden, HasRosters, frame_news}
-use Rattle.office_net.proofs.Deciding.{Decides-given, Decides-refused}
+use Rattle.office_facts.proofs.Deciding.{Decides-given, Decides-refused}
 use Rattle.office_import.proofs.Imported.{Decides-imported}
 use Rattle.office_import.proofs.Refused.{none_refused, refused_each, refused_last}
 use Rattle.office_import.proofs.Rostered.{can_widen}

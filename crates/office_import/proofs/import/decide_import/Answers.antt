@@ -3,7 +3,7 @@ use Rattle.office_types.specs.declared.book.SpnBook.{SpnBook}
 use Rattle.office_types.specs.declared.state.Net.{Net}
 use Rattle.office_rules.specs.Change.{Decides}
 use Rattle.office_rules.specs.Importing.{Reading, import, import_tests}
-use Rattle.office_net.proofs.Deciding.{Decides-refused}
+use Rattle.office_facts.proofs.Deciding.{Decides-refused}
 use Rattle.office_import.proofs.Refused.{refused_early}
 use Rattle.office_import.proofs.import.decide_import.Goals as goal
 

@@ -5,9 +5,9 @@ use Rattle.office_script.proofs.script.arrivals_of.Goals as goal
 
 pub loop-first-preserved : goal.loop-first-preserved
 loop-first-preserved g c =
-    let asked = c.in-Ok.ensures in
-    read_more (g.F.FileSource.held c.args.files.now) c.args.dash c.args.text.now c.loop-first.rest.now c.in-Some.first.rest.now c.in-Some.first.line.now c.loop-first.number c.loop-first.arrivals.items asked.0
-    c.add_arrivals.new.arrivals.items c.loop-first.invariant c.in-Some.ensures.next c.in-Some.ensures.shorter asked.1 asked.2
+    let requested = c.in-Ok.ensures in
+    read_more (g.F.FileSource.held c.args.files.now) c.args.dash c.args.text.now c.loop-first.rest.now c.in-Some.first.rest.now c.in-Some.first.line.now c.loop-first.number c.loop-first.arrivals.items requested.0
+    c.add_arrivals.new.arrivals.items c.loop-first.invariant c.in-Some.ensures.next c.in-Some.ensures.shorter requested.1 requested.2
 
 pub returns-in-Err-Unreadable-clause-fault : goal.returns-in-Err-Unreadable-clause-fault
 returns-in-Err-Unreadable-clause-fault g c =

@@ -4,7 +4,7 @@ use Rattle.std.proofs.lemmas.Result.{IfOk-weaker}
 use Rattle.office_types.specs.declared.state.Net.{Net}
 use Rattle.office_rules.specs.Change.{Decides}
 use Rattle.office_rules.specs.Numbers.{take_pgn}
-use Rattle.office_net.specs.By.{take_pgn_by}
+use Rattle.office_facts.specs.By.{take_pgn_by}
 use Rattle.office_take.proofs.groups.decide_take_pgn.Goals as goal
 
 pub returns-in-Some : goal.returns-in-Some

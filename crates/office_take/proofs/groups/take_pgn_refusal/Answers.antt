@@ -7,8 +7,8 @@ use Rattle.office_rules.specs.Facts.{blocks_of, is_j1939}
 use Rattle.office_rules.specs.Lists.{none_of}
 use Rattle.office_rules.specs.Numbers.{group_given, name_tests}
 use Rattle.office_rules.specs.Outcome.{when}
-use Rattle.office_net.proofs.Refusing.{first-held, first-later, first-passed, first-refused}
-use Rattle.office_take.specs.Told.{number_facts_of, refused_or_full}
+use Rattle.office_facts.proofs.Refusing.{first-held, first-later, first-passed, first-refused}
+use Rattle.office_take.specs.FactsOf.{number_facts_of, refused_or_full}
 use Rattle.office_take.proofs.Full.{first-full}
 use Rattle.office_take.proofs.groups.take_pgn_refusal.Goals as goal
 

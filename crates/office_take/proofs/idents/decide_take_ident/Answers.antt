@@ -4,7 +4,7 @@ use Rattle.std.proofs.lemmas.Result.{IfOk-weaker}
 use Rattle.office_types.specs.declared.state.Net.{Net}
 use Rattle.office_rules.specs.Change.{Decides}
 use Rattle.office_rules.specs.Numbers.{take_ident}
-use Rattle.office_net.specs.By.{take_ident_by}
+use Rattle.office_facts.specs.By.{take_ident_by}
 use Rattle.office_take.proofs.idents.decide_take_ident.Goals as goal
 
 pub returns-in-Some : goal.returns-in-Some

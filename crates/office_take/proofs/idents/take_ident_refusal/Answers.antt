@@ -7,8 +7,8 @@ use Rattle.office_rules.specs.Facts.{blocks_of}
 use Rattle.office_rules.specs.Lists.{none_of}
 use Rattle.office_rules.specs.Numbers.{name_tests, number_given, want_tests}
 use Rattle.office_rules.specs.Outcome.{when}
-use Rattle.office_net.proofs.Refusing.{first-held, first-later, first-passed, first-refused}
-use Rattle.office_take.specs.Told.{number_facts_of, refused_or_full}
+use Rattle.office_facts.proofs.Refusing.{first-held, first-later, first-passed, first-refused}
+use Rattle.office_take.specs.FactsOf.{number_facts_of, refused_or_full}
 use Rattle.office_take.proofs.idents.take_ident_refusal.Goals as goal
 
 pub returns-in-Some-clause-first : goal.returns-in-Some-clause-first

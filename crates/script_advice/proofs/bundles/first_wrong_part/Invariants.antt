@@ -6,7 +6,7 @@ use Rattle.script_advice.proofs.bundles.first_wrong_part.Given as goal
 -- the lines before are right
 abbrev pub invariant-loop-first : goal.invariant-loop-first
 invariant-loop-first l = record {
-  said : first_wrong_part l.path 1 (lines_of l.bytes) ≡ first_wrong_part l.path (l.number + 1) (lines_of l.rest);
+  stated : first_wrong_part l.path 1 (lines_of l.bytes) ≡ first_wrong_part l.path (l.number + 1) (lines_of l.rest);
   room : l.number + length l.rest ≤ length l.bytes;
 }
 

@@ -1,6 +1,6 @@
 use Rattle.std.proofs.Common.{◌≡◌, drop}
 use Rattle.std.specs.List.{list_any}
-use Rattle.store.specs.Counting.{is_retire}
+use Rattle.office_law.specs.Released.{is_retire}
 use Rattle.store.proofs.counting.one_retires.Given as goal
 
 -- none before is

@@ -25,5 +25,5 @@ returns-clause-decided g c clean office net book at in_book =
     let read = c.in_ok-net.net in
     let of_net : IsDecision team (record { net = read; book = c.in_ok-book.book }) command decision =
     subst (λ (n : Option Network). IsDecision team (record { net = n; book = c.in_ok-book.book }) command decision) c.as_ref.ensures.value c.in_ok-decision.ensures.decision in
-    net_counted c.releases_dont_count.ensures team command decision net read book c.in_ok-next.next c.requires (c.in_ok-net.ensures.found clean1 office net at)
+    net_counted c.bodies_dont_count.ensures team command decision net read book c.in_ok-next.next c.requires (c.in_ok-net.ensures.found clean1 office net at)
     (c.in_ok-next.ensures ∙ ap next_number c.as_ref-2.ensures.value) (subst (λ (b : Book). IsDecision team (record { net = read; book = b }) command decision) book_is of_net)

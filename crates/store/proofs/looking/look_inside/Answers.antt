@@ -1,10 +1,10 @@
 use Rattle.std.proofs.Common.{Some, ap, subst, sym}
 use Rattle.store.specs.Looking.{IsShown}
-use Rattle.store.specs.declared.question.Question.{Question}
+use Rattle.office_types.specs.declared.look.Look.{Look}
 use Rattle.store.proofs.looking.look_inside.Goals as goal
 
 pub returns-in_ok-nets_text-in-Nets-clause-found : goal.returns-in_ok-nets_text-in-Nets-clause-found
 returns-in_ok-nets_text-in-Nets-clause-found g c clean office h holds =
     let kept = c.histories_leave_offices.ensures.kept h holds.holds.office holds.holds.in_range holds.holds.legal in
-    subst (λ (q : Question). IsShown holds.holds.office q (Some c.in_ok-nets_text-in-Nets.field-0.items)) (sym c.in-Nets.is)
+    subst (λ (q : Look). IsShown holds.holds.office q (Some c.in_ok-nets_text-in-Nets.field-0.items)) (sym c.in-Nets.is)
     (ap Some (c.in_ok-nets_text-in-Nets.ensures.found clean office holds.holds.office.nets (record { ascending = kept.rising; each = holds.holds.nets })))

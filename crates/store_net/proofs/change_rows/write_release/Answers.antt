@@ -1,5 +1,5 @@
 use Rattle.std.proofs.Common.{sym, subst}
-use Rattle.catalogue.specs.Reads.{Reads}
+use Rattle.dbc_grammar.specs.Reads.{Reads}
 use Rattle.store_net.proofs.change_rows.write_release.Goals as goal
 
 pub returns-clause-written : goal.returns-clause-written

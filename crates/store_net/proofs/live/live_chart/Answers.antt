@@ -1,7 +1,7 @@
 use Rattle.std.proofs.Common.{Some, sym, ap, ◌∙◌}
 use Rattle.std.specs.Option.{option_map}
 use Rattle.sqlite.specs.Held.{state}
-use Rattle.chart.specs.Message.{message_chart}
+use Rattle.views.specs.Message.{message_chart}
 use Rattle.office_types.specs.declared.state.LiveMessage.{LiveMessage}
 use Rattle.office_tables.specs.Tables.{tables_of}
 use Rattle.store_net.proofs.LiveSheet.{charted}

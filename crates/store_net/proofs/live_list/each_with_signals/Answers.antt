@@ -34,14 +34,14 @@ loop-row-preserved g c =
       same = λ clean was is_open. unchanged_then old mid now (i.same (early clean) was is_open) (w.same clean (office clean was) (i.same (early clean) was is_open).0.is_open);
       kept = λ clean was. keeps_then old mid now (i.kept (early clean) was) (w.kept clean (office clean was));
       survives = nothing_left old mid now i.survives w.survives;
-      told = λ clean was live shown all.
+      reported = λ clean was live shown all.
           let n = shown_next ShowsLive (λ (m : LiveMessage). AreSignalsOf net (dbc_number m.message.ident) (live_rows net (tables_of old.now.trees)) m.message.signals) live rows at c.row-item.result shown all
           c.loop-row-test.true c.row-item.is in
           let own = subst (λ (d : Database). AreSignalsOf net (dbc_number n.item.message.ident) (live_rows net (tables_of d.trees)) n.item.message.signals) (sym (i.now_is (early clean) was)) n.holds in
           let f = live_in c.args.detail in
           let is : made ≡ f n.item = w.found clean (office clean was) n.item n.shown own in
           let next : take (at + 1) live ≡ take at live ++ n.item ∷ [] = rw add-one n.next in
-          c.in_ok-push.ensures.items ∙ ap (λ (l : List LiveMessage). l ++ made ∷ []) (i.told (early clean) was live shown all)
+          c.in_ok-push.ensures.items ∙ ap (λ (l : List LiveMessage). l ++ made ∷ []) (i.reported (early clean) was live shown all)
           ∙ ap (λ (m : LiveMessage). map f (take at live) ++ m ∷ []) is ∙ sym (map-append f (take at live) (n.item ∷ [])) ∙ ap (map f) (sym next);
     }
 
@@ -51,4 +51,4 @@ returns-clause-found g c clean office live shown all =
     let rows = c.args.rows.now in
     let ended : length rows ≤ at = c.loop-row-test.false in
     let over : length live ≤ at = subst (λ n. n ≤ at) (count_shown ShowsLive live rows shown) ended in
-    c.loop-row.invariant.told clean office live shown all ∙ ap (map (live_in c.args.detail)) (take_all at live over)
+    c.loop-row.invariant.reported clean office live shown all ∙ ap (map (live_in c.args.detail)) (take_all at live over)

@@ -22,7 +22,7 @@ invariant-loop-row g l =
       same : HasCleanDisk now → IsOffice old.now → IsTrue old.is_open → IsUnchanged old now;
       kept : HasCleanDisk now → IsOffice old.now → KeepsCommit old now;
       survives : Survives old now (λ _. ⊥);
-      told : HasCleanDisk now → IsOffice old.now → (live : List LiveMessage) → AreShown ShowsLive live l.rows
+      reported : HasCleanDisk now → IsOffice old.now → (live : List LiveMessage) → AreShown ShowsLive live l.rows
           → AllByRecursion (λ (m : LiveMessage). AreSignalsOf l.net (dbc_number m.message.ident) (live_rows l.net (tables_of old.now.trees)) m.message.signals) live
           → l.messages.items ≡ map (live_in l.detail) (take l.row-index live);
     }

@@ -28,13 +28,13 @@ loop-name-preserved g c =
       same = λ clean was is_open. unchanged_then old mid now (i.same (early clean) was is_open) (w.same clean (office clean was));
       kept = λ clean was. keeps_then old mid now (i.kept (early clean) was) (w.kept clean (office clean was));
       survives = nothing_left old mid now i.survives w.survives;
-      told = λ clean was nets there same.
+      reported = λ clean was nets there same.
           lines_more (tables_of old.now.trees) names nets at c.name-item.result c.loop-name.text.items c.in_ok-line.line.items c.extend_from_slice.new.self.items same there
-          c.loop-name-test.true c.name-item.is (i.told (early clean) was nets there same)
+          c.loop-name-test.true c.name-item.is (i.reported (early clean) was nets there same)
           (λ (net : Net) here. w.found clean (office clean was) net (subst (λ (d : Database). IsNetAt c.name-item.result (tables_of d.trees) (Some net)) (sym (i.now_is (early clean) was)) here))
           (c.in_ok-extend_from_slice.ensures.items ∙ ap (λ (v : List ℕ). c.loop-name.text.items ++ v) c.deref.ensures.value);
     }
 
 pub returns-clause-found : goal.returns-clause-found
 returns-clause-found g c clean office nets there same =
-    lines_whole c.args.names.now nets c.loop-name.name-index c.loop-name.text.items same c.loop-name-test.false (c.loop-name.invariant.told clean office nets there same)
+    lines_whole c.args.names.now nets c.loop-name.name-index c.loop-name.text.items same c.loop-name-test.false (c.loop-name.invariant.reported clean office nets there same)

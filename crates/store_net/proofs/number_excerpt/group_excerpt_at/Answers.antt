@@ -9,8 +9,8 @@ use Rattle.office_types.specs.declared.command.Action.TheVariants as act
 use Rattle.office_types.specs.declared.command.Task.TheVariants.{Act}
 use Rattle.office_types.specs.declared.state.LiveMessage.{LiveMessage}
 use Rattle.office_rules.specs.Facts.{group_of}
-use Rattle.office_net.specs.Excerpt.{IsExcerptOf}
-use Rattle.office_net.specs.declared.excerpt.Excerpt.{Excerpt}
+use Rattle.office_facts.specs.Excerpt.{IsExcerptOf}
+use Rattle.office_facts.specs.declared.excerpt.Excerpt.{Excerpt}
 use Rattle.office_tables.specs.Tables.{IsOffice, tables_of}
 use Rattle.store_rows.specs.Live.{AreLiveRows, live_rows}
 use Rattle.store_net.specs.Excerpts.{HasNameAndCount, MatchBoth}

@@ -1,6 +1,6 @@
 use Rattle.std.proofs.Common.{◌≡◌, Some, sym, ap, subst, ◌∙◌}
-use Rattle.catalogue.specs.Canon.{canonical_text}
-use Rattle.catalogue.specs.Reads.{ReadsOnlyAs}
+use Rattle.dbc_grammar.specs.Canon.{canonical_text}
+use Rattle.dbc_grammar.specs.Reads.{ReadsOnlyAs}
 use Rattle.catalogue.specs.declared.sheet.Sheet.{Sheet}
 use Rattle.store_net.proofs.release.canonical_of.Goals as goal
 

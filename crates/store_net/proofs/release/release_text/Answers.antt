@@ -1,6 +1,6 @@
 use Rattle.std.proofs.Common.{Option, None, Some, refl, sym, ap, subst, ◌∙◌, slice_get}
 use Rattle.std.specs.Option.{option_map}
-use Rattle.catalogue.specs.Canon.{canonical_text}
+use Rattle.dbc_grammar.specs.Canon.{canonical_text}
 use Rattle.catalogue.specs.declared.sheet.Sheet.{Sheet}
 use Rattle.sqlite.specs.Held.{state}
 use Rattle.office_tables.specs.Tables.{tables_of}

@@ -28,6 +28,6 @@ returns-clause-found g c clean office h kept parts a team key content =
     let table = (tables_of s0.now.trees).reply in
     let first = is_kept a h c.as_bytes.result.now c.as_bytes-2.result.now table c.in_ok-rows.rows.items c.in-Some.row.now kept (c.in_ok-rows.ensures.found clean1 office)
     (team ∙ sym c.as_bytes.ensures.bytes) (key ∙ sym c.as_bytes-2.ensures.bytes) (c.in-Some.ensures.value ∙ ap (λ l. slice_get l 0) c.deref.ensures.value) in
-    let told = c.in_ok-parts-in-Some.ensures.found clean office1 h parts1 a first.0 team key first.1 in
-    ap Some (c.in_ok-answer_in-in-Some.ensures first.0 first.2 told ∙ ap (answer_again first.0) (sym content))
+    let reported = c.in_ok-parts-in-Some.ensures.found clean office1 h parts1 a first.0 team key first.1 in
+    ap Some (c.in_ok-answer_in-in-Some.ensures first.0 first.2 reported ∙ ap (answer_again first.0) (sym content))
     ∙ sym (ap (option_map (λ (f : Answered). answer_again f a.content)) first.1)

@@ -1,5 +1,5 @@
 use Rattle.std.proofs.Common.{sym, subst, ◌∙◌}
-use Rattle.catalogue.specs.Reads.{Reads}
+use Rattle.dbc_grammar.specs.Reads.{Reads}
 use Rattle.store_rows.proofs.Values.{one_blob, one_sheet}
 use Rattle.store_rows.proofs.columns.sheet_at.Goals as goal
 

@@ -1,6 +1,6 @@
 use Rattle.std.proofs.Common.{rules, ap, ◌+◌, slice_range, arith}
-use Rattle.catalogue.specs.Lexing.{Lexed}
-use Rattle.catalogue.specs.declared.token.TokenKind.TheVariants.{Mark}
+use Rattle.dbc_grammar.specs.Lexing.{Lexed}
+use Rattle.dbc_grammar.specs.declared.token.TokenKind.TheVariants.{Mark}
 use Rattle.dbc_lex.proofs.Ends.{mark_token, mark_text}
 use Rattle.dbc_lex.proofs.Reading.{token_read}
 use Rattle.dbc_lex.proofs.lexer.Lexer.next_mark.Goals as goal

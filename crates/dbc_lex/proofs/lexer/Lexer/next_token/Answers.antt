@@ -1,5 +1,5 @@
 use Rattle.std.proofs.Common.{refl, sym, ap, ◌∙◌, arith}
-use Rattle.catalogue.specs.Lexing.{Lexed}
+use Rattle.dbc_grammar.specs.Lexing.{Lexed}
 use Rattle.dbc_lex.specs.Token.{token_of}
 use Rattle.dbc_lex.proofs.Reading.{token_read, none_read, fault_read}
 use Rattle.dbc_lex.proofs.lexer.Lexer.next_token.Goals as goal

@@ -1,8 +1,8 @@
 use Rattle.std.proofs.Common.{◌≡◌, ◌∙◌, List, Some, ap, sym}
 use Rattle.std.proofs.lemmas.Result.{err_from_is_err_and}
-use Rattle.catalogue.specs.Parsing.{is_more, statement_at}
-use Rattle.catalogue.specs.Statement.{Statement}
-use Rattle.catalogue.specs.Token.{Token}
+use Rattle.dbc_grammar.specs.Parsing.{is_more, statement_at}
+use Rattle.dbc_grammar.specs.Statement.{Statement}
+use Rattle.dbc_grammar.specs.Token.{Token}
 use Rattle.dbc_lex.specs.Token.{token_of}
 use Rattle.dbc_statements.specs.Statement.{statement_of}
 use Rattle.dbc_statements.proofs.OneStatement.{begins_with, left_after, left_reached, none_left, not_there}

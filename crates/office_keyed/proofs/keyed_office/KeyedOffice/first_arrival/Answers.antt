@@ -21,6 +21,6 @@ returns-clause-held c h holds new =
     subst (λ l. lookup (pair_eq pair) l ≡ None) (sym c.reserve.ensures.entries) (none_kept pair a refl refl h es held.kept new) in
     let last : c.insert.new.self.entries ≡ es ++ (pair, first) ∷ [] =
     (rw c.unwrap.ensures at c.insert.ensures.entries) ∙ insert_entry-new pair_eq c.reserve.new.self pair first unknown ∙ ap (λ l. l ++ (pair, first) ∷ []) c.reserve.ensures.entries in
-    let told : a.answer ≡ answer.Reply first.reply = ap answer.Reply c.in_ok-reply.ensures.copy in
-    first_holds c.histories_grow.ensures h a first.reply c.self.inside.office c.step_with_copy.new.self es c.insert.new.self.entries (pair, first) held new told c.in_ok-reply.ensures.step
-    (entry_of pair first a refl refl (c.in_ok-content.ensures.items ∙ c.as_slice.ensures.value) told) last
+    let reported : a.answer ≡ answer.Reply first.reply = ap answer.Reply c.in_ok-reply.ensures.copy in
+    first_holds c.histories_grow.ensures h a first.reply c.self.inside.office c.step_with_copy.new.self es c.insert.new.self.entries (pair, first) held new reported c.in_ok-reply.ensures.step
+    (entry_of pair first a refl refl (c.in_ok-content.ensures.items ∙ c.as_slice.ensures.value) reported) last

@@ -1,5 +1,0 @@
-use Rattle.catalogue.proofs.Identifiers as laws
-use Rattle.catalogue.proofs.statement_law.message_numbers_are_identifiers.Goals as goal
-
-pub returns : goal.returns
-returns c = laws.numbers_are_identifiers

@@ -1,5 +1,0 @@
-use Rattle.catalogue.proofs.DecimalNumbers as laws
-use Rattle.catalogue.proofs.statement_law.numbers_are_decimals.Goals as goal
-
-pub returns : goal.returns
-returns c = laws.numbers_are_decimals c.readings_are_computed.ensures

@@ -1,4 +1,0 @@
-pub mod Pieces
-mod Rows
-mod TableRows
-pub mod Holding

@@ -1,6 +1,0 @@
-pub mod Columns
-pub mod Text
-pub mod Held
-pub mod Message
-pub mod Table
-pub mod Word

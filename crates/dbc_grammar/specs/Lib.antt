@@ -1,0 +1,15 @@
+pub mod Canon
+pub mod Division
+pub mod Fields
+pub mod Grammar
+pub mod Inside
+pub mod Lexing
+pub mod Parsing
+pub mod Reads
+pub mod Rules
+pub mod Saying
+pub mod Spelling
+pub mod Statement
+pub mod Token
+pub mod TokenLaw
+pub mod Tokens

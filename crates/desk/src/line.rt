@@ -1,0 +1,154 @@
+//! One side of a TCP connection.
+ghost use Rattle.std.specs.Prelude.{◌≡◌, ◌<◌, ◌≤◌, None, IfOk, length};
+
+use desk_types::{Failed, Sink, Source};
+use std::io::{self, Read, Write};
+use std::net::TcpStream;
+use std::time::{Clock, Duration, Instant};
+
+/// For how many seconds a connection is waited for until its peer sends the first byte.
+const FIRST_BYTE_SECONDS: u64 = 2;
+
+/// For how many seconds any later read, or a write, may wait for the peer.
+const TURN_SECONDS: u64 = 10;
+
+/// For how many seconds from its first read, or its first write, a side of a connection is read or written: no read or
+/// write begins later.
+const SIDE_SECONDS: u64 = 60;
+
+/// A handle of a TCP connection that is only read, or only written, and within time limits.
+#[derive(Drop)]
+pub(crate) struct Timed {
+    pub(crate) stream: TcpStream,
+    began: Option<Instant>,
+}
+
+impl Timed {
+    /// A handle that nothing was read from yet.
+    pub(crate) fn reading(stream: TcpStream) -> io::Result<Timed> {
+        let first = Duration::from_secs(FIRST_BYTE_SECONDS);
+        stream.set_read_timeout(Some(first))?;
+        Ok(Timed {
+            stream,
+            began: None,
+        })
+    }
+
+    /// A handle that nothing was written to yet.
+    pub(crate) fn writing(stream: TcpStream) -> io::Result<Timed> {
+        let turn = Duration::from_secs(TURN_SECONDS);
+        stream.set_write_timeout(Some(turn))?;
+        Ok(Timed {
+            stream,
+            began: None,
+        })
+    }
+
+    /// Whether the side still has time, which begins with this call if it is the first one. It has none if the clock
+    /// can't be read.
+    fn has_time<C: Clock>(&mut self, clock: &C) -> bool {
+        let Ok(now) = Instant::now(clock) else {
+            return false;
+        };
+        match self.began {
+            Some(began) => now.duration_since(began) < Duration::from_secs(SIDE_SECONDS),
+            None => {
+                self.began = Some(now);
+                true
+            }
+        }
+    }
+
+    /// Reads once, if the side still has time. The first read waits for the first byte, and any later one for its turn.
+    fn read<C: Clock>(&mut self, clock: &C, buf: &mut [u8]) -> Result<usize, Failed>
+        ensures { IfOk result (λ n. n ≤ length buf.new) }
+    {
+        let is_first = self.began.is_none();
+        if self.has_time(clock) {
+            if let Ok(n) = self.stream.read(buf) {
+                let turn = Duration::from_secs(TURN_SECONDS);
+                if !is_first || self.stream.set_read_timeout(Some(turn)).is_ok() {
+                    return Ok(n);
+                }
+            }
+        }
+        Err(Failed)
+    }
+
+    /// Writes once, if the side still has time. It fails where nothing of the bytes is taken.
+    fn write<C: Clock>(&mut self, clock: &C, bytes: &[u8]) -> Result<usize, Failed>
+        ensures within { IfOk result (λ n. n ≤ length bytes.now) }
+        ensures some { 0 < length bytes.now → IfOk result (λ n. 0 < n) }
+    {
+        if self.has_time(clock) {
+            if let Ok(n) = self.stream.write(bytes) {
+                if n > 0 || bytes.is_empty() {
+                    return Ok(n);
+                }
+            }
+        }
+        Err(Failed)
+    }
+}
+
+/// One side of a TCP connection. It counts its failures, and fails once it has taken too long, or if no time limits
+/// could be set for it. No contract tells the bytes of a socket.
+#[derive(Drop)]
+pub struct Line<'r, C> {
+    pub(crate) timed: Option<Timed>,
+    pub(crate) clock: &'r C,
+    count: u64,
+}
+
+impl<'r, C> Line<'r, C> {
+    /// A side none of whose calls failed yet.
+    pub(crate) fn new(timed: Option<Timed>, clock: &'r C) -> Line<'r, C>
+        ensures { result.count ≡ 0 }
+    {
+        Line {
+            timed,
+            clock,
+            count: 0,
+        }
+    }
+}
+
+impl<C: Clock> Source for Line<'_, C> {
+    ghost left = { λ _. None };
+
+    ghost failure_count = { λ s. s.count };
+
+    fn take(&mut self, buf: &mut [u8]) -> Result<usize, Failed> {
+        if let Some(timed) = &mut self.timed {
+            if let Ok(n) = timed.read(self.clock, buf) {
+                return Ok(n);
+            }
+        }
+        self.count += 1;
+        Err(Failed)
+    }
+
+    fn failures(&self) -> u64 {
+        self.count
+    }
+}
+
+impl<C: Clock> Sink for Line<'_, C> {
+    ghost reported = { λ _. None };
+
+    ghost failure_count = { λ s. s.count };
+
+    fn put(&mut self, bytes: &[u8]) -> Result<usize, Failed> {
+        if let Some(timed) = &mut self.timed {
+            if let Ok(n) = timed.write(self.clock, bytes) {
+                return Ok(n);
+            }
+        }
+        self.count += 1;
+        Err(Failed)
+    }
+
+    fn failures(&self) -> u64 {
+        self.count
+    }
+}

@@ -1,0 +1,58 @@
+-- Excerpts: the part of a network that a command reads.
+use Rattle.std.specs.Prelude.{◌≡◌, ℕ, Bool, true, List, Option, Some, None, is_some, IfSome}
+use Rattle.office_types.specs.declared.command.Action.TheVariants as act
+use Rattle.office_types.specs.declared.command.Task.{Task}
+use Rattle.office_types.specs.declared.command.Task.TheVariants.{Act}
+use Rattle.office_types.specs.declared.state.Net.{Net}
+use Rattle.office_facts.specs.declared.excerpt.Excerpt.{Excerpt}
+use Rattle.office_facts.specs.By.{AreGroupFacts, AreIdentFacts}
+use Rattle.office_rules.specs.Facts.{MessageFacts, NumberFacts, live_named}
+
+-- the message that a command on a signal names
+abbrev pub named_message : Task → Option (List ℕ)
+named_message (Act (act.TakeSpn c)) = Some c.path.message
+named_message (Act (act.TakeBits c)) = Some c.path.message
+named_message (Act (act.SetValues c)) = Some c.path.message
+named_message (Act (act.RemoveSignal path)) = Some path.message
+named_message task = None
+
+-- the commands that an excerpt is enough for
+abbrev pub goes_by_excerpt : Task → Bool
+goes_by_excerpt (Act (act.TakeIdent c)) = true
+goes_by_excerpt (Act (act.TakePgn c)) = true
+goes_by_excerpt task = is_some (named_message task)
+
+-- what the tests of a command on a message read
+abbrev pub excerpt_facts : Excerpt → MessageFacts
+excerpt_facts e = record { phase = e.head.phase; nodes = e.head.frame.nodes; found = e.found }
+
+-- the network has this excerpt for the task
+pub record HasExcerpt (net : Net) (task : Task) (e : Excerpt) : Type 0 where
+  pub head : e.head ≡ net.head
+  pub blocks : e.blocks ≡ net.blocks
+  pub found : IfSome (named_message task) (λ name. e.found ≡ live_named net.live name)
+
+-- what the tests of a command that gives out a number read
+abbrev pub excerpt_numbers : Excerpt → NumberFacts
+excerpt_numbers e = record {
+  kind = e.head.kind;
+  phase = e.head.phase;
+  nodes = e.head.frame.nodes;
+  blocks = e.blocks;
+  named = e.named;
+  count = e.count;
+  want_live = e.want_live;
+  want_held = e.want_held;
+  taken = e.taken;
+}
+
+-- its numbers are those of the network
+abbrev pub HasNumbers : List ℕ → Net → Task → Excerpt → Type 0
+HasNumbers team net (Act (act.TakeIdent c)) e = AreIdentFacts team net c (excerpt_numbers e)
+HasNumbers team net (Act (act.TakePgn c)) e = AreGroupFacts team net c (excerpt_numbers e)
+HasNumbers team net task e = Unit {0}
+
+-- The network has this excerpt for the team's task.
+pub record IsExcerptOf (team : List ℕ) (net : Net) (task : Task) (e : Excerpt) : Type 0 where
+  pub parts : HasExcerpt net task e
+  pub numbers : HasNumbers team net task e

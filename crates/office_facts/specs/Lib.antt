@@ -1,0 +1,3 @@
+pub mod FactsOf
+pub mod Excerpt
+pub mod By

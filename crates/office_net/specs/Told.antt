@@ -1,7 +1,0 @@
--- The facts that a body is given, as the definitions speak of them.
-use Rattle.std.specs.Option.{option_copied}
-use Rattle.office_net.specs.declared.message.MessageFacts.{MessageFacts as Told}
-use Rattle.office_rules.specs.Facts.{MessageFacts}
-
-abbrev pub message_facts_of : Told → MessageFacts
-message_facts_of f = record { phase = f.phase.now; nodes = f.nodes.now; found = option_copied f.found }

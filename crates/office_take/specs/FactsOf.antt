@@ -1,0 +1,27 @@
+-- The facts that a body is given, as the definitions speak of them, and the refusals that don't hang on which numbers
+-- are taken.
+use Rattle.std.specs.Prelude.{ℕ, List, Option, Some, None}
+use Rattle.office_rules.specs.Facts.{NumberFacts}
+use Rattle.office_take.specs.declared.numbers.NumberFacts.{NumberFacts as NumberFactsModel}
+use Rattle.office_types.specs.declared.refusal.Refusal.{Refusal}
+use Rattle.office_types.specs.declared.refusal.Refusal.TheVariants.{BlockFull}
+
+-- the facts, where these numbers are taken
+abbrev pub number_facts_of : NumberFactsModel → List ℕ → NumberFacts
+number_facts_of f taken = record {
+  kind = f.kind;
+  phase = f.phase.now;
+  nodes = f.nodes.now;
+  blocks = f.blocks.now;
+  named = f.named;
+  count = f.count;
+  want_live = f.want_live;
+  want_held = f.want_held;
+  taken = taken;
+}
+
+-- a refusal that comes whatever is taken, or else that of full blocks where there is no number to give out
+abbrev pub refused_or_full : Option Refusal → Option ℕ → Option Refusal
+refused_or_full (Some r) given = Some r
+refused_or_full None None = Some BlockFull
+refused_or_full None (Some n) = None

@@ -1,2 +1,0 @@
-pub mod Visits
-pub mod Turns

@@ -1,3 +1,0 @@
-pub mod Serving
-mod Examples
-pub mod Waiting

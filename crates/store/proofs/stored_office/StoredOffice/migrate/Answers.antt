@@ -1,0 +1,55 @@
+use Rattle.std.proofs.Common.{[], inl, inr, not, sym, ap, subst, ◌∙◌}
+use Rattle.sqlite.specs.Effect.{Database}
+use Rattle.sqlite.specs.Held.{state}
+use Rattle.store_carry.specs.FormSchema.{schema_of}
+use Rattle.store.specs.Holding.{Keeps}
+use Rattle.store.proofs.InForm.{left_migrating, migrated, office_in_form, schema_in_form}
+use Rattle.store.proofs.Opened.{new_holding, new_keeps}
+use Rattle.store.proofs.stored_office.StoredOffice.migrate.Goals as goal
+
+pub returns-in-Ok-clause-made : goal.returns-in-Ok-clause-made
+returns-in-Ok-clause-made g c clean none =
+    let now = state g.S.Store c.make_current.new.conn in
+    let made = c.in-Ok.ensures.made clean none.schema in (
+      new_holding now made.0 made.2,
+      λ db left. subst (Keeps []) (sym (c.leaves_committed-in-Ok.ensures made.2 db left ∙ ap (λ (d : Database). d.trees) made.1)) (new_keeps now.now made.0),
+    )
+
+pub returns-in-Err-clause-unmade : goal.returns-in-Err-clause-unmade
+returns-in-Err-clause-unmade g c clean none db left = elim ((c.make_current.ensures.new_survives none.schema).crash clean db left) [
+  | inl was ↦ inl (c.leaves_committed.ensures none.is_open db was)
+  | inr made ↦ inr (subst (Keeps []) (sym made.2) (new_keeps made.0 made.1))
+]
+
+pub returns-in-Ok-clause-migrated : goal.returns-in-Ok-clause-migrated
+returns-in-Ok-clause-migrated g c clean h holding =
+    let old = state g.S.Store c.args.conn in
+    let office = office_in_form h old holding in
+    let schema = c.knows_tables.ensures office.is_open (schema_of office.form) office.sound in
+    let settled = sym (c.is_autocommit-settled.ensures.settled (c.is_autocommit-settled.ensures.value ∙ ap not c.requires) holding.is_open) in
+    let kept = migrated h old (state g.S.Store c.make_current.new.conn) holding schema settled (c.in-Ok.ensures.same clean) (c.in-Ok.ensures.grown clean) (c.in-Ok.ensures.carried clean) in (
+      kept.0,
+      λ db left. subst (Keeps h) (sym (c.leaves_committed-in-Ok.ensures kept.0.is_open db left ∙ ap (λ (d : Database). d.trees) kept.1)) kept.0.keeps,
+    )
+
+pub returns-in-Ok-clause-left : goal.returns-in-Ok-clause-left
+returns-in-Ok-clause-left g c h holding clean =
+    let old = state g.S.Store c.args.conn in
+    let office = office_in_form h old holding in
+    let schema = c.knows_tables.ensures office.is_open (schema_of office.form) office.sound in
+    let settled = c.is_autocommit-settled.ensures.settled (c.is_autocommit-settled.ensures.value ∙ ap not c.requires) holding.is_open in
+    left_migrating h old (state g.S.Store c.make_current.new.conn) holding schema (λ db was. c.leaves_committed.ensures holding.is_open db was ∙ ap (λ (d : Database). d.trees) (sym settled))
+    (c.make_current.ensures.survives (schema_in_form old office schema)) clean
+
+pub returns-in-Err-clause-newer : goal.returns-in-Err-clause-newer
+returns-in-Err-clause-newer g c clean office =
+    c.in-Err.ensures.newer clean (schema_in_form (state g.S.Store c.args.conn) office (c.knows_tables.ensures office.is_open (schema_of office.form) office.sound))
+
+pub returns-in-Err-clause-left : goal.returns-in-Err-clause-left
+returns-in-Err-clause-left g c h holding clean =
+    let old = state g.S.Store c.args.conn in
+    let office = office_in_form h old holding in
+    let schema = c.knows_tables.ensures office.is_open (schema_of office.form) office.sound in
+    let settled = c.is_autocommit-settled.ensures.settled (c.is_autocommit-settled.ensures.value ∙ ap not c.requires) holding.is_open in
+    left_migrating h old (state g.S.Store c.make_current.new.conn) holding schema (λ db was. c.leaves_committed.ensures holding.is_open db was ∙ ap (λ (d : Database). d.trees) (sym settled))
+    (c.make_current.ensures.survives (schema_in_form old office schema)) clean

@@ -1,0 +1,64 @@
+use Rattle.std.proofs.Common.{◌≡◌, ◌+◌, ◌<◌, ◌++◌, ◌∷◌, [], length, take, refl, sym, ap, subst, ◌∙◌, arith, take_all}
+use Rattle.std.specs.Prelude.{All, IsTrue}
+use Rattle.std.proofs.lemmas.List.{take_more}
+use Rattle.std.proofs.lemmas.List.Elements.{All-nil}
+use Rattle.sqlite.specs.Held.{state}
+use Rattle.sqlite.specs.State.{HasCleanDisk}
+use Rattle.store.specs.Holding.{Keeps}
+use Rattle.store.specs.Headline.{HasRun}
+use Rattle.store.specs.Running.{FailsBy, IsNoProfile}
+use Rattle.store.proofs.Ran.{fails_more, named_more, run_more, run_none}
+use Rattle.store.proofs.stored_office.StoredOffice.run.Goals as goal
+
+pub loop-arrival-preserved : goal.loop-arrival-preserved
+loop-arrival-preserved g c =
+    let old = state g.S.Store c.args.self.now.conn in
+    let mid = state g.S.Store c.loop-arrival.self.conn in
+    let now = state g.S.Store c.arrive-answered.new.self.conn in
+    let i = c.loop-arrival.invariant in
+    let at = c.loop-arrival.arrival-index in
+    let arrivals = c.args.arrivals.now in
+    let item = c.arrival-item.result in
+    let arrive = c.arrive-answered.ensures in
+    let within : at < length arrivals = c.loop-arrival-test.true in
+    let next : take (at + 1) arrivals ≡ take at arrivals ++ item ∷ [] = rw (take_more arrivals at item within, ← c.arrival-item.is) in
+    record {
+      len = let len = i.len in let more = c.push_reserved.ensures.len in omega (arith, len, more);
+      room = let room = i.room in let same = c.push_reserved.ensures.capacity in omega (arith, room, same);
+      refused = λ was. arrive.refused (subst IsTrue (ap (λ o. o.failed) (sym (i.refused was))) was) ∙ i.refused was;
+      failed = subst (λ l. FailsBy c.args.self.now.failed l c.arrive-answered.new.self.failed) (sym c.push_reserved.ensures.items)
+          (fails_more _ c.loop-arrival.self.failed _ c.loop-arrival.results.items c.arrive-answered.result i.failed arrive.failed (λ was. subst IsTrue (ap (λ o. o.failed) (sym (arrive.refused was))) was));
+      named = subst (All IsNoProfile) (sym c.push_reserved.ensures.items) (named_more c.loop-arrival.results.items c.arrive-answered.result i.named arrive.named);
+      clean = let early = i.clean in omega (arith, early, arrive.clean);
+      ran = λ clean h holding.
+          let early : HasCleanDisk mid = omega (arith, arrive.clean, clean) in
+          subst (λ l. HasRun h (take (at + 1) arrivals) l c.arrive-answered.new.self.failed now) (sym c.push_reserved.ensures.items)
+          (subst (λ l. HasRun h l (c.loop-arrival.results.items ++ c.arrive-answered.result ∷ []) c.arrive-answered.new.self.failed now) (sym next)
+          (run_more g.S.Store h (take at arrivals) c.loop-arrival.results.items item c.loop-arrival.self c.arrive-answered.new.self (i.ran early h holding)
+          c.arrive-answered.result arrive.failed arrive.refused arrive.named (arrive.answered clean) (arrive.lost clean) (arrive.memory clean) (arrive.left clean)));
+    }
+
+pub push_reserved-requires : goal.push_reserved-requires
+push_reserved-requires g c =
+    let len = c.loop-arrival.invariant.len in let room = c.loop-arrival.invariant.room in let within = c.loop-arrival-test.true in omega (arith, len, room, within)
+
+pub returns-clause-ran : goal.returns-clause-ran
+returns-clause-ran g c clean h holding =
+    let arrivals = c.args.arrivals.now in
+    let all : take c.loop-arrival.arrival-index arrivals ≡ arrivals = take_all c.loop-arrival.arrival-index arrivals c.loop-arrival-test.false in
+    subst (λ l. HasRun h l c.loop-arrival.results.items c.loop-arrival.self.failed (state g.S.Store c.loop-arrival.self.conn)) all (c.loop-arrival.invariant.ran clean h holding)
+
+pub loop-arrival-init : goal.loop-arrival-init
+loop-arrival-init g c =
+    let old = state g.S.Store c.args.self.now.conn in
+    record {
+      len = c.in_ok-results.ensures.len;
+      room = let room = c.in_ok-results.ensures.capacity in omega (arith, room);
+      refused = λ was. refl;
+      failed = subst (λ l. FailsBy c.args.self.now.failed l c.args.self.now.failed) (sym c.in_ok-results.ensures.items) refl;
+      named = subst (All IsNoProfile) (sym c.in_ok-results.ensures.items) (All-nil IsNoProfile);
+      clean = omega arith;
+      ran = λ clean h holding.
+          subst (λ l. HasRun h [] l c.args.self.now.failed old) (sym c.in_ok-results.ensures.items)
+          (run_none h c.args.self.now.failed old (λ _. holding.is_open) holding (λ db left. subst (Keeps h) (sym (c.leaves_now.ensures holding.is_open db left)) holding.keeps));
+    }

@@ -1,0 +1,25 @@
+use Rattle.std.proofs.Common.{◌≡◌, ◌≤◌, List, length, take}
+use Rattle.std.specs.Prelude.{All, IsTrue}
+use Rattle.std.specs.Vec.{vec_capacity, vec_len}
+use Rattle.sqlite.specs.Held.{state}
+use Rattle.sqlite.specs.State.{HasCleanDisk}
+use Rattle.sqlite_trees.specs.View.{doubt}
+use Rattle.office_history.specs.History.{Answered}
+use Rattle.store.specs.Holding.{Holding}
+use Rattle.store.specs.Headline.{HasRun}
+use Rattle.store.specs.Running.{FailsBy, IsNoProfile}
+use Rattle.store.proofs.stored_office.StoredOffice.run.Given as goal
+
+abbrev pub invariant-loop-arrival : goal.invariant-loop-arrival
+invariant-loop-arrival g l =
+    let old = state g.S.Store l.fn.self.conn in
+    let now = state g.S.Store l.self.conn in
+    record {
+      len : vec_len l.results ≡ l.arrival-index;
+      room : length l.arrivals ≤ vec_capacity l.results;
+      refused : IsTrue l.fn.self.failed → l.self ≡ l.fn.self;
+      failed : FailsBy l.fn.self.failed l.results.items l.self.failed;
+      named : All IsNoProfile l.results.items;
+      clean : doubt old.is_clean ≤ doubt now.is_clean;
+      ran : HasCleanDisk now → (h : List Answered) → Holding h old → HasRun h (take l.arrival-index l.arrivals) l.results.items l.self.failed now;
+    }

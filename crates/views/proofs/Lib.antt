@@ -1,0 +1,5 @@
+pub mod Pieces
+mod Rows
+mod TableRows
+mod NetRows
+pub mod Holding

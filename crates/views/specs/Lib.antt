@@ -1,0 +1,7 @@
+pub mod Columns
+pub mod Text
+pub mod Held
+pub mod Message
+pub mod Table
+pub mod Word
+pub mod NetList

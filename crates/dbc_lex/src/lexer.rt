@@ -13,7 +13,7 @@ use std::marker::Model;
 
 /// The token of this kind whose first byte is at the offset; without a kind none begins there, or the text ends.
 #[inline(always)]
-#[tactic(auto, unfolding(catalogue::specs::Lexing::token_at))]
+#[tactic(auto, unfolding(dbc_grammar::specs::Lexing::token_at))]
 fn token_at<'a>(
     source: &'a [u8],
     start: usize,

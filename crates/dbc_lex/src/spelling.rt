@@ -213,7 +213,7 @@ fn closing_quote(source: &[u8], at: usize) -> Option<usize>
 
 /// The offset after the token of this kind whose first byte is at the offset; `None` for a text that no quote closes.
 #[inline(always)]
-#[tactic(auto, unfolding(catalogue::specs::Lexing::word_len))]
+#[tactic(auto, unfolding(dbc_grammar::specs::Lexing::word_len))]
 pub(crate) fn word_end(kind: TokenKind, source: &[u8], start: usize) -> Option<usize>
     requires there { start < length source.now }
     requires kind { kind_of (get_or source.now start 0) ≡ Some kind }

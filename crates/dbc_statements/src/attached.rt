@@ -18,7 +18,7 @@ use dbc_lex::{ReadCode, ReadFault};
 use std::alloc::Global;
 
 /// The rest of a statement after `VAL_`.
-#[tactic(auto, unfolding(catalogue::specs::Parsing::value_texts_at, catalogue::specs::Parsing::passed_value_texts_at))]
+#[tactic(auto, unfolding(dbc_grammar::specs::Parsing::value_texts_at, dbc_grammar::specs::Parsing::passed_value_texts_at))]
 pub(crate) fn value_texts<'a>(
     alloc: Global,
     tokens: &mut Tokens<'a>,
@@ -41,7 +41,7 @@ pub(crate) fn value_texts<'a>(
 }
 
 /// The rest of a statement after `SIG_VALTYPE_`.
-#[tactic(auto, unfolding(catalogue::specs::Parsing::value_type_at))]
+#[tactic(auto, unfolding(dbc_grammar::specs::Parsing::value_type_at))]
 pub(crate) fn value_types<'a>(tokens: &mut Tokens<'a>) -> Result<Content<'a>, ReadFault>
     ensures reads { Reads content_of result (value_type_at tokens.old) tokens.new }
     ensures nothing { IfOk result NothingIsAttached }
@@ -54,7 +54,7 @@ pub(crate) fn value_types<'a>(tokens: &mut Tokens<'a>) -> Result<Content<'a>, Re
     Ok(Content::ValueType(CitedSignal { number, name }, value_type))
 }
 
-#[tactic(auto, unfolding(catalogue::specs::Parsing::spn_at))]
+#[tactic(auto, unfolding(dbc_grammar::specs::Parsing::spn_at))]
 fn spn_of_signal<'a>(tokens: &mut Tokens<'a>) -> Result<Content<'a>, ReadFault>
     ensures reads { Reads content_of result (spn_at tokens.old) tokens.new }
     ensures nothing { IfOk result NothingIsAttached }

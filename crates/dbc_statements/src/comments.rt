@@ -15,7 +15,7 @@ use catalogue::Keyword;
 use dbc_lex::ReadFault;
 use std::alloc::Global;
 
-#[tactic(auto, unfolding(catalogue::specs::Parsing::file_comment_at))]
+#[tactic(auto, unfolding(dbc_grammar::specs::Parsing::file_comment_at))]
 fn file_comment<'a>(alloc: Global, tokens: &mut Tokens<'a>) -> Result<Content<'a>, ReadFault>
     ensures reads { Reads content_of result (file_comment_at tokens.old) tokens.new }
     ensures nothing { IfOk result NothingIsAttached }
@@ -25,7 +25,7 @@ fn file_comment<'a>(alloc: Global, tokens: &mut Tokens<'a>) -> Result<Content<'a
     Ok(Content::Comment(text))
 }
 
-#[tactic(auto, unfolding(catalogue::specs::Parsing::node_comment_at))]
+#[tactic(auto, unfolding(dbc_grammar::specs::Parsing::node_comment_at))]
 fn node_comment<'a>(alloc: Global, tokens: &mut Tokens<'a>) -> Result<Content<'a>, ReadFault>
     ensures reads { Reads content_of result (node_comment_at tokens.old) tokens.new }
     ensures nothing { IfOk result NothingIsAttached }
@@ -37,7 +37,7 @@ fn node_comment<'a>(alloc: Global, tokens: &mut Tokens<'a>) -> Result<Content<'a
     Ok(Content::NodeComment(node, text))
 }
 
-#[tactic(auto, unfolding(catalogue::specs::Parsing::message_comment_at))]
+#[tactic(auto, unfolding(dbc_grammar::specs::Parsing::message_comment_at))]
 fn message_comment<'a>(alloc: Global, tokens: &mut Tokens<'a>) -> Result<Content<'a>, ReadFault>
     ensures reads { Reads content_of result (message_comment_at tokens.old) tokens.new }
     ensures nothing { IfOk result NothingIsAttached }
@@ -49,7 +49,7 @@ fn message_comment<'a>(alloc: Global, tokens: &mut Tokens<'a>) -> Result<Content
     Ok(Content::MessageComment(number, text))
 }
 
-#[tactic(auto, unfolding(catalogue::specs::Parsing::signal_comment_at))]
+#[tactic(auto, unfolding(dbc_grammar::specs::Parsing::signal_comment_at))]
 fn signal_comment<'a>(alloc: Global, tokens: &mut Tokens<'a>) -> Result<Content<'a>, ReadFault>
     ensures reads { Reads content_of result (signal_comment_at tokens.old) tokens.new }
     ensures nothing { IfOk result NothingIsAttached }
@@ -63,7 +63,7 @@ fn signal_comment<'a>(alloc: Global, tokens: &mut Tokens<'a>) -> Result<Content<
 }
 
 /// The rest of a statement after `CM_`.
-#[tactic(auto, unfolding(catalogue::specs::Parsing::comment_at))]
+#[tactic(auto, unfolding(dbc_grammar::specs::Parsing::comment_at))]
 pub(crate) fn comment<'a>(alloc: Global, tokens: &mut Tokens<'a>) -> Result<Content<'a>, ReadFault>
     ensures reads { Reads content_of result (comment_at tokens.old) tokens.new }
     ensures nothing { IfOk result NothingIsAttached }

@@ -109,7 +109,7 @@ pub(crate) fn is_open(tokens: &Tokens) -> bool
 
 /// Adds a value and its text to the entries.
 #[inline(always)]
-#[tactic(auto, unfolding(catalogue::specs::Parsing::entry_at))]
+#[tactic(auto, unfolding(dbc_grammar::specs::Parsing::entry_at))]
 fn add_entry(alloc: Global, tokens: &mut Tokens, entries: &mut Entries) -> Result<(), ReadFault>
     ensures ok { OnOk result (with_one entries.old (entry_at tokens.old) ≡ Some (entries.new, tokens.new)) }
     ensures err { IfErr result (λ fault. UnlessMemory fault.code (entry_at tokens.old ≡ None)) }

@@ -73,7 +73,7 @@ fn skip_with(tokens: &mut Tokens, spelling: u8) -> Result<(), ReadFault>
 
 /// A mark of this spelling, if one comes next.
 #[inline(always)]
-#[tactic(auto, unfolding(catalogue::specs::Parsing::optional_at))]
+#[tactic(auto, unfolding(dbc_grammar::specs::Parsing::optional_at))]
 pub(crate) fn optional_mark(tokens: &mut Tokens, mark: u8) -> Option<()>
     ensures { optional_at (starts (fields.is_mark (mark ∷ []))) (mark_at (mark ∷ [])) tokens.old
         ≡ Some (result, tokens.new) }
@@ -240,7 +240,7 @@ fn minus(tokens: &mut Tokens) -> Result<bool, ReadFault>
 
 /// Where a signal is in the payload, and whether its values have a sign.
 #[inline(always)]
-#[tactic(auto, unfolding(catalogue::specs::Parsing::layout_at))]
+#[tactic(auto, unfolding(dbc_grammar::specs::Parsing::layout_at))]
 pub(crate) fn layout(tokens: &mut Tokens) -> Result<(Layout, bool), ReadFault>
     ensures { Reads itself result (layout_at tokens.old) tokens.new }
 {
@@ -253,7 +253,7 @@ pub(crate) fn layout(tokens: &mut Tokens) -> Result<(Layout, bool), ReadFault>
 
 /// A sign, if one comes next: whether it is a minus.
 #[inline(always)]
-#[tactic(auto, unfolding(catalogue::specs::Parsing::optional_at))]
+#[tactic(auto, unfolding(dbc_grammar::specs::Parsing::optional_at))]
 fn sign(tokens: &mut Tokens) -> Option<bool>
     ensures { optional_at (begins fields.sign_of) (token_at fields.sign_of) tokens.old ≡ Some (result, tokens.new) }
 {
@@ -264,7 +264,7 @@ fn sign(tokens: &mut Tokens) -> Option<bool>
 
 /// A decimal, with a sign or without, whose number is left. `None` leaves the token that isn't one.
 // An `Option`, since a `Result` of a decimal and a fault is moved byte by byte.
-#[tactic(auto, unfolding(catalogue::specs::Parsing::decimal_at))]
+#[tactic(auto, unfolding(dbc_grammar::specs::Parsing::decimal_at))]
 fn decimal_here(tokens: &mut Tokens) -> Option<Decimal>
     ensures { decimal_at tokens.old ≡ option_map (λ d. (d, drop 1 tokens.new)) result }
 {
@@ -330,7 +330,7 @@ impl Decimals {
 
 /// Reads two decimals, each with the mark after it, after another mark.
 #[inline(always)]
-#[tactic(auto, unfolding(catalogue::specs::Parsing::pair_at))]
+#[tactic(auto, unfolding(dbc_grammar::specs::Parsing::pair_at))]
 pub(crate) fn pair(
     tokens: &mut Tokens,
     left: u8,

@@ -22,7 +22,7 @@ use dbc_lex::ReadFault;
 use std::alloc::Global;
 
 /// The rest of a statement after `VERSION`.
-#[tactic(auto, unfolding(catalogue::specs::Parsing::version_at))]
+#[tactic(auto, unfolding(dbc_grammar::specs::Parsing::version_at))]
 pub(crate) fn version<'a>(alloc: Global, tokens: &mut Tokens<'a>) -> Result<Content<'a>, ReadFault>
     ensures reads { Reads content_of result (version_at tokens.old) tokens.new }
     ensures nothing { IfOk result NothingIsAttached }
@@ -64,7 +64,7 @@ fn skip_symbols(tokens: &mut Tokens)
 }
 
 /// The rest of a statement after `NS_`.
-#[tactic(auto, unfolding(catalogue::specs::Parsing::symbols_at))]
+#[tactic(auto, unfolding(dbc_grammar::specs::Parsing::symbols_at))]
 pub(crate) fn new_symbols<'a>(tokens: &mut Tokens<'a>) -> Result<Content<'a>, ReadFault>
     ensures reads { Reads content_of result (symbols_at tokens.old) tokens.new }
     ensures nothing { IfOk result NothingIsAttached }
@@ -79,7 +79,7 @@ pub(crate) fn new_symbols<'a>(tokens: &mut Tokens<'a>) -> Result<Content<'a>, Re
 }
 
 /// A colon, a number, a comma and a number.
-#[tactic(auto, unfolding(catalogue::specs::Parsing::registers_at))]
+#[tactic(auto, unfolding(dbc_grammar::specs::Parsing::registers_at))]
 fn registers(tokens: &mut Tokens) -> Result<(), ReadFault>
     ensures { Reads itself result (registers_at tokens.old) tokens.new }
 {
@@ -101,7 +101,7 @@ fn is_colon(tokens: &Tokens) -> bool
 }
 
 /// A number, and the numbers of the registers if a colon comes next.
-#[tactic(auto, unfolding(catalogue::specs::Parsing::timing_at))]
+#[tactic(auto, unfolding(dbc_grammar::specs::Parsing::timing_at))]
 fn timing(tokens: &mut Tokens) -> Result<(), ReadFault>
     ensures { Reads itself result (timing_at tokens.old) tokens.new }
 {
@@ -123,7 +123,7 @@ fn is_timing(tokens: &Tokens) -> bool
 }
 
 /// The rest of a statement after `BS_`.
-#[tactic(auto, unfolding(catalogue::specs::Parsing::timing_line_at))]
+#[tactic(auto, unfolding(dbc_grammar::specs::Parsing::timing_line_at))]
 pub(crate) fn bit_timing<'a>(tokens: &mut Tokens<'a>) -> Result<Content<'a>, ReadFault>
     ensures reads { Reads content_of result (timing_line_at tokens.old) tokens.new }
     ensures nothing { IfOk result NothingIsAttached }
@@ -136,7 +136,7 @@ pub(crate) fn bit_timing<'a>(tokens: &mut Tokens<'a>) -> Result<Content<'a>, Rea
 }
 
 /// The rest of a statement after `BU_`.
-#[tactic(auto, unfolding(catalogue::specs::Parsing::nodes_line_at))]
+#[tactic(auto, unfolding(dbc_grammar::specs::Parsing::nodes_line_at))]
 pub(crate) fn node_names<'a>(alloc: Global, tokens: &mut Tokens<'a>) -> Result<Line<'a>, ReadFault>
     ensures reads { Reads line_content result (nodes_line_at tokens.old) tokens.new }
     ensures nothing { IfOk result (λ line. NothingIsAttached line.content) }
@@ -150,7 +150,7 @@ pub(crate) fn node_names<'a>(alloc: Global, tokens: &mut Tokens<'a>) -> Result<L
 }
 
 /// The rest of a statement after `VAL_TABLE_`.
-#[tactic(auto, unfolding(catalogue::specs::Parsing::table_at))]
+#[tactic(auto, unfolding(dbc_grammar::specs::Parsing::table_at))]
 pub(crate) fn value_table<'a>(
     alloc: Global,
     tokens: &mut Tokens<'a>,

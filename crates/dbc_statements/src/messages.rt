@@ -16,7 +16,7 @@ use crate::tokens::Tokens;
 use dbc_lex::ReadFault;
 use std::alloc::Global;
 
-#[tactic(auto, unfolding(catalogue::specs::Parsing::message_at))]
+#[tactic(auto, unfolding(dbc_grammar::specs::Parsing::message_at))]
 fn message<'a>(alloc: Global, tokens: &mut Tokens<'a>) -> Result<Line<'a>, ReadFault>
     ensures reads { Reads line_content result (message_at tokens.old) tokens.new }
     ensures nothing { IfOk result (λ line. NothingIsAttached line.content) }

@@ -139,7 +139,7 @@ fn node(alloc: Global, tokens: &mut Tokens) -> Result<Option<Placed>, ReadFault>
 
 /// A further name of a list, with the comma before it if there is one.
 #[inline(always)]
-#[tactic(auto, unfolding(catalogue::specs::Parsing::further_at))]
+#[tactic(auto, unfolding(dbc_grammar::specs::Parsing::further_at))]
 fn further(alloc: Global, tokens: &mut Tokens) -> Result<Option<Placed>, ReadFault>
     ensures { Reads (option_map (λ node. node.1)) result (further_at tokens.old) tokens.new }
 {
@@ -188,7 +188,7 @@ fn list_of<L: NodeList + Drop>(alloc: Global, first: Option<Placed>) -> Result<L
 }
 
 /// A list of at least one name. It takes no more memory than it needs.
-#[tactic(auto, unfolding(catalogue::specs::Parsing::some_names_at))]
+#[tactic(auto, unfolding(dbc_grammar::specs::Parsing::some_names_at))]
 fn some_nodes<L: NodeList + Drop>(alloc: Global, tokens: &mut Tokens) -> Result<L, ReadFault>
     ensures { Reads (λ nodes. L.names nodes) result (some_names_at tokens.old) tokens.new }
 {
@@ -200,7 +200,7 @@ fn some_nodes<L: NodeList + Drop>(alloc: Global, tokens: &mut Tokens) -> Result<
 }
 
 /// A list of nodes, without the names that mean no node, and how it ends.
-#[tactic(auto, unfolding(catalogue::specs::Parsing::nodes_at, catalogue::specs::Parsing::no_names_at))]
+#[tactic(auto, unfolding(dbc_grammar::specs::Parsing::nodes_at, dbc_grammar::specs::Parsing::no_names_at))]
 fn nodes<L: NodeList + Drop>(alloc: Global, tokens: &mut Tokens) -> Result<(L, Ended), ReadFault>
     ensures { Reads (λ list. L.names list.0) result (nodes_at tokens.old) tokens.new }
 {

@@ -26,7 +26,7 @@ fn skip_open(tokens: &mut Tokens)
 }
 
 /// All tokens up to `;`, and that mark.
-#[tactic(auto, unfolding(catalogue::specs::Parsing::skipped_at))]
+#[tactic(auto, unfolding(dbc_grammar::specs::Parsing::skipped_at))]
 pub(crate) fn skip_to_end<'a>(tokens: &mut Tokens<'a>) -> Result<Content<'a>, ReadFault>
     ensures reads { Reads content_of result (skipped_at tokens.old) tokens.new }
     ensures nothing { IfOk result NothingIsAttached }
@@ -37,7 +37,7 @@ pub(crate) fn skip_to_end<'a>(tokens: &mut Tokens<'a>) -> Result<Content<'a>, Re
 }
 
 /// The rest of a statement after `CM_` that is about an environment variable.
-#[tactic(auto, unfolding(catalogue::specs::Parsing::passed_comment_at))]
+#[tactic(auto, unfolding(dbc_grammar::specs::Parsing::passed_comment_at))]
 pub(crate) fn passed_comment<'a>(tokens: &mut Tokens<'a>) -> Result<Content<'a>, ReadFault>
     ensures reads { Reads content_of result (passed_comment_at tokens.old) tokens.new }
     ensures nothing { IfOk result NothingIsAttached }
@@ -47,7 +47,7 @@ pub(crate) fn passed_comment<'a>(tokens: &mut Tokens<'a>) -> Result<Content<'a>,
 }
 
 /// The rest of a statement after `VAL_` that is about an environment variable.
-#[tactic(auto, unfolding(catalogue::specs::Parsing::passed_value_texts_at))]
+#[tactic(auto, unfolding(dbc_grammar::specs::Parsing::passed_value_texts_at))]
 pub(crate) fn passed_value_texts<'a>(tokens: &mut Tokens<'a>) -> Result<Content<'a>, ReadFault>
     ensures reads { Reads content_of result (passed_value_texts_at tokens.old) tokens.new }
     ensures nothing { IfOk result NothingIsAttached }
@@ -84,7 +84,7 @@ fn skip_to_next(tokens: &mut Tokens)
 }
 
 /// The rest of a statement after `BO_` with the number of the message that holds the signals of no message.
-#[tactic(auto, unfolding(catalogue::specs::Parsing::independent_at))]
+#[tactic(auto, unfolding(dbc_grammar::specs::Parsing::independent_at))]
 pub(crate) fn independent<'a>(tokens: &mut Tokens<'a>) -> Result<Content<'a>, ReadFault>
     ensures reads { Reads content_of result (independent_at tokens.old) tokens.new }
     ensures nothing { IfOk result NothingIsAttached }

@@ -81,7 +81,7 @@ fn first_word(tokens: &mut Tokens, before: Ended) -> Result<(usize, Keyword), Re
 }
 
 /// The rest of a statement after its first keyword, which is at the offset `start`.
-#[tactic(auto, unfolding(catalogue::specs::Parsing::line_at))]
+#[tactic(auto, unfolding(dbc_grammar::specs::Parsing::line_at))]
 fn line<'a>(
     alloc: Global,
     start: usize,
@@ -115,7 +115,7 @@ fn line<'a>(
 }
 
 /// A statement, and how it ends, after a statement that ended as `before` says.
-#[tactic(auto, unfolding(catalogue::specs::Parsing::statement_at))]
+#[tactic(auto, unfolding(dbc_grammar::specs::Parsing::statement_at))]
 pub(crate) fn statement<'a>(
     alloc: Global,
     tokens: &mut Tokens<'a>,

@@ -19,7 +19,7 @@ use dbc_lex::{ReadCode, ReadFault};
 use std::alloc::Global;
 
 /// A multiplexer indicator, if one comes next.
-#[tactic(auto, unfolding(catalogue::specs::Parsing::optional_at))]
+#[tactic(auto, unfolding(dbc_grammar::specs::Parsing::optional_at))]
 fn mux(tokens: &mut Tokens) -> Option<Mux>
     ensures { optional_at (begins fields.mux_of) (token_at fields.mux_of) tokens.old ≡ Some (result, tokens.new) }
 {
@@ -54,7 +54,7 @@ fn colon(tokens: &mut Tokens, is_marked: bool) -> Result<(), ReadFault>
 
 /// Adds the signal from `SG_` on, and its place, and returns how its list of receivers ends.
 #[inline(always)]
-#[tactic(auto, unfolding(catalogue::specs::Parsing::signal_at))]
+#[tactic(auto, unfolding(dbc_grammar::specs::Parsing::signal_at))]
 fn add_signal(
     alloc: Global,
     tokens: &mut Tokens,

@@ -1,5 +1,6 @@
-//! Serves the requests of the file `requests` on an office in memory, and prints each response.
+//! Three parts on offices that serve: responses, stops, and devices that fail.
 //!
+//! **Responses**: the requests of the file `requests` are served on an office in memory, and each response is printed.
 //! A request of the file begins after a line `# TITLE` and ends before the next one. Of its head each LF is sent as
 //! CR LF, and the last LF of the request isn't sent. Each request is served again and again, in pieces of other
 //! sizes, and if its title begins with `##` cut in two at every byte: the response must be the same each time, since
@@ -12,15 +13,35 @@
 //! Requests whose title begins with `#@` are served after the others, over a port of the machine: the clients write
 //! whole requests, then all are served, then the clients read.
 //!
-//! `stdout` is what it must print, worked out from the rules of the desk.
+//! **Stops**, at each call of a file, of offices whose database is two files in memory. There are four works: a list of
+//! eleven requests by `arrive`, the same list by `serve_one`, a list with bundles, and `migrate` of a database that an
+//! earlier version made (`data/older.db`, with the list of eleven). Each is done by an office whose files are under
+//! fuses: so many calls of one of the files succeed, and every later one fails. The number of calls goes up until none
+//! fails. After each stop the files are taken: from a connection that was closed, or left as it was; and what wasn't
+//! synced is lost, or kept. They must hold each request that was answered, and of the one that was lost all or nothing.
+//! Then the list is sent again from its start to a new office on them: its replies are those of the rules, and so is
+//! what it leaves.
+//!
+//! **Devices**: each request of the list of eleven is served to a writer that fails at its first call, and again by a
+//! new office on the same files. And one request is served from a reader of one byte a call that fails at each of its
+//! calls in turn, and to such a writer.
+//!
+//! `stdout` is what all of it must print, worked out from the rules.
 #![tactic(auto)]
 
+mod devices;
+mod disks;
+mod eleven;
+mod lists;
 mod loopback;
+mod offices;
 mod pieces;
 mod requests;
 mod responses;
+mod stops;
 mod waiting;
 
+use devices::try_devices;
 use loopback::{goes_over_port, serve_over_port};
 use pieces::Ending;
 use requests::{Titled, titled_requests};
@@ -28,6 +49,7 @@ use responses::{agree_in_pieces, agree_in_two, opened, response};
 use sqlite::{Alter, Connection};
 use std::fs;
 use std::io::{self, Write};
+use stops::try_stops;
 use store::StoredOffice;
 use waiting::agree_in_one_call;
 
@@ -59,13 +81,14 @@ fn serve<S: Alter>(
     out.write_all(b"\n")
 }
 
-fn main(rt: HostRuntime) -> io::Result<()> {
-    let file = fs::read(&rt, "requests")?;
+/// Serves the requests of the file, one by one, in one call, and over a port.
+fn serve_all(rt: &HostRuntime) -> io::Result<()> {
+    let file = fs::read(rt, "requests")?;
     let requests = titled_requests(rt.alloc(), &file)?;
     let mut office = opened(Connection::open_in_memory(rt.alloc())?)?;
     for titled in requests.iter() {
         if !goes_over_port(titled) {
-            serve(&rt, &mut office, titled)?;
+            serve(rt, &mut office, titled)?;
         }
     }
     if agree_in_one_call(rt.alloc(), &mut office, &requests)? {
@@ -73,5 +96,12 @@ fn main(rt: HostRuntime) -> io::Result<()> {
     } else {
         println!(rt; "in one call: NOT THE SAME")?;
     }
-    serve_over_port(&rt, &mut office, &requests)
+    serve_over_port(rt, &mut office, &requests)
+}
+
+fn main(rt: HostRuntime) -> io::Result<()> {
+    serve_all(&rt)?;
+    let older = fs::read(&rt, "older.db")?;
+    try_stops(&rt, older)?;
+    try_devices(&rt)
 }

@@ -1,7 +1,7 @@
 //! Offices on the files, and ways to send them the requests of a list.
 use crate::disks::{Bytes, Store, Which, connected};
+use crate::eleven::{request, response};
 use crate::lists::{List, Step, is_live_after};
-use crate::requests::{request, response};
 use catalogue::Name;
 use desk::{Counted, Routes, serve_one};
 use office_history::{Answer, Arrival};

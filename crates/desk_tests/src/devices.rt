@@ -2,9 +2,9 @@
 ghost use Rattle.std.specs.Prelude.{◌≡◌, IfOk};
 
 use crate::disks::{Bytes, Taking, Unsynced, taken};
+use crate::eleven::{request, response};
 use crate::lists::ELEVEN;
 use crate::offices::{Opening, Outcome, is_after, office_on, served};
-use crate::requests::{request, response};
 use desk::{Counted, DeskFault, Routes, Sink, Source, serve_one};
 use sqlite::Alter;
 use std::alloc::Global;

@@ -18,7 +18,7 @@
 
 mod columns;
 mod message;
-mod net_line;
+mod networks;
 mod number;
 mod signal;
 mod table;
@@ -26,7 +26,7 @@ mod text;
 mod word;
 
 pub use message::message_chart;
-pub use net_line::net_line;
+pub use networks::net_line;
 pub use number::whole_between;
 pub use signal::{ChartSignal, first_clash_of};
 pub use table::{signal_count, table_of};

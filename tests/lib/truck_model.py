@@ -4,7 +4,7 @@ the cases that compare what canoffice makes of them: the reply to each line, and
 """
 import glob, os, subprocess, sys
 
-sys.path.insert(0, os.environ["TESTS"])
+sys.path.insert(0, os.environ["TESTS"] + "/lib")
 from office_model import EXTENDED, NOBODY, Office, bytes_of, fields_of, parts_of, text_of
 
 TOP = os.path.dirname(os.environ["TESTS"])

@@ -7,7 +7,7 @@ ghost use Rattle.office_script.specs.Files.{IsArrivalOf, IsBundleRequest};
 ghost use Rattle.office_script.specs.Script.{AddsArrivals, Fills};
 
 use crate::bundles::parts_in;
-use crate::files::{PathFault, FileSource};
+use crate::files::{FileSource, PathFault};
 use crate::keys::Dash;
 use crate::lines::says_nothing;
 use crate::requests::{LineRequest, request_of};

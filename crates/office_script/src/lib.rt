@@ -27,7 +27,7 @@ mod words;
 pub use bundles::parts_in;
 pub use escapes::unescape;
 pub use fields::read_fields;
-pub use files::{PathFault, FileSource};
+pub use files::{FileSource, PathFault};
 pub use keys::{Dash, key_of};
 pub use lines::{FirstLine, first_line, says_nothing};
 pub use requests::bundle_file;

@@ -1,6 +1,6 @@
 //! A file that is cut at each of its bytes.
 use crate::run::run_on;
-use canoffice_cli::{PathFault, FileSource, MemoryDatabase, StandardInput, Status};
+use canoffice_cli::{FileSource, MemoryDatabase, PathFault, StandardInput, Status};
 use std::alloc::Global;
 
 /// A whole file: the names after `NS_` in lines of their own, an independent message, a unit with a byte above 127.

@@ -1,7 +1,7 @@
 //! Writers that fail, and memory that runs out.
 use crate::run::run_on;
 use canoffice_cli::{
-    PathFault, FileSource, MemoryDatabase, Report, StandardInput, Status, deliver,
+    FileSource, MemoryDatabase, PathFault, Report, StandardInput, Status, deliver,
 };
 use std::alloc::{AllocError, Global};
 use std::io::{self, ErrorKind, Write};

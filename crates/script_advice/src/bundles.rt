@@ -9,7 +9,7 @@ use crate::cause::{Cause, Wrong};
 use crate::explaining::wrong_line;
 use crate::finding::part_wrong;
 use office_fields::Unread;
-use office_script::{Dash, PathFault, FileSource, bundle_file, first_line, parts_in};
+use office_script::{Dash, FileSource, PathFault, bundle_file, first_line, parts_in};
 use std::alloc::{AllocError, Global};
 
 /// What is stated of the first wrong line of the file, or nothing if no line is wrong.

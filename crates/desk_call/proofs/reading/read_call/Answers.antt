@@ -17,8 +17,8 @@ returns-in-Err-read_until-clause-read g c is_read =
     let rest = c.read_until.new.got.items in
     let spans = c.in-Ok-Some.spans in
     let head : IsHeadAt got c.read_head.new.headers spans = rw c.in-Ok-Some.field-0-is at c.in-Ok-Some.ensures.head in
-    let tail : c.in-Ok-from_slice.rest.items ≡ drop spans.len got =
-    rw (c.deref-2.ensures.value, take_rest got spans.len) at c.in-Ok-from_slice.ensures.items in
+    let tail : c.in-Ok.rest.items ≡ drop spans.len got =
+    rw (c.deref-2.ensures.value, take_rest got spans.len) at c.in-Ok.ensures.items in
     let fault : c.in-Err-read_until.e ≡ Read = cc is_read in
     let read = c.in-Err-read_until.ensures.read (ap Err fault) in
     let second : Moves (left c.read_head.new.source) (left c.read_until.new.source) (drop spans.len got) rest =
@@ -35,8 +35,8 @@ returns-in-Ok-call_read-clause-ok g c =
     let rest = c.read_until.new.got.items in
     let spans = c.in-Ok-Some.spans in
     let head : IsHeadAt got c.read_head.new.headers spans = rw c.in-Ok-Some.field-0-is at c.in-Ok-Some.ensures.head in
-    let tail : c.in-Ok-from_slice.rest.items ≡ drop spans.len got =
-    rw (c.deref-2.ensures.value, take_rest got spans.len) at c.in-Ok-from_slice.ensures.items in
+    let tail : c.in-Ok.rest.items ≡ drop spans.len got =
+    rw (c.deref-2.ensures.value, take_rest got spans.len) at c.in-Ok.ensures.items in
     let second : Moves (left c.read_head.new.source) (left c.read_until.new.source) (drop spans.len got) rest =
     rw tail at c.in-Ok-read_until.ensures.moves in
     let demand : c.demand_at-demand.result ≡ demand_of head.1.0 = c.demand_at-demand.ensures head.1.0 (rw c.deref.ensures.value head.1.2) in

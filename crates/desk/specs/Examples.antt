@@ -63,8 +63,3 @@ says_it_once = refl
 kept_unanswered : (h : List Answered) (a : Asking) (answer : Answer) (sent : Option (List ℕ)) (db : Trees)
     → IsRequested sent (arrives a) → Keeps (h ++ answered_as a answer ∷ []) db → KeepsOneMore h sent (Some []) db
 kept_unanswered h a answer sent db requested kept = (a, requested, (problem_response TryAgain, refl), answer, kept)
-
--- where an answer with status 200 has begun, no arrival is kept beyond the history
-none_beyond_an_answer : (h : List Answered) (sent : Option (List ℕ)) (db : Trees)
-    → KeepsOneMore h sent (Some (codes "HTTP/1.1 2")) db → ⊥
-none_beyond_an_answer h sent db kept = let begun = kept.2.1 in cc

@@ -1,34 +1,40 @@
-//! What the office does with a command on a message, by the part of the network that it reads.
+//! What the office does with a command, by the part of the network that it reads.
 ghost use Rattle.std.specs.Prelude.{◌≡◌, true, IfOk, Some};
-ghost use Rattle.office_facts.specs.Excerpt.{IsExcerptOf, excerpt_numbers, goes_by_excerpt};
+ghost use Rattle.office_facts.specs.Excerpt.{IsExcerptOf, excerpt_numbers, goes_by_excerpt, reads_book};
 ghost use Rattle.office_take.specs.FactsOf.{number_facts_of};
 ghost use Rattle.office_types.specs.declared.book.SpnBook.{SpnBook as Book};
 ghost use Rattle.office_types.specs.declared.state.Net.{Net};
-ghost use Rattle.office_law.specs.Apart.{asks_book};
 ghost use Rattle.office_rules.specs.Change.{IsDecision};
 
 use office_facts::Excerpt;
 use office_law::numbers_elsewhere_do_not_count;
-use office_signals::{decide_remove_signal, decide_set_values, decide_take_bits, decide_take_spn};
-use office_take::{ListedNumbers, NumberFacts, decide_take_ident_on, decide_take_pgn_on};
+use office_signals::{
+    decide_remove_signal, decide_retire_by_facts, decide_set_values, decide_take_bits,
+    decide_take_spn,
+};
+use office_take::{
+    ListedNumbers, NumberFacts, decide_add_node_on, decide_approve_on, decide_grant_on,
+    decide_reject_on, decide_submit_on, decide_take_ident_on, decide_take_pgn_on,
+};
 use office_types::{Action, Command, Decision, SpnBook, Task, Team};
 use std::alloc::{AllocError, Global};
 
-/// Whether an excerpt is enough to decide the task: it is `take_ident`, `take_pgn`, `take_spn`,
-/// `take_bits`, `set_values` or `remove_signal`.
+/// Whether an excerpt is enough to decide the task: it is an action, but neither `open_net` nor `release`.
 pub fn goes_by_excerpt(task: &Task) -> bool
     ensures { result ≡ goes_by_excerpt task.now }
 {
     match task {
-        Task::Act(action) => matches!(
-            action,
-            Action::TakeIdent(_)
-                | Action::TakePgn(_)
-                | Action::TakeSpn(_)
-                | Action::TakeBits(_)
-                | Action::SetValues(_)
-                | Action::RemoveSignal(_)
-        ),
+        Task::Act(action) => !matches!(action, Action::OpenNet(_) | Action::Release),
+        Task::Import(_) | Task::Bundle(_) => false,
+    }
+}
+
+/// Whether the task, where an excerpt is enough for it, also reads the book: it is `grant` or `take_spn`.
+pub fn reads_book(task: &Task) -> bool
+    ensures { result ≡ reads_book task.now }
+{
+    match task {
+        Task::Act(action) => matches!(action, Action::Grant(_) | Action::TakeSpn(_)),
         Task::Import(_) | Task::Bundle(_) => false,
     }
 }
@@ -59,7 +65,7 @@ fn taken_numbers(excerpt: &Excerpt) -> ListedNumbers<'_>
 }
 
 /// Decides the team's command by an excerpt of its network, as [`decide`](crate::decide) does by every network that has
-/// this excerpt. Only `take_spn` reads the book. The error is out of memory.
+/// this excerpt. Only `grant` and `take_spn` read the book. The error is out of memory.
 pub fn decide_excerpt(
     alloc: Global,
     team: &Team,
@@ -69,13 +75,19 @@ pub fn decide_excerpt(
 ) -> Result<Decision, AllocError>
     requires { goes_by_excerpt command.now.task ≡ true }
     ensures { IfOk result (λ d. (net : Net) (other : Book) → IsExcerptOf team.now net command.now.task excerpt.now
-        → (asks_book command.now.task ≡ true → other ≡ book.now)
+        → (reads_book command.now.task ≡ true → other ≡ book.now)
         → IsDecision team.now (record { net = Some net; book = other }) command.now d) }
 {
     numbers_elsewhere_do_not_count();
+    let head = &excerpt.head;
     let facts = excerpt.facts();
     match &command.task {
         Task::Act(action) => match action {
+            Action::Grant(grant) => {
+                let blocks = excerpt.blocks.as_slice();
+                decide_grant_on(alloc, team, &command.net, head, blocks, book, grant)
+            }
+            Action::AddNode(node) => decide_add_node_on(alloc, head, node),
             Action::TakeIdent(take) => {
                 let taken = taken_numbers(excerpt);
                 decide_take_ident_on(alloc, team, &number_facts(excerpt), &taken, take)
@@ -90,7 +102,11 @@ pub fn decide_excerpt(
             Action::TakeBits(take) => decide_take_bits(alloc, team, &facts, take),
             Action::SetValues(set) => decide_set_values(alloc, team, &facts, set),
             Action::RemoveSignal(path) => decide_remove_signal(alloc, team, &facts, path),
-            _ => unreachable!(),
+            Action::Retire(_) => decide_retire_by_facts(alloc, team, &facts, excerpt.released),
+            Action::Submit => decide_submit_on(alloc, team, head),
+            Action::Approve => decide_approve_on(alloc, team, head),
+            Action::Reject => decide_reject_on(alloc, team, head),
+            Action::OpenNet(_) | Action::Release => unreachable!(),
         },
         Task::Import(_) | Task::Bundle(_) => unreachable!(),
     }

@@ -26,6 +26,6 @@ mod plain;
 mod stepping;
 
 pub use deciding::decide;
-pub use excerpt::{decide_excerpt, goes_by_excerpt};
+pub use excerpt::{decide_excerpt, goes_by_excerpt, reads_book};
 pub use office_facts::Excerpt;
 pub use plain::PlainOffice;

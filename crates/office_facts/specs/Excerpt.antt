@@ -1,26 +1,35 @@
 -- Excerpts: the part of a network that a command reads.
-use Rattle.std.specs.Prelude.{◌≡◌, ℕ, Bool, true, List, Option, Some, None, is_some, IfSome}
+use Rattle.std.specs.Prelude.{◌≡◌, ℕ, Bool, true, false, List, Option, Some, None, IfSome}
 use Rattle.office_types.specs.declared.command.Action.TheVariants as act
 use Rattle.office_types.specs.declared.command.Task.{Task}
-use Rattle.office_types.specs.declared.command.Task.TheVariants.{Act}
+use Rattle.office_types.specs.declared.command.Task.TheVariants.{Act, Import, Bundle}
 use Rattle.office_types.specs.declared.state.Net.{Net}
 use Rattle.office_facts.specs.declared.excerpt.Excerpt.{Excerpt}
 use Rattle.office_facts.specs.By.{AreGroupFacts, AreIdentFacts}
-use Rattle.office_rules.specs.Facts.{MessageFacts, NumberFacts, live_named}
+use Rattle.office_rules.specs.Facts.{MessageFacts, NumberFacts, live_named, was_released}
 
--- the message that a command on a signal names
+-- the message that a command on a signal names, or `retire`
 abbrev pub named_message : Task → Option (List ℕ)
 named_message (Act (act.TakeSpn c)) = Some c.path.message
 named_message (Act (act.TakeBits c)) = Some c.path.message
 named_message (Act (act.SetValues c)) = Some c.path.message
 named_message (Act (act.RemoveSignal path)) = Some path.message
+named_message (Act (act.Retire message)) = Some message
 named_message task = None
 
--- the commands that an excerpt is enough for
+-- an excerpt is enough for each action but `open_net` and `release`
 abbrev pub goes_by_excerpt : Task → Bool
-goes_by_excerpt (Act (act.TakeIdent c)) = true
-goes_by_excerpt (Act (act.TakePgn c)) = true
-goes_by_excerpt task = is_some (named_message task)
+goes_by_excerpt (Act (act.OpenNet c)) = false
+goes_by_excerpt (Act act.Release) = false
+goes_by_excerpt (Act a) = true
+goes_by_excerpt (Import file) = false
+goes_by_excerpt (Bundle parts) = false
+
+-- those of them that read the book of suspect parameter numbers
+abbrev pub reads_book : Task → Bool
+reads_book (Act (act.Grant c)) = true
+reads_book (Act (act.TakeSpn c)) = true
+reads_book task = false
 
 -- what the tests of a command on a message read
 abbrev pub excerpt_facts : Excerpt → MessageFacts
@@ -52,7 +61,13 @@ HasNumbers team net (Act (act.TakeIdent c)) e = AreIdentFacts team net c (excerp
 HasNumbers team net (Act (act.TakePgn c)) e = AreGroupFacts team net c (excerpt_numbers e)
 HasNumbers team net task e = Unit {0}
 
+-- where `retire` finds its message: whether a release has the identifier
+abbrev pub HasReleased : Net → Task → Excerpt → Type 0
+HasReleased net (Act (act.Retire message)) e = IfSome e.found (λ m. was_released net.releases m.message.ident ≡ e.released)
+HasReleased net task e = Unit {0}
+
 -- The network has this excerpt for the team's task.
 pub record IsExcerptOf (team : List ℕ) (net : Net) (task : Task) (e : Excerpt) : Type 0 where
   pub parts : HasExcerpt net task e
   pub numbers : HasNumbers team net task e
+  pub released : HasReleased net task e

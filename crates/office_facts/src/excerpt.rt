@@ -1,4 +1,4 @@
-//! The part of a network that a command on one of its messages reads.
+//! The part of a network that a command reads that doesn't read all of it.
 ghost use Rattle.std.specs.Prelude.{◌≡◌};
 ghost use Rattle.office_facts.specs.Excerpt.{excerpt_facts};
 ghost use Rattle.office_facts.specs.FactsOf.{message_facts_of};
@@ -7,7 +7,7 @@ use crate::message::MessageFacts;
 use catalogue::Items;
 use office_types::{GrantedBlock, Head, LiveMessage};
 
-/// What a command on a live message reads of its network: whoever keeps networks in rows reads this and no more.
+/// What such a command reads of its network: whoever keeps networks in rows reads this and no more.
 pub struct Excerpt {
     /// Kind, phase and nodes, with what else the network has once.
     pub head: Head,
@@ -25,6 +25,8 @@ pub struct Excerpt {
     pub want_held: bool,
     /// Numbers that may not be given out; of those that the team's blocks have, all.
     pub taken: Items<u32>,
+    /// Whether a release has the identifier of the message that is taken out.
+    pub released: bool,
 }
 
 impl Excerpt {
@@ -51,6 +53,7 @@ impl Drop for Excerpt {
             want_live: _want_live,
             want_held: _want_held,
             taken: _taken,
+            released: _released,
         } = self;
     }
 }

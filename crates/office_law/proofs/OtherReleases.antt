@@ -42,7 +42,7 @@ use Rattle.office_rules.specs.Outcome.{Entries, Outcome, Refusing, Changing, ent
 use Rattle.office_rules.specs.Reviewing.{approve, in_phase, reject, review_tests, submit, submit_tests, with_approval}
 use Rattle.office_rules.specs.Signals.{new_signal, on_found, remove_signal, remove_signal_tests, set_values, set_values_tests, spn_entered, spn_given, start_given, take_bits, take_bits_tests, take_spn, take_spn_tests, with_last_signal, with_signal_out, with_spn, with_values}
 use Rattle.office_law.specs.Apart.{KeepsReleases}
-use Rattle.office_law.specs.Released.{ReleasesDontCount, action_reads_releases, outcome_with, reads_releases, with_releases}
+use Rattle.office_law.specs.Released.{ReleasesDontCount, action_reads_releases, may_release, outcome_with, reads_releases, with_releases}
 use Rattle.office_law.proofs.Apart.{networks_are_apart}
 use Rattle.office_law.proofs.Unreleased.{kept_unreleased, with_found}
 
@@ -288,25 +288,43 @@ same_net out rs same r n e is = let both : Changing r n e ≡ Changing r (with_r
     one_net : (r : Reply) (n m : Net) (e : Entries) → Changing r n e ≡ Changing r m e → n ≡ m
     one_net r n m e both = cc
 
-none_added : (team : List ℕ) (net : Net) (book : SpnBook) (c : Command) (d : Decision) → reads_releases c.task ≡ false → IsDecision team (record { net = Some net; book = book }) c d
-    → list_any is_release d.changes ≡ false
-none_added team net book c d none h = by_outcome (outcome team h.reading (Some net) book c) refl h.decides
+-- a decision whose outcome leaves the network's releases as they were
+as_before : (team : List ℕ) (net : Net) (book : SpnBook) (c : Command) (d : Decision) (h : IsDecision team (record { net = Some net; book = book }) c d)
+    → ((r : Reply) (n : Net) (e : Entries) → outcome team h.reading (Some net) book c ≡ Changing r n e → n.releases ≡ net.releases) → list_any is_release d.changes ≡ false
+as_before team net book c d h keeps = by_outcome (outcome team h.reading (Some net) book c) refl h.decides
   where
     by_outcome : (out : Outcome) → outcome team h.reading (Some net) book c ≡ out → Decides c.net (record { net = Some net; book = book }) (outcome team h.reading (Some net) book c) d
         → list_any is_release d.changes ≡ false
     by_outcome (Refusing r) is decides =
         let quiet = subst (λ out. IsQuiet out d.changes) is decides.quiet in ap (list_any is_release) quiet
     by_outcome (Changing r n e) is decides =
-        let kept : n.releases ≡ net.releases =
-        same_net (outcome team h.reading (Some net) book c) net.releases (task_with net.releases team c.net h.reading net book c.task none) r n e is in
         kept_unreleased c.net net book d.changes (left_after (record { net = Some net; book = book }) (Changing r n e)) n
-        (decides.changes ∙ ap (left_after (record { net = Some net; book = book })) is) refl (ap length kept)
+        (decides.changes ∙ ap (left_after (record { net = Some net; book = book })) is) refl (ap length (keeps r n e is))
+
+unread_none : (team : List ℕ) (net : Net) (book : SpnBook) (c : Command) (d : Decision) → reads_releases c.task ≡ false → IsDecision team (record { net = Some net; book = book }) c d
+    → list_any is_release d.changes ≡ false
+unread_none team net book c d none h =
+    as_before team net book c d h (λ r n e is. same_net (outcome team h.reading (Some net) book c) net.releases (task_with net.releases team c.net h.reading net book c.task none) r n e is)
+
+-- a command that isn't `release`, and no bundle, keeps the releases
+kept_by : (t : Task) (net n : Net) → may_release t ≡ false → KeepsReleases t net n → n.releases ≡ net.releases
+kept_by (Act act.Release) net n may keeps = absurd (false≢true (sym may))
+kept_by (Act a) net n may (inl same) = same
+kept_by (Act a) net n may (inr added) = absurd (false≢true (sym may ∙ ap may_release added.0))
+kept_by (Import file) net n may (inl same) = same
+kept_by (Import file) net n may (inr added) = absurd (false≢true (sym may ∙ ap may_release added.0))
+kept_by (Bundle parts) net n may keeps = absurd (false≢true (sym may))
+
+none_added : (team : List ℕ) (net : Net) (book : SpnBook) (c : Command) (d : Decision) → may_release c.task ≡ false → IsDecision team (record { net = Some net; book = book }) c d
+    → list_any is_release d.changes ≡ false
+none_added team net book c d may h =
+    as_before team net book c d h (λ r n e is. kept_by c.task net n may (networks_are_apart.releases team h.reading net n book c r e is).1)
 
 pub releases_dont_count : ReleasesDontCount
 releases_dont_count = record {
   outcomes = λ team reading net rs book c none. task_with rs team c.net reading net book c.task none;
   decisions = λ team net rs book c d none h.
-      let unreleased = none_added team net book c d none h in (
+      let unreleased = unread_none team net book c d none h in (
         record {
           reading = h.reading;
           read = h.read;
@@ -315,4 +333,5 @@ releases_dont_count = record {
         },
         unreleased,
       );
+  none_added = none_added;
 }

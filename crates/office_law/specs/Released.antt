@@ -28,6 +28,13 @@ reads_releases (Act a) = action_reads_releases a
 reads_releases (Import file) = false
 reads_releases (Bundle parts) = list_any action_reads_releases parts
 
+-- the commands that may add a release to their network: `release`, and bundles
+abbrev pub may_release : Task → Bool
+may_release (Act act.Release) = true
+may_release (Act a) = false
+may_release (Import file) = false
+may_release (Bundle parts) = true
+
 abbrev pub with_releases : List Sheet → Net → Net
 with_releases rs net = record net { releases = rs }
 
@@ -44,6 +51,9 @@ pub record ReleasesDontCount : Type 0 where
   pub decisions : (team : List ℕ) (net : Net) (rs : List Sheet) (book : SpnBook) (c : Command) (d : Decision) → reads_releases c.task ≡ false
       → IsDecision team (record { net = Some net; book = book }) c d
       → IsDecision team (record { net = Some (with_releases rs net); book = book }) c d × (list_any is_release d.changes ≡ false)
+  -- nor does `retire` add one
+  pub none_added : (team : List ℕ) (net : Net) (book : SpnBook) (c : Command) (d : Decision) → may_release c.task ≡ false
+      → IsDecision team (record { net = Some net; book = book }) c d → list_any is_release d.changes ≡ false
 
 -- `retire` alone depends on what is in a release: whether it has the message's number
 abbrev pub is_retire : Action → Bool

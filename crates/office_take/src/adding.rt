@@ -6,21 +6,22 @@ ghost use Rattle.catalogue.specs.Refusing.{first_refusal};
 ghost use Rattle.office_types.specs.declared.book.SpnBook.{SpnBook};
 ghost use Rattle.office_types.specs.declared.change.Change.TheVariants.{SetHead};
 ghost use Rattle.office_types.specs.declared.reply.Reply.TheVariants.{Done};
+ghost use Rattle.office_types.specs.declared.state.Net.{Net as NetModel};
 ghost use Rattle.office_rules.specs.Change.{Decides};
 ghost use Rattle.office_rules.specs.Facts.{has_node};
 ghost use Rattle.office_rules.specs.Opening.{add_node, add_node_tests, with_node};
 
 use catalogue::{Copying, Name, Node, ROSTER_LIMIT, Sheet, SheetCode, Text};
 use office_facts::{has_node, head_with, in_review, one_change, refusal_decision};
-use office_types::{Change, Decision, Net, Refusal, Reply};
+use office_types::{Change, Decision, Head, Net, Refusal, Reply};
 use std::alloc::{AllocError, Global};
 
-/// Why the node can't be added to the network.
-fn add_node_refusal(net: &Net, name: &Name) -> Option<Refusal>
-    ensures { result ≡ first_refusal (add_node_tests (Some net.now) name.now) }
+/// Why the node can't be added to a network that has this head.
+fn add_node_refusal(head: &Head, name: &Name) -> Option<Refusal>
+    ensures { (net : NetModel) → net.head ≡ head.now → result ≡ first_refusal (add_node_tests (Some net) name.now) }
 {
-    let nodes = net.head.frame.nodes();
-    if in_review(&net.head.phase) {
+    let nodes = head.frame.nodes();
+    if in_review(&head.phase) {
         Some(Refusal::InReview)
     } else if has_node(nodes, name) {
         Some(Refusal::NameTaken)
@@ -47,24 +48,36 @@ fn frame_with(alloc: Global, frame: &Sheet, node: Node) -> Result<Sheet, AllocEr
     }
 }
 
-/// The decision that adds the node.
-fn node_added(alloc: Global, net: &Net, name: &Name) -> Result<Decision, AllocError>
-    requires room { nat_le roster_limit (length net.now.head.frame.nodes) ≡ false }
-    requires new { has_node net.now.head.frame.nodes name.now ≡ false }
-    ensures changes { IfOk result (λ d. d.changes ≡ SetHead
-        (with_node net.now (record { name = name.now; comment = [] })).head ∷ []) }
+/// The decision that adds the node to a network that has this head.
+fn node_added(alloc: Global, head: &Head, name: &Name) -> Result<Decision, AllocError>
+    requires room { nat_le roster_limit (length head.now.frame.nodes) ≡ false }
+    requires new { has_node head.now.frame.nodes name.now ≡ false }
+    ensures changes { IfOk result (λ d. (net : NetModel) → net.head ≡ head.now
+        → d.changes ≡ SetHead (with_node net (record { name = name.now; comment = [] })).head ∷ []) }
     ensures reply { IfOk result (λ d. d.reply ≡ Done) }
 {
     let node = Node {
         name: name.duplicate(alloc)?,
         comment: Text::empty(alloc),
     };
-    let frame = frame_with(alloc, &net.head.frame, node)?;
-    let head = head_with(alloc, &net.head, frame)?;
+    let frame = frame_with(alloc, &head.frame, node)?;
+    let head = head_with(alloc, head, frame)?;
     one_change(alloc, Change::SetHead(head), Reply::Done)
 }
 
-/// Decides an `add_node` of this name, on the network, which may not be there. It reads no team and no book. The error
+/// Decides an `add_node` of this name on a network that has this head. It reads no team and no book. The error is out of
+/// memory.
+pub fn decide_add_node_on(alloc: Global, head: &Head, name: &Name) -> Result<Decision, AllocError>
+    ensures { IfOk result (λ d. (at : List ℕ) (net : NetModel) (book : SpnBook) → net.head ≡ head.now
+        → Decides at (record { net = Some net; book = book }) (add_node (Some net) name.now) d) }
+{
+    match add_node_refusal(head, name) {
+        Some(refusal) => Ok(refusal_decision(alloc, refusal)),
+        None => node_added(alloc, head, name),
+    }
+}
+
+/// Decides an `add_node` of this name on the network, which may not be there. It reads no team and no book. The error
 /// is out of memory.
 pub fn decide_add_node(
     alloc: Global,
@@ -77,9 +90,6 @@ pub fn decide_add_node(
 {
     match net {
         None => Ok(refusal_decision(alloc, Refusal::NoNet)),
-        Some(net) => match add_node_refusal(net, name) {
-            Some(refusal) => Ok(refusal_decision(alloc, refusal)),
-            None => node_added(alloc, net, name),
-        },
+        Some(net) => decide_add_node_on(alloc, &net.head, name),
     }
 }

@@ -1,8 +1,11 @@
 //! Granting a block.
-ghost use Rattle.std.specs.Prelude.{◌≡◌, IfOk};
+ghost use Rattle.std.specs.Prelude.{◌≡◌, IfOk, None, Some};
 ghost use Rattle.std.specs.Option.{option_copied};
 ghost use Rattle.catalogue.specs.Refusing.{first_refusal};
 ghost use Rattle.office_types.specs.Block.{have_common, is_spn};
+ghost use Rattle.office_types.specs.declared.book.SpnBook.{SpnBook as Book};
+ghost use Rattle.office_types.specs.declared.command.Grant.{Grant as GrantModel};
+ghost use Rattle.office_types.specs.declared.state.Net.{Net as NetModel};
 ghost use Rattle.office_rules.specs.Change.{Decides};
 ghost use Rattle.office_rules.specs.Facts.{is_granted, is_spn_granted};
 ghost use Rattle.office_rules.specs.Opening.{grant, grant_tests, is_block_taken};
@@ -11,8 +14,8 @@ ghost use Rattle.office_take.specs.Granting.{grant_change};
 use catalogue::Copying;
 use office_facts::{is_j1939, one_change, refusal_decision};
 use office_types::{
-    BlockForm, Change, Decision, FormBlock, Grant, GrantedBlock, Net, NetName, Refusal, Reply,
-    SpnBlock, SpnBook, Team, is_office,
+    BlockForm, Change, Decision, FormBlock, Grant, GrantedBlock, Head, Net, NetName, Refusal,
+    Reply, SpnBlock, SpnBook, Team, is_office,
 };
 use std::alloc::{AllocError, Global};
 
@@ -25,12 +28,11 @@ fn blocks_have_common(a: FormBlock, b: FormBlock) -> bool
         && b.numbers().first <= a.numbers().last
 }
 
-/// Whether a number of the block is granted in its form on the network.
-fn is_granted(net: &Net, block: FormBlock) -> bool
-    ensures { result ≡ is_granted net.now block }
+/// Whether a number of the block is granted in its form among these blocks of a network.
+fn is_granted(blocks: &[GrantedBlock], block: FormBlock) -> bool
+    ensures { (net : NetModel) → net.blocks ≡ blocks.now → result ≡ is_granted net block }
 {
-    net.blocks
-        .as_slice()
+    blocks
         .iter()
         .any(|granted| blocks_have_common(granted.block, block))
 }
@@ -53,35 +55,36 @@ fn is_spn(form: BlockForm) -> bool
     form == BlockForm::Spn
 }
 
-/// Whether a number of the block is granted already.
-fn is_block_taken(net: &Net, book: &SpnBook, command: &Grant) -> bool
-    ensures { result ≡ is_block_taken net.now book.now command.now }
+/// Whether a number of the block is granted already, on a network that has these blocks or in the book.
+fn is_block_taken(blocks: &[GrantedBlock], book: &SpnBook, command: &Grant) -> bool
+    ensures { (net : NetModel) → net.blocks ≡ blocks.now → result ≡ is_block_taken net book.now command.now }
 {
     if is_spn(command.block.form()) {
         is_spn_granted(book, command.block)
     } else {
-        is_granted(net, command.block)
+        is_granted(blocks, command.block)
     }
 }
 
-/// Why the team may not grant the block on the network, which may not be there.
-fn grant_refusal(team: &Team, net: Option<&Net>, book: &SpnBook, command: &Grant) -> Option<Refusal>
-    ensures { result ≡ first_refusal (grant_tests team.now (option_copied net.entry) book.now command.now) }
+/// Why the team may not grant the block on a network that has this head and these blocks.
+fn grant_refusal(
+    team: &Team,
+    head: &Head,
+    blocks: &[GrantedBlock],
+    book: &SpnBook,
+    command: &Grant,
+) -> Option<Refusal>
+    ensures { (net : NetModel) → net.head ≡ head.now → net.blocks ≡ blocks.now
+        → result ≡ first_refusal (grant_tests team.now (Some net) book.now command.now) }
 {
     if !is_office(team) {
-        return Some(Refusal::NotOffice);
-    }
-    match net {
-        None => Some(Refusal::NoNet),
-        Some(net) => {
-            if command.block.form() == BlockForm::Pgn && !is_j1939(net.head.kind) {
-                Some(Refusal::NotJ1939)
-            } else if is_block_taken(net, book, command) {
-                Some(Refusal::BlockTaken)
-            } else {
-                None
-            }
-        }
+        Some(Refusal::NotOffice)
+    } else if command.block.form() == BlockForm::Pgn && !is_j1939(head.kind) {
+        Some(Refusal::NotJ1939)
+    } else if is_block_taken(blocks, book, command) {
+        Some(Refusal::BlockTaken)
+    } else {
+        None
     }
 }
 
@@ -105,6 +108,38 @@ fn granted(alloc: Global, name: &NetName, command: &Grant) -> Result<Change, All
     }
 }
 
+/// Decides the team's `grant` on a network of this name that has this head and these blocks. The error is out of memory.
+pub fn decide_grant_on(
+    alloc: Global,
+    team: &Team,
+    name: &NetName,
+    head: &Head,
+    blocks: &[GrantedBlock],
+    book: &SpnBook,
+    command: &Grant,
+) -> Result<Decision, AllocError>
+    ensures { IfOk result (λ d. (net : NetModel) → net.head ≡ head.now → net.blocks ≡ blocks.now
+        → Decides name.now (record { net = Some net; book = book.now })
+        (grant team.now name.now (Some net) book.now command.now) d) }
+{
+    if let Some(refusal) = grant_refusal(team, head, blocks, book, command) {
+        return Ok(refusal_decision(alloc, refusal));
+    }
+    let change = granted(alloc, name, command)?;
+    one_change(alloc, change, Reply::Done)
+}
+
+/// Why the team may not grant a block on a network that isn't there.
+fn nowhere_refusal(team: &Team) -> Refusal
+    ensures { (book : Book) (c : GrantModel) → Some result ≡ first_refusal (grant_tests team.now None book c) }
+{
+    if is_office(team) {
+        Refusal::NoNet
+    } else {
+        Refusal::NotOffice
+    }
+}
+
 /// Decides the team's `grant` on the network of this name, which may not be there. The error is out of memory.
 pub fn decide_grant(
     alloc: Global,
@@ -117,9 +152,11 @@ pub fn decide_grant(
     ensures { IfOk result (Decides name.now (record { net = option_copied net.entry; book = book.now })
         (grant team.now name.now (option_copied net.entry) book.now command.now)) }
 {
-    if let Some(refusal) = grant_refusal(team, net, book, command) {
-        return Ok(refusal_decision(alloc, refusal));
+    match net {
+        None => Ok(refusal_decision(alloc, nowhere_refusal(team))),
+        Some(net) => {
+            let blocks = net.blocks.as_slice();
+            decide_grant_on(alloc, team, name, &net.head, blocks, book, command)
+        }
     }
-    let change = granted(alloc, name, command)?;
-    one_change(alloc, change, Reply::Done)
 }

@@ -7,8 +7,10 @@
 //!
 //! `idents` gives out identifiers and `groups` parameter groups. Both read [`NumberFacts`] of a network, and the
 //! numbers that are taken by a [`Taken`], which gathers and sorts them only where no other test refuses; so a refusal
-//! takes no memory, but for that of full blocks. [`decide_take_ident_on`] and [`decide_take_pgn_on`] decide from such
-//! facts, wherever these are kept.
+//! takes no memory, but for that of full blocks.
+//!
+//! A `decide_.._on` decides by the part of a network that its command reads, wherever that is kept: such facts, or the
+//! head and the blocks. So it decides for every network that has this part.
 #![tactic(auto)]
 
 mod adding;
@@ -22,13 +24,16 @@ mod releasing;
 mod reviewing;
 mod taken;
 
-pub use adding::decide_add_node;
-pub use granting::decide_grant;
+pub use adding::{decide_add_node, decide_add_node_on};
+pub use granting::{decide_grant, decide_grant_on};
 pub use groups::{decide_take_pgn, decide_take_pgn_on};
 pub use idents::{decide_take_ident, decide_take_ident_on};
 pub use listed::ListedNumbers;
 pub use numbers::{NumberFacts, group_facts, ident_facts};
 pub use opening::decide_open_net;
 pub use releasing::decide_release;
-pub use reviewing::{decide_approve, decide_reject, decide_submit};
+pub use reviewing::{
+    decide_approve, decide_approve_on, decide_reject, decide_reject_on, decide_submit,
+    decide_submit_on,
+};
 pub use taken::Taken;

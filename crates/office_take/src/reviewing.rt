@@ -5,26 +5,40 @@ ghost use Rattle.catalogue.specs.Refusing.{first_refusal};
 ghost use Rattle.office_types.specs.declared.book.SpnBook.{SpnBook};
 ghost use Rattle.office_types.specs.declared.change.Change.TheVariants.{ClearApprovals, SetHead};
 ghost use Rattle.office_types.specs.declared.reply.Reply.TheVariants.{Done};
+ghost use Rattle.office_types.specs.declared.state.Net.{Net as NetModel};
 ghost use Rattle.office_rules.specs.Change.{Decides};
-ghost use Rattle.office_rules.specs.Reviewing.{approve, in_phase, reject, review_tests, submit};
+ghost use Rattle.office_rules.specs.Reviewing.{approve, reject, review_tests, submit};
 
 use catalogue::Copying;
 use office_facts::{head_in, in_review, is_submitter, one_change, refusal_decision, two_changes};
-use office_types::{Change, Decision, Net, Phase, Refusal, Reply, Team};
+use office_types::{Change, Decision, Head, Net, Phase, Refusal, Reply, Team};
 use std::alloc::{AllocError, Global};
 
-/// The decision that brings the network into the phase, without approvals.
-fn phase_set(alloc: Global, net: &Net, phase: Phase) -> Result<Decision, AllocError>
-    ensures changes { IfOk result (λ d. d.changes ≡ SetHead (in_phase net.now phase).head ∷ ClearApprovals ∷ []) }
+/// The decision that brings the network with this head into the phase, without approvals.
+fn phase_set(alloc: Global, head: &Head, phase: Phase) -> Result<Decision, AllocError>
+    ensures changes { IfOk result
+        (λ d. d.changes ≡ SetHead (record head.now { phase = phase }) ∷ ClearApprovals ∷ []) }
     ensures reply { IfOk result (λ d. d.reply ≡ Done) }
 {
-    let head = head_in(alloc, &net.head, phase)?;
+    let head = head_in(alloc, head, phase)?;
     two_changes(
         alloc,
         Change::SetHead(head),
         Change::ClearApprovals,
         Reply::Done,
     )
+}
+
+/// Decides the team's `submit` on a network that has this head. The error is out of memory.
+pub fn decide_submit_on(alloc: Global, team: &Team, head: &Head) -> Result<Decision, AllocError>
+    ensures { IfOk result (λ d. (name : List ℕ) (net : NetModel) (book : SpnBook) → net.head ≡ head.now
+        → Decides name (record { net = Some net; book = book }) (submit team.now (Some net)) d) }
+{
+    if in_review(&head.phase) {
+        return Ok(refusal_decision(alloc, Refusal::InReview));
+    }
+    let submitter = team.duplicate(alloc)?;
+    phase_set(alloc, head, Phase::Review { submitter })
 }
 
 /// Decides the team's `submit` on the network, which may not be there. It reads no book. The error is out of memory.
@@ -35,26 +49,35 @@ pub fn decide_submit(alloc: Global, team: &Team, net: Option<&Net>) -> Result<De
 {
     match net {
         None => Ok(refusal_decision(alloc, Refusal::NoNet)),
-        Some(net) => {
-            if in_review(&net.head.phase) {
-                return Ok(refusal_decision(alloc, Refusal::InReview));
-            }
-            let submitter = team.duplicate(alloc)?;
-            phase_set(alloc, net, Phase::Review { submitter })
-        }
+        Some(net) => decide_submit_on(alloc, team, &net.head),
     }
 }
 
-/// Why the team may not approve of the network or turn its review down.
-fn review_refusal(team: &Team, net: &Net) -> Option<Refusal>
-    ensures { result ≡ first_refusal (review_tests team.now (Some net.now)) }
+/// Why the team may not approve of a network in this phase or turn its review down.
+fn review_refusal(team: &Team, phase: &Phase) -> Option<Refusal>
+    ensures { (net : NetModel) → net.head.phase ≡ phase.now
+        → result ≡ first_refusal (review_tests team.now (Some net)) }
 {
-    if !in_review(&net.head.phase) {
+    if !in_review(phase) {
         Some(Refusal::NotInReview)
-    } else if is_submitter(team, &net.head.phase) {
+    } else if is_submitter(team, phase) {
         Some(Refusal::OwnReview)
     } else {
         None
+    }
+}
+
+/// Decides the team's `approve` on a network that has this head. The error is out of memory.
+pub fn decide_approve_on(alloc: Global, team: &Team, head: &Head) -> Result<Decision, AllocError>
+    ensures { IfOk result (λ d. (name : List ℕ) (net : NetModel) (book : SpnBook) → net.head ≡ head.now
+        → Decides name (record { net = Some net; book = book }) (approve team.now (Some net)) d) }
+{
+    match review_refusal(team, &head.phase) {
+        Some(refusal) => Ok(refusal_decision(alloc, refusal)),
+        None => {
+            let team = team.duplicate(alloc)?;
+            one_change(alloc, Change::SetApproval(team), Reply::Done)
+        }
     }
 }
 
@@ -66,13 +89,18 @@ pub fn decide_approve(alloc: Global, team: &Team, net: Option<&Net>) -> Result<D
 {
     match net {
         None => Ok(refusal_decision(alloc, Refusal::NoNet)),
-        Some(net) => match review_refusal(team, net) {
-            Some(refusal) => Ok(refusal_decision(alloc, refusal)),
-            None => {
-                let team = team.duplicate(alloc)?;
-                one_change(alloc, Change::SetApproval(team), Reply::Done)
-            }
-        },
+        Some(net) => decide_approve_on(alloc, team, &net.head),
+    }
+}
+
+/// Decides the team's `reject` on a network that has this head. The error is out of memory.
+pub fn decide_reject_on(alloc: Global, team: &Team, head: &Head) -> Result<Decision, AllocError>
+    ensures { IfOk result (λ d. (name : List ℕ) (net : NetModel) (book : SpnBook) → net.head ≡ head.now
+        → Decides name (record { net = Some net; book = book }) (reject team.now (Some net)) d) }
+{
+    match review_refusal(team, &head.phase) {
+        Some(refusal) => Ok(refusal_decision(alloc, refusal)),
+        None => phase_set(alloc, head, Phase::Draft),
     }
 }
 
@@ -84,9 +112,6 @@ pub fn decide_reject(alloc: Global, team: &Team, net: Option<&Net>) -> Result<De
 {
     match net {
         None => Ok(refusal_decision(alloc, Refusal::NoNet)),
-        Some(net) => match review_refusal(team, net) {
-            Some(refusal) => Ok(refusal_decision(alloc, refusal)),
-            None => phase_set(alloc, net, Phase::Draft),
-        },
+        Some(net) => decide_reject_on(alloc, team, &net.head),
     }
 }

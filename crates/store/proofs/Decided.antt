@@ -1,9 +1,11 @@
 -- What is decided on a part of a network is decided on the network that the tables have.
 use Rattle.std.proofs.Common.{◌≡◌, ◌∙◌, ℕ, true, false, List, [], Option, Some, None, Result, Ok, Err, refl, sym, ap, subst}
-use Rattle.std.specs.Prelude.{IfOk, is_some}
+use Rattle.std.specs.Prelude.{IfOk, is_some, not}
 use Rattle.std.specs.List.{list_any}
 use Rattle.std.specs.Option.{option_map}
 use Rattle.std.proofs.lemmas.Bool.{false≢true}
+use Rattle.catalogue.specs.Refusing.{first_refusal}
+use Rattle.office_types.specs.PlainName.{is_office}
 use Rattle.office_types.specs.declared.book.SpnBook.{SpnBook}
 use Rattle.office_types.specs.declared.change.Change.{Change}
 use Rattle.office_types.specs.declared.change.Decision.{Decision}
@@ -11,79 +13,92 @@ use Rattle.office_types.specs.declared.command.Action.TheVariants as act
 use Rattle.office_types.specs.declared.command.Command.{Command}
 use Rattle.office_types.specs.declared.command.Task.{Task}
 use Rattle.office_types.specs.declared.command.Task.TheVariants.{Act, Import, Bundle}
+use Rattle.office_types.specs.declared.refusal.Refusal.{Refusal}
 use Rattle.office_types.specs.declared.refusal.Refusal.TheVariants as no
 use Rattle.office_types.specs.declared.state.Net.{Net}
 use Rattle.office_rules.specs.Change.{AllFit, Decides, HaveOwnBlocks, IsDecision, IsHeadFirst, IsQuiet, all_applied, is_release}
 use Rattle.office_rules.specs.Commands.{done_task, outcome}
 use Rattle.office_rules.specs.Importing.{FileReading}
-use Rattle.office_rules.specs.Outcome.{Refusing, reply_of}
-use Rattle.office_law.specs.Released.{ReleasesDontCount, reads_releases, with_releases}
+use Rattle.office_rules.specs.Outcome.{Refusing, refused_or, reply_of, when}
+use Rattle.office_law.specs.Released.{ReleasesDontCount, may_release, reads_releases, with_releases}
 use Rattle.office_facts.specs.Excerpt.{IsExcerptOf, goes_by_excerpt}
 use Rattle.office_facts.specs.declared.excerpt.Excerpt.{Excerpt}
-use Rattle.office_rows.specs.Rows.{net_row}
-use Rattle.office_rows.specs.Shown.{net_order}
 use Rattle.office_tables.specs.Tables.{Tables}
-use Rattle.store_rows.specs.Listed.{AreListed}
-use Rattle.store_rows.specs.NetIn.{IsNetAt, RestRows}
-use Rattle.store_rows.specs.Rows.{IsNetRow, IsRowOf}
-use Rattle.store_rows.proofs.Listing.{none_listed}
-use Rattle.store_net.specs.Excerpts.{IsExcerptFor, IsReadIn, MatchBoth}
+use Rattle.store_rows.specs.NetIn.{IsNetAt}
+use Rattle.store_net.specs.Excerpts.{IsReadIn, MatchBoth}
+use Rattle.store_net.proofs.Excerpts.{rows_are_read}
 use Rattle.store_net.specs.Writing.{IsNext}
 
 -- ---- what is read
 
-pub read_in : (name : List ℕ) (t : Tables) (net : Option Net) → IsNetAt name t net → IsReadIn name t net
-read_in name t None at = subst (λ (r : RestRows). AreListed net_order (IsRowOf net_row (IsNetRow name)) r.head []) (sym at.rest) none_listed
-read_in name t (Some net) at = record { head = at.rest.head; blocks = at.rest.blocks; held = at.rest.held; live = at.live }
-
--- the excerpt for the message of a command on a signal
-pub for_message : (team message : List ℕ) (task : Task) (net : Option Net) (found : Option Excerpt)
-    → ((n : Net) (e : Excerpt) → IsExcerptFor message n e → IsExcerptOf team n task e) → MatchBoth (IsExcerptFor message) net found → MatchBoth (λ n e. IsExcerptOf team n task e) net found
-for_message team message task None None own read = tt
-for_message team message task None (Some e) own read = absurd read
-for_message team message task (Some n) None own read = absurd read
-for_message team message task (Some n) (Some e) own read = own n e read
+-- what holds of the excerpt makes it the task's
+for_task : (P : Net → Excerpt → Type 0) (team : List ℕ) (task : Task) (net : Option Net) (found : Option Excerpt)
+    → ((n : Net) (e : Excerpt) → P n e → IsExcerptOf team n task e) → MatchBoth P net found → MatchBoth (λ n e. IsExcerptOf team n task e) net found
+for_task P team task None None own read = tt
+for_task P team task None (Some e) own read = absurd read
+for_task P team task (Some n) None own read = absurd read
+for_task P team task (Some n) (Some e) own read = own n e read
 
 -- what is read of a network, read for the whole task
 
-pub message_read : {E : Type 0} (r : Result (Option Excerpt) E) (name team message : List ℕ) (t : Tables) (task whole : Task) → whole ≡ task
-    → ((n : Net) (e : Excerpt) → IsExcerptFor message n e → IsExcerptOf team n task e) → IfOk r (λ found. (net : Option Net) → IsReadIn name t net → MatchBoth (IsExcerptFor message) net found)
+pub net_read : {E : Type 0} (P : Net → Excerpt → Type 0) (r : Result (Option Excerpt) E) (name team : List ℕ) (t : Tables) (task whole : Task) → whole ≡ task
+    → ((n : Net) (e : Excerpt) → P n e → IsExcerptOf team n task e) → IfOk r (λ found. (net : Option Net) → IsNetAt name t net → MatchBoth P net found)
     → IfOk r (λ found. (net : Option Net) → IsNetAt name t net → MatchBoth (λ n e. IsExcerptOf team n whole e) net found)
-message_read (Ok found) name team message t task whole is own read =
-    λ net at. subst (λ k. MatchBoth (λ n e. IsExcerptOf team n k e) net found) (sym is) (for_message team message task net found own (read net (read_in name t net at)))
-message_read (Err e) name team message t task whole is own read = tt
+net_read P (Ok found) name team t task whole is own read =
+    λ net at. subst (λ k. MatchBoth (λ n e. IsExcerptOf team n k e) net found) (sym is) (for_task P team task net found own (read net at))
+net_read P (Err e) name team t task whole is own read = tt
+
+pub part_read : {E : Type 0} (P : Net → Excerpt → Type 0) (r : Result (Option Excerpt) E) (name team : List ℕ) (t : Tables) (task whole : Task) → whole ≡ task
+    → ((n : Net) (e : Excerpt) → P n e → IsExcerptOf team n task e) → IfOk r (λ found. (net : Option Net) → IsReadIn name t net → MatchBoth P net found)
+    → IfOk r (λ found. (net : Option Net) → IsNetAt name t net → MatchBoth (λ n e. IsExcerptOf team n whole e) net found)
+part_read P (Ok found) name team t task whole is own read =
+    λ net at. subst (λ k. MatchBoth (λ n e. IsExcerptOf team n k e) net found) (sym is) (for_task P team task net found own (read net (rows_are_read name t net at)))
+part_read P (Err e) name team t task whole is own read = tt
 
 pub numbers_read : {E : Type 0} (r : Result (Option Excerpt) E) (name team : List ℕ) (t : Tables) (task whole : Task) → whole ≡ task
     → IfOk r (λ found. (net : Option Net) → IsReadIn name t net → MatchBoth (λ n e. IsExcerptOf team n task e) net found)
     → IfOk r (λ found. (net : Option Net) → IsNetAt name t net → MatchBoth (λ n e. IsExcerptOf team n whole e) net found)
-numbers_read (Ok found) name team t task whole is read = λ net at. subst (λ k. MatchBoth (λ n e. IsExcerptOf team n k e) net found) (sym is) (read net (read_in name t net at))
-numbers_read (Err e) name team t task whole is read = tt
+numbers_read r name team t task whole is read = part_read (λ n e. IsExcerptOf team n task e) r name team t task whole is (λ n e it. it) read
 
 pub groups_read : {E : Type 0} (r : Result (Option Excerpt) E) (name team : List ℕ) (t : Tables) (task whole : Task) → whole ≡ task
     → IfOk r (λ found. (net : Option Net) → IsReadIn name t net → (other : List ℕ) → MatchBoth (λ n e. IsExcerptOf other n task e) net found)
     → IfOk r (λ found. (net : Option Net) → IsNetAt name t net → MatchBoth (λ n e. IsExcerptOf team n whole e) net found)
-groups_read (Ok found) name team t task whole is read = λ net at. subst (λ k. MatchBoth (λ n e. IsExcerptOf team n k e) net found) (sym is) (read net (read_in name t net at) team)
+groups_read (Ok found) name team t task whole is read = λ net at. subst (λ k. MatchBoth (λ n e. IsExcerptOf team n k e) net found) (sym is) (read net (rows_are_read name t net at) team)
 groups_read (Err e) name team t task whole is read = tt
 
 -- ---- a network that isn't there
 
-none_refused : (team name : List ℕ) (reading : FileReading) (book : SpnBook) (t : Task) → goes_by_excerpt t ≡ true → done_task team name reading None book t ≡ Refusing no.NoNet
-none_refused team name reading book (Act (act.TakeIdent c)) by = refl
-none_refused team name reading book (Act (act.TakePgn c)) by = refl
-none_refused team name reading book (Act (act.TakeSpn c)) by = refl
-none_refused team name reading book (Act (act.TakeBits c)) by = refl
-none_refused team name reading book (Act (act.SetValues c)) by = refl
-none_refused team name reading book (Act (act.RemoveSignal path)) by = refl
-none_refused team name reading book (Act a) by = absurd (false≢true by)
-none_refused team name reading book (Import file) by = absurd (false≢true by)
-none_refused team name reading book (Bundle parts) by = absurd (false≢true by)
+refuses : (o : Option Refusal) (r : Refusal) → (s : Refusal) × (refused_or o (Refusing r) ≡ Refusing s)
+refuses None r = (r, refl)
+refuses (Some s) r = (s, refl)
+
+-- a command that goes by an excerpt is refused, whatever the book
+none_refused : (team name : List ℕ) (reading : FileReading) (t : Task) → goes_by_excerpt t ≡ true → (r : Refusal) × ((book : SpnBook) → done_task team name reading None book t ≡ Refusing r)
+none_refused team name reading (Act (act.OpenNet c)) by = absurd (false≢true by)
+none_refused team name reading (Act (act.Grant c)) by =
+    let both = refuses (first_refusal (when (not (is_office team)) no.NotOffice ∷ when true no.NoNet ∷ [])) no.NoNet in (both.0, λ book. both.1)
+none_refused team name reading (Act (act.AddNode node)) by = (no.NoNet, λ book. refl)
+none_refused team name reading (Act (act.TakeIdent c)) by = (no.NoNet, λ book. refl)
+none_refused team name reading (Act (act.TakePgn c)) by = (no.NoNet, λ book. refl)
+none_refused team name reading (Act (act.TakeSpn c)) by = (no.NoNet, λ book. refl)
+none_refused team name reading (Act (act.TakeBits c)) by = (no.NoNet, λ book. refl)
+none_refused team name reading (Act (act.SetValues c)) by = (no.NoNet, λ book. refl)
+none_refused team name reading (Act (act.RemoveSignal path)) by = (no.NoNet, λ book. refl)
+none_refused team name reading (Act (act.Retire message)) by = (no.NoNet, λ book. refl)
+none_refused team name reading (Act act.Submit) by = (no.NoNet, λ book. refl)
+none_refused team name reading (Act act.Approve) by = (no.NoNet, λ book. refl)
+none_refused team name reading (Act act.Reject) by = (no.NoNet, λ book. refl)
+none_refused team name reading (Act act.Release) by = absurd (false≢true by)
+none_refused team name reading (Import file) by = absurd (false≢true by)
+none_refused team name reading (Bundle parts) by = absurd (false≢true by)
 
 -- decided with some book, it is decided with any
 absent : (team : List ℕ) (c : Command) (d : Decision) (some book : SpnBook) → goes_by_excerpt c.task ≡ true → IsDecision team (record { net = None; book = some }) c d
     → IsDecision team (record { net = None; book = book }) c d × (list_any is_release d.changes ≡ false)
 absent team c d some book by h =
-    let was : outcome team h.reading None some c ≡ Refusing no.NoNet = none_refused team c.net h.reading some c.task by in
-    let is : outcome team h.reading None book c ≡ Refusing no.NoNet = none_refused team c.net h.reading book c.task by in
+    let refused = none_refused team c.net h.reading c.task by in
+    let was : outcome team h.reading None some c ≡ Refusing refused.0 = refused.1 some in
+    let is : outcome team h.reading None book c ≡ Refusing refused.0 = refused.1 book in
     let quiet : d.changes ≡ [] = subst (λ out. IsQuiet out d.changes) was h.decides.quiet in (
       record {
         reading = h.reading;
@@ -102,12 +117,11 @@ absent team c d some book by h =
 
 -- ---- by an excerpt
 
-reads_none : (t : Task) → goes_by_excerpt t ≡ true → reads_releases t ≡ false
-reads_none (Act (act.Retire message)) by = absurd (false≢true by)
-reads_none (Act act.Release) by = absurd (false≢true by)
-reads_none (Act a) by = refl
-reads_none (Import file) by = refl
-reads_none (Bundle parts) by = absurd (false≢true by)
+adds_none : (t : Task) → goes_by_excerpt t ≡ true → may_release t ≡ false
+adds_none (Act act.Release) by = absurd (false≢true by)
+adds_none (Act a) by = refl
+adds_none (Import file) by = refl
+adds_none (Bundle parts) by = absurd (false≢true by)
 
 abbrev IsDecided : List ℕ → Command → Decision → Option Net → SpnBook → Type 0
 IsDecided team c d net book = IsDecision team (record { net = net; book = book }) c d × (list_any is_release d.changes ≡ false)
@@ -123,7 +137,7 @@ pub excerpt_decided : ReleasesDontCount → (team : List ℕ) (c : Command) (d :
 excerpt_decided law team c d e None book found by is read one = absurd (subst (MatchBoth (λ n e. IsExcerptOf team n c.task e) None) is read)
 excerpt_decided law team c d e (Some n) book found by is read one =
     let decision = one n (subst (MatchBoth (λ n e. IsExcerptOf team n c.task e) (Some n)) is read) in
-    (decision, (law.decisions team n n.releases book c d (reads_none c.task by) decision).1)
+    (decision, law.none_added team n book c d (adds_none c.task by) decision)
 
 -- ---- without releases
 

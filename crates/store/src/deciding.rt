@@ -1,13 +1,13 @@
 //! What is decided on a request that comes for the first time, on what its command reads of the tables.
 //!
-//! Six commands read an excerpt of their network: those on a signal their message alone, those that give out a number
-//! the numbers that could be given out. The others read all of their network but its releases; of these `release` reads
-//! how many there are, and `retire` alone what is in them, and so do bundles with one of them. The book is read where
-//! the command depends on it, and for a bundle.
+//! Most commands read an excerpt of their network: its row and its blocks, and those on a message that one alone, those
+//! that give out a number the numbers that could be given out. `retire` also reads releases, from the last one back up
+//! to the first that has the message's number. `release`, `import` and bundles read all of their network but its
+//! releases; of these `release` reads how many there are, and a bundle with `retire` what is in them. The book is read
+//! where the command depends on it, and for a bundle.
 ghost use Rattle.std.specs.Prelude.{◌≡◌, true, false, Option, Some};
 ghost use Rattle.std.specs.List.{list_any};
 ghost use Rattle.sqlite.specs.Held.{state};
-ghost use Rattle.office_law.specs.Apart.{asks_book};
 ghost use Rattle.office_law.specs.Released.{reads_bodies, reads_releases};
 ghost use Rattle.office_facts.specs.Excerpt.{IsExcerptOf, goes_by_excerpt};
 ghost use Rattle.office_rules.specs.Change.{IsDecision, is_release};
@@ -21,14 +21,14 @@ ghost use Rattle.office_rows.specs.Statement.{ChangesNothing, CommitsNothing, Fi
 
 use crate::counting::{reads_bodies, reads_releases};
 use catalogue::Items;
-use office::{Excerpt, decide, decide_excerpt, goes_by_excerpt};
+use office::{Excerpt, decide, decide_excerpt, goes_by_excerpt, reads_book};
 use office_law::{bodies_dont_count, releases_dont_count};
 use office_types::{Action, Command, Decision, SpnBook, Task, Team, UsedSpns};
 use sqlite::{Alter, Error, Transaction};
 use std::alloc::Global;
 use store_net::{
-    book_of, counted_net_at, group_excerpt_at, ident_excerpt_at, message_excerpt_at, net_at,
-    next_release, unreleased_net_at,
+    book_of, counted_net_at, group_excerpt_at, head_excerpt_at, ident_excerpt_at,
+    message_excerpt_at, net_at, next_release, retire_excerpt_at, unreleased_net_at,
 };
 
 /// The part of the network that the team's command reads, `None` where the network isn't there.
@@ -50,13 +50,19 @@ fn excerpt_at<S: Alter>(
     let name = &command.net;
     match &command.task {
         Task::Act(action) => match action {
+            Action::Grant(_) => head_excerpt_at(alloc, tx, name),
+            Action::AddNode(_) => head_excerpt_at(alloc, tx, name),
             Action::TakeIdent(take) => ident_excerpt_at(alloc, tx, name, team, take),
             Action::TakePgn(take) => group_excerpt_at(alloc, tx, name, take),
             Action::TakeSpn(take) => message_excerpt_at(alloc, tx, name, &take.path.message),
             Action::TakeBits(take) => message_excerpt_at(alloc, tx, name, &take.path.message),
             Action::SetValues(set) => message_excerpt_at(alloc, tx, name, &set.path.message),
             Action::RemoveSignal(path) => message_excerpt_at(alloc, tx, name, &path.message),
-            _ => unreachable!(),
+            Action::Retire(message) => retire_excerpt_at(alloc, tx, name, message),
+            Action::Submit => head_excerpt_at(alloc, tx, name),
+            Action::Approve => head_excerpt_at(alloc, tx, name),
+            Action::Reject => head_excerpt_at(alloc, tx, name),
+            Action::OpenNet(_) | Action::Release => unreachable!(),
         },
         Task::Import(_) | Task::Bundle(_) => unreachable!(),
     }
@@ -67,16 +73,6 @@ fn empty_book(alloc: Global) -> SpnBook {
     SpnBook {
         blocks: Items::new(alloc),
         used: UsedSpns::new(alloc),
-    }
-}
-
-/// Whether the command is `take_spn`, the one of those that go by an excerpt that depends on the book.
-fn takes_spn(task: &Task) -> bool
-    ensures { goes_by_excerpt task.now ≡ true → result ≡ asks_book task.now }
-{
-    match task {
-        Task::Act(action) => matches!(action, Action::TakeSpn(_)),
-        Task::Import(_) | Task::Bundle(_) => false,
     }
 }
 
@@ -101,7 +97,7 @@ fn decide_by_excerpt<S: Alter>(
     let Some(excerpt) = excerpt_at(alloc, tx, team, command)? else {
         return Ok(decide(alloc, team, None, &empty_book(alloc), command)?);
     };
-    if takes_spn(&command.task) {
+    if reads_book(&command.task) {
         let book = book_of(alloc, tx)?;
         return Ok(decide_excerpt(alloc, team, &excerpt, &book, command)?);
     }

@@ -61,6 +61,7 @@ of_ident team net c e live held numbers has live_is held_is agree = record {
     };
     taken = agree;
   };
+  released = tt;
 }
 
 pub of_group : (team : List ℕ) (net : Net) (c : TakePgn) (e : Excerpt) (numbers : List ℕ) → HasNameAndCount c.message.name net e
@@ -82,4 +83,5 @@ of_group team net c e numbers has agree = record {
     };
     taken = agree;
   };
+  released = tt;
 }

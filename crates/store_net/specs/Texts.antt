@@ -1,9 +1,12 @@
 -- The texts of a network: of its live sheet, and of its releases.
-use Rattle.std.specs.Prelude.{◌≡◌, ◌==◌, ℕ, List, Option, Some, None, find}
+use Rattle.std.specs.Prelude.{◌≡◌, ◌==◌, ℕ, Bool, false, List, Option, Some, None, find}
 use Rattle.std.specs.Option.{option_map}
 use Rattle.std.specs.Str.{bytes_eq}
+use Rattle.can_id.specs.Ident.{dbc_number}
+use Rattle.can_id.specs.declared.ident.Ident.{Ident}
 use Rattle.dbc_grammar.specs.Canon.{canonical_text}
 use Rattle.dbc_grammar.specs.Reads.{ReadsOnlyAs}
+use Rattle.catalogue.specs.Messages.{has_number}
 use Rattle.catalogue.specs.declared.message.Message.{Message}
 use Rattle.catalogue.specs.declared.sheet.Sheet.{Sheet}
 use Rattle.views.specs.Message.{message_chart}
@@ -33,6 +36,11 @@ live_chart (Some net) name = option_map message_chart (message_named name (sheet
 abbrev pub release_at : Option Net → ℕ → Option Sheet
 release_at None number = None
 release_at (Some net) number = option_map (λ (r : ℕ × Sheet). r.1) (find (λ (r : ℕ × Sheet). r.0 == number) (numbered 1 net.releases))
+
+-- it is there and has a message of the identifier
+abbrev pub release_has : Option Sheet → Ident → Bool
+release_has None ident = false
+release_has (Some sheet) ident = has_number sheet.messages (dbc_number ident)
 
 -- its canonical text
 abbrev pub release_text : Option Net → ℕ → Option (List ℕ)

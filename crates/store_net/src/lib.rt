@@ -49,7 +49,7 @@ mod setting;
 mod strays;
 mod writing;
 
-pub use excerpt::message_excerpt_at;
+pub use excerpt::{head_excerpt_at, message_excerpt_at, retire_excerpt_at};
 pub use live::{live_chart, live_table, live_text};
 pub use live_list::live_messages;
 pub use message::message_at;

@@ -53,6 +53,7 @@ fn counted_excerpt_at<S: Alter>(
         want_live: false,
         want_held: false,
         taken: Items::new(alloc),
+        released: false,
     }))
 }
 

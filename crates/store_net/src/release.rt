@@ -1,5 +1,7 @@
-//! The text of a release.
-ghost use Rattle.std.specs.Prelude.{◌≡◌, Option, IfOk};
+//! The text of a release, and whether one has an identifier.
+ghost use Rattle.std.specs.Prelude.{◌≡◌, Option, Some, IfOk};
+ghost use Rattle.can_id.specs.Ident.{dbc_number};
+ghost use Rattle.catalogue.specs.Messages.{has_number};
 ghost use Rattle.dbc_grammar.specs.Canon.{canonical_text};
 ghost use Rattle.dbc_grammar.specs.Reads.{Reads, ReadsOnlyAs};
 ghost use Rattle.catalogue.specs.declared.sheet.Sheet.{Sheet as SheetModel};
@@ -7,9 +9,12 @@ ghost use Rattle.std.specs.Option.{option_map};
 ghost use Rattle.office_types.specs.declared.state.Net.{Net as Network};
 ghost use Rattle.sqlite.specs.Held.{state};
 ghost use Rattle.store_rows.specs.NetIn.{IsNetAt};
-ghost use Rattle.store_net.specs.Texts.{IsTextOf, release_at, release_text};
+ghost use Rattle.office_rules.specs.Facts.{was_released};
+ghost use Rattle.store_net.specs.Texts.{IsTextOf, release_at, release_has, release_text};
 ghost use Rattle.office_rows.specs.Statement.{ChangesNothing, CommitsNothing, Finds, LeavesNothing};
 
+use crate::nets::release_count;
+use can_id::Ident;
 use dbc_write::text_of;
 use office_bodies::sheet_of;
 use office_rows::select_release;
@@ -56,4 +61,70 @@ pub fn release_text<S: Alter>(
         Some(row) => Ok(Some(canonical_of(alloc, blob_at(row, 0)?)?)),
         None => Ok(None),
     }
+}
+
+/// Whether the sheet that the body reads as has a message of the identifier. An error is out of memory, or
+/// `InvalidQuery` where it reads as none.
+fn body_has(alloc: Global, body: &[u8], ident: Ident) -> Result<bool, Error>
+    ensures { IfOk result (λ found. (sheet : SheetModel) → Reads body.now sheet
+        → found ≡ has_number sheet.messages (dbc_number ident)) }
+{
+    let number = ident.to_dbc();
+    match sheet_of(alloc, body)? {
+        Some(sheet) => Ok(sheet.messages().iter().any(|one| one.number() == number)),
+        None => Err(Error::InvalidQuery),
+    }
+}
+
+/// Whether the network has a release of the number, and it has a message of the identifier. The errors are those of
+/// [`release_text`].
+fn release_has_at<S: Alter>(
+    alloc: Global,
+    tx: &mut Transaction<'_, S>,
+    name: &NetName,
+    number: u32,
+    ident: Ident,
+) -> Result<bool, Error>
+    ensures same_reference { tx.new.conn.ghost_name ≡ tx.old.conn.ghost_name }
+    ensures found { Finds result (state S.Store tx.old.conn.now) (state S.Store tx.new.conn.now)
+        (λ found t. (net : Option Network) → IsNetAt name.now t net
+        → found ≡ release_has (release_at net number) ident) }
+    ensures same { ChangesNothing result (state S.Store tx.old.conn.now) (state S.Store tx.new.conn.now) }
+    ensures kept { CommitsNothing (state S.Store tx.old.conn.now) (state S.Store tx.new.conn.now) }
+    ensures survives { LeavesNothing (state S.Store tx.old.conn.now) (state S.Store tx.new.conn.now) }
+{
+    let rows = select_release(tx, name.as_bytes(), number)?;
+    match rows.first() {
+        Some(row) => body_has(alloc, blob_at(row, 0)?, ident),
+        None => Ok(false),
+    }
+}
+
+/// Whether a release of the network has a message of the identifier. They are read one by one from the last one back,
+/// up to the first that has it: most messages that are retired are in the last release. The errors are those of
+/// [`release_text`].
+pub(crate) fn is_released_at<S: Alter>(
+    alloc: Global,
+    tx: &mut Transaction<'_, S>,
+    name: &NetName,
+    ident: Ident,
+) -> Result<bool, Error>
+    ensures same_reference { tx.new.conn.ghost_name ≡ tx.old.conn.ghost_name }
+    ensures found { Finds result (state S.Store tx.old.conn.now) (state S.Store tx.new.conn.now)
+        (λ found t. (net : Network) → IsNetAt name.now t (Some net) → found ≡ was_released net.releases ident) }
+    ensures same { ChangesNothing result (state S.Store tx.old.conn.now) (state S.Store tx.new.conn.now) }
+    ensures kept { CommitsNothing (state S.Store tx.old.conn.now) (state S.Store tx.new.conn.now) }
+    ensures survives { LeavesNothing (state S.Store tx.old.conn.now) (state S.Store tx.new.conn.now) }
+{
+    let count = release_count(tx, name)?;
+    let Ok(mut number) = u32::try_from(count) else {
+        return Err(Error::InvalidQuery);
+    };
+    while number > 0 {
+        if release_has_at(alloc, tx, name, number, ident)? {
+            return Ok(true);
+        }
+        number -= 1;
+    }
+    Ok(false)
 }

@@ -1,10 +1,12 @@
 use Rattle.std.proofs.Common.{◌≡◌, ◌∙◌, Some, ap, sym, subst}
+use Rattle.std.specs.Prelude.{IfSome}
 use Rattle.std.proofs.lemmas.Result.{IfOk-weaker}
-use Rattle.office_types.specs.declared.command.Action.TheVariants.{TakeIdent, TakePgn, TakeSpn, TakeBits, SetValues, RemoveSignal}
+use Rattle.office_types.specs.declared.command.Action.TheVariants.{Grant, AddNode, TakeIdent, TakePgn, TakeSpn, TakeBits, SetValues, RemoveSignal, Retire, Submit, Approve, Reject}
 use Rattle.office_types.specs.declared.command.Task.TheVariants.{Act}
-use Rattle.office_facts.specs.Excerpt.{HasNumbers, excerpt_numbers, named_message}
-use Rattle.office_law.specs.Apart.{asks_book}
+use Rattle.office_facts.specs.Excerpt.{HasNumbers, HasReleased, excerpt_numbers, named_message, reads_book}
 use Rattle.office_rules.specs.Change.{Decides}
+use Rattle.office_rules.specs.Facts.{was_released}
+use Rattle.office_rules.specs.Opening.{grant}
 use Rattle.office_rules.specs.Signals.{take_spn}
 use Rattle.office_rules.specs.Numbers.{take_ident, take_pgn}
 use Rattle.office_facts.specs.By.{take_ident_by, take_pgn_by}
@@ -47,7 +49,7 @@ returns-in-TakeSpn c =
     let is : command.task ≡ Act (TakeSpn c.in-TakeSpn.take) = c.in-Act.is ∙ ap Act c.in-TakeSpn.is in
     IfOk-weaker c.decide_take_spn.result _ _
     (λ d h net other has requested. by_action team command (TakeSpn c.in-TakeSpn.take) net other d is
-    (subst (λ b. Decides command.net (record { net = Some net; book = b }) (take_spn team command.net (Some net) b c.in-TakeSpn.take) d) (sym (requested (ap asks_book is)))
+    (subst (λ b. Decides command.net (record { net = Some net; book = b }) (take_spn team command.net (Some net) b c.in-TakeSpn.take) d) (sym (requested (ap reads_book is)))
     (h net (c.facts-facts.ensures ∙ facts_are net command.task c.args.excerpt.now c.in-TakeSpn.take.path.message (ap named_message is) has.parts))))
     c.decide_take_spn.ensures
 
@@ -80,3 +82,59 @@ returns-in-TakePgn c =
     ∙ group_inside c.numbers_elsewhere_do_not_count.ensures team net take (excerpt_numbers e) (subst (λ t. HasNumbers team net t e) is has.numbers))
     (h command.net net other)))
     c.decide_take_pgn_on.ensures
+
+pub returns-in-Grant : goal.returns-in-Grant
+returns-in-Grant c =
+    let command = c.args.command.now in
+    let team = c.args.team.now in
+    let is : command.task ≡ Act (Grant c.in-Grant.grant) = c.in-Act.is ∙ ap Act c.in-Grant.is in
+    IfOk-weaker c.decide_grant_on.result _ _
+    (λ d h net other has requested. by_action team command (Grant c.in-Grant.grant) net other d is
+    (subst (λ b. Decides command.net (record { net = Some net; book = b }) (grant team command.net (Some net) b c.in-Grant.grant) d) (sym (requested (ap reads_book is)))
+    (h net (sym has.parts.head) (sym (c.as_slice.ensures ∙ has.parts.blocks)))))
+    c.decide_grant_on.ensures
+
+pub returns-in-AddNode : goal.returns-in-AddNode
+returns-in-AddNode c =
+    let command = c.args.command.now in
+    let is : command.task ≡ Act (AddNode c.in-AddNode.node) = c.in-Act.is ∙ ap Act c.in-AddNode.is in
+    IfOk-weaker c.decide_add_node_on.result _ _
+    (λ d h net other has requested. by_action c.args.team.now command (AddNode c.in-AddNode.node) net other d is (h command.net net other (sym has.parts.head)))
+    c.decide_add_node_on.ensures
+
+pub returns-in-Submit : goal.returns-in-Submit
+returns-in-Submit c =
+    let command = c.args.command.now in
+    let is : command.task ≡ Act Submit = c.in-Act.is ∙ ap Act c.in-Submit.is in
+    IfOk-weaker c.decide_submit_on.result _ _
+    (λ d h net other has requested. by_action c.args.team.now command Submit net other d is (h command.net net other (sym has.parts.head)))
+    c.decide_submit_on.ensures
+
+pub returns-in-Approve : goal.returns-in-Approve
+returns-in-Approve c =
+    let command = c.args.command.now in
+    let is : command.task ≡ Act Approve = c.in-Act.is ∙ ap Act c.in-Approve.is in
+    IfOk-weaker c.decide_approve_on.result _ _
+    (λ d h net other has requested. by_action c.args.team.now command Approve net other d is (h command.net net other (sym has.parts.head)))
+    c.decide_approve_on.ensures
+
+pub returns-in-Reject : goal.returns-in-Reject
+returns-in-Reject c =
+    let command = c.args.command.now in
+    let is : command.task ≡ Act Reject = c.in-Act.is ∙ ap Act c.in-Reject.is in
+    IfOk-weaker c.decide_reject_on.result _ _
+    (λ d h net other has requested. by_action c.args.team.now command Reject net other d is (h command.net net other (sym has.parts.head)))
+    c.decide_reject_on.ensures
+
+pub returns-in-Retire : goal.returns-in-Retire
+returns-in-Retire c =
+    let command = c.args.command.now in
+    let team = c.args.team.now in
+    let e = c.args.excerpt.now in
+    let message = c.in-Retire.field-0 in
+    let is : command.task ≡ Act (Retire message) = c.in-Act.is ∙ ap Act c.in-Retire.is in
+    IfOk-weaker c.decide_retire_by_facts.result _ _
+    (λ d h net other has requested. by_action team command (Retire message) net other d is
+    (h command.net message net other (c.facts-facts.ensures ∙ facts_are net command.task e message (ap named_message is) has.parts)
+    (subst (λ f. IfSome f.found (λ m. was_released net.releases m.message.ident ≡ e.released)) (sym c.facts-facts.ensures) (subst (λ t. HasReleased net t e) is has.released))))
+    c.decide_retire_by_facts.ensures

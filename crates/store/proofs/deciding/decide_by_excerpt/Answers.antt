@@ -8,8 +8,8 @@ use Rattle.store_rows.specs.Rows.{IsBookIn}
 use Rattle.store.proofs.Decided.{excerpt_decided}
 use Rattle.store.proofs.deciding.decide_by_excerpt.Goals as goal
 
-pub returns-then-takes_spn-clause-decided : goal.returns-then-takes_spn-clause-decided
-returns-then-takes_spn-clause-decided g c clean office net book at in_book =
+pub returns-then-reads_book-clause-decided : goal.returns-then-reads_book-clause-decided
+returns-then-reads_book-clause-decided g c clean office net book at in_book =
     let s0 = state g.S.Store c.args.tx.now.conn.now in
     let s1 = state g.S.Store c.excerpt_at.new.tx.conn.now in
     let clean1 : HasCleanDisk s1 = omega (arith, c.book_of.ensures.survives.clean, clean) in
@@ -23,4 +23,4 @@ pub returns-clause-decided : goal.returns-clause-decided
 returns-clause-decided g c clean office net book at in_book =
     excerpt_decided c.releases_dont_count.ensures c.args.team.now c.args.command.now c.in_ok-decide_excerpt-2.field-0 c.in-Some.excerpt net book c.in_ok-excerpt.field-0 c.requires c.in-Some.is
     (c.in_ok-excerpt.ensures.found clean office net at)
-    (λ n has. c.in_ok-decide_excerpt-2.ensures n book has (λ asks. absurd (false≢true (sym c.if-takes_spn.false ∙ c.takes_spn.ensures c.requires ∙ asks))))
+    (λ n has. c.in_ok-decide_excerpt-2.ensures n book has (λ asks. absurd (false≢true (sym c.if-reads_book.false ∙ c.reads_book.ensures ∙ asks))))

@@ -1,12 +1,13 @@
 -- What a network keeps with a live message more, with one in place of another, without one, and with a release more.
-use Rattle.std.proofs.Common.{◌≡◌, ◌≢◌, ◌<◌, ◌∙◌, ◌||◌, not, Bool, true, false, cond, ℕ, zero, suc, List, [], ◌∷◌, ◌++◌, length, get_or, Contains, inl, inr, refl, sym, ap, subst, arith}
+use Rattle.std.proofs.Common.{◌≡◌, ◌≢◌, ◌<◌, ◌∙◌, ◌==◌, ◌||◌, not, Bool, true, false, cond, ℕ, zero, suc, List, [], ◌∷◌, ◌++◌, length, get_or, Contains, inl, inr, refl, sym, ap, subst, arith, eq-eqb}
 use Rattle.std.specs.List.{All, filter, list_any}
 use Rattle.std.specs.declared.cmp.Ordering.TheVariants.{Equal}
-use Rattle.std.proofs.lemmas.Bool.{cond_both, false≢true, not-true}
+use Rattle.std.proofs.lemmas.Bool.{cond_both, false_from_ne_true, false≢true, not-true}
+use Rattle.std.proofs.lemmas.Bool.Decides.{nat_tests}
 use Rattle.std.proofs.lemmas.Cmp.{nat_cmp_total, on_total, ranked}
 use Rattle.std.proofs.lemmas.List.{length-append, length-map}
 use Rattle.std.proofs.lemmas.List.Elements.{All-contains, All-filter, All-map, All-push, All-weaker, filter_passes}
-use Rattle.std.proofs.lemmas.List.Folds.{list_any-append}
+use Rattle.std.proofs.lemmas.List.Folds.{list_any-append, list_any_at, list_any_none}
 use Rattle.can_id.specs.Ident.{IsIdentifier, dbc_number}
 use Rattle.can_id.specs.declared.ident.Ident.{Ident}
 use Rattle.catalogue.specs.Form.{IsSheet}
@@ -23,7 +24,7 @@ use Rattle.office_types.specs.State.{by_ident, by_number, live_messages, sheet_o
 use Rattle.office_types.specs.declared.state.LiveMessage.{LiveMessage}
 use Rattle.office_types.specs.declared.state.Net.{Net}
 use Rattle.office_types.specs.declared.state.Phase.TheVariants.{Draft}
-use Rattle.office_rules.specs.Facts.{has_ident, same_ident, was_released}
+use Rattle.office_rules.specs.Facts.{has_ident, in_last, is_held, is_live, same_ident, was_released}
 use Rattle.office_rules.specs.Kept.{AgreeOnNames, AreHeld, AreLive, AreReleases, HaveOneName, IsLiveOrHeld, IsNet, IsStillLive}
 use Rattle.office_rules.specs.Numbers.{with_message}
 use Rattle.office_rules.specs.Outcome.{Entries}
@@ -48,11 +49,15 @@ one_live frame live a b h c d e =
     one_of_key number_of (live_messages live) h.sheet.well_formed.together.ascending a.message b.message
     (Contains-map (λ (l : LiveMessage). l.message) live a c) (Contains-map (λ (l : LiveMessage). l.message) live b d) e
 
+-- a live message that was released is in the last release
+abbrev IsInLast : List Sheet → LiveMessage → Type 0
+IsInLast releases m = was_released releases m.message.ident ≡ in_last releases m.message.ident
+
 -- Releases stay as they are where what was live or held still is.
 pub AreReleases-still : (live next : List LiveMessage) (held then : List Ident) (releases : List Sheet)
     → ((s : Sheet) (m : Message) → Contains releases s → Contains s.messages m → IsLiveOrHeld live held m → IsLiveOrHeld next then m)
-    → AreReleases live held releases → AreReleases next then releases
-AreReleases-still live next held then releases still h = record {
+    → AreReleases live held releases → All (IsInLast releases) next → AreReleases next then releases
+AreReleases-still live next held then releases still h last = record {
   sheets = h.sheets;
   clear = h.clear;
   few = h.few;
@@ -60,7 +65,43 @@ AreReleases-still live next held then releases still h = record {
       All-from_contains (IsLiveOrHeld next then) s.messages (λ m d.
       still s m c d (All-contains (IsLiveOrHeld live held) s.messages m (All-contains (λ t. All (IsLiveOrHeld live held) t.messages) releases s h.kept c) d)));
   one_name = h.one_name;
+  last = last;
 }
+
+-- what the last release has was released
+pub last_released : (releases : List Sheet) (i : Ident) → in_last releases i ≡ true → was_released releases i ≡ true
+last_released [] i is = absurd (false≢true is)
+last_released (s ∷ []) i is = ap (λ b. b || false) is
+last_released (s ∷ t ∷ releases) i is = or_later (has_number s.messages (dbc_number i)) (was_released (t ∷ releases) i) (last_released (t ∷ releases) i is)
+  where
+    or_later : (a b : Bool) → b ≡ true → (a || b) ≡ true
+    or_later true b is = refl
+    or_later false b is = is
+
+-- an identifier that is neither live nor held was never released
+pub never_released : (net : Net) (i : Ident) → IsNet net → IsIdentifier i → is_live net i ≡ false → is_held net i ≡ false → was_released net.releases i ≡ false
+never_released net i h form unlive unheld =
+    list_any_none (λ (s : Sheet). has_number s.messages (dbc_number i)) net.releases (All-from_contains _ net.releases (λ s c.
+    list_any_none (λ (m : Message). number_of m == dbc_number i) s.messages (All-from_contains _ s.messages (λ m d.
+    false_from_ne_true _ (λ e. other s m c d (one_number (number_of m) (dbc_number i) e))))))
+  where
+    one_number : (a b : ℕ) → (a == b) ≡ true → a ≡ b
+    one_number a b e = grind (arith, nat_tests)
+
+    kept : (s : Sheet) (m : Message) → Contains net.releases s → Contains s.messages m → IsLiveOrHeld net.live net.held m
+    kept s m c d = All-contains (IsLiveOrHeld net.live net.held) s.messages m (All-contains (λ t. All (IsLiveOrHeld net.live net.held) t.messages) net.releases s h.releases.kept c) d
+
+    other : (s : Sheet) (m : Message) → Contains net.releases s → Contains s.messages m → number_of m ≡ dbc_number i → ⊥
+    other s m c d e =
+        let same : m.ident ≡ i = same_number m.ident i (keeps_message s m (All-contains IsSheet net.releases s h.releases.sheets c) d).form.ident form e in
+        elim (kept s m c d) [
+          | inl live ↦ not_live net i live.now unlive live.there (live.ident ∙ same)
+          | inr held ↦ not_held net i unheld (subst (Contains net.held) same held)
+        ]
+
+-- so if it becomes live, nothing is said of the last release
+unreleased_last : (releases : List Sheet) (i : Ident) → was_released releases i ≡ false → was_released releases i ≡ in_last releases i
+unreleased_last releases i none = none ∙ sym (false_from_ne_true _ (λ is. false≢true (sym none ∙ last_released releases i is)))
 
 -- a message among live ones where none has its identifier
 pub still_live-put : (frame : Sheet) (live : List LiveMessage) (x : LiveMessage) (m : Message) → AreLive frame live → IsIdentifier x.message.ident
@@ -91,7 +132,8 @@ IsNet-joined net m h can few = record {
   releases = AreReleases-still net.live (put by_number m net.live) net.held net.held net.releases (λ s x c d w. elim w [
     | inl live ↦ inl (still_live-put net.head.frame net.live m x h.live can.form.form.ident (λ y there. not_live net m.message.ident y can.new there) live)
     | inr held ↦ inr held
-  ]) h.releases;
+  ]) h.releases (All-put (IsInLast net.releases) by_number m net.live
+      (unreleased_last net.releases m.message.ident (never_released net m.message.ident h can.form.form.ident can.new can.free)) h.releases.last);
 }
 
 -- a network with a live message whose signals are others
@@ -114,7 +156,8 @@ IsNet-changed net e m signals h can = record {
   releases = AreReleases-still net.live (put by_number (with_signals m signals) net.live) net.held net.held net.releases (λ s x c d w. elim w [
     | inl live ↦ inl (replaced x live)
     | inr held ↦ inr held
-  ]) h.releases;
+  ]) h.releases (All-put (IsInLast net.releases) by_number (with_signals m signals) net.live
+      (All-contains (IsInLast net.releases) net.live m h.releases.last can.there) h.releases.last);
 }
   where
     replaced : (x : Message) → IsStillLive net.live x → IsStillLive (put by_number (with_signals m signals) net.live) x
@@ -159,7 +202,7 @@ without net i held h are_held gone stays = record {
   releases = AreReleases-still net.live (filter (λ m. not (has_ident i m)) net.live) net.held held net.releases (λ s m c d w. elim w [
     | inl live ↦ by_ident s m c d live (same_ident live.now.message.ident i) refl
     | inr was ↦ inr (stays m.ident was)
-  ]) h.releases;
+  ]) h.releases (All-filter (λ m. not (has_ident i m)) (IsInLast net.releases) net.live h.releases.last);
 }
   where
     by_ident : (s : Sheet) (m : Message) → Contains net.releases s → Contains s.messages m → (w : IsStillLive net.live m) → (b : Bool) → same_ident w.now.message.ident i ≡ b
@@ -245,6 +288,17 @@ released_more releases s i h =
     list_any-append (λ (t : Sheet). has_number t.messages (dbc_number i)) releases (s ∷ [])
     ∙ ap (λ b. b || list_any (λ (t : Sheet). has_number t.messages (dbc_number i)) (s ∷ [])) h
 
+-- the release that was added is the last
+last_of_more : (releases : List Sheet) (s : Sheet) (i : Ident) → in_last (releases ++ s ∷ []) i ≡ has_number s.messages (dbc_number i)
+last_of_more [] s i = refl
+last_of_more (t ∷ []) s i = refl
+last_of_more (t ∷ u ∷ releases) s i = last_of_more (u ∷ releases) s i
+
+-- a sheet has the number of a message of it
+is_number : (s : Sheet) (m : Message) → Contains s.messages m → has_number s.messages (dbc_number m.ident) ≡ true
+is_number s m d =
+    list_any_at (λ (x : Message). number_of x == dbc_number m.ident) s.messages d.0 m d.1 (ap (λ (x : Message). number_of x == dbc_number m.ident) d.2 ∙ eq-eqb (number_of m) (number_of m) refl)
+
 IsNet-with_release : (net : Net) → IsNet net → length net.releases < release_limit → IsNet (with_release net (sheet_of net))
 IsNet-with_release net h few = record {
   named = h.named;
@@ -267,6 +321,10 @@ IsNet-with_release net h few = record {
     one_name = All-push (λ s. All (AgreeOnNames s) (net.releases ++ sheet_of net ∷ [])) net.releases (sheet_of net)
         (All-from_contains (λ s. All (AgreeOnNames s) (net.releases ++ sheet_of net ∷ [])) net.releases (λ s c. All-push (AgreeOnNames s) net.releases (sheet_of net) (All-contains (λ t. All (AgreeOnNames t) net.releases) net.releases s h.releases.one_name c) (old_new s c)))
         (All-push (AgreeOnNames (sheet_of net)) net.releases (sheet_of net) (All-from_contains (AgreeOnNames (sheet_of net)) net.releases new_old) new_new);
+    last = All-from_contains (IsInLast (net.releases ++ sheet_of net ∷ [])) net.live (λ l there.
+        let now : has_number (sheet_of net).messages (dbc_number l.message.ident) ≡ true = is_number (sheet_of net) l.message (Contains-map (λ (o : LiveMessage). o.message) net.live l there) in
+        let in_it = last_of_more net.releases (sheet_of net) l.message.ident ∙ now in
+        last_released (net.releases ++ sheet_of net ∷ []) l.message.ident in_it ∙ sym in_it);
   };
 }
   where

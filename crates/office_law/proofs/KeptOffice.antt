@@ -170,7 +170,7 @@ opened name book c plain few h = quiet name book (bare_net name (new_head c)) (r
   blocks = record { ranges = All-nil _; formed = All-nil _; groups = All-nil _; rising = tt; apart = λ i j d l w. absurd (omega arith) };
   held = record { identifiers = All-nil _; rising = tt; released = All-nil _; apart = All-nil _ };
   approvals = record { plain = All-nil _; rising = tt; in_review = λ _. refl; others = tt };
-  releases = record { sheets = All-nil _; clear = All-nil _; few = omega arith; kept = All-nil _; one_name = All-nil _ };
+  releases = record { sheets = All-nil _; clear = All-nil _; few = omega arith; kept = All-nil _; one_name = All-nil _; last = All-nil _ };
 }) refl h (record { live = All-nil _; released = All-nil _ })
 
 -- Each command.

@@ -1,5 +1,5 @@
 -- What a network has, as the tests of commands ask for it.
-use Rattle.std.specs.Prelude.{ℕ, Bool, true, false, ◌&&◌, ◌==◌, List, ◌++◌, map, filter, find, length, Option, Some, None}
+use Rattle.std.specs.Prelude.{ℕ, Bool, true, false, ◌&&◌, ◌==◌, List, [], ◌∷◌, ◌++◌, map, filter, find, length, Option, Some, None}
 use Rattle.std.specs.List.{list_any, filter_map}
 use Rattle.std.specs.Str.{bytes_eq}
 use Rattle.can_id.specs.Ident.{dbc_number, ident_of}
@@ -81,6 +81,12 @@ is_held net i = list_any (λ held. same_ident held i) net.held
 -- a release has a message of the identifier
 abbrev pub was_released : List Sheet → Ident → Bool
 was_released releases i = list_any (λ s. has_number s.messages (dbc_number i)) releases
+
+-- the last release has one
+abbrev pub in_last : List Sheet → Ident → Bool
+in_last [] i = false
+in_last (s ∷ []) i = has_number s.messages (dbc_number i)
+in_last (s ∷ t ∷ releases) i = in_last (t ∷ releases) i
 
 -- the identifiers that may not be given out: live ones, then held ones
 abbrev pub taken_idents : Net → List Ident

@@ -22,7 +22,7 @@ use Rattle.office_types.specs.declared.state.Net.{Net}
 use Rattle.office_types.specs.declared.state.Office.{Office}
 use Rattle.office_types.specs.declared.state.Phase.{Phase}
 use Rattle.office_types.specs.declared.state.Phase.TheVariants.{Draft}
-use Rattle.office_rules.specs.Facts.{is_j1939, spn_range, was_released}
+use Rattle.office_rules.specs.Facts.{in_last, is_j1939, spn_range, was_released}
 use Rattle.office_rules.specs.Reviewing.{release_limit}
 use Rattle.office_rules.specs.Step.{net_named}
 
@@ -79,13 +79,15 @@ HaveOneName m n = m.ident ≡ n.ident → m.name ≡ n.name
 abbrev pub AgreeOnNames : Sheet → Sheet → Type 0
 AgreeOnNames s t = All (λ m. All (HaveOneName m) t.messages) s.messages
 
--- Releases are clear sheets, and any two of them give one identifier one name.
+-- Releases are clear sheets, and any two of them give one identifier one name. A live message that was released is in
+-- the last one: what comes to live isn't in any, and all that is live is in each new one.
 pub record AreReleases (live : List LiveMessage) (held : List Ident) (releases : List Sheet) : Type 0 where
   pub sheets : All IsSheet releases
   pub clear : All IsClearSheet releases
   pub few : length releases ≤ release_limit
   pub kept : All (λ s. All (IsLiveOrHeld live held) s.messages) releases
   pub one_name : All (λ s. All (AgreeOnNames s) releases) releases
+  pub last : All (λ m. was_released releases m.message.ident ≡ in_last releases m.message.ident) live
 
 pub record IsNet (net : Net) : Type 0 where
   pub named : IsPlainName net.name

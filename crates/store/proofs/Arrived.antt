@@ -1,23 +1,28 @@
 -- What an arrival makes of tables that hold a history.
 use Rattle.std.proofs.Common.{◌≡◌, inl, inr, ℕ, false, List, [], ◌∷◌, ◌++◌, Option, None, Some, refl, sym, ap, subst, ◌∙◌}
+use Rattle.std.specs.List.{All}
 use Rattle.std.specs.Option.{option_map}
+use Rattle.std.specs.Prelude.{IfSome}
 use Rattle.std.specs.Str.{bytes_eq}
 use Rattle.std.proofs.lemmas.Bool.{cases_Bool}
-use Rattle.std.proofs.lemmas.List.Elements.{All-push}
+use Rattle.std.proofs.lemmas.List.Elements.{All-contains, All-push}
 use Rattle.std.proofs.lemmas.Slice.Eq.{bytes_eq-Decides}
 use Rattle.office_types.specs.Reply.{reply_parts}
 use Rattle.office_types.specs.declared.change.Change.{Change}
 use Rattle.office_types.specs.declared.change.Decision.{Decision}
+use Rattle.office_types.specs.declared.state.Net.{Net}
 use Rattle.office_types.specs.declared.state.Office.{Office}
 use Rattle.office_rules.specs.Change.{HaveOwnBlocks, IsDecision, IsHeadFirst, NetAndBook, all_applied, left_after}
+use Rattle.office_rules.specs.Kept.{IsNet}
 use Rattle.office_rules.specs.Outcome.{Changing, Outcome, Refusing}
 use Rattle.office_rules.specs.Profile.{Profile, Two}
 use Rattle.office_rules.specs.Step.{Step, net_named, office_after, step_outcome}
 use Rattle.office_law.specs.Histories.{net_after}
+use Rattle.office_law.proofs.Lists.{Contains-found}
 use Rattle.office_law.proofs.NetsApart.{nets_apart}
 use Rattle.office_tables.specs.Tables.{Tables}
 use Rattle.office_history.specs.declared.arrival.Answer.TheVariants as answer
-use Rattle.office_history.specs.History.{Answered, IsAnsweredAs, first_of}
+use Rattle.office_history.specs.History.{Answered, IsAnsweredAs, IsLegal, first_of}
 use Rattle.office_history.specs.Laws.{HistoriesLeaveOffices, IsInRange}
 use Rattle.office_history.proofs.Histories.{histories_grow}
 use Rattle.store_net.specs.Kept.{AreKept, AreKeptParts, kept_row, part_rows}
@@ -41,6 +46,14 @@ net_left o name (Changing r net e) = refl
 book_left : (o : Office) (name : List ℕ) (out : Outcome) → (left_after (before_of o name) out).book ≡ (office_after o out).book
 book_left o name (Refusing r) = refl
 book_left o name (Changing r net e) = refl
+
+-- a network of the office that a history leaves keeps what each network of an office does
+pub net_of_office : HistoriesLeaveOffices → (h : List Answered) (o : Office) (name : List ℕ) → All IsInRange h → IsLegal h o → IfSome (net_named o name) IsNet
+net_of_office laws h o name ranged legal = if_found (net_named o name) refl
+  where
+    if_found : (found : Option Net) → net_named o name ≡ found → IfSome found IsNet
+    if_found None is = tt
+    if_found (Some net) is = All-contains IsNet o.nets net (laws.kept h o ranged legal).nets (Contains-found (λ (n : Net). bytes_eq n.name name) o.nets net is)
 
 -- the rows of each network after a step stand for it: its own follow it, and the others stay
 nets_after : (o after : Office) (name : List ℕ) (t u : Tables) (changed : NetAndBook) → Follows name t u (before_of o name) changed → changed.net ≡ net_named after name

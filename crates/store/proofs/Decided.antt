@@ -1,9 +1,11 @@
 -- What is decided on a part of a network is decided on the network that the tables have.
 use Rattle.std.proofs.Common.{◌≡◌, ◌∙◌, ℕ, true, false, List, [], Option, Some, None, Result, Ok, Err, refl, sym, ap, subst}
-use Rattle.std.specs.Prelude.{IfOk, is_some, not}
+use Rattle.std.specs.Prelude.{Bool, IfOk, IfSome, is_some, not}
+use Rattle.std.specs.Str.{bytes_eq}
 use Rattle.std.specs.List.{list_any}
 use Rattle.std.specs.Option.{option_map}
 use Rattle.std.proofs.lemmas.Bool.{false≢true}
+use Rattle.std.proofs.lemmas.List.Elements.{All-contains}
 use Rattle.catalogue.specs.Refusing.{first_refusal}
 use Rattle.office_types.specs.PlainName.{is_office}
 use Rattle.office_types.specs.declared.book.SpnBook.{SpnBook}
@@ -15,56 +17,75 @@ use Rattle.office_types.specs.declared.command.Task.{Task}
 use Rattle.office_types.specs.declared.command.Task.TheVariants.{Act, Import, Bundle}
 use Rattle.office_types.specs.declared.refusal.Refusal.{Refusal}
 use Rattle.office_types.specs.declared.refusal.Refusal.TheVariants as no
+use Rattle.office_types.specs.declared.state.LiveMessage.{LiveMessage}
 use Rattle.office_types.specs.declared.state.Net.{Net}
 use Rattle.office_rules.specs.Change.{AllFit, Decides, HaveOwnBlocks, IsDecision, IsHeadFirst, IsQuiet, all_applied, is_release}
 use Rattle.office_rules.specs.Commands.{done_task, outcome}
+use Rattle.office_rules.specs.Facts.{in_last, live_named, was_released}
 use Rattle.office_rules.specs.Importing.{FileReading}
+use Rattle.office_rules.specs.Kept.{IsNet}
 use Rattle.office_rules.specs.Outcome.{Refusing, refused_or, reply_of, when}
 use Rattle.office_law.specs.Released.{ReleasesDontCount, may_release, reads_releases, with_releases}
+use Rattle.office_law.proofs.Lists.{Contains-found}
 use Rattle.office_facts.specs.Excerpt.{IsExcerptOf, goes_by_excerpt}
 use Rattle.office_facts.specs.declared.excerpt.Excerpt.{Excerpt}
 use Rattle.office_tables.specs.Tables.{Tables}
 use Rattle.store_rows.specs.NetIn.{IsNetAt}
-use Rattle.store_net.specs.Excerpts.{IsReadIn, MatchBoth}
+use Rattle.store_net.specs.Excerpts.{IsReadIn, IsRetireExcerpt, MatchBoth}
 use Rattle.store_net.proofs.Excerpts.{rows_are_read}
 use Rattle.store_net.specs.Writing.{IsNext}
 
 -- ---- what is read
 
--- what holds of the excerpt makes it the task's
+-- what holds of the excerpt makes it the task's, where the network is one of an office
 for_task : (P : Net → Excerpt → Type 0) (team : List ℕ) (task : Task) (net : Option Net) (found : Option Excerpt)
-    → ((n : Net) (e : Excerpt) → P n e → IsExcerptOf team n task e) → MatchBoth P net found → MatchBoth (λ n e. IsExcerptOf team n task e) net found
-for_task P team task None None own read = tt
-for_task P team task None (Some e) own read = absurd read
-for_task P team task (Some n) None own read = absurd read
-for_task P team task (Some n) (Some e) own read = own n e read
+    → ((n : Net) (e : Excerpt) → IsNet n → P n e → IsExcerptOf team n task e) → IfSome net IsNet → MatchBoth P net found → MatchBoth (λ n e. IsExcerptOf team n task e) net found
+for_task P team task None None own is_net read = tt
+for_task P team task None (Some e) own is_net read = absurd read
+for_task P team task (Some n) None own is_net read = absurd read
+for_task P team task (Some n) (Some e) own is_net read = own n e is_net read
 
 -- what is read of a network, read for the whole task
 
 pub net_read : {E : Type 0} (P : Net → Excerpt → Type 0) (r : Result (Option Excerpt) E) (name team : List ℕ) (t : Tables) (task whole : Task) → whole ≡ task
-    → ((n : Net) (e : Excerpt) → P n e → IsExcerptOf team n task e) → IfOk r (λ found. (net : Option Net) → IsNetAt name t net → MatchBoth P net found)
-    → IfOk r (λ found. (net : Option Net) → IsNetAt name t net → MatchBoth (λ n e. IsExcerptOf team n whole e) net found)
+    → ((n : Net) (e : Excerpt) → IsNet n → P n e → IsExcerptOf team n task e) → IfOk r (λ found. (net : Option Net) → IsNetAt name t net → MatchBoth P net found)
+    → IfOk r (λ found. (net : Option Net) → IsNetAt name t net → IfSome net IsNet → MatchBoth (λ n e. IsExcerptOf team n whole e) net found)
 net_read P (Ok found) name team t task whole is own read =
-    λ net at. subst (λ k. MatchBoth (λ n e. IsExcerptOf team n k e) net found) (sym is) (for_task P team task net found own (read net at))
+    λ net at is_net. subst (λ k. MatchBoth (λ n e. IsExcerptOf team n k e) net found) (sym is) (for_task P team task net found own is_net (read net at))
 net_read P (Err e) name team t task whole is own read = tt
 
 pub part_read : {E : Type 0} (P : Net → Excerpt → Type 0) (r : Result (Option Excerpt) E) (name team : List ℕ) (t : Tables) (task whole : Task) → whole ≡ task
     → ((n : Net) (e : Excerpt) → P n e → IsExcerptOf team n task e) → IfOk r (λ found. (net : Option Net) → IsReadIn name t net → MatchBoth P net found)
-    → IfOk r (λ found. (net : Option Net) → IsNetAt name t net → MatchBoth (λ n e. IsExcerptOf team n whole e) net found)
+    → IfOk r (λ found. (net : Option Net) → IsNetAt name t net → IfSome net IsNet → MatchBoth (λ n e. IsExcerptOf team n whole e) net found)
 part_read P (Ok found) name team t task whole is own read =
-    λ net at. subst (λ k. MatchBoth (λ n e. IsExcerptOf team n k e) net found) (sym is) (for_task P team task net found own (read net (rows_are_read name t net at)))
+    λ net at is_net. subst (λ k. MatchBoth (λ n e. IsExcerptOf team n k e) net found) (sym is) (for_task P team task net found (λ n e _. own n e) is_net (read net (rows_are_read name t net at)))
 part_read P (Err e) name team t task whole is own read = tt
 
 pub numbers_read : {E : Type 0} (r : Result (Option Excerpt) E) (name team : List ℕ) (t : Tables) (task whole : Task) → whole ≡ task
     → IfOk r (λ found. (net : Option Net) → IsReadIn name t net → MatchBoth (λ n e. IsExcerptOf team n task e) net found)
-    → IfOk r (λ found. (net : Option Net) → IsNetAt name t net → MatchBoth (λ n e. IsExcerptOf team n whole e) net found)
+    → IfOk r (λ found. (net : Option Net) → IsNetAt name t net → IfSome net IsNet → MatchBoth (λ n e. IsExcerptOf team n whole e) net found)
 numbers_read r name team t task whole is read = part_read (λ n e. IsExcerptOf team n task e) r name team t task whole is (λ n e it. it) read
 
 pub groups_read : {E : Type 0} (r : Result (Option Excerpt) E) (name team : List ℕ) (t : Tables) (task whole : Task) → whole ≡ task
     → IfOk r (λ found. (net : Option Net) → IsReadIn name t net → (other : List ℕ) → MatchBoth (λ n e. IsExcerptOf other n task e) net found)
-    → IfOk r (λ found. (net : Option Net) → IsNetAt name t net → MatchBoth (λ n e. IsExcerptOf team n whole e) net found)
-groups_read (Ok found) name team t task whole is read = λ net at. subst (λ k. MatchBoth (λ n e. IsExcerptOf team n k e) net found) (sym is) (read net (rows_are_read name t net at) team)
+    → IfOk r (λ found. (net : Option Net) → IsNetAt name t net → IfSome net IsNet → MatchBoth (λ n e. IsExcerptOf team n whole e) net found)
+groups_read (Ok found) name team t task whole is read = λ net at is_net. subst (λ k. MatchBoth (λ n e. IsExcerptOf team n k e) net found) (sym is) (read net (rows_are_read name t net at) team)
 groups_read (Err e) name team t task whole is read = tt
+
+-- where `retire` finds its message, the last release has its identifier exactly if a release has it
+last_of_net : (n : Net) (name : List ℕ) (found : Option LiveMessage) (released : Bool) → IsNet n → found ≡ live_named n.live name
+    → IfSome found (λ m. in_last n.releases m.message.ident ≡ released) → IfSome found (λ m. was_released n.releases m.message.ident ≡ released)
+last_of_net n name None released is_net is last = tt
+last_of_net n name (Some m) released is_net is last =
+    All-contains (λ (l : LiveMessage). was_released n.releases l.message.ident ≡ in_last n.releases l.message.ident) n.live m is_net.releases.last
+    (Contains-found (λ (l : LiveMessage). bytes_eq l.message.name name) n.live m (sym is)) ∙ last
+
+pub to_retire : (team message : List ℕ) (n : Net) (e : Excerpt) → IsNet n → IsRetireExcerpt message n e → IsExcerptOf team n (Act (act.Retire message)) e
+to_retire team message n e is_net it = record {
+  parts = record { head = it.parts.head; blocks = it.parts.blocks; found = it.parts.found };
+  numbers = tt;
+  released = last_of_net n message e.found e.released is_net it.parts.found it.released;
+}
 
 -- ---- a network that isn't there
 

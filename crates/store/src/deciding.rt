@@ -1,16 +1,17 @@
 //! What is decided on a request that comes for the first time, on what its command reads of the tables.
 //!
 //! Most commands read an excerpt of their network: its row and its blocks, and those on a message that one alone, those
-//! that give out a number the numbers that could be given out. `retire` also reads releases, from the last one back up
-//! to the first that has the message's number. `release`, `import` and bundles read all of their network but its
-//! releases; of these `release` reads how many there are, and a bundle with `retire` what is in them. The book is read
-//! where the command depends on it, and for a bundle.
-ghost use Rattle.std.specs.Prelude.{◌≡◌, true, false, Option, Some};
+//! that give out a number the numbers that could be given out. `retire` also reads the last release: in the network of
+//! an office it has each live message that was released. `release`, `import` and bundles read all of their network but
+//! its releases; of these `release` reads how many there are, and a bundle with `retire` what is in them. The book is
+//! read where the command depends on it, and for a bundle.
+ghost use Rattle.std.specs.Prelude.{◌≡◌, true, false, Option, Some, IfSome};
 ghost use Rattle.std.specs.List.{list_any};
 ghost use Rattle.sqlite.specs.Held.{state};
 ghost use Rattle.office_law.specs.Released.{reads_bodies, reads_releases};
 ghost use Rattle.office_facts.specs.Excerpt.{IsExcerptOf, goes_by_excerpt};
 ghost use Rattle.office_rules.specs.Change.{IsDecision, is_release};
+ghost use Rattle.office_rules.specs.Kept.{IsNet};
 ghost use Rattle.office_types.specs.declared.book.SpnBook.{SpnBook as Book};
 ghost use Rattle.office_types.specs.declared.state.Net.{Net as Network};
 ghost use Rattle.store_rows.specs.NetIn.{IsNetAt};
@@ -41,7 +42,7 @@ fn excerpt_at<S: Alter>(
     requires { goes_by_excerpt command.now.task ≡ true }
     ensures same_reference { tx.new.conn.ghost_name ≡ tx.old.conn.ghost_name }
     ensures found { Finds result (state S.Store tx.old.conn.now) (state S.Store tx.new.conn.now)
-        (λ found t. (net : Option Network) → IsNetAt command.now.net t net
+        (λ found t. (net : Option Network) → IsNetAt command.now.net t net → IfSome net IsNet
         → MatchBoth (λ net e. IsExcerptOf team.now net command.now.task e) net found) }
     ensures same { ChangesNothing result (state S.Store tx.old.conn.now) (state S.Store tx.new.conn.now) }
     ensures kept { CommitsNothing (state S.Store tx.old.conn.now) (state S.Store tx.new.conn.now) }
@@ -86,8 +87,8 @@ fn decide_by_excerpt<S: Alter>(
     requires { goes_by_excerpt command.now.task ≡ true }
     ensures same_reference { tx.new.conn.ghost_name ≡ tx.old.conn.ghost_name }
     ensures decided { Finds result (state S.Store tx.old.conn.now) (state S.Store tx.new.conn.now)
-        (λ d t. (net : Option Network) (book : Book) → IsNetAt command.now.net t net → IsBookIn t book
-        → IsDecision team.now (record { net = net; book = book }) command.now d
+        (λ d t. (net : Option Network) (book : Book) → IsNetAt command.now.net t net → IfSome net IsNet
+        → IsBookIn t book → IsDecision team.now (record { net = net; book = book }) command.now d
         × (list_any is_release d.changes ≡ false)) }
     ensures same { ChangesNothing result (state S.Store tx.old.conn.now) (state S.Store tx.new.conn.now) }
     ensures kept { CommitsNothing (state S.Store tx.old.conn.now) (state S.Store tx.new.conn.now) }
@@ -181,8 +182,8 @@ fn decide_by_net<S: Alter>(
     Ok((decision, Some(next)))
 }
 
-/// Decides the team's command on what the tables have, and gives the number of the network's next release if the
-/// changes may have one. An error is out of memory, what `sqlite` answers, or `InvalidQuery` where the rows are no
+/// Decides the team's command on what the tables have, where that is a network of an office, and gives the number of the
+/// network's next release if the changes may have one. An error is out of memory, what `sqlite` answers, or `InvalidQuery` where the rows are no
 /// office's.
 pub(crate) fn decide_on_tables<S: Alter>(
     alloc: Global,
@@ -192,8 +193,9 @@ pub(crate) fn decide_on_tables<S: Alter>(
 ) -> Result<(Decision, Option<u32>), Error>
     ensures same_reference { tx.new.conn.ghost_name ≡ tx.old.conn.ghost_name }
     ensures decided { Finds result (state S.Store tx.old.conn.now) (state S.Store tx.new.conn.now)
-        (λ it t. (net : Option Network) (book : Book) → IsNetAt command.now.net t net → IsBookIn t book
-        → IsDecision team.now (record { net = net; book = book }) command.now it.0 × IsNext it.1 net it.0.changes) }
+        (λ it t. (net : Option Network) (book : Book) → IsNetAt command.now.net t net → IfSome net IsNet
+        → IsBookIn t book → IsDecision team.now (record { net = net; book = book }) command.now it.0
+        × IsNext it.1 net it.0.changes) }
     ensures same { ChangesNothing result (state S.Store tx.old.conn.now) (state S.Store tx.new.conn.now) }
     ensures kept { CommitsNothing (state S.Store tx.old.conn.now) (state S.Store tx.new.conn.now) }
     ensures survives { LeavesNothing (state S.Store tx.old.conn.now) (state S.Store tx.new.conn.now) }

@@ -6,7 +6,7 @@ use Rattle.office_types.specs.declared.state.GrantedBlock.{GrantedBlock}
 use Rattle.office_types.specs.declared.state.Head.{Head}
 use Rattle.office_types.specs.declared.state.LiveMessage.{LiveMessage}
 use Rattle.office_types.specs.declared.state.Net.{Net}
-use Rattle.office_rules.specs.Facts.{live_named, was_released}
+use Rattle.office_rules.specs.Facts.{in_last, live_named}
 use Rattle.office_tables.specs.Tables.{Tables}
 use Rattle.office_rows.specs.Rows.{net_row}
 use Rattle.office_rows.specs.Shown.{net_order}
@@ -60,12 +60,12 @@ pub rows_are_read : (name : List ℕ) (t : Tables) (net : Option Net) → IsNetI
 rows_are_read name t None at = subst (λ (r : RestRows). AreListed net_order (IsRowOf net_row (IsNetRow name)) r.head []) (sym at.rest) none_listed
 rows_are_read name t (Some net) at = record { head = at.rest.head; blocks = at.rest.blocks; held = at.rest.held; live = at.live }
 
--- of an excerpt for the message of a `retire`: no message is found, or it is known whether a release has its number
+-- of an excerpt for the message of a `retire`: no message is found, or it is known whether the last release has its number
 pub none_to_retire : (message : List ℕ) (net : Option Net) → TellsExcerpt message net None → MatchBoth (IsRetireExcerpt message) net None
 none_to_retire message net both = none_more (IsExcerptFor message) (IsRetireExcerpt message) net both
 
 pub one_to_retire : (message : List ℕ) (net : Option Net) (e made : Excerpt) → TellsExcerpt message net (Some e) → made ≡ record e { released = made.released }
-    → ((n : Net) → net ≡ Some n → IfSome e.found (λ m. was_released n.releases m.message.ident ≡ made.released)) → MatchBoth (IsRetireExcerpt message) net (Some made)
+    → ((n : Net) → net ≡ Some n → IfSome e.found (λ m. in_last n.releases m.message.ident ≡ made.released)) → MatchBoth (IsRetireExcerpt message) net (Some made)
 one_to_retire message None e made both is released = both
 one_to_retire message (Some n) e made both is released = subst (λ (x : Excerpt). IsRetireExcerpt message n x) (sym is) (record {
   parts = record { head = both.head; blocks = both.blocks; found = both.found };

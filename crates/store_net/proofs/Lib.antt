@@ -2,7 +2,7 @@ pub mod First
 pub mod Whole
 pub mod LiveSheet
 pub mod Released
-pub mod ReleasedBefore
+pub mod LastRelease
 pub mod Kept
 pub mod OneByOne
 pub mod Names

@@ -2,7 +2,7 @@
 use Rattle.std.specs.Prelude.{◌≡◌, ℕ, false, List, length, Option, Some, None, IfSome}
 use Rattle.office_facts.specs.declared.excerpt.Excerpt.{Excerpt}
 use Rattle.office_types.specs.declared.state.Net.{Net}
-use Rattle.office_rules.specs.Facts.{is_named, live_named, was_released}
+use Rattle.office_rules.specs.Facts.{in_last, is_named, live_named}
 use Rattle.office_tables.specs.Tables.{Tables}
 use Rattle.store_rows.specs.Live.{AreLiveRows, live_rows}
 use Rattle.store_net.specs.Parts.{HasBlocks, HasHead, HasHeld}
@@ -28,10 +28,10 @@ pub record IsExcerptFor (message : List ℕ) (net : Net) (e : Excerpt) : Type 0 
   pub blocks : e.blocks ≡ net.blocks
   pub found : e.found ≡ live_named net.live message
 
--- so is that for a `retire` of it, which says whether a release has the message's identifier
+-- so is that for a `retire` of it, which says whether the last release has the message's identifier
 pub record IsRetireExcerpt (message : List ℕ) (net : Net) (e : Excerpt) : Type 0 where
   pub parts : IsExcerptFor message net e
-  pub released : IfSome e.found (λ m. was_released net.releases m.message.ident ≡ e.released)
+  pub released : IfSome e.found (λ m. in_last net.releases m.message.ident ≡ e.released)
 
 -- there is an excerpt where there is the network, and this is so of both
 abbrev pub MatchBoth : (Net → Excerpt → Type 0) → Option Net → Option Excerpt → Type 0

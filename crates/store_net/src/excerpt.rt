@@ -1,5 +1,5 @@
 //! What commands read of their network that give out no number of it: its row, its blocks, and the message that they
-//! name alone. `retire` also reads whether a release has its number.
+//! name alone. `retire` also reads whether the last release has its number.
 ghost use Rattle.std.specs.Prelude.{Option, ◌≡◌};
 ghost use Rattle.office_types.specs.declared.state.Net.{Net as Network};
 ghost use Rattle.sqlite.specs.Held.{state};
@@ -9,7 +9,7 @@ ghost use Rattle.office_rows.specs.Statement.{ChangesNothing, CommitsNothing, Fi
 
 use crate::message::message_at;
 use crate::parts::{blocks_of, head_of};
-use crate::release::is_released_at;
+use crate::release::last_has_at;
 use catalogue::{Items, Name};
 use office_facts::Excerpt;
 use office_types::{GrantedBlock, Head, LiveMessage, NetName};
@@ -107,6 +107,6 @@ pub fn retire_excerpt_at<S: Alter>(
         Some(live) => live.message.ident,
         None => return Ok(Some(excerpt)),
     };
-    excerpt.released = is_released_at(alloc, tx, name, ident)?;
+    excerpt.released = last_has_at(alloc, tx, name, ident)?;
     Ok(Some(excerpt))
 }

@@ -9,7 +9,7 @@ ghost use Rattle.std.specs.Option.{option_map};
 ghost use Rattle.office_types.specs.declared.state.Net.{Net as Network};
 ghost use Rattle.sqlite.specs.Held.{state};
 ghost use Rattle.store_rows.specs.NetIn.{IsNetAt};
-ghost use Rattle.office_rules.specs.Facts.{was_released};
+ghost use Rattle.office_rules.specs.Facts.{in_last};
 ghost use Rattle.store_net.specs.Texts.{IsTextOf, release_at, release_has, release_text};
 ghost use Rattle.office_rows.specs.Statement.{ChangesNothing, CommitsNothing, Finds, LeavesNothing};
 
@@ -76,8 +76,8 @@ fn body_has(alloc: Global, body: &[u8], ident: Ident) -> Result<bool, Error>
     }
 }
 
-/// Whether the network has a release of the number, and it has a message of the identifier. The errors are those of
-/// [`release_text`].
+/// Whether the network's release of the number has a message of the identifier; false where there is none of the number.
+/// The errors are those of [`release_text`].
 fn release_has_at<S: Alter>(
     alloc: Global,
     tx: &mut Transaction<'_, S>,
@@ -100,10 +100,8 @@ fn release_has_at<S: Alter>(
     }
 }
 
-/// Whether a release of the network has a message of the identifier. They are read one by one from the last one back,
-/// up to the first that has it: most messages that are retired are in the last release. The errors are those of
-/// [`release_text`].
-pub(crate) fn is_released_at<S: Alter>(
+/// Whether the last release of the network has a message of the identifier. The errors are those of [`release_text`].
+pub(crate) fn last_has_at<S: Alter>(
     alloc: Global,
     tx: &mut Transaction<'_, S>,
     name: &NetName,
@@ -111,20 +109,14 @@ pub(crate) fn is_released_at<S: Alter>(
 ) -> Result<bool, Error>
     ensures same_reference { tx.new.conn.ghost_name ≡ tx.old.conn.ghost_name }
     ensures found { Finds result (state S.Store tx.old.conn.now) (state S.Store tx.new.conn.now)
-        (λ found t. (net : Network) → IsNetAt name.now t (Some net) → found ≡ was_released net.releases ident) }
+        (λ found t. (net : Network) → IsNetAt name.now t (Some net) → found ≡ in_last net.releases ident) }
     ensures same { ChangesNothing result (state S.Store tx.old.conn.now) (state S.Store tx.new.conn.now) }
     ensures kept { CommitsNothing (state S.Store tx.old.conn.now) (state S.Store tx.new.conn.now) }
     ensures survives { LeavesNothing (state S.Store tx.old.conn.now) (state S.Store tx.new.conn.now) }
 {
     let count = release_count(tx, name)?;
-    let Ok(mut number) = u32::try_from(count) else {
-        return Err(Error::InvalidQuery);
-    };
-    while number > 0 {
-        if release_has_at(alloc, tx, name, number, ident)? {
-            return Ok(true);
-        }
-        number -= 1;
+    match u32::try_from(count) {
+        Ok(number) => release_has_at(alloc, tx, name, number, ident),
+        Err(_) => Err(Error::InvalidQuery),
     }
-    Ok(false)
 }

@@ -15,7 +15,7 @@ use Rattle.store_rows.specs.Follows.{Follows}
 use Rattle.store_rows.specs.NetIn.{IsNetAt}
 use Rattle.store_net.specs.Writing.{IsNext}
 use Rattle.office_history.specs.Answering.{answered}
-use Rattle.store.proofs.Arrived.{AreFollowed, before_of, first_holds}
+use Rattle.store.proofs.Arrived.{AreFollowed, before_of, first_holds, net_of_office}
 use Rattle.store.proofs.arriving.first_arrival.Goals as goal
 
 -- the same changes by another name
@@ -41,7 +41,8 @@ returns-clause-held g c clean office h holds new =
     let now1 : s1.now ≡ s0.now = (c.in_ok-decision.ensures.same clean1 office).0.now_is in
     let office1 : IsOffice s1.now = subst IsOffice (sym now1) office in
     let office2 : IsOffice s2.now = c.in_ok-write_changes.ensures.office clean2 office1 in
-    let decided = c.in_ok-decision.ensures.decided clean1 office before o.book (holds.holds.nets name) holds.holds.book in
+    let decided = c.in_ok-decision.ensures.decided clean1 office before o.book (holds.holds.nets name)
+    (net_of_office c.histories_leave_offices.ensures h o name holds.holds.in_range holds.holds.legal) holds.holds.book in
     let there : IsNetAt name (tables_of s1.now.trees) before = subst (λ (db : Database). IsNetAt name (tables_of db.trees) before) (sym now1) (holds.holds.nets name) in
     let written = subst (λ (db : Database). AreFollowed name (before_of o name) d.changes (tables_of db.trees) (tables_of s2.now.trees)) now1
     (followed name (tables_of s1.now.trees) (tables_of s2.now.trees) before _ d.changes o.book c.as_slice.ensures

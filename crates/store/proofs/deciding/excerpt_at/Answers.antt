@@ -4,7 +4,7 @@ use Rattle.office_types.specs.declared.command.Action.TheVariants as act
 use Rattle.office_types.specs.declared.command.Task.TheVariants.{Act}
 use Rattle.office_tables.specs.Tables.{tables_of}
 use Rattle.store_net.specs.Excerpts.{HasHeadAndBlocks, IsExcerptFor, IsRetireExcerpt}
-use Rattle.store.proofs.Decided.{groups_read, net_read, numbers_read, part_read}
+use Rattle.store.proofs.Decided.{groups_read, net_read, numbers_read, part_read, to_retire}
 use Rattle.store.proofs.deciding.excerpt_at.Goals as goal
 
 pub returns-in-TakeIdent-clause-found : goal.returns-in-TakeIdent-clause-found
@@ -65,4 +65,4 @@ returns-in-Reject-clause-found g c clean office =
 pub returns-in-Retire-clause-found : goal.returns-in-Retire-clause-found
 returns-in-Retire-clause-found g c clean office =
     net_read (IsRetireExcerpt c.in-Retire.message) c.retire_excerpt_at.result c.args.command.now.net c.args.team.now (tables_of (state g.S.Store c.args.tx.now.conn.now).now.trees) (Act (act.Retire c.in-Retire.message)) c.args.command.now.task
-    (c.in-Act.is ∙ ap Act c.in-Retire.is) (λ n e it. record { parts = record { head = it.parts.head; blocks = it.parts.blocks; found = it.parts.found }; numbers = tt; released = it.released }) (c.retire_excerpt_at.ensures.found clean office)
+    (c.in-Act.is ∙ ap Act c.in-Retire.is) (to_retire c.args.team.now c.in-Retire.message) (c.retire_excerpt_at.ensures.found clean office)

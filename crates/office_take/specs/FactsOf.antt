@@ -5,6 +5,9 @@ use Rattle.office_rules.specs.Facts.{NumberFacts}
 use Rattle.office_take.specs.declared.numbers.NumberFacts.{NumberFacts as NumberFactsModel}
 use Rattle.office_types.specs.declared.refusal.Refusal.{Refusal}
 use Rattle.office_types.specs.declared.refusal.Refusal.TheVariants.{BlockFull}
+use Rattle.office_types.specs.declared.state.GrantedBlock.{GrantedBlock}
+use Rattle.office_types.specs.declared.state.Head.{Head}
+use Rattle.office_types.specs.declared.state.Net.{Net}
 
 -- the facts, where these numbers are taken
 abbrev pub number_facts_of : NumberFactsModel → List ℕ → NumberFacts
@@ -19,6 +22,14 @@ number_facts_of f taken = record {
   want_held = f.want_held;
   taken = taken;
 }
+
+-- a network with this head, whatever else it has
+abbrev pub with_head : Head → Net → Net
+with_head h net = record net { head = h }
+
+-- and with these blocks
+abbrev pub with_parts : Head → List GrantedBlock → Net → Net
+with_parts h blocks net = record net { head = h; blocks = blocks }
 
 -- a refusal that comes whatever is taken, or else that of full blocks where there is no number to give out
 abbrev pub refused_or_full : Option Refusal → Option ℕ → Option Refusal

@@ -9,7 +9,8 @@ ghost use Rattle.office_types.specs.declared.reply.Reply.TheVariants.{Done};
 ghost use Rattle.office_types.specs.declared.state.Net.{Net as NetModel};
 ghost use Rattle.office_rules.specs.Change.{Decides};
 ghost use Rattle.office_rules.specs.Facts.{has_node};
-ghost use Rattle.office_rules.specs.Opening.{add_node, add_node_tests, with_node};
+ghost use Rattle.office_rules.specs.Opening.{add_node, add_node_tests, bare_net, with_node};
+ghost use Rattle.office_take.specs.FactsOf.{with_head};
 
 use catalogue::{Copying, Name, Node, ROSTER_LIMIT, Sheet, SheetCode, Text};
 use office_facts::{has_node, head_with, in_review, one_change, refusal_decision};
@@ -18,7 +19,7 @@ use std::alloc::{AllocError, Global};
 
 /// Why the node can't be added to a network that has this head.
 fn add_node_refusal(head: &Head, name: &Name) -> Option<Refusal>
-    ensures { (net : NetModel) → net.head ≡ head.now → result ≡ first_refusal (add_node_tests (Some net) name.now) }
+    ensures { result ≡ first_refusal (add_node_tests (Some (bare_net [] head.now)) name.now) }
 {
     let nodes = head.frame.nodes();
     if in_review(&head.phase) {
@@ -52,8 +53,8 @@ fn frame_with(alloc: Global, frame: &Sheet, node: Node) -> Result<Sheet, AllocEr
 fn node_added(alloc: Global, head: &Head, name: &Name) -> Result<Decision, AllocError>
     requires room { nat_le roster_limit (length head.now.frame.nodes) ≡ false }
     requires new { has_node head.now.frame.nodes name.now ≡ false }
-    ensures changes { IfOk result (λ d. (net : NetModel) → net.head ≡ head.now
-        → d.changes ≡ SetHead (with_node net (record { name = name.now; comment = [] })).head ∷ []) }
+    ensures changes { IfOk result (λ d. d.changes ≡ SetHead
+        (with_node (bare_net [] head.now) (record { name = name.now; comment = [] })).head ∷ []) }
     ensures reply { IfOk result (λ d. d.reply ≡ Done) }
 {
     let node = Node {
@@ -68,8 +69,9 @@ fn node_added(alloc: Global, head: &Head, name: &Name) -> Result<Decision, Alloc
 /// Decides an `add_node` of this name on a network that has this head. It reads no team and no book. The error is out of
 /// memory.
 pub fn decide_add_node_on(alloc: Global, head: &Head, name: &Name) -> Result<Decision, AllocError>
-    ensures { IfOk result (λ d. (at : List ℕ) (net : NetModel) (book : SpnBook) → net.head ≡ head.now
-        → Decides at (record { net = Some net; book = book }) (add_node (Some net) name.now) d) }
+    ensures { IfOk result (λ d. (at : List ℕ) (net : NetModel) (book : SpnBook)
+        → Decides at (record { net = Some (with_head head.now net); book = book })
+        (add_node (Some (with_head head.now net)) name.now) d) }
 {
     match add_node_refusal(head, name) {
         Some(refusal) => Ok(refusal_decision(alloc, refusal)),

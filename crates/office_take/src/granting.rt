@@ -1,5 +1,6 @@
 //! Granting a block.
-ghost use Rattle.std.specs.Prelude.{◌≡◌, IfOk, None, Some};
+ghost use Rattle.std.specs.Prelude.{◌≡◌, [], IfOk, None, Some, if◌then◌else◌};
+ghost use Rattle.std.specs.List.{list_any};
 ghost use Rattle.std.specs.Option.{option_copied};
 ghost use Rattle.catalogue.specs.Refusing.{first_refusal};
 ghost use Rattle.office_types.specs.Block.{have_common, is_spn};
@@ -7,8 +8,9 @@ ghost use Rattle.office_types.specs.declared.book.SpnBook.{SpnBook as Book};
 ghost use Rattle.office_types.specs.declared.command.Grant.{Grant as GrantModel};
 ghost use Rattle.office_types.specs.declared.state.Net.{Net as NetModel};
 ghost use Rattle.office_rules.specs.Change.{Decides};
-ghost use Rattle.office_rules.specs.Facts.{is_granted, is_spn_granted};
-ghost use Rattle.office_rules.specs.Opening.{grant, grant_tests, is_block_taken};
+ghost use Rattle.office_rules.specs.Facts.{is_spn_granted};
+ghost use Rattle.office_rules.specs.Opening.{bare_net, grant, grant_tests};
+ghost use Rattle.office_take.specs.FactsOf.{with_parts};
 ghost use Rattle.office_take.specs.Granting.{grant_change};
 
 use catalogue::Copying;
@@ -30,7 +32,7 @@ fn blocks_have_common(a: FormBlock, b: FormBlock) -> bool
 
 /// Whether a number of the block is granted in its form among these blocks of a network.
 fn is_granted(blocks: &[GrantedBlock], block: FormBlock) -> bool
-    ensures { (net : NetModel) → net.blocks ≡ blocks.now → result ≡ is_granted net block }
+    ensures { result ≡ list_any (λ g. have_common g.block block) blocks.now }
 {
     blocks
         .iter()
@@ -57,7 +59,8 @@ fn is_spn(form: BlockForm) -> bool
 
 /// Whether a number of the block is granted already, on a network that has these blocks or in the book.
 fn is_block_taken(blocks: &[GrantedBlock], book: &SpnBook, command: &Grant) -> bool
-    ensures { (net : NetModel) → net.blocks ≡ blocks.now → result ≡ is_block_taken net book.now command.now }
+    ensures { result ≡ (if is_spn command.now.block.form then is_spn_granted book.now command.now.block
+        else list_any (λ g. have_common g.block command.now.block) blocks.now) }
 {
     if is_spn(command.block.form()) {
         is_spn_granted(book, command.block)
@@ -74,8 +77,8 @@ fn grant_refusal(
     book: &SpnBook,
     command: &Grant,
 ) -> Option<Refusal>
-    ensures { (net : NetModel) → net.head ≡ head.now → net.blocks ≡ blocks.now
-        → result ≡ first_refusal (grant_tests team.now (Some net) book.now command.now) }
+    ensures { result ≡ first_refusal (grant_tests team.now
+        (Some (with_parts head.now blocks.now (bare_net [] head.now))) book.now command.now) }
 {
     if !is_office(team) {
         Some(Refusal::NotOffice)
@@ -118,9 +121,9 @@ pub fn decide_grant_on(
     book: &SpnBook,
     command: &Grant,
 ) -> Result<Decision, AllocError>
-    ensures { IfOk result (λ d. (net : NetModel) → net.head ≡ head.now → net.blocks ≡ blocks.now
-        → Decides name.now (record { net = Some net; book = book.now })
-        (grant team.now name.now (Some net) book.now command.now) d) }
+    ensures { IfOk result (λ d. (net : NetModel)
+        → Decides name.now (record { net = Some (with_parts head.now blocks.now net); book = book.now })
+        (grant team.now name.now (Some (with_parts head.now blocks.now net)) book.now command.now) d) }
 {
     if let Some(refusal) = grant_refusal(team, head, blocks, book, command) {
         return Ok(refusal_decision(alloc, refusal));

@@ -7,7 +7,9 @@ ghost use Rattle.office_types.specs.declared.change.Change.TheVariants.{ClearApp
 ghost use Rattle.office_types.specs.declared.reply.Reply.TheVariants.{Done};
 ghost use Rattle.office_types.specs.declared.state.Net.{Net as NetModel};
 ghost use Rattle.office_rules.specs.Change.{Decides};
+ghost use Rattle.office_rules.specs.Opening.{bare_net};
 ghost use Rattle.office_rules.specs.Reviewing.{approve, reject, review_tests, submit};
+ghost use Rattle.office_take.specs.FactsOf.{with_head};
 
 use catalogue::Copying;
 use office_facts::{head_in, in_review, is_submitter, one_change, refusal_decision, two_changes};
@@ -31,8 +33,9 @@ fn phase_set(alloc: Global, head: &Head, phase: Phase) -> Result<Decision, Alloc
 
 /// Decides the team's `submit` on a network that has this head. The error is out of memory.
 pub fn decide_submit_on(alloc: Global, team: &Team, head: &Head) -> Result<Decision, AllocError>
-    ensures { IfOk result (λ d. (name : List ℕ) (net : NetModel) (book : SpnBook) → net.head ≡ head.now
-        → Decides name (record { net = Some net; book = book }) (submit team.now (Some net)) d) }
+    ensures { IfOk result (λ d. (name : List ℕ) (net : NetModel) (book : SpnBook)
+        → Decides name (record { net = Some (with_head head.now net); book = book })
+        (submit team.now (Some (with_head head.now net))) d) }
 {
     if in_review(&head.phase) {
         return Ok(refusal_decision(alloc, Refusal::InReview));
@@ -53,14 +56,13 @@ pub fn decide_submit(alloc: Global, team: &Team, net: Option<&Net>) -> Result<De
     }
 }
 
-/// Why the team may not approve of a network in this phase or turn its review down.
-fn review_refusal(team: &Team, phase: &Phase) -> Option<Refusal>
-    ensures { (net : NetModel) → net.head.phase ≡ phase.now
-        → result ≡ first_refusal (review_tests team.now (Some net)) }
+/// Why the team may not approve of a network that has this head or turn its review down.
+fn review_refusal(team: &Team, head: &Head) -> Option<Refusal>
+    ensures { result ≡ first_refusal (review_tests team.now (Some (bare_net [] head.now))) }
 {
-    if !in_review(phase) {
+    if !in_review(&head.phase) {
         Some(Refusal::NotInReview)
-    } else if is_submitter(team, phase) {
+    } else if is_submitter(team, &head.phase) {
         Some(Refusal::OwnReview)
     } else {
         None
@@ -69,10 +71,11 @@ fn review_refusal(team: &Team, phase: &Phase) -> Option<Refusal>
 
 /// Decides the team's `approve` on a network that has this head. The error is out of memory.
 pub fn decide_approve_on(alloc: Global, team: &Team, head: &Head) -> Result<Decision, AllocError>
-    ensures { IfOk result (λ d. (name : List ℕ) (net : NetModel) (book : SpnBook) → net.head ≡ head.now
-        → Decides name (record { net = Some net; book = book }) (approve team.now (Some net)) d) }
+    ensures { IfOk result (λ d. (name : List ℕ) (net : NetModel) (book : SpnBook)
+        → Decides name (record { net = Some (with_head head.now net); book = book })
+        (approve team.now (Some (with_head head.now net))) d) }
 {
-    match review_refusal(team, &head.phase) {
+    match review_refusal(team, head) {
         Some(refusal) => Ok(refusal_decision(alloc, refusal)),
         None => {
             let team = team.duplicate(alloc)?;
@@ -95,10 +98,11 @@ pub fn decide_approve(alloc: Global, team: &Team, net: Option<&Net>) -> Result<D
 
 /// Decides the team's `reject` on a network that has this head. The error is out of memory.
 pub fn decide_reject_on(alloc: Global, team: &Team, head: &Head) -> Result<Decision, AllocError>
-    ensures { IfOk result (λ d. (name : List ℕ) (net : NetModel) (book : SpnBook) → net.head ≡ head.now
-        → Decides name (record { net = Some net; book = book }) (reject team.now (Some net)) d) }
+    ensures { IfOk result (λ d. (name : List ℕ) (net : NetModel) (book : SpnBook)
+        → Decides name (record { net = Some (with_head head.now net); book = book })
+        (reject team.now (Some (with_head head.now net))) d) }
 {
-    match review_refusal(team, &head.phase) {
+    match review_refusal(team, head) {
         Some(refusal) => Ok(refusal_decision(alloc, refusal)),
         None => phase_set(alloc, head, Phase::Draft),
     }

@@ -3,16 +3,18 @@ use Rattle.std.specs.Prelude.{IfSome}
 use Rattle.std.proofs.lemmas.Result.{IfOk-weaker}
 use Rattle.office_types.specs.declared.command.Action.TheVariants.{Grant, AddNode, TakeIdent, TakePgn, TakeSpn, TakeBits, SetValues, RemoveSignal, Retire, Submit, Approve, Reject}
 use Rattle.office_types.specs.declared.command.Task.TheVariants.{Act}
+use Rattle.office_types.specs.declared.state.Net.{Net}
 use Rattle.office_facts.specs.Excerpt.{HasNumbers, HasReleased, excerpt_numbers, named_message, reads_book}
 use Rattle.office_rules.specs.Change.{Decides}
 use Rattle.office_rules.specs.Facts.{was_released}
-use Rattle.office_rules.specs.Opening.{grant}
+use Rattle.office_rules.specs.Opening.{add_node, grant}
+use Rattle.office_rules.specs.Reviewing.{approve, reject, submit}
 use Rattle.office_rules.specs.Signals.{take_spn}
 use Rattle.office_rules.specs.Numbers.{take_ident, take_pgn}
 use Rattle.office_facts.specs.By.{take_ident_by, take_pgn_by}
 use Rattle.office_take.specs.FactsOf.{number_facts_of}
 use Rattle.office_take.proofs.Inside.{group_inside, ident_inside}
-use Rattle.office.proofs.Excerpts.{by_action, facts_are}
+use Rattle.office.proofs.Excerpts.{by_action, facts_are, with_its_head, with_its_parts}
 use Rattle.office.proofs.excerpt.decide_excerpt.Goals as goal
 
 pub returns-in-TakeBits : goal.returns-in-TakeBits
@@ -87,11 +89,13 @@ pub returns-in-Grant : goal.returns-in-Grant
 returns-in-Grant c =
     let command = c.args.command.now in
     let team = c.args.team.now in
-    let is : command.task ≡ Act (Grant c.in-Grant.grant) = c.in-Act.is ∙ ap Act c.in-Grant.is in
+    let take = c.in-Grant.grant in
+    let is : command.task ≡ Act (Grant take) = c.in-Act.is ∙ ap Act c.in-Grant.is in
     IfOk-weaker c.decide_grant_on.result _ _
-    (λ d h net other has requested. by_action team command (Grant c.in-Grant.grant) net other d is
-    (subst (λ b. Decides command.net (record { net = Some net; book = b }) (grant team command.net (Some net) b c.in-Grant.grant) d) (sym (requested (ap reads_book is)))
-    (h net (sym has.parts.head) (sym (c.as_slice.ensures ∙ has.parts.blocks)))))
+    (λ d h net other has requested. by_action team command (Grant take) net other d is
+    (subst (λ b. Decides command.net (record { net = Some net; book = b }) (grant team command.net (Some net) b take) d) (sym (requested (ap reads_book is)))
+    (subst (λ (n : Net). Decides command.net (record { net = Some n; book = c.args.book.now }) (grant team command.net (Some n) c.args.book.now take) d)
+    (with_its_parts net c.args.excerpt.now.head _ has.parts.head (c.as_slice-blocks.ensures ∙ has.parts.blocks)) (h net))))
     c.decide_grant_on.ensures
 
 pub returns-in-AddNode : goal.returns-in-AddNode
@@ -99,7 +103,8 @@ returns-in-AddNode c =
     let command = c.args.command.now in
     let is : command.task ≡ Act (AddNode c.in-AddNode.node) = c.in-Act.is ∙ ap Act c.in-AddNode.is in
     IfOk-weaker c.decide_add_node_on.result _ _
-    (λ d h net other has requested. by_action c.args.team.now command (AddNode c.in-AddNode.node) net other d is (h command.net net other (sym has.parts.head)))
+    (λ d h net other has requested. by_action c.args.team.now command (AddNode c.in-AddNode.node) net other d is
+    (subst (λ (n : Net). Decides command.net (record { net = Some n; book = other }) (add_node (Some n) c.in-AddNode.node) d) (with_its_head net c.args.excerpt.now.head has.parts.head) (h command.net net other)))
     c.decide_add_node_on.ensures
 
 pub returns-in-Submit : goal.returns-in-Submit
@@ -107,7 +112,8 @@ returns-in-Submit c =
     let command = c.args.command.now in
     let is : command.task ≡ Act Submit = c.in-Act.is ∙ ap Act c.in-Submit.is in
     IfOk-weaker c.decide_submit_on.result _ _
-    (λ d h net other has requested. by_action c.args.team.now command Submit net other d is (h command.net net other (sym has.parts.head)))
+    (λ d h net other has requested. by_action c.args.team.now command Submit net other d is
+    (subst (λ (n : Net). Decides command.net (record { net = Some n; book = other }) (submit c.args.team.now (Some n)) d) (with_its_head net c.args.excerpt.now.head has.parts.head) (h command.net net other)))
     c.decide_submit_on.ensures
 
 pub returns-in-Approve : goal.returns-in-Approve
@@ -115,7 +121,8 @@ returns-in-Approve c =
     let command = c.args.command.now in
     let is : command.task ≡ Act Approve = c.in-Act.is ∙ ap Act c.in-Approve.is in
     IfOk-weaker c.decide_approve_on.result _ _
-    (λ d h net other has requested. by_action c.args.team.now command Approve net other d is (h command.net net other (sym has.parts.head)))
+    (λ d h net other has requested. by_action c.args.team.now command Approve net other d is
+    (subst (λ (n : Net). Decides command.net (record { net = Some n; book = other }) (approve c.args.team.now (Some n)) d) (with_its_head net c.args.excerpt.now.head has.parts.head) (h command.net net other)))
     c.decide_approve_on.ensures
 
 pub returns-in-Reject : goal.returns-in-Reject
@@ -123,7 +130,8 @@ returns-in-Reject c =
     let command = c.args.command.now in
     let is : command.task ≡ Act Reject = c.in-Act.is ∙ ap Act c.in-Reject.is in
     IfOk-weaker c.decide_reject_on.result _ _
-    (λ d h net other has requested. by_action c.args.team.now command Reject net other d is (h command.net net other (sym has.parts.head)))
+    (λ d h net other has requested. by_action c.args.team.now command Reject net other d is
+    (subst (λ (n : Net). Decides command.net (record { net = Some n; book = other }) (reject c.args.team.now (Some n)) d) (with_its_head net c.args.excerpt.now.head has.parts.head) (h command.net net other)))
     c.decide_reject_on.ensures
 
 pub returns-in-Retire : goal.returns-in-Retire

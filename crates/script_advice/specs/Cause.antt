@@ -1,9 +1,9 @@
 -- Why a line of a script is wrong, and which of its words is to blame.
 --
 -- The words are looked at from left to right: the key, the team, the command, then each field by its form. If all
--- fields have the form of one, and still the command can't be had of them, the first is reported that the command has
--- no field of, that is given before, or whose value isn't of its kind; else the first field that is missing; else the
--- one that does not go with the others.
+-- fields have the form of one, and still they make no command, the first bad field is reported: one that the command
+-- doesn't have, that is given before, or whose value isn't of its kind. If no field is bad, it is the first one that is
+-- missing, or else the one that doesn't go with the others.
 use Rattle.std.specs.Prelude.{ℕ, ◌==◌, ◌+◌, Bool, true, false, not, ◌&&◌, is_some, if◌then◌else◌, List, [], ◌∷◌, Option, Some, None, find, take}
 use Rattle.std.specs.Option.{option_map_or}
 use Rattle.std.specs.List.{after_first, list_any}

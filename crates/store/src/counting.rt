@@ -15,12 +15,7 @@ fn action_reads_releases(action: &Action) -> bool
 fn one_reads_releases(parts: &[Action]) -> bool
     ensures { result ≡ list_any action_reads_releases parts.now }
 {
-    for part in parts {
-        if action_reads_releases(part) {
-            return true;
-        }
-    }
-    false
+    parts.iter().any(|part| action_reads_releases(part))
 }
 
 /// Whether the task depends on the releases of its network.
@@ -44,12 +39,7 @@ fn is_retire(action: &Action) -> bool
 fn one_retires(parts: &[Action]) -> bool
     ensures { result ≡ list_any is_retire parts.now }
 {
-    for part in parts {
-        if is_retire(part) {
-            return true;
-        }
-    }
-    false
+    parts.iter().any(|part| is_retire(part))
 }
 
 /// Whether the task depends on what is in the releases of its network.

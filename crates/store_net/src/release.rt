@@ -15,6 +15,7 @@ ghost use Rattle.office_rows.specs.Statement.{ChangesNothing, CommitsNothing, Fi
 
 use crate::nets::release_count;
 use can_id::Ident;
+use catalogue::Message;
 use dbc_write::text_of;
 use office_bodies::sheet_of;
 use office_rows::select_release;
@@ -63,15 +64,22 @@ pub fn release_text<S: Alter>(
     }
 }
 
+/// Whether one of the messages has the identifier.
+fn has_ident(messages: &[Message], ident: Ident) -> bool
+    ensures { result ≡ has_number messages.now (dbc_number ident) }
+{
+    let number = ident.to_dbc();
+    messages.iter().any(|message| message.number() == number)
+}
+
 /// Whether the sheet that the body reads as has a message of the identifier. An error is out of memory, or
 /// `InvalidQuery` where it reads as none.
 fn body_has(alloc: Global, body: &[u8], ident: Ident) -> Result<bool, Error>
     ensures { IfOk result (λ found. (sheet : SheetModel) → Reads body.now sheet
         → found ≡ has_number sheet.messages (dbc_number ident)) }
 {
-    let number = ident.to_dbc();
     match sheet_of(alloc, body)? {
-        Some(sheet) => Ok(sheet.messages().iter().any(|one| one.number() == number)),
+        Some(sheet) => Ok(has_ident(sheet.messages(), ident)),
         None => Err(Error::InvalidQuery),
     }
 }

@@ -1,5 +1,5 @@
 -- A bundle is decided part by part.
-use Rattle.std.proofs.Common.{◌≡◌, ◌∙◌, ◌⊎◌, ◌+◌, ◌<◌, ℕ, zero, suc, Bool, true, false, List, [], ◌∷◌, ◌++◌, append-nil, length, drop, get_or, Option, Some, None, inl, inr, refl, sym, ap, subst, arith}
+use Rattle.std.proofs.Common.{◌≡◌, ◌∙◌, ◌⊎◌, ◌+◌, ℕ, List, [], ◌∷◌, ◌++◌, append-nil, length, drop, Option, Some, None, inl, inr, refl, sym, ap, subst, arith}
 use Rattle.std.proofs.lemmas.List.{append_assoc, length-append}
 use Rattle.office_types.specs.Parts.{AreParts}
 use Rattle.office_types.specs.Reply.{part_reply}
@@ -16,9 +16,9 @@ use Rattle.office_types.specs.declared.reply.Reply.{Reply}
 use Rattle.office_types.specs.declared.reply.Reply.TheVariants.{Bundle, Refused}
 use Rattle.office_types.specs.declared.state.Net.{Net}
 use Rattle.office_rules.specs.Bundling.{PartsOutcome, RefusedAt, AllDone, both_entries, bundle_outcome, part_then, refused_part, with_part}
-use Rattle.office_rules.specs.Change.{AllFit, Decides, HaveOwnBlocks, IsHeadFirst, NetAndBook, all_applied, applied, left_after}
+use Rattle.office_rules.specs.Change.{AllFit, Decides, HaveOwnBlocks, IsHeadFirst, NetAndBook, all_applied, applied}
 use Rattle.office_rules.specs.Commands.{acted, parts_done}
-use Rattle.office_rules.specs.Outcome.{Entries, Outcome, Refusing, Changing, entered, no_entries, reply_of}
+use Rattle.office_rules.specs.Outcome.{Entries, Outcome, Refusing, Changing, entered, no_entries}
 use Rattle.office_law.proofs.Left.{IsAnswer, IsLeft, left_act}
 use Rattle.office_law.proofs.Parts.{entered_both}
 use Rattle.office_law.proofs.Passing.{Leaves}

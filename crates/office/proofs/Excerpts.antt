@@ -1,5 +1,5 @@
 -- What is decided by an excerpt is decided by every network that has it.
-use Rattle.std.proofs.Common.{◌≡◌, ◌∙◌, ℕ, List, Option, Some, ap, subst}
+use Rattle.std.proofs.Common.{◌≡◌, ◌∙◌, ℕ, List, Some, ap, subst}
 use Rattle.std.specs.Prelude.{IfSome}
 use Rattle.office_facts.specs.declared.excerpt.Excerpt.{Excerpt}
 use Rattle.office_facts.specs.Excerpt.{HasExcerpt, excerpt_facts, named_message}
@@ -14,7 +14,7 @@ use Rattle.office_types.specs.declared.state.Head.{Head}
 use Rattle.office_types.specs.declared.state.Net.{Net}
 use Rattle.office_rules.specs.Change.{Decides, IsDecision}
 use Rattle.office_rules.specs.Commands.{acted}
-use Rattle.office_rules.specs.Facts.{MessageFacts, live_named, message_facts}
+use Rattle.office_rules.specs.Facts.{live_named, message_facts}
 use Rattle.office_take.specs.FactsOf.{with_head, with_parts}
 use Rattle.office.proofs.Decisions.{action_decided, decision_if_read}
 

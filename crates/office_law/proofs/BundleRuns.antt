@@ -1,6 +1,5 @@
 -- A bundle is the run of its parts.
-use Rattle.std.proofs.Common.{◌≡◌, ◌∙◌, ◌⊎◌, ◌+◌, ℕ, zero, suc, Bool, true, false, List, [], ◌∷◌, ◌++◌, map, length, Option, Some, None, inl, inr, refl, sym, ap, subst, arith}
-use Rattle.std.specs.Str.{bytes_eq}
+use Rattle.std.proofs.Common.{◌≡◌, ◌∙◌, ◌⊎◌, ◌+◌, ℕ, Bool, true, false, List, [], ◌∷◌, ◌++◌, map, length, Option, Some, None, inl, inr, refl, sym, ap, subst, arith}
 use Rattle.std.proofs.lemmas.Slice.Eq.{bytes_eq-Decides}
 use Rattle.catalogue.specs.Keyed.{put}
 use Rattle.office_types.specs.Parts.{AreParts}
@@ -8,7 +7,6 @@ use Rattle.office_types.specs.Reply.{part_reply, whole_reply}
 use Rattle.office_types.specs.State.{by_name}
 use Rattle.office_types.specs.declared.command.Action.{Action}
 use Rattle.office_types.specs.declared.command.Task.TheVariants as task
-use Rattle.office_types.specs.declared.refusal.FileFault.{FileFault as Fault}
 use Rattle.office_types.specs.declared.refusal.Refusal.{Refusal}
 use Rattle.office_types.specs.declared.refusal.Refusal.TheVariants as no
 use Rattle.office_types.specs.declared.reply.PartReply.{PartReply}
@@ -23,7 +21,7 @@ use Rattle.office_rules.specs.Importing.{FileReading, Unreadable}
 use Rattle.office_rules.specs.Outcome.{Entries, Outcome, Refusing, Changing, entered, reply_of}
 use Rattle.office_rules.specs.Profile.{Profile}
 use Rattle.office_rules.specs.Step.{IsRead, Run, Step, file_wanted, net_named, office_after}
-use Rattle.office_law.specs.Bundles.{BundlesRunTheirParts, IsPartRefused, bundle_of, command_of, requests_of}
+use Rattle.office_law.specs.Bundles.{BundlesRunTheirParts, IsPartRefused, command_of, requests_of}
 use Rattle.office_law.specs.Histories.{AreInOrder}
 use Rattle.office_law.proofs.Left.{IsLeft, left_act, name_of}
 use Rattle.office_law.proofs.NetsApart.{name_of_found}

@@ -4,7 +4,6 @@ use Rattle.std.specs.Prelude.{codes}
 use Rattle.catalogue.specs.Refusing.{first_refusal}
 use Rattle.office_types.specs.Free.{least_free}
 use Rattle.office_types.specs.declared.command.Action.TheVariants as act
-use Rattle.office_types.specs.declared.command.Command.{Command}
 use Rattle.office_types.specs.declared.command.Task.TheVariants.{Act}
 use Rattle.office_types.specs.declared.free.Form.TheVariants.{Std}
 use Rattle.office_types.specs.declared.refusal.Refusal.TheVariants as no

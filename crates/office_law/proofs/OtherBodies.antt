@@ -1,5 +1,5 @@
 -- A command that retires nothing depends on how many releases its network has, and on nothing in them.
-use Rattle.std.proofs.Common.{◌≡◌, ◌∙◌, ◌+◌, ℕ, not, nat_lt, nat_le, Bool, true, false, ◌||◌, List, [], ◌∷◌, ◌++◌, length, Option, Some, None, refl, sym, ap, subst, append-nil, append_assoc, length-append}
+use Rattle.std.proofs.Common.{◌≡◌, ◌∙◌, ◌+◌, ℕ, not, nat_lt, nat_le, false, List, [], ◌∷◌, ◌++◌, length, Option, Some, None, refl, sym, ap, subst, append-nil, append_assoc, length-append}
 use Rattle.std.specs.List.{list_any}
 use Rattle.std.specs.Option.{option_map}
 use Rattle.std.proofs.lemmas.Bool.{false≢true, or_parts}
@@ -10,11 +10,10 @@ use Rattle.office_types.specs.State.{sheet_of}
 use Rattle.office_types.specs.PlainName.{is_office}
 use Rattle.office_types.specs.declared.book.SpnBook.{SpnBook}
 use Rattle.office_types.specs.declared.change.Change.{Change}
-use Rattle.office_types.specs.declared.change.Change.TheVariants.{SetHead, SetMessage, RemoveMessage, AddSignal, RemoveSignal, SetBlock, SetSpnBlock, Hold, EnterSpn, SetApproval, ClearApprovals, AddRelease}
+use Rattle.office_types.specs.declared.change.Change.TheVariants.{SetHead, AddSignal, RemoveSignal, AddRelease}
 use Rattle.office_types.specs.declared.change.Decision.{Decision}
 use Rattle.office_types.specs.declared.command.Action.{Action}
 use Rattle.office_types.specs.declared.command.Action.TheVariants as act
-use Rattle.office_types.specs.declared.command.Command.{Command}
 use Rattle.office_types.specs.declared.command.Task.{Task}
 use Rattle.office_types.specs.declared.command.Task.TheVariants.{Act, Import, Bundle}
 use Rattle.office_types.specs.declared.refusal.Refusal.{Refusal}
@@ -25,7 +24,7 @@ use Rattle.office_types.specs.declared.state.LiveMessage.{LiveMessage}
 use Rattle.office_types.specs.declared.state.Net.{Net}
 use Rattle.office_types.specs.declared.state.Phase.TheVariants.{Draft}
 use Rattle.office_rules.specs.Bundling.{PartsOutcome, RefusedAt, AllDone, bundle_outcome, part_then, with_part}
-use Rattle.office_rules.specs.Change.{AllFit, Decides, Fits, IsDecision, IsQuiet, NetAndBook, all_applied, applied, at_message, changed_book, changed_net, left_after, net_changed}
+use Rattle.office_rules.specs.Change.{AllFit, Decides, Fits, IsQuiet, NetAndBook, all_applied, applied, at_message, changed_book, changed_net, left_after, net_changed}
 use Rattle.office_rules.specs.Commands.{acted, done_task, outcome, parts_done}
 use Rattle.office_rules.specs.Facts.{in_review, live_named}
 use Rattle.office_rules.specs.Importing.{FileReading}

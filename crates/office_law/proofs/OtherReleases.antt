@@ -1,5 +1,5 @@
 -- Commands that don't depend on releases.
-use Rattle.std.proofs.Common.{◌≡◌, ◌∙◌, ◌+◌, ℕ, Bool, true, false, cond, ◌||◌, not, List, [], ◌∷◌, ◌++◌, length, Option, Some, None, inl, inr, refl, sym, ap, subst}
+use Rattle.std.proofs.Common.{◌≡◌, ◌∙◌, ◌+◌, ℕ, Bool, true, false, cond, not, List, [], ◌∷◌, length, Option, Some, None, inl, inr, refl, sym, ap, subst}
 use Rattle.std.specs.List.{list_any}
 use Rattle.std.specs.Option.{option_map}
 use Rattle.std.proofs.lemmas.Bool.{false≢true, or_parts}
@@ -32,7 +32,7 @@ use Rattle.office_types.specs.declared.state.LiveMessage.{LiveMessage}
 use Rattle.office_types.specs.declared.state.Net.{Net}
 use Rattle.office_types.specs.declared.state.Phase.TheVariants.{Draft, Review}
 use Rattle.office_rules.specs.Bundling.{PartsOutcome, RefusedAt, AllDone, bundle_outcome, part_then, with_part}
-use Rattle.office_rules.specs.Change.{AllFit, Decides, HaveOwnBlocks, IsDecision, IsHeadFirst, IsQuiet, NetAndBook, all_applied, applied, at_message, changed_book, is_release, left_after, net_changed}
+use Rattle.office_rules.specs.Change.{AllFit, Decides, IsDecision, IsQuiet, NetAndBook, all_applied, at_message, changed_book, is_release, left_after, net_changed}
 use Rattle.office_rules.specs.Commands.{acted, done_task, outcome, parts_done}
 use Rattle.office_rules.specs.Facts.{group_facts, ident_facts, live_named, message_facts}
 use Rattle.office_rules.specs.Importing.{FileReading, Reading, Unreadable, file_imported, import_tests}

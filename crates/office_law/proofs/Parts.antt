@@ -1,5 +1,5 @@
 -- What the parts of a bundle leave.
-use Rattle.std.proofs.Common.{ℕ, List, ◌∷◌, ◌++◌, [], Option, Some, None, ◌≡◌, refl, ap, sym, ◌∙◌}
+use Rattle.std.proofs.Common.{ℕ, List, ◌∷◌, ◌++◌, [], Option, Some, None, ◌≡◌, refl, ap, ◌∙◌}
 use Rattle.std.specs.Prelude.{IfSome}
 use Rattle.std.specs.Ordering.{nat_cmp}
 use Rattle.std.specs.declared.cmp.Ordering.{Ordering}

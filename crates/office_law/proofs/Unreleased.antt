@@ -1,20 +1,15 @@
 -- Only `release` and a bundle with it have a release among their changes.
-use Rattle.std.proofs.Common.{◌≡◌, ◌∙◌, ◌+◌, ◌≤◌, ℕ, Bool, true, false, ◌||◌, List, [], ◌∷◌, ◌++◌, length, Option, Some, None, inl, inr, refl, sym, ap, subst, arith, length-append}
+use Rattle.std.proofs.Common.{◌≡◌, ◌∙◌, ◌+◌, ℕ, false, List, [], ◌∷◌, length, Option, Some, None, refl, sym, ap, arith, length-append}
 use Rattle.std.specs.List.{list_any}
 use Rattle.catalogue.specs.declared.sheet.Sheet.{Sheet}
 use Rattle.office_types.specs.declared.book.SpnBook.{SpnBook}
 use Rattle.office_types.specs.declared.change.Change.{Change}
 use Rattle.office_types.specs.declared.change.Change.TheVariants.{SetHead, SetMessage, RemoveMessage, AddSignal, RemoveSignal, SetBlock, SetSpnBlock, Hold, EnterSpn, SetApproval, ClearApprovals, AddRelease}
-use Rattle.office_types.specs.declared.change.Decision.{Decision}
-use Rattle.office_types.specs.declared.command.Command.{Command}
 use Rattle.office_types.specs.declared.state.LiveMessage.{LiveMessage}
 use Rattle.office_types.specs.declared.state.Net.{Net}
-use Rattle.office_rules.specs.Change.{IsDecision, IsQuiet, NetAndBook, all_applied, applied, at_message, changed_book, is_release, left_after, net_changed}
-use Rattle.office_rules.specs.Commands.{outcome}
+use Rattle.office_rules.specs.Change.{NetAndBook, all_applied, applied, at_message, changed_book, is_release, net_changed}
 use Rattle.office_rules.specs.Facts.{live_named}
 use Rattle.office_rules.specs.Numbers.{with_message}
-use Rattle.office_rules.specs.Outcome.{Outcome, Refusing, Changing}
-use Rattle.office_law.proofs.Apart.{networks_are_apart}
 
 -- how many releases are among changes
 abbrev released : List Change → ℕ

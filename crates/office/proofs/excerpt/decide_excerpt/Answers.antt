@@ -10,7 +10,6 @@ use Rattle.office_rules.specs.Facts.{was_released}
 use Rattle.office_rules.specs.Opening.{add_node, grant}
 use Rattle.office_rules.specs.Reviewing.{approve, reject, submit}
 use Rattle.office_rules.specs.Signals.{take_spn}
-use Rattle.office_rules.specs.Numbers.{take_ident, take_pgn}
 use Rattle.office_facts.specs.By.{take_ident_by, take_pgn_by}
 use Rattle.office_take.specs.FactsOf.{number_facts_of}
 use Rattle.office_take.proofs.Inside.{group_inside, ident_inside}

@@ -5,7 +5,7 @@ use Rattle.sqlite.specs.Held.{state}
 use Rattle.sqlite.specs.State.{HasCleanDisk}
 use Rattle.office_tables.specs.Tables.{IsOffice, tables_of}
 use Rattle.store_rows.specs.Rows.{IsBookIn}
-use Rattle.store.proofs.Decided.{excerpt_decided}
+use Rattle.store.proofs.Decided.{absent_decided, excerpt_decided}
 use Rattle.store.proofs.deciding.decide_by_excerpt.Goals as goal
 
 pub returns-then-reads_book-clause-decided : goal.returns-then-reads_book-clause-decided
@@ -24,3 +24,8 @@ returns-clause-decided g c clean office net book at is_net in_book =
     excerpt_decided c.releases_dont_count.ensures c.args.team.now c.args.command.now c.in_ok-decide_excerpt-2.field-0 c.in-Some.excerpt net book c.in_ok-excerpt.field-0 c.requires c.in-Some.is
     (c.in_ok-excerpt.ensures.found clean office net at is_net)
     (λ n has. c.in_ok-decide_excerpt-2.ensures n book has (λ asks. absurd (false≢true (sym c.if-reads_book.false ∙ c.reads_book.ensures ∙ asks))))
+
+pub returns-in_default-clause-decided : goal.returns-in_default-clause-decided
+returns-in_default-clause-decided g c clean office net book at is_net in_book =
+    absent_decided c.args.team.now c.args.command.now c.in_ok-decide.field-0 c.empty_book.result net book c.in_ok-excerpt.field-0 c.requires c.in_default.is
+    (c.in_ok-excerpt.ensures.found clean office net at is_net) c.in_ok-decide.ensures.decision

@@ -1,10 +1,10 @@
 //! Readers and writers of one byte a call that fail at one call.
 ghost use Rattle.std.specs.Prelude.{◌≡◌, IfOk};
 
-use crate::disks::{Bytes, Taking, Unsynced, taken};
+use crate::disks::{Bytes, Taking, Unsynced};
 use crate::eleven::{request, response};
 use crate::lists::ELEVEN;
-use crate::offices::{Opening, Outcome, is_after, office_on, served};
+use crate::offices::{Opening, Outcome, Trial, is_after, passes_on, served, try_on};
 use desk::{Counted, DeskFault, Routes, Sink, Source, serve_one};
 use sqlite::Alter;
 use std::alloc::Global;
@@ -152,56 +152,57 @@ fn serves_before<S: Alter>(alloc: Global, office: &mut StoredOffice<S>, number: 
 /// The number of the request that the readers and writers are tried with: the first that takes an identifier.
 const TAKE: usize = 2;
 
-/// Whether the request isn't carried out where its reader fails, and gets its response when it is sent again.
-fn is_unread<S: Alter>(
-    alloc: Global,
-    office: &mut StoredOffice<S>,
-    request: &[u8],
+/// That the request isn't carried out where its reader fails, and gets its response when it is sent again.
+#[derive(Drop)]
+struct Unread<'a> {
+    request: &'a [u8],
     at: usize,
     failing: Failing,
-) -> bool {
-    serves_before(alloc, office, TAKE)
-        && fails_to_read(alloc, office, request, at, failing)
-        && is_after(alloc, office, &ELEVEN, TAKE, 0)
-        && served(alloc, office, TAKE) == Outcome::Right
 }
 
-/// Whether the request is carried out where its writer fails, and gets its response when it is sent again.
-fn is_unwritten<S: Alter>(
-    alloc: Global,
-    office: &mut StoredOffice<S>,
-    texts: (&[u8], &[u8]),
-    at: usize,
-    failing: Failing,
-) -> bool {
-    serves_before(alloc, office, TAKE)
-        && fails_to_write(alloc, office, texts, at, failing)
-        && is_after(alloc, office, &ELEVEN, TAKE.saturating_add(1), 0)
-        && served(alloc, office, TAKE) == Outcome::Right
-}
-
-fn reader_is_right(alloc: Global, request: &[u8], at: usize, failing: Failing) -> bool {
-    match office_on(alloc, &Bytes::none(alloc), Opening::Open) {
-        Ok(mut office) => is_unread(alloc, &mut office, request, at, failing),
-        Err(_) => false,
+impl Trial for Unread<'_> {
+    fn is_passed<S: Alter>(&mut self, alloc: Global, office: &mut StoredOffice<S>) -> bool {
+        serves_before(alloc, office, TAKE)
+            && fails_to_read(alloc, office, self.request, self.at, self.failing)
+            && is_after(alloc, office, &ELEVEN, TAKE, 0)
+            && served(alloc, office, TAKE) == Outcome::Right
     }
 }
 
-fn writer_is_right(alloc: Global, texts: (&[u8], &[u8]), at: usize, failing: Failing) -> bool {
-    match office_on(alloc, &Bytes::none(alloc), Opening::Open) {
-        Ok(mut office) => is_unwritten(alloc, &mut office, texts, at, failing),
-        Err(_) => false,
+/// That the request is carried out where its writer fails, and gets its response when it is sent again.
+#[derive(Drop)]
+struct Unwritten<'a> {
+    request: &'a [u8],
+    response: &'a [u8],
+    at: usize,
+    failing: Failing,
+}
+
+impl Trial for Unwritten<'_> {
+    fn is_passed<S: Alter>(&mut self, alloc: Global, office: &mut StoredOffice<S>) -> bool {
+        let texts = (self.request, self.response);
+        serves_before(alloc, office, TAKE)
+            && fails_to_write(alloc, office, texts, self.at, self.failing)
+            && is_after(alloc, office, &ELEVEN, TAKE.saturating_add(1), 0)
+            && served(alloc, office, TAKE) == Outcome::Right
     }
 }
 
 fn try_readers(rt: &HostRuntime, request: &[u8]) -> io::Result<()> {
+    let none = Bytes::none(rt.alloc());
     let mut right = 0usize;
     for (failing, name) in [
         (Failing::Reset, "reset"),
         (Failing::Interrupted, "interrupted"),
     ] {
         for at in 1..request.len().saturating_add(1) {
-            if reader_is_right(rt.alloc(), request, at, failing) {
+            let files = none.whole_files(rt.alloc())?;
+            let mut unread = Unread {
+                request,
+                at,
+                failing,
+            };
+            if passes_on(rt.alloc(), files, Opening::Open, &mut unread) {
                 right = right.saturating_add(1);
             } else {
                 println!(rt; "a reader, {name}: WRONG at call {at}")?;
@@ -212,6 +213,7 @@ fn try_readers(rt: &HostRuntime, request: &[u8]) -> io::Result<()> {
 }
 
 fn try_writers(rt: &HostRuntime, request: &[u8], response: &[u8]) -> io::Result<()> {
+    let none = Bytes::none(rt.alloc());
     let mut right = 0usize;
     for (failing, name) in [
         (Failing::Reset, "reset"),
@@ -219,7 +221,14 @@ fn try_writers(rt: &HostRuntime, request: &[u8], response: &[u8]) -> io::Result<
         (Failing::Zero, "zero"),
     ] {
         for at in 1..response.len().saturating_add(1) {
-            if writer_is_right(rt.alloc(), (request, response), at, failing) {
+            let files = none.whole_files(rt.alloc())?;
+            let mut unwritten = Unwritten {
+                request,
+                response,
+                at,
+                failing,
+            };
+            if passes_on(rt.alloc(), files, Opening::Open, &mut unwritten) {
                 right = right.saturating_add(1);
             } else {
                 println!(rt; "a writer, {name}: WRONG at call {at}")?;
@@ -229,35 +238,44 @@ fn try_writers(rt: &HostRuntime, request: &[u8], response: &[u8]) -> io::Result<
     println!(rt; "writers: {right} right")
 }
 
-/// Whether the request of this number fails at the first call of its writer, and those before it get their responses.
-fn is_unanswered<S: Alter>(
-    alloc: Global,
-    office: &mut StoredOffice<S>,
-    request: &[u8],
+/// That the request of this number fails at the first call of its writer, and those before it get their responses.
+#[derive(Drop)]
+struct Unanswered<'a> {
+    request: &'a [u8],
     number: usize,
-) -> bool {
-    serves_before(alloc, office, number)
-        && fails_to_write(alloc, office, (request, b""), 1, Failing::Reset)
 }
 
-/// Whether a new office on the bytes gives the request its response.
-fn is_answered(alloc: Global, bytes: &Bytes, number: usize) -> bool {
-    match office_on(alloc, bytes, Opening::Open) {
-        Ok(mut office) => served(alloc, &mut office, number) == Outcome::Right,
-        Err(_) => false,
+impl Trial for Unanswered<'_> {
+    fn is_passed<S: Alter>(&mut self, alloc: Global, office: &mut StoredOffice<S>) -> bool {
+        serves_before(alloc, office, self.number)
+            && fails_to_write(alloc, office, (self.request, b""), 1, Failing::Reset)
+    }
+}
+
+/// That the request of this number gets its response.
+#[derive(Drop)]
+struct Answered {
+    number: usize,
+}
+
+impl Trial for Answered {
+    fn is_passed<S: Alter>(&mut self, alloc: Global, office: &mut StoredOffice<S>) -> bool {
+        served(alloc, office, self.number) == Outcome::Right
     }
 }
 
 /// Whether the request of this number gets its response from a new office on the files of one whose writer failed.
 fn is_answered_later(alloc: Global, number: usize, unsynced: Unsynced) -> io::Result<bool> {
     let request = request(alloc, number)?;
-    let Ok(mut office) = office_on(alloc, &Bytes::none(alloc), Opening::Open) else {
-        return Ok(false);
+    let files = Bytes::none(alloc).whole_files(alloc)?;
+    let mut unanswered = Unanswered {
+        request: &request,
+        number,
     };
-    let failed = is_unanswered(alloc, &mut office, &request, number);
-    let files = taken(office.close(), Taking::Left);
-    let bytes = Bytes::left_of(alloc, files, unsynced)?;
-    Ok(failed && is_answered(alloc, &bytes, number))
+    let (failed, left) = try_on(alloc, files, Opening::Open, Taking::Left, &mut unanswered);
+    let files = Bytes::left_of(alloc, left, unsynced)?.whole_files(alloc)?;
+    let answered = passes_on(alloc, files, Opening::Open, &mut Answered { number });
+    Ok(failed == Ok(true) && answered)
 }
 
 /// Each request of the list of eleven with a writer that fails at its first call.

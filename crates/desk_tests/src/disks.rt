@@ -7,9 +7,6 @@ use std::io;
 /// A file in memory, so many calls of which succeed, and no later one.
 pub(crate) type Fused = Fuse<Memory>;
 
-/// What an office on two such files is kept in.
-pub(crate) type Store = FileStore<Fused>;
-
 /// Which of the two files stops.
 #[derive(Clone, Copy, PartialEq, Eq)]
 pub(crate) enum Which {
@@ -78,6 +75,11 @@ impl Bytes {
         })
     }
 
+    /// Files of these bytes, neither of which stops.
+    pub(crate) fn whole_files(&self, alloc: Global) -> io::Result<Files<Fused>> {
+        self.files(alloc, Which::Neither, 0)
+    }
+
     /// Files of these bytes. The one that stops has so many calls.
     pub(crate) fn files(
         &self,
@@ -113,10 +115,10 @@ pub(crate) fn is_whole(files: &mut Files<Fused>, which: Which) -> bool {
 }
 
 /// A connection on the files, or the files that are left.
-pub(crate) fn connected(
+pub(crate) fn connected<D: Disk + Drop>(
     alloc: Global,
-    files: Files<Fused>,
-) -> Result<Connection<Store>, Files<Fused>> {
+    files: Files<D>,
+) -> Result<Connection<FileStore<D>>, Files<D>> {
     if !files.log.may_be_used() || !files.db.may_be_used() {
         return Err(files);
     }
@@ -127,7 +129,7 @@ pub(crate) fn connected(
 }
 
 /// The files of the connection.
-pub(crate) fn taken(conn: Connection<Store>, taking: Taking) -> Files<Fused> {
+pub(crate) fn taken<D: Disk + Drop>(conn: Connection<FileStore<D>>, taking: Taking) -> Files<D> {
     match taking {
         Taking::Closed => match conn.close_files() {
             Ok(files) => files,

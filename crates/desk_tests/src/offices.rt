@@ -1,12 +1,16 @@
-//! Offices on the files, and ways to send them the requests of a list.
-use crate::disks::{Bytes, Store, Which, connected};
+//! Offices on the files, what is tried on them, and ways to send them the requests of a list.
+//!
+//! All that is done with an office is over any store: what names the one on two files takes twenty times as long to
+//! prove. So `try_on` alone goes from files to an office and back.
+use crate::disks::{Taking, connected, taken};
 use crate::eleven::{request, response};
 use crate::lists::{List, Step, is_live_after};
 use catalogue::Name;
 use desk::{Counted, Routes, serve_one};
 use office_history::{Answer, Arrival};
 use office_types::{Look, NetName};
-use sqlite::{Alter, Connection};
+use sqlite::{Alter, Connection, Files};
+use sqlite_disk::Disk;
 use std::alloc::Global;
 use std::io::{self, ErrorKind};
 use store::{Lost, StoredOffice, Watch};
@@ -49,11 +53,11 @@ impl Watch for Nobody {
 }
 
 /// An office on the connection.
-pub(crate) fn opened(
+fn opened<S: Alter + Drop>(
     alloc: Global,
-    conn: Connection<Store>,
+    conn: Connection<S>,
     opening: Opening,
-) -> Result<StoredOffice<Store>, (Lost, Connection<Store>)> {
+) -> Result<StoredOffice<S>, (Lost, Connection<S>)> {
     if !conn.is_autocommit() {
         return Err((Lost::Store, conn));
     }
@@ -63,22 +67,54 @@ pub(crate) fn opened(
     }
 }
 
-/// An office on files of these bytes, neither of which stops.
-pub(crate) fn office_on(
+/// What is tried on an office.
+pub(crate) trait Trial {
+    /// Whether the office does all that it must.
+    fn is_passed<S: Alter>(&mut self, alloc: Global, office: &mut StoredOffice<S>) -> bool;
+}
+
+/// Opens an office on the connection, tries it, and gives the connection back. Whether it passed, or why it wasn't opened.
+fn try_opened<S: Alter + Drop, T: Trial>(
     alloc: Global,
-    bytes: &Bytes,
+    conn: Connection<S>,
     opening: Opening,
-) -> Result<StoredOffice<Store>, Lost> {
-    let Ok(files) = bytes.files(alloc, Which::Neither, 0) else {
-        return Err(Lost::Memory);
-    };
-    let Ok(conn) = connected(alloc, files) else {
-        return Err(Lost::Store);
-    };
+    trial: &mut T,
+) -> (Result<bool, Lost>, Connection<S>) {
     match opened(alloc, conn, opening) {
-        Ok(office) => Ok(office),
-        Err((lost, _)) => Err(lost),
+        Ok(mut office) => {
+            let passed = trial.is_passed(alloc, &mut office);
+            (Ok(passed), office.close())
+        }
+        Err((lost, conn)) => (Err(lost), conn),
     }
+}
+
+/// Opens an office on the files, tries it, and takes the files. Whether it passed, or why it wasn't opened.
+pub(crate) fn try_on<D: Disk + Drop, T: Trial>(
+    alloc: Global,
+    files: Files<D>,
+    opening: Opening,
+    taking: Taking,
+    trial: &mut T,
+) -> (Result<bool, Lost>, Files<D>) {
+    match connected(alloc, files) {
+        Ok(conn) => {
+            let (passed, conn) = try_opened(alloc, conn, opening, trial);
+            (passed, taken(conn, taking))
+        }
+        Err(files) => (Err(Lost::Store), files),
+    }
+}
+
+/// Whether an office on the files passes the trial.
+pub(crate) fn passes_on<D: Disk + Drop, T: Trial>(
+    alloc: Global,
+    files: Files<D>,
+    opening: Opening,
+    trial: &mut T,
+) -> bool {
+    let (passed, _files) = try_on(alloc, files, opening, Taking::Left, trial);
+    passed == Ok(true)
 }
 
 /// Whether the answer is the reply of these words.

@@ -1,9 +1,10 @@
 //! Stops at each call of each file, and after each of them the list again.
-use crate::disks::{Bytes, Fused, Store, Taking, Unsynced, Which, connected, is_whole, taken};
+use crate::disks::{Bytes, Taking, Unsynced, Which, is_whole};
 use crate::lists::{BUNDLES, ELEVEN, FREE, HELD, List, arrivals};
-use crate::offices::{Opening, Way, is_after, office_on, opened, sent};
+use crate::offices::{Opening, Trial, Way, is_after, passes_on, sent, try_on};
 use office_history::Arrival;
-use sqlite::Files;
+use sqlite::{Alter, Files};
+use sqlite_disk::Disk;
 use std::alloc::Global;
 use std::io;
 use store::{Lost, StoredOffice};
@@ -43,80 +44,104 @@ struct Tried {
     is_right: bool,
 }
 
-/// Has the office do its work, and takes the files. How many requests of the list are then answered; `None` if a reply
-/// is wrong.
-fn worked(
-    alloc: Global,
-    mut office: StoredOffice<Store>,
-    work: Work<'_>,
-    taking: Taking,
-) -> (Option<usize>, Files<Fused>) {
-    let answered = sent(alloc, &mut office, work.list, work.way, work.kept);
-    (answered, taken(office.close(), taking))
+/// That an office does its work, as far as it can.
+#[derive(Drop)]
+struct Worked<'a> {
+    work: Work<'a>,
+    /// How many requests of the list are then answered; `None` if a reply is wrong.
+    answered: Option<usize>,
 }
 
-/// Does the work on the files, and takes them.
-fn first_run(
+impl Trial for Worked<'_> {
+    fn is_passed<S: Alter>(&mut self, alloc: Global, office: &mut StoredOffice<S>) -> bool {
+        let work = self.work;
+        self.answered = sent(alloc, office, work.list, work.way, work.kept);
+        self.answered.is_some()
+    }
+}
+
+/// Does the work on the files, and takes them. How many requests of the list are then answered; `None` if a reply is
+/// wrong.
+fn first_run<D: Disk + Drop>(
     alloc: Global,
-    files: Files<Fused>,
+    files: Files<D>,
     work: Work<'_>,
     taking: Taking,
-) -> (Option<usize>, Files<Fused>) {
-    match connected(alloc, files) {
-        Ok(conn) => match opened(alloc, conn, work.opening) {
-            Ok(office) => worked(alloc, office, work, taking),
-            Err((Lost::Store, conn)) => (Some(work.kept), taken(conn, taking)),
-            Err((_, conn)) => (None, taken(conn, taking)),
-        },
-        Err(files) => (Some(work.kept), files),
+) -> (Option<usize>, Files<D>) {
+    let mut worked = Worked {
+        work,
+        answered: None,
+    };
+    let (opened, files) = try_on(alloc, files, work.opening, taking, &mut worked);
+    match opened {
+        Err(Lost::Store) => (Some(work.kept), files),
+        _ => (worked.answered, files),
+    }
+}
+
+/// That an office has all that was kept, and nothing else.
+#[derive(Drop)]
+struct Kept<'a> {
+    work: Work<'a>,
+}
+
+impl Trial for Kept<'_> {
+    fn is_passed<S: Alter>(&mut self, alloc: Global, office: &mut StoredOffice<S>) -> bool {
+        is_after(alloc, office, self.work.list.steps, self.work.kept, 0)
     }
 }
 
 /// Whether the tables are those of an earlier version, or those of this one with all that was kept.
-fn is_old_or_new(alloc: Global, bytes: &Bytes, work: Work<'_>) -> bool {
-    match office_on(alloc, bytes, Opening::Open) {
-        Ok(mut office) => is_after(alloc, &mut office, work.list.steps, work.kept, 0),
-        Err(lost) => lost == Lost::OlderProfile,
+fn is_old_or_new<D: Disk + Drop>(alloc: Global, files: Files<D>, work: Work<'_>) -> bool {
+    let (passed, _files) = try_on(
+        alloc,
+        files,
+        Opening::Open,
+        Taking::Left,
+        &mut Kept { work },
+    );
+    passed == Ok(true) || passed == Err(Lost::OlderProfile)
+}
+
+/// That an office has what was answered, and of the next request all or nothing; gives the list its replies; and is then
+/// as it must be.
+#[derive(Drop)]
+struct Again<'a> {
+    work: Work<'a>,
+    answered: usize,
+}
+
+impl Trial for Again<'_> {
+    fn is_passed<S: Alter>(&mut self, alloc: Global, office: &mut StoredOffice<S>) -> bool {
+        let work = self.work;
+        let steps = work.list.steps;
+        let count = steps.len();
+        is_after(alloc, office, steps, self.answered, 1)
+            && sent(alloc, office, work.list, work.way, 0) == Some(count)
+            && is_after(alloc, office, steps, count, 0)
+            && sent(alloc, office, work.last, Way::Arrive, 0) == Some(work.last.steps.len())
+            && is_after(alloc, office, work.last.steps, work.last.steps.len(), 0)
     }
 }
 
-/// Whether the office has what was answered, and of the next request all or nothing; gives the list its replies; and
-/// is then as it must be.
-fn answers_again(
+/// Whether a new office on the files does so.
+fn second_run<D: Disk + Drop>(
     alloc: Global,
-    mut office: StoredOffice<Store>,
+    files: Files<D>,
     work: Work<'_>,
     answered: usize,
 ) -> bool {
-    let steps = work.list.steps;
-    let count = steps.len();
-    is_after(alloc, &mut office, steps, answered, 1)
-        && sent(alloc, &mut office, work.list, work.way, 0) == Some(count)
-        && is_after(alloc, &mut office, steps, count, 0)
-        && sent(alloc, &mut office, work.last, Way::Arrive, 0) == Some(work.last.steps.len())
-        && is_after(
-            alloc,
-            &mut office,
-            work.last.steps,
-            work.last.steps.len(),
-            0,
-        )
-}
-
-/// Whether a new office on the bytes does so.
-fn second_run(alloc: Global, bytes: &Bytes, work: Work<'_>, answered: usize) -> bool {
-    match office_on(alloc, bytes, work.opening) {
-        Ok(office) => answers_again(alloc, office, work, answered),
-        Err(_) => false,
-    }
+    passes_on(alloc, files, work.opening, &mut Again { work, answered })
 }
 
 /// Whether the bytes that a stop left are right, after so many requests were answered.
-fn is_right(alloc: Global, bytes: &Bytes, work: Work<'_>, answered: usize) -> bool {
+fn is_right(alloc: Global, bytes: &Bytes, work: Work<'_>, answered: usize) -> io::Result<bool> {
+    let files = bytes.whole_files(alloc)?;
     match work.opening {
-        Opening::Open => second_run(alloc, bytes, work, answered),
+        Opening::Open => Ok(second_run(alloc, files, work, answered)),
         Opening::Migrate => {
-            is_old_or_new(alloc, bytes, work) && second_run(alloc, bytes, work, answered)
+            let same = bytes.whole_files(alloc)?;
+            Ok(is_old_or_new(alloc, files, work) && second_run(alloc, same, work, answered))
         }
     }
 }
@@ -130,7 +155,7 @@ fn try_stop(alloc: Global, work: Work<'_>, stop: Stop) -> io::Result<Tried> {
     let is_right = match answered {
         // Where no call failed, no request is lost.
         Some(answered) if is_whole && answered < work.list.steps.len() => false,
-        Some(answered) => is_right(alloc, &bytes, work, answered),
+        Some(answered) => is_right(alloc, &bytes, work, answered)?,
         None => false,
     };
     Ok(Tried { is_whole, is_right })

@@ -70,12 +70,12 @@ static uint64_t number_of(const char *name, uint64_t absent)
     return text && *text ? strtoull(text, 0, 10) : absent;
 }
 
-/* The place of a variable's word among these; 0 where it is none of them, or absent. */
-static int place_of(const char *name, const char *const *words, int count)
+/* The index of a variable's word among these; 0 where it is none of them, or absent. */
+static int index_of(const char *name, const char *const *words, int count)
 {
     const char *text = getenv(name);
-    for (int place = 0; text && place < count; place++)
-        if (strcmp(text, words[place]) == 0) return place;
+    for (int index = 0; text && index < count; index++)
+        if (strcmp(text, words[index]) == 0) return index;
     return 0;
 }
 
@@ -103,9 +103,9 @@ __attribute__((constructor)) static void begin(void)
     every = number_of("FAULT_EVERY", 1);
     seed = number_of("FAULT_SEED", 1) * 2654435761u + at;
     error_number = (int)number_of("FAULT_ERROR", EIO);
-    int place = place_of("FAULT_EFFECT", effects, sizeof effects / sizeof *effects);
-    if (place) effect = place;
-    unsynced = place_of("FAULT_UNSYNCED", fates, sizeof fates / sizeof *fates);
+    int index = index_of("FAULT_EFFECT", effects, sizeof effects / sizeof *effects);
+    if (index) effect = index;
+    unsynced = index_of("FAULT_UNSYNCED", fates, sizeof fates / sizeof *fates);
     has_idle_sync = getenv("FAULT_IDLE_SYNC") != 0;
     armed = getenv("FAULT_ARMED");
     if (getenv("FAULT_COUNT")) share_counts(getenv("FAULT_COUNT"));
@@ -158,8 +158,8 @@ static void note(int file, off_t from, off_t to)
 static void forget(int file)
 {
     size_t kept = 0;
-    for (size_t place = 0; place < write_count; place++)
-        if (writes[place].file != file) writes[kept++] = writes[place];
+    for (size_t index = 0; index < write_count; index++)
+        if (writes[index].file != file) writes[kept++] = writes[index];
     write_count = kept;
 }
 

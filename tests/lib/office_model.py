@@ -1,5 +1,5 @@
 """What an office shows after requests that it has answered, for cases that look at one. It is worked out here from
-the requests, their replies and the rules: the replies say which numbers and places were given out, and what was
+the requests, their replies and the rules: the replies say which numbers and starts were given out, and what was
 refused. Texts are kept as bytes, decoded so that each byte stays.
 """
 import dataclasses, decimal, re, urllib.parse
@@ -94,7 +94,7 @@ class Message:
 
     def chart(self):
         """Which signal has which bit. Live messages are clear."""
-        letters = [chr(ord("A") + place) if place < 26 else "+" for place in range(len(self.signals))]
+        letters = [chr(ord("A") + index) if index < 26 else "+" for index in range(len(self.signals))]
         cells = {}
         for letter, signal in zip(letters, self.signals):
             for bit in signal.bits():

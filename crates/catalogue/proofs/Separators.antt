@@ -22,10 +22,10 @@ any_found c [] bs h = grind (arith, nat_tests)
 any_found c (b ∷ front) bs h = rw (ne_eqb b c (All-head (λ b. b ≢ c) b front h)) (any_found c front bs (All-tail (λ b. b ≢ c) b front h))
 
 -- the first `c` comes after the prefix that has none
-place_found : (c : ℕ) (front bs : List ℕ) → Lacks c front → position_or_len (λ b. b == c) (front ++ (c ∷ bs)) ≡ length front
-place_found c [] bs h = let same : (c == c) ≡ true = grind (arith, nat_tests) in rw same refl
-place_found c (b ∷ front) bs h =
-    rw (ne_eqb b c (All-head (λ b. b ≢ c) b front h)) (omega (arith, place_found c front bs (All-tail (λ b. b ≢ c) b front h)))
+position_found : (c : ℕ) (front bs : List ℕ) → Lacks c front → position_or_len (λ b. b == c) (front ++ (c ∷ bs)) ≡ length front
+position_found c [] bs h = let same : (c == c) ≡ true = grind (arith, nat_tests) in rw same refl
+position_found c (b ∷ front) bs h =
+    rw (ne_eqb b c (All-head (λ b. b ≢ c) b front h)) (omega (arith, position_found c front bs (All-tail (λ b. b ≢ c) b front h)))
 
 -- the prefix, removed again
 front_of : (front bs : List ℕ) → take (length front) (front ++ bs) ≡ front
@@ -45,7 +45,7 @@ no_split c bs h = rw (any_lacks c bs h) refl
 
 a_split : (c : ℕ) (bs front back : List ℕ) → Lacks c front → bs ≡ front ++ (c ∷ back) → split_once c bs ≡ Some (front, back)
 a_split c bs front back h e =
-    rw (e, any_found c front back h, place_found c front back h, front_of front (c ∷ back), back_of front back c) refl
+    rw (e, any_found c front back h, position_found c front back h, front_of front (c ∷ back), back_of front back c) refl
 
 pub split_once_is : (c : ℕ) (bs : List ℕ) (o : Option (Bor (List ℕ) × Bor (List ℕ)))
     → MatchOption o (Lacks c bs) (λ parts. Lacks c parts.0.now × (bs ≡ parts.0.now ++ (c ∷ parts.1.now)))

@@ -7,12 +7,12 @@ abbrev pub code_label : ℕ → List ℕ → List ℕ
 code_label number name = decimal number ++ (codes " " ++ name)
 
 -- `:LINE:COLUMN: `
-abbrev pub place_text : Position → List ℕ
-place_text position = codes ":" ++ (decimal position.line ++ (codes ":" ++ (decimal position.column ++ codes ": ")))
+abbrev pub position_text : Position → List ℕ
+position_text position = codes ":" ++ (decimal position.line ++ (codes ":" ++ (decimal position.column ++ codes ": ")))
 
 abbrev pub reported_line : List ℕ → Position → List ℕ → List ℕ → List ℕ
 reported_line file position label sentence =
-    file ++ (place_text position ++ (label ++ (codes ": " ++ (sentence ++ codes "\n"))))
+    file ++ (position_text position ++ (label ++ (codes ": " ++ (sentence ++ codes "\n"))))
 
 -- one line after the other, each of one of these, in order
 abbrev pub AreLinesOf : {A : Type 0} → (A → List ℕ → Type 0) → List A → List ℕ → Type 0

@@ -7,7 +7,7 @@ ghost use Rattle.dbc_advice.specs.Reasons.{AreReasons};
 ghost use Rattle.dbc_advice.specs.ReportedLine.{AreLinesOf};
 
 use crate::notes::Source;
-use crate::places::{Heading, headings, message_place, signal_place};
+use crate::offsets::{Heading, headings, message_offset, signal_offset};
 use crate::position::position_of;
 use crate::reasons::{Reason, reasons_of};
 use crate::sentences::{code_label, more_line, reported_line};
@@ -32,12 +32,12 @@ fn signal_index(clash: Clash) -> usize
 }
 
 /// The offset of the signal at which the reason is reported.
-fn reason_place(text: &[u8], headings: &[Heading], message: &Message, reason: Reason) -> usize
+fn reason_offset(text: &[u8], headings: &[Heading], message: &Message, reason: Reason) -> usize
     ensures { result ≤ length text.now }
 {
-    let from = message_place(headings, message.number()).min(text.len());
+    let from = message_offset(headings, message.number()).min(text.len());
     match message.signals.as_slice().get(signal_index(reason.clash)) {
-        Some(signal) => signal_place(text, from, signal.name.as_bytes()),
+        Some(signal) => signal_offset(text, from, signal.name.as_bytes()),
         None => from,
     }
 }
@@ -63,7 +63,7 @@ fn clash_line(
 {
     let label = clash_label(alloc, reason.clash)?;
     let words = reason_text(alloc, message, reason)?;
-    let at = reason_place(source.text, headings, message, reason);
+    let at = reason_offset(source.text, headings, message, reason);
     let position = position_of(source.text, at);
     reported_line(alloc, source.name, position, &label, &words)
 }

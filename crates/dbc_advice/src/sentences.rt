@@ -155,9 +155,9 @@ pub fn reported_line(
     ensures { IfOk result (λ line. line.items ≡ reported_line file.now position label.now sentence.now) }
 {
     let Position { line, column } = position;
-    let place = format!(in alloc; ":{line}:{column}: ")?;
+    let position_text = format!(in alloc; ":{line}:{column}: ")?;
     let mut text = Vec::from_slice(alloc, file)?;
-    text.extend_from_slice(place.as_bytes())?;
+    text.extend_from_slice(position_text.as_bytes())?;
     text.extend_from_slice(label)?;
     text.extend_from_slice(b": ")?;
     text.extend_from_slice(sentence)?;

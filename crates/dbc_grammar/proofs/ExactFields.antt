@@ -250,7 +250,7 @@ eats_signal ts =
     exact_next _ (exact_token made_name a) (λ name b.
     exact_then _ (exact_optional (token_chance mux_of) b) (λ mux c.
     exact_next _ (exact_one (is_mark (codes ":")) c) (λ colon d.
-    exact_next _ (exact_layout d) (λ place e.
+    exact_next _ (exact_layout d) (λ bits e.
     exact_next _ (exact_pair (codes "(") (codes ",") (codes ")") e) (λ scale f.
     exact_next _ (exact_pair (codes "[") (codes "|") (codes "]") f) (λ range g.
     exact_next _ (exact_token text_of g) (λ unit h.

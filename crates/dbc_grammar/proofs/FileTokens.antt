@@ -87,13 +87,13 @@ beginnings (b ∷ bytes) = [] ∷ map (λ beginning. b ∷ beginning) (beginning
 
 -- the quote that opens a text, or that ends the text which the other opened
 abbrev after_quote : ℕ → Option ℕ → Option ℕ
-after_quote place None = Some place
-after_quote place (Some opened) = None
+after_quote offset None = Some offset
+after_quote offset (Some opened) = None
 
--- the quote that opens a text and that no other quote ends, in bytes at a place that have no backslash
+-- the quote that opens a text and that no other quote ends, in bytes from an offset on that have no backslash
 abbrev open_quote : ℕ → Option ℕ → List ℕ → Option ℕ
-open_quote place opened [] = opened
-open_quote place opened (b ∷ bytes) = open_quote (place + 1) (if b == 34 then after_quote place opened else opened) bytes
+open_quote offset opened [] = opened
+open_quote offset opened (b ∷ bytes) = open_quote (offset + 1) (if b == 34 then after_quote offset opened else opened) bytes
 
 abbrev wanted : List ℕ → Option LexFault
 wanted bytes = option_map UnclosedText (open_quote 0 None bytes)

@@ -119,11 +119,11 @@ abbrev pub node_comment : Node → List Line
 node_comment n = comment_lines (word space (codes "BU_") ∷ word space n.name ∷ []) n.comment
 
 -- SG_, the message's number and the signal's name; or only the last two
-abbrev pub place_pieces : Message → Signal → List Piece
-place_pieces m s = number space (number_of m) ∷ word space s.name ∷ []
+abbrev pub citation_pieces : Message → Signal → List Piece
+citation_pieces m s = number space (number_of m) ∷ word space s.name ∷ []
 
 abbrev pub signal_pieces : Message → Signal → List Piece
-signal_pieces m s = word space (codes "SG_") ∷ place_pieces m s
+signal_pieces m s = word space (codes "SG_") ∷ citation_pieces m s
 
 abbrev pub message_comments : Message → List Line
 message_comments m = comment_lines (word space (codes "BO_") ∷ number space (number_of m) ∷ []) m.comment
@@ -161,12 +161,12 @@ value_lines m s = texts_of s.values
   where
     texts_of : List ValueText → List Line
     texts_of [] = []
-    texts_of (v ∷ vs) = (word tight (codes "VAL_") ∷ place_pieces m s ++ entries (v ∷ vs)) ∷ []
+    texts_of (v ∷ vs) = (word tight (codes "VAL_") ∷ citation_pieces m s ++ entries (v ∷ vs)) ∷ []
 
 -- SIG_VALTYPE_ number name : type;
 abbrev pub type_lines : Message → Signal → List Line
 type_lines m s = if value_type_number s.value_type == 0 then [] else
-    ((word tight (codes "SIG_VALTYPE_") ∷ place_pieces m s ++ mark space (codes ":") ∷ number space (value_type_number s.value_type) ∷ mark tight (codes ";") ∷ []) ∷ [])
+    ((word tight (codes "SIG_VALTYPE_") ∷ citation_pieces m s ++ mark space (codes ":") ∷ number space (value_type_number s.value_type) ∷ mark tight (codes ";") ∷ []) ∷ [])
 
 abbrev pub canonical_lines : Sheet → List Line
 canonical_lines s = version_line s ∷ symbols_line ∷ timing_line ∷ nodes_line s

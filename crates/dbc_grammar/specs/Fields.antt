@@ -222,15 +222,15 @@ signal = do
   name ← token made_name
   mux ← optional (token mux_of)
   colon ← mark (codes ":")
-  place ← layout
+  bits ← layout
   scale ← pair (codes "(") (codes ",") (codes ")")
   range ← pair (codes "[") (codes "|") (codes "]")
   unit ← token text_of
   receivers ← nodes
   done (record {
     name = name;
-    layout = place.0;
-    signed = place.1;
+    layout = bits.0;
+    signed = bits.1;
     mux = unwrap_or mux Always;
     factor = scale.0;
     offset = scale.1;

@@ -135,16 +135,16 @@ signal_at ts = do
   name ← token_at made_name word.1
   mux ← optional_at (begins mux_of) (token_at mux_of) name.1
   colon ← mark_at (codes ":") mux.1
-  place ← layout_at colon.1
-  scale ← pair_at (codes "(") (codes ",") (codes ")") place.1
+  bits ← layout_at colon.1
+  scale ← pair_at (codes "(") (codes ",") (codes ")") bits.1
   range ← pair_at (codes "[") (codes "|") (codes "]") scale.1
   unit ← token_at text_of range.1
   receivers ← nodes_at unit.1
   Some (
     record {
       name = name.0;
-      layout = place.0.0;
-      signed = place.0.1;
+      layout = bits.0.0;
+      signed = bits.0.1;
       mux = unwrap_or mux.0 Always;
       factor = scale.0.0;
       offset = scale.0.1;

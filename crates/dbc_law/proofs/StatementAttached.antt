@@ -110,7 +110,7 @@ spns_write s h = with_spn_definitions_write (canon.each_signal canon.spn_lines s
 -- ---- texts for values
 
 abbrev texts_after : Message → Signal → List ValueText → List canon.Piece
-texts_after m s vs = canon.place_pieces m s ++ canon.entries vs
+texts_after m s vs = canon.citation_pieces m s ++ canon.entries vs
 
 texts_read : (m : Message) (s : Signal) (vs : List ValueText) → IsMessage m → All IsValueText vs → (ts rest : List Token) → line ts (texts_after m s vs) rest
     → grammar.next rest ≡ true → grammar.line keyword.ValueTexts ts (ValueTextsAre (Some (number_of m)) s.name vs) rest
@@ -138,7 +138,7 @@ says_type Float start end = rw (whole_decimal 1 (omega arith)) refl
 says_type Double start end = rw (whole_decimal 2 (omega arith)) refl
 
 abbrev type_after : Message → Signal → List canon.Piece
-type_after m s = canon.place_pieces m s ++ canon.mark canon.space (codes ":") ∷ canon.number canon.space (value_type_number s.value_type) ∷ canon.mark canon.tight (codes ";") ∷ []
+type_after m s = canon.citation_pieces m s ++ canon.mark canon.space (codes ":") ∷ canon.number canon.space (value_type_number s.value_type) ∷ canon.mark canon.tight (codes ";") ∷ []
 
 type_reads : (m : Message) (s : Signal) → IsMessage m → (ts rest : List Token) → line ts (type_after m s) rest → grammar.next rest ≡ true
     → grammar.line keyword.SignalValueType ts (ValueTypeIs (Some (number_of m)) s.name s.value_type) rest

@@ -90,13 +90,13 @@ unfolding signal
 signal_reads s ts rest h is_line end =
     split_pieces (up_to_range s) (canon.quoted canon.space s.unit ∷ canon.receiver_pieces s.receivers) ts rest is_line (λ e ranged (f, unit, receivers).
     split_pieces (up_to_scale s) (canon.pair (codes "[") (codes "|") (codes "]") s.minimum s.maximum) ts e ranged (λ d scaled range.
-    split_pieces (up_to_layout s) (canon.pair (codes "(") (codes ",") (codes ")") s.factor s.offset) ts d scaled (λ c placed scale.
-    split_pieces (up_to_name s) (canon.mark canon.space (codes ":") ∷ canon.layout_pieces s) ts c placed (λ b (a, word, (n, name, mux)) (p, colon, place).
+    split_pieces (up_to_layout s) (canon.pair (codes "(") (codes ",") (codes ")") s.factor s.offset) ts d scaled (λ c laid_out scale.
+    split_pieces (up_to_name s) (canon.mark canon.space (codes ":") ∷ canon.layout_pieces s) ts c laid_out (λ b (a, word, (n, name, mux)) (p, colon, bits).
     past word (λ _ _. refl)
     (past name (says_made canon.space s.name h.named)
     (chain (indicator s.mux) b (mux_reads s.mux n b h.mux mux)
     (past colon (λ _ _. refl)
-    (chain (s.layout, s.signed) c (layout_reads s p c h.layout place)
+    (chain (s.layout, s.signed) c (layout_reads s p c h.layout bits)
     (chain (s.factor, s.offset) d (pair_reads 40 44 41 s.factor s.offset c d h.factor h.offset scale)
     (chain (s.minimum, s.maximum) e (pair_reads 91 124 93 s.minimum s.maximum d e h.minimum h.maximum range)
     (past unit (says_text canon.space s.unit)

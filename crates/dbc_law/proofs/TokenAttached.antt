@@ -18,7 +18,7 @@ use Rattle.catalogue.proofs.Texts.{text-Decides}
 use Rattle.dbc_law.proofs.TokenHeading.{entries_follow}
 use Rattle.dbc_law.proofs.TokenLegible.{follow_append}
 use Rattle.dbc_law.proofs.TokenLines.{AreLegibleLines, ◌also◌, line_unless, lines_of_each, no_lines, one_line}
-use Rattle.dbc_law.proofs.TokenMessages.{place_follows, signal_follows}
+use Rattle.dbc_law.proofs.TokenMessages.{citation_follows, signal_follows}
 use Rattle.dbc_law.proofs.TokenPieces.{end_follows, keyword_follows, keyword_line, number_follows, spaced_mark_follows, text_follows, word_follows}
 
 -- lines for each signal of each message
@@ -69,7 +69,7 @@ values_legible m s h k = by_values s.values k.values
   where
     by_values : (vs : List ValueText) → All IsValueText vs → AreLegibleLines (value_lines m (record s { values = vs }))
     by_values [] l = no_lines
-    by_values (v ∷ vs) l = one_line _ (keyword_line keyword.ValueTexts _ (follow_append (place_follows m s h k) (entries_follow (v ∷ vs) l)))
+    by_values (v ∷ vs) l = one_line _ (keyword_line keyword.ValueTexts _ (follow_append (citation_follows m s h k) (entries_follow (v ∷ vs) l)))
 
 pub value_texts_legible : (s : Sheet) → IsSheet s → AreLegibleLines (each_signal value_lines s)
 value_texts_legible s h = each_signal_legible value_lines values_legible s h
@@ -85,7 +85,7 @@ type_legible : (m : Message) (s : Signal) → IsMessage m → IsSignal s → Are
 type_legible m s h k =
     let type = number_follows (value_type_number s.value_type) _ (type_small s.value_type) end_follows in
     let colon = spaced_mark_follows 58 (number space (value_type_number s.value_type) ∷ mark tight (codes ";") ∷ []) refl type.legible in
-    line_unless (value_type_number s.value_type == 0) _ (keyword_line keyword.SignalValueType _ (follow_append (place_follows m s h k) colon))
+    line_unless (value_type_number s.value_type == 0) _ (keyword_line keyword.SignalValueType _ (follow_append (citation_follows m s h k) colon))
 
 pub value_types_legible : (s : Sheet) → IsSheet s → AreLegibleLines (each_signal type_lines s)
 value_types_legible s h = each_signal_legible type_lines type_legible s h

@@ -10,13 +10,13 @@ use Rattle.bitlayout.specs.declared.place.Mux.{Mux}
 use Rattle.bitlayout.specs.declared.place.Mux.TheVariants.{Always, Multiplexor, Under}
 use Rattle.decimal.specs.Number.{IsDecimal, Number}
 use Rattle.dbc_grammar.specs.Canon.{
+  citation_pieces,
   layout_pieces,
   mark,
   message_line,
   message_lines,
   mux_pieces,
   pair,
-  place_pieces,
   receiver_pieces,
   signal_line,
   signal_pieces,
@@ -113,8 +113,8 @@ message_lines_legible m h = with_line (message_line m) _ (message_legible m h) (
 
 -- ---- a signal as other lines cite it
 
-pub place_follows : (m : Message) (s : Signal) → IsMessage m → IsSignal s → CanFollow (place_pieces m s)
-place_follows m s h k = number_follows (number_of m) _ (number_small m h) (name_follows s.name [] k.named no_pieces)
+pub citation_follows : (m : Message) (s : Signal) → IsMessage m → IsSignal s → CanFollow (citation_pieces m s)
+citation_follows m s h k = number_follows (number_of m) _ (number_small m h) (name_follows s.name [] k.named no_pieces)
 
 pub signal_follows : (m : Message) (s : Signal) → IsMessage m → IsSignal s → CanFollow (signal_pieces m s)
-signal_follows m s h k = keyword_follows keyword.Signal _ (place_follows m s h k)
+signal_follows m s h k = keyword_follows keyword.Signal _ (citation_follows m s h k)

@@ -14,9 +14,9 @@ use Rattle.catalogue.specs.declared.signal.Signal.{Signal}
 use Rattle.catalogue.specs.declared.value_table.ValueTable.{ValueTable}
 use Rattle.catalogue.specs.declared.value_texts.ValueText.{ValueText}
 use Rattle.dbc_read.specs.Built.{CanBeSheet, feeds_after, feeds_in, first_or, messages_from, nodes_from, rest_of, signals_from}
+use Rattle.dbc_read.specs.Described.{Described, described, described_with, own_offsets}
 use Rattle.dbc_read.specs.Faults.{AreDefined, AreNamedWithin, HaveSignalLines, entries_of, line_number}
 use Rattle.dbc_read.specs.Fit.{IsFit}
-use Rattle.dbc_read.specs.Placed.{Placed, own_place, placed, placed_at}
 use Rattle.dbc_read.specs.declared.feed.Feeds.{Feeds}
 use Rattle.dbc_read.specs.declared.gathered.Gathered.{Gathered}
 use Rattle.dbc_read.proofs.DistinctNames.{apart_mapped}
@@ -24,7 +24,7 @@ use Rattle.dbc_statements.specs.Parts.{table_of}
 use Rattle.dbc_statements.specs.Statement.{message_of, names_of, signals_of}
 use Rattle.dbc_statements.specs.declared.statement.MessageLine.{MessageLine}
 use Rattle.dbc_statements.specs.declared.statement.NodeName.{NodeName}
-use Rattle.dbc_statements.specs.declared.statement.SignalPlace.{SignalPlace}
+use Rattle.dbc_statements.specs.declared.statement.SignalOffsets.{SignalOffsets}
 use Rattle.dbc_statements.specs.declared.statement.TableLine.{TableLine}
 
 -- Things that have the keys of others are as distinct as those, and as many.
@@ -54,13 +54,13 @@ table_keys : (tables : List TableLine) → map table_name (map table_of tables) 
 table_keys [] = refl
 table_keys (t ∷ tables) = ap (λ l. t.name ∷ l) (table_keys tables)
 
-signal_keys : (other : SignalPlace) (items : List Signal) (places : List SignalPlace) (f : Feeds) → map signal_name (signals_from (signals_of items) f) ≡ map (λ (s : Placed). s.signal.name) (placed_at other items places)
-signal_keys other [] places f = refl
-signal_keys other (s ∷ items) places f = ap (λ l. s.name ∷ l) (signal_keys other items (drop 1 places) (rest_of f))
+signal_keys : (other : SignalOffsets) (items : List Signal) (offsets : List SignalOffsets) (f : Feeds) → map signal_name (signals_from (signals_of items) f) ≡ map (λ (s : Described). s.signal.name) (described_with other items offsets)
+signal_keys other [] offsets f = refl
+signal_keys other (s ∷ items) offsets f = ap (λ l. s.name ∷ l) (signal_keys other items (drop 1 offsets) (rest_of f))
 
-signal_marks : (other : SignalPlace) (items : List Signal) (places : List SignalPlace) (f : Feeds) → map (λ (s : Signal). s.mux) (signals_from (signals_of items) f) ≡ map (λ (s : Placed). s.signal.mux) (placed_at other items places)
-signal_marks other [] places f = refl
-signal_marks other (s ∷ items) places f = ap (λ l. s.mux ∷ l) (signal_marks other items (drop 1 places) (rest_of f))
+signal_marks : (other : SignalOffsets) (items : List Signal) (offsets : List SignalOffsets) (f : Feeds) → map (λ (s : Signal). s.mux) (signals_from (signals_of items) f) ≡ map (λ (s : Described). s.signal.mux) (described_with other items offsets)
+signal_marks other [] offsets f = refl
+signal_marks other (s ∷ items) offsets f = ap (λ l. s.mux ∷ l) (signal_marks other items (drop 1 offsets) (rest_of f))
 
 message_keys : (lines : List MessageLine) (comments : List (List ℕ)) (f : Feeds) → map message_name (messages_from (map message_of lines) comments f) ≡ map (λ (m : MessageLine). m.name) lines
 message_keys [] comments f = refl
@@ -100,13 +100,13 @@ messages_fit [] comments f h few = tt
 messages_fit (m ∷ lines) comments f h few =
     let signals = m.signals.items in
     let made = signals_from (signals_of signals) f in
-    let keys = signal_keys (own_place m) signals m.places.items f in
-    let marks = signal_marks (own_place m) signals m.places.items f in (
+    let keys = signal_keys (own_offsets m) signals m.offsets.items f in
+    let marks = signal_marks (own_offsets m) signals m.offsets.items f in (
       record {
         together = record {
-          apart = distinct_too bytes_eq (λ (s : Placed). s.signal.name) signal_name (placed m) made keys h.0.names.apart;
-          one_multiplexor = distinct_too (λ (a b : Mux). is_multiplexor a && is_multiplexor b) (λ (s : Placed). s.signal.mux) (λ (s : Signal). s.mux) (placed m) made marks h.0.one_multiplexor;
-          few = subst (λ n. n ≤ roster_limit) (sym (as_many bytes_eq (λ (s : Placed). s.signal.name) signal_name (placed m) made keys)) h.0.names.few;
+          apart = distinct_too bytes_eq (λ (s : Described). s.signal.name) signal_name (described m) made keys h.0.names.apart;
+          one_multiplexor = distinct_too (λ (a b : Mux). is_multiplexor a && is_multiplexor b) (λ (s : Described). s.signal.mux) (λ (s : Signal). s.mux) (described m) made marks h.0.one_multiplexor;
+          few = subst (λ n. n ≤ roster_limit) (sym (as_many bytes_eq (λ (s : Described). s.signal.name) signal_name (described m) made keys)) h.0.names.few;
         };
         values = signals_few signals f few;
       },
@@ -155,17 +155,17 @@ entries_few : (tables : List TableLine) → AllByRecursion (λ (t : ValueTable).
 entries_few [] h = tt
 entries_few (t ∷ tables) h = (h.0, entries_few tables h.1)
 
-signals_placed : (lines : List MessageLine) (comments : List (List ℕ)) (f : Feeds) → AllByRecursion IsFit (messages_from (map message_of lines) comments f) → HaveSignalLines lines
-signals_placed [] comments f h = tt
-signals_placed (m ∷ lines) comments f h =
+signals_described : (lines : List MessageLine) (comments : List (List ℕ)) (f : Feeds) → AllByRecursion IsFit (messages_from (map message_of lines) comments f) → HaveSignalLines lines
+signals_described [] comments f h = tt
+signals_described (m ∷ lines) comments f h =
     let signals = m.signals.items in
     let made = signals_from (signals_of signals) f in
-    let marks = signal_marks (own_place m) signals m.places.items f in (
+    let marks = signal_marks (own_offsets m) signals m.offsets.items f in (
       record {
-        names = named_within signal_name (λ (s : Placed). s.signal.name) roster_limit made (placed m) (signal_keys (own_place m) signals m.places.items f) h.0.together.apart h.0.together.few;
-        one_multiplexor = distinct_too (λ (a b : Mux). is_multiplexor a && is_multiplexor b) (λ (s : Signal). s.mux) (λ (s : Placed). s.signal.mux) made (placed m) (sym marks) h.0.together.one_multiplexor;
+        names = named_within signal_name (λ (s : Described). s.signal.name) roster_limit made (described m) (signal_keys (own_offsets m) signals m.offsets.items f) h.0.together.apart h.0.together.few;
+        one_multiplexor = distinct_too (λ (a b : Mux). is_multiplexor a && is_multiplexor b) (λ (s : Signal). s.mux) (λ (s : Described). s.signal.mux) made (described m) (sym marks) h.0.together.one_multiplexor;
       },
-      signals_placed lines (drop 1 comments) (feeds_after (signals_of signals) f) h.1,
+      signals_described lines (drop 1 comments) (feeds_after (signals_of signals) f) h.1,
     )
 
 pub defined_if_sheet : (g : Gathered) → CanBeSheet g → AreDefined g
@@ -181,7 +181,7 @@ defined_if_sheet g h =
           few = subst (λ n. n ≤ message_limit) (sym (as_many nat_eq number_of line_number message_list g.messages (sym (message_numbers g.messages g.message_comments (feeds_in g))))) h.together.few;
         };
         names = named_within message_name (λ (m : MessageLine). m.name) message_limit message_list g.messages (message_keys g.messages g.message_comments (feeds_in g)) h.together.names h.together.few;
-        signals = signals_placed g.messages g.message_comments (feeds_in g) h.messages;
+        signals = signals_described g.messages g.message_comments (feeds_in g) h.messages;
       };
       entries = entries_few g.tables h.tables.entries;
     }

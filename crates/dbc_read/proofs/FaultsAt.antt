@@ -3,8 +3,8 @@ use Rattle.std.proofs.Common.{◌≡◌, ◌<◌, ◌+◌, ℕ, List, Option, So
 use Rattle.std.specs.Prelude.{IfNone, IfSome}
 use Rattle.dbc_lex.specs.declared.fault.ReadCode.{ReadCode}
 use Rattle.dbc_lex.specs.declared.fault.ReadFault.{ReadFault}
+use Rattle.dbc_read.specs.Described.{described}
 use Rattle.dbc_read.specs.Faults.{HaveSignalLines, IsFaultAt, IsFaultOfSignals, IsSignalsFault}
-use Rattle.dbc_read.specs.Placed.{placed}
 use Rattle.dbc_statements.specs.declared.statement.MessageLine.{MessageLine}
 use Rattle.dbc_read.proofs.IteratorItems.{item_parts}
 
@@ -23,7 +23,7 @@ module _ {A : Type 0} (offset : A → ℕ) (IsRefused : List A → A → ReadCod
 
 -- the fault of the signals of the message at i
 pub signals_fault_at : (messages : List MessageLine) (i : ℕ) (line : MessageLine) (found : Option ReadFault) → i < length messages → line ≡ get_or messages i line
-    → HaveSignalLines (take i messages) → IfSome found (IsFaultOfSignals (placed line)) → IfSome found (IsSignalsFault messages)
+    → HaveSignalLines (take i messages) → IfSome found (IsFaultOfSignals (described line)) → IfSome found (IsSignalsFault messages)
 signals_fault_at messages i line None lt is first h = tt
 signals_fault_at messages i line (Some fault) lt is first h = record {
   before = take i messages;

@@ -12,10 +12,10 @@ use Rattle.dbc_lex.specs.declared.fault.ReadCode.{ReadCode}
 use Rattle.dbc_lex.specs.declared.fault.ReadCode.TheVariants.{DoubleName, DoubleNumber, TooMany, TwoMultiplexors}
 use Rattle.dbc_lex.specs.declared.fault.ReadFault.{ReadFault}
 use Rattle.dbc_read.specs.Built.{CanBeSheet}
+use Rattle.dbc_read.specs.Described.{Described, described}
 use Rattle.dbc_read.specs.Faults as faults
 use Rattle.dbc_read.specs.Faults.{AreDefined, AreMessageLines, AreNamedWithin, AreNumbered, AreSignalLines, HaveOneMultiplexor, HaveSignalLines, IsEntriesFault, IsFault, IsFaultAt, IsFaultOfDefinitions, IsFaultOfMessages, IsFaultOfSignals, IsMultiplexorRefused, IsNameRefused, IsNumberRefused, IsSignalsFault, entries_of, line_number}
 use Rattle.dbc_read.specs.Gathered.{AreGathered}
-use Rattle.dbc_read.specs.Placed.{Placed, placed}
 use Rattle.dbc_read.specs.declared.gathered.Gathered.{Gathered}
 use Rattle.dbc_statements.specs.declared.statement.MessageLine.{MessageLine}
 use Rattle.dbc_statements.specs.declared.statement.NodeName.{NodeName}
@@ -54,25 +54,25 @@ both_or_first : {A : Type 0} (test : A → Bool) (b : Bool) → b ≡ true → (
 both_or_first test b e [] = refl
 both_or_first test b e (x ∷ xs) = λ i. and_one (test x) b e i || both_or_first test b e xs i
 
-multiplexor_refused : (before : List Placed) (item : Placed) (after : List Placed) (code : ReadCode) → IsMultiplexorRefused before item code → HaveOneMultiplexor (before ++ item ∷ after) → ⊥
+multiplexor_refused : (before : List Described) (item : Described) (after : List Described) (code : ReadCode) → IsMultiplexorRefused before item code → HaveOneMultiplexor (before ++ item ∷ after) → ⊥
 multiplexor_refused before item after TwoMultiplexors h one =
-    none_and_one (list_any (λ (t : Placed). is_multiplexor t.signal.mux) before) h.2
-    (sym (both_or_first (λ (t : Placed). is_multiplexor t.signal.mux) (is_multiplexor item.signal.mux) h.1 before)
-    ∙ none_before (λ (a b : Placed). is_multiplexor a.signal.mux && is_multiplexor b.signal.mux) before item after one)
+    none_and_one (list_any (λ (t : Described). is_multiplexor t.signal.mux) before) h.2
+    (sym (both_or_first (λ (t : Described). is_multiplexor t.signal.mux) (is_multiplexor item.signal.mux) h.1 before)
+    ∙ none_before (λ (a b : Described). is_multiplexor a.signal.mux && is_multiplexor b.signal.mux) before item after one)
 multiplexor_refused before item after code h one = absurd h
 
 name_fault : {A : Type 0} (offset : A → ℕ) (name : A → List ℕ) (limit : ℕ) (items : List A) (fault : ReadFault) → IsFaultAt offset (IsNameRefused name limit) items fault → AreNamedWithin name limit items → ⊥
 name_fault offset name limit items fault h are = name_refused name limit h.before h.item h.after fault.code h.refused (subst (AreNamedWithin name limit) h.parts are)
 
-signals_fault : (signals : List Placed) (fault : ReadFault) → IsFaultOfSignals signals fault → AreSignalLines signals → ⊥
-signals_fault signals fault (faults.signal h) are = name_fault (λ (s : Placed). s.place.at) (λ (s : Placed). s.signal.name) roster_limit signals fault h are.names
+signals_fault : (signals : List Described) (fault : ReadFault) → IsFaultOfSignals signals fault → AreSignalLines signals → ⊥
+signals_fault signals fault (faults.signal h) are = name_fault (λ (s : Described). s.offsets.at) (λ (s : Described). s.signal.name) roster_limit signals fault h are.names
 signals_fault signals fault (faults.multiplexor h) are = multiplexor_refused h.before h.item h.after fault.code h.refused (subst HaveOneMultiplexor h.parts are.one_multiplexor)
 
 messages_fault : (messages : List MessageLine) (fault : ReadFault) → IsFaultOfMessages messages fault → AreMessageLines messages → ⊥
 messages_fault messages fault (faults.number h) are = number_refused h.before h.item h.after fault.code h.refused (subst AreNumbered h.parts are.numbers)
 messages_fault messages fault (faults.name h) are = name_fault (λ (m : MessageLine). m.name_at) (λ (m : MessageLine). m.name) message_limit messages fault h are.names
 messages_fault messages fault (faults.signals h) are =
-    signals_fault (placed h.line) fault h.is (each_middle (λ (m : MessageLine). AreSignalLines (placed m)) h.before h.line h.after (subst HaveSignalLines h.parts are.signals))
+    signals_fault (described h.line) fault h.is (each_middle (λ (m : MessageLine). AreSignalLines (described m)) h.before h.line h.after (subst HaveSignalLines h.parts are.signals))
 
 entries_fault : (lists : List (List ValueText)) (fault : ReadFault) → IsEntriesFault lists fault → AllByRecursion AreFewTexts lists → ⊥
 entries_fault lists fault h are = h.many (each_middle AreFewTexts h.before h.entries h.after (subst (AllByRecursion AreFewTexts) h.parts are))

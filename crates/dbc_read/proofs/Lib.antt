@@ -4,7 +4,7 @@ pub mod Ordered
 mod OrderedRows
 pub mod Fed
 pub mod Positions
-pub mod Places
+pub mod SignalIndices
 mod AttachingRows
 pub mod Building
 pub mod Gathering

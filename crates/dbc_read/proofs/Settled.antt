@@ -11,7 +11,7 @@ use Rattle.dbc_grammar.specs.Token.{Token}
 use Rattle.catalogue.specs.declared.keyword.Keyword.{Keyword}
 use Rattle.catalogue.specs.declared.signal.Signal.{Signal}
 use Rattle.catalogue.specs.declared.value_type.ValueType.TheVariants.{Integer}
-use Rattle.dbc_read.specs.Attaching.{IsAttached, IsPlaceCited, IsPlaceOf, all_signals, with_attachment, attaching, changed_at, cites_signal, in_signals, with_attached}
+use Rattle.dbc_read.specs.Attaching.{AreIndicesOf, CitesSignalAt, IsAttached, all_signals, with_attachment, attaching, changed_at, cites_signal, in_signals, with_attached}
 use Rattle.dbc_read.specs.Finding.{Finds, FindsAll, FindsSignals}
 use Rattle.dbc_read.specs.Gathered.{AreGathered, gathered_after, passed_of, set_at}
 use Rattle.dbc_read.specs.Gathering.{BeginWith, DefineNothing, Defines, Gathers, HaveNothing, IsDefining, IsEmpty, Settles, cites, defines, one_or_none, with_definitions, with_nothing_attached}
@@ -21,7 +21,7 @@ use Rattle.dbc_read.specs.Orders.{AreOrdersOf}
 use Rattle.dbc_read.specs.Settling.{AreSettled, Follow, ReadUpTo, SettlesTo}
 use Rattle.dbc_read.specs.declared.attaching.Attachment.{Attachment}
 use Rattle.dbc_read.specs.declared.attaching.Attachment.TheVariants as what
-use Rattle.dbc_read.specs.declared.attaching.Place.{Place}
+use Rattle.dbc_read.specs.declared.attaching.SignalIndices.{SignalIndices}
 use Rattle.dbc_read.specs.declared.finding.Finders.{Finders}
 use Rattle.dbc_read.specs.declared.gathered.Gathered.{Gathered}
 use Rattle.dbc_read.specs.declared.passed.Passed.{Passed}
@@ -29,7 +29,7 @@ use Rattle.dbc_read.specs.declared.settling.Settled.{Settled}
 use Rattle.dbc_read.specs.declared.settling.Settled.TheVariants as settled
 use Rattle.dbc_read.proofs.Gathering.{all_gathered, one_gathered}
 use Rattle.dbc_read.proofs.OneByOne.{begin_with_both, begin_with_rest, cited_defines_nothing, defined_either_way, defined_messages, defined_names, nothing_defined, same_messages, same_names}
-use Rattle.dbc_read.proofs.Places.{change_leaves, change_sets, numbers_of_lines}
+use Rattle.dbc_read.proofs.SignalIndices.{change_leaves, change_sets, numbers_of_lines}
 use Rattle.dbc_statements.specs.Statement.{content_of, message_of, names_of, signal_of, statement_of}
 use Rattle.dbc_statements.specs.declared.statement.CitedSignal.{CitedSignal}
 use Rattle.dbc_statements.specs.declared.statement.Content.{Content}
@@ -151,26 +151,26 @@ attached_settled f s cited a lines new_lines old now passed defines_none says_wh
     (ap (with_attached new_lines) is ∙ attached_view cited a (passed_of s) lines new_lines old passed at
     ∙ ap (λ c. gathered_after at.index (passed_of s) c (with_attached lines old)) (sym says_what))
 
--- the place of what it cites
-cited_place : (lines : List MessageLine) (c : Content) (cited : CitedSignal) (a : Attachment) (place : Option Place) → IsPlaceCited lines c place → c ≡ attaching cited a → IsPlaceOf lines cited.number cited.name.now place
-cited_place lines c cited a place h is = by a (subst (λ (k : Content). IsPlaceCited lines k place) is h)
+-- the indices of the signal that it cites
+indices_of_cited : (lines : List MessageLine) (c : Content) (cited : CitedSignal) (a : Attachment) (indices : Option SignalIndices) → CitesSignalAt lines c indices → c ≡ attaching cited a → AreIndicesOf lines cited.number cited.name.now indices
+indices_of_cited lines c cited a indices h is = by a (subst (λ (k : Content). CitesSignalAt lines k indices) is h)
   where
-    by : (b : Attachment) → IsPlaceCited lines (attaching cited b) place → IsPlaceOf lines cited.number cited.name.now place
+    by : (b : Attachment) → CitesSignalAt lines (attaching cited b) indices → AreIndicesOf lines cited.number cited.name.now indices
     by (what.Comment text) k = k
     by (what.Values texts) k = k
     by (what.Type value_type) k = k
     by (what.Spn spn) k = k
 
--- the same of a statement in parts, where the place of what it cites is known
-pub attached_parts : (f : Finders) (s : Statement) (parts : ℕ × Keyword × Content) (cited : CitedSignal) (a : Attachment) (place : Option Place) (lines new_lines : List MessageLine) (old : Gathered) (passed : List Passed)
-    → defines (content_of s.content) ≡ false → parts ≡ (s.start, s.keyword, s.content) → parts.2 ≡ attaching cited a → IsPlaceCited lines s.content place
-    → ((number : Cited) (name : List ℕ) → IsPlaceOf lines number name place → IsAttached number name a (record { at = parts.0; keyword = parts.1 }) lines new_lines old.passed passed)
+-- the same of a statement in parts, where the indices of the signal that it cites are known
+pub attached_parts : (f : Finders) (s : Statement) (parts : ℕ × Keyword × Content) (cited : CitedSignal) (a : Attachment) (indices : Option SignalIndices) (lines new_lines : List MessageLine) (old : Gathered) (passed : List Passed)
+    → defines (content_of s.content) ≡ false → parts ≡ (s.start, s.keyword, s.content) → parts.2 ≡ attaching cited a → CitesSignalAt lines s.content indices
+    → ((number : Cited) (name : List ℕ) → AreIndicesOf lines number name indices → IsAttached number name a (record { at = parts.0; keyword = parts.1 }) lines new_lines old.passed passed)
     → Settles f (statement_of s ∷ []) lines old new_lines (record old { passed = passed })
-attached_parts f s parts cited a place lines new_lines old passed defines_none are says_what found at =
+attached_parts f s parts cited a indices lines new_lines old passed defines_none are says_what found at =
     let what_is : s.content ≡ attaching cited a = sym (ap (λ (t : ℕ × Keyword × Content). t.2) are) ∙ says_what in
     attached_settled f s cited a lines new_lines old (record old { passed = passed }) passed defines_none what_is
     (subst (λ (t : ℕ × Keyword × Content). IsAttached cited.number cited.name.now a (record { at = t.0; keyword = t.1 }) lines new_lines old.passed passed) are
-    (at cited.number cited.name.now (cited_place lines s.content cited a place found what_is))) refl
+    (at cited.number cited.name.now (indices_of_cited lines s.content cited a indices found what_is))) refl
 
 pub other_parts : (f : Finders) (s : Statement) (parts : ℕ × Keyword × Content) (index : Option ℕ) (lines : List MessageLine) (old now : Gathered) → defines (content_of s.content) ≡ false
     → parts ≡ (s.start, s.keyword, s.content) → cites_signal parts.2 ≡ false → ((all : List says.Statement) → Finds f lines all → IsCitedIndex all (content_of parts.2) index)

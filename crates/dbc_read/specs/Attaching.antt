@@ -10,7 +10,7 @@ use Rattle.dbc_read.specs.Gathered.{passed_after}
 use Rattle.dbc_read.specs.Lookups.{IsSignalIn}
 use Rattle.dbc_read.specs.declared.attaching.Attachment.{Attachment}
 use Rattle.dbc_read.specs.declared.attaching.Attachment.TheVariants as what
-use Rattle.dbc_read.specs.declared.attaching.Place.{Place}
+use Rattle.dbc_read.specs.declared.attaching.SignalIndices.{SignalIndices}
 use Rattle.dbc_read.specs.declared.feed.Feeds.{Feeds}
 use Rattle.dbc_read.specs.declared.gathered.Gathered.{Gathered}
 use Rattle.dbc_read.specs.declared.passed.Passed.{Passed}
@@ -55,43 +55,43 @@ changed_at f (Some i) xs = at_index f xs i
 abbrev pub all_signals : List MessageLine → List Signal
 all_signals lines = flat_map (λ (m : MessageLine). m.signals.items) lines
 
--- there is a signal at this place
-abbrev pub HasPlace : List MessageLine → ℕ → ℕ → Type 0
-HasPlace [] i j = ⊥
-HasPlace (line ∷ lines) zero j = j < length line.signals.items
-HasPlace (line ∷ lines) (suc i) j = HasPlace lines i j
+-- there is a signal at these indices
+abbrev pub HasSignal : List MessageLine → ℕ → ℕ → Type 0
+HasSignal [] i j = ⊥
+HasSignal (line ∷ lines) zero j = j < length line.signals.items
+HasSignal (line ∷ lines) (suc i) j = HasSignal lines i j
 
 -- the index of an item that comes after these
 abbrev pub index_after : {A : Type 0} → List A → ℕ → ℕ
 index_after [] k = k
 index_after (x ∷ xs) k = suc (index_after xs k)
 
--- the index of the signal at this place among those of all messages
+-- the index of the signal at these indices among those of all messages
 abbrev pub flat_index : List MessageLine → ℕ → ℕ → ℕ
 flat_index [] i j = j
 flat_index (line ∷ lines) zero j = j
 flat_index (line ∷ lines) (suc i) j = index_after line.signals.items (flat_index lines i j)
 
-abbrev pub index_of_place : List MessageLine → Option Place → Option ℕ
-index_of_place lines None = None
-index_of_place lines (Some p) = Some (flat_index lines p.message p.signal)
+abbrev pub flat_index_of : List MessageLine → Option SignalIndices → Option ℕ
+flat_index_of lines None = None
+flat_index_of lines (Some p) = Some (flat_index lines p.message p.signal)
 
-abbrev pub HasPlaceIfAny : List MessageLine → Option Place → Type 0
-HasPlaceIfAny lines None = ⊤
-HasPlaceIfAny lines (Some p) = HasPlace lines p.message p.signal
+abbrev pub HasSignalIfAny : List MessageLine → Option SignalIndices → Type 0
+HasSignalIfAny lines None = ⊤
+HasSignalIfAny lines (Some p) = HasSignal lines p.message p.signal
 
--- the place of the signal that is cited, or none if there is no such signal
-pub record IsPlaceOf (lines : List MessageLine) (number : Cited) (name : List ℕ) (place : Option Place) : Type 0 where
-  pub within : HasPlaceIfAny lines place
-  pub index : IsSignalIn (map message_of lines) number name (index_of_place lines place)
+-- the indices of the signal that is cited, or none if there is no such signal
+pub record AreIndicesOf (lines : List MessageLine) (number : Cited) (name : List ℕ) (indices : Option SignalIndices) : Type 0 where
+  pub within : HasSignalIfAny lines indices
+  pub index : IsSignalIn (map message_of lines) number name (flat_index_of lines indices)
 
 -- the same of the signal that the content cites, if it cites one
-abbrev pub IsPlaceCited : List MessageLine → Content → Option Place → Type 0
-IsPlaceCited lines (content.SignalComment cited text) place = IsPlaceOf lines cited.number cited.name.now place
-IsPlaceCited lines (content.ValueTexts cited texts) place = IsPlaceOf lines cited.number cited.name.now place
-IsPlaceCited lines (content.ValueType cited value_type) place = IsPlaceOf lines cited.number cited.name.now place
-IsPlaceCited lines (content.Spn cited spn) place = IsPlaceOf lines cited.number cited.name.now place
-IsPlaceCited lines c place = ⊤
+abbrev pub CitesSignalAt : List MessageLine → Content → Option SignalIndices → Type 0
+CitesSignalAt lines (content.SignalComment cited text) indices = AreIndicesOf lines cited.number cited.name.now indices
+CitesSignalAt lines (content.ValueTexts cited texts) indices = AreIndicesOf lines cited.number cited.name.now indices
+CitesSignalAt lines (content.ValueType cited value_type) indices = AreIndicesOf lines cited.number cited.name.now indices
+CitesSignalAt lines (content.Spn cited spn) indices = AreIndicesOf lines cited.number cited.name.now indices
+CitesSignalAt lines c indices = ⊤
 
 -- this is attached to the signal that is cited, or the statement is skipped if there is no such signal
 pub record IsAttached (number : Cited) (name : List ℕ) (a : Attachment) (p : Passed) (old new : List MessageLine) (before after : List Passed) : Type 0 where

@@ -11,7 +11,7 @@ use Rattle.catalogue.specs.declared.value_texts.ValueText.{ValueText}
 use Rattle.dbc_lex.specs.declared.fault.ReadCode.{ReadCode}
 use Rattle.dbc_lex.specs.declared.fault.ReadCode.TheVariants.{DoubleName, DoubleNumber, TooMany, TwoMultiplexors}
 use Rattle.dbc_lex.specs.declared.fault.ReadFault.{ReadFault}
-use Rattle.dbc_read.specs.Placed.{Placed, placed}
+use Rattle.dbc_read.specs.Described.{Described, described}
 use Rattle.dbc_read.specs.declared.gathered.Gathered.{Gathered}
 use Rattle.dbc_statements.specs.declared.statement.MessageLine.{MessageLine}
 use Rattle.dbc_statements.specs.declared.statement.NodeName.{NodeName}
@@ -34,16 +34,16 @@ pub record AreNumbered (messages : List MessageLine) : Type 0 where
   pub few : length messages ≤ message_limit
 
 -- no two of the signals are the multiplexor
-abbrev pub HaveOneMultiplexor : List Placed → Type 0
-HaveOneMultiplexor signals = IsDistinct (λ (a b : Placed). is_multiplexor a.signal.mux && is_multiplexor b.signal.mux) signals
+abbrev pub HaveOneMultiplexor : List Described → Type 0
+HaveOneMultiplexor signals = IsDistinct (λ (a b : Described). is_multiplexor a.signal.mux && is_multiplexor b.signal.mux) signals
 
-pub record AreSignalLines (signals : List Placed) : Type 0 where
-  pub names : AreNamedWithin (λ (s : Placed). s.signal.name) roster_limit signals
+pub record AreSignalLines (signals : List Described) : Type 0 where
+  pub names : AreNamedWithin (λ (s : Described). s.signal.name) roster_limit signals
   pub one_multiplexor : HaveOneMultiplexor signals
 
 -- the signals of each message
 abbrev pub HaveSignalLines : List MessageLine → Type 0
-HaveSignalLines messages = AllByRecursion (λ (m : MessageLine). AreSignalLines (placed m)) messages
+HaveSignalLines messages = AllByRecursion (λ (m : MessageLine). AreSignalLines (described m)) messages
 
 pub record AreMessageLines (messages : List MessageLine) : Type 0 where
   pub numbers : AreNumbered messages
@@ -72,7 +72,7 @@ IsNumberRefused before line TooMany = AreNumberedApart before × (length before 
 IsNumberRefused before line DoubleNumber = AreNumberedApart before × (length before < message_limit) × (list_any (λ l. line_number l == line_number line) before ≡ true)
 IsNumberRefused before line code = ⊥
 
-abbrev pub IsMultiplexorRefused : List Placed → Placed → ReadCode → Type 0
+abbrev pub IsMultiplexorRefused : List Described → Described → ReadCode → Type 0
 IsMultiplexorRefused before s TwoMultiplexors = HaveOneMultiplexor before × (is_multiplexor s.signal.mux ≡ true) × (list_any (λ t. is_multiplexor t.signal.mux) before ≡ true)
 IsMultiplexorRefused before s code = ⊥
 
@@ -108,13 +108,13 @@ IsNumberFault messages fault = IsFaultAt (λ (m : MessageLine). m.at) IsNumberRe
 abbrev pub IsMessageFault : List MessageLine → ReadFault → Type 0
 IsMessageFault messages fault = IsFaultAt (λ (m : MessageLine). m.name_at) (IsNameRefused (λ (m : MessageLine). m.name) message_limit) messages fault
 
-abbrev pub IsSignalFault : List Placed → ReadFault → Type 0
-IsSignalFault signals fault = IsFaultAt (λ (s : Placed). s.place.at) (IsNameRefused (λ (s : Placed). s.signal.name) roster_limit) signals fault
+abbrev pub IsSignalFault : List Described → ReadFault → Type 0
+IsSignalFault signals fault = IsFaultAt (λ (s : Described). s.offsets.at) (IsNameRefused (λ (s : Described). s.signal.name) roster_limit) signals fault
 
-abbrev pub IsMultiplexorFault : List Placed → ReadFault → Type 0
-IsMultiplexorFault signals fault = IsFaultAt (λ (s : Placed). s.place.mux_at) IsMultiplexorRefused signals fault
+abbrev pub IsMultiplexorFault : List Described → ReadFault → Type 0
+IsMultiplexorFault signals fault = IsFaultAt (λ (s : Described). s.offsets.mux_at) IsMultiplexorRefused signals fault
 
-pub data IsFaultOfSignals (signals : List Placed) (fault : ReadFault) : Type 0 where
+pub data IsFaultOfSignals (signals : List Described) (fault : ReadFault) : Type 0 where
   signal : IsSignalFault signals fault → IsFaultOfSignals signals fault
   multiplexor : IsMultiplexorFault signals fault → IsFaultOfSignals signals fault
 
@@ -125,7 +125,7 @@ pub record IsSignalsFault (messages : List MessageLine) (fault : ReadFault) : Ty
   pub after : List MessageLine
   pub parts : messages ≡ before ++ line ∷ after
   pub first : HaveSignalLines before
-  pub is : IsFaultOfSignals (placed line) fault
+  pub is : IsFaultOfSignals (described line) fault
 
 pub data IsFaultOfMessages (messages : List MessageLine) (fault : ReadFault) : Type 0 where
   number : IsNumberFault messages fault → IsFaultOfMessages messages fault

@@ -12,7 +12,7 @@ pub mod Numbers
 pub mod Orders
 pub mod Finding
 pub mod Settling
-pub mod Placed
+pub mod Described
 pub mod Faults
 pub mod Sheets
 pub mod Definitions

@@ -1,6 +1,6 @@
 //! What statements attach to signals, set in these at once.
 ghost use Rattle.std.specs.Prelude.{◌≡◌, ◌<◌, length, map};
-ghost use Rattle.dbc_read.specs.Attaching.{HasPlace, all_signals, at_index, flat_index, with_attachment};
+ghost use Rattle.dbc_read.specs.Attaching.{HasSignal, all_signals, at_index, flat_index, with_attachment};
 ghost use Rattle.dbc_statements.specs.Statement.{message_of};
 
 use catalogue::{Signal, Spn, Text, ValueTexts, ValueType};
@@ -19,9 +19,9 @@ pub(crate) enum Attachment {
     Spn(Spn),
 }
 
-/// Where a signal is.
+/// Where a signal is in the messages.
 #[derive(Clone, Copy)]
-pub(crate) struct Place {
+pub(crate) struct SignalIndices {
     /// The index of its message.
     pub message: usize,
     /// Its own index among that message's signals.
@@ -50,14 +50,18 @@ fn attach_in(signals: &mut [Signal], at: usize, attachment: Attachment)
     attach_to(&mut signals[at], attachment);
 }
 
-/// Sets what is attached in the signal at this place.
+/// Sets what is attached in the signal at these indices.
 #[inline(always)]
-#[tactic(auto, using(crate::proofs::Places::place_within))]
-pub(crate) fn attach_at(lines: &mut [MessageLine], place: Place, attachment: Attachment)
-    requires { HasPlace lines.old place.message place.signal }
+#[tactic(auto, using(crate::proofs::SignalIndices::message_within))]
+pub(crate) fn attach_at(lines: &mut [MessageLine], indices: SignalIndices, attachment: Attachment)
+    requires { HasSignal lines.old indices.message indices.signal }
     ensures messages { map message_of lines.new ≡ map message_of lines.old }
     ensures signals { all_signals lines.new ≡ at_index (with_attachment attachment) (all_signals lines.old)
-        (flat_index lines.old place.message place.signal) }
+        (flat_index lines.old indices.message indices.signal) }
 {
-    attach_in(&mut lines[place.message].signals, place.signal, attachment);
+    attach_in(
+        &mut lines[indices.message].signals,
+        indices.signal,
+        attachment,
+    );
 }

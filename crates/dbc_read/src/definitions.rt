@@ -1,6 +1,6 @@
 //! The first fault of a text's definitions: its nodes, value tables and messages with their signals.
 //!
-//! What is gathered for a sheet is consumed, and the places of signals aren't kept. So if the sheet is refused, or the
+//! What is gathered for a sheet is consumed, and the offsets of signals aren't kept. So if the sheet is refused, or the
 //! statements can't be gathered one by one, the text is read once more for its first fault: statement by statement, and
 //! nothing is kept but the definitions. Others can be at fault in one way only, by too many texts for the values of a
 //! signal. If there is such a statement, the definitions alone don't tell the first fault, since the texts may be of no
@@ -57,7 +57,7 @@ pub(crate) fn gather_definition(
     Ok(())
 }
 
-/// What is gathered, and what the statements that are left define, with the places of signals; or `None` if one of
+/// What is gathered, and what the statements that are left define, with the offsets of signals; or `None` if one of
 /// the statements has too many texts for values.
 pub(crate) fn further_definitions(
     alloc: Global,

@@ -9,7 +9,7 @@ ghost use Rattle.std.specs.List.{IsDistinct};
 ghost use Rattle.std.specs.Str.{bytes_eq};
 ghost use Rattle.dbc_grammar.specs.Statement as says;
 ghost use Rattle.catalogue.specs.declared.signal.Signal.{Signal};
-ghost use Rattle.dbc_read.specs.Attaching.{IsPlaceCited, IsPlaceOf, cites_signal};
+ghost use Rattle.dbc_read.specs.Attaching.{AreIndicesOf, CitesSignalAt, cites_signal};
 ghost use Rattle.dbc_read.specs.Finding.{Finds, FindsAll, FindsSignals};
 ghost use Rattle.dbc_read.specs.Lookup.{IsIndexIn};
 ghost use Rattle.dbc_read.specs.Lookups.{IsCitedIndex};
@@ -17,7 +17,7 @@ ghost use Rattle.dbc_read.specs.Orders.{IsOrderOf, signal_names};
 ghost use Rattle.dbc_statements.specs.Statement.{content_of};
 ghost use Rattle.dbc_statements.specs.declared.statement.MessageLine.{MessageLine};
 
-use crate::attaching::Place;
+use crate::attaching::SignalIndices;
 use crate::keys::add_names;
 use crate::lookup::{Lookup, lookup_of};
 use crate::numbers::{Numbers, numbers_of};
@@ -177,23 +177,23 @@ impl Track {
         found
     }
 
-    /// The place of the signal of that name in the message of that number, if the file has it.
-    #[tactic(auto, using(crate::proofs::Places::number_within))]
-    fn place_in(
+    /// The indices of the signal of that name in the message of that number, if the file has it.
+    #[tactic(auto, using(crate::proofs::SignalIndices::number_within))]
+    fn indices_in(
         &mut self,
         finders: &Finders,
         lines: &[MessageLine],
         number: u32,
         name: &[u8],
-    ) -> Option<Place>
+    ) -> Option<SignalIndices>
         requires { FindsSignals finders.now lines.now }
-        ensures { IsPlaceOf lines.now (Some number) name.now result }
+        ensures { AreIndicesOf lines.now (Some number) name.now result }
     {
         match self.message_index(&finders.numbers, number) {
             Some(message) => {
                 let order = &finders.orders[message];
                 match self.signal_index(&lines[message].signals, order, name) {
-                    Some(signal) => Some(Place { message, signal }),
+                    Some(signal) => Some(SignalIndices { message, signal }),
                     None => None,
                 }
             }
@@ -201,31 +201,31 @@ impl Track {
         }
     }
 
-    /// The place of the signal that is cited, if the file has it.
-    fn place(
+    /// The indices of the signal that is cited, if the file has it.
+    fn indices_of(
         &mut self,
         finders: &Finders,
         lines: &[MessageLine],
         cited: &CitedSignal,
-    ) -> Option<Place>
+    ) -> Option<SignalIndices>
         requires { FindsSignals finders.now lines.now }
-        ensures { IsPlaceOf lines.now cited.now.number cited.now.name.now result }
+        ensures { AreIndicesOf lines.now cited.now.number cited.now.name.now result }
     {
         match cited.number {
-            Some(number) => self.place_in(finders, lines, number, cited.name),
+            Some(number) => self.indices_in(finders, lines, number, cited.name),
             None => None,
         }
     }
 
-    /// The place of the signal that the content cites, if it cites one and the file has it.
-    pub(crate) fn place_of(
+    /// The indices of the signal that the content cites, if it cites one and the file has it.
+    pub(crate) fn indices_cited(
         &mut self,
         finders: &Finders,
         lines: &[MessageLine],
         content: &Content,
-    ) -> Option<Place>
+    ) -> Option<SignalIndices>
         requires { FindsSignals finders.now lines.now }
-        ensures { IsPlaceCited lines.now content.now result }
+        ensures { CitesSignalAt lines.now content.now result }
     {
         let cited = match content {
             Content::SignalComment(cited, _) => cited,
@@ -234,7 +234,7 @@ impl Track {
             Content::Spn(cited, _) => cited,
             _ => return None,
         };
-        self.place(finders, lines, cited)
+        self.indices_of(finders, lines, cited)
     }
 
     /// The index of the node or the message that is cited, if one is and the file has it.

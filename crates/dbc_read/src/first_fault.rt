@@ -10,6 +10,7 @@ ghost use Rattle.catalogue.specs.Named.{has_name};
 ghost use Rattle.catalogue.specs.WellFormed.{AreFewTexts};
 ghost use Rattle.dbc_lex.specs.declared.fault.ReadCode.TheVariants.{TooMany};
 ghost use Rattle.dbc_read.specs.Built.{CanBeSheet};
+ghost use Rattle.dbc_read.specs.Described.{described};
 ghost use Rattle.dbc_read.specs.Faults.{
   AreDefined,
   AreMessageLines,
@@ -30,11 +31,10 @@ ghost use Rattle.dbc_read.specs.Faults.{
   IsSignalsFault,
   entries_of,
 };
-ghost use Rattle.dbc_read.specs.Placed.{placed};
 
+use crate::described::{DescribedSignal, described_signals};
 use crate::gathered::Gathered;
 use crate::items::NamedItem;
-use crate::placed::{PlacedSignal, placed_signals};
 use catalogue::{Copying, MESSAGE_LIMIT, ROSTER_LIMIT};
 use dbc_lex::{ReadCode, ReadFault};
 use dbc_statements::{Entries, MessageLine, TableLine};
@@ -152,7 +152,7 @@ fn number_fault(alloc: Global, messages: &[MessageLine]) -> Result<Option<ReadFa
 }
 
 /// The fault at the second multiplexor of a message.
-fn multiplexor_fault(signals: &[PlacedSignal]) -> Option<ReadFault>
+fn multiplexor_fault(signals: &[DescribedSignal]) -> Option<ReadFault>
     ensures none { IfNone result (HaveOneMultiplexor signals.now) }
     ensures fault { IfSome result (IsMultiplexorFault signals.now) }
 {
@@ -173,10 +173,10 @@ fn multiplexor_fault(signals: &[PlacedSignal]) -> Option<ReadFault>
 
 /// The first fault of the signals of a message.
 fn signal_fault(alloc: Global, message: &MessageLine) -> Result<Option<ReadFault>, AllocError>
-    ensures none { IfOk result (λ found. IfNone found (AreSignalLines (placed message.now))) }
-    ensures fault { IfOk result (λ found. IfSome found (IsFaultOfSignals (placed message.now))) }
+    ensures none { IfOk result (λ found. IfNone found (AreSignalLines (described message.now))) }
+    ensures fault { IfOk result (λ found. IfSome found (IsFaultOfSignals (described message.now))) }
 {
-    let signals = placed_signals(alloc, message)?;
+    let signals = described_signals(alloc, message)?;
     let name = name_fault(alloc, &signals, ROSTER_LIMIT)?;
     Ok(earlier(name, multiplexor_fault(&signals)))
 }

@@ -42,16 +42,16 @@ fn clear_signals(alloc: Global, signals: &mut [Signal])
     }
 }
 
-/// Takes away what is attached to the signals of the message, and their places.
+/// Takes away what is attached to the signals of the message, and their offsets.
 fn clear_line(alloc: Global, line: &mut MessageLine)
     ensures stays { message_of line.new ≡ message_of line.old }
     ensures nothing { HaveNothingAttached line.new.signals.items }
 {
     clear_signals(alloc, &mut line.signals);
-    line.places = Vec::new(alloc);
+    line.offsets = Vec::new(alloc);
 }
 
-/// Takes away what is attached to the signals of all messages, and their places.
+/// Takes away what is attached to the signals of all messages, and their offsets.
 fn clear_lines(alloc: Global, lines: &mut [MessageLine])
     ensures stays { map message_of lines.new ≡ map message_of lines.old }
     ensures bare { AreBare lines.new }
@@ -78,7 +78,7 @@ pub(crate) fn all_definitions(
     further_definitions(alloc, definitions, statements)
 }
 
-/// The nodes and the messages, with nothing attached to signals, and without their places.
+/// The nodes and the messages, with nothing attached to signals, and without their offsets.
 fn nodes_and_lines(alloc: Global, definitions: Gathered) -> (Items<NodeName>, Vec<MessageLine>)
     ensures nodes { result.0 ≡ definitions.nodes }
     ensures messages { map message_of result.1.items ≡ map message_of definitions.messages }

@@ -15,8 +15,8 @@
 //!
 //! Messages are built by moving their parts (`signals`, `messages`), and the sheet by its own calls (`sheets`), which
 //! refuse what can't be in one. Then the text is read once more, for its definitions alone (`definitions`), since it is
-//! they that are at fault: the first fault is searched for among them (`first_fault`), with the places of signals
-//! (`placed`). So it is for a file that can't be gathered as it comes: one that uses a number twice, say.
+//! they that are at fault: the first fault is searched for among them (`first_fault`), with the offsets of signals
+//! (`described`). So it is for a file that can't be gathered as it comes: one that uses a number twice, say.
 //!
 //! Only where a statement lists too many texts for values, the definitions don't tell whether that is a fault. Such a
 //! file is read into a list of all statements. The indices of what they cite are found by binary search (`keys`,
@@ -26,6 +26,7 @@
 
 mod attaching;
 mod definitions;
+mod described;
 mod feed;
 mod feeding;
 mod finding;
@@ -42,7 +43,6 @@ mod numbers;
 mod one_by_one;
 mod orders;
 mod passed;
-mod placed;
 mod reading;
 mod refusal;
 mod settling;

@@ -63,7 +63,7 @@ fn gather_definitions<'a>(
         if cites(&next.content) {
             return Ok(Some(next));
         }
-        gather_statement(None, next.without_places(alloc), gathered)?;
+        gather_statement(None, next.without_offsets(alloc), gathered)?;
     }
     Ok(None)
 }

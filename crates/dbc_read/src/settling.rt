@@ -5,14 +5,14 @@ ghost use Rattle.std.specs.Prelude.{◌≡◌, ℕ, List, None, Some, IfErr, IfO
 ghost use Rattle.dbc_grammar.specs.Parsing.{statements_at};
 ghost use Rattle.dbc_grammar.specs.Statement.{Cited};
 ghost use Rattle.dbc_lex.specs.Fault.{UnlessMemory};
-ghost use Rattle.dbc_read.specs.Attaching.{HasPlaceIfAny, IsAttached, IsPlaceOf, cites_signal};
+ghost use Rattle.dbc_read.specs.Attaching.{AreIndicesOf, HasSignalIfAny, IsAttached, cites_signal};
 ghost use Rattle.dbc_read.specs.Finding.{FindsSignals};
 ghost use Rattle.dbc_read.specs.Gathering.{IsGathered, Settles, cites, defines, one_or_none};
 ghost use Rattle.dbc_read.specs.Late.{SettlesOthers};
 ghost use Rattle.dbc_read.specs.Settling.{SettlesTo};
 ghost use Rattle.dbc_statements.specs.Statement.{content_of, message_of};
 
-use crate::attaching::{Attachment, Place, attach_at};
+use crate::attaching::{Attachment, SignalIndices, attach_at};
 use crate::finding::{Finders, Track};
 use crate::gathered::{Citing, Gathered, gather};
 use crate::passed::Passed;
@@ -41,23 +41,23 @@ fn defines(content: &Content) -> bool
     }
 }
 
-/// Attaches to the signal at the place. If there is none, the statement is skipped.
+/// Attaches to the signal at the indices. If there are none, the statement is skipped.
 #[inline(always)]
 fn attach(
-    place: Option<Place>,
+    indices: Option<SignalIndices>,
     attachment: Attachment,
     statement: Passed,
     lines: &mut [MessageLine],
     passed: &mut Items<Passed>,
 ) -> Result<(), AllocError>
-    requires { HasPlaceIfAny lines.old place }
+    requires { HasSignalIfAny lines.old indices }
     ensures messages { map message_of lines.new ≡ map message_of lines.old }
-    ensures attached { OnOk result ((number : Cited) (name : List ℕ) → IsPlaceOf lines.old number name place
+    ensures attached { OnOk result ((number : Cited) (name : List ℕ) → AreIndicesOf lines.old number name indices
         → IsAttached number name attachment statement lines.old lines.new passed.old passed.new) }
 {
-    match place {
-        Some(place) => {
-            attach_at(lines, place, attachment);
+    match indices {
+        Some(indices) => {
+            attach_at(lines, indices, attachment);
             Ok(())
         }
         None => passed.push(statement),
@@ -96,31 +96,31 @@ fn settle(
     ensures settles { IfOk result (λ all. IsTrue all
         → Settles finders.now (one_or_none (Some statement.entry)) lines.old gathered.old lines.new gathered.new) }
 {
-    let place = track.place_of(finders, lines, &statement.content);
+    let indices = track.indices_cited(finders, lines, &statement.content);
     let (at, keyword, content) = statement.into_parts();
     let from = Passed { at, keyword };
     match content {
         Content::SignalComment(_cited, text) => {
             let passed = &mut gathered.passed;
-            attach(place, Attachment::Comment(text), from, lines, passed)?;
+            attach(indices, Attachment::Comment(text), from, lines, passed)?;
             Ok(true)
         }
         Content::ValueTexts(_cited, entries) => match entries.into_texts() {
             Some(texts) => {
                 let passed = &mut gathered.passed;
-                attach(place, Attachment::Values(texts), from, lines, passed)?;
+                attach(indices, Attachment::Values(texts), from, lines, passed)?;
                 Ok(true)
             }
             None => Ok(false),
         },
         Content::ValueType(_cited, value_type) => {
             let passed = &mut gathered.passed;
-            attach(place, Attachment::Type(value_type), from, lines, passed)?;
+            attach(indices, Attachment::Type(value_type), from, lines, passed)?;
             Ok(true)
         }
         Content::Spn(_cited, spn) => {
             let passed = &mut gathered.passed;
-            attach(place, Attachment::Spn(spn), from, lines, passed)?;
+            attach(indices, Attachment::Spn(spn), from, lines, passed)?;
             Ok(true)
         }
         other => {

@@ -1,4 +1,4 @@
--- Computed rows of the tokens that are left, and of places.
+-- Computed rows of the tokens that are left, and of offsets that aren't kept.
 use Rattle.std.proofs.Common.{◌≡◌, Box, Global, List, [], ◌∷◌, refl, arith}
 use Rattle.std.specs.Prelude.{codes}
 use Rattle.dbc_grammar.specs.Parsing.{line_at, statement_at, statements_at, version_at}
@@ -7,7 +7,7 @@ use Rattle.dbc_grammar.specs.Token.{Token}
 use Rattle.catalogue.specs.declared.keyword.Keyword.TheVariants.{Version}
 use Rattle.dbc_grammar.specs.declared.token.TokenKind.TheVariants.{Name, Text}
 use Rattle.dbc_statements.specs.Left.{BeginsWith}
-use Rattle.dbc_statements.specs.Statement.{HasNoPlaces}
+use Rattle.dbc_statements.specs.Statement.{HasNoOffsets}
 use Rattle.dbc_statements.specs.declared.statement.Content.TheVariants as content
 use Rattle.dbc_statements.specs.declared.statement.MessageLine.{MessageLine}
 
@@ -21,10 +21,10 @@ version_comes_first : BeginsWith version tokens []
 unfolding statements_at statement_at line_at version_at
 version_comes_first = record { statements = refl; fewer = omega arith }
 
--- a version has no signals, so no places of them
-version_has_none : HasNoPlaces (content.Version (codes "1.0"))
+-- a version has no signals, so no offsets of them
+version_has_none : HasNoOffsets (content.Version (codes "1.0"))
 version_has_none = tt
 
 -- and a message has none if its list is empty
-message_has_none : (line : Box MessageLine Global) → line.value.places.items ≡ [] → HasNoPlaces (content.Message line)
+message_has_none : (line : Box MessageLine Global) → line.value.offsets.items ≡ [] → HasNoOffsets (content.Message line)
 message_has_none line none = none

@@ -79,7 +79,7 @@ abbrev pub NothingIsAttached : Content → Type 0
 NothingIsAttached (content.Message m) = HaveNothingAttached m.value.signals.items
 NothingIsAttached c = ⊤
 
--- where the signals of a message's statement are isn't kept
-abbrev pub HasNoPlaces : Content → Type 0
-HasNoPlaces (content.Message m) = m.value.places.items ≡ []
-HasNoPlaces c = ⊤
+-- the offsets of the signals of a message's statement aren't kept
+abbrev pub HasNoOffsets : Content → Type 0
+HasNoOffsets (content.Message m) = m.value.offsets.items ≡ []
+HasNoOffsets c = ⊤

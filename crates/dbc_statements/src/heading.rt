@@ -13,7 +13,7 @@ ghost use Rattle.dbc_statements.specs.Statement.{NothingIsAttached, content_of, 
 use crate::entries::entry_list;
 use crate::fields::{any_number, made_name, mark, text};
 use crate::line::Line;
-use crate::names::placed_nodes;
+use crate::names::nodes_with_offsets;
 use crate::statement::{Content, TableLine};
 use crate::tokens::Tokens;
 use crate::words::{is_key, is_mark, is_number, is_word};
@@ -142,7 +142,7 @@ pub(crate) fn node_names<'a>(alloc: Global, tokens: &mut Tokens<'a>) -> Result<L
     ensures nothing { IfOk result (λ line. NothingIsAttached line.content) }
 {
     mark(tokens, b':')?;
-    let (names, ended) = placed_nodes(alloc, tokens)?;
+    let (names, ended) = nodes_with_offsets(alloc, tokens)?;
     Ok(Line {
         content: Content::Nodes(names),
         ended,

@@ -34,5 +34,5 @@ pub use dividing::Statements;
 pub use entries::Entries;
 pub use reading::statements_of;
 pub use statement::{
-    CitedSignal, Content, MessageLine, NodeName, SignalPlace, Statement, TableLine,
+    CitedSignal, Content, MessageLine, NodeName, SignalOffsets, Statement, TableLine,
 };

@@ -28,7 +28,7 @@ fn message<'a>(alloc: Global, tokens: &mut Tokens<'a>) -> Result<Line<'a>, ReadF
     mark(tokens, b':')?;
     let length = length(tokens)?;
     let transmitter = transmitter(alloc, tokens)?;
-    let (signals, places, ended) = signals(alloc, tokens)?;
+    let (signals, offsets, ended) = signals(alloc, tokens)?;
     let line = MessageLine {
         at,
         name_at,
@@ -37,7 +37,7 @@ fn message<'a>(alloc: Global, tokens: &mut Tokens<'a>) -> Result<Line<'a>, ReadF
         length,
         transmitter,
         signals,
-        places,
+        offsets,
     };
     let content = Content::Message(Box::new(alloc, line)?);
     Ok(Line { content, ended })

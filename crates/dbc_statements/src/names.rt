@@ -28,7 +28,7 @@ pub(crate) enum Ended {
 }
 
 /// A node's name, and the offset at which it is.
-type Placed = (usize, Name);
+type NameAt = (usize, Name);
 
 /// A list of nodes that is read.
 pub(crate) trait NodeList {
@@ -115,7 +115,7 @@ fn goes_on(tokens: &Tokens) -> bool
 
 /// A node; `None` for the name that means no node.
 #[inline(always)]
-fn node(alloc: Global, tokens: &mut Tokens) -> Result<Option<Placed>, ReadFault>
+fn node(alloc: Global, tokens: &mut Tokens) -> Result<Option<NameAt>, ReadFault>
     ensures { Reads (option_map (λ node. node.1)) result (token_at fields.node_of tokens.old) tokens.new }
 {
     let at = tokens.offset();
@@ -140,7 +140,7 @@ fn node(alloc: Global, tokens: &mut Tokens) -> Result<Option<Placed>, ReadFault>
 /// A further name of a list, with the comma before it if there is one.
 #[inline(always)]
 #[tactic(auto, unfolding(dbc_grammar::specs::Parsing::further_at))]
-fn further(alloc: Global, tokens: &mut Tokens) -> Result<Option<Placed>, ReadFault>
+fn further(alloc: Global, tokens: &mut Tokens) -> Result<Option<NameAt>, ReadFault>
     ensures { Reads (option_map (λ node. node.1)) result (further_at tokens.old) tokens.new }
 {
     optional_mark(tokens, b',');
@@ -149,7 +149,7 @@ fn further(alloc: Global, tokens: &mut Tokens) -> Result<Option<Placed>, ReadFau
 
 /// Adds the node to the list, if there is one.
 #[inline(always)]
-fn add<L: NodeList>(alloc: Global, nodes: &mut L, node: Option<Placed>) -> Result<(), AllocError>
+fn add<L: NodeList>(alloc: Global, nodes: &mut L, node: Option<NameAt>) -> Result<(), AllocError>
     ensures { OnOk result (L.names nodes.new ≡ L.names nodes.old ++ names_in (option_map (λ node. node.1) node ∷ [])) }
 {
     match node {
@@ -179,7 +179,7 @@ fn add_further<L: NodeList>(
 
 /// The list of this node alone, if there is one.
 #[inline(always)]
-fn list_of<L: NodeList + Drop>(alloc: Global, first: Option<Placed>) -> Result<L, AllocError>
+fn list_of<L: NodeList + Drop>(alloc: Global, first: Option<NameAt>) -> Result<L, AllocError>
     ensures { IfOk result (λ nodes. L.names nodes ≡ names_in (option_map (λ node. node.1) first ∷ [])) }
 {
     let mut nodes = L::empty(alloc);
@@ -211,8 +211,8 @@ fn nodes<L: NodeList + Drop>(alloc: Global, tokens: &mut Tokens) -> Result<(L, E
     Ok((L::empty(alloc), Ended::NoNames))
 }
 
-/// The nodes of a list with the places of their names, and how it ends.
-pub(crate) fn placed_nodes(
+/// The nodes of a list with the offsets of their names, and how it ends.
+pub(crate) fn nodes_with_offsets(
     alloc: Global,
     tokens: &mut Tokens,
 ) -> Result<(Vec<NodeName>, Ended), ReadFault>

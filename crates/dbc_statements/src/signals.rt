@@ -10,7 +10,7 @@ ghost use Rattle.dbc_statements.specs.Statement.{HaveNothingAttached, signals_of
 
 use crate::fields::{Decimals, key, layout, made_name, mark, pair, text};
 use crate::names::{Ended, receivers};
-use crate::statement::SignalPlace;
+use crate::statement::SignalOffsets;
 use crate::tokens::Tokens;
 use crate::words::{is_key, is_numeral, is_word, mux_of};
 use bitlayout::Mux;
@@ -52,14 +52,14 @@ fn colon(tokens: &mut Tokens, is_marked: bool) -> Result<(), ReadFault>
     }
 }
 
-/// Adds the signal from `SG_` on, and its place, and returns how its list of receivers ends.
+/// Adds the signal from `SG_` on, and its offsets, and returns how its list of receivers ends.
 #[inline(always)]
 #[tactic(auto, unfolding(dbc_grammar::specs::Parsing::signal_at))]
 fn add_signal(
     alloc: Global,
     tokens: &mut Tokens,
     signals: &mut Vec<Signal>,
-    places: &mut Vec<SignalPlace>,
+    offsets: &mut Vec<SignalOffsets>,
 ) -> Result<Ended, ReadFault>
     ensures ok { OnOk result (with_one (signals_of signals.old.items) (signal_at tokens.old)
         ≡ Some (signals_of signals.new.items, tokens.new)) }
@@ -80,7 +80,7 @@ fn add_signal(
     let unit = text(alloc, tokens)?;
     let (receivers, ended) = receivers(alloc, tokens)?;
     signals.reserve(1)?;
-    places.reserve(1)?;
+    offsets.reserve(1)?;
     signals.push_reserved(Signal {
         name,
         layout,
@@ -97,7 +97,7 @@ fn add_signal(
         values: ValueTexts::empty(alloc),
         value_type: ValueType::Integer,
     });
-    places.push_reserved(SignalPlace { at, mux_at });
+    offsets.push_reserved(SignalOffsets { at, mux_at });
     Ok(ended)
 }
 
@@ -112,19 +112,19 @@ fn is_signal(tokens: &Tokens) -> bool
     }
 }
 
-/// Signals, up to anything else, their places, and how the last one ends.
+/// Signals, up to anything else, their offsets, and how the last one ends.
 pub(crate) fn signals(
     alloc: Global,
     tokens: &mut Tokens,
-) -> Result<(Vec<Signal>, Vec<SignalPlace>, Ended), ReadFault>
+) -> Result<(Vec<Signal>, Vec<SignalOffsets>, Ended), ReadFault>
     ensures reads { Reads (λ found. signals_of found.0.items) result (signals_at tokens.old) tokens.new }
     ensures nothing { IfOk result (λ found. HaveNothingAttached found.0.items) }
 {
     let mut signals = Vec::new(alloc);
-    let mut places = Vec::new(alloc);
+    let mut offsets = Vec::new(alloc);
     let mut ended = Ended::Other;
     'signals: while is_signal(tokens) {
-        ended = add_signal(alloc, tokens, &mut signals, &mut places)?;
+        ended = add_signal(alloc, tokens, &mut signals, &mut offsets)?;
     }
-    Ok((signals, places, ended))
+    Ok((signals, offsets, ended))
 }

@@ -2,7 +2,7 @@
 ghost use Rattle.std.specs.Prelude.{◌≡◌, ◌≤◌, [], length, SomeIff};
 ghost use Rattle.catalogue.specs.Limits.{value_text_limit};
 ghost use Rattle.dbc_statements.specs.Parts.{message_with, table_of};
-ghost use Rattle.dbc_statements.specs.Statement.{HasNoPlaces, NothingIsAttached, message_of, statement_of};
+ghost use Rattle.dbc_statements.specs.Statement.{HasNoOffsets, NothingIsAttached, message_of, statement_of};
 
 use crate::entries::Entries;
 use can_id::Ident;
@@ -46,9 +46,9 @@ impl TableLine {
     }
 }
 
-/// Where a signal is described.
+/// The offsets at which a signal is described.
 #[derive(Clone, Copy, Debug, PartialEq, Eq)]
-pub struct SignalPlace {
+pub struct SignalOffsets {
     /// The offset of its name.
     pub at: usize,
     /// The offset of its multiplexer indicator, or of the colon if it has none.
@@ -71,8 +71,8 @@ pub struct MessageLine {
     pub transmitter: Option<Name>,
     /// Its signals, in order, any number of them, without what other statements attach to them.
     pub signals: Vec<Signal>,
-    /// Where each of them is.
-    pub places: Vec<SignalPlace>,
+    /// The offsets of each of them.
+    pub offsets: Vec<SignalOffsets>,
 }
 
 impl MessageLine {
@@ -89,7 +89,7 @@ impl MessageLine {
             length,
             transmitter,
             signals,
-            places: _places,
+            offsets: _offsets,
         } = self;
         let message = Message {
             ident,
@@ -166,17 +166,17 @@ impl<'a> Statement<'a> {
         (start, keyword, content)
     }
 
-    /// The statement without the places of its signals, whose memory is given back.
-    pub fn without_places(self, alloc: Global) -> Statement<'a>
+    /// The statement without the offsets of its signals, whose memory is given back.
+    pub fn without_offsets(self, alloc: Global) -> Statement<'a>
         ensures says { statement_of result ≡ statement_of self.entry }
         ensures nothing { NothingIsAttached self.entry.content → NothingIsAttached result.content }
-        ensures places { HasNoPlaces result.content }
+        ensures offsets { HasNoOffsets result.content }
     {
         let (start, keyword, content) = self.into_parts();
         let content = match content {
             Content::Message(line) => {
                 let mut line = line;
-                line.places = Vec::new(alloc);
+                line.offsets = Vec::new(alloc);
                 Content::Message(line)
             }
             other => other,
@@ -209,7 +209,7 @@ impl Drop for MessageLine {
             length: _length,
             transmitter: _transmitter,
             signals: _signals,
-            places: _places,
+            offsets: _offsets,
         } = self;
     }
 }

@@ -1,6 +1,6 @@
 //! How a line names the signal that it is about.
 ghost use Rattle.std.specs.Prelude.{OnOk};
-ghost use Rattle.dbc_grammar.specs.Canon.{place_pieces, signal_pieces};
+ghost use Rattle.dbc_grammar.specs.Canon.{citation_pieces, signal_pieces};
 ghost use Rattle.dbc_write.specs.Adding.{Adds, piece_text};
 
 use crate::tokens::{spaced_number, spaced_word};
@@ -13,7 +13,7 @@ pub(crate) fn cited_signal(
     message: &Message,
     signal: &Signal,
 ) -> Result<(), AllocError>
-    ensures { OnOk result (Adds piece_text text.old.items text.new.items (place_pieces message.now signal.now)) }
+    ensures { OnOk result (Adds piece_text text.old.items text.new.items (citation_pieces message.now signal.now)) }
 {
     spaced_number(text, message.number())?;
     spaced_word(text, signal.name.as_bytes())?;

@@ -46,14 +46,14 @@ const MOST_BYTES: usize = 19;
 #[derive(Clone, Copy)]
 struct Plain {
     number: u64,
-    places: usize,
+    fraction_digits: usize,
 }
 
 /// The number that a short number token writes that has no exponent, or `None` for any other bytes.
 fn plain_of(bytes: &[u8]) -> Option<Plain>
     ensures value { IfSome result (λ p. (negative : Bool) →
-        Writes negative bytes.now (record { mantissa = signed negative p.number; exponent = neg_ℤ (pos p.places) })) }
-    ensures few { IfSome result (λ p. p.places < 20) }
+        Writes negative bytes.now (record { mantissa = signed negative p.number; exponent = neg_ℤ (pos p.fraction_digits) })) }
+    ensures few { IfSome result (λ p. p.fraction_digits < 20) }
 {
     if bytes.len() > MOST_BYTES {
         return None;
@@ -66,7 +66,7 @@ fn plain_of(bytes: &[u8]) -> Option<Plain>
     match rest {
         [] => Some(Plain {
             number: whole.number,
-            places: 0,
+            fraction_digits: 0,
         }),
         [b'.', digits @ ..] => {
             let fraction = leading_digits(whole.number, digits);
@@ -75,7 +75,7 @@ fn plain_of(bytes: &[u8]) -> Option<Plain>
             }
             Some(Plain {
                 number: fraction.number,
-                places: fraction.len,
+                fraction_digits: fraction.len,
             })
         }
         _ => None,
@@ -124,6 +124,6 @@ pub(crate) fn plain_decimal(negative: bool, bytes: &[u8]) -> Option<Decimal>
         return Some(Decimal::ZERO);
     }
     let stripped = without_zeros(plain.number)?;
-    let exponent = i16::from(stripped.zeros) - plain.places as i16;
+    let exponent = i16::from(stripped.zeros) - plain.fraction_digits as i16;
     Some(Decimal::new(signed(negative, stripped.number), exponent))
 }

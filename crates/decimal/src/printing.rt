@@ -51,17 +51,17 @@ fn push_zero_padded(text: &mut Text, number: u128, width: usize)
 
 /// The number's digits with a point before the last of them.
 #[tactic(auto, using(crate::proofs::Texts::pointing))]
-fn push_with_point(text: &mut Text, number: u128, places: u32)
+fn push_with_point(text: &mut Text, number: u128, fraction_digits: u32)
     requires number { number < 10 ^ 36 }
-    requires some { 0 < places }
-    requires few { places ≤ 20 }
+    requires some { 0 < fraction_digits }
+    requires few { fraction_digits ≤ 20 }
     requires room { array_string_len text.old ≤ 1 }
-    ensures { text.new.bytes ≡ text.old.bytes ++ with_point places number }
+    ensures { text.new.bytes ≡ text.old.bytes ++ with_point fraction_digits number }
 {
-    let unit = 10u128.pow(places);
+    let unit = 10u128.pow(fraction_digits);
     push_number(text, number / unit);
     text.push('.');
-    push_zero_padded(text, number % unit, places as usize);
+    push_zero_padded(text, number % unit, fraction_digits as usize);
 }
 
 fn push_unsigned(text: &mut Text, magnitude: u128, exponent: i16)

@@ -1,10 +1,9 @@
 -- What one change leaves of the whole office.
-use Rattle.std.proofs.Common.{◌≡◌, ◌∙◌, ◌≤◌, ◌<◌, ℕ, Bool, true, false, cond, List, [], ◌∷◌, Option, Some, None, length, get_or, set, find, refl, sym, ap, arith}
+use Rattle.std.proofs.Common.{◌≡◌, ◌∙◌, ◌≤◌, ◌<◌, ℕ, Bool, true, false, cond, List, [], ◌∷◌, Option, Some, None, length, get_or, find, refl, sym, ap, arith}
 use Rattle.std.specs.Prelude.{nat_lt, slice_get}
 use Rattle.std.specs.List.{position, position_or_len}
 use Rattle.std.specs.List.Sorted.{IsStrictlySortedBy}
 use Rattle.std.specs.Ordering.{nat_cmp}
-use Rattle.std.specs.Option.{option_and_then}
 use Rattle.std.specs.Str.{bytes_eq}
 use Rattle.std.proofs.lemmas.Bool.Decides.{nat_tests}
 use Rattle.std.proofs.lemmas.List.Folds.{find_at}
@@ -24,8 +23,8 @@ use Rattle.office_rules.specs.Facts.{live_named}
 use Rattle.office_rules.specs.Numbers.{with_message}
 use Rattle.office_rules.specs.Signals.{with_last_signal, with_signal_out}
 use Rattle.office_rules.specs.Step.{net_named}
-use Rattle.office_law.proofs.OrderedNets.{has, put_found, put_there}
-use Rattle.office.specs.Carried.{IsIndexOf, carried, with_both}
+use Rattle.office_law.proofs.OrderedNets.{has, put_found}
+use Rattle.office.specs.Carried.{IsNetFound, carried, with_both}
 
 -- The index of a network.
 
@@ -59,22 +58,17 @@ module _ {A : Type 0} (p : A → Bool) (xs : List A) where
           let past : length xs ≤ position_or_len p xs = grind (arith, nat_tests) in
           find_at p xs ∙ slice_get_past xs (position_or_len p xs) past
 
-pub index_is : (o : Office) (name : List ℕ) (index : Option ℕ) → index ≡ position (λ net. bytes_eq net.name name) o.nets → IsIndexOf o name index
+pub index_is : (o : Office) (name : List ℕ) (index : Option ℕ) → index ≡ position (λ net. bytes_eq net.name name) o.nets → IsNetFound o name index
 index_is o name None h = not_found (has name) o.nets (sym h)
 index_is o name (Some i) h = found_at (has name) o.nets i (sym h)
 
--- the network there is that of the name
-pub index_found : (o : Office) (name : List ℕ) (index : Option ℕ) → IsIndexOf o name index → option_and_then (slice_get o.nets) index ≡ net_named o name
-index_found o name None h = sym h
-index_found o name (Some i) h = h.1
-
--- so is the one at its index
-pub index_names : (o : Office) (name : List ℕ) (i : ℕ) (y : Net) → IsIndexOf o name (Some i) → y ≡ get_or o.nets i y → net_named o name ≡ Some y
+-- the network at the index is that of the name
+pub index_names : (o : Office) (name : List ℕ) (i : ℕ) (y : Net) → IsNetFound o name (Some i) → y ≡ get_or o.nets i y → net_named o name ≡ Some y
 index_names o name i y h is = sym h.1 ∙ slice_get-get_or o.nets i y h.0 ∙ ap Some (sym is)
 
 -- Changes.
 
-changed_there : (name : List ℕ) (c : Change) (n : Net) → changed_net name c (Some n) ≡ Some (net_changed c n)
+pub changed_there : (name : List ℕ) (c : Change) (n : Net) → changed_net name c (Some n) ≡ Some (net_changed c n)
 changed_there name (SetHead h) n = refl
 changed_there name (SetMessage m) n = refl
 changed_there name (RemoveMessage i) n = refl
@@ -93,7 +87,7 @@ name_kept_at n f None = refl
 name_kept_at n f (Some m) = refl
 
 -- a network keeps its name
-name_kept : (c : Change) (n : Net) → (net_changed c n).name ≡ n.name
+pub name_kept : (c : Change) (n : Net) → (net_changed c n).name ≡ n.name
 name_kept (SetHead h) n = refl
 name_kept (SetMessage m) n = refl
 name_kept (RemoveMessage i) n = refl
@@ -106,21 +100,6 @@ name_kept (EnterSpn k) n = refl
 name_kept (SetApproval team) n = refl
 name_kept ClearApprovals n = refl
 name_kept (AddRelease s) n = refl
-
--- the book stays, but for a block and for a number
-book_kept : (c : Change) (book : SpnBook) → ((b : SpnBlock) → c ≡ SetSpnBlock b → ⊥) → ((k : ℕ) → c ≡ EnterSpn k → ⊥) → changed_book c book ≡ book
-book_kept (SetHead h) book x y = refl
-book_kept (SetMessage m) book x y = refl
-book_kept (RemoveMessage i) book x y = refl
-book_kept (AddSignal message s) book x y = refl
-book_kept (RemoveSignal path) book x y = refl
-book_kept (SetBlock g) book x y = refl
-book_kept (SetSpnBlock b) book x y = absurd (x b refl)
-book_kept (Hold i) book x y = refl
-book_kept (EnterSpn k) book x y = absurd (y k refl)
-book_kept (SetApproval team) book x y = refl
-book_kept ClearApprovals book x y = refl
-book_kept (AddRelease s) book x y = refl
 
 module _ (o : Office) (name : List ℕ) (sorted : IsStrictlySortedBy by_name o.nets) where
   -- a change of the book leaves the networks
@@ -148,12 +127,3 @@ module _ (o : Office) (name : List ℕ) (sorted : IsStrictlySortedBy by_name o.n
 
   pub number_carried : (k : ℕ) → ◌≡◌ {A = Office} (record { nets = o.nets; book = record o.book { used = put nat_cmp k o.book.used } }) (carried o name (EnterSpn k ∷ []))
   number_carried k = book_carried (EnterSpn k) (record o.book { used = put nat_cmp k o.book.used }) refl refl (λ n. refl)
-
-  -- a change of the network is made in its place
-  pub net_carried : (i : ℕ) (y : Net) (c : Change) → IsIndexOf o name (Some i) → y ≡ get_or o.nets i y → ((b : SpnBlock) → c ≡ SetSpnBlock b → ⊥) → ((k : ℕ) → c ≡ EnterSpn k → ⊥)
-      → ◌≡◌ {A = Office} (record { nets = set o.nets i (net_changed c y); book = o.book }) (carried o name (c ∷ []))
-  net_carried i y c h is x z =
-      let found = index_names o name i y h is in
-      ap (λ (ns : List Net). record { nets = ns; book = o.book }) (sym (put_there o.nets i (net_changed c y) y sorted h.0 is (name_kept c y)))
-      ∙ ap (λ (p : Option Net × SpnBook). with_both o (record { net = p.0; book = p.1 }))
-      (λ j. (sym (ap (changed_net name c) found ∙ changed_there name c y) j, sym (book_kept c o.book x z) j))

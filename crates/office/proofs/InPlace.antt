@@ -1,5 +1,5 @@
 -- A live message that is changed in its place, and the step of the office that this is.
-use Rattle.std.proofs.Common.{◌≡◌, ◌∙◌, ◌<◌, ℕ, Bool, List, [], ◌∷◌, Option, Some, None, length, get_or, set, refl, sym, ap, subst}
+use Rattle.std.proofs.Common.{◌≡◌, ◌∙◌, ◌<◌, ℕ, Bool, true, List, [], ◌∷◌, Some, None, length, get_or, set, refl, sym, ap, subst}
 use Rattle.std.specs.Cmp.{nat_cmp_is}
 use Rattle.std.specs.List.{AllByRecursion, position}
 use Rattle.std.specs.List.Sorted.{IsStrictlySortedBy}
@@ -7,15 +7,16 @@ use Rattle.std.specs.Ordering.{nat_cmp}
 use Rattle.std.specs.Prelude.{IfSome, slice_get, slice_set}
 use Rattle.std.specs.Str.{bytes_eq}
 use Rattle.std.specs.declared.cmp.Ordering.TheVariants.{Less, Equal}
-use Rattle.std.proofs.lemmas.List.{set-get_or}
 use Rattle.std.proofs.lemmas.Option.{get_or_from_slice_get, none-some}
+use Rattle.std.proofs.lemmas.Slice.Eq.{bytes_eq-Decides}
 use Rattle.can_id.specs.Ident.{dbc_number}
 use Rattle.catalogue.specs.Keyed.{put}
 use Rattle.catalogue.specs.Messages.{by_number as message_order}
 use Rattle.catalogue.specs.Refusing.{first_refusal}
 use Rattle.catalogue.specs.Signals.{places_of, signal_tests}
 use Rattle.catalogue.specs.declared.signal.Signal.{Signal}
-use Rattle.office_types.specs.State.{by_name, by_number, live_messages}
+use Rattle.office_types.specs.State.{by_number, live_messages}
+use Rattle.office_types.specs.declared.book.SpnBook.{SpnBook}
 use Rattle.office_types.specs.declared.command.Action.TheVariants.{TakeBits as BitsTaken}
 use Rattle.office_types.specs.declared.command.Command.{Command}
 use Rattle.office_types.specs.declared.command.Task.TheVariants.{Act}
@@ -26,27 +27,26 @@ use Rattle.office_types.specs.declared.reply.Reply.{Reply}
 use Rattle.office_types.specs.declared.reply.Reply.TheVariants.{Refused, Start}
 use Rattle.office_types.specs.declared.state.LiveMessage.{LiveMessage}
 use Rattle.office_types.specs.declared.state.Net.{Net}
-use Rattle.office_types.specs.declared.state.Office.{Office}
-use Rattle.office_rules.specs.Commands.{done_task}
+use Rattle.office_rules.specs.Change.{NetAndBook, left_after}
+use Rattle.office_rules.specs.Commands.{done_task, outcome}
 use Rattle.office_rules.specs.Facts.{MessageFacts, live_named, message_facts}
 use Rattle.office_rules.specs.Kept.{IsNet}
 use Rattle.office_rules.specs.Numbers.{with_message}
-use Rattle.office_rules.specs.Outcome.{Entries, Outcome, Refusing, Changing, given_or, no_entries, on_net, reply_of}
+use Rattle.office_rules.specs.Outcome.{Entries, Outcome, Refusing, Changing, entered, given_or, no_entries, on_net, reply_of}
 use Rattle.office_rules.specs.Signals.{new_signal, start_given, take_bits, take_bits_tests, with_last_signal}
-use Rattle.office_rules.specs.Profile.{Two}
-use Rattle.office_rules.specs.Step.{Step, net_named, office_after, step_outcome}
-use Rattle.office_law.proofs.OrderedNets.{put_there}
 use Rattle.office.proofs.PutThere.{put_same}
+use Rattle.office_law.proofs.Idents.{same_ident-itself}
 use Rattle.office_law.proofs.Passing.{Leaves, leaves_given, leaves_unless}
 use Rattle.office_signals.specs.Adding.{AddsSignal}
 use Rattle.office_signals.proofs.Added.{bits_added, bits_refused}
-use Rattle.office.specs.Carried.{IsDone, IsIndexOf}
-use Rattle.office.proofs.CarriedOut.{found_at, index_names, not_found}
+use Rattle.office.specs.Carried.{IsDone}
+use Rattle.office.specs.Indexed.{IsDoneOn, indexed_alike}
+use Rattle.office.proofs.CarriedOut.{found_at, not_found}
 use Rattle.office.proofs.Decisions.{no_reading, none_read}
 
 -- Live messages are in the order of their numbers, so one of a number that is there is put in its place.
 
-rising_live : (xs : List LiveMessage) → IsStrictlySortedBy message_order (live_messages xs) → IsStrictlySortedBy by_number xs
+pub rising_live : (xs : List LiveMessage) → IsStrictlySortedBy message_order (live_messages xs) → IsStrictlySortedBy by_number xs
 unfolding IsStrictlySortedBy
 rising_live [] h = tt
 rising_live (x ∷ xs) h = (each xs h.0, rising_live xs h.1)
@@ -55,7 +55,7 @@ rising_live (x ∷ xs) h = (each xs h.0, rising_live xs h.1)
     each [] k = tt
     each (y ∷ ys) k = (k.0, each ys k.1)
 
-put_live : (xs : List LiveMessage) (i : ℕ) (x y : LiveMessage) → IsStrictlySortedBy message_order (live_messages xs) → i < length xs → y ≡ get_or xs i y
+pub put_live : (xs : List LiveMessage) (i : ℕ) (x y : LiveMessage) → IsStrictlySortedBy message_order (live_messages xs) → i < length xs → y ≡ get_or xs i y
     → x.message.ident ≡ y.message.ident → put by_number x xs ≡ set xs i x
 put_live xs i x y sorted h is same =
     let order_same : by_number x ≡ by_number y = ap (λ i m. nat_cmp (dbc_number i) (dbc_number m.message.ident)) same in
@@ -112,35 +112,23 @@ name_left team net c =
     leaves_given (LeavesName net) no.NoMessage found room (λ m e.
     leaves_given (LeavesName net) no.NoRoom (start_given (places_of m.message.signals) m.message.length c) (done m) (λ start given. (refl, refl))))
 
--- The office whose network is left so in its place.
-module _ (o : Office) (i : ℕ) (y n : Net) (sorted : IsStrictlySortedBy by_name o.nets) (within : i < length o.nets) (is : y ≡ get_or o.nets i y) where
-  left_there : (out : Outcome) (reply : Reply) → Leaves (LeavesName y) out → IsDone y out reply n
-      → (reply ≡ reply_of out) × ◌≡◌ {A = Office} (record { nets = set o.nets i n; book = o.book }) (office_after o out)
-  left_there (Refusing r) reply h done =
-      (done.0, ap (λ (ns : List Net). record { nets = ns; book = o.book }) (ap (set o.nets i) (done.1 ∙ is) ∙ set-get_or o.nets i y))
-  left_there (Changing r after e) reply h done = (
-    done.0,
-    ap (λ (ns : List Net). record { nets = ns; book = o.book })
-        (ap (set o.nets i) done.1 ∙ sym (put_there o.nets i after y sorted within is h.0))
-        ∙ ap (λ (en : Entries). office_after o (Changing r after en)) (sym h.1),
-  )
+left_bits : (net n : Net) (book : SpnBook) (out : Outcome) (reply : Reply) → Leaves (LeavesName net) out → IsDone net out reply n
+    → (reply ≡ reply_of out) × ◌≡◌ {A = NetAndBook} (record { net = Some n; book = book }) (left_after (record { net = Some net; book = book }) out)
+left_bits net n book (Refusing r) reply h done = (done.0, λ i. record { net = Some (done.1 i); book = book })
+left_bits net n book (Changing r after e) reply h done = (done.0, λ i. record { net = Some (done.1 i); book = entered book (sym h.1 i) })
 
-  pub bits_step : (team : List ℕ) (c : Command) (take : TakeBits) (reply : Reply) → c.task ≡ Act (BitsTaken take) → net_named o c.net ≡ Some y
-      → IsDone y (take_bits team (Some y) take) reply n → Step Two o team c reply (record { nets = set o.nets i n; book = o.book })
-  bits_step team c take reply task found done =
-      let out : step_outcome o team no_reading c ≡ take_bits team (Some y) take =
-      ap (done_task team c.net no_reading (net_named o c.net) o.book) task ∙ ap (λ (f : Option Net). take_bits team f take) found in
-      let left = left_there (take_bits team (Some y) take) reply (name_left team y take) done in
-      record {
-        reading = no_reading;
-        read = none_read (net_named o c.net) c.task (BitsTaken take) task;
-        answered = left.0 ∙ ap reply_of (sym out);
-        left = left.1 ∙ ap (office_after o) (sym out);
-      }
+pub bits_done : (team : List ℕ) (net n : Net) (book : SpnBook) (c : Command) (take : TakeBits) (reply : Reply) → c.task ≡ Act (BitsTaken take) → IsDone net (take_bits team (Some net) take) reply n
+    → IsDoneOn team c (record { net = Some net; book = book }) reply (record { net = Some n; book = book })
+bits_done team net n book c take reply task done =
+    let out : outcome team no_reading (Some net) book c ≡ take_bits team (Some net) take = ap (done_task team c.net no_reading (Some net) book) task in
+    let left = left_bits net n book (take_bits team (Some net) take) reply (name_left team net take) done in
+    record {
+      reading = no_reading;
+      read = none_read (Some net) c.task (BitsTaken take) task;
+      answered = left.0 ∙ ap reply_of (sym out);
+      left = left.1 ∙ ap (left_after (record { net = Some net; book = book })) (sym out);
+    }
 
--- the same where the network of the command is found by its index
-pub bits_step_at : (o : Office) (i : ℕ) (y n : Net) (team : List ℕ) (c : Command) (take : TakeBits) (reply : Reply) → IsStrictlySortedBy by_name o.nets
-    → IsIndexOf o c.net (Some i) → y ≡ get_or o.nets i y → c.task ≡ Act (BitsTaken take) → IsDone y (take_bits team (Some y) take) reply n
-    → Step Two o team c reply (record { nets = set o.nets i n; book = o.book })
-bits_step_at o i y n team c take reply sorted at is task done =
-    bits_step o i y n sorted at.0 is team c take reply task (index_names o c.net i y at is) done
+-- a signal more leaves a message its name and its identifier
+pub alike_with : (m : LiveMessage) (s : Signal) → indexed_alike m (with_last_signal m s) ≡ true
+alike_with m s = rw ((bytes_eq-Decides m.message.name m.message.name).1 refl, same_ident-itself m.message.ident) refl

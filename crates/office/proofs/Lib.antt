@@ -5,3 +5,8 @@ mod InPlace
 mod Excerpts
 mod Runs
 mod PutThere
+mod NumberSets
+mod Indexes
+mod Looked
+mod Changed
+mod CarriedThere

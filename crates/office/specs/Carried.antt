@@ -27,9 +27,9 @@ abbrev pub carried : Office → List ℕ → List Change → Office
 carried o name changes = with_both o (all_applied name changes (both_of o name))
 
 -- the index of the network of the name, if it is there
-abbrev pub IsIndexOf : Office → List ℕ → Option ℕ → Type 0
-IsIndexOf o name None = net_named o name ≡ None
-IsIndexOf o name (Some i) = (i < length o.nets) × (slice_get o.nets i ≡ net_named o name)
+abbrev pub IsNetFound : Office → List ℕ → Option ℕ → Type 0
+IsNetFound o name None = net_named o name ≡ None
+IsNetFound o name (Some i) = (i < length o.nets) × (slice_get o.nets i ≡ net_named o name)
 
 -- an outcome's reply is this, and it leaves the command's network so
 abbrev pub IsDone : Net → Outcome → Reply → Net → Type 0

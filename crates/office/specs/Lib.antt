@@ -1,3 +1,4 @@
 pub mod Carried
 pub mod Bundled
 pub mod Imported
+pub mod Indexed

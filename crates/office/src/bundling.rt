@@ -100,13 +100,13 @@ pub(crate) fn decide_bundle(
         changes: Items::new(alloc),
         replies: Items::new(alloc),
     };
-    let mut place = 0u32;
+    let mut part_number = 0u32;
     for part in parts.as_slice() {
-        place += 1;
+        part_number += 1;
         if let Some(refusal) = add_part(alloc, team, name, &mut progress, part)? {
             let refused = FileFault {
                 fault: refusal.number(),
-                at: place,
+                at: part_number,
             };
             let decision = refusal_decision(alloc, Refusal::BundleRefused(refused));
             return Ok(decision);

@@ -1,42 +1,32 @@
-//! Carrying out what was decided on the networks and the book of an office.
-ghost use Rattle.std.specs.Prelude.{◌≡◌, ◌∷◌, [], IfOk, OnOk, OnErr, position, slice_get};
+//! Finding a network of an office, and carrying out what was decided where it isn't there.
+ghost use Rattle.std.specs.Prelude.{◌≡◌, ◌∷◌, [], IfOk, OnOk, OnErr, position};
 ghost use Rattle.std.specs.Str.{bytes_eq};
 ghost use Rattle.std.specs.List.Sorted.{IsStrictlySortedBy};
-ghost use Rattle.std.specs.Option.{option_and_then, option_copied};
+ghost use Rattle.std.specs.Option.{option_copied};
 ghost use Rattle.catalogue.specs.Keyed.{put};
 ghost use Rattle.office_types.specs.State.{by_name};
 ghost use Rattle.office_types.specs.declared.state.Net.{Net};
 ghost use Rattle.office_types.specs.declared.state.Office.{Office};
-ghost use Rattle.office_rules.specs.Change.{AllFit, Fits};
-ghost use Rattle.office_rules.specs.Step.{net_named};
-ghost use Rattle.office.specs.Carried.{IsIndexOf, both_of, carried};
+ghost use Rattle.office_rules.specs.Change.{AllFit};
+ghost use Rattle.office.specs.Carried.{IsNetFound, both_of, carried};
 
-use crate::applying::{Draft, bare_net, change_all, change_net};
+use crate::applying::{Draft, bare_net, change_all};
 use catalogue::{Copying, Items, Slot, put_item, slot_of};
 use office_types::{Change, Net, NetName, SpnBook};
 use std::alloc::{AllocError, Global};
 
-fn position_of(nets: &[Net], name: &NetName) -> Option<usize>
+/// The index of the first network of the name.
+fn first_named(nets: &[Net], name: &NetName) -> Option<usize>
     ensures { result ≡ position (λ net. bytes_eq net.name name.now) nets.now }
 {
     nets.iter().position(|net| net.name == *name)
 }
 
 /// The index of the network of the name.
-pub(crate) fn index_of(nets: &[Net], book: &SpnBook, name: &NetName) -> Option<usize>
-    ensures { IsIndexOf (record { nets = nets.now; book = book.now }) name.now result }
+pub(crate) fn find_net(nets: &[Net], book: &SpnBook, name: &NetName) -> Option<usize>
+    ensures { IsNetFound (record { nets = nets.now; book = book.now }) name.now result }
 {
-    position_of(nets, name)
-}
-
-/// The network at the index, `None` where there is no index.
-pub(crate) fn net_at(nets: &[Net], index: Option<usize>) -> Option<&Net>
-    ensures { option_copied result ≡ option_and_then (slice_get nets.now) index }
-{
-    match index {
-        None => None,
-        Some(index) => nets.get(index),
-    }
+    first_named(nets, name)
 }
 
 /// Puts the network where its name belongs, in place of one of that name. When memory runs out, nothing changes.
@@ -56,18 +46,16 @@ fn put_net(nets: &mut Vec<Net>, net: Net) -> Result<(), AllocError>
     }
 }
 
-/// Makes one change, which fits, in place. When memory runs out, nothing changes.
+/// Makes one change, where the network isn't there. When memory runs out, nothing changes.
 fn carry_one_out(
     alloc: Global,
     name: &NetName,
     nets: &mut Vec<Net>,
     book: &mut SpnBook,
-    index: Option<usize>,
     change: Change,
 ) -> Result<(), AllocError>
     requires sorted { IsStrictlySortedBy by_name nets.old.items }
-    requires index { IsIndexOf (record { nets = nets.old.items; book = book.old }) name.now index }
-    requires fits { Fits change (net_named (record { nets = nets.old.items; book = book.old }) name.now) }
+    requires absent { IsNetFound (record { nets = nets.old.items; book = book.old }) name.now None }
     ensures ok { OnOk result (◌≡◌ {A = Office} (record { nets = nets.new.items; book = book.new })
         (carried (record { nets = nets.old.items; book = book.old }) name.now (change ∷ []))) }
     ensures err { OnErr result ((nets.new.items ≡ nets.old.items) × (book.new ≡ book.old)) }
@@ -75,15 +63,12 @@ fn carry_one_out(
     match change {
         Change::SetSpnBlock(block) => put_item(&mut book.blocks, block),
         Change::EnterSpn(spn) => book.used.enter(spn),
-        other => match index {
-            Some(index) => change_net(alloc, &mut nets[index], other),
-            None => match other {
-                Change::SetHead(head) => {
-                    let net = bare_net(alloc, name, head)?;
-                    put_net(nets, net)
-                }
-                _ => Ok(()),
-            },
+        other => match other {
+            Change::SetHead(head) => {
+                let net = bare_net(alloc, name, head)?;
+                put_net(nets, net)
+            }
+            _ => Ok(()),
         },
     }
 }
@@ -106,23 +91,22 @@ pub(crate) fn draft_of(
     })
 }
 
-/// Makes several changes, each of which fits after those before it, on copies first. When memory runs out, nothing
-/// changes.
+/// Makes several changes, each of which fits after those before it, where the network isn't there, on a copy of the
+/// book first. When memory runs out, nothing changes.
 fn carry_all_out(
     alloc: Global,
     name: &NetName,
     nets: &mut Vec<Net>,
     book: &mut SpnBook,
-    index: Option<usize>,
     changes: Items<Change>,
 ) -> Result<(), AllocError>
-    requires index { IsIndexOf (record { nets = nets.old.items; book = book.old }) name.now index }
+    requires absent { IsNetFound (record { nets = nets.old.items; book = book.old }) name.now None }
     requires fit { AllFit name.now changes (both_of (record { nets = nets.old.items; book = book.old }) name.now) }
     ensures ok { OnOk result (◌≡◌ {A = Office} (record { nets = nets.new.items; book = book.new })
         (carried (record { nets = nets.old.items; book = book.old }) name.now changes)) }
     ensures err { OnErr result ((nets.new.items ≡ nets.old.items) × (book.new ≡ book.old)) }
 {
-    let mut draft = draft_of(alloc, net_at(nets.as_slice(), index), book)?;
+    let mut draft = draft_of(alloc, None, book)?;
     change_all(alloc, name, &mut draft, changes)?;
     let (net, after) = draft.into_parts();
     if let Some(net) = net {
@@ -132,19 +116,17 @@ fn carry_all_out(
     Ok(())
 }
 
-/// Carries out the changes that were decided for the network of the name, each of which fits after those before it. One
-/// change is made in place; for more, the network and the book are copied first, so that when memory runs out nothing
-/// changes.
+/// Carries out the changes that were decided where the network of the name isn't there, each of which fits after those
+/// before it. For more than one the book is copied first, so that when memory runs out nothing changes.
 pub(crate) fn carry_out(
     alloc: Global,
     name: &NetName,
     nets: &mut Vec<Net>,
     book: &mut SpnBook,
-    index: Option<usize>,
     changes: Items<Change>,
 ) -> Result<(), AllocError>
     requires sorted { IsStrictlySortedBy by_name nets.old.items }
-    requires index { IsIndexOf (record { nets = nets.old.items; book = book.old }) name.now index }
+    requires absent { IsNetFound (record { nets = nets.old.items; book = book.old }) name.now None }
     requires fit { AllFit name.now changes (both_of (record { nets = nets.old.items; book = book.old }) name.now) }
     ensures ok { OnOk result (◌≡◌ {A = Office} (record { nets = nets.new.items; book = book.new })
         (carried (record { nets = nets.old.items; book = book.old }) name.now changes)) }
@@ -155,8 +137,8 @@ pub(crate) fn carry_out(
         0 => Ok(()),
         1 => {
             let change = changes.remove(0);
-            carry_one_out(alloc, name, nets, book, index, change)
+            carry_one_out(alloc, name, nets, book, change)
         }
-        _ => carry_all_out(alloc, name, nets, book, index, changes),
+        _ => carry_all_out(alloc, name, nets, book, changes),
     }
 }

@@ -49,7 +49,7 @@ fn number_facts(excerpt: &Excerpt) -> NumberFacts<'_>
         nodes: excerpt.head.frame.nodes(),
         blocks: excerpt.blocks.as_slice(),
         named: excerpt.named,
-        count: excerpt.count,
+        full: excerpt.full,
         want_live: excerpt.want_live,
         want_held: excerpt.want_held,
     }

@@ -27,7 +27,7 @@ fn with_last_signal(
 }
 
 /// The message without the signal of the name. The error is out of memory.
-fn with_signal_out(
+pub(crate) fn with_signal_out(
     alloc: Global,
     live: &LiveMessage,
     name: &Name,

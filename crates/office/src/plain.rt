@@ -4,27 +4,32 @@ ghost use Rattle.office_rules.specs.Kept.{IsOffice};
 ghost use Rattle.office_rules.specs.Profile.{Two};
 ghost use Rattle.office_rules.specs.Step.{opening, Step, HasRun, HasBegun};
 
+use crate::net_index::NetIndex;
 use crate::stepping::step;
 use catalogue::Items;
 use office_types::{Command, Net, Reply, SpnBook, Team, UsedSpns, command_is_in_range};
 use std::alloc::{AllocError, Global};
 use std::marker::Model;
 
-/// An office in memory. Contracts see it as the state that it holds, which is always that of an office.
+/// An office in memory. Contracts see it as the state that it holds, which is always that of an office. Beside each
+/// network it may keep what finds names and numbers there without a walk.
 pub struct PlainOffice {
     nets: Vec<Net>,
+    indexes: Vec<Option<NetIndex>>,
     book: SpnBook,
 }
 
 impl Model for PlainOffice {
     ghost use Rattle.office_types.specs.declared.state.Office.{Office};
     ghost use Rattle.office_rules.specs.Kept.{IsOffice};
+    ghost use Rattle.office.specs.Indexed.{AreIndexes};
 
     ghost Value = { Office };
 
     ghost view = { λ p. record { nets = p.nets.items; book = p.book } };
 
-    ghost invariant = { λ p. IsOffice (record { nets = p.nets.items; book = p.book }) };
+    ghost invariant = { λ p. IsOffice (record { nets = p.nets.items; book = p.book })
+        × AreIndexes p.indexes.items p.nets.items };
 }
 
 impl PlainOffice {
@@ -34,6 +39,7 @@ impl PlainOffice {
     {
         PlainOffice {
             nets: Vec::new(alloc),
+            indexes: Vec::new(alloc),
             book: SpnBook {
                 blocks: Items::new(alloc),
                 used: UsedSpns::new(alloc),
@@ -78,7 +84,14 @@ impl PlainOffice {
     {
         team.as_bytes();
         command_is_in_range(command);
-        step(alloc, team, &mut self.nets, &mut self.book, command)
+        step(
+            alloc,
+            team,
+            &mut self.nets,
+            &mut self.indexes,
+            &mut self.book,
+            command,
+        )
     }
 
     /// Runs the commands in order, each for its team, and adds their replies. If memory runs out, the first commands
@@ -105,6 +118,7 @@ impl Drop for PlainOffice {
     fn drop(self) {
         let PlainOffice {
             nets: _nets,
+            indexes: _indexes,
             book: _book,
         } = self;
     }

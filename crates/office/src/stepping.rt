@@ -1,19 +1,26 @@
 //! One step of an office on its networks and its book.
-ghost use Rattle.std.specs.Prelude.{◌≡◌, IfOk, IfSome, OnErr};
+ghost use Rattle.std.specs.Prelude.{◌≡◌, ◌<◌, ◌≤◌, IfOk, IfSome, None, OnErr, Some, false, length, true, vec_len};
 ghost use Rattle.office_types.specs.declared.command.Action.TheVariants.{TakeBits as BitsTaken};
 ghost use Rattle.office_types.specs.declared.command.Task.TheVariants.{Act};
-ghost use Rattle.office_types.specs.declared.state.Office.{Office};
-ghost use Rattle.office_rules.specs.Kept.{IsOffice};
+ghost use Rattle.office_rules.specs.Change.{IsDecision};
+ghost use Rattle.office_rules.specs.Kept.{IsNet, IsOffice};
 ghost use Rattle.office_rules.specs.Profile.{Two};
 ghost use Rattle.office_rules.specs.Step.{Step};
-ghost use Rattle.office.specs.Carried.{IsIndexOf};
+ghost use Rattle.office.specs.Carried.{IsNetFound};
+ghost use Rattle.office.specs.Indexed.{AreIndexes, IsDoneOn, IsIndexIfThere};
 
-use crate::carrying::{carry_out, index_of, net_at};
+use crate::carrying::{carry_out, find_net};
+use crate::carrying_there::carry_out_there;
 use crate::deciding::decide;
 use crate::in_place::{bits_reply, take_bits_in_place};
+use crate::indexed::decide_indexed;
+use crate::net_index::NetIndex;
 use catalogue::Copying;
 use office_types::{Action, Command, Decision, Net, Reply, SpnBook, TakeBits, Task, Team};
 use std::alloc::{AllocError, Global};
+
+/// A network of at most so many live messages gets no index: it is walked over.
+const WALKED_OVER: usize = 16;
 
 /// The `take_bits` that the task is, if it is one.
 fn bits_wanted(task: &Task) -> Option<&TakeBits>
@@ -28,53 +35,161 @@ fn bits_wanted(task: &Task) -> Option<&TakeBits>
     }
 }
 
-/// Decides the command and carries its changes out. The reply is given twice.
-fn step_by_changes(
+/// Makes the index of a network that has none, where the task would use it and the network isn't small. It stays
+/// without one where memory runs out.
+fn make_index(alloc: Global, net: &Net, index: &mut Option<NetIndex>, task: &Task)
+    requires { IsIndexIfThere index.old net.now }
+    ensures { IsIndexIfThere index.new net.now }
+{
+    if index.is_none() && net.live.as_slice().len() > WALKED_OVER && goes_by_index(task) {
+        *index = NetIndex::of(alloc, net).ok();
+    }
+}
+
+/// Whether the task looks names or numbers up.
+fn goes_by_index(task: &Task) -> bool {
+    match task {
+        Task::Import(_) | Task::Bundle(_) => false,
+        Task::Act(action) => matches!(
+            action,
+            Action::TakeIdent(_)
+                | Action::TakeSpn(_)
+                | Action::TakeBits(_)
+                | Action::SetValues(_)
+                | Action::RemoveSignal(_)
+                | Action::Retire(_)
+        ),
+    }
+}
+
+/// Decides the team's command on a network that is there, by its index where it has one.
+fn decide_there(
+    alloc: Global,
+    team: &Team,
+    net: &Net,
+    index: &Option<NetIndex>,
+    book: &SpnBook,
+    command: &Command,
+) -> Result<Decision, AllocError>
+    requires net { IsNet net.now }
+    requires index { IsIndexIfThere index.now net.now }
+    ensures { IfOk result (IsDecision team.now (record { net = Some net.now; book = book.now }) command.now) }
+{
+    if let Some(index) = index {
+        if let Task::Act(action) = &command.task {
+            return decide_indexed(alloc, team, &command.net, net, index, book, action);
+        }
+    }
+    decide(alloc, team, Some(net), book, command)
+}
+
+/// One step on a network that is there and the book: the team's command is carried out, or it is refused and nothing
+/// changes. The reply is given twice. If memory runs out, nothing changes. The index follows.
+fn step_there(
+    alloc: Global,
+    team: &Team,
+    net: &mut Net,
+    book: &mut SpnBook,
+    index: &mut Option<NetIndex>,
+    command: &Command,
+) -> Result<(Reply, Reply), AllocError>
+    requires net { IsNet net.old }
+    requires index { IsIndexIfThere index.old net.old }
+    ensures done { IfOk result (λ both. IsDoneOn team.now command.now (record { net = Some net.old; book = book.old })
+        both.0 (record { net = Some net.new; book = book.new })) }
+    ensures copy { IfOk result (λ both. both.1 ≡ both.0) }
+    ensures err { OnErr result ((net.new ≡ net.old) × (book.new ≡ book.old)) }
+    ensures name { net.new.name ≡ net.old.name }
+    ensures index { IsIndexIfThere index.new net.new }
+{
+    make_index(alloc, net, index, &command.task);
+    if let Some(take) = bits_wanted(&command.task) {
+        let given = take_bits_in_place(alloc, team, net, index, take)?;
+        return Ok((bits_reply(given), bits_reply(given)));
+    }
+    let decision = decide_there(alloc, team, net, index, book, command)?;
+    let Decision { changes, reply } = decision;
+    let copy = reply.duplicate(alloc)?;
+    carry_out_there(alloc, &command.net, net, book, index, changes)?;
+    Ok((reply, copy))
+}
+
+/// One step where the network isn't there. Where the command changes anything, so that it opens the network, all indexes
+/// are dropped, since the network comes among the others.
+fn step_nowhere(
     alloc: Global,
     team: &Team,
     nets: &mut Vec<Net>,
+    indexes: &mut Vec<Option<NetIndex>>,
     book: &mut SpnBook,
-    index: Option<usize>,
     command: &Command,
 ) -> Result<(Reply, Reply), AllocError>
     requires office { IsOffice (record { nets = nets.old.items; book = book.old }) }
-    requires index { IsIndexOf (record { nets = nets.old.items; book = book.old }) command.now.net index }
+    requires absent { IsNetFound (record { nets = nets.old.items; book = book.old }) command.now.net None }
+    requires indexes { AreIndexes indexes.old.items nets.old.items }
     ensures step { IfOk result
         (λ both. Step Two (record { nets = nets.old.items; book = book.old }) team.now command.now both.0
         (record { nets = nets.new.items; book = book.new })) }
     ensures copy { IfOk result (λ both. both.1 ≡ both.0) }
     ensures err { OnErr result ((nets.new.items ≡ nets.old.items) × (book.new ≡ book.old)) }
+    ensures indexes { AreIndexes indexes.new.items nets.new.items }
 {
-    let net = net_at(nets.as_slice(), index);
-    let decision = decide(alloc, team, net, book, command)?;
+    let decision = decide(alloc, team, None, book, command)?;
     let Decision { changes, reply } = decision;
     let copy = reply.duplicate(alloc)?;
-    carry_out(alloc, &command.net, nets, book, index, changes)?;
+    if changes.as_slice().is_empty() {
+        return Ok((reply, copy));
+    }
+    indexes.clear();
+    carry_out(alloc, &command.net, nets, book, changes)?;
     Ok((reply, copy))
 }
 
-/// One step on these networks and this book: the team's command is carried out, or it is refused and nothing changes.
-/// The reply is given twice. If memory runs out, nothing changes.
+/// Makes room for the index of the network at an index of the list; answers whether memory was enough.
+fn make_room(indexes: &mut Vec<Option<NetIndex>>, nets: &[Net], at: usize) -> bool
+    requires are { AreIndexes indexes.old.items nets.now }
+    requires within { at < length nets.now }
+    ensures are { AreIndexes indexes.new.items nets.now }
+    ensures room { result ≡ true → at < vec_len indexes.new }
+    ensures full { result ≡ false → vec_len indexes.new ≤ at }
+{
+    while indexes.len() <= at {
+        match indexes.push(None) {
+            Ok(()) => {}
+            Err(_) => return false,
+        }
+    }
+    true
+}
+
+/// One step on these networks, which have these indexes, and this book: the team's command is carried out, or it is
+/// refused and nothing changes. The reply is given twice. If memory runs out, nothing changes.
 pub(crate) fn step(
     alloc: Global,
     team: &Team,
     nets: &mut Vec<Net>,
+    indexes: &mut Vec<Option<NetIndex>>,
     book: &mut SpnBook,
     command: &Command,
 ) -> Result<(Reply, Reply), AllocError>
-    requires { IsOffice (record { nets = nets.old.items; book = book.old }) }
+    requires office { IsOffice (record { nets = nets.old.items; book = book.old }) }
+    requires indexes { AreIndexes indexes.old.items nets.old.items }
     ensures step { IfOk result
         (λ both. Step Two (record { nets = nets.old.items; book = book.old }) team.now command.now both.0
         (record { nets = nets.new.items; book = book.new })) }
     ensures copy { IfOk result (λ both. both.1 ≡ both.0) }
     ensures err { OnErr result ((nets.new.items ≡ nets.old.items) × (book.new ≡ book.old)) }
+    ensures indexes { AreIndexes indexes.new.items nets.new.items }
 {
-    let index = index_of(nets.as_slice(), book, &command.net);
-    if let Some(take) = bits_wanted(&command.task) {
-        if let Some(index) = index {
-            let given = take_bits_in_place(alloc, team, &mut nets[index], take)?;
-            return Ok((bits_reply(given), bits_reply(given)));
+    match find_net(nets.as_slice(), book, &command.net) {
+        None => step_nowhere(alloc, team, nets, indexes, book, command),
+        Some(at) => {
+            if make_room(indexes, nets.as_slice(), at) {
+                step_there(alloc, team, &mut nets[at], book, &mut indexes[at], command)
+            } else {
+                let mut none = None;
+                step_there(alloc, team, &mut nets[at], book, &mut none, command)
+            }
         }
     }
-    step_by_changes(alloc, team, nets, book, index, command)
 }

@@ -17,8 +17,8 @@ pub struct Excerpt {
     pub found: Option<LiveMessage>,
     /// Whether a live message has the name of the command's new message.
     pub named: bool,
-    /// How many live messages there are, if the command makes one.
-    pub count: usize,
+    /// Whether there are as many live messages as there may be, if the command makes one.
+    pub full: bool,
     /// Whether a live message has the wanted identifier.
     pub want_live: bool,
     /// Whether the wanted identifier is held.
@@ -49,7 +49,7 @@ impl Drop for Excerpt {
             blocks: _blocks,
             found: _found,
             named: _named,
-            count: _count,
+            full: _full,
             want_live: _want_live,
             want_held: _want_held,
             taken: _taken,

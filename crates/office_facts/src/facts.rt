@@ -3,11 +3,11 @@ ghost use Rattle.std.specs.Prelude.{◌≡◌};
 ghost use Rattle.std.specs.Option.{option_copied};
 ghost use Rattle.catalogue.specs.Named.{has_name};
 ghost use Rattle.catalogue.specs.Signals.{signal_name};
-ghost use Rattle.office_rules.specs.Facts.{has_node, in_review, is_held, is_j1939, is_live, is_named, is_submitter};
-ghost use Rattle.office_rules.specs.Facts.{knows_node, live_named, same_ident};
+ghost use Rattle.office_rules.specs.Facts.{has_node, in_review, is_full, is_held, is_j1939, is_live, is_named};
+ghost use Rattle.office_rules.specs.Facts.{is_submitter, knows_node, live_named, same_ident};
 
 use can_id::Ident;
-use catalogue::{Name, Node, Signal};
+use catalogue::{MESSAGE_LIMIT, Name, Node, Signal};
 use office_types::{LiveMessage, Net, NetKind, Phase, Team};
 
 /// Whether J1939 parameter groups are allotted on a network of this kind.
@@ -65,6 +65,13 @@ pub fn is_named(net: &Net, name: &Name) -> bool
         .as_slice()
         .iter()
         .any(|live| live.message.name == *name)
+}
+
+/// Whether the network has as many live messages as it may have.
+pub fn is_full(net: &Net) -> bool
+    ensures { result ≡ is_full net.now }
+{
+    net.live.as_slice().len() >= MESSAGE_LIMIT
 }
 
 /// The live message of the name, `None` where there is none.

@@ -39,18 +39,18 @@ act_alike team name net book other a h = refl
 
 -- and the parts of a bundle, none of which does
 
-same_then : (place : ℕ) (out : Outcome) (f g : Net → Entries → PartsOutcome) → ((n : Net) (e : Entries) → f n e ≡ g n e) → part_then place out f ≡ part_then place out g
-same_then place (Refusing r) f g h = refl
-same_then place (Changing r n e) f g h = ap (with_part r e) (h n e)
+same_then : (number : ℕ) (out : Outcome) (f g : Net → Entries → PartsOutcome) → ((n : Net) (e : Entries) → f n e ≡ g n e) → part_then number out f ≡ part_then number out g
+same_then number (Refusing r) f g h = refl
+same_then number (Changing r n e) f g h = ap (with_part r e) (h n e)
 
-parts_alike : (team name : List ℕ) (place : ℕ) (net : Option Net) (book other : SpnBook) (parts : List Action) → list_any action_asks_book parts ≡ false
-    → parts_done team name place net book parts ≡ parts_done team name place net other parts
-parts_alike team name place net book other [] h = refl
-parts_alike team name place net book other (a ∷ parts) h =
+parts_alike : (team name : List ℕ) (number : ℕ) (net : Option Net) (book other : SpnBook) (parts : List Action) → list_any action_asks_book parts ≡ false
+    → parts_done team name number net book parts ≡ parts_done team name number net other parts
+parts_alike team name number net book other [] h = refl
+parts_alike team name number net book other (a ∷ parts) h =
     let none = or_parts (action_asks_book a) (list_any action_asks_book parts) h in
-    same_then place (acted team name net book a) (λ n e. parts_done team name (place + 1) (Some n) (entered book e) parts) (λ n e. parts_done team name (place + 1) (Some n) (entered other e) parts)
-    (λ n e. parts_alike team name (place + 1) (Some n) (entered book e) (entered other e) parts none.1)
-    ∙ ap (λ out. part_then place out (λ n e. parts_done team name (place + 1) (Some n) (entered other e) parts)) (act_alike team name net book other a none.0)
+    same_then number (acted team name net book a) (λ n e. parts_done team name (number + 1) (Some n) (entered book e) parts) (λ n e. parts_done team name (number + 1) (Some n) (entered other e) parts)
+    (λ n e. parts_alike team name (number + 1) (Some n) (entered book e) (entered other e) parts none.1)
+    ∙ ap (λ out. part_then number out (λ n e. parts_done team name (number + 1) (Some n) (entered other e) parts)) (act_alike team name net book other a none.0)
 
 -- a command that doesn't read the book results in the same with any two books
 pub task_alike : (team name : List ℕ) (reading : FileReading) (net : Option Net) (book other : SpnBook) (t : Task) → asks_book t ≡ false

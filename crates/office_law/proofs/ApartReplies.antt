@@ -94,23 +94,23 @@ agree_with_part r s n m d e (AllDone rs k x) (RefusedAt i q) pr ps one later = t
 agree_with_part r s n m d e (AllDone rs k x) (AllDone ss l y) pr ps one later =
     λ same. let both = same_first r s rs ss pr ps same in later (one both.0) both.1
 
-agree_then : (name : List ℕ) (t : Action) (net : Option Net) (place : ℕ) (a b : Outcome) (f g : Net → Entries → PartsOutcome) → Agree a b
+agree_then : (name : List ℕ) (t : Action) (net : Option Net) (number : ℕ) (a b : Outcome) (f g : Net → Entries → PartsOutcome) → Agree a b
     → Leaves (λ r n e. IsLeft name (Act t) net r n) a → Leaves (λ r n e. IsLeft name (Act t) net r n) b
-    → ((n : Net) (d e : Entries) → AgreeAll (f n d) (g n e)) → AgreeAll (part_then place a f) (part_then place b g)
-agree_then name t net place (Refusing q) b f g h ha hb later = tt
-agree_then name t net place (Changing r n d) (Refusing q) f g h ha hb later = agree_refused_all (with_part r d (f n d)) place q
+    → ((n : Net) (d e : Entries) → AgreeAll (f n d) (g n e)) → AgreeAll (part_then number a f) (part_then number b g)
+agree_then name t net number (Refusing q) b f g h ha hb later = tt
+agree_then name t net number (Changing r n d) (Refusing q) f g h ha hb later = agree_refused_all (with_part r d (f n d)) number q
   where
-    agree_refused_all : (a : PartsOutcome) (place : ℕ) (q : Refusal) → AgreeAll a (RefusedAt place q)
-    agree_refused_all (RefusedAt i r) place q = tt
-    agree_refused_all (AllDone rs k x) place q = tt
-agree_then name t net place (Changing r n d) (Changing s m e) f g h ha hb later =
+    agree_refused_all : (a : PartsOutcome) (number : ℕ) (q : Refusal) → AgreeAll a (RefusedAt number q)
+    agree_refused_all (RefusedAt i r) number q = tt
+    agree_refused_all (AllDone rs k x) number q = tt
+agree_then name t net number (Changing r n d) (Changing s m e) f g h ha hb later =
     agree_with_part r s n m d e (f n d) (g m e) ha.part hb.part h (λ same. subst (λ v. AgreeAll (f n d) (g v e)) same (later n d e))
 
-agree_parts : (team name : List ℕ) (place : ℕ) (net : Option Net) (book other : SpnBook) (parts : List Action) → AgreeAll (parts_done team name place net book parts) (parts_done team name place net other parts)
-agree_parts team name place net book other [] = λ same. refl
-agree_parts team name place net book other (a ∷ parts) =
-    agree_then name a net place (acted team name net book a) (acted team name net other a) _ _ (agree_act team name book other net a) (left_act team name book net a) (left_act team name other net a)
-    (λ n d e. agree_parts team name (place + 1) (Some n) (entered book d) (entered other e) parts)
+agree_parts : (team name : List ℕ) (number : ℕ) (net : Option Net) (book other : SpnBook) (parts : List Action) → AgreeAll (parts_done team name number net book parts) (parts_done team name number net other parts)
+agree_parts team name number net book other [] = λ same. refl
+agree_parts team name number net book other (a ∷ parts) =
+    agree_then name a net number (acted team name net book a) (acted team name net other a) _ _ (agree_act team name book other net a) (left_act team name book net a) (left_act team name other net a)
+    (λ n d e. agree_parts team name (number + 1) (Some n) (entered book d) (entered other e) parts)
 
 agree_bundle : (a b : PartsOutcome) → AgreeAll a b → Agree (bundle_outcome a) (bundle_outcome b)
 agree_bundle (RefusedAt i r) b h = tt

@@ -52,8 +52,8 @@ module _ (profile : Profile) (team name : List ℕ) where
   abbrev after_all : Office → Net → Entries → Office
   after_all o n e = record { nets = put by_name n o.nets; book = entered o.book e }
 
-  -- The parts from a place on run, or one of them is refused there.
-  pub record IsRefusedAt (o : Office) (place : ℕ) (parts : List Action) (at : ℕ) (why : Refusal) : Type 0 where
+  -- The parts, numbered from a number on, run, or one of them is refused.
+  pub record IsRefusedAt (o : Office) (number : ℕ) (parts : List Action) (at : ℕ) (why : Refusal) : Type 0 where
     pub earlier : List Action
     pub part : Action
     pub later : List Action
@@ -62,24 +62,24 @@ module _ (profile : Profile) (team name : List ℕ) where
     pub mid : Office
     pub run : Run o (requests_of profile team name earlier) reported mid
     pub refused : Step profile mid team (command_of name part) (Refused why) mid
-    pub there : at ≡ place + length earlier
+    pub there : at ≡ number + length earlier
 
   pub record HaveRun (o : Office) (parts : List Action) (reported : List PartReply) (n : Net) (e : Entries) : Type 0 where
     pub named : n.name ≡ name
     pub run : Run o (requests_of profile team name parts) (map whole_reply reported) (after_all o n e)
 
   abbrev RunsTo : Office → ℕ → List Action → PartsOutcome → Type 0
-  RunsTo o place parts (RefusedAt at r) = IsRefusedAt o place parts at r
-  RunsTo o place parts (AllDone reported None e) = (net_named o name ≡ None) × (parts ≡ [])
-  RunsTo o place parts (AllDone reported (Some n) e) = HaveRun o parts reported n e
+  RunsTo o number parts (RefusedAt at r) = IsRefusedAt o number parts at r
+  RunsTo o number parts (AllDone reported None e) = (net_named o name ≡ None) × (parts ≡ [])
+  RunsTo o number parts (AllDone reported (Some n) e) = HaveRun o parts reported n e
 
   none_some : (Q : Type 0) (n : Net) → ◌≡◌ {A = Option Net} (Some n) None → Q
   none_some Q n e = absurd cc
 
   -- after the first part, the outcome of the others
-  module _ (o : Office) (place : ℕ) (a : Action) (parts : List Action) (r : Reply) (n : Net) (e : Entries) (is : part_outcome o a ≡ Changing r n e)
+  module _ (o : Office) (number : ℕ) (a : Action) (parts : List Action) (r : Reply) (n : Net) (e : Entries) (is : part_outcome o a ≡ Changing r n e)
       (part : whole_reply (part_reply r) ≡ r) (named : n.name ≡ name) (found : net_named (after_all o n e) name ≡ Some n) where
-    joined : (out : PartsOutcome) → RunsTo (after_all o n e) (place + 1) parts out → RunsTo o place (a ∷ parts) (with_part r e out)
+    joined : (out : PartsOutcome) → RunsTo (after_all o n e) (number + 1) parts out → RunsTo o number (a ∷ parts) (with_part r e out)
     joined (RefusedAt at why) h = record {
       earlier = a ∷ h.earlier;
       part = h.part;
@@ -89,7 +89,7 @@ module _ (profile : Profile) (team name : List ℕ) where
       mid = h.mid;
       run = (after_all o n e, step_of o a (Changing r n e) is, h.run);
       refused = h.refused;
-      there = (let w : at ≡ (place + 1) + length h.earlier = h.there in omega (arith, w));
+      there = (let w : at ≡ (number + 1) + length h.earlier = h.there in omega (arith, w));
     }
     joined (AllDone reported None f) h = none_some _ n (sym found ∙ h.0)
     joined (AllDone reported (Some m) f) h =
@@ -105,10 +105,10 @@ module _ (profile : Profile) (team name : List ℕ) where
           );
         }
 
-  joined_so : (o : Office) (place : ℕ) (a : Action) (parts : List Action) (out : Outcome) → AreInOrder o → part_outcome o a ≡ out → Leaves (λ r n e. IsLeft name (task.Act a) (net_named o name) r n) out
-      → ((n : Net) (e : Entries) → AreInOrder (after_all o n e) → RunsTo (after_all o n e) (place + 1) parts (parts_done team name (place + 1) (net_named (after_all o n e) name) (entered o.book e) parts))
-      → RunsTo o place (a ∷ parts) (part_then place out (λ n e. parts_done team name (place + 1) (Some n) (entered o.book e) parts))
-  joined_so o place a parts (Refusing why) sorted is left later = record {
+  joined_so : (o : Office) (number : ℕ) (a : Action) (parts : List Action) (out : Outcome) → AreInOrder o → part_outcome o a ≡ out → Leaves (λ r n e. IsLeft name (task.Act a) (net_named o name) r n) out
+      → ((n : Net) (e : Entries) → AreInOrder (after_all o n e) → RunsTo (after_all o n e) (number + 1) parts (parts_done team name (number + 1) (net_named (after_all o n e) name) (entered o.book e) parts))
+      → RunsTo o number (a ∷ parts) (part_then number out (λ n e. parts_done team name (number + 1) (Some n) (entered o.book e) parts))
+  joined_so o number a parts (Refusing why) sorted is left later = record {
     earlier = [];
     part = a;
     later = parts;
@@ -119,25 +119,25 @@ module _ (profile : Profile) (team name : List ℕ) where
     refused = step_of o a (Refusing why) is;
     there = omega arith;
   }
-  joined_so o place a parts (Changing r n e) sorted is left later =
+  joined_so o number a parts (Changing r n e) sorted is left later =
       let named : n.name ≡ name = left.named ∙ name_of_found name o.nets in
       let found : net_named (after_all o n e) name ≡ Some n = own_put name n o.nets sorted ((bytes_eq-Decides n.name name).1 named) in
-      joined o place a parts r n e is left.part named found (parts_done team name (place + 1) (Some n) (entered o.book e) parts)
-      (subst (λ net. RunsTo (after_all o n e) (place + 1) parts (parts_done team name (place + 1) net (entered o.book e) parts)) found
+      joined o number a parts r n e is left.part named found (parts_done team name (number + 1) (Some n) (entered o.book e) parts)
+      (subst (λ net. RunsTo (after_all o n e) (number + 1) parts (parts_done team name (number + 1) net (entered o.book e) parts)) found
       (later n e (sorted_after o (Changing r n e) sorted)))
 
-  runs_to : (parts : List Action) (o : Office) (place : ℕ) → AreInOrder o → RunsTo o place parts (parts_done team name place (net_named o name) o.book parts)
-  runs_to [] o place sorted = nothing_run (net_named o name) refl
+  runs_to : (parts : List Action) (o : Office) (number : ℕ) → AreInOrder o → RunsTo o number parts (parts_done team name number (net_named o name) o.book parts)
+  runs_to [] o number sorted = nothing_run (net_named o name) refl
     where
-      nothing_run : (net : Option Net) → net_named o name ≡ net → RunsTo o place [] (parts_done team name place net o.book [])
+      nothing_run : (net : Option Net) → net_named o name ≡ net → RunsTo o number [] (parts_done team name number net o.book [])
       nothing_run None is = (is, refl)
       nothing_run (Some n) is = record {
         named = sym (ap (λ net. name_of name net) is) ∙ name_of_found name o.nets;
         run = ap (λ nets. record { nets = nets; book = o.book }) (put_found name o.nets n sorted is);
       }
-  runs_to (a ∷ parts) o place sorted =
-      joined_so o place a parts (part_outcome o a) sorted refl (left_act team name o.book (net_named o name) a)
-      (λ n e sorted_too. runs_to parts (after_all o n e) (place + 1) sorted_too)
+  runs_to (a ∷ parts) o number sorted =
+      joined_so o number a parts (part_outcome o a) sorted refl (left_act team name o.book (net_named o name) a)
+      (λ n e sorted_too. runs_to parts (after_all o n e) (number + 1) sorted_too)
 
 -- The law.
 
@@ -177,7 +177,7 @@ module _ (profile : Profile) (team name : List ℕ) (parts : List Action) where
       why = why;
       refused = run.refused;
       tells = refused_bundle r (no.BundleRefused (refused_part at why)) is
-          ∙ ap (λ place. no.BundleRefused (refused_part place why)) (let w = run.there in let e : at ≡ length run.earlier + 1 = omega (arith, w) in e);
+          ∙ ap (λ number. no.BundleRefused (refused_part number why)) (let w = run.there in let e : at ≡ length run.earlier + 1 = omega (arith, w) in e);
     },
   )
   refused_of o after r (AllDone given None e) some run is left = no_parts _ some run.1

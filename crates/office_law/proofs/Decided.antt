@@ -94,7 +94,7 @@ module _ (team name : List ℕ) (book : SpnBook) where
   answered_file (Unreadable f) n none = absurd (false≢true (sym none.0))
 
   decided_bundle : (out : PartsOutcome) → IsDecidedBy (first_refusal (bundle_tests out)) (bundle_outcome out)
-  decided_bundle (RefusedAt place r) = refl
+  decided_bundle (RefusedAt number r) = refl
   decided_bundle (AllDone replies (Some net) e) = refl
   decided_bundle (AllDone replies None e) = refl
 

@@ -249,18 +249,18 @@ module _ (team name : List ℕ) (plain : IsPlainName team) (named : IsPlainName 
   joined book r n e w rs None f v = tt
   joined book r n e w rs (Some m) f v = left_both name book n m e f w v
 
-  well_parts : (place : ℕ) (net : Option Net) (book : SpnBook) (parts : List Action) → IsBook book → All IsAction parts → IfSome net (IsFound name book)
-      → LeavesAll (λ rs m e. IfSome m (λ n. IsWellLeft name book n e)) (parts_done team name place net book parts)
-  well_parts place None book [] b fields found = tt
-  well_parts place (Some n) book [] b fields found = quiet name book n found.net_is found.named b found.numbers
-  well_parts place net book (a ∷ parts) b fields found =
-      leaves_then (λ r n e. IsWellLeft name book n e) (λ rs m e. IfSome m (λ n. IsWellLeft name book n e)) place (acted team name net book a)
-      (λ n e. parts_done team name (place + 1) (Some n) (entered book e) parts)
+  well_parts : (number : ℕ) (net : Option Net) (book : SpnBook) (parts : List Action) → IsBook book → All IsAction parts → IfSome net (IsFound name book)
+      → LeavesAll (λ rs m e. IfSome m (λ n. IsWellLeft name book n e)) (parts_done team name number net book parts)
+  well_parts number None book [] b fields found = tt
+  well_parts number (Some n) book [] b fields found = quiet name book n found.net_is found.named b found.numbers
+  well_parts number net book (a ∷ parts) b fields found =
+      leaves_then (λ r n e. IsWellLeft name book n e) (λ rs m e. IfSome m (λ n. IsWellLeft name book n e)) number (acted team name net book a)
+      (λ n e. parts_done team name (number + 1) (Some n) (entered book e) parts)
       (well_acted team name book plain named b net a (All-head IsAction a parts fields) found)
       (λ r n e w.
       leaves_with r e (λ rs m f. IfSome m (λ k. IsWellLeft name (entered book e) k f)) (λ rs m f. IfSome m (λ k. IsWellLeft name book k f)) (joined book r n e w)
-      (parts_done team name (place + 1) (Some n) (entered book e) parts)
-      (well_parts (place + 1) (Some n) (entered book e) parts w.book_is (All-tail IsAction a parts fields) (found_left name book n e w)))
+      (parts_done team name (number + 1) (Some n) (entered book e) parts)
+      (well_parts (number + 1) (Some n) (entered book e) parts w.book_is (All-tail IsAction a parts fields) (found_left name book n e w)))
 
 module _ (team name : List ℕ) (book : SpnBook) (plain : IsPlainName team) (named : IsPlainName name) (book_is : IsBook book) where
   pub well_done : (profile : Profile) (net : Option Net) (task : Task) (reading : FileReading) → IsTask task → IsRead profile (file_wanted net task) reading → IfSome net (IsFound name book)

@@ -178,14 +178,14 @@ module _ (team name : List ℕ) where
         releases = (first.0 ++ h.releases.0, h.releases.1 ∙ ap (λ v. v ++ h.releases.0) (left.releases ∙ first.1) ∙ append_assoc (releases_of net) first.0 h.releases.0);
       }
 
-  left_parts : (place : ℕ) (net : Option Net) (book : SpnBook) (parts : List Action) → LeavesAll (λ rs m e. IfSome m (HasGrown name net)) (parts_done team name place net book parts)
-  left_parts place None book [] = tt
-  left_parts place (Some n) book [] = record { named = refl; releases = ([], sym (append-nil n.releases)) }
-  left_parts place net book (a ∷ parts) =
-      leaves_then (left name (Act a) net) (λ rs m e. IfSome m (HasGrown name net)) place (acted team name net book a) (λ n e. parts_done team name (place + 1) (Some n) (entered book e) parts)
+  left_parts : (number : ℕ) (net : Option Net) (book : SpnBook) (parts : List Action) → LeavesAll (λ rs m e. IfSome m (HasGrown name net)) (parts_done team name number net book parts)
+  left_parts number None book [] = tt
+  left_parts number (Some n) book [] = record { named = refl; releases = ([], sym (append-nil n.releases)) }
+  left_parts number net book (a ∷ parts) =
+      leaves_then (left name (Act a) net) (λ rs m e. IfSome m (HasGrown name net)) number (acted team name net book a) (λ n e. parts_done team name (number + 1) (Some n) (entered book e) parts)
       (left_act team name book net a) (λ r n e left.
       leaves_with r e (λ rs m f. IfSome m (HasGrown name (Some n))) (λ rs m f. IfSome m (HasGrown name net)) (λ rs m f h. grown_more net n m a r left h)
-      (parts_done team name (place + 1) (Some n) (entered book e) parts) (left_parts (place + 1) (Some n) (entered book e) parts))
+      (parts_done team name (number + 1) (Some n) (entered book e) parts) (left_parts (number + 1) (Some n) (entered book e) parts))
 
   -- whatever the command does
   pub left_task : (book : SpnBook) (reading : FileReading) (net : Option Net) (t : Task) → Leaves (λ r n e. IsLeft name t net r n) (done_task team name reading net book t)

@@ -92,12 +92,12 @@ module _ (law : ReleasesDontCount) (team name : List ℕ) (reading : FileReading
   -- the parts of a bundle
 
   abbrev PartsAlike : List Sheet → List Sheet → PartsOutcome → PartsOutcome → Type 0
-  PartsAlike rs qs (RefusedAt place r) p = p ≡ RefusedAt place r
+  PartsAlike rs qs (RefusedAt number r) p = p ≡ RefusedAt number r
   PartsAlike rs qs (AllDone replies None e) p = p ≡ AllDone replies None e
   PartsAlike rs qs (AllDone replies (Some n) e) p = (added : List Sheet) × (n.releases ≡ rs ++ added) × (p ≡ AllDone replies (Some (w (qs ++ added) n)) e)
 
   part_alike : (rs qs added : List Sheet) (r : Reply) (e : Entries) (p q : PartsOutcome) → PartsAlike (rs ++ added) (qs ++ added) p q → PartsAlike rs qs (with_part r e p) (with_part r e q)
-  part_alike rs qs added r e (RefusedAt place refusal) q alike = ap (with_part r e) alike
+  part_alike rs qs added r e (RefusedAt number refusal) q alike = ap (with_part r e) alike
   part_alike rs qs added r e (AllDone replies None f) q alike = ap (with_part r e) alike
   part_alike rs qs added r e (AllDone replies (Some n) f) q alike = (
     added ++ alike.0,
@@ -105,30 +105,30 @@ module _ (law : ReleasesDontCount) (team name : List ℕ) (reading : FileReading
     ap (with_part r e) (alike.2 ∙ ap (λ l. AllDone replies (Some (w l n)) f) (append_assoc qs added alike.0)),
   )
 
-  then_alike : (rs qs : List Sheet) (place : ℕ) (out other : Outcome) (others : Net → Entries → PartsOutcome) → Alike rs qs out other
+  then_alike : (rs qs : List Sheet) (number : ℕ) (out other : Outcome) (others : Net → Entries → PartsOutcome) → Alike rs qs out other
       → ((added : List Sheet) (n : Net) (e : Entries) → n.releases ≡ rs ++ added → PartsAlike (rs ++ added) (qs ++ added) (others n e) (others (w (qs ++ added) n) e))
-      → PartsAlike rs qs (part_then place out others) (part_then place other others)
-  then_alike rs qs place (Refusing r) other others alike rest = ap (λ o. part_then place o others) alike
-  then_alike rs qs place (Changing r n e) other others alike rest =
-      subst (λ o. PartsAlike rs qs (with_part r e (others n e)) (part_then place o others)) (sym alike.2)
+      → PartsAlike rs qs (part_then number out others) (part_then number other others)
+  then_alike rs qs number (Refusing r) other others alike rest = ap (λ o. part_then number o others) alike
+  then_alike rs qs number (Changing r n e) other others alike rest =
+      subst (λ o. PartsAlike rs qs (with_part r e (others n e)) (part_then number o others)) (sym alike.2)
       (part_alike rs qs alike.0 r e (others n e) (others (w (qs ++ alike.0) n) e) (rest alike.0 n e alike.1))
 
   more_alike : (rs qs added : List Sheet) → length rs ≡ length qs → length (rs ++ added) ≡ length (qs ++ added)
   more_alike rs qs added same = length-append rs added ∙ ap (λ n. n + length added) same ∙ sym (length-append qs added)
 
-  parts_alike : (rs qs : List Sheet) (place : ℕ) (net : Net) (book : SpnBook) (parts : List Action) → list_any is_retire parts ≡ false → length rs ≡ length qs
-      → PartsAlike rs qs (parts_done team name place (Some (w rs net)) book parts) (parts_done team name place (Some (w qs net)) book parts)
-  parts_alike rs qs place net book [] none same = ([], sym (append-nil rs), ap (λ l. AllDone [] (Some (w l net)) no_entries) (sym (append-nil qs)))
-  parts_alike rs qs place net book (a ∷ parts) none same =
+  parts_alike : (rs qs : List Sheet) (number : ℕ) (net : Net) (book : SpnBook) (parts : List Action) → list_any is_retire parts ≡ false → length rs ≡ length qs
+      → PartsAlike rs qs (parts_done team name number (Some (w rs net)) book parts) (parts_done team name number (Some (w qs net)) book parts)
+  parts_alike rs qs number net book [] none same = ([], sym (append-nil rs), ap (λ l. AllDone [] (Some (w l net)) no_entries) (sym (append-nil qs)))
+  parts_alike rs qs number net book (a ∷ parts) none same =
       let both = or_parts (is_retire a) (list_any is_retire parts) none in
-      then_alike rs qs place (acted team name (Some (w rs net)) book a) (acted team name (Some (w qs net)) book a) (λ n e. parts_done team name (place + 1) (Some n) (entered book e) parts)
+      then_alike rs qs number (acted team name (Some (w rs net)) book a) (acted team name (Some (w qs net)) book a) (λ n e. parts_done team name (number + 1) (Some n) (entered book e) parts)
       (acted_alike rs qs net book a both.0 same)
       (λ added n e are. (
-      subst (λ l. PartsAlike (rs ++ added) (qs ++ added) (parts_done team name (place + 1) (Some (w l n)) (entered book e) parts) (parts_done team name (place + 1) (Some (w (qs ++ added) n)) (entered book e) parts)) (sym are)
-      (parts_alike (rs ++ added) (qs ++ added) (place + 1) n (entered book e) parts both.1 (more_alike rs qs added same))))
+      subst (λ l. PartsAlike (rs ++ added) (qs ++ added) (parts_done team name (number + 1) (Some (w l n)) (entered book e) parts) (parts_done team name (number + 1) (Some (w (qs ++ added) n)) (entered book e) parts)) (sym are)
+      (parts_alike (rs ++ added) (qs ++ added) (number + 1) n (entered book e) parts both.1 (more_alike rs qs added same))))
 
   bundle_alike : (rs qs : List Sheet) (p q : PartsOutcome) → PartsAlike rs qs p q → Alike rs qs (bundle_outcome p) (bundle_outcome q)
-  bundle_alike rs qs (RefusedAt place r) q alike = ap bundle_outcome alike
+  bundle_alike rs qs (RefusedAt number r) q alike = ap bundle_outcome alike
   bundle_alike rs qs (AllDone replies None e) q alike = ap bundle_outcome alike
   bundle_alike rs qs (AllDone replies (Some n) e) q alike = (alike.0, alike.1, ap bundle_outcome alike.2)
 

@@ -170,31 +170,31 @@ module _ (rs : List Sheet) where
   -- the parts of a bundle
 
   abbrev parts_with : PartsOutcome → PartsOutcome
-  parts_with (RefusedAt place r) = RefusedAt place r
+  parts_with (RefusedAt number r) = RefusedAt number r
   parts_with (AllDone replies None e) = AllDone replies None e
   parts_with (AllDone replies (Some net) e) = AllDone replies (Some (w net)) e
 
   part_with : (r : Reply) (e : Entries) (p : PartsOutcome) → with_part r e (parts_with p) ≡ parts_with (with_part r e p)
-  part_with r e (RefusedAt place refusal) = refl
+  part_with r e (RefusedAt number refusal) = refl
   part_with r e (AllDone replies None f) = refl
   part_with r e (AllDone replies (Some net) f) = refl
 
-  then_with : (place : ℕ) (out : Outcome) (others : Net → Entries → PartsOutcome) → ((n : Net) (e : Entries) → others (w n) e ≡ parts_with (others n e))
-      → part_then place (outcome_with rs out) others ≡ parts_with (part_then place out others)
-  then_with place (Refusing r) others same = refl
-  then_with place (Changing r n e) others same = ap (with_part r e) (same n e) ∙ part_with r e (others n e)
+  then_with : (number : ℕ) (out : Outcome) (others : Net → Entries → PartsOutcome) → ((n : Net) (e : Entries) → others (w n) e ≡ parts_with (others n e))
+      → part_then number (outcome_with rs out) others ≡ parts_with (part_then number out others)
+  then_with number (Refusing r) others same = refl
+  then_with number (Changing r n e) others same = ap (with_part r e) (same n e) ∙ part_with r e (others n e)
 
-  all_parts_with : (team name : List ℕ) (place : ℕ) (net : Net) (book : SpnBook) (parts : List Action) → list_any action_reads_releases parts ≡ false
-      → parts_done team name place (Some (w net)) book parts ≡ parts_with (parts_done team name place (Some net) book parts)
-  all_parts_with team name place net book [] none = refl
-  all_parts_with team name place net book (a ∷ parts) none =
+  all_parts_with : (team name : List ℕ) (number : ℕ) (net : Net) (book : SpnBook) (parts : List Action) → list_any action_reads_releases parts ≡ false
+      → parts_done team name number (Some (w net)) book parts ≡ parts_with (parts_done team name number (Some net) book parts)
+  all_parts_with team name number net book [] none = refl
+  all_parts_with team name number net book (a ∷ parts) none =
       let both = or_parts (action_reads_releases a) (list_any action_reads_releases parts) none in
-      ap (λ out. part_then place out (λ n e. parts_done team name (place + 1) (Some n) (entered book e) parts)) (act_with team name net book a both.0)
-      ∙ then_with place (acted team name (Some net) book a) (λ n e. parts_done team name (place + 1) (Some n) (entered book e) parts)
-      (λ n e. all_parts_with team name (place + 1) n (entered book e) parts both.1)
+      ap (λ out. part_then number out (λ n e. parts_done team name (number + 1) (Some n) (entered book e) parts)) (act_with team name net book a both.0)
+      ∙ then_with number (acted team name (Some net) book a) (λ n e. parts_done team name (number + 1) (Some n) (entered book e) parts)
+      (λ n e. all_parts_with team name (number + 1) n (entered book e) parts both.1)
 
   bundle_with : (p : PartsOutcome) → bundle_outcome (parts_with p) ≡ outcome_with rs (bundle_outcome p)
-  bundle_with (RefusedAt place r) = refl
+  bundle_with (RefusedAt number r) = refl
   bundle_with (AllDone replies None e) = refl
   bundle_with (AllDone replies (Some net) e) = refl
 

@@ -18,28 +18,28 @@ use Rattle.office_law.proofs.Passing.{Leaves}
 
 -- what all parts leave is so; where one is refused nothing is left
 abbrev pub LeavesAll : (List PartReply → Option Net → Entries → Type 0) → PartsOutcome → Type 0
-LeavesAll P (RefusedAt place r) = Unit {0}
+LeavesAll P (RefusedAt number r) = Unit {0}
 LeavesAll P (AllDone replies net e) = P replies net e
 
 pub leaves_all_weaker : (P Q : List PartReply → Option Net → Entries → Type 0) → ((rs : List PartReply) (net : Option Net) (e : Entries) → P rs net e → Q rs net e)
     → (out : PartsOutcome) → LeavesAll P out → LeavesAll Q out
-leaves_all_weaker P Q h (RefusedAt place r) p = tt
+leaves_all_weaker P Q h (RefusedAt number r) p = tt
 leaves_all_weaker P Q h (AllDone rs net e) p = h rs net e p
 
 -- a part before the others
 pub leaves_with : (r : Reply) (e : Entries) (P Q : List PartReply → Option Net → Entries → Type 0)
     → ((rs : List PartReply) (net : Option Net) (f : Entries) → P rs net f → Q (part_reply r ∷ rs) net (both_entries e f))
     → (out : PartsOutcome) → LeavesAll P out → LeavesAll Q (with_part r e out)
-leaves_with r e P Q h (RefusedAt place q) p = tt
+leaves_with r e P Q h (RefusedAt number q) p = tt
 leaves_with r e P Q h (AllDone rs net f) p = h rs net f p
 
-pub leaves_then : (P : Reply → Net → Entries → Type 0) (Q : List PartReply → Option Net → Entries → Type 0) (place : ℕ) (out : Outcome) (others : Net → Entries → PartsOutcome)
-    → Leaves P out → ((r : Reply) (n : Net) (e : Entries) → P r n e → LeavesAll Q (with_part r e (others n e))) → LeavesAll Q (part_then place out others)
-leaves_then P Q place (Refusing r) others p h = tt
-leaves_then P Q place (Changing r n e) others p h = h r n e p
+pub leaves_then : (P : Reply → Net → Entries → Type 0) (Q : List PartReply → Option Net → Entries → Type 0) (number : ℕ) (out : Outcome) (others : Net → Entries → PartsOutcome)
+    → Leaves P out → ((r : Reply) (n : Net) (e : Entries) → P r n e → LeavesAll Q (with_part r e (others n e))) → LeavesAll Q (part_then number out others)
+leaves_then P Q number (Refusing r) others p h = tt
+leaves_then P Q number (Changing r n e) others p h = h r n e p
 
 pub leaves_bundle : (P : Reply → Net → Entries → Type 0) (out : PartsOutcome) → LeavesAll (λ rs net e. IfSome net (λ n. P (Bundle rs) n e)) out → Leaves P (bundle_outcome out)
-leaves_bundle P (RefusedAt place r) h = tt
+leaves_bundle P (RefusedAt number r) h = tt
 leaves_bundle P (AllDone rs (Some n) e) h = h
 leaves_bundle P (AllDone rs None e) h = tt
 

@@ -48,7 +48,7 @@ module _ {A : Type 0} (key : A → ℕ) (x : A) where
       ap (λ r. is_lt r && are_above (on key nat_cmp) x ys) (sym (nat_cmp_is (key x) (key y) Less (h y (Contains-first y ys))))
       ∙ are_all_above ys (λ m c. h m (Contains-later y m ys c))
 
-  -- what the place of x says where one of its number is there
+  -- what the rank of x says where one of its number is there
   by_rank : (r : Ordering) (y m : A) (ys : List A) → nat_cmp (key x) (key y) ≡ r → IsStrictlySortedBy (on key nat_cmp) (y ∷ ys) → (m ≡ y) ⊎ Contains ys m → key m ≡ key x
       → are_above (on key nat_cmp) x ys ≡ false → (Contains ys m → put (on key nat_cmp) x ys ≡ map in_place ys) → y ∷ put (on key nat_cmp) x ys ≡ map in_place (y ∷ ys)
   by_rank Less y m ys e sorted c same late later = absurd (

@@ -26,8 +26,8 @@ bundle_of name parts = record { net = name; task = task.Bundle parts }
 abbrev pub requests_of : Profile → List ℕ → List ℕ → List Action → List Asking
 requests_of profile team name parts = map (λ a. (profile, team, command_of name a)) parts
 
--- The earlier parts run, and then this one is refused so. The refusal of the bundle has its place, from 1, and the
--- number of its refusal.
+-- The earlier parts run, and then this one is refused so. The refusal of the bundle has the part's number, from 1,
+-- and the number of the part's refusal.
 pub record IsPartRefused (profile : Profile) (before : Office) (team name : List ℕ) (parts : List Action) (refusal : Refusal) : Type 0 where
   pub earlier : List Action
   pub part : Action

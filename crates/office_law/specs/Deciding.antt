@@ -40,7 +40,7 @@ action_tests team name net book act.Release = release_tests team net
 
 -- The tests of a bundle: it is refused where one of its parts is.
 abbrev pub bundle_tests : PartsOutcome → List (Test Refusal)
-bundle_tests (RefusedAt place r) = when true (no.BundleRefused (refused_part place r)) ∷ []
+bundle_tests (RefusedAt number r) = when true (no.BundleRefused (refused_part number r)) ∷ []
 bundle_tests (AllDone replies (Some net) e) = []
 bundle_tests (AllDone replies None e) = when true no.NoNet ∷ []
 

@@ -28,7 +28,7 @@ use Rattle.office_tables.specs.Selected.{IsSelected}
 use Rattle.office_tables.proofs.Columns.{cast_null, column_is}
 use Rattle.office_tables.proofs.Changing.{appends, makes, removes}
 use Rattle.office_tables.proofs.Keeping.{plain_in}
-use Rattle.office_tables.proofs.Places.{approval, approval_placed, approval_only}
+use Rattle.office_tables.proofs.TableIndices.{approval, approval_there, approval_only}
 use Rattle.office_tables.proofs.Selecting.{query}
 use Rattle.office_tables.proofs.Finding.{ascending, Asks, Means, finds}
 use Rattle.office_rows.specs.Rows.{approval_row, has_two_texts, is_of_net}
@@ -57,7 +57,7 @@ put net team db = rw cast_null refl
 pub inserts : (net : List ℕ) (team : List ℕ) (old new : State) (r : Result ℕ Error) → IsOffice old.now → (old.in_transaction ≡ false → r ≡ Err (SqliteFailure TransactionState)) → (IsTrue old.in_transaction → ExecutesInside 0 insert_text (approval_row net team) old new r)
     → IfOk r (λ rows. Makes (λ t. record t { approval = t.approval ++ approval_row net team ∷ [] }) old new × (rows ≡ 1))
 unfolding office_schema
-inserts net team old new r office ended ran = makes insert_text (approval_row net team) _ 1 old new r (appends 6 approval approval_placed approval_only insert_text (approval_row net team) insert_terms 3 insert_is insert_plain (approval_row net team) refl (λ db. refl) (λ db shaped. put net team db) old new office) ended ran
+inserts net team old new r office ended ran = makes insert_text (approval_row net team) _ 1 old new r (appends 6 approval approval_there approval_only insert_text (approval_row net team) insert_terms 3 insert_is insert_plain (approval_row net team) refl (λ db. refl) (λ db shaped. put net team db) old new office) ended ran
 
 -- ---- delete_approval
 
@@ -77,7 +77,7 @@ pub delete_approvals : (net : List ℕ) (team : List ℕ) (old new : State) (r :
 unfolding office_schema
 delete_approvals net team old new r office ended ran =
     makes delete_approval_text (Text net ∷ Text team ∷ []) _ _ old new r
-    (removes 6 approval approval_placed approval_only delete_approval_text (Text net ∷ Text team ∷ []) two_tests (delete_approval_is (Text net ∷ Text team ∷ [])) delete_approval_plain (has_two_texts net team) (texts_requested net team) approval_placed old new office) ended ran
+    (removes 6 approval approval_there approval_only delete_approval_text (Text net ∷ Text team ∷ []) two_tests (delete_approval_is (Text net ∷ Text team ∷ [])) delete_approval_plain (has_two_texts net team) (texts_requested net team) approval_there old new office) ended ran
 
 -- ---- delete_approvals
 
@@ -97,7 +97,7 @@ pub delete_approvalss : (net : List ℕ) (old new : State) (r : Result ℕ Error
 unfolding office_schema
 delete_approvalss net old new r office ended ran =
     makes delete_approvals_text (Text net ∷ []) _ _ old new r
-    (removes 6 approval approval_placed approval_only delete_approvals_text (Text net ∷ []) one_test (delete_approvals_is (Text net ∷ [])) delete_approvals_plain (is_of_net net) (net_requested net) approval_placed old new office) ended ran
+    (removes 6 approval approval_there approval_only delete_approvals_text (Text net ∷ []) one_test (delete_approvals_is (Text net ∷ [])) delete_approvals_plain (is_of_net net) (net_requested net) approval_there old new office) ended ran
 
 -- ---- select_approvals
 

@@ -29,7 +29,7 @@ use Rattle.office_tables.specs.Selected.{IsSelected}
 use Rattle.office_tables.proofs.Columns.{cast_null, cast_number, column_is}
 use Rattle.office_tables.proofs.Changing.{appends, makes, removes}
 use Rattle.office_tables.proofs.Keeping.{plain_in}
-use Rattle.office_tables.proofs.Places.{block, block_placed, block_only}
+use Rattle.office_tables.proofs.TableIndices.{block, block_there, block_only}
 use Rattle.office_tables.proofs.Selecting.{query}
 use Rattle.office_tables.proofs.Finding.{ascending, Asks, Means, finds}
 use Rattle.office_rows.specs.declared.row.BlockRow.{BlockRow}
@@ -59,7 +59,7 @@ put row db = rw (cast_null, cast_number row.form, cast_number row.first, cast_nu
 pub inserts : (row : BlockRow) (old new : State) (r : Result ℕ Error) → IsOffice old.now → (old.in_transaction ≡ false → r ≡ Err (SqliteFailure TransactionState)) → (IsTrue old.in_transaction → ExecutesInside 0 insert_text (block_row row) old new r)
     → IfOk r (λ rows. Makes (λ t. record t { block = t.block ++ block_row row ∷ [] }) old new × (rows ≡ 1))
 unfolding office_schema
-inserts row old new r office ended ran = makes insert_text (block_row row) _ 1 old new r (appends 3 block block_placed block_only insert_text (block_row row) insert_terms 6 insert_is insert_plain (block_row row) refl (λ db. refl) (λ db shaped. put row db) old new office) ended ran
+inserts row old new r office ended ran = makes insert_text (block_row row) _ 1 old new r (appends 3 block block_there block_only insert_text (block_row row) insert_terms 6 insert_is insert_plain (block_row row) refl (λ db. refl) (λ db shaped. put row db) old new office) ended ran
 
 -- ---- delete_block
 
@@ -79,7 +79,7 @@ pub delete_blocks : (net : List ℕ) (form : ℕ) (first : ℕ) (old new : State
 unfolding office_schema
 delete_blocks net form first old new r office ended ran =
     makes delete_block_text (Text net ∷ Int (pos form) ∷ Int (pos first) ∷ []) _ _ old new r
-    (removes 3 block block_placed block_only delete_block_text (Text net ∷ Int (pos form) ∷ Int (pos first) ∷ []) three_tests (delete_block_is (Text net ∷ Int (pos form) ∷ Int (pos first) ∷ [])) delete_block_plain (is_block net form first) (block_requested net form first) block_placed old new office) ended ran
+    (removes 3 block block_there block_only delete_block_text (Text net ∷ Int (pos form) ∷ Int (pos first) ∷ []) three_tests (delete_block_is (Text net ∷ Int (pos form) ∷ Int (pos first) ∷ [])) delete_block_plain (is_block net form first) (block_requested net form first) block_there old new office) ended ran
 
 -- ---- select_blocks
 

@@ -1,11 +1,11 @@
 -- Worked examples, computed from the definitions.
-use Rattle.std.proofs.Common.{◌≡◌, [], ◌∷◌, pos, filter, map, not, codes, true, false, refl}
+use Rattle.std.proofs.Common.{◌≡◌, [], ◌∷◌, pos, negsuc, filter, map, not, codes, true, false, refl}
 use Rattle.std.specs.declared.cmp.Ordering.TheVariants.{Less, Greater}
-use Rattle.sqlite.specs.declared.types.Value.TheVariants.{Int, Text}
+use Rattle.sqlite.specs.declared.types.Value.TheVariants.{Null, Int, Text}
 use Rattle.sqlite.specs.Tree.{put_row}
 use Rattle.sqlite_value.specs.Order.{value_cmp}
 use lib.Ieee
-use Rattle.office_rows.specs.Rows.{approval_row, held_row, spn_row, is_of_net, has_net_and_number, has_two_texts, is_number}
+use Rattle.office_rows.specs.Rows.{approval_row, held_row, spn_row, is_of_net, has_net_and_number, has_rowid_above, has_rowid_below, has_two_texts, is_number}
 use Rattle.office_rows.specs.Shown.{held_shown, blocks_order, net_names_order}
 
 -- the held numbers of one network
@@ -29,6 +29,15 @@ without_truck = refl
 one_approval : map (has_two_texts (codes "truck") (codes "brake")) (approval_row (codes "truck") (codes "brake") ∷ approval_row (codes "brake") (codes "truck") ∷ []) ≡ true ∷ false ∷ []
 unfolding value_cmp lib.Ieee.is_nan lib.Ieee.lt
 one_approval = refl
+
+-- rows of a tree, which begin with their rowids
+above_two : map (has_rowid_above 2) ((Int (pos 2) ∷ []) ∷ (Int (pos 3) ∷ []) ∷ []) ≡ false ∷ true ∷ []
+unfolding value_cmp lib.Ieee.is_nan lib.Ieee.lt
+above_two = refl
+
+below_one : map (has_rowid_below 1) ((Int (negsuc 0) ∷ []) ∷ (Int (pos 0) ∷ []) ∷ (Int (pos 1) ∷ []) ∷ (Null ∷ []) ∷ []) ≡ true ∷ true ∷ false ∷ false ∷ []
+unfolding value_cmp lib.Ieee.is_nan lib.Ieee.lt
+below_one = refl
 
 -- a used number comes in its place, and the same number again stays one row
 used : put_row (spn_row 500) (spn_row 84 ∷ spn_row 520 ∷ []) ≡ spn_row 84 ∷ spn_row 500 ∷ spn_row 520 ∷ []

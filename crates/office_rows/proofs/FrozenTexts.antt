@@ -28,7 +28,7 @@ use Rattle.office_tables.specs.Selected.{IsSelected}
 use Rattle.office_tables.proofs.Columns.{cast_null, cast_number, column_is}
 use Rattle.office_tables.proofs.Changing.{appends, makes}
 use Rattle.office_tables.proofs.Keeping.{plain_in}
-use Rattle.office_tables.proofs.Places.{frozen, frozen_placed, frozen_only}
+use Rattle.office_tables.proofs.TableIndices.{frozen, frozen_there, frozen_only}
 use Rattle.office_tables.proofs.Finding.{ascending, Asks, Means, finds}
 use Rattle.office_rows.specs.declared.row.FrozenRow.{FrozenRow}
 use Rattle.office_rows.specs.Rows.{frozen_row, has_net_and_number, is_of_net}
@@ -57,7 +57,7 @@ put row db = rw (cast_null, cast_number row.number) refl
 pub inserts : (row : FrozenRow) (old new : State) (r : Result ℕ Error) → IsOffice old.now → (old.in_transaction ≡ false → r ≡ Err (SqliteFailure TransactionState)) → (IsTrue old.in_transaction → ExecutesInside 0 insert_text (frozen_row row) old new r)
     → IfOk r (λ rows. Makes (λ t. record t { frozen = t.frozen ++ frozen_row row ∷ [] }) old new × (rows ≡ 1))
 unfolding office_schema
-inserts row old new r office ended ran = makes insert_text (frozen_row row) _ 1 old new r (appends 7 frozen frozen_placed frozen_only insert_text (frozen_row row) insert_terms 4 insert_is insert_plain (frozen_row row) refl (λ db. refl) (λ db shaped. put row db) old new office) ended ran
+inserts row old new r office ended ran = makes insert_text (frozen_row row) _ 1 old new r (appends 7 frozen frozen_there frozen_only insert_text (frozen_row row) insert_terms 4 insert_is insert_plain (frozen_row row) refl (λ db. refl) (λ db shaped. put row db) old new office) ended ran
 
 -- ---- select_releases
 

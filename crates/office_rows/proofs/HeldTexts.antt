@@ -28,7 +28,7 @@ use Rattle.office_tables.specs.Selected.{IsSelected}
 use Rattle.office_tables.proofs.Columns.{cast_null, cast_number, column_is}
 use Rattle.office_tables.proofs.Changing.{appends, makes, removes}
 use Rattle.office_tables.proofs.Keeping.{plain_in}
-use Rattle.office_tables.proofs.Places.{held, held_placed, held_only}
+use Rattle.office_tables.proofs.TableIndices.{held, held_there, held_only}
 use Rattle.office_tables.proofs.Selecting.{query}
 use Rattle.office_tables.proofs.Finding.{ascending, Asks, Means, finds}
 use Rattle.office_rows.specs.Rows.{has_net_and_number, held_row, is_of_net}
@@ -57,7 +57,7 @@ put net number db = rw (cast_null, cast_number number) refl
 pub inserts : (net : List ℕ) (number : ℕ) (old new : State) (r : Result ℕ Error) → IsOffice old.now → (old.in_transaction ≡ false → r ≡ Err (SqliteFailure TransactionState)) → (IsTrue old.in_transaction → ExecutesInside 0 insert_text (held_row net number) old new r)
     → IfOk r (λ rows. Makes (λ t. record t { held = t.held ++ held_row net number ∷ [] }) old new × (rows ≡ 1))
 unfolding office_schema
-inserts net number old new r office ended ran = makes insert_text (held_row net number) _ 1 old new r (appends 4 held held_placed held_only insert_text (held_row net number) insert_terms 3 insert_is insert_plain (held_row net number) refl (λ db. refl) (λ db shaped. put net number db) old new office) ended ran
+inserts net number old new r office ended ran = makes insert_text (held_row net number) _ 1 old new r (appends 4 held held_there held_only insert_text (held_row net number) insert_terms 3 insert_is insert_plain (held_row net number) refl (λ db. refl) (λ db shaped. put net number db) old new office) ended ran
 
 -- ---- delete_held
 
@@ -77,7 +77,7 @@ pub delete_helds : (net : List ℕ) (number : ℕ) (old new : State) (r : Result
 unfolding office_schema
 delete_helds net number old new r office ended ran =
     makes delete_held_text (Text net ∷ Int (pos number) ∷ []) _ _ old new r
-    (removes 4 held held_placed held_only delete_held_text (Text net ∷ Int (pos number) ∷ []) two_tests (delete_held_is (Text net ∷ Int (pos number) ∷ [])) delete_held_plain (has_net_and_number net number) (numbered_requested net number) held_placed old new office) ended ran
+    (removes 4 held held_there held_only delete_held_text (Text net ∷ Int (pos number) ∷ []) two_tests (delete_held_is (Text net ∷ Int (pos number) ∷ [])) delete_held_plain (has_net_and_number net number) (numbered_requested net number) held_there old new office) ended ran
 
 -- ---- select_held
 

@@ -28,7 +28,7 @@ use Rattle.office_tables.specs.Selected.{IsSelected}
 use Rattle.office_tables.proofs.Columns.{cast_null, cast_number, column_is}
 use Rattle.office_tables.proofs.Changing.{appends, makes, removes}
 use Rattle.office_tables.proofs.Keeping.{plain_in}
-use Rattle.office_tables.proofs.Places.{message, message_placed, message_only}
+use Rattle.office_tables.proofs.TableIndices.{message, message_there, message_only}
 use Rattle.office_tables.proofs.Selecting.{query}
 use Rattle.office_tables.proofs.Finding.{ascending, Asks, Means, finds}
 use Rattle.office_rows.specs.declared.row.MessageRow.{MessageRow}
@@ -58,7 +58,7 @@ put row db = rw (cast_null, cast_number row.number) refl
 pub inserts : (row : MessageRow) (old new : State) (r : Result ℕ Error) → IsOffice old.now → (old.in_transaction ≡ false → r ≡ Err (SqliteFailure TransactionState)) → (IsTrue old.in_transaction → ExecutesInside 0 insert_text (message_row row) old new r)
     → IfOk r (λ rows. Makes (λ t. record t { message = t.message ++ message_row row ∷ [] }) old new × (rows ≡ 1))
 unfolding office_schema
-inserts row old new r office ended ran = makes insert_text (message_row row) _ 1 old new r (appends 2 message message_placed message_only insert_text (message_row row) insert_terms 6 insert_is insert_plain (message_row row) refl (λ db. refl) (λ db shaped. put row db) old new office) ended ran
+inserts row old new r office ended ran = makes insert_text (message_row row) _ 1 old new r (appends 2 message message_there message_only insert_text (message_row row) insert_terms 6 insert_is insert_plain (message_row row) refl (λ db. refl) (λ db shaped. put row db) old new office) ended ran
 
 -- ---- delete_message
 
@@ -78,7 +78,7 @@ pub delete_messages : (net : List ℕ) (number : ℕ) (old new : State) (r : Res
 unfolding office_schema
 delete_messages net number old new r office ended ran =
     makes delete_message_text (Text net ∷ Int (pos number) ∷ []) _ _ old new r
-    (removes 2 message message_placed message_only delete_message_text (Text net ∷ Int (pos number) ∷ []) two_tests (delete_message_is (Text net ∷ Int (pos number) ∷ [])) delete_message_plain (has_net_and_number net number) (numbered_requested net number) message_placed old new office) ended ran
+    (removes 2 message message_there message_only delete_message_text (Text net ∷ Int (pos number) ∷ []) two_tests (delete_message_is (Text net ∷ Int (pos number) ∷ [])) delete_message_plain (has_net_and_number net number) (numbered_requested net number) message_there old new office) ended ran
 
 -- ---- clear_messages
 
@@ -102,7 +102,7 @@ clears old new r office ended ran = makes clear_messages_text [] _ _ old new r d
         → IsOffice new.now × (tables_of new.now.trees ≡ record (tables_of old.now.trees) { message = [] }) × (count ≡ length (tables_of old.now.trees).message)
     does count h =
         let rows = (tables_of old.now.trees).message in
-        let it = removes 2 message message_placed message_only clear_messages_text [] [] clear_messages_is clear_messages_plain is_any (λ r. refl) message_placed old new office count h in
+        let it = removes 2 message message_there message_only clear_messages_text [] [] clear_messages_is clear_messages_plain is_any (λ r. refl) message_there old new office count h in
         (it.0, it.1 ∙ ap (λ (l : List Row). record (tables_of old.now.trees) { message = l }) (none_left rows), it.2 ∙ ap (λ l. length l) (all_wanted rows))
 
 -- ---- select_messages

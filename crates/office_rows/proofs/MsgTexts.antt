@@ -1,6 +1,6 @@
 -- What the texts on `msg` make of it, and show of it.
 use Rattle.std.proofs.Common.{◌≡◌, ℕ, pos, List, [], ◌∷◌, ◌++◌, codes, false, not, Err, Result, refl, ◌∙◌}
-use Rattle.std.specs.Prelude.{IfOk, IsTrue, filter, length}
+use Rattle.std.specs.Prelude.{IfOk, IsTrue, filter, length, min}
 use Rattle.sqlite.specs.declared.types.Value.TheVariants.{Null, Int, Text}
 use Rattle.sqlite.specs.declared.error.Error.{Error}
 use Rattle.sqlite.specs.declared.error.Error.TheVariants.{SqliteFailure}
@@ -28,14 +28,14 @@ use Rattle.office_tables.specs.Selected.{IsSelected}
 use Rattle.office_tables.proofs.Columns.{cast_null, cast_number, column_is}
 use Rattle.office_tables.proofs.Changing.{appends, makes, removes}
 use Rattle.office_tables.proofs.Keeping.{plain_in}
-use Rattle.office_tables.proofs.Places.{msg, msg_placed, msg_only}
+use Rattle.office_tables.proofs.TableIndices.{msg, msg_there, msg_only}
 use Rattle.office_tables.proofs.Selecting.{query}
 use Rattle.office_tables.proofs.Finding.{ascending, Asks, Means, finds}
 use Rattle.office_rows.specs.declared.row.MsgRow.{MsgRow}
-use Rattle.office_rows.specs.Rows.{has_net_and_name, has_net_and_number, has_number_between, is_of_net, msg_row}
+use Rattle.office_rows.specs.Rows.{has_net_and_name, has_net_and_number, has_number_between, has_rowid_above, has_rowid_below, is_of_net, msg_row}
 use Rattle.office_rows.specs.Shown.{msg_numbers_order, msg_numbers_shown, msg_named_order, msgs_order, msg_named_shown, msgs_shown}
-use Rattle.office_rows.proofs.Requested.{named_requested, net_requested, numbered_requested, name_tests, one_test, two_tests, range_requested, range_tests}
-use Rattle.office_tables.proofs.Counting.{AsksCount, counts}
+use Rattle.office_rows.proofs.Requested.{above_requested, above_test, below_requested, below_test, named_requested, net_requested, numbered_requested, name_tests, one_test, two_tests, range_requested, range_tests}
+use Rattle.office_tables.proofs.Counting.{AsksCount, AsksFirst, counts, shows_first}
 use Rattle.sqlite_sql.specs.Aggregate.{count}
 
 -- ---- insert_msg
@@ -60,7 +60,7 @@ put row db = rw (cast_null, cast_number row.number, cast_number row.length) refl
 pub inserts : (row : MsgRow) (old new : State) (r : Result ℕ Error) → IsOffice old.now → (old.in_transaction ≡ false → r ≡ Err (SqliteFailure TransactionState)) → (IsTrue old.in_transaction → ExecutesInside 0 insert_text (msg_row row) old new r)
     → IfOk r (λ rows. Makes (λ t. record t { msg = t.msg ++ msg_row row ∷ [] }) old new × (rows ≡ 1))
 unfolding office_schema
-inserts row old new r office ended ran = makes insert_text (msg_row row) _ 1 old new r (appends 9 msg msg_placed msg_only insert_text (msg_row row) insert_terms 8 insert_is insert_plain (msg_row row) refl (λ db. refl) (λ db shaped. put row db) old new office) ended ran
+inserts row old new r office ended ran = makes insert_text (msg_row row) _ 1 old new r (appends 9 msg msg_there msg_only insert_text (msg_row row) insert_terms 8 insert_is insert_plain (msg_row row) refl (λ db. refl) (λ db shaped. put row db) old new office) ended ran
 
 -- ---- delete_msgs
 
@@ -80,7 +80,7 @@ pub deletes : (net : List ℕ) (number : ℕ) (old new : State) (r : Result ℕ 
 unfolding office_schema
 deletes net number old new r office ended ran =
     makes delete_text (Text net ∷ Int (pos number) ∷ []) _ _ old new r
-    (removes 9 msg msg_placed msg_only delete_text (Text net ∷ Int (pos number) ∷ []) two_tests (delete_is (Text net ∷ Int (pos number) ∷ [])) delete_plain (has_net_and_number net number) (numbered_requested net number) msg_placed old new office) ended ran
+    (removes 9 msg msg_there msg_only delete_text (Text net ∷ Int (pos number) ∷ []) two_tests (delete_is (Text net ∷ Int (pos number) ∷ [])) delete_plain (has_net_and_number net number) (numbered_requested net number) msg_there old new office) ended ran
 
 -- ---- select_msg_named
 
@@ -155,6 +155,38 @@ counted_msgs rows_of net = counts count_text 17 one_test (Text net ∷ []) (coun
 
 pub count_plain : (s : Schema) → s ≡ office_schema → IsPlain (understood s count_text)
 count_plain = plain_in count_text (count_asks []).plain
+
+-- ---- select_msg_above, select_msg_below
+
+abbrev pub above_text : List ℕ
+above_text = codes "SELECT number FROM msg WHERE rowid > ?1 LIMIT 1"
+
+above_asks : (params : Row) → AsksFirst above_text 17 above_test (col 1 2 ∷ []) (codes "number" ∷ []) params
+unfolding understood everything office_schema
+above_asks params = record { command = refl; listing = refl; plain = (refl, refl) }
+
+pub above_found : {X : Type 0} (rows_of : X → List Row) (number : ℕ) (old new : State) (r : Result X Error) → old.now.schema ≡ office_schema
+    → IfOk r (λ x. Shown above_text (Int (pos number) ∷ []) old new (rows_of x)) → IfOk r (λ x. length (rows_of x) ≡ min 1 (length (filter (has_rowid_above number) (old.now.trees 17))))
+above_found rows_of number =
+    shows_first above_text 17 above_test (col 1 2 ∷ []) (codes "number" ∷ []) (Int (pos number) ∷ []) (above_asks (Int (pos number) ∷ [])) (has_rowid_above number) (above_requested number) rows_of
+
+pub above_plain : (s : Schema) → s ≡ office_schema → IsPlain (understood s above_text)
+above_plain = plain_in above_text (above_asks []).plain
+
+abbrev pub below_text : List ℕ
+below_text = codes "SELECT number FROM msg WHERE rowid < ?1 LIMIT 1"
+
+below_asks : (params : Row) → AsksFirst below_text 17 below_test (col 1 2 ∷ []) (codes "number" ∷ []) params
+unfolding understood everything office_schema
+below_asks params = record { command = refl; listing = refl; plain = (refl, refl) }
+
+pub below_found : {X : Type 0} (rows_of : X → List Row) (number : ℕ) (old new : State) (r : Result X Error) → old.now.schema ≡ office_schema
+    → IfOk r (λ x. Shown below_text (Int (pos number) ∷ []) old new (rows_of x)) → IfOk r (λ x. length (rows_of x) ≡ min 1 (length (filter (has_rowid_below number) (old.now.trees 17))))
+below_found rows_of number =
+    shows_first below_text 17 below_test (col 1 2 ∷ []) (codes "number" ∷ []) (Int (pos number) ∷ []) (below_asks (Int (pos number) ∷ [])) (has_rowid_below number) (below_requested number) rows_of
+
+pub below_plain : (s : Schema) → s ≡ office_schema → IsPlain (understood s below_text)
+below_plain = plain_in below_text (below_asks []).plain
 
 -- ---- select_msg_numbers
 

@@ -28,7 +28,7 @@ use Rattle.office_tables.specs.Selected.{IsSelected}
 use Rattle.office_tables.proofs.Columns.{cast_null, cast_number, column_is}
 use Rattle.office_tables.proofs.Changing.{appends, makes, removes}
 use Rattle.office_tables.proofs.Keeping.{plain_in}
-use Rattle.office_tables.proofs.Places.{net, net_placed, net_only}
+use Rattle.office_tables.proofs.TableIndices.{net, net_there, net_only}
 use Rattle.office_tables.proofs.Selecting.{query}
 use Rattle.office_tables.proofs.Finding.{ascending, Asks, Means, finds}
 use Rattle.office_rows.specs.declared.row.NetRow.{NetRow}
@@ -58,7 +58,7 @@ put row db = rw (cast_null, cast_number row.kind, cast_number row.reviews, cast_
 pub inserts : (row : NetRow) (old new : State) (r : Result ℕ Error) → IsOffice old.now → (old.in_transaction ≡ false → r ≡ Err (SqliteFailure TransactionState)) → (IsTrue old.in_transaction → ExecutesInside 0 insert_text (net_row row) old new r)
     → IfOk r (λ rows. Makes (λ t. record t { net = t.net ++ net_row row ∷ [] }) old new × (rows ≡ 1))
 unfolding office_schema
-inserts row old new r office ended ran = makes insert_text (net_row row) _ 1 old new r (appends 1 net net_placed net_only insert_text (net_row row) insert_terms 7 insert_is insert_plain (net_row row) refl (λ db. refl) (λ db shaped. put row db) old new office) ended ran
+inserts row old new r office ended ran = makes insert_text (net_row row) _ 1 old new r (appends 1 net net_there net_only insert_text (net_row row) insert_terms 7 insert_is insert_plain (net_row row) refl (λ db. refl) (λ db shaped. put row db) old new office) ended ran
 
 -- ---- delete_net
 
@@ -78,7 +78,7 @@ pub delete_nets : (name : List ℕ) (old new : State) (r : Result ℕ Error) →
 unfolding office_schema
 delete_nets name old new r office ended ran =
     makes delete_net_text (Text name ∷ []) _ _ old new r
-    (removes 1 net net_placed net_only delete_net_text (Text name ∷ []) one_test (delete_net_is (Text name ∷ [])) delete_net_plain (is_of_net name) (net_requested name) net_placed old new office) ended ran
+    (removes 1 net net_there net_only delete_net_text (Text name ∷ []) one_test (delete_net_is (Text name ∷ [])) delete_net_plain (is_of_net name) (net_requested name) net_there old new office) ended ran
 
 -- ---- select_net_names
 

@@ -28,7 +28,7 @@ use Rattle.office_tables.specs.Selected.{IsSelected}
 use Rattle.office_tables.proofs.Columns.{cast_null, cast_number, column_is}
 use Rattle.office_tables.proofs.Changing.{appends, makes}
 use Rattle.office_tables.proofs.Keeping.{plain_in}
-use Rattle.office_tables.proofs.Places.{part, part_placed, part_only}
+use Rattle.office_tables.proofs.TableIndices.{part, part_there, part_only}
 use Rattle.office_tables.proofs.Finding.{ascending, Asks, Means, finds}
 use Rattle.office_rows.specs.declared.row.PartRow.{PartRow}
 use Rattle.office_rows.specs.Rows.{has_two_texts, part_row}
@@ -57,7 +57,7 @@ put row db = rw (cast_null, cast_number row.place, cast_number row.kind, cast_nu
 pub inserts : (row : PartRow) (old new : State) (r : Result ℕ Error) → IsOffice old.now → (old.in_transaction ≡ false → r ≡ Err (SqliteFailure TransactionState)) → (IsTrue old.in_transaction → ExecutesInside 0 insert_text (part_row row) old new r)
     → IfOk r (λ rows. Makes (λ t. record t { part = t.part ++ part_row row ∷ [] }) old new × (rows ≡ 1))
 unfolding office_schema
-inserts row old new r office ended ran = makes insert_text (part_row row) _ 1 old new r (appends 13 part part_placed part_only insert_text (part_row row) insert_terms 7 insert_is insert_plain (part_row row) refl (λ db. refl) (λ db shaped. put row db) old new office) ended ran
+inserts row old new r office ended ran = makes insert_text (part_row row) _ 1 old new r (appends 13 part part_there part_only insert_text (part_row row) insert_terms 7 insert_is insert_plain (part_row row) refl (λ db. refl) (λ db shaped. put row db) old new office) ended ran
 
 -- ---- select_parts
 

@@ -27,7 +27,7 @@ use Rattle.office_tables.specs.Statements.{Makes}
 use Rattle.office_tables.specs.Selected.{IsSelected}
 use Rattle.office_tables.proofs.Columns.{cast_null, cast_number, keyed_column_is}
 use Rattle.office_tables.proofs.Changing.{makes, puts, removes}
-use Rattle.office_tables.proofs.Places.{profile, profile_placed, profile_only}
+use Rattle.office_tables.proofs.TableIndices.{profile, profile_there, profile_only}
 use Rattle.office_tables.proofs.Selecting.{query}
 use Rattle.office_tables.proofs.Finding.{ascending, Asks, Means, finds}
 use Rattle.office_rows.specs.Rows.{is_any, mark_row}
@@ -58,7 +58,7 @@ pub inserts : (one number : ℕ) (old new : State) (r : Result ℕ Error) → Is
 unfolding office_schema
 inserts one number old new r office ended ran =
     makes insert_text (mark_row one number) _ 1 old new r
-    (puts 0 profile profile_placed profile_only insert_text (mark_row one number) insert_terms 3 insert_is insert_plain (pos one) (Int (pos number) ∷ []) refl (λ db. refl) (put one number) old new office) ended ran
+    (puts 0 profile profile_there profile_only insert_text (mark_row one number) insert_terms 3 insert_is insert_plain (pos one) (Int (pos number) ∷ []) refl (λ db. refl) (put one number) old new office) ended ran
 
 -- ---- clear_profile
 
@@ -82,7 +82,7 @@ clears old new r office ended ran = makes clear_text [] _ _ old new r does ended
         → IsOffice new.now × (tables_of new.now.trees ≡ record (tables_of old.now.trees) { profile = [] }) × (count ≡ length (tables_of old.now.trees).profile)
     does count h =
         let rows = (tables_of old.now.trees).profile in
-        let it = removes 0 profile profile_placed profile_only clear_text [] [] clear_is clear_plain is_any (λ r. refl) profile_placed old new office count h in
+        let it = removes 0 profile profile_there profile_only clear_text [] [] clear_is clear_plain is_any (λ r. refl) profile_there old new office count h in
         (it.0, it.1 ∙ ap (λ (l : List Row). record (tables_of old.now.trees) { profile = l }) (none_left rows), it.2 ∙ ap (λ l. length l) (all_wanted rows))
 
 -- ---- select_profile

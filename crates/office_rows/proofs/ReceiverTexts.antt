@@ -29,7 +29,7 @@ use Rattle.office_tables.specs.Selected.{IsSelected}
 use Rattle.office_tables.proofs.Columns.{cast_null, cast_number, column_is}
 use Rattle.office_tables.proofs.Changing.{appends, makes, removes}
 use Rattle.office_tables.proofs.Keeping.{plain_in}
-use Rattle.office_tables.proofs.Places.{receiver, receiver_placed, receiver_only}
+use Rattle.office_tables.proofs.TableIndices.{receiver, receiver_there, receiver_only}
 use Rattle.office_tables.proofs.Selecting.{query}
 use Rattle.office_tables.proofs.Finding.{ascending, Asks, Means, finds}
 use Rattle.office_rows.specs.declared.row.ReceiverRow.{ReceiverRow}
@@ -61,7 +61,7 @@ put row db = rw (cast_null, cast_number row.number, cast_number row.place, cast_
 pub inserts : (row : ReceiverRow) (old new : State) (r : Result ℕ Error) → IsOffice old.now → (old.in_transaction ≡ false → r ≡ Err (SqliteFailure TransactionState)) → (IsTrue old.in_transaction → ExecutesInside 0 insert_text (receiver_row row) old new r)
     → IfOk r (λ rows. Makes (λ t. record t { receiver = t.receiver ++ receiver_row row ∷ [] }) old new × (rows ≡ 1))
 unfolding office_schema
-inserts row old new r office ended ran = makes insert_text (receiver_row row) _ 1 old new r (appends 11 receiver receiver_placed receiver_only insert_text (receiver_row row) insert_terms 6 insert_is insert_plain (receiver_row row) refl (λ db. refl) (λ db shaped. put row db) old new office) ended ran
+inserts row old new r office ended ran = makes insert_text (receiver_row row) _ 1 old new r (appends 11 receiver receiver_there receiver_only insert_text (receiver_row row) insert_terms 6 insert_is insert_plain (receiver_row row) refl (λ db. refl) (λ db shaped. put row db) old new office) ended ran
 
 -- ---- delete_receivers
 
@@ -81,7 +81,7 @@ pub deletes : (net : List ℕ) (number : ℕ) (old new : State) (r : Result ℕ 
 unfolding office_schema
 deletes net number old new r office ended ran =
     makes delete_text (Text net ∷ Int (pos number) ∷ []) _ _ old new r
-    (removes 11 receiver receiver_placed receiver_only delete_text (Text net ∷ Int (pos number) ∷ []) two_tests (delete_is (Text net ∷ Int (pos number) ∷ [])) delete_plain (has_net_and_number net number) (numbered_requested net number) receiver_placed old new office) ended ran
+    (removes 11 receiver receiver_there receiver_only delete_text (Text net ∷ Int (pos number) ∷ []) two_tests (delete_is (Text net ∷ Int (pos number) ∷ [])) delete_plain (has_net_and_number net number) (numbered_requested net number) receiver_there old new office) ended ran
 
 -- ---- delete_receivers_at
 
@@ -101,7 +101,7 @@ pub deletes_at : (net : List ℕ) (number place : ℕ) (old new : State) (r : Re
 unfolding office_schema
 deletes_at net number place old new r office ended ran =
     makes delete_at_text (Text net ∷ Int (pos number) ∷ Int (pos place) ∷ []) _ _ old new r
-    (removes 11 receiver receiver_placed receiver_only delete_at_text (Text net ∷ Int (pos number) ∷ Int (pos place) ∷ []) three_tests (delete_at_is (Text net ∷ Int (pos number) ∷ Int (pos place) ∷ [])) delete_at_plain (has_place_of net number place) (place_requested net number place) receiver_placed old new office) ended ran
+    (removes 11 receiver receiver_there receiver_only delete_at_text (Text net ∷ Int (pos number) ∷ Int (pos place) ∷ []) three_tests (delete_at_is (Text net ∷ Int (pos number) ∷ Int (pos place) ∷ [])) delete_at_plain (has_place_of net number place) (place_requested net number place) receiver_there old new office) ended ran
 
 -- ---- select_receivers
 

@@ -28,7 +28,7 @@ use Rattle.office_tables.specs.Selected.{IsSelected}
 use Rattle.office_tables.proofs.Columns.{cast_null, cast_number, column_is}
 use Rattle.office_tables.proofs.Changing.{appends, makes}
 use Rattle.office_tables.proofs.Keeping.{plain_in}
-use Rattle.office_tables.proofs.Places.{reply, reply_placed, reply_only}
+use Rattle.office_tables.proofs.TableIndices.{reply, reply_there, reply_only}
 use Rattle.office_tables.proofs.Finding.{ascending, Asks, Means, finds}
 use Rattle.office_rows.specs.declared.row.ReplyRow.{ReplyRow}
 use Rattle.office_rows.specs.Rows.{has_two_texts, reply_row}
@@ -57,7 +57,7 @@ put row db = rw (cast_null, cast_number row.kind, cast_number row.a, cast_number
 pub inserts : (row : ReplyRow) (old new : State) (r : Result ℕ Error) → IsOffice old.now → (old.in_transaction ≡ false → r ≡ Err (SqliteFailure TransactionState)) → (IsTrue old.in_transaction → ExecutesInside 0 insert_text (reply_row row) old new r)
     → IfOk r (λ rows. Makes (λ t. record t { reply = t.reply ++ reply_row row ∷ [] }) old new × (rows ≡ 1))
 unfolding office_schema
-inserts row old new r office ended ran = makes insert_text (reply_row row) _ 1 old new r (appends 8 reply reply_placed reply_only insert_text (reply_row row) insert_terms 8 insert_is insert_plain (reply_row row) refl (λ db. refl) (λ db shaped. put row db) old new office) ended ran
+inserts row old new r office ended ran = makes insert_text (reply_row row) _ 1 old new r (appends 8 reply reply_there reply_only insert_text (reply_row row) insert_terms 8 insert_is insert_plain (reply_row row) refl (λ db. refl) (λ db shaped. put row db) old new office) ended ran
 
 -- ---- select_reply
 

@@ -2,7 +2,7 @@
 use Rattle.std.proofs.Common.{◌≡◌, ℕ, pos, List, [], ◌∷◌, refl, ap, sym, ◌∙◌}
 use Rattle.std.specs.List.{list_all}
 use Rattle.std.specs.Prelude.{◌&&◌, filter, not}
-use Rattle.std.specs.Ordering.{is_ge, is_le}
+use Rattle.std.specs.Ordering.{is_ge, is_gt, is_le, is_lt}
 use Rattle.sqlite.specs.Ops.{binary, is_true}
 use Rattle.sqlite_value.proofs.OrderLemmas.{value_cmp-Null}
 use Rattle.sqlite.specs.declared.types.Value.{Value}
@@ -11,15 +11,15 @@ use Rattle.sqlite.specs.Order.{Row, column, value_cmp}
 use Rattle.sqlite.specs.Term.{Term, col, op2, holds}
 use Rattle.sqlite.specs.Collation.TheVariants.{Binary}
 use Rattle.sqlite_sql.specs.declared.ops.BinaryOp.TheVariants.{Compare}
-use Rattle.sqlite_sql.specs.declared.ops.CompareOp.TheVariants.{Eq, Ge, Le}
+use Rattle.sqlite_sql.specs.declared.ops.CompareOp.TheVariants.{Eq, Ge, Gt, Le, Lt}
 use Rattle.office_tables.specs.Tables.{values, keyed_values}
 use Rattle.office_tables.proofs.Selecting.{and_true, truth_of}
 use Rattle.office_tables.proofs.Columns.{column_is, text_requested, number_requested, key_requested}
-use Rattle.office_rows.specs.Rows.{is_of_net, has_net_and_name, has_net_and_number, has_number_between, has_place_of, is_between, is_block, is_of_form, has_two_texts, is_any, is_number}
+use Rattle.office_rows.specs.Rows.{is_of_net, has_net_and_name, has_net_and_number, has_number_between, has_place_of, has_rowid_above, has_rowid_below, is_below, is_between, is_block, is_of_form, has_two_texts, is_any, is_number}
 
--- the column of the table is the parameter of this place
+-- the column of the table is the parameter at this index
 abbrev pub is_parameter : ℕ → ℕ → Term
-is_parameter at place = op2 (Compare Eq Binary) (col 1 at) (col 0 place)
+is_parameter at index = op2 (Compare Eq Binary) (col 1 at) (col 0 index)
 
 abbrev pub one_test : List Term
 one_test = is_parameter 1 0 ∷ []
@@ -92,6 +92,36 @@ range_requested net first last r =
     let a = text_requested 0 net r in
     let b = ap (is_between first last) (column_is r 1) ∙ between_requested first last (column r 2) in
     rw (a, b, and_true (is_true (binary (Compare Le Binary) (column r 2) (Int (pos last))))) refl
+
+-- ---- rowids
+
+abbrev pub above_test : List Term
+above_test = op2 (Compare Gt Binary) (col 1 0) (col 0 0) ∷ []
+
+abbrev pub below_test : List Term
+below_test = op2 (Compare Lt Binary) (col 1 0) (col 0 0) ∷ []
+
+gt_requested : (n : ℕ) (v : Value) → is_gt (value_cmp v (Int (pos n))) ≡ is_true (binary (Compare Gt Binary) v (Int (pos n)))
+unfolding binary
+gt_requested n Null = rw (value_cmp-Null (Int (pos n))) refl
+gt_requested n (Int m) = sym (truth_of (is_gt (value_cmp (Int m) (Int (pos n)))))
+gt_requested n (Real x) = sym (truth_of (is_gt (value_cmp (Real x) (Int (pos n)))))
+gt_requested n (Text s) = sym (truth_of (is_gt (value_cmp (Text s) (Int (pos n)))))
+gt_requested n (Blob b) = sym (truth_of (is_gt (value_cmp (Blob b) (Int (pos n)))))
+
+pub above_requested : (n : ℕ) (r : Row) → has_rowid_above n r ≡ list_all (holds ((Int (pos n) ∷ []) ∷ r ∷ [])) above_test
+above_requested n r = gt_requested n (column r 0) ∙ sym (and_true _)
+
+lt_requested : (n : ℕ) (v : Value) → is_below n v ≡ is_true (binary (Compare Lt Binary) v (Int (pos n)))
+unfolding binary
+lt_requested n Null = refl
+lt_requested n (Int m) = sym (truth_of (is_lt (value_cmp (Int m) (Int (pos n)))))
+lt_requested n (Real x) = sym (truth_of (is_lt (value_cmp (Real x) (Int (pos n)))))
+lt_requested n (Text s) = sym (truth_of (is_lt (value_cmp (Text s) (Int (pos n)))))
+lt_requested n (Blob b) = sym (truth_of (is_lt (value_cmp (Blob b) (Int (pos n)))))
+
+pub below_requested : (n : ℕ) (r : Row) → has_rowid_below n r ≡ list_all (holds ((Int (pos n) ∷ []) ∷ r ∷ [])) below_test
+below_requested n r = lt_requested n (column r 0) ∙ sym (and_true _)
 
 -- ---- every row
 

@@ -28,7 +28,7 @@ use Rattle.office_tables.specs.Selected.{IsSelected}
 use Rattle.office_tables.proofs.Columns.{cast_int, cast_null, cast_number, column_is}
 use Rattle.office_tables.proofs.Changing.{appends, makes, removes}
 use Rattle.office_tables.proofs.Keeping.{plain_in}
-use Rattle.office_tables.proofs.Places.{sig, sig_placed, sig_only}
+use Rattle.office_tables.proofs.TableIndices.{sig, sig_there, sig_only}
 use Rattle.office_tables.proofs.Selecting.{query}
 use Rattle.office_tables.proofs.Finding.{ascending, Asks, Means, finds}
 use Rattle.office_rows.specs.declared.row.SigRow.{SigRow}
@@ -61,7 +61,7 @@ put row db = rw (cast_null, cast_number row.number, cast_number row.place, cast_
 pub inserts : (row : SigRow) (old new : State) (r : Result ℕ Error) → IsOffice old.now → (old.in_transaction ≡ false → r ≡ Err (SqliteFailure TransactionState)) → (IsTrue old.in_transaction → ExecutesInside 0 insert_text (sig_row row) old new r)
     → IfOk r (λ rows. Makes (λ t. record t { sig = t.sig ++ sig_row row ∷ [] }) old new × (rows ≡ 1))
 unfolding office_schema
-inserts row old new r office ended ran = makes insert_text (sig_row row) _ 1 old new r (appends 10 sig sig_placed sig_only insert_text (sig_row row) insert_terms 18 insert_is insert_plain (sig_row row) refl (λ db. refl) (λ db shaped. put row db) old new office) ended ran
+inserts row old new r office ended ran = makes insert_text (sig_row row) _ 1 old new r (appends 10 sig sig_there sig_only insert_text (sig_row row) insert_terms 18 insert_is insert_plain (sig_row row) refl (λ db. refl) (λ db shaped. put row db) old new office) ended ran
 
 -- ---- delete_sigs
 
@@ -81,7 +81,7 @@ pub deletes : (net : List ℕ) (number : ℕ) (old new : State) (r : Result ℕ 
 unfolding office_schema
 deletes net number old new r office ended ran =
     makes delete_text (Text net ∷ Int (pos number) ∷ []) _ _ old new r
-    (removes 10 sig sig_placed sig_only delete_text (Text net ∷ Int (pos number) ∷ []) two_tests (delete_is (Text net ∷ Int (pos number) ∷ [])) delete_plain (has_net_and_number net number) (numbered_requested net number) sig_placed old new office) ended ran
+    (removes 10 sig sig_there sig_only delete_text (Text net ∷ Int (pos number) ∷ []) two_tests (delete_is (Text net ∷ Int (pos number) ∷ [])) delete_plain (has_net_and_number net number) (numbered_requested net number) sig_there old new office) ended ran
 
 -- ---- delete_sig_at
 
@@ -101,7 +101,7 @@ pub deletes_at : (net : List ℕ) (number place : ℕ) (old new : State) (r : Re
 unfolding office_schema
 deletes_at net number place old new r office ended ran =
     makes delete_at_text (Text net ∷ Int (pos number) ∷ Int (pos place) ∷ []) _ _ old new r
-    (removes 10 sig sig_placed sig_only delete_at_text (Text net ∷ Int (pos number) ∷ Int (pos place) ∷ []) three_tests (delete_at_is (Text net ∷ Int (pos number) ∷ Int (pos place) ∷ [])) delete_at_plain (has_place_of net number place) (place_requested net number place) sig_placed old new office) ended ran
+    (removes 10 sig sig_there sig_only delete_at_text (Text net ∷ Int (pos number) ∷ Int (pos place) ∷ []) three_tests (delete_at_is (Text net ∷ Int (pos number) ∷ Int (pos place) ∷ [])) delete_at_plain (has_place_of net number place) (place_requested net number place) sig_there old new office) ended ran
 
 -- ---- select_sigs
 

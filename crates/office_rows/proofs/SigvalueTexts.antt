@@ -29,7 +29,7 @@ use Rattle.office_tables.specs.Selected.{IsSelected}
 use Rattle.office_tables.proofs.Columns.{cast_null, cast_number, column_is}
 use Rattle.office_tables.proofs.Changing.{appends, makes, removes}
 use Rattle.office_tables.proofs.Keeping.{plain_in}
-use Rattle.office_tables.proofs.Places.{sigvalue, sigvalue_placed, sigvalue_only}
+use Rattle.office_tables.proofs.TableIndices.{sigvalue, sigvalue_there, sigvalue_only}
 use Rattle.office_tables.proofs.Selecting.{query}
 use Rattle.office_tables.proofs.Finding.{ascending, Asks, Means, finds}
 use Rattle.office_rows.specs.declared.row.SigValueRow.{SigValueRow}
@@ -61,7 +61,7 @@ put row db = rw (cast_null, cast_number row.number, cast_number row.place, cast_
 pub inserts : (row : SigValueRow) (old new : State) (r : Result ℕ Error) → IsOffice old.now → (old.in_transaction ≡ false → r ≡ Err (SqliteFailure TransactionState)) → (IsTrue old.in_transaction → ExecutesInside 0 insert_text (sigvalue_row row) old new r)
     → IfOk r (λ rows. Makes (λ t. record t { sigvalue = t.sigvalue ++ sigvalue_row row ∷ [] }) old new × (rows ≡ 1))
 unfolding office_schema
-inserts row old new r office ended ran = makes insert_text (sigvalue_row row) _ 1 old new r (appends 12 sigvalue sigvalue_placed sigvalue_only insert_text (sigvalue_row row) insert_terms 7 insert_is insert_plain (sigvalue_row row) refl (λ db. refl) (λ db shaped. put row db) old new office) ended ran
+inserts row old new r office ended ran = makes insert_text (sigvalue_row row) _ 1 old new r (appends 12 sigvalue sigvalue_there sigvalue_only insert_text (sigvalue_row row) insert_terms 7 insert_is insert_plain (sigvalue_row row) refl (λ db. refl) (λ db shaped. put row db) old new office) ended ran
 
 -- ---- delete_sigvalues
 
@@ -81,7 +81,7 @@ pub deletes : (net : List ℕ) (number : ℕ) (old new : State) (r : Result ℕ 
 unfolding office_schema
 deletes net number old new r office ended ran =
     makes delete_text (Text net ∷ Int (pos number) ∷ []) _ _ old new r
-    (removes 12 sigvalue sigvalue_placed sigvalue_only delete_text (Text net ∷ Int (pos number) ∷ []) two_tests (delete_is (Text net ∷ Int (pos number) ∷ [])) delete_plain (has_net_and_number net number) (numbered_requested net number) sigvalue_placed old new office) ended ran
+    (removes 12 sigvalue sigvalue_there sigvalue_only delete_text (Text net ∷ Int (pos number) ∷ []) two_tests (delete_is (Text net ∷ Int (pos number) ∷ [])) delete_plain (has_net_and_number net number) (numbered_requested net number) sigvalue_there old new office) ended ran
 
 -- ---- delete_sigvalues_at
 
@@ -101,7 +101,7 @@ pub deletes_at : (net : List ℕ) (number place : ℕ) (old new : State) (r : Re
 unfolding office_schema
 deletes_at net number place old new r office ended ran =
     makes delete_at_text (Text net ∷ Int (pos number) ∷ Int (pos place) ∷ []) _ _ old new r
-    (removes 12 sigvalue sigvalue_placed sigvalue_only delete_at_text (Text net ∷ Int (pos number) ∷ Int (pos place) ∷ []) three_tests (delete_at_is (Text net ∷ Int (pos number) ∷ Int (pos place) ∷ [])) delete_at_plain (has_place_of net number place) (place_requested net number place) sigvalue_placed old new office) ended ran
+    (removes 12 sigvalue sigvalue_there sigvalue_only delete_at_text (Text net ∷ Int (pos number) ∷ Int (pos place) ∷ []) three_tests (delete_at_is (Text net ∷ Int (pos number) ∷ Int (pos place) ∷ [])) delete_at_plain (has_place_of net number place) (place_requested net number place) sigvalue_there old new office) ended ran
 
 -- ---- select_sigvalues
 

@@ -28,7 +28,7 @@ use Rattle.office_tables.specs.Selected.{IsSelected}
 use Rattle.office_tables.proofs.Columns.{cast_null, cast_number}
 use Rattle.office_tables.proofs.Changing.{makes, puts, removes}
 use Rattle.office_tables.proofs.Keeping.{plain_in}
-use Rattle.office_tables.proofs.Places.{spn, spn_placed, spn_only}
+use Rattle.office_tables.proofs.TableIndices.{spn, spn_there, spn_only}
 use Rattle.office_tables.proofs.Selecting.{query}
 use Rattle.office_tables.proofs.Finding.{ascending, Asks, Means, finds}
 use Rattle.office_rows.specs.Rows.{is_any, is_number, spn_row}
@@ -57,7 +57,7 @@ put number db = rw (cast_null, cast_number number) refl
 pub inserts : (number : ℕ) (old new : State) (r : Result ℕ Error) → IsOffice old.now → (old.in_transaction ≡ false → r ≡ Err (SqliteFailure TransactionState)) → (IsTrue old.in_transaction → ExecutesInside 0 insert_text (spn_row number) old new r)
     → IfOk r (λ rows. Makes (λ t. record t { spn = put_row (spn_row number) t.spn }) old new × (rows ≡ 1))
 unfolding office_schema
-inserts number old new r office ended ran = makes insert_text (spn_row number) _ 1 old new r (puts 5 spn spn_placed spn_only insert_text (spn_row number) insert_terms 2 insert_is insert_plain (pos number) [] refl (λ db. refl) (put number) old new office) ended ran
+inserts number old new r office ended ran = makes insert_text (spn_row number) _ 1 old new r (puts 5 spn spn_there spn_only insert_text (spn_row number) insert_terms 2 insert_is insert_plain (pos number) [] refl (λ db. refl) (put number) old new office) ended ran
 
 -- ---- delete_spn
 
@@ -77,7 +77,7 @@ pub delete_spns : (number : ℕ) (old new : State) (r : Result ℕ Error) → Is
 unfolding office_schema
 delete_spns number old new r office ended ran =
     makes delete_spn_text (Int (pos number) ∷ []) _ _ old new r
-    (removes 5 spn spn_placed spn_only delete_spn_text (Int (pos number) ∷ []) key_test (delete_spn_is (Int (pos number) ∷ [])) delete_spn_plain (is_number number) (number_requested_alone number) spn_placed old new office) ended ran
+    (removes 5 spn spn_there spn_only delete_spn_text (Int (pos number) ∷ []) key_test (delete_spn_is (Int (pos number) ∷ [])) delete_spn_plain (is_number number) (number_requested_alone number) spn_there old new office) ended ran
 
 -- ---- select_spns
 

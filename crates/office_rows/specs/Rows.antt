@@ -1,9 +1,10 @@
 -- The rows of the tables, by the names of their columns, and which rows a statement asks for.
-use Rattle.std.specs.Prelude.{ℕ, List, [], ◌∷◌, Bool, true, ◌&&◌, pos}
-use Rattle.sqlite.specs.declared.types.Value.TheVariants.{Int, Text, Blob}
-use Rattle.std.specs.Ordering.{is_ge, is_le}
+use Rattle.std.specs.Prelude.{ℕ, List, [], ◌∷◌, Bool, true, false, ◌&&◌, pos}
+use Rattle.sqlite.specs.declared.types.Value.TheVariants.{Null, Int, Text, Blob}
+use Rattle.std.specs.Ordering.{is_ge, is_gt, is_le, is_lt}
 use Rattle.sqlite.specs.declared.types.Value.{Value}
 use Rattle.sqlite.specs.Order.{Row, column, value_cmp}
+use Rattle.sqlite.specs.Tree.{Trees}
 use Rattle.office_tables.specs.Selected.{has_text, has_number}
 use Rattle.office_rows.specs.declared.row.NetRow.{NetRow}
 use Rattle.office_rows.specs.declared.row.MessageRow.{MessageRow}
@@ -72,6 +73,11 @@ part_row it = Text it.team.now ∷ Text it.key.now ∷ Int (pos it.place) ∷ In
 abbrev pub is_between : ℕ → ℕ → Value → Bool
 is_between first last v = is_ge (value_cmp v (Int (pos first))) && is_le (value_cmp v (Int (pos last)))
 
+-- NULL isn't below any number
+abbrev pub is_below : ℕ → Value → Bool
+is_below number Null = false
+is_below number v = is_lt (value_cmp v (Int (pos number)))
+
 -- the row of a network, or a row that is the network's: its first column has the name
 abbrev pub is_of_net : List ℕ → Row → Bool
 is_of_net name row = has_text 0 name row
@@ -90,6 +96,17 @@ has_net_and_name net name row = has_text 0 net row && has_text 2 name row
 -- a row of the network with a number from the first to the last
 abbrev pub has_number_between : List ℕ → ℕ → ℕ → Row → Bool
 has_number_between net first last row = has_text 0 net row && is_between first last (column row 1)
+
+-- the rows of `msg` in its tree
+abbrev pub msg_entries : Trees → List Row
+msg_entries db = db 17
+
+-- a row of a tree, which has its rowid first, whose rowid is above the number, or below it
+abbrev pub has_rowid_above : ℕ → Row → Bool
+has_rowid_above number entry = is_gt (value_cmp (column entry 0) (Int (pos number)))
+
+abbrev pub has_rowid_below : ℕ → Row → Bool
+has_rowid_below number entry = is_below number (column entry 0)
 
 abbrev pub is_block : List ℕ → ℕ → ℕ → Row → Bool
 is_block net form first row = has_text 0 net row && (has_number 1 form row && has_number 2 first row)

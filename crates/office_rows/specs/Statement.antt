@@ -2,12 +2,17 @@
 -- office's, and the disk has done its part.
 use Rattle.std.specs.Prelude.{IfOk, IsTrue, OnOk, Result}
 use Rattle.sqlite.specs.State.{State, HasCleanDisk, IsUnchanged, KeepsCommit, Survives}
+use Rattle.sqlite.specs.Tree.{Trees}
 use Rattle.office_tables.specs.Statements.{Makes}
 use Rattle.office_tables.specs.Tables.{Tables, tables_of, IsOffice}
 
 -- if it succeeds, this holds of its answer and the tables
 abbrev pub Finds : {X E : Type 0} → Result X E → State → State → (X → Tables → Type 0) → Type 0
 Finds result old new IsFound = HasCleanDisk new → IsOffice old.now → IfOk result (λ x. IsFound x (tables_of old.now.trees))
+
+-- if it succeeds, this holds of its answer and the trees, in which each row has its rowid first
+abbrev pub FindsIn : {X E : Type 0} → Result X E → State → State → (X → Trees → Type 0) → Type 0
+FindsIn result old new IsFound = HasCleanDisk new → IsOffice old.now → IfOk result (λ x. IsFound x old.now.trees)
 
 -- if it succeeds, it leaves everything as it is
 abbrev pub ChangesNothing : {X E : Type 0} → Result X E → State → State → Type 0

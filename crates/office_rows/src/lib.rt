@@ -1,7 +1,8 @@
 //! The statements of the office: one function for each fixed text, over the tables of `office_tables`.
 //!
 //! `insert_..` adds one row, `delete_..` removes the rows of a key or of the beginning of one, and `select_..` reads
-//! rows of one table in the order of its key; `clear_..` removes all rows of a table, and only the carrying over of an
+//! rows of one table in the order of its key, or whether one has a rowid above or below a number; `count_..` shows how
+//! many there are; `clear_..` removes all rows of a table, and only the carrying over of an
 //! earlier office's tables calls it. A row is changed by removing and adding it. No text changes or removes a release
 //! or a reply.
 //!
@@ -36,7 +37,8 @@ pub use frozen::{insert_frozen, select_release, select_release_numbers, select_r
 pub use held::{delete_held, insert_held, select_held};
 pub use message::{clear_messages, delete_message, insert_message, select_messages};
 pub use msg::{
-    count_msgs, delete_msgs, insert_msg, select_msg_named, select_msg_numbers, select_msgs,
+    count_msgs, delete_msgs, insert_msg, select_msg_above, select_msg_below, select_msg_named,
+    select_msg_numbers, select_msgs,
 };
 pub use net::{delete_net, insert_net, select_net, select_net_names};
 pub use part::{insert_part, select_parts};

@@ -1,13 +1,14 @@
 //! Rows of `msg`.
-ghost use Rattle.std.specs.Prelude.{[], filter, length, not, ◌++◌, ◌∷◌, ◌≡◌};
+ghost use Rattle.std.specs.Prelude.{[], filter, length, min, not, ◌++◌, ◌∷◌, ◌≡◌};
 ghost use Rattle.office_tables.specs.Selected.{IsSelected};
-ghost use Rattle.office_rows.specs.Rows.{has_net_and_name, has_net_and_number, has_number_between, is_of_net, msg_row};
+ghost use Rattle.office_rows.specs.Rows.{has_net_and_name, has_net_and_number, has_number_between, has_rowid_above};
+ghost use Rattle.office_rows.specs.Rows.{has_rowid_below, is_of_net, msg_entries, msg_row};
 ghost use Rattle.office_rows.specs.Shown.{msg_numbers_order, msg_numbers_shown, msg_named_order, msgs_order};
 ghost use Rattle.office_rows.specs.Shown.{msg_named_shown, msgs_shown};
 ghost use Rattle.sqlite_sql.specs.Aggregate.{count};
 ghost use Rattle.sqlite.specs.Held.{state};
-ghost use Rattle.office_rows.specs.Statement.{AddsNoCommit, ChangesNothing, CommitsNothing, Finds, LeavesNothing};
-ghost use Rattle.office_rows.specs.Statement.{MakesTables};
+ghost use Rattle.office_rows.specs.Statement.{AddsNoCommit, ChangesNothing, CommitsNothing, Finds, FindsIn};
+ghost use Rattle.office_rows.specs.Statement.{LeavesNothing, MakesTables};
 
 use crate::row::MsgRow;
 use sqlite::types::{ToSql, ValueRef};
@@ -103,6 +104,42 @@ pub fn count_msgs<S: Alter>(tx: &mut Transaction<'_, S>, net: &[u8]) -> Result<V
     tx.query_all(
         "SELECT count(*) FROM msg WHERE net = ?1",
         &[ValueRef::Text(net)],
+    )
+}
+
+/// The `number` of one row of the table, of whatever network, whose rowid is above this one, if there is one.
+pub fn select_msg_above<S: Alter>(
+    tx: &mut Transaction<'_, S>,
+    rowid: u32,
+) -> Result<Vec<Row>, Error>
+    ensures same_reference { tx.new.conn.ghost_name ≡ tx.old.conn.ghost_name }
+    ensures found { FindsIn result (state S.Store tx.old.conn.now) (state S.Store tx.new.conn.now)
+        (λ rows db. length rows.items ≡ min 1 (length (filter (has_rowid_above rowid) (msg_entries db)))) }
+    ensures same { ChangesNothing result (state S.Store tx.old.conn.now) (state S.Store tx.new.conn.now) }
+    ensures kept { CommitsNothing (state S.Store tx.old.conn.now) (state S.Store tx.new.conn.now) }
+    ensures survives { LeavesNothing (state S.Store tx.old.conn.now) (state S.Store tx.new.conn.now) }
+{
+    tx.query_all(
+        "SELECT number FROM msg WHERE rowid > ?1 LIMIT 1",
+        &[rowid.to_sql()],
+    )
+}
+
+/// The `number` of one row of the table, of whatever network, whose rowid is below this one, if there is one.
+pub fn select_msg_below<S: Alter>(
+    tx: &mut Transaction<'_, S>,
+    rowid: u32,
+) -> Result<Vec<Row>, Error>
+    ensures same_reference { tx.new.conn.ghost_name ≡ tx.old.conn.ghost_name }
+    ensures found { FindsIn result (state S.Store tx.old.conn.now) (state S.Store tx.new.conn.now)
+        (λ rows db. length rows.items ≡ min 1 (length (filter (has_rowid_below rowid) (msg_entries db)))) }
+    ensures same { ChangesNothing result (state S.Store tx.old.conn.now) (state S.Store tx.new.conn.now) }
+    ensures kept { CommitsNothing (state S.Store tx.old.conn.now) (state S.Store tx.new.conn.now) }
+    ensures survives { LeavesNothing (state S.Store tx.old.conn.now) (state S.Store tx.new.conn.now) }
+{
+    tx.query_all(
+        "SELECT number FROM msg WHERE rowid < ?1 LIMIT 1",
+        &[rowid.to_sql()],
     )
 }
 

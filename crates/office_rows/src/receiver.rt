@@ -79,7 +79,7 @@ pub fn delete_receivers_at<S: Alter>(
 }
 
 /// The receivers of the signals of the network's message with the number (`place`, `name`), in the order of the
-/// signals' places and then of their own.
+/// signals' places and then of their seats.
 pub fn select_receivers<S: Alter>(
     tx: &mut Transaction<'_, S>,
     net: &[u8],

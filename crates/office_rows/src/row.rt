@@ -133,7 +133,7 @@ pub struct SigRow<'a> {
     pub net: &'a [u8],
     /// The DBC number of the message.
     pub number: u32,
-    /// Its place among the message's signals; with the network and the number, the key.
+    /// Its number in the order of the message's signals; with the network and the DBC number, the key.
     pub place: u32,
     /// Its name; no two signals of a message have the same.
     pub name: &'a [u8],
@@ -174,7 +174,7 @@ pub struct ReceiverRow<'a> {
     pub number: u32,
     /// The place of the signal.
     pub place: u32,
-    /// Its place among the signal's receivers; with the others, the key.
+    /// Its number in the order of the signal's receivers; with the others, the key.
     pub seat: u32,
     /// The node.
     pub name: &'a [u8],
@@ -189,7 +189,7 @@ pub struct SigValueRow<'a> {
     pub number: u32,
     /// The place of the signal.
     pub place: u32,
-    /// Its place among the signal's value texts; with the others, the key.
+    /// Its number in the order of the signal's value texts; with the others, the key.
     pub seat: u32,
     /// The text of the value.
     pub value: &'a [u8],
@@ -204,7 +204,7 @@ pub struct PartRow<'a> {
     pub team: &'a [u8],
     /// The key of the team's request.
     pub key: &'a [u8],
-    /// The place of the part among those of the bundle; with the team and the key, the key.
+    /// The number of the part in the order of the bundle, from 1; with the team and the key, the key.
     pub place: u32,
     /// The kind of the answer.
     pub kind: u32,

@@ -80,7 +80,7 @@ pub fn delete_sigvalues_at<S: Alter>(
 }
 
 /// The value texts of the signals of the network's message with the number (`place`, `value`, `words`), in the order of
-/// the signals' places and then of their own.
+/// the signals' places and then of their seats.
 pub fn select_sigvalues<S: Alter>(
     tx: &mut Transaction<'_, S>,
     net: &[u8],

@@ -11,7 +11,7 @@ use Rattle.office_types.specs.declared.reply.Reply.TheVariants.{Bundle}
 use Rattle.office_types.specs.declared.state.Net.{Net}
 use Rattle.office_rules.specs.Outcome.{Entries, no_entries, Outcome, Refusing, Changing}
 
--- The outcome of the parts: the first that is refused, with its place; or, where none is, all their replies, the
+-- The outcome of the parts: the first that is refused, with its number; or, where none is, all their replies, the
 -- network after the last of them, and what they enter into the book.
 pub data PartsOutcome : Type 0 where
   RefusedAt : ℕ → Refusal → PartsOutcome
@@ -22,20 +22,20 @@ both_entries e f = record { blocks = e.blocks ++ f.blocks; numbers = e.numbers +
 
 -- a part that is carried out, before the others
 abbrev pub with_part : Reply → Entries → PartsOutcome → PartsOutcome
-with_part r e (RefusedAt place refusal) = RefusedAt place refusal
+with_part r e (RefusedAt number refusal) = RefusedAt number refusal
 with_part r e (AllDone replies net f) = AllDone (part_reply r ∷ replies) net (both_entries e f)
 
--- the part at this place, and then the others
+-- the part of this number, and then the others
 abbrev pub part_then : ℕ → Outcome → (Net → Entries → PartsOutcome) → PartsOutcome
-part_then place (Refusing r) others = RefusedAt place r
-part_then place (Changing r net e) others = with_part r e (others net e)
+part_then number (Refusing r) others = RefusedAt number r
+part_then number (Changing r net e) others = with_part r e (others net e)
 
 abbrev pub refused_part : ℕ → Refusal → FileFault
-refused_part place r = record { fault = refusal_number r; at = place }
+refused_part number r = record { fault = refusal_number r; at = number }
 
 -- The bundle is refused with its first refused part. A bundle has a part, so after all of them its network is there:
 -- the last case never comes.
 abbrev pub bundle_outcome : PartsOutcome → Outcome
-bundle_outcome (RefusedAt place r) = Refusing (no.BundleRefused (refused_part place r))
+bundle_outcome (RefusedAt number r) = Refusing (no.BundleRefused (refused_part number r))
 bundle_outcome (AllDone replies (Some net) e) = Changing (Bundle replies) net e
 bundle_outcome (AllDone replies None e) = Refusing no.NoNet

@@ -33,11 +33,12 @@ acted team name net book act.Approve = approve team net
 acted team name net book act.Reject = reject team net
 acted team name net book act.Release = release team net
 
--- The parts of a bundle in order, from this place on, each on the network and with the book that the earlier ones left.
+-- The parts of a bundle in order, numbered from this number on, each on the network and with the book that the earlier
+-- ones left.
 abbrev pub parts_done : List ℕ → List ℕ → ℕ → Option Net → SpnBook → List Action → PartsOutcome
-parts_done team name place net book [] = AllDone [] net no_entries
-parts_done team name place net book (a ∷ parts) =
-    part_then place (acted team name net book a) (λ n e. parts_done team name (place + 1) (Some n) (entered book e) parts)
+parts_done team name number net book [] = AllDone [] net no_entries
+parts_done team name number net book (a ∷ parts) =
+    part_then number (acted team name net book a) (λ n e. parts_done team name (number + 1) (Some n) (entered book e) parts)
 
 -- an import also takes what its file reads as
 abbrev pub done_task : List ℕ → List ℕ → FileReading → Option Net → SpnBook → Task → Outcome

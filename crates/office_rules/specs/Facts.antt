@@ -1,5 +1,5 @@
 -- What a network has, as the tests of commands ask for it.
-use Rattle.std.specs.Prelude.{ℕ, Bool, true, false, ◌&&◌, ◌==◌, List, [], ◌∷◌, ◌++◌, map, filter, find, length, Option, Some, None}
+use Rattle.std.specs.Prelude.{ℕ, Bool, true, false, ◌&&◌, ◌==◌, nat_le, List, [], ◌∷◌, ◌++◌, map, filter, find, length, Option, Some, None}
 use Rattle.std.specs.List.{list_any, filter_map}
 use Rattle.std.specs.Str.{bytes_eq}
 use Rattle.can_id.specs.Ident.{dbc_number, ident_of}
@@ -8,6 +8,7 @@ use Rattle.can_id.specs.declared.form.IdentForm.{IdentForm}
 use Rattle.can_id.specs.declared.form.IdentForm.TheVariants.{Standard, Extended}
 use Rattle.can_id.specs.declared.ident.Ident.{Ident}
 use Rattle.can_id.specs.declared.ident.Ident.TheVariants as id
+use Rattle.catalogue.specs.Limits.{message_limit}
 use Rattle.catalogue.specs.Messages.{has_number}
 use Rattle.catalogue.specs.Named.{has_name}
 use Rattle.catalogue.specs.Sheet.{node_name}
@@ -151,16 +152,20 @@ pub record MessageFacts : Type 0 where
 abbrev pub message_facts : Net → List ℕ → MessageFacts
 message_facts net name = record { phase = net.head.phase; nodes = net.head.frame.nodes; found = live_named net.live name }
 
+-- no more messages may be live
+abbrev pub is_full : Net → Bool
+is_full net = nat_le message_limit (length net.live)
+
 -- What the commands that give out a number for a new message read of a network: besides its kind, phase, nodes and
--- blocks, whether the message's name is live, how many messages there are, whether the wanted number is live or held,
--- and which numbers may not be given out.
+-- blocks, whether the message's name is live, whether the network has as many messages as it may have, whether the
+-- wanted number is live or held, and which numbers may not be given out.
 pub record NumberFacts : Type 0 where
   pub kind : NetKind
   pub phase : Phase
   pub nodes : List Node
   pub blocks : List GrantedBlock
   pub named : Bool
-  pub count : ℕ
+  pub full : Bool
   pub want_live : Bool
   pub want_held : Bool
   pub taken : List ℕ
@@ -177,7 +182,7 @@ ident_facts net name form want = record {
   nodes = net.head.frame.nodes;
   blocks = net.blocks;
   named = is_named net name;
-  count = length net.live;
+  full = is_full net;
   want_live = is_wanted (is_live net) form want;
   want_held = is_wanted (is_held net) form want;
   taken = taken_numbers net form;
@@ -191,7 +196,7 @@ group_facts net name = record {
   nodes = net.head.frame.nodes;
   blocks = net.blocks;
   named = is_named net name;
-  count = length net.live;
+  full = is_full net;
   want_live = false;
   want_held = false;
   taken = taken_groups net;

@@ -1,11 +1,10 @@
 -- Taking an identifier or a parameter group for a new message.
-use Rattle.std.specs.Prelude.{ℕ, not, ◌&&◌, nat_le, List, [], ◌∷◌, ◌++◌, Option, Some, None, is_none, unwrap_or}
+use Rattle.std.specs.Prelude.{ℕ, not, ◌&&◌, List, [], ◌∷◌, ◌++◌, Option, Some, None, is_none, unwrap_or}
 use Rattle.can_id.specs.Ident.{ident_of}
 use Rattle.can_id.specs.J1939.{fields_with, number_of}
 use Rattle.can_id.specs.declared.ident.Ident.{Ident}
 use Rattle.can_id.specs.declared.ident.Ident.TheVariants as id
 use Rattle.catalogue.specs.Keyed.{put}
-use Rattle.catalogue.specs.Limits.{message_limit}
 use Rattle.catalogue.specs.Refusing.{Test}
 use Rattle.office_types.specs.Block.{block_form}
 use Rattle.office_types.specs.Command.{group_form}
@@ -32,7 +31,7 @@ name_tests facts m =
     when (in_review facts.phase) no.InReview
     ∷ when (not (knows_node facts.nodes m.node)) no.NoNode
     ∷ when facts.named no.NameTaken
-    ∷ when (nat_le message_limit facts.count) no.TooMany ∷ []
+    ∷ when facts.full no.TooMany ∷ []
 
 -- a message without signals, and its owner
 abbrev pub new_message : List ℕ → NewMessage → Ident → LiveMessage

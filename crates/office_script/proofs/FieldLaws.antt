@@ -22,10 +22,10 @@ any_found c [] bs h = grind (arith, nat_tests)
 any_found c (b ∷ front) bs h = rw (ne_eqb b c (All-head (λ b. b ≢ c) b front h)) (any_found c front bs (All-tail (λ b. b ≢ c) b front h))
 
 -- the first `c` comes after the prefix that has none
-place_found : (c : ℕ) (front bs : List ℕ) → Lacks c front → position_or_len (λ b. b == c) (front ++ (c ∷ bs)) ≡ length front
-place_found c [] bs h = let same : (c == c) ≡ true = grind (arith, nat_tests) in rw same refl
-place_found c (b ∷ front) bs h =
-    rw (ne_eqb b c (All-head (λ b. b ≢ c) b front h)) (omega (arith, place_found c front bs (All-tail (λ b. b ≢ c) b front h)))
+position_found : (c : ℕ) (front bs : List ℕ) → Lacks c front → position_or_len (λ b. b == c) (front ++ (c ∷ bs)) ≡ length front
+position_found c [] bs h = let same : (c == c) ≡ true = grind (arith, nat_tests) in rw same refl
+position_found c (b ∷ front) bs h =
+    rw (ne_eqb b c (All-head (λ b. b ≢ c) b front h)) (omega (arith, position_found c front bs (All-tail (λ b. b ≢ c) b front h)))
 
 -- the prefix, removed again
 front_of : (front bs : List ℕ) → take (length front) (front ++ bs) ≡ front
@@ -48,7 +48,7 @@ no_field word h = rw (any_lacks 61 word h) refl
 -- a word round its first `=`
 field_read : (word name written : List ℕ) → Lacks 61 name → word ≡ name ++ (61 ∷ written) → field_of word ≡ option_map (λ value. record { name = name; value = value }) (unescaped written)
 field_read word name written h e =
-    rw (e, any_found 61 name written h, place_found 61 name written h, front_of name (61 ∷ written), back_of name written 61) refl
+    rw (e, any_found 61 name written h, position_found 61 name written h, front_of name (61 ∷ written), back_of name written 61) refl
 
 -- a word whose value was read
 pub value_read : (word name written : List ℕ) (found : Option (List ℕ)) → Lacks 61 name → word ≡ name ++ (61 ∷ written) → found ≡ unescaped written → option_map (λ value. record { name = name; value = value }) found ≡ field_of word

@@ -117,6 +117,9 @@ pub fn decide_retire_in(
 {
     match net {
         None => Ok(refusal_decision(alloc, Refusal::NoNet)),
-        Some(net) => decide_retire(alloc, team, net, message),
+        Some(net) => {
+            let facts = message_facts(net, message);
+            decide_retire(alloc, team, &facts, net.releases.as_slice())
+        }
     }
 }

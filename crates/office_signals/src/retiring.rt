@@ -11,9 +11,8 @@ ghost use Rattle.office_rules.specs.Retiring.{retire};
 
 use crate::own::own_message;
 use can_id::Ident;
-use catalogue::Name;
-use office_facts::{MessageFacts, message_facts, one_change, refusal_decision, two_changes};
-use office_types::{Change, Decision, FrozenSheet, Net, Reply, Team};
+use office_facts::{MessageFacts, one_change, refusal_decision, two_changes};
+use office_types::{Change, Decision, FrozenSheet, Reply, Team};
 use std::alloc::{AllocError, Global};
 
 /// Whether one of the releases has a message of the identifier.
@@ -57,22 +56,23 @@ pub fn decide_retire_by_facts(
     }
 }
 
-/// Decides the team's `retire` of the message of this name on the network. Its releases are looked through only where
-/// nothing refuses the command. The error is out of memory.
+/// Decides the team's `retire` of a message on a network that has these facts for it and these releases, which are
+/// looked through only where nothing refuses the command. The error is out of memory.
 pub fn decide_retire(
     alloc: Global,
     team: &Team,
-    net: &Net,
-    message: &Name,
+    facts: &MessageFacts<'_>,
+    releases: &[FrozenSheet],
 ) -> Result<Decision, AllocError>
-    ensures { IfOk result (λ d. (name : List ℕ) (book : SpnBook) →
-        Decides name (record { net = Some net.now; book = book }) (retire team.now (Some net.now) message.now) d) }
+    ensures { IfOk result (λ d. (name message : List ℕ) (net : Net) (book : SpnBook) →
+        message_facts_of facts.now ≡ message_facts net message → releases.now ≡ net.releases →
+        Decides name (record { net = Some net; book = book }) (retire team.now (Some net) message) d) }
 {
-    match own_message(team, &message_facts(net, message)) {
+    match own_message(team, facts) {
         Err(refusal) => Ok(refusal_decision(alloc, refusal)),
         Ok(live) => {
             let ident = &live.message.ident;
-            let released = was_released(net.releases.as_slice(), ident);
+            let released = was_released(releases, ident);
             message_retired(alloc, ident, released)
         }
     }

@@ -16,7 +16,7 @@ use catalogue::{Copying, Name, Spn};
 use office_facts::{MessageFacts, has_signal, refusal_decision, spn_blocks_of, two_changes};
 use office_types::{
     Block, Change, Decision, Form, LiveMessage, NetName, Refusal, Reply, SpnBook, TakeSpn, Team,
-    UsableSpn, least_free,
+    UsableSpn, least_gap,
 };
 use std::alloc::{AllocError, Global};
 
@@ -74,7 +74,7 @@ fn least_spn(
     if blocks.is_empty() {
         return Err(Refusal::NoBlock);
     }
-    match least_free(book.used.as_slice(), blocks, Form::Spn) {
+    match least_gap(book.used.as_slice(), blocks, Form::Spn) {
         Some(number) => Ok(usable_spn(number)),
         None => Err(Refusal::BlockFull),
     }

@@ -39,7 +39,7 @@ use Rattle.office_tables.proofs.Inserting.{RefersToNone, inserts, uncounted}
 use Rattle.office_tables.proofs.Deleting.{deletes, leaves_others}
 use Rattle.office_tables.proofs.Selecting.{query, answers, wanted, filter_map_is}
 
--- the table at this place has this tree, and no other has it
+-- the table at this index has this tree, and no other has it
 abbrev pub is_only : List Table → ℕ → ℕ → Bool
 is_only [] at tree = false
 is_only (t ∷ tables) zero tree = (t.tree == tree) && list_all (λ (o : Table). not (o.tree == tree)) tables
@@ -67,14 +67,14 @@ all_numbered (t ∷ tables) tree before now apart stay numbered =
 -- the rows of all tables where one changed
 rows_after : (tables : List Table) (at tree : ℕ) (key : Option ℕ) (before now : Trees) → is_only tables at tree ≡ true → OthersStay tables tree before now
     → (t : Table) → slice_get tables at ≡ Some t → rows_in tables now ≡ set (rows_in tables before) at (map (row_by t.key) (now tree))
-rows_after [] at tree key before now only stay t placed = absurd (cc)
-rows_after (o ∷ tables) zero tree key before now only stay t placed =
+rows_after [] at tree key before now only stay t there = absurd (cc)
+rows_after (o ∷ tables) zero tree key before now only stay t there =
     let parts = and_parts _ _ only in
     let same : o ≡ t = cc in
     rw (all_stay tables tree before now parts.1 stay.1) (ap (λ (x : Table). map (row_by x.key) (now o.tree) ∷ rows_in tables before) same ∙ ap (λ n. map (row_by t.key) (now n) ∷ rows_in tables before) (eqb-true o.tree tree parts.0))
-rows_after (o ∷ tables) (suc at) tree key before now only stay t placed =
+rows_after (o ∷ tables) (suc at) tree key before now only stay t there =
     let parts = and_parts _ _ only in
-    rw (stay.0 (differs o.tree tree parts.0), rows_after tables at tree key before now parts.1 stay.1 t placed)
+    rw (stay.0 (differs o.tree tree parts.0), rows_after tables at tree key before now parts.1 stay.1 t there)
 
 numbered_after : (tables : List Table) (at tree : ℕ) (before now : Trees) → is_only tables at tree ≡ true → OthersStay tables tree before now
     → AllByRecursion (λ (t : Table). IsShaped shape.Table (before t.tree)) tables → IsShaped shape.Table (now tree) → AllByRecursion (λ (t : Table). IsShaped shape.Table (now t.tree)) tables
@@ -144,8 +144,8 @@ pub only_rows : (A : Type 0) (rows : ℕ) (r : Result ℕ Error) → IfOk r (λ 
 only_rows A rows (Ok count) both = both.1
 only_rows A rows (Err e) both = tt
 
--- a statement on the table at one place
-module _ (at : ℕ) (table : Table) (placed : slice_get office_schema.tables at ≡ Some (uncounted table)) (only : is_only office_schema.tables at table.tree ≡ true) where
+-- a statement on the table at one index
+module _ (at : ℕ) (table : Table) (there : slice_get office_schema.tables at ≡ Some (uncounted table)) (only : is_only office_schema.tables at table.tree ≡ true) where
   abbrev tree : ℕ
   tree = table.tree
 
@@ -164,7 +164,7 @@ module _ (at : ℕ) (table : Table) (placed : slice_get office_schema.tables at 
             numbered = numbered_after office_schema.tables at tree old.now.trees db only stay office.trees.numbered shaped;
           };
         },
-        named_rows db ∙ ap named (rows_after office_schema.tables at tree table.key old.now.trees db only stay (uncounted table) placed),
+        named_rows db ∙ ap named (rows_after office_schema.tables at tree table.key old.now.trees db only stay (uncounted table) there),
       )
 
   pub shaped_before : (old : State) → IsOffice old.now → IsShaped shape.Table (old.now.trees tree)
@@ -180,7 +180,7 @@ module _ (at : ℕ) (table : Table) (placed : slice_get office_schema.tables at 
         → (count : ℕ) → Executes sql params old new (Ok count) → IsOffice new.now × (tables_of new.now.trees ≡ with_rows old.now.trees (map (row_by table.key) rows))
         × (count ≡ length (edit_of old.now.trees (uncounted table) [] Chosen 0 given).news)
     inserted old new rows office made shaped count h =
-        let done = inserts office_schema alone at table placed sql params terms width is plain old new office.schema count h in
+        let done = inserts office_schema alone at table there sql params terms width is plain old new office.schema count h in
         let w = runs_as sql params old new office_schema office.schema (Insert at (Values terms width)) is plain count h in
         let grown : new.now.trees tree ≡ rows = done.1.rows ∙ made in
         let it = settled old new office done.0 w.sound done.1.tables (subst (IsShaped shape.Table) (sym grown) shaped) in

@@ -1,6 +1,6 @@
--- What a count of one table's rows answers.
+-- What a count of one table's rows answers, and a SELECT of the first of them.
 use Rattle.std.proofs.Common.{◌≡◌, ◌∙◌, inl, inr, ℕ, zero, suc, pos, negsuc, List, [], ◌∷◌, ◌++◌, map, length, get_or, Bool, true, cond, Option, Some, None, refl, sym, ap, subst, arith}
-use Rattle.std.specs.Prelude.{filter, flat_map, IsPermutation, All}
+use Rattle.std.specs.Prelude.{filter, flat_map, min, take, IsPermutation, All}
 use Rattle.std.specs.List.{AllZip, list_all}
 use Rattle.std.proofs.lemmas.Bool.{cases_Bool}
 use Rattle.std.proofs.lemmas.List.{length-map}
@@ -61,10 +61,10 @@ module _ (t : ℕ) (tests : List Term) (params : Row) where
     offset = lit (Int (pos 0));
   }
 
-  abbrev wants : Row → Bool
+  abbrev pub wants : Row → Bool
   wants r = list_all (holds (params ∷ r ∷ [])) tests
 
-  matched : (rows : List Row) → length (flat_map (λ r. cond (wants r) ((params ∷ r ∷ []) ∷ []) []) rows) ≡ length (filter wants rows)
+  pub matched : (rows : List Row) → length (flat_map (λ r. cond (wants r) ((params ∷ r ∷ []) ∷ []) []) rows) ≡ length (filter wants rows)
   matched [] = refl
   matched (r ∷ rows) = elim (cases_Bool (wants r)) [ inl hit ↦ rw (hit, matched rows) | inr miss ↦ rw (miss, matched rows) ]
 
@@ -91,6 +91,55 @@ module _ (t : ℕ) (tests : List Term) (params : Row) where
       let many : length order ≡ length (filter wants (db t)) = length_permutation _ order g.grouping.1 ∙ matched (db t) in
       a.shown ∙ ap (map (λ (o : Output). o.1)) ordered ∙ ap (λ n. (count n ∷ []) ∷ []) many
 
+-- one of the rows of a table that pass the tests, if there is one
+
+length_first : {X Y : Type 0} (f : X → Y) (xs : List X) → length (take 1 (map f xs)) ≡ min 1 (length xs)
+length_first f [] = refl
+length_first f (x ∷ xs) = let e : min 1 (suc (length xs)) ≡ 1 = omega arith in sym e
+
+module _ (t : ℕ) (tests project : List Term) (params : Row) where
+  abbrev pub first_query : Query
+  first_query = record {
+    from = inner t end;
+    filter = tests;
+    group = None;
+    project = project;
+    distinct = false;
+    collations = [];
+    order = [];
+    limit = lit (Int (pos 1));
+    offset = lit (Int (pos 0));
+  }
+
+  first_shown : (db : Trees) (rows : List Row) → IsAnswer first_query db params rows → length rows ≡ min 1 (length (filter (wants t tests params) (db t)))
+  first_shown db rows a =
+      let kept : length a.kept ≡ length (filter (wants t tests params) (db t)) = ap length a.distinct ∙ length-map a.staged (output first_query) ∙ ap length a.grouped ∙ matched t tests params (db t) in
+      let ordered : length a.ordered ≡ length a.kept = length_permutation a.kept a.ordered a.same in
+      ap length a.shown ∙ length_first (λ (o : Output). o.1) a.ordered ∙ ap (min 1) (ordered ∙ kept)
+
+-- what such a text means under the office's schema
+pub record AsksFirst (sql : List ℕ) (t : ℕ) (tests project : List Term) (names : List (List ℕ)) (params : Row) : Type 0 where
+  pub command : command_of (understood office_schema sql) ≡ Select (record { lets = []; body = first_query t tests project params }) names
+  pub listing : reads_listing office_schema sql ≡ false
+  pub plain : IsPlain (understood office_schema sql)
+
+module _ (sql : List ℕ) (t : ℕ) (tests project : List Term) (names : List (List ℕ)) (params : Row) (asks : AsksFirst sql t tests project names params) (test : Row → Bool)
+    (same : (r : Row) → test r ≡ list_all (holds (params ∷ r ∷ [])) tests) where
+  test_is : (xs : List Row) → filter (wants t tests params) xs ≡ filter test xs
+  test_is [] = refl
+  test_is (x ∷ xs) = ap (λ b. cond b (x ∷ filter (wants t tests params) xs) (filter (wants t tests params) xs)) (sym (same x)) ∙ ap (λ l. cond (test x) (x ∷ l) l) (test_is xs)
+
+  shows_first_of : (old new : State) (rows : List Row) → old.now.schema ≡ office_schema → Shown sql params old new rows → length rows ≡ min 1 (length (filter test (old.now.trees t)))
+  shows_first_of old new rows schema h =
+      let read = reads_as sql params old new office_schema schema _ asks.command asks.plain asks.listing rows h in
+      first_shown t tests project params (overlay old.now.trees []) rows (read.answer Null)
+      ∙ ap (λ l. min 1 (length l)) (ap (filter (wants t tests params)) (plain_trees old.now.trees t) ∙ test_is (old.now.trees t))
+
+  pub shows_first : {X : Type 0} (rows_of : X → List Row) (old new : State) (r : Result X Error) → old.now.schema ≡ office_schema
+      → IfOk r (λ x. Shown sql params old new (rows_of x)) → IfOk r (λ x. length (rows_of x) ≡ min 1 (length (filter test (old.now.trees t))))
+  shows_first rows_of old new (Err e) schema h = tt
+  shows_first rows_of old new (Ok x) schema h = shows_first_of old new (rows_of x) schema h
+
 -- what the text of a count means under the office's schema
 pub record AsksCount (sql : List ℕ) (t : ℕ) (tests : List Term) (params : Row) : Type 0 where
   pub command : command_of (understood office_schema sql) ≡ Select (record { lets = []; body = count_query t tests params }) (codes "count(*)" ∷ [])
@@ -103,11 +152,11 @@ module _ (sql : List ℕ) (t : ℕ) (tests : List Term) (params : Row) (asks : A
       → rows ≡ (count (length (filter test (map values (old.now.trees t)))) ∷ []) ∷ []
   counts_these old new rows schema h =
       let read = reads_as sql params old new office_schema schema _ asks.command asks.plain asks.listing rows h in
-      let wants : Row → Bool = λ r. list_all (holds (params ∷ r ∷ [])) tests in
+      let passes = wants t tests params in
       let table = old.now.trees t in
-      let many : length (filter wants table) ≡ length (filter test (map values table)) = sym (length-map (filter wants table) values) ∙ ap length (filter_map_is values test wants same table) in
+      let many : length (filter passes table) ≡ length (filter test (map values table)) = sym (length-map (filter passes table) values) ∙ ap length (filter_map_is values test passes same table) in
       counted t tests params (overlay old.now.trees []) rows (read.answer Null)
-      ∙ ap (λ l. (count (length (filter wants l)) ∷ []) ∷ []) (plain_trees old.now.trees t) ∙ ap (λ n. (count n ∷ []) ∷ []) many
+      ∙ ap (λ l. (count (length (filter passes l)) ∷ []) ∷ []) (plain_trees old.now.trees t) ∙ ap (λ n. (count n ∷ []) ∷ []) many
 
   pub counts : {X : Type 0} (rows_of : X → List Row) (old new : State) (r : Result X Error) → old.now.schema ≡ office_schema
       → IfOk r (λ x. Shown sql params old new (rows_of x)) → IfOk r (λ x. rows_of x ≡ (count (length (filter test (map values (old.now.trees t)))) ∷ []) ∷ [])

@@ -109,7 +109,7 @@ deleted_rows limit keys schema table params q db w alone h =
     let edit = edit_of db table (ids_of given.0) Given 0 [] in
     (given.0, given.1, subst (Applies schema keys db edit) (sym trees) (one_step schema keys db written.0 edit (alone keys 0 table.tree (taken_by db edit) edit.news) written.1), ap (λ (it : Written). it.rows) (same_value written.2))
 
-module _ (schema : Schema) (alone : RefersToNone schema) (at : ℕ) (table : Table) (placed : slice_get schema.tables at ≡ Some table)
+module _ (schema : Schema) (alone : RefersToNone schema) (at : ℕ) (table : Table) (there : slice_get schema.tables at ≡ Some table)
     (sql : List ℕ) (params : Row) (q : Program) (is : command_of (understood schema sql) ≡ Delete at q) (plain : IsPlain (understood schema sql))
     (old new : State) (has : old.now.schema ≡ schema) where
   pub deletes : (count : ℕ) → Executes sql params old new (Ok count)
@@ -119,7 +119,7 @@ module _ (schema : Schema) (alone : RefersToNone schema) (at : ℕ) (table : Tab
       let w = runs_as sql params old new schema has (Delete at q) is plain count h in
       let text = statement_of sql (understood schema sql) in
       let changed = subst (λ s. Does old.step_limit (mode_of old) params (record old.now { schema = s }) text None (Delete at q) (Ok (w.tally, new.now))) has w.changed in
-      let done = went (rw placed at changed) in
+      let done = went (rw there at changed) in
       let task : Task = record { limit = old.step_limit; keys = Enforced; schema = schema; table = table; params = params } in
       let now = concluded task (mode_of old) done.0 w.tally new.now done.2 in
       let wrote = deleted_rows old.step_limit Enforced schema table params q old.now.trees done.0 alone done.1 in

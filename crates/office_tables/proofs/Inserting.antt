@@ -58,7 +58,7 @@ concluded task mode written tally after h = ap (λ (p : Tally × Database). p.1)
 pub tallied : (task : Task) (mode : Mode) (written : Written) (tally : Tally) (after : Database) → Concludes task mode None written (Ok (tally, after)) → tally.rows ≡ Some (length written.rows)
 tallied task mode written tally after h = ap (λ (p : Tally × Database). p.0.rows) (same_value (went (went h).2).2)
 
-module _ (schema : Schema) (alone : RefersToNone schema) (at : ℕ) (table : Table) (placed : slice_get schema.tables at ≡ Some (uncounted table))
+module _ (schema : Schema) (alone : RefersToNone schema) (at : ℕ) (table : Table) (there : slice_get schema.tables at ≡ Some (uncounted table))
     (sql : List ℕ) (params : Row) (terms : List Term) (width : ℕ) (is : command_of (understood schema sql) ≡ Insert at (Values terms width)) (plain : IsPlain (understood schema sql))
     (old new : State) (has : old.now.schema ≡ schema) where
   abbrev pub given_rows : List Row
@@ -71,7 +71,7 @@ module _ (schema : Schema) (alone : RefersToNone schema) (at : ℕ) (table : Tab
       let w = runs_as sql params old new schema has (Insert at (Values terms width)) is plain count h in
       let text = statement_of sql (understood schema sql) in
       let changed = subst (λ s. Does old.step_limit (mode_of old) params (record old.now { schema = s }) text None (Insert at (Values terms width)) (Ok (w.tally, new.now))) has w.changed in
-      let done = went (rw placed at changed) in
+      let done = went (rw there at changed) in
       let task : Task = record { limit = old.step_limit; keys = Enforced; schema = schema; table = uncounted table; params = params } in
       let now = concluded task (mode_of old) done.0 w.tally new.now done.2 in
       let wrote = inserted_rows old.step_limit Enforced schema table params (Values terms width) old.now.trees done.0 alone done.1 in

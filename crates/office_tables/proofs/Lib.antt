@@ -6,7 +6,7 @@ pub mod Keeping
 pub mod Columns
 pub mod Changing
 pub mod Finding
-pub mod Places
+pub mod TableIndices
 pub mod OneSchema
 pub mod Making
 mod Examples

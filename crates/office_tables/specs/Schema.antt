@@ -35,8 +35,8 @@ keyed column = record column { not_null = true }
 abbrev pub ascending : Order
 ascending = record { digits = 0 }
 
--- a STRICT table with these columns, whose primary key is the columns of these places (the rowid is place 0), and with
--- these lists of columns that are unique together
+-- a STRICT table with these columns, whose primary key is the columns of these numbers (the rowid is number 0), and
+-- with these lists of columns that are unique together
 abbrev strict_table : List ℕ → List Column → List ℕ → List (List ℕ) → List Order → Table
 strict_table name columns primary uniques orders = record {
   name = name;
@@ -53,7 +53,7 @@ strict_table name columns primary uniques orders = record {
   is_counted = false;
 }
 
--- a STRICT table with a key of these places
+-- a STRICT table with a key of the columns of these numbers
 abbrev keyed_table : List ℕ → List Column → List ℕ → Table
 keyed_table name columns key = strict_table name columns key (key ∷ []) (ascending ∷ [])
 

@@ -1,15 +1,15 @@
 -- The least free number depends only on which numbers are taken, and it has the form.
 use Rattle.std.proofs.Common.{◌≡◌, ℕ, ◌<◌, List, Bool, true, false, length, get_or, sym, refl, ap, ◌∙◌, subst, not, ◌&&◌, Option, Some, None, eqb, Contains, eq-eqb, eqb-true}
-use Rattle.std.specs.Prelude.{◌==◌}
 use Rattle.std.specs.List.{list_any, dedup}
 use Rattle.std.proofs.lemmas.List.Folds.{list_any-from_Any, Any-from_list_any}
 use Rattle.std.proofs.lemmas.List.Kept.{Contains-from_dedup, Contains-dedup_nat}
 use Rattle.office_types.specs.Least.{IsLeastOf}
-use Rattle.office_types.specs.Free.{is_free, is_taken, least_free, has_form}
+use Rattle.office_types.specs.Free.{IsLeastFree, is_free, is_taken, least_free, has_form}
 use Rattle.office_types.specs.Block.{in_block}
 use Rattle.office_types.specs.declared.block.Block.{Block}
 use Rattle.office_types.specs.declared.free.Form.{Form}
-use Rattle.office_types.proofs.Least.{least_once, least_free_is}
+use Rattle.std.specs.Prelude.{◌==◌, IfSome}
+use Rattle.office_types.proofs.Least.{both_true, least_once, least_free_is}
 
 both_ways : (a b : Bool) → (a ≡ true → b ≡ true) → (b ≡ true → a ≡ true) → a ≡ b
 both_ways true true f g = refl
@@ -43,3 +43,10 @@ least_free-same some taken e blocks form =
     least_once (is_free taken blocks form) _ _
     (least_alike (is_free some blocks form) (is_free taken blocks form) (λ n. ap (λ b. list_any (in_block n) blocks && (has_form form n && not b)) (e n)) _ (least_free_is some blocks form))
     (least_free_is taken blocks form)
+
+has_its_form : (taken : List ℕ) (blocks : List Block) (form : Form) (o : Option ℕ) → IsLeastFree taken blocks form o → IfSome o (λ n. has_form form n ≡ true)
+has_its_form taken blocks form None h = tt
+has_its_form taken blocks form (Some n) h = (both_true (has_form form n) (not (is_taken n taken)) (both_true (list_any (in_block n) blocks) (has_form form n && not (is_taken n taken)) h.0).1).0
+
+pub least_free-formed : (taken : List ℕ) (blocks : List Block) (form : Form) → IfSome (least_free taken blocks form) (λ n. has_form form n ≡ true)
+least_free-formed taken blocks form = has_its_form taken blocks form (least_free taken blocks form) (least_free_is taken blocks form)

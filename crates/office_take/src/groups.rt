@@ -13,10 +13,10 @@ ghost use Rattle.office_facts.specs.By.{take_pgn_by};
 ghost use Rattle.office_take.specs.FactsOf.{number_facts_of, refused_or_full};
 
 use crate::numbers::{NumberFacts, group_facts, message_taken, name_refusal, taken_idents};
-use crate::taken::{Taken, ascending, least_of_team};
+use crate::taken::{Taken, least_beside, least_of_team};
 use can_id::{Ident, J1939};
 use office_facts::{group_of, has_block, is_j1939, refusal_decision};
-use office_types::{BlockForm, Decision, Net, Pdu, Refusal, TakePgn, Team};
+use office_types::{Block, BlockForm, Decision, Form, Net, Pdu, Refusal, TakePgn, Team};
 use std::alloc::{AllocError, Global};
 
 /// The address of every node (SAE J1939-21).
@@ -42,9 +42,14 @@ fn taken_groups(alloc: Global, net: &Net) -> Result<Vec<u32>, AllocError>
 impl Taken for TakenGroups<'_> {
     ghost numbers = { λ taken. taken_groups taken.net.now };
 
-    fn ascending(&self, alloc: Global) -> Result<Vec<u32>, AllocError> {
+    fn least_free(
+        &self,
+        alloc: Global,
+        blocks: &[Block],
+        form: Form,
+    ) -> Result<Option<u32>, AllocError> {
         let numbers = taken_groups(alloc, self.net)?;
-        ascending(numbers)
+        least_beside(numbers, blocks, form)
     }
 }
 

@@ -1,9 +1,10 @@
 //! Taking an identifier for a new message.
 ghost use Rattle.std.specs.Prelude.{◌≡◌, ℕ, List, Some, true, IfNone, IfOk, IfSome};
+ghost use Rattle.std.specs.List.Sorted.{IsStrictlyIncreasing};
 ghost use Rattle.std.specs.Option.{option_copied};
 ghost use Rattle.can_id.specs.Ident.{ident_of};
 ghost use Rattle.catalogue.specs.Refusing.{first_refusal};
-ghost use Rattle.office_types.specs.Free.{has_form, number_form};
+ghost use Rattle.office_types.specs.Free.{has_form, is_taken, number_form};
 ghost use Rattle.office_types.specs.declared.book.SpnBook.{SpnBook};
 ghost use Rattle.office_types.specs.declared.state.Net.{Net};
 ghost use Rattle.office_rules.specs.Change.{Decides};
@@ -13,10 +14,10 @@ ghost use Rattle.office_facts.specs.By.{take_ident_by};
 ghost use Rattle.office_take.specs.FactsOf.{number_facts_of, refused_or_full};
 
 use crate::numbers::{NumberFacts, ident_facts, message_taken, name_refusal, taken_idents};
-use crate::taken::{Taken, ascending, least_of_team};
+use crate::taken::{Taken, ascending, least_beside, least_of_team};
 use can_id::{Ident, IdentForm};
 use office_facts::{has_block, has_number, number_in, refusal_decision};
-use office_types::{BlockForm, Decision, Form, Net, Refusal, TakeIdent, Team};
+use office_types::{Block, BlockForm, Decision, Form, Net, Refusal, TakeIdent, Team};
 use std::alloc::{AllocError, Global};
 
 /// The numbers of a network's live and held identifiers of a form.
@@ -37,12 +38,27 @@ fn taken_numbers(alloc: Global, net: &Net, form: IdentForm) -> Result<Vec<u32>, 
         .collect(alloc)
 }
 
+/// The numbers of the network's live and held identifiers of the form, in ascending order, each once. The error is out
+/// of memory.
+pub fn ascending_numbers(alloc: Global, net: &Net, form: IdentForm) -> Result<Vec<u32>, AllocError>
+    ensures rising { IfOk result (λ v. IsStrictlyIncreasing v.items) }
+    ensures same { IfOk result (λ v. (n : ℕ) → is_taken n v.items ≡ is_taken n (taken_numbers net.now form)) }
+{
+    let numbers = taken_numbers(alloc, net, form)?;
+    ascending(numbers)
+}
+
 impl Taken for TakenIdents<'_> {
     ghost numbers = { λ taken. taken_numbers taken.net.now taken.form };
 
-    fn ascending(&self, alloc: Global) -> Result<Vec<u32>, AllocError> {
+    fn least_free(
+        &self,
+        alloc: Global,
+        blocks: &[Block],
+        form: Form,
+    ) -> Result<Option<u32>, AllocError> {
         let numbers = taken_numbers(alloc, self.net, self.form)?;
-        ascending(numbers)
+        least_beside(numbers, blocks, form)
     }
 }
 

@@ -1,7 +1,8 @@
 //! Taken numbers that the caller has.
 ghost use Rattle.std.specs.Prelude.{◌≡◌};
 
-use crate::taken::{Taken, ascending};
+use crate::taken::{Taken, least_beside};
+use office_types::{Block, Form};
 use std::alloc::{AllocError, Global};
 
 /// Numbers that are taken, in any order; the search is fastest where they ascend.
@@ -14,8 +15,13 @@ pub struct ListedNumbers<'a> {
 impl Taken for ListedNumbers<'_> {
     ghost numbers = { λ listed. listed.numbers.now };
 
-    fn ascending(&self, alloc: Global) -> Result<Vec<u32>, AllocError> {
+    fn least_free(
+        &self,
+        alloc: Global,
+        blocks: &[Block],
+        form: Form,
+    ) -> Result<Option<u32>, AllocError> {
         let numbers = self.numbers.iter().copied().collect(alloc)?;
-        ascending(numbers)
+        least_beside(numbers, blocks, form)
     }
 }

@@ -10,8 +10,8 @@ ghost use Rattle.office_rules.specs.Numbers.{name_tests, new_message};
 ghost use Rattle.office_take.specs.FactsOf.{number_facts_of};
 
 use can_id::{Ident, IdentForm};
-use catalogue::{Copying, MESSAGE_LIMIT, Message, Name, Node, Signals, Text};
-use office_facts::{has_ident, ident_is, in_review, is_named, knows_node, one_change};
+use catalogue::{Copying, Message, Name, Node, Signals, Text};
+use office_facts::{has_ident, ident_is, in_review, is_full, is_named, knows_node, one_change};
 use office_types::{
     Change, Decision, GrantedBlock, LiveMessage, Net, NetKind, NewMessage, Phase, Refusal, Reply,
     TakeIdent, Team,
@@ -31,8 +31,8 @@ pub struct NumberFacts<'a> {
     pub blocks: &'a [GrantedBlock],
     /// Whether a live message has the new message's name.
     pub named: bool,
-    /// How many live messages there are.
-    pub count: usize,
+    /// Whether there are as many live messages as there may be.
+    pub full: bool,
     /// Whether a live message has the wanted identifier.
     pub want_live: bool,
     /// Whether the wanted identifier is held.
@@ -96,7 +96,7 @@ pub fn ident_facts<'a>(net: &'a Net, command: &TakeIdent) -> NumberFacts<'a>
         nodes: net.head.frame.nodes(),
         blocks: net.blocks.as_slice(),
         named: is_named(net, &command.message.name),
-        count: net.live.as_slice().len(),
+        full: is_full(net),
         want_live,
         want_held,
     }
@@ -113,7 +113,7 @@ pub fn group_facts<'a>(net: &'a Net, name: &Name) -> NumberFacts<'a>
         nodes: net.head.frame.nodes(),
         blocks: net.blocks.as_slice(),
         named: is_named(net, name),
-        count: net.live.as_slice().len(),
+        full: is_full(net),
         want_live: false,
         want_held: false,
     }
@@ -129,7 +129,7 @@ pub(crate) fn name_refusal(facts: &NumberFacts<'_>, message: &NewMessage) -> Opt
         Some(Refusal::NoNode)
     } else if facts.named {
         Some(Refusal::NameTaken)
-    } else if facts.count >= MESSAGE_LIMIT {
+    } else if facts.full {
         Some(Refusal::TooMany)
     } else {
         None

@@ -74,7 +74,7 @@ pub fn least_numbers_are_least()
         → IsLeastFree taken blocks form (least_free taken blocks form) }
 {}
 
-/// Whether each number is above the one before it. None or one number rises.
+/// Whether each number is above the one before it, as none or one number is.
 pub fn is_ascending(numbers: &[u32]) -> bool
     ensures { IsTrue result ↔ IsStrictlyIncreasing numbers.now }
 {
@@ -87,7 +87,7 @@ pub fn is_ascending(numbers: &[u32]) -> bool
 }
 
 /// How many of the ascending numbers are below `number`.
-fn count_below(taken: &[u32], number: u32) -> usize
+pub(crate) fn count_below(taken: &[u32], number: u32) -> usize
     requires { IsStrictlyIncreasing taken.now }
     ensures { SplitsAt taken.now result number }
 {
@@ -189,7 +189,8 @@ fn least_in(taken: &[u32], block: Block, form: Form) -> (Option<u32>, u128)
     (Some(number), turns)
 }
 
-fn lesser(a: Option<u32>, b: Option<u32>) -> Option<u32>
+/// The lesser of two numbers, or the one that there is.
+pub(crate) fn lesser(a: Option<u32>, b: Option<u32>) -> Option<u32>
     ensures { result ≡ lesser_of a b }
 {
     match (a, b) {
@@ -220,7 +221,7 @@ pub fn least_free_counted(taken: &[u32], blocks: &[Block], form: Form) -> (Optio
 
 /// The least number that lies in one of the blocks, has the form and isn't taken; `None` where there is none.
 ///
-/// `taken` rises, which [`is_ascending`] tells. The blocks need not be in any order, nor apart.
+/// `taken` ascends, as [`is_ascending`] shows. The blocks need not be in any order, nor apart.
 pub fn least_free(taken: &[u32], blocks: &[Block], form: Form) -> Option<u32>
     requires { IsStrictlyIncreasing taken.now }
     ensures least { IsLeastFree taken.now blocks.now form result }

@@ -7,7 +7,8 @@
 //! also what tables ordered by key hold. A [`Change`] is one thing that a command sets or removes. What tables keep as
 //! numbers (kinds, phases, forms, refusals, replies) has its numbers here, both ways.
 //!
-//! [`least_free`] is the allocator: the least number of some blocks that has a form and isn't taken.
+//! [`least_free`] is the allocator: the least number of some blocks that has a form and isn't taken. [`least_gap`] gives
+//! the same number, found by halving but for parameter groups.
 //!
 //! The definitions are in `specs/`: `PlainName.antt`, `Command.antt` (ranges of a command's fields),
 //! `Refusal.antt` and `Reply.antt` (numbers, names and lines), `State.antt` and `Book.antt` (orders), and `Free.antt`.
@@ -18,6 +19,7 @@ mod book;
 mod change;
 mod command;
 mod free;
+mod halving;
 mod look;
 mod net_name;
 mod parts;
@@ -41,6 +43,7 @@ pub use command::{
 pub use free::{
     Form, is_ascending, least_free, least_free_counted, least_numbers_are_least, next_of,
 };
+pub use halving::least_gap;
 pub use look::Look;
 pub use net_name::NetName;
 pub use parts::{PART_LIMIT, Parts};

@@ -5,7 +5,7 @@ ghost use Rattle.office_types.specs.declared.refusal.Refusal.{Refusal};
 
 /// What is wrong with an imported file: the number of a fault of reading, and its byte offset; or 22, 23 or 24, and the
 /// DBC number of the first message whose signals don't fit together. Or with a bundle: the number of the refusal of its
-/// first refused part, and that part's place, from 1.
+/// first refused part, and that part's number, from 1.
 #[derive(Clone, Copy, Debug, PartialEq, Eq)]
 pub struct FileFault {
     /// The fault's number.

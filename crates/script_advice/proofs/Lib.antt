@@ -1,4 +1,4 @@
-pub mod Placing
+pub mod LineWords
 pub mod GivenAfter
 pub mod WordForms
 pub mod WrongLaw

@@ -14,13 +14,13 @@ use Rattle.office_script.specs.declared.keys.Dash.TheVariants as dash
 use Rattle.script_advice.specs.Cause.{part_wrong, wrong_at, wrong_of}
 use Rattle.script_advice.specs.Explained.{IsStatedOf, wrong_parts}
 use Rattle.script_advice.specs.Phrase.{phrase_of}
-use Rattle.script_advice.specs.Places.{offset_of, word_of}
+use Rattle.script_advice.specs.Words.{offset_of, word_of}
 use Rattle.script_advice.specs.Sentence.{sentence_of}
 use Rattle.script_advice.specs.declared.cause.Cause.TheVariants.{Short, Key, Team, Command, PartCommand, NoField, Escape, Unknown, Doubled, WrongValue, Missing, Apart}
 use Rattle.script_advice.specs.declared.cause.LineCommand.TheVariants.{Part, Whole}
 use Rattle.script_advice.specs.declared.cause.Wrong.{Wrong}
 
--- ---- places
+-- ---- offsets
 
 offsets : map (offset_of (words_of (codes "k1  engine submit"))) (0 ∷ 1 ∷ 2 ∷ 3 ∷ []) ≡ 0 ∷ 3 ∷ 4 ∷ 11 ∷ []
 offsets = refl

@@ -11,19 +11,19 @@ use Rattle.office_script.specs.Words.{words_of}
 use Rattle.office_script.specs.declared.files.PathFault.TheVariants.{Unreadable}
 use Rattle.office_script.specs.declared.keys.Dash.{Dash}
 use Rattle.script_advice.specs.Cause.{part_wrong, wrong_at, wrong_of}
-use Rattle.script_advice.specs.Places.{offset_of, word_of}
+use Rattle.script_advice.specs.Words.{offset_of, word_of}
 use Rattle.script_advice.specs.Sentence.{sentence_of}
 use Rattle.script_advice.specs.declared.cause.Cause.TheVariants.{Count}
 use Rattle.script_advice.specs.declared.cause.Wrong.{Wrong}
 
 -- the line of this number, from 1, and the column, from 1 and in bytes, at which a word of it begins
-abbrev pub place_of : ℕ → List ℕ → ℕ → Position
-place_of number line index = record { line = number; column = offset_of (words_of line) index + 1 }
+abbrev pub position_of_word : ℕ → List ℕ → ℕ → Position
+position_of_word number line index = record { line = number; column = offset_of (words_of line) index + 1 }
 
 -- what is stated of the line of this number
 abbrev pub wrong_line : List ℕ → ℕ → List ℕ → Wrong → List ℕ
 wrong_line file number line w =
-    reported_line file (place_of number line w.word) (codes "bad line") (sentence_of w.cause (word_of (words_of line) w.word))
+    reported_line file (position_of_word number line w.word) (codes "bad line") (sentence_of w.cause (word_of (words_of line) w.word))
 
 -- ---- the file of a bundle
 

@@ -1,4 +1,4 @@
-pub mod Places
+pub mod Words
 pub mod Cause
 pub mod Phrase
 pub mod Sentence

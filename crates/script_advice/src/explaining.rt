@@ -10,8 +10,8 @@ ghost use Rattle.script_advice.specs.Explained.{IsStatedOf, wrong_line};
 use crate::bundles::stated_of_bundle;
 use crate::cause::Wrong;
 use crate::finding::wrong_of;
-use crate::places::word_at;
 use crate::sentences::sentence_of;
+use crate::words::word_at;
 use dbc_advice::{Position, reported_line};
 use office_script::{Dash, FileSource, first_line};
 use std::alloc::{AllocError, Global};
@@ -29,13 +29,13 @@ pub(crate) fn wrong_line(
 ) -> Result<Vec<u8>, AllocError>
     ensures { IfOk result (λ reported. reported.items ≡ wrong_line name.now number line.now wrong) }
 {
-    let placed = word_at(line, wrong.word);
-    let column = placed.offset + 1;
+    let found = word_at(line, wrong.word);
+    let column = found.offset + 1;
     let position = Position {
         line: number,
         column,
     };
-    let sentence = sentence_of(alloc, wrong.cause, placed.word)?;
+    let sentence = sentence_of(alloc, wrong.cause, found.word)?;
     reported_line(alloc, name, position, LABEL, &sentence)
 }
 

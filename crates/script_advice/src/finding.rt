@@ -10,8 +10,8 @@ ghost use Rattle.script_advice.specs.Cause.{can_be_had, fields_wrong, part_wrong
 
 use crate::cause::{Cause, LineCommand, Wrong};
 use crate::forms::form_wrong;
-use crate::places::{LineParts, line_parts};
 use crate::values::values_wrong;
+use crate::words::{LineParts, line_parts};
 use office_fields::{ActionKind, CommandKind, GivenValue, Unread, part_of, requested_of, team_of};
 use office_script::{Dash, first_word, key_of, read_fields, says_nothing};
 use std::alloc::{AllocError, Global};

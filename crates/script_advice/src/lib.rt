@@ -2,7 +2,7 @@
 //! and what may be there.
 //!
 //! [`explained`] gives the bytes for standard error. `specs/Cause.antt` defines why a line is wrong, in terms of the
-//! words of a line (`office_script`) and of the table of fields (`office_fields`), `specs/Places.antt` where a word is,
+//! words of a line (`office_script`) and of the table of fields (`office_fields`), `specs/Words.antt` where a word is,
 //! `specs/Sentence.antt` and `specs/Phrase.antt` what is stated, and `specs/Explained.antt` the whole. Whether a line
 //! is wrong is the matter of `office_script`, and by the contract of [`explained`] what is reported here agrees with
 //! it.
@@ -15,9 +15,9 @@ mod finding;
 mod forms;
 mod lists;
 mod phrases;
-mod places;
 mod sentences;
 mod values;
+mod words;
 
 pub use cause::{Cause, LineCommand, Wrong};
 pub use explaining::explained;

@@ -183,8 +183,8 @@ fn decide_by_net<S: Alter>(
 }
 
 /// Decides the team's command on what the tables have, where that is a network of an office, and gives the number of the
-/// network's next release if the changes may have one. An error is out of memory, what `sqlite` answers, or `InvalidQuery` where the rows are no
-/// office's.
+/// network's next release if the changes may have one. An error is out of memory, what `sqlite` answers, or
+/// `InvalidQuery` where the rows are no office's.
 pub(crate) fn decide_on_tables<S: Alter>(
     alloc: Global,
     tx: &mut Transaction<'_, S>,

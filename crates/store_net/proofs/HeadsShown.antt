@@ -1,5 +1,5 @@
 -- A name is live if the query on it shows a row, and the query that counts shows how many live messages there are.
-use Rattle.std.proofs.Common.{◌≡◌, ◌∙◌, ℕ, suc, ◌<◌, ◌^◌, pos, Bool, true, false, cond, not, List, [], ◌∷◌, filter, length, Some, refl, sym, ap, arith}
+use Rattle.std.proofs.Common.{◌≡◌, ◌≤◌, ◌∙◌, ℕ, suc, ◌<◌, ◌^◌, pos, Bool, true, false, cond, not, List, [], ◌∷◌, filter, length, Some, refl, sym, ap, arith}
 use Rattle.std.specs.Prelude.{◌==◌, ◌||◌, min, slice_get}
 use Rattle.std.specs.List.{list_any}
 use Rattle.std.specs.Str.{bytes_eq}
@@ -32,6 +32,14 @@ any_of_filter test (x ∷ xs) = by_test (test x) (any_of_filter test xs)
     by_test true rest = not_none (length (filter test xs))
     by_test false rest = rest
 
+pub filter_shorter : {X : Type 0} (test : X → Bool) (xs : List X) → length (filter test xs) ≤ length xs
+filter_shorter test [] = omega arith
+filter_shorter test (x ∷ xs) = by_test (test x) (filter_shorter test xs)
+  where
+    by_test : (b : Bool) → length (filter test xs) ≤ length xs → length (cond b (x ∷ filter test xs) (filter test xs)) ≤ suc (length xs)
+    by_test true rest = omega (arith, rest)
+    by_test false rest = omega (arith, rest)
+
 module _ (name : List ℕ) (t : Tables) (live : List LiveMessage) (h : AreLiveRows name (live_rows name t) live) where
   -- the message of the name is there if a row is shown
   pub named_by_rows : (message : List ℕ) (rows : List Row) → IsSelected (has_net_and_name name message) msg_named_shown msg_named_order t.msg rows
@@ -41,17 +49,14 @@ module _ (name : List ℕ) (t : Tables) (live : List LiveMessage) (h : AreLiveRo
       ap (λ n. not (n == 0)) (count_shown ShowsLive named rows (named_are_shown name t live message rows h sel))
       ∙ any_of_filter (λ m. bytes_eq (live_name m) message) live
 
-  rows_counted : length (filter (is_of_net name) t.msg) ≡ length live
+  pub rows_counted : length (filter (is_of_net name) t.msg) ≡ length live
   rows_counted =
       sym (length_permutation (filter (is_of_net name) t.msg) h.messages.found h.messages.same) ∙ count_shown (IsMsgRow name) live h.messages.found h.messages.each
 
-  -- a count of 32 bits is exact
-  pub counted : (rows : List Row) (row : Row) (n : ℕ) → rows ≡ (count (length (filter (is_of_net name) t.msg)) ∷ []) ∷ [] → Some row ≡ slice_get rows 0
-      → column row 0 ≡ Int (pos n) → n < 2 ^ 32 → n ≡ length live
-  counted rows row n are first shown fits =
-      let k = length (filter (is_of_net name) t.msg) in
-      let one : Some row ≡ Some (count k ∷ []) = first ∙ ap (λ l. slice_get l 0) are in
-      let same : row ≡ count k ∷ [] = cc in
-      let least : min k 9223372036854775807 ≡ n = one_number (column row 0) (min k 9223372036854775807) n (ap (λ x. column x 0) same) shown in
-      let exact : n ≡ k = omega (arith, least, fits) in
-      exact ∙ rows_counted
+-- a count of 32 bits is exact
+pub exact_count : (rows : List Row) (row : Row) (k n : ℕ) → rows ≡ (count k ∷ []) ∷ [] → Some row ≡ slice_get rows 0 → column row 0 ≡ Int (pos n) → n < 2 ^ 32 → n ≡ k
+exact_count rows row k n are first shown fits =
+    let one : Some row ≡ Some (count k ∷ []) = first ∙ ap (λ l. slice_get l 0) are in
+    let same : row ≡ count k ∷ [] = cc in
+    let least : min k 9223372036854775807 ≡ n = one_number (column row 0) (min k 9223372036854775807) n (ap (λ x. column x 0) same) shown in
+    omega (arith, least, fits)

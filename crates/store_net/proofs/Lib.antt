@@ -21,3 +21,4 @@ pub mod Inside
 pub mod NumberExcerpts
 mod NumberExamples
 pub mod Bare
+mod FewRows

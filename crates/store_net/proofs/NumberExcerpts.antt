@@ -17,7 +17,7 @@ use Rattle.office_rules.specs.Facts.{blocks_of, group_of, is_held, is_live, is_w
 use Rattle.office_facts.specs.By.{AgreeInside}
 use Rattle.office_facts.specs.Excerpt.{IsExcerptOf}
 use Rattle.office_facts.specs.declared.excerpt.Excerpt.{Excerpt}
-use Rattle.store_net.specs.Excerpts.{HasNameAndCount}
+use Rattle.store_net.specs.Excerpts.{HasNameAndRoom}
 use Rattle.store_net.specs.Numbers.{idents_between, idents_inside, live_idents}
 use Rattle.store_net.proofs.Inside.{groups_inside, numbers_inside}
 
@@ -41,7 +41,7 @@ groups_read team net live held groups live_is held_is are identifiers =
     ∙ ap (λ (l : List Ident). filter_map group_of (idents_between EXTENDED_FLAG (EXTENDED_FLAG + GREATEST_EXTENDED) net.live ++ l)) held_is in
     subst (λ (l : List ℕ). AgreeInside (blocks_of net.blocks team Pgn) l (taken_groups net)) (sym read) (groups_inside (blocks_of net.blocks team Pgn) net.live net.held identifiers)
 
-pub of_ident : (team : List ℕ) (net : Net) (c : TakeIdent) (e : Excerpt) (live held : Bool) (numbers : List ℕ) → HasNameAndCount c.message.name net e
+pub of_ident : (team : List ℕ) (net : Net) (c : TakeIdent) (e : Excerpt) (live held : Bool) (numbers : List ℕ) → HasNameAndRoom c.message.name net e
     → live ≡ is_wanted (is_live net) c.form c.want → held ≡ is_wanted (is_held net) c.form c.want
     → AgreeInside (blocks_of net.blocks team (block_form c.form)) numbers (taken_numbers net c.form)
     → IsExcerptOf team net (Act (act.TakeIdent c)) (record e { want_live = live; want_held = held; taken = numbers })
@@ -54,7 +54,7 @@ of_ident team net c e live held numbers has live_is held_is agree = record {
       nodes = (sym has.head i).frame.nodes;
       blocks = sym has.blocks i;
       named = sym has.named i;
-      count = sym has.count i;
+      full = sym has.full i;
       want_live = sym live_is i;
       want_held = sym held_is i;
       taken = numbers;
@@ -64,7 +64,7 @@ of_ident team net c e live held numbers has live_is held_is agree = record {
   released = tt;
 }
 
-pub of_group : (team : List ℕ) (net : Net) (c : TakePgn) (e : Excerpt) (numbers : List ℕ) → HasNameAndCount c.message.name net e
+pub of_group : (team : List ℕ) (net : Net) (c : TakePgn) (e : Excerpt) (numbers : List ℕ) → HasNameAndRoom c.message.name net e
     → AgreeInside (blocks_of net.blocks team Pgn) numbers (taken_groups net)
     → IsExcerptOf team net (Act (act.TakePgn c)) (record e { taken = numbers })
 of_group team net c e numbers has agree = record {
@@ -76,7 +76,7 @@ of_group team net c e numbers has agree = record {
       nodes = (sym has.head i).frame.nodes;
       blocks = sym has.blocks i;
       named = sym has.named i;
-      count = sym has.count i;
+      full = sym has.full i;
       want_live = sym has.want_live i;
       want_held = sym has.want_held i;
       taken = numbers;

@@ -1,8 +1,8 @@
 -- Networks of rows, as an excerpt reads them: the head, the blocks, the held identifiers and the live messages.
-use Rattle.std.specs.Prelude.{◌≡◌, ℕ, false, List, length, Option, Some, None, IfSome}
+use Rattle.std.specs.Prelude.{◌≡◌, ℕ, false, List, Option, Some, None, IfSome}
 use Rattle.office_facts.specs.declared.excerpt.Excerpt.{Excerpt}
 use Rattle.office_types.specs.declared.state.Net.{Net}
-use Rattle.office_rules.specs.Facts.{in_last, is_named, live_named}
+use Rattle.office_rules.specs.Facts.{in_last, is_full, is_named, live_named}
 use Rattle.office_tables.specs.Tables.{Tables}
 use Rattle.store_rows.specs.Live.{AreLiveRows, live_rows}
 use Rattle.store_net.specs.Parts.{HasBlocks, HasHead, HasHeld}
@@ -44,11 +44,11 @@ abbrev pub TellsExcerpt : List ℕ → Option Net → Option Excerpt → Type 0
 TellsExcerpt message net e = MatchBoth (IsExcerptFor message) net e
 
 -- the excerpt is the network's but for identifiers, of which none is wanted: whether a live message has this name, and
--- how many there are
-pub record HasNameAndCount (message : List ℕ) (net : Net) (e : Excerpt) : Type 0 where
+-- whether there are as many as there may be
+pub record HasNameAndRoom (message : List ℕ) (net : Net) (e : Excerpt) : Type 0 where
   pub head : e.head ≡ net.head
   pub blocks : e.blocks ≡ net.blocks
   pub named : e.named ≡ is_named net message
-  pub count : e.count ≡ length net.live
+  pub full : e.full ≡ is_full net
   pub want_live : e.want_live ≡ false
   pub want_held : e.want_held ≡ false

@@ -32,7 +32,7 @@ fn excerpt_of(
         blocks,
         found,
         named: false,
-        count: 0,
+        full: false,
         want_live: false,
         want_held: false,
         taken: Items::new(alloc),

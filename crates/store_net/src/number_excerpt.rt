@@ -1,6 +1,6 @@
 //! What a command that gives out a number reads of its network: its row, its blocks, the held identifiers, and of the
-//! live messages whether one has a name, how many there are, and which identifiers they have that could be given out.
-//! No message is read.
+//! live messages whether one has a name, whether there are as many as there may be, and which identifiers they have
+//! that could be given out. No message is read.
 ghost use Rattle.std.specs.Prelude.{◌≡◌, ◌++◌, ℕ, List, Option, IfOk};
 ghost use Rattle.std.specs.List.{filter_map, list_any};
 ghost use Rattle.office_facts.specs.Excerpt.{IsExcerptOf};
@@ -9,10 +9,10 @@ ghost use Rattle.office_types.specs.declared.command.Action.TheVariants as act;
 ghost use Rattle.office_types.specs.declared.command.Task.TheVariants.{Act};
 ghost use Rattle.office_types.specs.declared.state.Net.{Net as Network};
 ghost use Rattle.sqlite.specs.Held.{state};
-ghost use Rattle.store_net.specs.Excerpts.{HasNameAndCount, IsReadIn, MatchBoth};
+ghost use Rattle.store_net.specs.Excerpts.{HasNameAndRoom, IsReadIn, MatchBoth};
 ghost use Rattle.office_rows.specs.Statement.{ChangesNothing, CommitsNothing, Finds, LeavesNothing};
 
-use crate::heads::{count_at, is_named_at};
+use crate::heads::{is_full_at, is_named_at};
 use crate::parts::{blocks_of, head_of, held_of};
 use crate::ranges::{live_idents_at, live_inside_at, want_live_at};
 use can_id::{EXTENDED_FLAG, GREATEST_EXTENDED, Ident, IdentForm};
@@ -22,9 +22,9 @@ use office_types::{BlockForm, NetName, TakeIdent, TakePgn, Team};
 use sqlite::{Alter, Error, Transaction};
 use std::alloc::{AllocError, Global};
 
-/// The excerpt of the network without identifiers: its head, its blocks, whether a live message has the name, and how
-/// many there are. `None` where the network isn't there.
-fn counted_excerpt_at<S: Alter>(
+/// The excerpt of the network without identifiers: its head, its blocks, whether a live message has the name, and
+/// whether there are as many as there may be. `None` where the network isn't there.
+fn named_excerpt_at<S: Alter>(
     alloc: Global,
     tx: &mut Transaction<'_, S>,
     name: &NetName,
@@ -33,7 +33,7 @@ fn counted_excerpt_at<S: Alter>(
     ensures same_reference { tx.new.conn.ghost_name ≡ tx.old.conn.ghost_name }
     ensures found { Finds result (state S.Store tx.old.conn.now) (state S.Store tx.new.conn.now)
         (λ found t. (net : Option Network) → IsReadIn name.now t net
-        → MatchBoth (HasNameAndCount message.now) net found) }
+        → MatchBoth (HasNameAndRoom message.now) net found) }
     ensures same { ChangesNothing result (state S.Store tx.old.conn.now) (state S.Store tx.new.conn.now) }
     ensures kept { CommitsNothing (state S.Store tx.old.conn.now) (state S.Store tx.new.conn.now) }
     ensures survives { LeavesNothing (state S.Store tx.old.conn.now) (state S.Store tx.new.conn.now) }
@@ -43,13 +43,13 @@ fn counted_excerpt_at<S: Alter>(
     };
     let blocks = blocks_of(alloc, tx, name)?;
     let named = is_named_at(tx, name, message)?;
-    let count = count_at(tx, name)?;
+    let full = is_full_at(tx, name)?;
     Ok(Some(Excerpt {
         head,
         blocks,
         found: None,
         named,
-        count,
+        full,
         want_live: false,
         want_held: false,
         taken: Items::new(alloc),
@@ -110,7 +110,7 @@ pub fn ident_excerpt_at<S: Alter>(
     ensures kept { CommitsNothing (state S.Store tx.old.conn.now) (state S.Store tx.new.conn.now) }
     ensures survives { LeavesNothing (state S.Store tx.old.conn.now) (state S.Store tx.new.conn.now) }
 {
-    let Some(mut excerpt) = counted_excerpt_at(alloc, tx, name, &take.message.name)? else {
+    let Some(mut excerpt) = named_excerpt_at(alloc, tx, name, &take.message.name)? else {
         return Ok(None);
     };
     let form = take.form;
@@ -146,7 +146,7 @@ pub fn group_excerpt_at<S: Alter>(
     ensures kept { CommitsNothing (state S.Store tx.old.conn.now) (state S.Store tx.new.conn.now) }
     ensures survives { LeavesNothing (state S.Store tx.old.conn.now) (state S.Store tx.new.conn.now) }
 {
-    let Some(mut excerpt) = counted_excerpt_at(alloc, tx, name, &take.message.name)? else {
+    let Some(mut excerpt) = named_excerpt_at(alloc, tx, name, &take.message.name)? else {
         return Ok(None);
     };
     let live = live_idents_at(

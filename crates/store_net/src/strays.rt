@@ -3,10 +3,10 @@ ghost use Rattle.std.specs.Prelude.{◌≡◌};
 ghost use Rattle.sqlite.specs.Held.{state};
 ghost use Rattle.office_rows.specs.Statement.{ChangesNothing, CommitsNothing, LeavesNothing};
 
+use crate::heads::count_shown;
 use office_rows::{count_receivers, count_sigs, count_sigvalues};
 use office_types::LiveMessage;
 use sqlite::{Alter, Error, Row, Transaction};
-use store_rows::number_at;
 
 /// How many rows of each of the three tables live messages have.
 #[derive(Clone, Copy)]
@@ -37,15 +37,10 @@ fn counts_of(live: &[LiveMessage]) -> Counts {
 
 /// An error where the rows of a count don't show this one.
 fn refuse_other(rows: &[Row], count: usize) -> Result<(), Error> {
-    match rows.first() {
-        None => Err(Error::InvalidQuery),
-        Some(row) => {
-            if number_at(row, 0)? as usize == count {
-                Ok(())
-            } else {
-                Err(Error::InvalidQuery)
-            }
-        }
+    if count_shown(rows)? == count {
+        Ok(())
+    } else {
+        Err(Error::InvalidQuery)
     }
 }
 

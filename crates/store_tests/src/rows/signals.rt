@@ -5,8 +5,9 @@ use office_rows::{
     MsgRow, MuxColumn, PartRow, ReceiverRow, SigRow, SigValueRow, clear_messages, clear_profile,
     count_msgs, count_receivers, count_sigs, count_sigvalues, delete_msgs, delete_receivers,
     delete_receivers_at, delete_sig_at, delete_sigs, delete_sigvalues, delete_sigvalues_at,
-    insert_msg, insert_part, insert_receiver, insert_sig, insert_sigvalue, select_msg_named,
-    select_msg_numbers, select_msgs, select_parts, select_receivers, select_sigs, select_sigvalues,
+    insert_msg, insert_part, insert_receiver, insert_sig, insert_sigvalue, select_msg_above,
+    select_msg_below, select_msg_named, select_msg_numbers, select_msgs, select_parts,
+    select_receivers, select_sigs, select_sigvalues,
 };
 use sqlite::{Alter, Error, Transaction};
 use std::io;
@@ -121,6 +122,8 @@ pub(crate) fn show_signals<S: Alter, R: Runtime>(
     show(rt, "named", select_msg_named(tx, net, SHORT))?;
     show(rt, "msg", select_msgs(tx, net))?;
     show(rt, "msgs", count_msgs(tx, net))?;
+    show(rt, "above", select_msg_above(tx, 2))?;
+    show(rt, "below", select_msg_below(tx, 4))?;
     show(rt, "sigs", count_sigs(tx, net))?;
     show(rt, "receivers", count_receivers(tx, net))?;
     show(rt, "values", count_sigvalues(tx, net))?;

@@ -3,22 +3,22 @@ use Rattle.std.specs.Vec.{with_items}
 use Rattle.std.proofs.lemmas.List.{with_items_is}
 use Rattle.catalogue.specs.declared.signal.Signal.{Signal}
 use Rattle.dbc_read.specs.Attaching.{at_index, with_attachment}
-use Rattle.dbc_read.proofs.Places.{attached_leaves, change_leaves, lines_stay, signal_changed, signal_within}
+use Rattle.dbc_read.proofs.SignalIndices.{attached_leaves, change_leaves, lines_stay, signal_changed, signal_within}
 use Rattle.dbc_statements.specs.Statement.{message_of, signal_of, signals_of}
 use Rattle.dbc_statements.specs.declared.statement.MessageLine.{MessageLine}
 use Rattle.dbc_read.proofs.attaching.attach_at.Goals as goal
 
 pub attach_in-requires : goal.attach_in-requires
 attach_in-requires c =
-    subst (λ (l : List Signal). c.args.place.signal < length l) (sym c.deref_mut.ensures.value) (signal_within c.index-lines-place.result c.args.lines.now c.args.place.message c.args.place.signal c.requires)
+    subst (λ (l : List Signal). c.args.indices.signal < length l) (sym c.deref_mut.ensures.value) (signal_within c.index-lines-indices.result c.args.lines.now c.args.indices.message c.args.indices.signal c.requires)
 
 pub returns : goal.returns
 returns c =
     let lines = c.args.lines.now in
-    let i = c.args.place.message in
-    let j = c.args.place.signal in
+    let i = c.args.indices.message in
+    let j = c.args.indices.signal in
     let f = with_attachment c.args.attachment in
-    let d = c.index-lines-place.result in
+    let d = c.index-lines-indices.result in
     let here = slice_index_or lines i d in
     let changed = c.attach_in.new.signals in
     let line : MessageLine = record here { signals = with_items here.signals changed } in

@@ -2,15 +2,15 @@ use Rattle.std.proofs.Common.{◌∙◌, ◌&&◌, Bool, List, refl, subst, sym,
 use Rattle.std.specs.List.{IsDistinct}
 use Rattle.std.proofs.lemmas.List.{take_all}
 use Rattle.bitlayout.specs.Mux.{is_multiplexor}
+use Rattle.dbc_read.specs.Described.{Described}
 use Rattle.dbc_read.specs.Faults.{IsMultiplexorRefused}
-use Rattle.dbc_read.specs.Placed.{Placed}
 use Rattle.dbc_read.proofs.FaultsAt.{fault_at}
 use Rattle.dbc_read.proofs.IteratorItems.{item_taken}
 use Rattle.dbc_read.proofs.Multiplexors.{none_yet, once_more}
 use Rattle.dbc_read.proofs.first_fault.multiplexor_fault.Goals as goal
 use Rattle.dbc_read.proofs.first_fault.multiplexor_fault.Goals.{then-is_multiplexor+else-has_multiplexor, else-is_multiplexor}
 
-abbrev is_multiplexor_line : Placed → Bool
+abbrev is_multiplexor_line : Described → Bool
 is_multiplexor_line s = is_multiplexor s.signal.mux
 
 pub loop-signal-init : goal.loop-signal-init
@@ -18,7 +18,7 @@ loop-signal-init c = none_yet is_multiplexor_line
 
 pub returns-then-has_multiplexor-clause-fault : goal.returns-then-has_multiplexor-clause-fault
 returns-then-has_multiplexor-clause-fault c =
-    fault_at (λ (s : Placed). s.place.mux_at) IsMultiplexorRefused c.args.signals.now c.loop-signal.signal-index c.signal-item.result _ c.loop-signal-test.true c.signal-item.is c.mux_at.ensures
+    fault_at (λ (s : Described). s.offsets.mux_at) IsMultiplexorRefused c.args.signals.now c.loop-signal.signal-index c.signal-item.result _ c.loop-signal-test.true c.signal-item.is c.mux_at.ensures
     (c.loop-signal.invariant.apart, sym c.if-is_multiplexor.ensures, sym c.loop-signal.invariant.known ∙ c.if-has_multiplexor.true)
 
 pub loop-signal-preserved : goal.loop-signal-preserved
@@ -33,4 +33,4 @@ loop-signal-preserved c =
 
 pub returns-clause-none : goal.returns-clause-none
 returns-clause-none c =
-    subst (λ (l : List Placed). IsDistinct (λ a b. is_multiplexor_line a && is_multiplexor_line b) l) (take_all c.loop-signal.signal-index c.args.signals.now c.loop-signal-test.false) c.loop-signal.invariant.apart
+    subst (λ (l : List Described). IsDistinct (λ a b. is_multiplexor_line a && is_multiplexor_line b) l) (take_all c.loop-signal.signal-index c.args.signals.now c.loop-signal-test.false) c.loop-signal.invariant.apart

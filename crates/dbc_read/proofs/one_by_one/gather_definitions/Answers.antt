@@ -20,16 +20,16 @@ pub statements-preserved : goal.statements-preserved
 statements-preserved c =
     let at = c.statements in
     let next = c.in-Some.next in
-    let kept = c.without_places.result in
-    let cites_none : cites (content_of kept.content) ≡ false = ap (λ (s : says.Statement). cites s.content) c.without_places.ensures.says ∙ sym c.cites.ensures ∙ c.if-cites.false in
+    let kept = c.without_offsets.result in
+    let cites_none : cites (content_of kept.content) ≡ false = ap (λ (s : says.Statement). cites s.content) c.without_offsets.ensures.says ∙ sym c.cites.ensures ∙ c.if-cites.false in
     record {
       source = c.read_next.ensures.source ∙ at.invariant.source;
       read = one_read _ _ (statement_of next) c.args.statements.now.tokens at.statements.tokens c.read_next.new.self.tokens (rw c.in-Some.is at c.in_ok-next.ensures.next)
           (λ stated h begun.
-          subst (λ (s : says.Statement). IsDefining (stated ++ s ∷ []) c.gather_statement.new.gathered) c.without_places.ensures.says
+          subst (λ (s : says.Statement). IsDefining (stated ++ s ∷ []) c.gather_statement.new.gathered) c.without_offsets.ensures.says
           (one_defined stated kept at.gathered c.gather_statement.new.gathered cites_none c.in_ok-gather_statement.ensures (h begun))) at.invariant.read;
       bare = λ h. subst (λ (g : Gathered). AreBare g.messages) (sym c.in_ok-gather_statement.ensures)
-          (bare_after None (passed_of kept) kept.content at.gathered (c.without_places.ensures.nothing (rw c.in-Some.is at c.in_ok-next.ensures.nothing)) (at.invariant.bare h));
+          (bare_after None (passed_of kept) kept.content at.gathered (c.without_offsets.ensures.nothing (rw c.in-Some.is at c.in_ok-next.ensures.nothing)) (at.invariant.bare h));
     }
 
 pub returns-in_err-next-clause-err : goal.returns-in_err-next-clause-err

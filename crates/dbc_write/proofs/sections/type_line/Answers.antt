@@ -8,6 +8,6 @@ pub returns : goal.returns
 returns c =
     let number = c.from-number.ensures ∙ c.number.ensures in
     let some : (value_type_number c.args.signal.now.value_type == 0) ≡ false = grind (arith, nat_tests, number) in
-    let place = also (also c.in_ok-tight_word.ensures c.in_ok-cited_signal.ensures) c.in_ok-spaced_mark.ensures in
+    let cited = also (also c.in_ok-tight_word.ensures c.in_ok-cited_signal.ensures) c.in_ok-spaced_mark.ensures in
     let type = rw number at c.in_ok-spaced_number.ensures in
-    rw some (line (also (also place type) c.in_ok-tight_mark.ensures) c.in_ok-push.ensures.items)
+    rw some (line (also (also cited type) c.in_ok-tight_mark.ensures) c.in_ok-push.ensures.items)

@@ -10,14 +10,14 @@ use Rattle.decimal.proofs.plain.plain_decimal.Goals as goal
 pub returns-then-plain-eq0 : goal.returns-then-plain-eq0
 returns-then-plain-eq0 c =
     let plain = c.in_ok-plain.plain in
-    reads_nothing c.args.negative c.args.bytes.now plain.number (neg_ℤ (pos plain.places)) (c.in_ok-plain.ensures.value c.args.negative) c.if-plain-eq0.true
+    reads_nothing c.args.negative c.args.bytes.now plain.number (neg_ℤ (pos plain.fraction_digits)) (c.in_ok-plain.ensures.value c.args.negative) c.if-plain-eq0.true
 
 pub new-requires : goal.new-requires
 new-requires c =
     let plain = c.in_ok-plain.plain in
     let v = c.in_ok-stripped.stripped.number in
     let z = c.in_ok-stripped.stripped.zeros in
-    let k = plain.places in
+    let k = plain.fraction_digits in
     let few = c.in_ok-stripped.ensures.few in
     let short = c.in_ok-plain.ensures.few in
     let reads = reads_stripped c.args.negative c.args.bytes.now plain.number v z (neg_ℤ (pos k)) (pos z -ℤ pos k) (c.in_ok-plain.ensures.value c.args.negative) c.in_ok-stripped.ensures.value (omega (arith, ints)) c.in_ok-stripped.ensures.last (omega arith) (record { low = omega (arith, ints, few, short); high = omega (arith, ints, few, short) }) in
@@ -30,7 +30,7 @@ returns c =
     let plain = c.in_ok-plain.plain in
     let v = c.in_ok-stripped.stripped.number in
     let z = c.in_ok-stripped.stripped.zeros in
-    let k = plain.places in
+    let k = plain.fraction_digits in
     let few = c.in_ok-stripped.ensures.few in
     let short = c.in_ok-plain.ensures.few in
     let reads = reads_stripped c.args.negative c.args.bytes.now plain.number v z (neg_ℤ (pos k)) (pos z -ℤ pos k) (c.in_ok-plain.ensures.value c.args.negative) c.in_ok-stripped.ensures.value (omega (arith, ints)) c.in_ok-stripped.ensures.last (omega arith) (record { low = omega (arith, ints, few, short); high = omega (arith, ints, few, short) }) in

@@ -13,8 +13,8 @@ returns-in-minus20-to-minus1 c =
     let low : negsuc 19 ≤ℤ c.args.exponent = omega (arith, ints) in
     let high : c.args.exponent <ℤ pos 0 = omega (arith, ints) in
     let same : to_z w16 (of_z w16 c.args.exponent) ≡ c.args.exponent = omega (arith, ints) in
-    let places = c.from.ensures ∙ c.unsigned_abs.ensures.value ∙ ap unsigned_abs same in
-    c.push_with_point.ensures ∙ ap (λ (k : ℕ). c.args.text.now.bytes ++ with_point k c.args.magnitude) places ∙ ap (λ (bs : List ℕ). c.args.text.now.bytes ++ bs) (sym (text_with_point c.args.magnitude c.args.exponent low high))
+    let digits = c.from.ensures ∙ c.unsigned_abs.ensures.value ∙ ap unsigned_abs same in
+    c.push_with_point.ensures ∙ ap (λ (k : ℕ). c.args.text.now.bytes ++ with_point k c.args.magnitude) digits ∙ ap (λ (bs : List ℕ). c.args.text.now.bytes ++ bs) (sym (text_with_point c.args.magnitude c.args.exponent low high))
 
 pub returns-in-0-to-20 : goal.returns-in-0-to-20
 returns-in-0-to-20 c =

@@ -19,8 +19,8 @@ loop-part-init c =
           c.in_ok-draft_of.ensures c.new.ensures c.new-2.ensures,
     )
 
-pub overflow_add-place : goal.overflow_add-place
-overflow_add-place c =
+pub overflow_add-part_number : goal.overflow_add-part_number
+overflow_add-part_number c =
     let i = c.loop-part.invariant.0 in
     let lt = c.loop-part-test.true in
     let few = c.as_slice-part-items.ensures.parts.few in
@@ -44,7 +44,7 @@ returns-in-Some c =
     (subst (λ (o : Option Refusal). IsPartDecided c.args.team.now c.args.name.now c.part-item.result c.loop-part.progress c.add_part.new.progress o) c.in-Some.is c.in_ok-refusal.ensures)
     c.refusal_decision-decision.result c.refusal_decision-decision.ensures.changes
     (reported
-    ∙ ap (λ (n : ℕ). Refused (no.BundleRefused (record { fault = n; at = c.loop-part.place + 1 }))) c.number.ensures
+    ∙ ap (λ (n : ℕ). Refused (no.BundleRefused (record { fault = n; at = c.loop-part.part_number + 1 }))) c.number.ensures
     ∙ ap (λ (k : ℕ). Refused (no.BundleRefused (record { fault = refusal_number r; at = k + 1 }))) c.loop-part.invariant.0)
 
 pub loop-part-preserved : goal.loop-part-preserved

@@ -1,22 +1,73 @@
-use Rattle.std.proofs.Common.{List, Some, subst, sym}
-use Rattle.office_types.specs.declared.reply.Reply.{Reply}
+use Rattle.std.proofs.Common.{◌<◌, ◌≤◌, List, Some, length, get_or, set, sym, subst, arith}
+use Rattle.std.proofs.lemmas.Result.{IfOk-weaker}
 use Rattle.office_types.specs.declared.state.Net.{Net}
 use Rattle.office_types.specs.declared.state.Office.{Office}
-use Rattle.office_rules.specs.Signals.{take_bits}
-use Rattle.office.specs.Carried.{IsDone, IsIndexOf}
-use Rattle.office.proofs.InPlace.{bits_step_at}
+use Rattle.office_rules.specs.Profile.{Two}
+use Rattle.office_rules.specs.Step.{Step}
+use Rattle.office.specs.Carried.{IsNetFound}
+use Rattle.office.specs.Indexed.{AreIndexes, IsIndexIfThere}
+use Rattle.office.proofs.Runs.{done_step, indexes-at, indexes-past, indexes-set}
 use Rattle.office.proofs.stepping.step.Goals as goal
 
-pub returns-in-Some-index-clause-step : goal.returns-in-Some-index-clause-step
-returns-in-Some-index-clause-step c =
+pub step_there-requires-clause-index : goal.step_there-requires-clause-index
+step_there-requires-clause-index c =
+    let at = c.in-Some.at in
+    let nets = c.args.nets.now.items in
+    let xs = c.make_room.new.indexes.items in
+    let are = subst (λ (ns : List Net). AreIndexes xs ns) c.as_slice-in-Some.ensures.value c.make_room.ensures.are in
+    let w = c.make_room.ensures.room c.if-make_room.true in
+    let within : at < length xs = omega (arith, w, c.make_room.new.indexes.ok.0) in
+    let x = c.index_mut-then-make_room.result.now in
+    let y = c.index_mut.result.now in
+    subst (λ v. IsIndexIfThere v y) (sym c.index_mut-then-make_room.ensures.value)
+    (subst (λ (v : Net). IsIndexIfThere (get_or xs at x) v) (sym c.index_mut.ensures.value) (indexes-at xs nets at x y are within))
+
+pub returns-then-make_room-clause-step : goal.returns-then-make_room-clause-step
+returns-then-make_room-clause-step c =
     let o : Office = record { nets = c.args.nets.now.items; book = c.args.book.now } in
-    let team = c.args.team.now in
     let command = c.args.command.now in
-    let take = c.in-Some.take.now in
-    let net = c.index_mut.result.now in
-    let after = c.take_bits_in_place.new.net in
-    let index : IsIndexOf o command.net (Some c.in-Some-index.index) =
-    subst (IsIndexOf o command.net) c.in-Some-index.is
-    (subst (λ (ns : List Net). IsIndexOf (record { nets = ns; book = o.book }) command.net c.index_of-index.result) c.as_slice.ensures.value c.index_of-index.ensures) in
-    bits_step_at o c.in-Some-index.index net after team command take c.bits_reply.result c.requires.rising index c.index_mut.ensures.value c.in-Some.ensures
-    (subst (λ (reply : Reply). IsDone net (take_bits team (Some net) take) reply after) (sym c.bits_reply.ensures) c.in_ok-given.ensures.ok)
+    let at = c.in-Some.at in
+    let index : IsNetFound o command.net (Some at) =
+    subst (IsNetFound o command.net) c.in-Some.is
+    (subst (λ (ns : List Net). IsNetFound (record { nets = ns; book = o.book }) command.net c.find_net.result) c.as_slice.ensures.value c.find_net.ensures) in
+    let y = c.index_mut.result.now in
+    let n = c.step_there.new.net in
+    let b = c.step_there.new.book in
+    IfOk-weaker c.step_there.result _ (λ both. Step Two o c.args.team.now command both.0 (record { nets = set o.nets at n; book = b }))
+    (λ both h. done_step o at y n b c.args.team.now command both.0 c.requires.office.rising index c.index_mut.ensures.value c.step_there.ensures.name h)
+    c.step_there.ensures.done
+
+pub returns-then-make_room-clause-indexes : goal.returns-then-make_room-clause-indexes
+returns-then-make_room-clause-indexes c =
+    let at = c.in-Some.at in
+    let nets = c.args.nets.now.items in
+    let xs = c.make_room.new.indexes.items in
+    let are = subst (λ (ns : List Net). AreIndexes xs ns) c.as_slice-in-Some.ensures.value c.make_room.ensures.are in
+    let w = c.make_room.ensures.room c.if-make_room.true in
+    let within : at < length xs = omega (arith, w, c.make_room.new.indexes.ok.0) in
+    indexes-set xs nets at c.step_there.new.index c.step_there.new.net are within c.step_there.ensures.index
+
+pub returns-else-make_room-clause-step : goal.returns-else-make_room-clause-step
+returns-else-make_room-clause-step c =
+    let o : Office = record { nets = c.args.nets.now.items; book = c.args.book.now } in
+    let command = c.args.command.now in
+    let at = c.in-Some.at in
+    let index : IsNetFound o command.net (Some at) =
+    subst (IsNetFound o command.net) c.in-Some.is
+    (subst (λ (ns : List Net). IsNetFound (record { nets = ns; book = o.book }) command.net c.find_net.result) c.as_slice.ensures.value c.find_net.ensures) in
+    let y = c.index_mut-else-make_room.result.now in
+    let n = c.step_there-else-make_room.new.net in
+    let b = c.step_there-else-make_room.new.book in
+    IfOk-weaker c.step_there-else-make_room.result _ (λ both. Step Two o c.args.team.now command both.0 (record { nets = set o.nets at n; book = b }))
+    (λ both h. done_step o at y n b c.args.team.now command both.0 c.requires.office.rising index c.index_mut-else-make_room.ensures.value c.step_there-else-make_room.ensures.name h)
+    c.step_there-else-make_room.ensures.done
+
+pub returns-else-make_room-clause-indexes : goal.returns-else-make_room-clause-indexes
+returns-else-make_room-clause-indexes c =
+    let at = c.in-Some.at in
+    let nets = c.args.nets.now.items in
+    let xs = c.make_room.new.indexes.items in
+    let are = subst (λ (ns : List Net). AreIndexes xs ns) c.as_slice-in-Some.ensures.value c.make_room.ensures.are in
+    let w = c.make_room.ensures.full c.if-make_room.false in
+    let past : length xs ≤ at = omega (arith, w, c.make_room.new.indexes.ok.0) in
+    indexes-past xs nets at c.step_there-else-make_room.new.net are past

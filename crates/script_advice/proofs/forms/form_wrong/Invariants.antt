@@ -1,6 +1,6 @@
 use Rattle.std.proofs.Common.{◌≡◌, ◌+◌, ◌≤◌, length}
 use Rattle.office_script.specs.Words.{words_after, words_of}
-use Rattle.script_advice.proofs.Placing.{bytes_after}
+use Rattle.script_advice.proofs.LineWords.{bytes_after}
 use Rattle.script_advice.specs.Cause.{form_wrong}
 use Rattle.script_advice.proofs.forms.form_wrong.Given as goal
 

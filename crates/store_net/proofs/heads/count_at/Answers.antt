@@ -1,12 +1,15 @@
-use Rattle.std.proofs.Common.{◌∙◌, ◌<◌, ◌^◌, ap, arith, rules, slice_get}
+use Rattle.std.proofs.Common.{◌≡◌, ◌∙◌, filter, length}
+use Rattle.std.proofs.lemmas.Result.{IfOk-weaker}
 use Rattle.sqlite.specs.Held.{state}
 use Rattle.office_tables.specs.Tables.{tables_of}
-use Rattle.store_net.proofs.HeadsShown.{counted}
+use Rattle.office_rows.specs.Rows.{is_of_net}
+use Rattle.store_net.proofs.HeadsShown.{rows_counted}
 use Rattle.store_net.proofs.heads.count_at.Goals as goal
 
 pub returns-clause-found : goal.returns-clause-found
-returns-clause-found g c clean office live h =
-    let fits : c.in_ok-count-in-Some.count < 2 ^ 32 = first_of (omega arith, search rules) in
-    counted c.args.name.now (tables_of (state g.S.Store c.args.tx.now.conn.now).now.trees) live h c.in_ok-rows.rows.items c.in-Some.row.now c.in_ok-count-in-Some.count
-    (rw c.as_bytes.ensures.bytes at (c.in_ok-rows.ensures.found clean office))
-    (c.in-Some.ensures.value ∙ ap (λ l. slice_get l 0) c.deref.ensures.value) c.in_ok-count-in-Some.ensures fits
+returns-clause-found g c clean office =
+    let name = c.args.name.now in
+    let t = tables_of (state g.S.Store c.args.tx.now.conn.now).now.trees in
+    let many = length (filter (is_of_net name) t.msg) in
+    IfOk-weaker c.count_shown.result (λ n. n ≡ many) _ (λ n is live h. is ∙ rows_counted name t live h)
+    (c.count_shown.ensures many (c.deref.ensures.value ∙ (rw c.as_bytes.ensures.bytes at (c.in_ok-rows.ensures.found clean office))))

@@ -13,7 +13,7 @@ use Rattle.office_facts.specs.Excerpt.{IsExcerptOf}
 use Rattle.office_facts.specs.declared.excerpt.Excerpt.{Excerpt}
 use Rattle.office_tables.specs.Tables.{IsOffice, tables_of}
 use Rattle.store_rows.specs.Live.{AreLiveRows, live_rows}
-use Rattle.store_net.specs.Excerpts.{HasNameAndCount, MatchBoth}
+use Rattle.store_net.specs.Excerpts.{HasNameAndRoom, MatchBoth}
 use Rattle.store_net.specs.Numbers.{idents_between}
 use Rattle.store_net.specs.Parts.{HasHeld}
 use Rattle.store_net.proofs.Between.{live_are_identifiers}
@@ -25,18 +25,18 @@ use Rattle.store_net.proofs.number_excerpt.group_excerpt_at.Goals as goal
 pub returns-in_default-clause-found : goal.returns-in_default-clause-found
 returns-in_default-clause-found g c clean office net at team =
     let take = c.args.take.now in
-    let counted = HasNameAndCount take.message.name in
-    none_more counted (λ n e. IsExcerptOf team n (Act (act.TakePgn take)) e) net
-    (subst (λ (o : Option Excerpt). MatchBoth counted net o) c.in_default.is (c.in_ok-excerpt.ensures.found clean office net at))
+    let named = HasNameAndRoom take.message.name in
+    none_more named (λ n e. IsExcerptOf team n (Act (act.TakePgn take)) e) net
+    (subst (λ (o : Option Excerpt). MatchBoth named net o) c.in_default.is (c.in_ok-excerpt.ensures.found clean office net at))
 
 pub returns-clause-found : goal.returns-clause-found
 returns-clause-found g c clean office net at team =
     let name = c.args.name.now in
     let take = c.args.take.now in
-    let counted = HasNameAndCount take.message.name in
+    let named = HasNameAndRoom take.message.name in
     let e = c.in-Some.excerpt in
     let s0 = state g.S.Store c.args.tx.now.conn.now in
-    let s1 = state g.S.Store c.counted_excerpt_at.new.tx.conn.now in
+    let s1 = state g.S.Store c.named_excerpt_at.new.tx.conn.now in
     let s2 = state g.S.Store c.live_idents_at.new.tx.conn.now in
     let clean2 : HasCleanDisk s2 = omega (arith, c.held_of.ensures.survives.clean, clean) in
     let clean1 : HasCleanDisk s1 = omega (arith, c.live_idents_at.ensures.survives.clean, clean2) in
@@ -53,7 +53,7 @@ returns-clause-found g c clean office net at team =
     c.from_vec.ensures ∙ c.in_ok-groups.ensures
     ∙ ap (λ (l : List Ident). filter_map group_of (l ++ c.as_slice-2.result.now)) c.as_slice.ensures
     ∙ ap (λ (l : List Ident). filter_map group_of (c.in_ok-live.live ++ l)) c.as_slice-2.ensures in
-    one_more counted (λ n x. IsExcerptOf team n (Act (act.TakePgn take)) x) name t net e _
-    (subst (λ (o : Option Excerpt). MatchBoth counted net o) c.in-Some.is (c.in_ok-excerpt.ensures.found clean1 office net at))
+    one_more named (λ n x. IsExcerptOf team n (Act (act.TakePgn take)) x) name t net e _
+    (subst (λ (o : Option Excerpt). MatchBoth named net o) c.in-Some.is (c.in_ok-excerpt.ensures.found clean1 office net at))
     (λ n parts has. of_group team n take e c.from_vec.result has
     (groups_read team n c.in_ok-live.live c.in_ok-held.held c.from_vec.result (live n.live parts.live) (held n.held parts.held) groups (live_are_identifiers name t n.live parts.live))) at

@@ -15,7 +15,7 @@ use Rattle.office_facts.specs.Excerpt.{IsExcerptOf}
 use Rattle.office_facts.specs.declared.excerpt.Excerpt.{Excerpt}
 use Rattle.office_tables.specs.Tables.{IsOffice, tables_of}
 use Rattle.store_rows.specs.Live.{AreLiveRows, live_rows}
-use Rattle.store_net.specs.Excerpts.{HasNameAndCount, MatchBoth}
+use Rattle.store_net.specs.Excerpts.{HasNameAndRoom, MatchBoth}
 use Rattle.store_net.specs.Numbers.{idents_inside}
 use Rattle.store_net.specs.Parts.{HasHeld}
 use Rattle.store_net.proofs.Between.{live_are_identifiers}
@@ -27,9 +27,9 @@ use Rattle.store_net.proofs.number_excerpt.ident_excerpt_at.Goals as goal
 pub returns-in_default-clause-found : goal.returns-in_default-clause-found
 returns-in_default-clause-found g c clean office net at =
     let take = c.args.take.now in
-    let counted = HasNameAndCount take.message.name in
-    none_more counted (λ n e. IsExcerptOf c.args.team.now n (Act (act.TakeIdent take)) e) net
-    (subst (λ (o : Option Excerpt). MatchBoth counted net o) c.in_default.is (c.in_ok-excerpt.ensures.found clean office net at))
+    let named = HasNameAndRoom take.message.name in
+    none_more named (λ n e. IsExcerptOf c.args.team.now n (Act (act.TakeIdent take)) e) net
+    (subst (λ (o : Option Excerpt). MatchBoth named net o) c.in_default.is (c.in_ok-excerpt.ensures.found clean office net at))
 
 pub returns-clause-found : goal.returns-clause-found
 returns-clause-found g c clean office net at =
@@ -37,11 +37,11 @@ returns-clause-found g c clean office net at =
     let team = c.args.team.now in
     let take = c.args.take.now in
     let form = take.form in
-    let counted = HasNameAndCount take.message.name in
+    let named = HasNameAndRoom take.message.name in
     let e = c.in-Some.excerpt in
     let own = c.in_ok-own.own.items in
     let s0 = state g.S.Store c.args.tx.now.conn.now in
-    let s1 = state g.S.Store c.counted_excerpt_at.new.tx.conn.now in
+    let s1 = state g.S.Store c.named_excerpt_at.new.tx.conn.now in
     let s2 = state g.S.Store c.live_inside_at.new.tx.conn.now in
     let s3 = state g.S.Store c.held_of.new.tx.conn.now in
     let clean3 : HasCleanDisk s3 = omega (arith, c.want_live_at.ensures.survives.clean, clean) in
@@ -65,8 +65,8 @@ returns-clause-found g c clean office net at =
     c.from_vec.ensures ∙ c.in_ok-numbers.ensures
     ∙ ap (λ (l : List Ident). filter_map (number_in form) (l ++ c.as_slice-2.result.now)) c.deref-2.ensures.value
     ∙ ap (λ (l : List Ident). filter_map (number_in form) (c.in_ok-live.live.items ++ l)) c.as_slice-2.ensures in
-    one_more counted (λ n x. IsExcerptOf team n (Act (act.TakeIdent take)) x) name t net e _
-    (subst (λ (o : Option Excerpt). MatchBoth counted net o) c.in-Some.is (c.in_ok-excerpt.ensures.found clean1 office net at))
+    one_more named (λ n x. IsExcerptOf team n (Act (act.TakeIdent take)) x) name t net e _
+    (subst (λ (o : Option Excerpt). MatchBoth named net o) c.in-Some.is (c.in_ok-excerpt.ensures.found clean1 office net at))
     (λ n parts has. of_ident team n take e c.in_ok-want_live.want_live c.want_is_held.result c.from_vec.result has (wanted n.live parts.live)
     (c.want_is_held.ensures ∙ ap (λ (l : List Ident). is_wanted (λ i. list_any (λ h. same_ident h i) l) form take.want) (c.as_slice-3.ensures ∙ held n.held parts.held))
     (read_inside team n form own c.in_ok-live.live.items c.in_ok-held.held c.from_vec.result
@@ -77,7 +77,7 @@ returns-clause-found g c clean office net at =
 pub returns-clause-same : goal.returns-clause-same
 returns-clause-same g c clean office =
     let s0 = state g.S.Store c.args.tx.now.conn.now in
-    let s1 = state g.S.Store c.counted_excerpt_at.new.tx.conn.now in
+    let s1 = state g.S.Store c.named_excerpt_at.new.tx.conn.now in
     let s2 = state g.S.Store c.live_inside_at.new.tx.conn.now in
     let s3 = state g.S.Store c.held_of.new.tx.conn.now in
     let s4 = state g.S.Store c.want_live_at.new.tx.conn.now in
@@ -94,4 +94,4 @@ returns-clause-same g c clean office =
 
 pub returns-clause-survives : goal.returns-clause-survives
 returns-clause-survives g c =
-    nothing_left _ _ _ c.counted_excerpt_at.ensures.survives (nothing_left _ _ _ c.live_inside_at.ensures.survives (nothing_left _ _ _ c.held_of.ensures.survives c.want_live_at.ensures.survives))
+    nothing_left _ _ _ c.named_excerpt_at.ensures.survives (nothing_left _ _ _ c.live_inside_at.ensures.survives (nothing_left _ _ _ c.held_of.ensures.survives c.want_live_at.ensures.survives))

@@ -1,0 +1,354 @@
+//! Carrying out what was decided on a network that is there, and on the book: in place, where nothing can fail once
+//! something has changed. More than two changes, and pairs that no command makes, are made on copies first.
+ghost use Rattle.std.specs.Prelude.{◌≡◌, ◌∷◌, [], OnOk, OnErr, Some};
+ghost use Rattle.office_types.specs.declared.change.Change.TheVariants as change;
+ghost use Rattle.office_rules.specs.Change.{AllFit, Fits, NetAndBook, all_applied, changed_book, net_changed};
+ghost use Rattle.office_rules.specs.Kept.{IsNet};
+ghost use Rattle.office.specs.Indexed.{IsIndexIfThere, is_of_messages};
+
+use crate::applying::{change_all, change_net};
+use crate::carrying::draft_of;
+use crate::changing::{
+    hold_message, remove_message, remove_signal_in, replace_message, set_message,
+};
+use crate::looking_up::{find_ident, search_live};
+use crate::net_index::NetIndex;
+use can_id::Ident;
+use catalogue::{Items, put_item};
+use office_facts::same_ident;
+use office_types::{Change, Head, LiveMessage, Net, NetName, SpnBook, UsableSpn};
+use std::alloc::{AllocError, Global};
+
+/// Whether the change is of live messages or of held identifiers.
+fn is_of_messages(change: &Change) -> bool
+    ensures { result ≡ is_of_messages change.now }
+{
+    matches!(
+        change,
+        Change::SetMessage(_)
+            | Change::RemoveMessage(_)
+            | Change::AddSignal(_, _)
+            | Change::RemoveSignal(_)
+            | Change::Hold(_)
+    )
+}
+
+/// Makes a change, which fits. The index is dropped where the change is of what it knows. When memory runs out, nothing
+/// changes but that.
+fn change_otherwise(
+    alloc: Global,
+    net: &mut Net,
+    index: &mut Option<NetIndex>,
+    change: Change,
+) -> Result<(), AllocError>
+    requires index { IsIndexIfThere index.old net.old }
+    requires fits { Fits change (Some net.old) }
+    ensures ok { OnOk result (net.new ≡ net_changed change net.old) }
+    ensures err { OnErr result (net.new ≡ net.old) }
+    ensures index { IsIndexIfThere index.new net.new }
+{
+    if is_of_messages(&change) {
+        *index = None;
+    }
+    change_net(alloc, net, change)
+}
+
+/// Makes one change, which fits. When memory runs out, nothing changes, but that the index may be dropped.
+fn carry_one_out(
+    alloc: Global,
+    net: &mut Net,
+    book: &mut SpnBook,
+    index: &mut Option<NetIndex>,
+    change: Change,
+) -> Result<(), AllocError>
+    requires net { IsNet net.old }
+    requires index { IsIndexIfThere index.old net.old }
+    requires fits { Fits change (Some net.old) }
+    ensures net { OnOk result (net.new ≡ net_changed change net.old) }
+    ensures book { OnOk result (book.new ≡ changed_book change book.old) }
+    ensures err { OnErr result ((net.new ≡ net.old) × (book.new ≡ book.old)) }
+    ensures index { IsIndexIfThere index.new net.new }
+{
+    match change {
+        Change::SetMessage(message) => set_message(alloc, net, index, message),
+        Change::RemoveMessage(ident) => {
+            remove_message(net, index, &ident);
+            Ok(())
+        }
+        Change::RemoveSignal(path) => remove_signal_in(alloc, net, index, &path),
+        Change::SetSpnBlock(block) => put_item(&mut book.blocks, block),
+        Change::EnterSpn(spn) => book.used.enter(spn),
+        other => change_otherwise(alloc, net, index, other),
+    }
+}
+
+/// Makes several changes, each of which fits after those before it, on copies first. When memory runs out, nothing
+/// changes.
+fn carry_all_out(
+    alloc: Global,
+    name: &NetName,
+    net: &mut Net,
+    book: &mut SpnBook,
+    index: &mut Option<NetIndex>,
+    changes: Items<Change>,
+) -> Result<(), AllocError>
+    requires index { IsIndexIfThere index.old net.old }
+    requires fit { AllFit name.now changes (record { net = Some net.old; book = book.old }) }
+    ensures ok { OnOk result (◌≡◌ {A = NetAndBook} (record { net = Some net.new; book = book.new })
+        (all_applied name.now changes (record { net = Some net.old; book = book.old }))) }
+    ensures err { OnErr result ((net.new ≡ net.old) × (book.new ≡ book.old)) }
+    ensures index { IsIndexIfThere index.new net.new }
+{
+    let mut draft = draft_of(alloc, Some(&*net), book)?;
+    change_all(alloc, name, &mut draft, changes)?;
+    let (after, left) = draft.into_parts();
+    match after {
+        Some(after) => *net = after,
+        None => unreachable!(),
+    }
+    *book = left;
+    *index = None;
+    Ok(())
+}
+
+/// Makes two changes, the second of which fits after the first one, on copies first. When memory runs out, nothing
+/// changes.
+fn carry_both_out(
+    alloc: Global,
+    name: &NetName,
+    net: &mut Net,
+    book: &mut SpnBook,
+    index: &mut Option<NetIndex>,
+    first: Change,
+    second: Change,
+) -> Result<(), AllocError>
+    requires index { IsIndexIfThere index.old net.old }
+    requires fit { AllFit name.now (first ∷ second ∷ []) (record { net = Some net.old; book = book.old }) }
+    ensures ok { OnOk result (◌≡◌ {A = NetAndBook} (record { net = Some net.new; book = book.new })
+        (all_applied name.now (first ∷ second ∷ []) (record { net = Some net.old; book = book.old }))) }
+    ensures err { OnErr result ((net.new ≡ net.old) × (book.new ≡ book.old)) }
+    ensures index { IsIndexIfThere index.new net.new }
+{
+    let mut changes = Items::new(alloc);
+    changes.push(first)?;
+    changes.push(second)?;
+    carry_all_out(alloc, name, net, book, index, changes)
+}
+
+/// Sets a message, and enters a number into the book. When memory runs out, nothing changes.
+fn set_and_enter(
+    alloc: Global,
+    name: &NetName,
+    net: &mut Net,
+    book: &mut SpnBook,
+    index: &mut Option<NetIndex>,
+    message: LiveMessage,
+    spn: UsableSpn,
+) -> Result<(), AllocError>
+    requires net { IsNet net.old }
+    requires index { IsIndexIfThere index.old net.old }
+    ensures ok { OnOk result (◌≡◌ {A = NetAndBook} (record { net = Some net.new; book = book.new })
+        (all_applied name.now (change.SetMessage message ∷ change.EnterSpn spn ∷ [])
+        (record { net = Some net.old; book = book.old }))) }
+    ensures err { OnErr result ((net.new ≡ net.old) × (book.new ≡ book.old)) }
+    ensures index { IsIndexIfThere index.new net.new }
+{
+    match search_live(net.live.as_slice(), message.message.number()) {
+        Ok(at) => {
+            book.used.enter(spn)?;
+            replace_message(net, index, at, message);
+            Ok(())
+        }
+        Err(_) => {
+            let first = Change::SetMessage(message);
+            let second = Change::EnterSpn(spn);
+            carry_both_out(alloc, name, net, book, index, first, second)
+        }
+    }
+}
+
+/// Removes the live message of an identifier, and holds an identifier: the same one, where a command does both. When
+/// memory runs out, nothing changes.
+fn remove_and_hold(
+    alloc: Global,
+    name: &NetName,
+    net: &mut Net,
+    book: &mut SpnBook,
+    index: &mut Option<NetIndex>,
+    removed: &Ident,
+    held: &Ident,
+) -> Result<(), AllocError>
+    requires net { IsNet net.old }
+    requires index { IsIndexIfThere index.old net.old }
+    ensures ok { OnOk result (◌≡◌ {A = NetAndBook} (record { net = Some net.new; book = book.new })
+        (all_applied name.now (change.RemoveMessage removed.now ∷ change.Hold held.now ∷ [])
+        (record { net = Some net.old; book = book.old }))) }
+    ensures err { OnErr result ((net.new ≡ net.old) × (book.new ≡ book.old)) }
+    ensures index { IsIndexIfThere index.new net.new }
+{
+    if same_ident(*removed, *held) {
+        if let Some(at) = find_ident(net.live.as_slice(), removed) {
+            return hold_message(net, index, at, removed);
+        }
+    }
+    let first = Change::RemoveMessage(*removed);
+    let second = Change::Hold(*held);
+    carry_both_out(alloc, name, net, book, index, first, second)
+}
+
+/// Sets a message, and makes another change, which fits after that. When memory runs out, nothing changes.
+fn set_message_then(
+    alloc: Global,
+    name: &NetName,
+    net: &mut Net,
+    book: &mut SpnBook,
+    index: &mut Option<NetIndex>,
+    message: LiveMessage,
+    second: Change,
+) -> Result<(), AllocError>
+    requires net { IsNet net.old }
+    requires index { IsIndexIfThere index.old net.old }
+    requires fit { AllFit name.now (change.SetMessage message ∷ second ∷ [])
+        (record { net = Some net.old; book = book.old }) }
+    ensures ok { OnOk result (◌≡◌ {A = NetAndBook} (record { net = Some net.new; book = book.new })
+        (all_applied name.now (change.SetMessage message ∷ second ∷ [])
+        (record { net = Some net.old; book = book.old }))) }
+    ensures err { OnErr result ((net.new ≡ net.old) × (book.new ≡ book.old)) }
+    ensures index { IsIndexIfThere index.new net.new }
+{
+    match second {
+        Change::EnterSpn(spn) => set_and_enter(alloc, name, net, book, index, message, spn),
+        second => {
+            let first = Change::SetMessage(message);
+            carry_both_out(alloc, name, net, book, index, first, second)
+        }
+    }
+}
+
+/// Removes the live message of an identifier, and makes another change, which fits after that. When memory runs out,
+/// nothing changes.
+fn remove_message_then(
+    alloc: Global,
+    name: &NetName,
+    net: &mut Net,
+    book: &mut SpnBook,
+    index: &mut Option<NetIndex>,
+    ident: Ident,
+    second: Change,
+) -> Result<(), AllocError>
+    requires net { IsNet net.old }
+    requires index { IsIndexIfThere index.old net.old }
+    requires fit { AllFit name.now (change.RemoveMessage ident ∷ second ∷ [])
+        (record { net = Some net.old; book = book.old }) }
+    ensures ok { OnOk result (◌≡◌ {A = NetAndBook} (record { net = Some net.new; book = book.new })
+        (all_applied name.now (change.RemoveMessage ident ∷ second ∷ [])
+        (record { net = Some net.old; book = book.old }))) }
+    ensures err { OnErr result ((net.new ≡ net.old) × (book.new ≡ book.old)) }
+    ensures index { IsIndexIfThere index.new net.new }
+{
+    match second {
+        Change::Hold(held) => remove_and_hold(alloc, name, net, book, index, &ident, &held),
+        second => {
+            let first = Change::RemoveMessage(ident);
+            carry_both_out(alloc, name, net, book, index, first, second)
+        }
+    }
+}
+
+/// Sets the head, and makes another change, which fits after that. When memory runs out, nothing changes.
+fn set_head_then(
+    alloc: Global,
+    name: &NetName,
+    net: &mut Net,
+    book: &mut SpnBook,
+    index: &mut Option<NetIndex>,
+    head: Head,
+    second: Change,
+) -> Result<(), AllocError>
+    requires net { IsNet net.old }
+    requires index { IsIndexIfThere index.old net.old }
+    requires fit { AllFit name.now (change.SetHead head ∷ second ∷ [])
+        (record { net = Some net.old; book = book.old }) }
+    ensures ok { OnOk result (◌≡◌ {A = NetAndBook} (record { net = Some net.new; book = book.new })
+        (all_applied name.now (change.SetHead head ∷ second ∷ [])
+        (record { net = Some net.old; book = book.old }))) }
+    ensures err { OnErr result ((net.new ≡ net.old) × (book.new ≡ book.old)) }
+    ensures index { IsIndexIfThere index.new net.new }
+{
+    match second {
+        Change::ClearApprovals => {
+            net.head = head;
+            net.approvals = Items::new(alloc);
+            Ok(())
+        }
+        second => {
+            let first = Change::SetHead(head);
+            carry_both_out(alloc, name, net, book, index, first, second)
+        }
+    }
+}
+
+/// Makes two changes, the second of which fits after the first one: in place those that a command makes together. When
+/// memory runs out, nothing changes.
+fn carry_two_out(
+    alloc: Global,
+    name: &NetName,
+    net: &mut Net,
+    book: &mut SpnBook,
+    index: &mut Option<NetIndex>,
+    first: Change,
+    second: Change,
+) -> Result<(), AllocError>
+    requires net { IsNet net.old }
+    requires index { IsIndexIfThere index.old net.old }
+    requires fit { AllFit name.now (first ∷ second ∷ []) (record { net = Some net.old; book = book.old }) }
+    ensures ok { OnOk result (◌≡◌ {A = NetAndBook} (record { net = Some net.new; book = book.new })
+        (all_applied name.now (first ∷ second ∷ []) (record { net = Some net.old; book = book.old }))) }
+    ensures err { OnErr result ((net.new ≡ net.old) × (book.new ≡ book.old)) }
+    ensures index { IsIndexIfThere index.new net.new }
+{
+    match first {
+        Change::SetMessage(message) => set_message_then(
+            alloc, name, net, book, index, message, second,
+        ),
+        Change::RemoveMessage(ident) => remove_message_then(
+            alloc, name, net, book, index, ident, second,
+        ),
+        Change::SetHead(head) => set_head_then(alloc, name, net, book, index, head, second),
+        first => carry_both_out(alloc, name, net, book, index, first, second),
+    }
+}
+
+/// Carries out the changes that were decided for a network that is there, each of which fits after those before it, and
+/// the index follows. When memory runs out, nothing changes.
+pub(crate) fn carry_out_there(
+    alloc: Global,
+    name: &NetName,
+    net: &mut Net,
+    book: &mut SpnBook,
+    index: &mut Option<NetIndex>,
+    changes: Items<Change>,
+) -> Result<(), AllocError>
+    requires net { IsNet net.old }
+    requires index { IsIndexIfThere index.old net.old }
+    requires fit { AllFit name.now changes (record { net = Some net.old; book = book.old }) }
+    ensures ok { OnOk result (◌≡◌ {A = NetAndBook} (record { net = Some net.new; book = book.new })
+        (all_applied name.now changes (record { net = Some net.old; book = book.old }))) }
+    ensures err { OnErr result ((net.new ≡ net.old) × (book.new ≡ book.old)) }
+    ensures index { IsIndexIfThere index.new net.new }
+{
+    let mut changes = changes;
+    match changes.as_slice().len() {
+        0 => Ok(()),
+        1 => {
+            let change = changes.remove(0);
+            carry_one_out(alloc, net, book, index, change)
+        }
+        2 => {
+            let second = changes.remove(1);
+            let first = changes.remove(0);
+            carry_two_out(alloc, name, net, book, index, first, second)
+        }
+        _ => carry_all_out(alloc, name, net, book, index, changes),
+    }
+}

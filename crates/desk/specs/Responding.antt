@@ -82,7 +82,7 @@ abbrev pub HasBegun : List Answered → Option (List ℕ) → Option (List ℕ) 
 HasBegun h left reported_old reported_new s =
     (requested : Requested) × (text : List ℕ) × IsRequested left requested × Responds h requested text s × AppendsFront reported_old reported_new text
 
--- nothing was written, for want of memory
+-- nothing was written, since memory ran out
 abbrev pub HasGivenUp : List Answered → Option (List ℕ) → State → Type 0
 HasGivenUp h left s = (Holding h s × Leaves (Keeps h) s) ⊎ ((requested : Requested) × IsRequested left requested × MayHaveTaken h requested s)
 

@@ -21,6 +21,7 @@ mod listener;
 mod local_port;
 mod responding;
 mod serving;
+mod uninterrupted;
 mod waiting;
 
 pub use desk_call::Routes;

@@ -1,15 +1,17 @@
 //! One side of a TCP connection.
 ghost use Rattle.std.specs.Prelude.{◌≡◌, ◌<◌, ◌≤◌, None, IfOk, length};
 
+use crate::uninterrupted::{read_uninterrupted, write_uninterrupted};
 use desk_types::{Failed, Sink, Source};
-use std::io::{self, Read, Write};
+use std::io;
 use std::net::TcpStream;
 use std::time::{Clock, Duration, Instant};
 
 /// For how many seconds a connection is waited for until its peer sends the first byte.
 const FIRST_BYTE_SECONDS: u64 = 2;
 
-/// For how many seconds any later read, or a write, may wait for the peer.
+/// For how many seconds any later read, or a write, may wait for the peer. Where the process is stopped meanwhile, they
+/// begin anew when it goes on.
 const TURN_SECONDS: u64 = 10;
 
 /// For how many seconds from its first read, or its first write, a side of a connection is read or written: no read or
@@ -65,7 +67,7 @@ impl Timed {
     {
         let is_first = self.began.is_none();
         if self.has_time(clock) {
-            if let Ok(n) = self.stream.read(buf) {
+            if let Ok(n) = read_uninterrupted(&mut self.stream, buf) {
                 let turn = Duration::from_secs(TURN_SECONDS);
                 if !is_first || self.stream.set_read_timeout(Some(turn)).is_ok() {
                     return Ok(n);
@@ -81,7 +83,7 @@ impl Timed {
         ensures some { 0 < length bytes.now → IfOk result (λ n. 0 < n) }
     {
         if self.has_time(clock) {
-            if let Ok(n) = self.stream.write(bytes) {
+            if let Ok(n) = write_uninterrupted(&mut self.stream, bytes) {
                 if n > 0 || bytes.is_empty() {
                     return Ok(n);
                 }

@@ -4,6 +4,7 @@ ghost use Rattle.std.specs.Prelude.{◌≡◌, None, IfErr};
 use crate::fault::ServeFault;
 use crate::line::{Line, Timed};
 use crate::listener::Listener;
+use crate::uninterrupted::read_uninterrupted;
 use desk_types::Failed;
 use std::io::{self, Read};
 use std::net::{Ipv4Addr, Net, Shutdown, SocketAddr, TcpListener, TcpStream};
@@ -75,7 +76,7 @@ fn drain<C: Clock>(stream: &mut TcpStream, clock: &C) -> io::Result<()> {
     let mut unread = [0u8; 4096];
     for _turn in 0..DRAIN_TURNS {
         let taken = began.elapsed(clock)?;
-        if taken >= Duration::from_secs(DRAIN_SECONDS) || stream.read(&mut unread)? == 0 {
+        if taken >= Duration::from_secs(DRAIN_SECONDS) || read_uninterrupted(stream, &mut unread)? == 0 {
             return Ok(());
         }
     }

@@ -1,8 +1,8 @@
 //! Changes of live messages and held identifiers, made at the index that binary search gives, and followed by the
 //! network's index.
 //!
-//! Where the index can't follow a change, for want of memory or because no command but a bundle of one `take_bits` makes
-//! it, it is dropped: then it is made anew when a command would use it.
+//! Where the index can't follow a change, since memory runs out or because no command but a bundle of one `take_bits`
+//! makes it, it is dropped: then it is made anew when a command would use it.
 ghost use Rattle.std.specs.Prelude.{◌≡◌, ◌<◌, ◌≤◌, OnOk, OnErr, insert, length, slice_set};
 ghost use Rattle.std.specs.List.Sorted.{IsStrictlySortedBy};
 ghost use Rattle.office_types.specs.State.{by_number};

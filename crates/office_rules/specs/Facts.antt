@@ -152,7 +152,7 @@ pub record MessageFacts : Type 0 where
 abbrev pub message_facts : Net → List ℕ → MessageFacts
 message_facts net name = record { phase = net.head.phase; nodes = net.head.frame.nodes; found = live_named net.live name }
 
--- no more messages may be live
+-- it has as many live messages as a network may have
 abbrev pub is_full : Net → Bool
 is_full net = nat_le message_limit (length net.live)
 

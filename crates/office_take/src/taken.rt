@@ -38,7 +38,8 @@ pub(crate) fn ascending(numbers: Vec<u32>) -> Result<Vec<u32>, AllocError>
     Ok(rising)
 }
 
-/// The least number that lies in one of the blocks, has the form and isn't one of these, if there is one.
+/// The least number that lies in one of the blocks, has the form and isn't one of these, if there is one. The error is
+/// out of memory.
 pub(crate) fn least_beside(
     numbers: Vec<u32>,
     blocks: &[Block],
@@ -50,7 +51,7 @@ pub(crate) fn least_beside(
     Ok(least_free(&rising, blocks, form))
 }
 
-/// The least number of the team's blocks that has the form and isn't taken, if there is one.
+/// The least number of the team's blocks that has the form and isn't taken, if there is one. The error is out of memory.
 pub(crate) fn least_of_team<T: Taken>(
     alloc: Global,
     taken: &T,

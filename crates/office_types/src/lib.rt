@@ -7,8 +7,8 @@
 //! also what tables ordered by key hold. A [`Change`] is one thing that a command sets or removes. What tables keep as
 //! numbers (kinds, phases, forms, refusals, replies) has its numbers here, both ways.
 //!
-//! [`least_free`] is the allocator: the least number of some blocks that has a form and isn't taken. [`least_gap`] gives
-//! the same number, found by halving but for parameter groups.
+//! [`least_free`] is the allocator: the least number of some blocks that has a form and isn't taken. [`least_gap`]
+//! gives the same number, found by halving but for parameter groups.
 //!
 //! The definitions are in `specs/`: `PlainName.antt`, `Command.antt` (ranges of a command's fields),
 //! `Refusal.antt` and `Reply.antt` (numbers, names and lines), `State.antt` and `Book.antt` (orders), and `Free.antt`.

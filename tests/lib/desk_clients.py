@@ -1,5 +1,6 @@
 """A running `canoffice serve`, and clients of it, for the cases whose `prepare` needs more than `serve_client` does."""
 import atexit, os, resource, signal, socket, subprocess, sys, time
+from pathlib import Path
 
 PROGRAM = os.environ["CANOFFICE"]
 
@@ -48,6 +49,14 @@ class Serve:
         with self.connect() as client:
             client.sendall(request)
             return rest_of(client)
+
+    def stop_and_go_on(self):
+        """Stops the process where it waits, as `kill -STOP` does, and has it go on, as `kill -CONT` does."""
+        time.sleep(0.2)
+        self.process.send_signal(signal.SIGSTOP)
+        while "\nState:\tT" not in Path(f"/proc/{self.process.pid}/status").read_text():
+            time.sleep(0.01)
+        self.process.send_signal(signal.SIGCONT)
 
     def end(self, status, errors):
         """It has served all its connections, and ends so."""

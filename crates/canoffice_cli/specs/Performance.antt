@@ -31,16 +31,16 @@ IsOfFile NothingDone IsOf path absent o = (o ≡ unreadable path) × NothingDone
 IsOfFile NothingDone IsOf path (holding bytes) o = IsOf bytes o
 
 -- the outcome of the bytes of a file, by what is done with them; a script may name further files
-abbrev pub ComesTo : Files → Databases → Databases → FileTask → List ℕ → Outcome → Type 0
-ComesTo files before after (task.Apply database) bytes o = IsApplyOutcome files (option_map (λ path. path.now) database) before after bytes o
-ComesTo files before after task.Check bytes o = IsCheckOutcome bytes o × AreKept before after
-ComesTo files before after task.Format bytes o = IsFormatOutcome bytes o × AreKept before after
-ComesTo files before after task.Table bytes o = IsTableOutcome bytes o × AreKept before after
+abbrev pub IsTaskOutcome : Files → Databases → Databases → FileTask → List ℕ → Outcome → Type 0
+IsTaskOutcome files before after (task.Apply database) bytes o = IsApplyOutcome files (option_map (λ path. path.now) database) before after bytes o
+IsTaskOutcome files before after task.Check bytes o = IsCheckOutcome bytes o × AreKept before after
+IsTaskOutcome files before after task.Format bytes o = IsFormatOutcome bytes o × AreKept before after
+IsTaskOutcome files before after task.Table bytes o = IsTableOutcome bytes o × AreKept before after
 
 -- the same for a job, which may explain
 abbrev pub IsOfBytes : Files → Databases → Databases → FileJob → List ℕ → Outcome → Type 0
 IsOfBytes files before after job bytes o =
-    (plain : Outcome) × ComesTo files before after job.task bytes plain × MayExplain job.explain (IsStated files job.task job.path.now bytes) plain o
+    (plain : Outcome) × IsTaskOutcome files before after job.task bytes plain × MayExplain job.explain (IsStated files job.task job.path.now bytes) plain o
 
 abbrev pub IsFileOutcome : Files → Holding → Databases → Databases → FileJob → Outcome → Type 0
 IsFileOutcome files input before after job o =

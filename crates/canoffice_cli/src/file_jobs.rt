@@ -3,7 +3,7 @@ ghost use Rattle.std.specs.Prelude.{◌≡◌, IfOk};
 ghost use Rattle.office_script.specs.declared.files.PathFault.TheVariants.{Unreadable};
 ghost use Rattle.canoffice_cli.specs.Databases.{AreKept};
 ghost use Rattle.canoffice_cli.specs.Outcome.{outcome_of, unreadable};
-ghost use Rattle.canoffice_cli.specs.Performance.{ComesTo, IsFileOutcome, IsOfBytes};
+ghost use Rattle.canoffice_cli.specs.Performance.{IsTaskOutcome, IsFileOutcome, IsOfBytes};
 
 use crate::apply::apply_script;
 use crate::checking::check_report;
@@ -117,7 +117,7 @@ fn task_report<F: FileSource, D: Databases, W: Write>(
     databases: &mut D,
     progress: &mut Progress<W>,
 ) -> Result<Report, AllocError>
-    ensures { IfOk result (λ report. ComesTo (F.held files.now) (D.known databases.old)
+    ensures { IfOk result (λ report. IsTaskOutcome (F.held files.now) (D.known databases.old)
         (D.known databases.new) task.entry bytes.now (outcome_of report)) }
 {
     match task {

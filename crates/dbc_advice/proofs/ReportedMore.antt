@@ -3,10 +3,10 @@ use Rattle.std.proofs.Common.{◌≡◌, ◌+◌, ℕ, List, [], ◌∷◌, ◌+
 use Rattle.std.specs.Str.{bytes_eq}
 use Rattle.std.proofs.lemmas.Slice.Eq.{bytes_eq-Decides}
 use Rattle.dbc_advice.specs.Blanked.{blanked}
-use Rattle.dbc_advice.specs.Telling.{AreReported, IsBlankUpTo, IsNext, IsReported, IsUnchanged, without}
-use Rattle.dbc_advice.specs.declared.telling.Next.{Next}
-use Rattle.dbc_advice.specs.declared.telling.Next.TheVariants as next
-use Rattle.dbc_advice.specs.declared.telling.Reported.{Reported}
+use Rattle.dbc_advice.specs.Findings.{AreReported, IsBlankUpTo, IsNext, IsReported, IsUnchanged, without}
+use Rattle.dbc_advice.specs.declared.findings.Next.{Next}
+use Rattle.dbc_advice.specs.declared.findings.Next.TheVariants as next
+use Rattle.dbc_advice.specs.declared.findings.Reported.{Reported}
 
 -- after those that are reported, the fault of what is left
 pub reported_more : (text : List ℕ) (reported : List Reported) (left : List ℕ) (t : Reported) → AreReported text reported left → IsReported left t

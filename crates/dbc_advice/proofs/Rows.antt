@@ -12,7 +12,7 @@ use Rattle.dbc_advice.specs.ReportedLine.{code_label, more_text, reported_line}
 use Rattle.dbc_advice.specs.declared.candidate.Candidate.TheVariants as kind
 use Rattle.dbc_advice.specs.declared.found.Found.TheVariants as found
 use Rattle.dbc_advice.specs.declared.hint.Hint.TheVariants as hint
-use Rattle.dbc_advice.specs.declared.telling.Ending.TheVariants as ending
+use Rattle.dbc_advice.specs.declared.findings.Ending.TheVariants as ending
 
 -- ---- lines and columns
 

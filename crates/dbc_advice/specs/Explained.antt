@@ -7,14 +7,14 @@ use Rattle.dbc_advice.specs.Clashes.{AreClashLines}
 use Rattle.dbc_advice.specs.LeftOut.{left_out}
 use Rattle.dbc_advice.specs.Position.{position_at}
 use Rattle.dbc_advice.specs.Sentence.{sentence_of}
-use Rattle.dbc_advice.specs.Telling.{IsTelling}
+use Rattle.dbc_advice.specs.Findings.{AreFindings}
 use Rattle.dbc_advice.specs.Tokens.{IsFound, keyword_at}
 use Rattle.dbc_advice.specs.ReportedLine.{AreLinesOf, code_label, reported_line}
 use Rattle.dbc_advice.specs.declared.found.Found.{Found}
-use Rattle.dbc_advice.specs.declared.telling.Ending.{Ending}
-use Rattle.dbc_advice.specs.declared.telling.Ending.TheVariants.{Reads, Many, Long, Unchanged}
-use Rattle.dbc_advice.specs.declared.telling.Telling.{Telling}
-use Rattle.dbc_advice.specs.declared.telling.Reported.{Reported}
+use Rattle.dbc_advice.specs.declared.findings.Ending.{Ending}
+use Rattle.dbc_advice.specs.declared.findings.Ending.TheVariants.{Reads, Many, Long, Unchanged}
+use Rattle.dbc_advice.specs.declared.findings.Findings.{Findings}
+use Rattle.dbc_advice.specs.declared.findings.Reported.{Reported}
 
 -- The line of a fault: at its offset in the file, with its code, and its sentence: for what is found there, for what
 -- may be there, and for the keyword of the statement that begins with its lines.
@@ -55,10 +55,10 @@ IsRest file text reported ending rest = rest ≡ count_line file (length reporte
 
 -- the lines of the faults of the text, one after the other, and then the rest
 pub record IsExplained (file text out : List ℕ) : Type 0 where
-  pub telling : Telling
-  pub is : IsTelling text telling
+  pub findings : Findings
+  pub is : AreFindings text findings
   pub faults : List ℕ
-  pub lines : AreFaultLines file text telling.reported.items faults
+  pub lines : AreFaultLines file text findings.reported.items faults
   pub rest : List ℕ
-  pub is_rest : IsRest file text telling.reported.items telling.ending rest
+  pub is_rest : IsRest file text findings.reported.items findings.ending rest
   pub whole : out ≡ faults ++ rest

@@ -8,7 +8,7 @@ pub mod Candidate
 pub mod MayBeThere
 pub mod Sentence
 pub mod ReportedLine
-pub mod Telling
+pub mod Findings
 pub mod Reasons
 pub mod Unclear
 pub mod Clashes

@@ -10,7 +10,7 @@ use crate::leaving::left_out;
 use crate::notes::Source;
 use crate::position::position_of;
 use crate::sentences::{code_label, reported_line, sentence};
-use crate::telling::{Ending, Reported, Telling, reported_faults};
+use crate::findings::{Ending, Reported, Findings, reported_faults};
 use dbc_read::Reading;
 use std::alloc::{AllocError, Global};
 
@@ -101,12 +101,13 @@ fn stated_of_sheet(alloc: Global, source: Source, reading: &Reading) -> Result<V
 
 /// What is stated after the faults: of a file that reads what is stated of its sheet, and else how many faults are
 /// reported.
-fn rest_of(alloc: Global, source: Source, telling: &Telling) -> Result<Vec<u8>, AllocError>
+fn rest_of(alloc: Global, source: Source, findings: &Findings) -> Result<Vec<u8>, AllocError>
     ensures { IfOk result
-        (λ rest. IsRest source.entry.name.now source.entry.text.now telling.now.reported.items telling.now.ending rest.items) }
+        (λ rest. IsRest source.entry.name.now source.entry.text.now findings.now.reported.items findings.now.ending
+        rest.items) }
 {
-    let count = telling.reported.len();
-    match &telling.ending {
+    let count = findings.reported.len();
+    match &findings.ending {
         Ending::Reads(reading) if count == 0 => stated_of_sheet(alloc, source, reading),
         ending => count_line(alloc, source.name, count, ending),
     }
@@ -122,9 +123,9 @@ fn rest_of(alloc: Global, source: Source, telling: &Telling) -> Result<Vec<u8>, 
 pub fn explained(alloc: Global, source: Source) -> Result<Vec<u8>, AllocError>
     ensures { IfOk result (λ out. IsExplained source.entry.name.now source.entry.text.now out.items) }
 {
-    let telling = reported_faults(alloc, source.text)?;
-    let mut lines = fault_lines(alloc, source, &telling.reported)?;
-    let rest = rest_of(alloc, source, &telling)?;
+    let findings = reported_faults(alloc, source.text)?;
+    let mut lines = fault_lines(alloc, source, &findings.reported)?;
+    let rest = rest_of(alloc, source, &findings)?;
     lines.extend_from_slice(&rest)?;
     Ok(lines)
 }

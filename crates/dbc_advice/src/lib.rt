@@ -19,7 +19,7 @@ mod pieces;
 mod position;
 mod reasons;
 mod sentences;
-mod telling;
+mod findings;
 mod unclear;
 mod wanted;
 
@@ -30,4 +30,4 @@ pub use leaving::{CITATIONS_REPORTED, left_out};
 pub use notes::Source;
 pub use position::{Position, position_of};
 pub use sentences::reported_line;
-pub use telling::{BYTES_READ_AGAIN, FAULTS_REPORTED};
+pub use findings::{BYTES_READ_AGAIN, FAULTS_REPORTED};

@@ -7,25 +7,25 @@ use Rattle.dbc_grammar.specs.Statement.{Content, Statement}
 use Rattle.dbc_law.proofs.Contents.{contents_of}
 
 -- of this kind the contents say these
-pub record Tell {X : Type 0} (kind : Content → Option X) (cs : List Content) (xs : List X) : Type 0 where
+pub record States {X : Type 0} (kind : Content → Option X) (cs : List Content) (xs : List X) : Type 0 where
   pub contents_are : filter_map kind cs ≡ xs
 
 module _ {X : Type 0} {kind : Content → Option X} where
-  pub no_contents : Tell kind [] []
+  pub no_contents : States kind [] []
   no_contents = record { contents_are = refl }
 
   -- a content that says nothing of the kind, or x, before others
-  pub silent : {c : Content} {cs : List Content} {xs : List X} → kind c ≡ None → Tell kind cs xs → Tell kind (c ∷ cs) xs
+  pub silent : {c : Content} {cs : List Content} {xs : List X} → kind c ≡ None → States kind cs xs → States kind (c ∷ cs) xs
   silent {cs} e more = record { contents_are = ap (λ o. cons_option o (filter_map kind cs)) e ∙ more.contents_are }
 
-  pub speaks : {c : Content} {cs : List Content} {x : X} {xs : List X} → kind c ≡ Some x → Tell kind cs xs → Tell kind (c ∷ cs) (x ∷ xs)
+  pub speaks : {c : Content} {cs : List Content} {x : X} {xs : List X} → kind c ≡ Some x → States kind cs xs → States kind (c ∷ cs) (x ∷ xs)
   speaks {cs} {x} e more = record { contents_are = ap (λ o. cons_option o (filter_map kind cs)) e ∙ ap (λ rest. x ∷ rest) more.contents_are }
 
   infixl 10 ◌also◌
-  pub ◌also◌ : {cs ds : List Content} {xs ys : List X} → Tell kind cs xs → Tell kind ds ys → Tell kind (cs ++ ds) (xs ++ ys)
+  pub ◌also◌ : {cs ds : List Content} {xs ys : List X} → States kind cs xs → States kind ds ys → States kind (cs ++ ds) (xs ++ ys)
   ◌also◌ {cs} {ds} first second = record { contents_are = filter_map-append kind cs ds ∙ (λ i. first.contents_are i ++ second.contents_are i) }
 
-  pub tell_same : {cs : List Content} {xs ys : List X} → xs ≡ ys → Tell kind cs xs → Tell kind cs ys
+  pub tell_same : {cs : List Content} {xs ys : List X} → xs ≡ ys → States kind cs xs → States kind cs ys
   tell_same e tell = record { contents_are = tell.contents_are ∙ e }
 
 -- statements say what their contents say

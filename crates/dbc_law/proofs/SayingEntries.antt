@@ -11,7 +11,7 @@ use Rattle.catalogue.specs.declared.value_type.ValueType.TheVariants.{Integer, F
 use Rattle.dbc_grammar.proofs.EachStated.{kept_entries}
 use Rattle.dbc_grammar.proofs.SheetStated.{entries, part_entries}
 use Rattle.dbc_law.proofs.Contents.{comments, texts}
-use Rattle.dbc_law.proofs.SayingContents.{Tell, ◌also◌, no_contents, speaks, tell_same}
+use Rattle.dbc_law.proofs.SayingContents.{States, ◌also◌, no_contents, speaks, tell_same}
 
 -- ---- tests of values that are not empty; each fails at the empty one alone
 
@@ -45,29 +45,29 @@ entry keep k v = cond keep ((k, v) ∷ []) []
 
 module _ {K : Type 0} where
   -- what is left out where a test holds
-  pub chosen_tells : {V : Type 0} {kind : Content → Option (K × V)} (test : Bool) (c : Content) (k : K) (v : V) → kind c ≡ Some (k, v)
-      → Tell kind (if test then [] else (c ∷ [])) (entry (not test) k v)
-  chosen_tells true c k v e = no_contents
-  chosen_tells false c k v e = speaks e no_contents
+  pub chosen_states : {V : Type 0} {kind : Content → Option (K × V)} (test : Bool) (c : Content) (k : K) (v : V) → kind c ≡ Some (k, v)
+      → States kind (if test then [] else (c ∷ [])) (entry (not test) k v)
+  chosen_states true c k v e = no_contents
+  chosen_states false c k v e = speaks e no_contents
 
-  pub comment_tells : {kind : Content → Option (K × List ℕ)} (says : List ℕ → Content) (k : K) → ((t : List ℕ) → kind (says t) ≡ Some (k, t))
-      → (t : List ℕ) → Tell kind (comments says t) (entry (some_of t) k t)
-  comment_tells says k e [] = no_contents
-  comment_tells says k e (b ∷ bs) = speaks (e (b ∷ bs)) no_contents
+  pub comment_states : {kind : Content → Option (K × List ℕ)} (says : List ℕ → Content) (k : K) → ((t : List ℕ) → kind (says t) ≡ Some (k, t))
+      → (t : List ℕ) → States kind (comments says t) (entry (some_of t) k t)
+  comment_states says k e [] = no_contents
+  comment_states says k e (b ∷ bs) = speaks (e (b ∷ bs)) no_contents
 
-  pub texts_tell : {kind : Content → Option (K × List ValueText)} (number : ℕ) (name : List ℕ) (k : K)
+  pub texts_state : {kind : Content → Option (K × List ValueText)} (number : ℕ) (name : List ℕ) (k : K)
       → ((vs : List ValueText) → kind (ValueTextsAre (Some number) name vs) ≡ Some (k, vs))
-      → (vs : List ValueText) → Tell kind (texts number name vs) (entry (some_of vs) k vs)
-  texts_tell number name k e [] = no_contents
-  texts_tell number name k e (v ∷ vs) = speaks (e (v ∷ vs)) no_contents
+      → (vs : List ValueText) → States kind (texts number name vs) (entry (some_of vs) k vs)
+  texts_state number name k e [] = no_contents
+  texts_state number name k e (v ∷ vs) = speaks (e (v ∷ vs)) no_contents
 
 -- ---- the entries of lists
 
 module _ {K V : Type 0} {kind : Content → Option (K × V)} (keep : V → Bool) where
-  pub each_tells : {A : Type 0} (key : A → K) (value : A → V) (says : A → List Content)
-      → ((x : A) → Tell kind (says x) (entry (keep (value x)) (key x) (value x))) → (xs : List A) → Tell kind (flat_map says xs) (kept_entries keep (entries key value xs))
-  each_tells key value says each [] = no_contents
-  each_tells key value says each (x ∷ xs) = tell_same (by (keep (value x))) (each x also each_tells key value says each xs)
+  pub each_states : {A : Type 0} (key : A → K) (value : A → V) (says : A → List Content)
+      → ((x : A) → States kind (says x) (entry (keep (value x)) (key x) (value x))) → (xs : List A) → States kind (flat_map says xs) (kept_entries keep (entries key value xs))
+  each_states key value says each [] = no_contents
+  each_states key value says each (x ∷ xs) = tell_same (by (keep (value x))) (each x also each_states key value says each xs)
     where
       by : (b : Bool) → entry b (key x) (value x) ++ kept_entries keep (entries key value xs)
           ≡ cond b ((key x, value x) ∷ kept_entries keep (entries key value xs)) (kept_entries keep (entries key value xs))
@@ -75,9 +75,9 @@ module _ {K V : Type 0} {kind : Content → Option (K × V)} (keep : V → Bool)
       by false = refl
 
   -- and those of the parts of each thing in a list
-  pub parts_tell : {M S : Type 0} (parts : M → List S) (key : M → S → K) (value : S → V) (says : M → List Content)
-      → ((m : M) → Tell kind (says m) (kept_entries keep (entries (key m) value (parts m)))) → (ms : List M) → Tell kind (flat_map says ms) (kept_entries keep (part_entries parts key value ms))
-  parts_tell parts key value says each [] = no_contents
-  parts_tell parts key value says each (m ∷ ms) =
+  pub parts_state : {M S : Type 0} (parts : M → List S) (key : M → S → K) (value : S → V) (says : M → List Content)
+      → ((m : M) → States kind (says m) (kept_entries keep (entries (key m) value (parts m)))) → (ms : List M) → States kind (flat_map says ms) (kept_entries keep (part_entries parts key value ms))
+  parts_state parts key value says each [] = no_contents
+  parts_state parts key value says each (m ∷ ms) =
       tell_same (sym (filter-append (λ (e : K × V). keep e.1) (entries (key m) value (parts m)) (part_entries parts key value ms)))
-      (each m also parts_tell parts key value says each ms)
+      (each m also parts_state parts key value says each ms)

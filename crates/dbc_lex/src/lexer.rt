@@ -157,10 +157,10 @@ impl<'a> Lexer<'a> {
         ensures none { IfNone result (starts (is_mark (mark ∷ [])) self.old.tokens ≡ false) }
         ensures kept { IfNone result (self.new ≡ self.old) }
     {
-        let mut ahead = self.fork();
-        match ahead.next_token() {
+        let mut trial = self.fork();
+        match trial.next_token() {
             Ok(Some(token)) if is_this_mark(&token, mark) => {
-                *self = ahead;
+                *self = trial;
                 Some(token)
             }
             _ => None,

@@ -3,7 +3,7 @@ use Rattle.std.proofs.Common.{◌≡◌, ◌∙◌, ◌++◌, ℕ, true, List, [
 use Rattle.std.specs.Prelude.{unwrap_or}
 use Rattle.dbc_grammar.specs.Parsing.{statements_at}
 use Rattle.dbc_grammar.specs.Saying.{messages_of, node_names_of}
-use Rattle.dbc_grammar.specs.Statement as says
+use Rattle.dbc_grammar.specs.Statement as dbc
 use Rattle.dbc_grammar.specs.Token.{Token}
 use Rattle.catalogue.specs.declared.keyword.Keyword.{Keyword}
 use Rattle.dbc_read.specs.Attaching.{in_signals, with_attached}
@@ -25,7 +25,7 @@ use Rattle.dbc_statements.specs.declared.statement.MessageLine.{MessageLine}
 use Rattle.dbc_statements.specs.declared.statement.NodeName.{NodeName}
 use Rattle.dbc_statements.specs.declared.statement.Statement.{Statement}
 
-pub same_stated : (tokens : List Token) (a b : List says.Statement) → statements_at tokens ≡ Some a → statements_at tokens ≡ Some b → a ≡ b
+pub same_stated : (tokens : List Token) (a b : List dbc.Statement) → statements_at tokens ≡ Some a → statements_at tokens ≡ Some b → a ≡ b
 same_stated tokens a b h k = ap (λ o. unwrap_or o []) (sym h ∙ k)
 
 -- What is gathered up to a late statement, and what it and those after it define.
@@ -43,7 +43,7 @@ all_defined late tokens rest g now before after =
 pub none_apart : (f : Finders) (lines : List MessageLine) (g : Gathered) → SettlesApart f [] lines g lines g
 none_apart f lines g = λ all rest are h. h
 
-definition_apart : (all : List says.Statement) (start : ℕ) (keyword : Keyword) (c : Content) (rest : List says.Statement) (g : Gathered) → defines (content_of c) ≡ true
+definition_apart : (all : List dbc.Statement) (start : ℕ) (keyword : Keyword) (c : Content) (rest : List dbc.Statement) (g : Gathered) → defines (content_of c) ≡ true
     → GathersApart all g (record { start = start; keyword = keyword; content = content_of c } ∷ rest) → GathersApart all g rest
 definition_apart all start keyword (content.Nodes names) rest g does h = record {
   nodes = h.nodes ++ names.items;
@@ -57,13 +57,13 @@ definition_apart all start keyword (content.Message line) rest g does h = record
 }
 definition_apart all start keyword c rest g does h = absurd (true≢false (sym does))
 
-pub skipped_apart : (f : Finders) (stated : List says.Statement) (s : Statement) (lines new_lines : List MessageLine) (old new : Gathered) → defines (content_of s.content) ≡ true
+pub skipped_apart : (f : Finders) (stated : List dbc.Statement) (s : Statement) (lines new_lines : List MessageLine) (old new : Gathered) → defines (content_of s.content) ≡ true
     → SettlesApart f stated lines old new_lines new → SettlesApart f (stated ++ statement_of s ∷ []) lines old new_lines new
 skipped_apart f stated s lines new_lines old new does h = λ all rest are g.
     definition_apart all s.start s.keyword s.content rest (with_attached new_lines new) does
     (h all (statement_of s ∷ rest) are (subst (GathersApart all (with_attached lines old)) (append_assoc stated (statement_of s ∷ []) rest) g))
 
-pub one_apart : (f : Finders) (stated : List says.Statement) (s : Statement) (lines middle_lines new_lines : List MessageLine) (old middle new : Gathered) → map message_of middle_lines ≡ map message_of lines
+pub one_apart : (f : Finders) (stated : List dbc.Statement) (s : Statement) (lines middle_lines new_lines : List MessageLine) (old middle new : Gathered) → map message_of middle_lines ≡ map message_of lines
     → SettlesApart f stated lines old middle_lines middle → Settles f (statement_of s ∷ []) middle_lines middle new_lines new → SettlesApart f (stated ++ statement_of s ∷ []) lines old new_lines new
 one_apart f stated s lines middle_lines new_lines old middle new same h one = λ all rest are g.
     let before = h all (statement_of s ∷ rest) are (subst (GathersApart all (with_attached lines old)) (append_assoc stated (statement_of s ∷ []) rest) g) in

@@ -3,7 +3,7 @@ use Rattle.std.proofs.Common.{◌≡◌, ◌∙◌, ◌++◌, ℕ, List, [], ◌
 use Rattle.std.specs.Prelude.{drop}
 use Rattle.std.specs.List.{AllByRecursion}
 use Rattle.std.proofs.lemmas.List.Sorted.{IsPermutation-map}
-use Rattle.dbc_grammar.specs.Statement as says
+use Rattle.dbc_grammar.specs.Statement as dbc
 use Rattle.catalogue.specs.declared.message.Message.{Message}
 use Rattle.catalogue.specs.declared.sheet.Sheet.{Sheet}
 use Rattle.catalogue.specs.declared.signal.Signal.{Signal}
@@ -23,7 +23,7 @@ use Rattle.dbc_statements.specs.declared.statement.Content.TheVariants as conten
 use Rattle.dbc_statements.specs.declared.statement.MessageLine.{MessageLine}
 
 -- the messages take what is attached, message by message
-pub each_takes : (ms : List says.MessageLine) (comments : List (List ℕ)) (f : Feeds) → messages_with ms comments (each_fed ms f) ≡ messages_from ms comments f
+pub each_takes : (ms : List dbc.MessageLine) (comments : List (List ℕ)) (f : Feeds) → messages_with ms comments (each_fed ms f) ≡ messages_from ms comments f
 each_takes [] comments f = refl
 each_takes (m ∷ ms) comments f = ap (λ l. message_with m (first_or [] comments) (signals_from m.signals f) ∷ l) (each_takes ms (drop 1 comments) (feeds_after m.signals f))
 
@@ -52,7 +52,7 @@ pub fed_built : (old new : List MessageLine) (comments : List (List ℕ)) (f : F
 fed_built old new comments f same fed = (λ i. messages_with (same i) comments (fed i)) ∙ each_takes (map message_of old) comments f
 
 -- where the messages are fit, no signal has too many texts
-pub fit_few : (ms : List says.MessageLine) (comments : List (List ℕ)) (f : Feeds) → AllByRecursion IsFit (messages_from ms comments f) → AllByRecursion (AllByRecursion HaveFewTexts) (each_fed ms f)
+pub fit_few : (ms : List dbc.MessageLine) (comments : List (List ℕ)) (f : Feeds) → AllByRecursion IsFit (messages_from ms comments f) → AllByRecursion (AllByRecursion HaveFewTexts) (each_fed ms f)
 fit_few [] comments f h = tt
 fit_few (m ∷ ms) comments f h = (h.0.values, fit_few ms (drop 1 comments) (feeds_after m.signals f) h.1)
 

@@ -8,7 +8,7 @@ use Rattle.std.specs.List.{AllByRecursion, IsDistinct, cons_option, last_or, lis
 use Rattle.std.specs.Str.{bytes_eq}
 use Rattle.std.proofs.lemmas.List.{map-append}
 use Rattle.dbc_grammar.specs.Saying.{SignalKey, comment_in, each_in, has_message, has_signal, is_passed, last_at, message_comment_in, messages_of, node_comment_in, node_names_of, numbers_of, passed_by, same_signal, signal_comment_in, signal_keys_of, spn_in, table_in, value_texts_in, value_type_in, version_in, with_signal_key}
-use Rattle.dbc_grammar.specs.Statement as says
+use Rattle.dbc_grammar.specs.Statement as dbc
 use Rattle.dbc_grammar.specs.Statement.{Cited}
 use Rattle.catalogue.specs.declared.keyword.Keyword.{Keyword}
 use Rattle.catalogue.specs.declared.value_texts.ValueText.{ValueText}
@@ -120,33 +120,33 @@ signals_equiv = record {
   congr = λ x y z h. let parts = and_parts (x.0 == y.0) (bytes_eq x.1 y.1) h in λ i. nat_eq_equiv.congr x.0 y.0 z.0 parts.0 i && bytes_equiv.congr x.1 y.1 z.1 parts.1 i;
 }
 
-signal_settled : {V : Type 0} (d : V) (all : List says.Statement) (number : Cited) (name : List ℕ) (v : V) (ps : List (SignalKey × V)) (vs : List V) (index : Option ℕ)
+signal_settled : {V : Type 0} (d : V) (all : List dbc.Statement) (number : Cited) (name : List ℕ) (v : V) (ps : List (SignalKey × V)) (vs : List V) (index : Option ℕ)
     → IsSignalIndex all number name index → IsDistinct same_signal (signal_keys_of all)
     → finished same_signal d (cons_option (with_signal_key number name v) ps) (signal_keys_of all) vs ≡ finished same_signal d ps (signal_keys_of all) (set_at index v vs)
 signal_settled d all None name v ps vs index is distinct = ap (λ o. finished same_signal d ps (signal_keys_of all) (set_at o v vs)) (sym is)
 signal_settled d all (Some n) name v ps vs index is distinct = settled same_signal d signals_equiv (n, name) v ps (signal_keys_of all) vs index distinct is
 
-message_settled : (all : List says.Statement) (cited : Cited) (v : List ℕ) (rest : List says.Statement) (vs : List (List ℕ)) (index : Option ℕ)
+message_settled : (all : List dbc.Statement) (cited : Cited) (v : List ℕ) (rest : List dbc.Statement) (vs : List (List ℕ)) (index : Option ℕ)
     → IsMessageIndex all cited index → IsDistinct nat_eq (numbers_of all)
-    → finished nat_eq [] (cons_option (message_comment_in (says.MessageCommentIs cited v)) (each_in message_comment_in rest)) (numbers_of all) vs
+    → finished nat_eq [] (cons_option (message_comment_in (dbc.MessageCommentIs cited v)) (each_in message_comment_in rest)) (numbers_of all) vs
     ≡ finished nat_eq [] (each_in message_comment_in rest) (numbers_of all) (set_at index v vs)
 message_settled all None v rest vs index is distinct = ap (λ o. finished nat_eq [] (each_in message_comment_in rest) (numbers_of all) (set_at o v vs)) (sym is)
 message_settled all (Some n) v rest vs index is distinct = settled nat_eq [] nat_eq_equiv n v (each_in message_comment_in rest) (numbers_of all) vs index distinct is
 
-has_message_index : (all : List says.Statement) (cited : Cited) (index : Option ℕ) → IsMessageIndex all cited index → has_message all cited ≡ is_some index
+has_message_index : (all : List dbc.Statement) (cited : Cited) (index : Option ℕ) → IsMessageIndex all cited index → has_message all cited ≡ is_some index
 has_message_index all None index is = ap is_some (sym is)
 has_message_index all (Some n) index is = has_index (λ m. m == n) (numbers_of all) index is
 
-has_signal_index : (all : List says.Statement) (cited : Cited) (name : List ℕ) (index : Option ℕ) → IsSignalIndex all cited name index → has_signal all cited name ≡ is_some index
+has_signal_index : (all : List dbc.Statement) (cited : Cited) (name : List ℕ) (index : Option ℕ) → IsSignalIndex all cited name index → has_signal all cited name ≡ is_some index
 has_signal_index all None name index is = ap is_some (sym is)
 has_signal_index all (Some n) name index is = has_index (λ key. same_signal key (n, name)) (signal_keys_of all) index is
 
 -- One statement more, of the content c, which cites what has this index.
-module _ (all : List says.Statement) (start : ℕ) (keyword : Keyword) (index : Option ℕ) (g : Gathered) (rest : List says.Statement) where
+module _ (all : List dbc.Statement) (start : ℕ) (keyword : Keyword) (index : Option ℕ) (g : Gathered) (rest : List dbc.Statement) where
   abbrev p : Passed
   p = record { at = start; keyword = keyword }
 
-  abbrev these : Content → List says.Statement
+  abbrev these : Content → List dbc.Statement
   these c = record { start = start; keyword = keyword; content = content_of c } ∷ rest
 
   abbrev new : Content → Gathered
@@ -216,20 +216,20 @@ module _ (all : List says.Statement) (start : ℕ) (keyword : Keyword) (index : 
       sym (signal_settled 0 all cited.number cited.name.now spn (each_in spn_in rest) g.signal_spns index is distinct) ∙ h
   signal_spns_step c whole is distinct h = h
 
-  one_more : (kept : List says.Statement) (all_passed : List (ℕ × Keyword)) → map start_and_keyword g.passed ++ (start, keyword) ∷ map passed_pair kept ≡ all_passed
+  one_more : (kept : List dbc.Statement) (all_passed : List (ℕ × Keyword)) → map start_and_keyword g.passed ++ (start, keyword) ∷ map passed_pair kept ≡ all_passed
       → map start_and_keyword (g.passed ++ p ∷ []) ++ map passed_pair kept ≡ all_passed
   one_more kept all_passed h =
       ap (λ l. l ++ map passed_pair kept) (map-append start_and_keyword g.passed (p ∷ [])) ∙ append_assoc (map start_and_keyword g.passed) ((start, keyword) ∷ []) (map passed_pair kept) ∙ h
 
-  skipped_step : (x : says.Statement) (kept : List says.Statement) (all_passed : List (ℕ × Keyword)) (test : Bool) (o : Option ℕ) → passed_pair x ≡ (start, keyword) → test ≡ is_some o
+  skipped_step : (x : dbc.Statement) (kept : List dbc.Statement) (all_passed : List (ℕ × Keyword)) (test : Bool) (o : Option ℕ) → passed_pair x ≡ (start, keyword) → test ≡ is_some o
       → map start_and_keyword g.passed ++ map passed_pair (cond (not test) (x ∷ kept) kept) ≡ all_passed → map start_and_keyword (passed_after o p g.passed) ++ map passed_pair kept ≡ all_passed
   skipped_step x kept all_passed true (Some i) here e h = h
   skipped_step x kept all_passed false None here e h = one_more kept all_passed (ap (λ t. map start_and_keyword g.passed ++ t ∷ map passed_pair kept) (sym here) ∙ h)
   skipped_step x kept all_passed true None here e h = absurd (true≢false e)
   skipped_step x kept all_passed false (Some i) here e h = absurd (true≢false (sym e))
 
-  abbrev kept : List says.Statement
-  kept = filter (λ (s : says.Statement). is_passed all s.content) rest
+  abbrev kept : List dbc.Statement
+  kept = filter (λ (s : dbc.Statement). is_passed all s.content) rest
 
   passed_step : (c : Content) (all_passed : List (ℕ × Keyword)) → IsCitedIndex all (content_of c) index
       → map start_and_keyword g.passed ++ passed_in all (these c) ≡ all_passed → map start_and_keyword (new c).passed ++ passed_in all rest ≡ all_passed
@@ -259,18 +259,18 @@ module _ (all : List says.Statement) (start : ℕ) (keyword : Keyword) (index : 
   }
 
 -- what a statement says is gathered
-pub one_gathered : (all : List says.Statement) (s : Statement) (rest : List says.Statement) (index : Option ℕ) (old now : Gathered) → IsCitedIndex all (content_of s.content) index
+pub one_gathered : (all : List dbc.Statement) (s : Statement) (rest : List dbc.Statement) (index : Option ℕ) (old now : Gathered) → IsCitedIndex all (content_of s.content) index
     → now ≡ gathered_after index (passed_of s) s.content old → Gathers all old (statement_of s ∷ rest) → Gathers all now rest
 one_gathered all s rest index old now is_index is h = subst (λ g. Gathers all g rest) (sym is) (content_gathered all s.start s.keyword index old rest s.content is_index h)
 
 -- the first of the indices is the next statement's, and the others are those of the others
-pub next_index : (all : List says.Statement) (s : says.Statement) (rest : List says.Statement) (indices : List (Option ℕ)) → AreCitedIndices all (s ∷ rest) indices
+pub next_index : (all : List dbc.Statement) (s : dbc.Statement) (rest : List dbc.Statement) (indices : List (Option ℕ)) → AreCitedIndices all (s ∷ rest) indices
     → IsCitedIndex all s.content (first_or None indices) × AreCitedIndices all rest (drop 1 indices)
 next_index all s rest [] h = absurd h
 next_index all s rest (index ∷ indices) h = (h.0, h.1)
 
 -- before all statements
-pub nothing_gathered : (all : List says.Statement) (g : Gathered) → IsNothing all g → Gathers all g all
+pub nothing_gathered : (all : List dbc.Statement) (g : Gathered) → IsNothing all g → Gathers all g all
 nothing_gathered all g is = record {
   version = ap (λ o. last_or o (each_in version_in all)) is.version;
   comment = ap (λ o. last_or o (each_in comment_in all)) is.comment;
@@ -291,7 +291,7 @@ nothing_gathered all g is = record {
 }
 
 -- after all statements
-pub all_gathered : (all : List says.Statement) (g : Gathered) → Gathers all g [] → AreGathered all g
+pub all_gathered : (all : List dbc.Statement) (g : Gathered) → Gathers all g [] → AreGathered all g
 all_gathered all g h = record {
   version = h.version;
   comment = h.comment;

@@ -2,7 +2,7 @@
 use Rattle.std.proofs.Common.{◌≡◌, ℕ, [], ◌∷◌, None, Some, nat_eq, refl}
 use Rattle.std.specs.Prelude.{codes}
 use Rattle.dbc_grammar.specs.Parsing.{statements_at}
-use Rattle.dbc_grammar.specs.Statement as says
+use Rattle.dbc_grammar.specs.Statement as dbc
 use Rattle.catalogue.specs.declared.keyword.Keyword.TheVariants.{Nodes}
 use Rattle.dbc_read.specs.Attaching.{commented}
 use Rattle.dbc_read.specs.Gathering.{BeginWith, IsGathered, finished, with_nothing_attached}
@@ -50,7 +50,7 @@ unfolding statements_at
 none_settled = refl
 
 -- where one node is all that is defined, it alone has nothing attached
-node_has_nothing : (g : Gathered) → with_nothing_attached (record { start = 0; keyword = Nodes; content = says.NodesAre (codes "A" ∷ []) } ∷ []) g
+node_has_nothing : (g : Gathered) → with_nothing_attached (record { start = 0; keyword = Nodes; content = dbc.NodesAre (codes "A" ∷ []) } ∷ []) g
     ≡ record g { node_comments = [] ∷ []; message_comments = []; signal_comments = []; signal_values = []; signal_types = []; signal_spns = [] }
 node_has_nothing g = refl
 

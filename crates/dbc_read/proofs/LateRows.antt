@@ -2,7 +2,7 @@
 use Rattle.std.proofs.Common.{◌≡◌, ◌++◌, true, List, [], ◌∷◌, None, refl, sym, append-nil, subst}
 use Rattle.std.specs.Prelude.{codes}
 use Rattle.dbc_grammar.specs.Parsing.{statements_at}
-use Rattle.dbc_grammar.specs.Statement as says
+use Rattle.dbc_grammar.specs.Statement as dbc
 use Rattle.catalogue.specs.declared.keyword.Keyword.TheVariants.{Nodes}
 use Rattle.dbc_read.specs.Definitions.{AreDefinitions}
 use Rattle.dbc_read.specs.Gathered.{AreGathered, gathered_after, passed_of}
@@ -57,7 +57,7 @@ definitions_are_found : IsFound [] (found.Definitions nothing)
 definitions_are_found = none_define
 
 -- of `BU_: A` all but the node itself is gathered: nothing is attached to it
-node_is_apart : GathersApart (record { start = 0; keyword = Nodes; content = says.NodesAre (codes "A" ∷ []) } ∷ []) (record nothing { node_comments = [] ∷ [] }) []
+node_is_apart : GathersApart (record { start = 0; keyword = Nodes; content = dbc.NodesAre (codes "A" ∷ []) } ∷ []) (record nothing { node_comments = [] ∷ [] }) []
 node_is_apart = record {
   nodes = record { at = 5; name = codes "A" } ∷ [];
   messages = [];

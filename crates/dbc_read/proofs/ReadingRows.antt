@@ -5,7 +5,7 @@ use Rattle.std.specs.List.{IsDistinct}
 use Rattle.dbc_grammar.specs.Lexing.{StrayByte, first_token, lexed, lexed_in, token_at, word_len}
 use Rattle.catalogue.specs.Name.{is_name}
 use Rattle.dbc_grammar.specs.Parsing.{further_at, line_at, nodes_at, nodes_line_at, no_names_at, some_names_at, statement_at, statements_at}
-use Rattle.dbc_grammar.specs.Statement as says
+use Rattle.dbc_grammar.specs.Statement as dbc
 use Rattle.dbc_grammar.specs.Token.{Token}
 use Rattle.dbc_grammar.specs.TokenLaw.{tokens_without_fault}
 use Rattle.catalogue.specs.declared.keyword.Keyword.TheVariants.{Nodes}
@@ -35,8 +35,8 @@ tokens =
     record { kind = Name; start = 0; end = 3; text = codes "BU_" } ∷ record { kind = Mark; start = 3; end = 4; text = codes ":" }
     ∷ record { kind = Name; start = 4; end = 5; text = codes "A" } ∷ record { kind = Name; start = 6; end = 7; text = codes "A" } ∷ []
 
-abbrev stated : List says.Statement
-stated = record { start = 0; keyword = Nodes; content = says.NodesAre (codes "A" ∷ codes "A" ∷ []) } ∷ []
+abbrev stated : List dbc.Statement
+stated = record { start = 0; keyword = Nodes; content = dbc.NodesAre (codes "A" ∷ codes "A" ∷ []) } ∷ []
 
 text_has_tokens : lexed 0 text ≡ tokens_without_fault tokens
 unfolding lexed lexed_in first_token token_at word_len

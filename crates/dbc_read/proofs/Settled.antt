@@ -5,7 +5,7 @@ use Rattle.std.specs.List.{flat_map}
 use Rattle.std.proofs.lemmas.List.{length-map}
 use Rattle.can_id.specs.Ident.{dbc_number}
 use Rattle.dbc_grammar.specs.Saying.{keys_of, messages_of, node_names_of, numbers_of, signal_keys_of}
-use Rattle.dbc_grammar.specs.Statement as says
+use Rattle.dbc_grammar.specs.Statement as dbc
 use Rattle.dbc_grammar.specs.Statement.{Cited}
 use Rattle.dbc_grammar.specs.Token.{Token}
 use Rattle.catalogue.specs.declared.keyword.Keyword.{Keyword}
@@ -41,9 +41,9 @@ use Rattle.dbc_statements.specs.declared.statement.Statement.{Statement}
 -- What finds definitions finds them in lines of the same messages.
 
 same_line_numbers : (old new : List MessageLine) → map message_of new ≡ map message_of old → line_numbers new ≡ line_numbers old
-same_line_numbers old new same = sym (numbers_of_lines new) ∙ ap (map (λ (m : says.MessageLine). dbc_number m.ident)) same ∙ numbers_of_lines old
+same_line_numbers old new same = sym (numbers_of_lines new) ∙ ap (map (λ (m : dbc.MessageLine). dbc_number m.ident)) same ∙ numbers_of_lines old
 
-pub finds_same : (f : Finders) (old new : List MessageLine) (stated : List says.Statement) → map message_of new ≡ map message_of old → Finds f old stated → Finds f new stated
+pub finds_same : (f : Finders) (old new : List MessageLine) (stated : List dbc.Statement) → map message_of new ≡ map message_of old → Finds f old stated → Finds f new stated
 finds_same f old new stated same are = record {
   node_names = are.node_names;
   nodes = are.nodes;
@@ -58,11 +58,11 @@ finds_signals_same f old new same are = record {
   orders = subst (λ ms. AreOrdersOf ms f.orders.items) (sym same) are.orders;
 }
 
-pub numbers_found : (f : Finders) (lines : List MessageLine) (stated : List says.Statement) → Finds f lines stated → f.numbers ≡ numbers_of stated
-numbers_found f lines stated are = are.numbers ∙ sym (numbers_of_lines lines) ∙ ap (map (λ (m : says.MessageLine). dbc_number m.ident)) are.messages
+pub numbers_found : (f : Finders) (lines : List MessageLine) (stated : List dbc.Statement) → Finds f lines stated → f.numbers ≡ numbers_of stated
+numbers_found f lines stated are = are.numbers ∙ sym (numbers_of_lines lines) ∙ ap (map (λ (m : dbc.MessageLine). dbc_number m.ident)) are.messages
 
 one_settled : (f : Finders) (s : Statement) (index : Option ℕ) (lines new_lines : List MessageLine) (old now : Gathered) → defines (content_of s.content) ≡ false
-    → ((all : List says.Statement) → Finds f lines all → IsCitedIndex all (content_of s.content) index)
+    → ((all : List dbc.Statement) → Finds f lines all → IsCitedIndex all (content_of s.content) index)
     → with_attached new_lines now ≡ gathered_after index (passed_of s) s.content (with_attached lines old) → Settles f (statement_of s ∷ []) lines old new_lines now
 one_settled f s index lines new_lines old now defines_none found is = λ all rest nodes messages are h.
     one_gathered all s rest index (with_definitions nodes messages (with_attached lines old)) (with_definitions nodes messages (with_attached new_lines now)) (found all are)
@@ -79,7 +79,7 @@ attached_either_way lines index p (content.Spn cited spn) g h = absurd (true≢f
 attached_either_way lines index p c g h = refl
 
 pub other_settled : (f : Finders) (s : Statement) (index : Option ℕ) (lines : List MessageLine) (old now : Gathered) → defines (content_of s.content) ≡ false → cites_signal s.content ≡ false
-    → ((all : List says.Statement) → Finds f lines all → IsCitedIndex all (content_of s.content) index) → now ≡ gathered_after index (passed_of s) s.content old
+    → ((all : List dbc.Statement) → Finds f lines all → IsCitedIndex all (content_of s.content) index) → now ≡ gathered_after index (passed_of s) s.content old
     → Settles f (statement_of s ∷ []) lines old lines now
 other_settled f s index lines old now defines_none cites_none found is =
     one_settled f s index lines lines old now defines_none found (ap (with_attached lines) is ∙ attached_either_way lines index (passed_of s) s.content old cites_none)
@@ -135,7 +135,7 @@ attached_view cited (what.Spn spn) p lines new_lines old passed at =
     let spns = ap (map (λ (s : Signal). s.spn)) e ∙ sets g (λ (s : Signal). s.spn) spn (λ s. refl) at.index xs in
     λ i. record old { signal_comments = comments i; signal_values = values i; signal_types = types i; signal_spns = spns i; passed = at.passed i }
 
-attached_index : (all : List says.Statement) (cited : CitedSignal) (a : Attachment) (index : Option ℕ) → IsSignalIn (messages_of all) cited.number cited.name.now index → IsCitedIndex all (content_of (attaching cited a)) index
+attached_index : (all : List dbc.Statement) (cited : CitedSignal) (a : Attachment) (index : Option ℕ) → IsSignalIn (messages_of all) cited.number cited.name.now index → IsCitedIndex all (content_of (attaching cited a)) index
 attached_index all cited (what.Comment text) index h = h
 attached_index all cited (what.Values texts) index h = h
 attached_index all cited (what.Type value_type) index h = h
@@ -147,7 +147,7 @@ pub attached_settled : (f : Finders) (s : Statement) (cited : CitedSignal) (a : 
 attached_settled f s cited a lines new_lines old now passed defines_none says_what at is =
     one_settled f s at.index lines new_lines old now defines_none
     (λ all are. subst (λ c. IsCitedIndex all (content_of c) at.index) (sym says_what)
-    (attached_index all cited a at.index (subst (λ (ms : List says.MessageLine). IsSignalIn ms cited.number cited.name.now at.index) are.messages at.is)))
+    (attached_index all cited a at.index (subst (λ (ms : List dbc.MessageLine). IsSignalIn ms cited.number cited.name.now at.index) are.messages at.is)))
     (ap (with_attached new_lines) is ∙ attached_view cited a (passed_of s) lines new_lines old passed at
     ∙ ap (λ c. gathered_after at.index (passed_of s) c (with_attached lines old)) (sym says_what))
 
@@ -173,11 +173,11 @@ attached_parts f s parts cited a indices lines new_lines old passed defines_none
     (at cited.number cited.name.now (indices_of_cited lines s.content cited a indices found what_is))) refl
 
 pub other_parts : (f : Finders) (s : Statement) (parts : ℕ × Keyword × Content) (index : Option ℕ) (lines : List MessageLine) (old now : Gathered) → defines (content_of s.content) ≡ false
-    → parts ≡ (s.start, s.keyword, s.content) → cites_signal parts.2 ≡ false → ((all : List says.Statement) → Finds f lines all → IsCitedIndex all (content_of parts.2) index)
+    → parts ≡ (s.start, s.keyword, s.content) → cites_signal parts.2 ≡ false → ((all : List dbc.Statement) → Finds f lines all → IsCitedIndex all (content_of parts.2) index)
     → now ≡ gathered_after index (record { at = parts.0; keyword = parts.1 }) parts.2 old → Settles f (statement_of s ∷ []) lines old lines now
 other_parts f s parts index lines old now defines_none are cites_none found is =
     other_settled f s index lines old now defines_none (subst (λ (t : ℕ × Keyword × Content). cites_signal t.2 ≡ false) are cites_none)
-    (subst (λ (t : ℕ × Keyword × Content). (all : List says.Statement) → Finds f lines all → IsCitedIndex all (content_of t.2) index) are found)
+    (subst (λ (t : ℕ × Keyword × Content). (all : List dbc.Statement) → Finds f lines all → IsCitedIndex all (content_of t.2) index) are found)
     (is ∙ ap (λ (t : ℕ × Keyword × Content). gathered_after index (record { at = t.0; keyword = t.1 }) t.2 old) are)
 
 -- Several statements.
@@ -185,7 +185,7 @@ other_parts f s parts index lines old now defines_none are cites_none found is =
 pub none_settled : (f : Finders) (lines : List MessageLine) (g : Gathered) → Settles f [] lines g lines g
 none_settled f lines g = λ all rest nodes messages are h. h
 
-pub settled_both : (f : Finders) (first second : List says.Statement) (a_lines b_lines c_lines : List MessageLine) (a b c : Gathered) → map message_of b_lines ≡ map message_of a_lines
+pub settled_both : (f : Finders) (first second : List dbc.Statement) (a_lines b_lines c_lines : List MessageLine) (a b c : Gathered) → map message_of b_lines ≡ map message_of a_lines
     → Settles f first a_lines a b_lines b → Settles f second b_lines b c_lines c → Settles f (first ++ second) a_lines a c_lines c
 settled_both f first second a_lines b_lines c_lines a b c same h k = λ all rest nodes messages are g.
     k all rest nodes messages (finds_same f a_lines b_lines all same are)
@@ -196,17 +196,17 @@ count_keys [] = refl
 count_keys (line ∷ lines) = by line.signals.items (count_keys lines)
   where
     by : (items : List Signal) → length (flat_map keys_of (map message_of lines)) ≡ length (all_signals lines)
-        → length (map (λ (s : says.SignalLine). (dbc_number line.ident, s.name)) (map signal_of items) ++ flat_map keys_of (map message_of lines)) ≡ length (items ++ all_signals lines)
+        → length (map (λ (s : dbc.SignalLine). (dbc_number line.ident, s.name)) (map signal_of items) ++ flat_map keys_of (map message_of lines)) ≡ length (items ++ all_signals lines)
     by [] e = e
     by (s ∷ items) e = ap suc (by items e)
 
 -- Nothing is attached at first.
-pub begun_with : (stated : List says.Statement) (nodes : List NodeName) (lines : List MessageLine) (old attached : Gathered) → names_of nodes ≡ node_names_of stated → map message_of lines ≡ messages_of stated → HaveNothing lines
+pub begun_with : (stated : List dbc.Statement) (nodes : List NodeName) (lines : List MessageLine) (old attached : Gathered) → names_of nodes ≡ node_names_of stated → map message_of lines ≡ messages_of stated → HaveNothing lines
     → attached ≡ record old { node_comments = replicate (length nodes) []; message_comments = replicate (length lines) [] } → with_attached lines attached ≡ with_nothing_attached stated old
 begun_with stated nodes lines old attached names messages nothing begins =
     let node_count : length nodes ≡ length (node_names_of stated) = sym (length-map nodes (λ (n : NodeName). n.name)) ∙ ap length names in
     let message_count : length lines ≡ length (numbers_of stated)
-    = sym (length-map lines message_of) ∙ ap length messages ∙ sym (length-map (messages_of stated) (λ (m : says.MessageLine). dbc_number m.ident)) in
+    = sym (length-map lines message_of) ∙ ap length messages ∙ sym (length-map (messages_of stated) (λ (m : dbc.MessageLine). dbc_number m.ident)) in
     let signal_count : length (all_signals lines) ≡ length (signal_keys_of stated) = sym (count_keys lines) ∙ ap (λ ms. length (flat_map keys_of ms)) messages in
     ap (with_attached lines) begins ∙ nothing (record old { node_comments = replicate (length nodes) []; message_comments = replicate (length lines) [] })
     ∙ (λ i. record old {
@@ -219,7 +219,7 @@ begun_with stated nodes lines old attached names messages nothing begins =
     })
 
 -- all are gathered, where nothing is left
-pub gathered_with : (all : List says.Statement) (nodes other_nodes : List NodeName) (lines other_lines : List MessageLine) (g : Gathered) → Gathers all (with_definitions nodes lines g) []
+pub gathered_with : (all : List dbc.Statement) (nodes other_nodes : List NodeName) (lines other_lines : List MessageLine) (g : Gathered) → Gathers all (with_definitions nodes lines g) []
     → names_of other_nodes ≡ node_names_of all → map message_of other_lines ≡ messages_of all → AreGathered all (with_definitions other_nodes other_lines g)
 gathered_with all nodes other_nodes lines other_lines g h names messages =
     let are = all_gathered all (with_definitions nodes lines g) h in
@@ -238,7 +238,7 @@ gathered_with all nodes other_nodes lines other_lines g h names messages =
       passed = are.passed;
     }
 
-pub defining_nothing : (xs ys : List says.Statement) → DefineNothing xs → DefineNothing ys → DefineNothing (xs ++ ys)
+pub defining_nothing : (xs ys : List dbc.Statement) → DefineNothing xs → DefineNothing ys → DefineNothing (xs ++ ys)
 defining_nothing [] ys h k = k
 defining_nothing (x ∷ xs) ys h k = (h.0, defining_nothing xs ys h.1 k)
 
@@ -256,8 +256,8 @@ all_follow f nodes lines settled_lines new_lines first end tokens rest old attac
   stated = others.stated;
   read = others.read;
   gathered = λ before h.
-      let more : List says.Statement = one_or_none first ++ others.stated in
-      let all : List says.Statement = before ++ more in
+      let more : List dbc.Statement = one_or_none first ++ others.stated in
+      let all : List dbc.Statement = before ++ more in
       let none : DefineNothing more = defining_nothing (one_or_none first) others.stated (first_defines_nothing first citing) others.none in
       let g : Gathered = with_definitions nodes lines old in
       let names : names_of nodes ≡ node_names_of all = defined_names before g h ∙ sym (same_names before more none) in
@@ -267,13 +267,13 @@ all_follow f nodes lines settled_lines new_lines first end tokens rest old attac
       let both : Settles f more lines attached new_lines now = settled_both f (one_or_none first) others.stated lines settled_lines new_lines attached settled now same_first one others.gathered in
       let end : Gathers all (with_definitions nodes lines (with_attached new_lines now)) []
       = both all [] nodes lines (found all names messages) (subst (Gathers all (with_definitions nodes lines (with_attached lines attached))) (sym (append-nil more)) start) in
-      subst (λ (x : List says.Statement). AreGathered x (with_definitions nodes new_lines (with_attached new_lines now))) (sym (append_assoc before (one_or_none first) others.stated))
+      subst (λ (x : List dbc.Statement). AreGathered x (with_definitions nodes new_lines (with_attached new_lines now))) (sym (append_assoc before (one_or_none first) others.stated))
       (gathered_with all nodes nodes lines new_lines (with_attached new_lines now) end names (same_others ∙ same_first ∙ messages));
 }
 
 -- All statements up to the late one: those up to the first that cites something, that one, and those after it.
 
-read_before : (end : Settled) (before stated : List says.Statement) (tokens middle rest : List Token) → BeginWith before tokens middle → ReadUpTo end stated middle rest → ReadUpTo end (before ++ stated) tokens rest
+read_before : (end : Settled) (before stated : List dbc.Statement) (tokens middle rest : List Token) → BeginWith before tokens middle → ReadUpTo end stated middle rest → ReadUpTo end (before ++ stated) tokens rest
 read_before settled.All before stated tokens middle rest h k = begin_with_rest before stated tokens middle h k
 read_before (settled.UpTo late) before stated tokens middle rest h k = begin_with_both before stated (statement_of late) tokens middle rest h k
 

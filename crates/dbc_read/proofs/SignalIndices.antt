@@ -9,7 +9,7 @@ use Rattle.std.proofs.lemmas.List.Folds.{list_any-append}
 use Rattle.std.proofs.lemmas.Option.{slice_get_within}
 use Rattle.can_id.specs.Ident.{dbc_number}
 use Rattle.dbc_grammar.specs.Saying.{SignalKey, keys_of, same_signal}
-use Rattle.dbc_grammar.specs.Statement as says
+use Rattle.dbc_grammar.specs.Statement as dbc
 use Rattle.catalogue.specs.declared.signal.Signal.{Signal}
 use Rattle.dbc_read.specs.Attaching.{AreIndicesOf, HasSignal, all_signals, at_index, with_attachment, flat_index, index_after}
 use Rattle.dbc_read.specs.Faults.{line_number}
@@ -85,7 +85,7 @@ signal_there d (line ∷ lines) zero j h k = k
 signal_there d (line ∷ lines) (suc i) j h k = signal_there d lines i j (omega arith) k
 
 -- The numbers of the lines are those of the messages.
-pub numbers_of_lines : (lines : List MessageLine) → map (λ (m : says.MessageLine). dbc_number m.ident) (map message_of lines) ≡ line_numbers lines
+pub numbers_of_lines : (lines : List MessageLine) → map (λ (m : dbc.MessageLine). dbc_number m.ident) (map message_of lines) ≡ line_numbers lines
 numbers_of_lines [] = refl
 numbers_of_lines (line ∷ lines) = ap (λ l. line_number line ∷ l) (numbers_of_lines lines)
 
@@ -98,7 +98,7 @@ module _ (number : ℕ) (name : List ℕ) where
   is_named s = bytes_eq s.name name
 
   abbrev keyed : ℕ → List Signal → List SignalKey
-  keyed n items = map (λ (s : says.SignalLine). (n, s.name)) (signals_of items)
+  keyed n items = map (λ (s : dbc.SignalLine). (n, s.name)) (signals_of items)
 
   abbrev keys : List MessageLine → List SignalKey
   keys lines = flat_map keys_of (map message_of lines)

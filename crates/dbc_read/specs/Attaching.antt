@@ -1,7 +1,7 @@
 -- Signals with what statements attach to them, in the lines of their messages.
 use Rattle.std.specs.Prelude.{◌≡◌, ◌<◌, ⊤, ℕ, zero, suc, Bool, true, false, List, [], ◌∷◌, drop, length, map, Option, Some, None}
 use Rattle.std.specs.List.{flat_map}
-use Rattle.dbc_grammar.specs.Statement as says
+use Rattle.dbc_grammar.specs.Statement as dbc
 use Rattle.dbc_grammar.specs.Statement.{Cited}
 use Rattle.catalogue.specs.declared.message.Message.{Message}
 use Rattle.catalogue.specs.declared.signal.Signal.{Signal}
@@ -126,11 +126,11 @@ in_signals g = with_attached g.messages g
 abbrev pub line_signals : MessageLine → List Signal
 line_signals line = line.signals.items
 
-abbrev pub each_fed : List says.MessageLine → Feeds → List (List Signal)
+abbrev pub each_fed : List dbc.MessageLine → Feeds → List (List Signal)
 each_fed [] f = []
 each_fed (m ∷ ms) f = signals_from m.signals f ∷ each_fed ms (feeds_after m.signals f)
 
-abbrev pub messages_with : List says.MessageLine → List (List ℕ) → List (List Signal) → List Message
+abbrev pub messages_with : List dbc.MessageLine → List (List ℕ) → List (List Signal) → List Message
 messages_with [] comments lists = []
 messages_with (m ∷ ms) comments lists = message_with m (first_or [] comments) (first_or [] lists) ∷ messages_with ms (drop 1 comments) (drop 1 lists)
 

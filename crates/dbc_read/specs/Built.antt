@@ -3,7 +3,7 @@ use Rattle.std.specs.Prelude.{◌≡◌, ◌++◌, ℕ, List, [], ◌∷◌, dro
 use Rattle.std.specs.List.{AllByRecursion}
 use Rattle.catalogue.specs.Form.{IsSheet}
 use Rattle.catalogue.specs.Sheet.{node_name}
-use Rattle.dbc_grammar.specs.Statement as says
+use Rattle.dbc_grammar.specs.Statement as dbc
 use Rattle.catalogue.specs.WellFormed.{AreRostered}
 use Rattle.catalogue.specs.declared.message.Message.{Message}
 use Rattle.catalogue.specs.declared.node.Node.{Node}
@@ -29,22 +29,22 @@ nodes_from (name ∷ names) comments = record { name = name; comment = first_or 
 abbrev pub rest_of : Feeds → Feeds
 rest_of f = record { comments = drop 1 f.comments; values = drop 1 f.values; types = drop 1 f.types; spns = drop 1 f.spns }
 
-abbrev pub next_signal : says.SignalLine → Feeds → Signal
+abbrev pub next_signal : dbc.SignalLine → Feeds → Signal
 next_signal line f = signal_with line (first_or [] f.comments) (first_or 0 f.spns) (first_or [] f.values) (first_or Integer f.types)
 
-abbrev pub signals_from : List says.SignalLine → Feeds → List Signal
+abbrev pub signals_from : List dbc.SignalLine → Feeds → List Signal
 signals_from [] f = []
 signals_from (line ∷ lines) f = next_signal line f ∷ signals_from lines (rest_of f)
 
 -- what is left after these signals took theirs
-abbrev pub feeds_after : List says.SignalLine → Feeds → Feeds
+abbrev pub feeds_after : List dbc.SignalLine → Feeds → Feeds
 feeds_after [] f = f
 feeds_after (line ∷ lines) f = feeds_after lines (rest_of f)
 
-abbrev pub next_message : says.MessageLine → List ℕ → Feeds → Message
+abbrev pub next_message : dbc.MessageLine → List ℕ → Feeds → Message
 next_message line comment f = message_with line comment (signals_from line.signals f)
 
-abbrev pub messages_from : List says.MessageLine → List (List ℕ) → Feeds → List Message
+abbrev pub messages_from : List dbc.MessageLine → List (List ℕ) → Feeds → List Message
 messages_from [] comments f = []
 messages_from (line ∷ lines) comments f = next_message line (first_or [] comments) f ∷ messages_from lines (drop 1 comments) (feeds_after line.signals f)
 

@@ -3,7 +3,7 @@ use Rattle.std.specs.Prelude.{◌≡◌, ℕ, nat_eq, List, [], ◌∷◌, ◌++
 use Rattle.std.specs.List.{IsDistinct, last_or}
 use Rattle.std.specs.Str.{bytes_eq}
 use Rattle.dbc_grammar.specs.Saying.{comment_in, each_in, last_value_of, message_comment_in, messages_of, node_comment_in, node_names_of, numbers_of, passed_by, same_signal, signal_comment_in, signal_keys_of, spn_in, table_in, value_texts_in, value_type_in, version_in}
-use Rattle.dbc_grammar.specs.Statement as says
+use Rattle.dbc_grammar.specs.Statement as dbc
 use Rattle.catalogue.specs.declared.value_type.ValueType.TheVariants.{Integer}
 use Rattle.dbc_read.specs.Lookups.{AreCitedIndices}
 use Rattle.dbc_read.specs.Passed.{start_and_keyword}
@@ -45,7 +45,7 @@ abbrev pub passed_of : Statement → Passed
 passed_of s = record { at = s.start; keyword = s.keyword }
 
 -- what is gathered before any of these statements
-pub record IsNothing (statements : List says.Statement) (g : Gathered) : Type 0 where
+pub record IsNothing (statements : List dbc.Statement) (g : Gathered) : Type 0 where
   pub version : g.version ≡ None
   pub comment : g.comment ≡ None
   pub nodes : g.nodes ≡ []
@@ -60,12 +60,12 @@ pub record IsNothing (statements : List says.Statement) (g : Gathered) : Type 0 
   pub passed : g.passed ≡ []
 
 -- nothing is gathered of the statements yet, and these are the indices of what they cite
-pub record IsBeginning (statements : List says.Statement) (g : Gathered) (found : List (Option ℕ)) : Type 0 where
+pub record IsBeginning (statements : List dbc.Statement) (g : Gathered) (found : List (Option ℕ)) : Type 0 where
   pub nothing : IsNothing statements g
   pub indices : AreCitedIndices statements statements found
 
 -- The contents of all the statements. What is attached to a thing is at its index, if no two things have the same key.
-pub record AreGathered (statements : List says.Statement) (g : Gathered) : Type 0 where
+pub record AreGathered (statements : List dbc.Statement) (g : Gathered) : Type 0 where
   pub version : g.version ≡ last_or None (each_in version_in statements)
   pub comment : g.comment ≡ last_or None (each_in comment_in statements)
   pub nodes : names_of g.nodes ≡ node_names_of statements

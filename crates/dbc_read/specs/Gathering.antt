@@ -6,7 +6,7 @@ use Rattle.std.specs.Option.{option_map}
 use Rattle.std.specs.Str.{bytes_eq}
 use Rattle.dbc_grammar.specs.Parsing.{statements_at}
 use Rattle.dbc_grammar.specs.Saying.{comment_in, each_in, is_passed, last_at, last_value_of, message_comment_in, messages_of, node_comment_in, node_names_of, numbers_of, passed_by, same_signal, signal_comment_in, signal_keys_of, spn_in, table_in, value_texts_in, value_type_in, version_in}
-use Rattle.dbc_grammar.specs.Statement as says
+use Rattle.dbc_grammar.specs.Statement as dbc
 use Rattle.dbc_grammar.specs.Token.{Token}
 use Rattle.catalogue.specs.declared.keyword.Keyword.{Keyword}
 use Rattle.catalogue.specs.declared.value_type.ValueType.TheVariants.{Integer}
@@ -33,15 +33,15 @@ module _ {K V : Type 0} (same : K → K → Bool) (d : V) where
   finished ps (k ∷ ks) [] = []
   finished ps (k ∷ ks) (v ∷ vs) = unwrap_or (last_at same k (Some v) ps) d ∷ finished ps ks vs
 
-abbrev pub passed_pair : says.Statement → ℕ × Keyword
+abbrev pub passed_pair : dbc.Statement → ℕ × Keyword
 passed_pair s = (s.start, s.keyword)
 
 -- those of the rest that are skipped
-abbrev pub passed_in : List says.Statement → List says.Statement → List (ℕ × Keyword)
-passed_in all rest = map passed_pair (filter (λ (s : says.Statement). is_passed all s.content) rest)
+abbrev pub passed_in : List dbc.Statement → List dbc.Statement → List (ℕ × Keyword)
+passed_in all rest = map passed_pair (filter (λ (s : dbc.Statement). is_passed all s.content) rest)
 
 -- What is gathered, and what is left to say, are all that the statements say.
-pub record Gathers (all : List says.Statement) (g : Gathered) (rest : List says.Statement) : Type 0 where
+pub record Gathers (all : List dbc.Statement) (g : Gathered) (rest : List dbc.Statement) : Type 0 where
   pub version : last_or g.version (each_in version_in rest) ≡ last_or None (each_in version_in all)
   pub comment : last_or g.comment (each_in comment_in rest) ≡ last_or None (each_in comment_in all)
   pub nodes : names_of g.nodes ++ node_names_of rest ≡ node_names_of all
@@ -63,22 +63,22 @@ pub record Gathers (all : List says.Statement) (g : Gathered) (rest : List says.
 
 -- Statements that come one by one. A statement defines a node or a message, or it cites one or a signal, or neither.
 
-abbrev pub defines : says.Content → Bool
-defines (says.NodesAre names) = true
-defines (says.MessageIs line) = true
+abbrev pub defines : dbc.Content → Bool
+defines (dbc.NodesAre names) = true
+defines (dbc.MessageIs line) = true
 defines content = false
 
-abbrev pub cites : says.Content → Bool
-cites (says.NodeCommentIs name text) = true
-cites (says.MessageCommentIs cited text) = true
-cites (says.SignalCommentIs cited name text) = true
-cites (says.ValueTextsAre cited name texts) = true
-cites (says.ValueTypeIs cited name value_type) = true
-cites (says.SpnIs cited name spn) = true
+abbrev pub cites : dbc.Content → Bool
+cites (dbc.NodeCommentIs name text) = true
+cites (dbc.MessageCommentIs cited text) = true
+cites (dbc.SignalCommentIs cited name text) = true
+cites (dbc.ValueTextsAre cited name texts) = true
+cites (dbc.ValueTypeIs cited name value_type) = true
+cites (dbc.SpnIs cited name spn) = true
 cites content = false
 
-abbrev pub DefineNothing : List says.Statement → Type 0
-DefineNothing statements = AllByRecursion (λ (s : says.Statement). defines s.content ≡ false) statements
+abbrev pub DefineNothing : List dbc.Statement → Type 0
+DefineNothing statements = AllByRecursion (λ (s : dbc.Statement). defines s.content ≡ false) statements
 
 -- no statement is gathered
 pub record IsEmpty (g : Gathered) : Type 0 where
@@ -101,7 +101,7 @@ with_empty nodes messages signals g = record g {
 }
 
 -- those that the statements define
-abbrev pub with_nothing_attached : List says.Statement → Gathered → Gathered
+abbrev pub with_nothing_attached : List dbc.Statement → Gathered → Gathered
 with_nothing_attached statements g = with_empty (length (node_names_of statements)) (length (numbers_of statements)) (length (signal_keys_of statements)) g
 
 -- these nodes and messages are gathered too
@@ -109,8 +109,8 @@ abbrev pub with_definitions : List NodeName → List MessageLine → Gathered �
 with_definitions nodes messages g = record g { nodes = nodes; messages = messages }
 
 -- the statements so far are gathered, whatever the rest is; they cite nothing
-abbrev pub IsDefining : List says.Statement → Gathered → Type 0
-IsDefining stated g = (rest : List says.Statement) → Gathers (stated ++ rest) (with_nothing_attached (stated ++ rest) g) rest
+abbrev pub IsDefining : List dbc.Statement → Gathered → Type 0
+IsDefining stated g = (rest : List dbc.Statement) → Gathers (stated ++ rest) (with_nothing_attached (stated ++ rest) g) rest
 
 -- nothing is attached to the signals of each of the lines
 abbrev pub AreBare : List MessageLine → Type 0
@@ -127,40 +127,40 @@ HaveNothing lines = (g : Gathered) → with_attached lines g ≡ record g {
 
 -- these statements, which define nothing, are gathered where what they cite is found; what is attached to signals is in
 -- the lines
-abbrev pub Settles : Finders → List says.Statement → List MessageLine → Gathered → List MessageLine → Gathered → Type 0
-Settles f more lines old new_lines new = (all rest : List says.Statement) (nodes : List NodeName) (messages : List MessageLine) → Finds f lines all
+abbrev pub Settles : Finders → List dbc.Statement → List MessageLine → Gathered → List MessageLine → Gathered → Type 0
+Settles f more lines old new_lines new = (all rest : List dbc.Statement) (nodes : List NodeName) (messages : List MessageLine) → Finds f lines all
     → Gathers all (with_definitions nodes messages (with_attached lines old)) (more ++ rest) → Gathers all (with_definitions nodes messages (with_attached new_lines new)) rest
 
 -- one statement is gathered, with the index of what its content cites, which is no signal
 pub record IsGathered (f : Finders) (p : Passed) (c : Content) (old new : Gathered) : Type 0 where
   pub none : cites_signal c ≡ false
   pub index : Option ℕ
-  pub is : (lines : List MessageLine) (statements : List says.Statement) → Finds f lines statements → IsCitedIndex statements (content_of c) index
+  pub is : (lines : List MessageLine) (statements : List dbc.Statement) → Finds f lines statements → IsCitedIndex statements (content_of c) index
   pub gathered : new ≡ gathered_after index p c old
 
 -- Tokens that begin with these statements, and then the rest.
-abbrev pub BeginWith : List says.Statement → List Token → List Token → Type 0
+abbrev pub BeginWith : List dbc.Statement → List Token → List Token → Type 0
 BeginWith stated tokens rest = statements_at tokens ≡ option_map (λ others. stated ++ others) (statements_at rest)
 
-abbrev pub one_or_none : Option Statement → List says.Statement
+abbrev pub one_or_none : Option Statement → List dbc.Statement
 one_or_none None = []
 one_or_none (Some s) = statement_of s ∷ []
 
 -- statements are gathered up to the first that cites something, or the last
 pub record Defines (tokens rest : List Token) (old new : Gathered) (first : Option Statement) : Type 0 where
-  pub stated : List says.Statement
+  pub stated : List dbc.Statement
   pub read : BeginWith (stated ++ one_or_none first) tokens rest
   pub cites : IfSome first (λ s. cites (content_of s.content) ≡ true)
   pub gathered : IsDefining [] old → IsDefining stated new
 
 -- it is what all statements of the tokens say
 pub record IsOfTokens (tokens : List Token) (g : Gathered) : Type 0 where
-  pub stated : List says.Statement
+  pub stated : List dbc.Statement
   pub read : statements_at tokens ≡ Some stated
   pub gathered : AreGathered stated g
 
 -- it is what all statements of the text say
 pub record IsOfText (bytes : List ℕ) (g : Gathered) : Type 0 where
-  pub stated : List says.Statement
+  pub stated : List dbc.Statement
   pub divided : IsDivided bytes stated
   pub gathered : AreGathered stated g

@@ -3,7 +3,7 @@ use Rattle.std.specs.Prelude.{◌≤◌, ⊤, ℕ, List, [], ◌∷◌, Option, 
 use Rattle.std.specs.List.{range_with_len}
 use Rattle.std.specs.Ordering.{is_lt}
 use Rattle.catalogue.specs.Keyed.{text_cmp}
-use Rattle.dbc_grammar.specs.Statement as says
+use Rattle.dbc_grammar.specs.Statement as dbc
 use Rattle.catalogue.specs.declared.signal.Signal.{Signal}
 use Rattle.dbc_read.specs.declared.orders.Order.{Order}
 use Rattle.dbc_read.specs.declared.orders.TheConstants.{FEW_SIGNALS}
@@ -11,8 +11,8 @@ use Rattle.dbc_read.specs.declared.orders.TheConstants.{FEW_SIGNALS}
 abbrev pub signal_names : List Signal → List (List ℕ)
 signal_names signals = map (λ (s : Signal). s.name) signals
 
-abbrev pub line_names : says.MessageLine → List (List ℕ)
-line_names m = map (λ (s : says.SignalLine). s.name) m.signals
+abbrev pub line_names : dbc.MessageLine → List (List ℕ)
+line_names m = map (λ (s : dbc.SignalLine). s.name) m.signals
 
 -- the indices of these names, in an order in which the names ascend
 pub record IsAscending (names : List (List ℕ)) (order : List ℕ) : Type 0 where
@@ -25,7 +25,7 @@ IsOrderOf names None = length names ≤ FEW_SIGNALS
 IsOrderOf names (Some order) = IsAscending names order.value.indices.items
 
 -- an order for each of the messages, or none
-abbrev pub AreOrdersOf : {A : Type 0} → List says.MessageLine → List (Option (Box Order A)) → Type 0
+abbrev pub AreOrdersOf : {A : Type 0} → List dbc.MessageLine → List (Option (Box Order A)) → Type 0
 AreOrdersOf [] [] = ⊤
 AreOrdersOf (m ∷ ms) (order ∷ orders) = IsOrderOf (line_names m) order × AreOrdersOf ms orders
 AreOrdersOf ms orders = ⊥

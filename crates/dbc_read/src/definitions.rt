@@ -7,7 +7,7 @@
 //! signal, or not the last ones of theirs.
 ghost use Rattle.std.specs.Prelude.{◌≡◌, ◌++◌, [], ◌∷◌, List, None, IfErr, IfNone, IfOk, IfSome, OnOk};
 ghost use Rattle.dbc_grammar.specs.Parsing.{statements_at};
-ghost use Rattle.dbc_grammar.specs.Statement as says;
+ghost use Rattle.dbc_grammar.specs.Statement as dbc;
 ghost use Rattle.dbc_lex.specs.Fault.{UnlessMemory};
 ghost use Rattle.dbc_read.specs.Definitions.{AreDefinitions, AreDefinitionsOfTokens, DefineFurther, HasManyTexts};
 ghost use Rattle.dbc_read.specs.Definitions.{IsDefinitionFault, TokensHaveManyTexts, has_many_texts, is_definition};
@@ -48,7 +48,7 @@ pub(crate) fn gather_definition(
     statement: Statement,
     gathered: &mut Gathered,
 ) -> Result<(), AllocError>
-    ensures { OnOk result ((stated : List says.Statement) → AreDefinitions stated gathered.old
+    ensures { OnOk result ((stated : List dbc.Statement) → AreDefinitions stated gathered.old
         → AreDefinitions (stated ++ statement_of statement.entry ∷ []) gathered.new) }
 {
     if is_definition(&statement.content) {

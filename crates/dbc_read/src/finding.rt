@@ -7,7 +7,7 @@
 ghost use Rattle.std.specs.Prelude.{◌≡◌, ◌==◌, List, IfOk, IfSome, Some, false, map, nat_eq, slice_get, true};
 ghost use Rattle.std.specs.List.{IsDistinct};
 ghost use Rattle.std.specs.Str.{bytes_eq};
-ghost use Rattle.dbc_grammar.specs.Statement as says;
+ghost use Rattle.dbc_grammar.specs.Statement as dbc;
 ghost use Rattle.catalogue.specs.declared.signal.Signal.{Signal};
 ghost use Rattle.dbc_read.specs.Attaching.{AreIndicesOf, CitesSignalAt, cites_signal};
 ghost use Rattle.dbc_read.specs.Finding.{Finds, FindsAll, FindsSignals};
@@ -240,7 +240,7 @@ impl Track {
     /// The index of the node or the message that is cited, if one is and the file has it.
     pub(crate) fn index(&mut self, finders: &Finders, content: &Content) -> Option<usize>
         requires { cites_signal content.now ≡ false }
-        ensures { (lines : List MessageLine) (statements : List says.Statement) → Finds finders.now lines statements
+        ensures { (lines : List MessageLine) (statements : List dbc.Statement) → Finds finders.now lines statements
             → IsCitedIndex statements (content_of content.now) result }
     {
         match content {

@@ -118,8 +118,8 @@ fn gather_again(
 }
 
 /// The contents of all the statements, which define this, what is attached to signals being in these. `None` if they
-/// can't be gathered one by one, as by `gathered_one_by_one`.
-pub(crate) fn gathered_again(
+/// can't be gathered one by one, as by `gather_one_by_one`.
+pub(crate) fn gather_late(
     alloc: Global,
     definitions: Gathered,
     statements: &mut Statements,

@@ -1,6 +1,6 @@
 //! Which node, message or signal of the file each statement cites.
 ghost use Rattle.std.specs.Prelude.{List, IfOk};
-ghost use Rattle.dbc_grammar.specs.Statement as says;
+ghost use Rattle.dbc_grammar.specs.Statement as dbc;
 ghost use Rattle.dbc_read.specs.Keys.{AreKeys};
 ghost use Rattle.dbc_read.specs.Lookups.{AreCitedIndices, AreLookups, IsCitedIndex, IsMessageIndex, IsSignalIndex};
 ghost use Rattle.dbc_statements.specs.Statement.{content_of, statements_of};
@@ -22,7 +22,7 @@ pub(crate) struct Lookups<'s> {
 
 /// The nodes, the messages and the signals that have these keys.
 pub(crate) fn lookups_of(alloc: Global, keys: Keys<'_>) -> Result<Lookups<'_>, AllocError>
-    ensures { IfOk result (λ lookups. (statements : List says.Statement) → AreKeys keys.entry statements
+    ensures { IfOk result (λ lookups. (statements : List dbc.Statement) → AreKeys keys.entry statements
         → AreLookups lookups statements) }
 {
     let Keys {
@@ -39,7 +39,7 @@ pub(crate) fn lookups_of(alloc: Global, keys: Keys<'_>) -> Result<Lookups<'_>, A
 
 /// The index of the message that is cited, if the file has it.
 fn message_index(lookups: &Lookups, cited: Option<u32>, last: &mut usize) -> Option<usize>
-    ensures { (statements : List says.Statement) → AreLookups lookups.now statements
+    ensures { (statements : List dbc.Statement) → AreLookups lookups.now statements
         → IsMessageIndex statements cited result }
 {
     match cited {
@@ -50,7 +50,7 @@ fn message_index(lookups: &Lookups, cited: Option<u32>, last: &mut usize) -> Opt
 
 /// The index of the signal that is cited, if the file has it.
 fn signal_index(lookups: &Lookups, cited: &CitedSignal, last: &mut usize) -> Option<usize>
-    ensures { (statements : List says.Statement) → AreLookups lookups.now statements
+    ensures { (statements : List dbc.Statement) → AreLookups lookups.now statements
         → IsSignalIndex statements cited.now.number cited.now.name.now result }
 {
     match cited.number {
@@ -62,7 +62,7 @@ fn signal_index(lookups: &Lookups, cited: &CitedSignal, last: &mut usize) -> Opt
 /// The index of what the statement cites, if it cites something that the file has. The index that was found last is
 /// tried first.
 pub(crate) fn cited_index(lookups: &Lookups, content: &Content, last: &mut usize) -> Option<usize>
-    ensures { (statements : List says.Statement) → AreLookups lookups.now statements
+    ensures { (statements : List dbc.Statement) → AreLookups lookups.now statements
         → IsCitedIndex statements (content_of content.now) result }
 {
     match content {
@@ -82,7 +82,7 @@ pub(crate) fn cited_indices(
     lookups: &Lookups,
     statements: &[Statement],
 ) -> Result<Vec<Option<usize>>, AllocError>
-    ensures { IfOk result (λ found. (all : List says.Statement) → AreLookups lookups.now all
+    ensures { IfOk result (λ found. (all : List dbc.Statement) → AreLookups lookups.now all
         → AreCitedIndices all (statements_of statements.now) found.items) }
 {
     let mut found = Vec::with_capacity(alloc, statements.len())?;

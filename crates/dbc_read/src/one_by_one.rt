@@ -85,7 +85,8 @@ fn gather_found<'a>(
     requires bare { AreBare lines.old }
     ensures source { statements.new.source ≡ statements.old.source }
     ensures ok { IfOk result (λ found. IfSome found
-        (λ settled. Follow nodes.now lines.old first.entry settled statements.old.tokens statements.new.tokens gathered.old lines.new gathered.new)) }
+        (λ settled. Follow nodes.now lines.old first.entry settled statements.old.tokens statements.new.tokens
+        gathered.old lines.new gathered.new)) }
     ensures err { IfErr result (λ fault. UnlessMemory fault.code (statements_at statements.old.tokens ≡ None)) }
 {
     attach_nothing(alloc, nodes.len(), lines.len(), gathered)?;
@@ -110,7 +111,8 @@ fn gather_others<'a>(
     requires bare { AreBare lines.old }
     ensures source { statements.new.source ≡ statements.old.source }
     ensures ok { IfOk result (λ found. IfSome found
-        (λ settled. Follow nodes.now lines.old first.entry settled statements.old.tokens statements.new.tokens gathered.old lines.new gathered.new)) }
+        (λ settled. Follow nodes.now lines.old first.entry settled statements.old.tokens statements.new.tokens
+        gathered.old lines.new gathered.new)) }
     ensures err { IfErr result (λ fault. UnlessMemory fault.code (statements_at statements.old.tokens ≡ None)) }
 {
     match finders_of(alloc, nodes, lines)? {
@@ -150,7 +152,7 @@ fn gather_up_to<'a>(
 
 /// What is gathered of all the statements that are left. `None` if they can't be gathered one by one: two messages have
 /// the same number, a message has 65,536 signals or more, or a statement has too many texts for values.
-pub(crate) fn gathered_one_by_one(
+pub(crate) fn gather_one_by_one(
     alloc: Global,
     statements: &mut Statements,
 ) -> Result<Option<Found>, ReadFault>

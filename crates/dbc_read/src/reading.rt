@@ -15,8 +15,8 @@ ghost use Rattle.dbc_statements.specs.Division.{HasNoDivision, TokensComeFirst};
 use crate::definitions::fault_of_definitions;
 use crate::first_fault::{definition_fault, first_fault};
 use crate::gathered::{Gathered, gathered_of};
-use crate::late::gathered_again;
-use crate::one_by_one::{Found, gathered_one_by_one};
+use crate::late::gather_late;
+use crate::one_by_one::{Found, gather_one_by_one};
 use crate::passed::Passed;
 use crate::refusal::Refusal;
 use catalogue::{Items, Sheet};
@@ -35,13 +35,13 @@ pub struct Reading {
 
 /// What the statements of the text say, gathered one by one, or `None` if they can't be gathered so. If something is
 /// defined late, the text is read a second time, but not if its definitions have a fault: then `None` comes at once.
-fn gathered_at_once(alloc: Global, source: &[u8]) -> Result<Option<Gathered>, ReadFault>
+fn gather_at_once(alloc: Global, source: &[u8]) -> Result<Option<Gathered>, ReadFault>
     ensures ok { IfOk result (λ found. IfSome found (λ gathered. IsOfText source.now (in_signals gathered))) }
     ensures err { IfErr result (λ fault. UnlessMemory fault.code (HasNoDivision source.now)) }
     ensures tokens { TokensComeFirst source.now result }
 {
     let mut statements = Statements::of(source);
-    let read = gathered_one_by_one(alloc, &mut statements);
+    let read = gather_one_by_one(alloc, &mut statements);
     statements.token_fault()?;
     let found = read?;
     match found {
@@ -51,7 +51,7 @@ fn gathered_at_once(alloc: Global, source: &[u8]) -> Result<Option<Gathered>, Re
             if definition_fault(alloc, &definitions)?.is_some() {
                 return Ok(None);
             }
-            gathered_again(alloc, definitions, &mut Statements::of(source))
+            gather_late(alloc, definitions, &mut Statements::of(source))
         }
         None => Ok(None),
     }
@@ -110,7 +110,7 @@ fn read_sheet(alloc: Global, source: &[u8]) -> Result<Option<Reading>, ReadFault
     ensures tokens { TokensComeFirst source.now result }
 {
     texts_read_as_one_sheet();
-    match gathered_at_once(alloc, source)? {
+    match gather_at_once(alloc, source)? {
         Some(gathered) => reading_or_none(gathered.into_reading(alloc)),
         None => Ok(None),
     }

@@ -165,7 +165,8 @@ pub(crate) fn settle_all<'a>(
     ensures source { statements.new.source ≡ statements.old.source }
     ensures messages { map message_of lines.new ≡ map message_of lines.old }
     ensures ok { IfOk result (λ found. IfSome found
-        (λ settled. SettlesTo finders.now settled statements.old.tokens statements.new.tokens lines.old gathered.old lines.new gathered.new)) }
+        (λ settled. SettlesTo finders.now settled statements.old.tokens statements.new.tokens lines.old gathered.old
+        lines.new gathered.new)) }
     ensures err { IfErr result (λ fault. UnlessMemory fault.code (statements_at statements.old.tokens ≡ None)) }
 {
     'statements: while let Some(next) = statements.read_next(alloc)? {

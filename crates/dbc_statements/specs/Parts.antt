@@ -1,6 +1,6 @@
 -- The parts of a sheet, made of the statements' lines and of what other statements attach to them.
 use Rattle.std.specs.Prelude.{ℕ, List}
-use Rattle.dbc_grammar.specs.Statement as says
+use Rattle.dbc_grammar.specs.Statement as dbc
 use Rattle.catalogue.specs.declared.message.Message.{Message}
 use Rattle.catalogue.specs.declared.signal.Signal.{Signal}
 use Rattle.catalogue.specs.declared.value_table.ValueTable.{ValueTable}
@@ -11,7 +11,7 @@ use Rattle.dbc_statements.specs.declared.statement.TableLine.{TableLine}
 abbrev pub table_of : TableLine → ValueTable
 table_of line = record { name = line.name; entries = line.entries }
 
-abbrev pub signal_with : says.SignalLine → List ℕ → ℕ → List ValueText → ValueType → Signal
+abbrev pub signal_with : dbc.SignalLine → List ℕ → ℕ → List ValueText → ValueType → Signal
 signal_with line comment spn values value_type = record {
   name = line.name;
   layout = line.layout;
@@ -29,7 +29,7 @@ signal_with line comment spn values value_type = record {
   value_type = value_type;
 }
 
-abbrev pub message_with : says.MessageLine → List ℕ → List Signal → Message
+abbrev pub message_with : dbc.MessageLine → List ℕ → List Signal → Message
 message_with line comment signals = record {
   ident = line.ident;
   name = line.name;

@@ -1,7 +1,7 @@
 -- The statements of the code as statements of the grammar: without the offsets of names and entries.
 use Rattle.std.specs.Prelude.{◌≡◌, ⊤, ℕ, List, [], map}
 use Rattle.std.specs.List.{AllByRecursion}
-use Rattle.dbc_grammar.specs.Statement as says
+use Rattle.dbc_grammar.specs.Statement as dbc
 use Rattle.catalogue.specs.declared.signal.Signal.{Signal}
 use Rattle.catalogue.specs.declared.value_type.ValueType.TheVariants.{Integer}
 use Rattle.dbc_statements.specs.declared.statement.Content.{Content}
@@ -14,7 +14,7 @@ use Rattle.dbc_statements.specs.declared.statement.Statement.{Statement}
 abbrev pub names_of : List NodeName → List (List ℕ)
 names_of nodes = map (λ (n : NodeName). n.name) nodes
 
-abbrev pub signal_of : Signal → says.SignalLine
+abbrev pub signal_of : Signal → dbc.SignalLine
 signal_of s = record {
   name = s.name;
   layout = s.layout;
@@ -28,10 +28,10 @@ signal_of s = record {
   receivers = s.receivers;
 }
 
-abbrev pub signals_of : List Signal → List says.SignalLine
+abbrev pub signals_of : List Signal → List dbc.SignalLine
 signals_of signals = map signal_of signals
 
-abbrev pub message_of : MessageLine → says.MessageLine
+abbrev pub message_of : MessageLine → dbc.MessageLine
 message_of m = record {
   ident = m.ident;
   name = m.name;
@@ -40,28 +40,28 @@ message_of m = record {
   signals = signals_of m.signals.items;
 }
 
-abbrev pub content_of : Content → says.Content
-content_of (content.Version text) = says.VersionIs text
-content_of (content.Nodes nodes) = says.NodesAre (names_of nodes.items)
-content_of (content.Table t) = says.TableIs t.value.name t.value.entries
-content_of (content.Message m) = says.MessageIs (message_of m.value)
-content_of (content.Comment text) = says.CommentIs text
-content_of (content.NodeComment name text) = says.NodeCommentIs name.now text
-content_of (content.MessageComment number text) = says.MessageCommentIs number text
-content_of (content.SignalComment cited text) = says.SignalCommentIs cited.number cited.name.now text
-content_of (content.ValueTexts cited entries) = says.ValueTextsAre cited.number cited.name.now entries
-content_of (content.ValueType cited value_type) = says.ValueTypeIs cited.number cited.name.now value_type
-content_of (content.Spn cited spn) = says.SpnIs cited.number cited.name.now spn
-content_of content.Dropped = says.Dropped
-content_of content.PassedOver = says.PassedOver
+abbrev pub content_of : Content → dbc.Content
+content_of (content.Version text) = dbc.VersionIs text
+content_of (content.Nodes nodes) = dbc.NodesAre (names_of nodes.items)
+content_of (content.Table t) = dbc.TableIs t.value.name t.value.entries
+content_of (content.Message m) = dbc.MessageIs (message_of m.value)
+content_of (content.Comment text) = dbc.CommentIs text
+content_of (content.NodeComment name text) = dbc.NodeCommentIs name.now text
+content_of (content.MessageComment number text) = dbc.MessageCommentIs number text
+content_of (content.SignalComment cited text) = dbc.SignalCommentIs cited.number cited.name.now text
+content_of (content.ValueTexts cited entries) = dbc.ValueTextsAre cited.number cited.name.now entries
+content_of (content.ValueType cited value_type) = dbc.ValueTypeIs cited.number cited.name.now value_type
+content_of (content.Spn cited spn) = dbc.SpnIs cited.number cited.name.now spn
+content_of content.Dropped = dbc.Dropped
+content_of content.PassedOver = dbc.PassedOver
 
-abbrev pub line_content : Line → says.Content
+abbrev pub line_content : Line → dbc.Content
 line_content l = content_of l.content
 
-abbrev pub statement_of : Statement → says.Statement
+abbrev pub statement_of : Statement → dbc.Statement
 statement_of s = record { start = s.start; keyword = s.keyword; content = content_of s.content }
 
-abbrev pub statements_of : List Statement → List says.Statement
+abbrev pub statements_of : List Statement → List dbc.Statement
 statements_of statements = map statement_of statements
 
 -- no other statement attaches anything to the signal

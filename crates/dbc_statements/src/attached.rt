@@ -73,10 +73,10 @@ pub(crate) fn attribute_value<'a>(tokens: &mut Tokens<'a>) -> Result<Content<'a>
     ensures reads { Reads content_of result (or_else (spn_at tokens.old) (skipped_at tokens.old)) tokens.new }
     ensures nothing { IfOk result NothingIsAttached }
 {
-    let mut ahead = tokens.fork();
-    match spn_of_signal(&mut ahead) {
+    let mut trial = tokens.fork();
+    match spn_of_signal(&mut trial) {
         Ok(content) => {
-            *tokens = ahead;
+            *tokens = trial;
             Ok(content)
         }
         // No field here takes memory, but their contracts don't say so.

@@ -7,7 +7,7 @@ ghost use Rattle.dbc_statements.specs.Left.{BeginsWith};
 ghost use Rattle.dbc_statements.specs.Statement.{NothingIsAttached, statement_of};
 ghost use Rattle.dbc_statements.specs.Tokens.{EndsWith};
 
-use crate::names::Ended;
+use crate::names::ListEnd;
 use crate::reading::statement;
 use crate::statement::Statement;
 use crate::tokens::{Tokens, fault_after};
@@ -21,7 +21,7 @@ use std::marker::Model;
 pub struct Statements<'a> {
     source: &'a [u8],
     tokens: Tokens<'a>,
-    ended: Ended,
+    ended: ListEnd,
     reached: usize,
 }
 
@@ -44,7 +44,7 @@ impl<'a> Statements<'a> {
         Statements {
             source,
             tokens: Tokens::of(source),
-            ended: Ended::Other,
+            ended: ListEnd::Other,
             reached: 0,
         }
     }
@@ -68,9 +68,9 @@ impl<'a> Statements<'a> {
             None => Ok(None),
             Some(first) => {
                 self.reached = first.end;
-                let mut ahead = self.tokens.fork();
-                let (next, ended) = statement(alloc, &mut ahead, self.ended)?;
-                self.tokens = ahead;
+                let mut trial = self.tokens.fork();
+                let (next, ended) = statement(alloc, &mut trial, self.ended)?;
+                self.tokens = trial;
                 self.ended = ended;
                 Ok(Some(next))
             }

@@ -1,7 +1,7 @@
 //! The content of a statement, and how it ends.
 ghost use Rattle.std.specs.Prelude.{◌≡◌, Err, IsOkAnd, MatchResult};
 
-use crate::names::Ended;
+use crate::names::ListEnd;
 use crate::statement::Content;
 use dbc_lex::ReadFault;
 
@@ -11,7 +11,7 @@ pub(crate) struct Line<'a> {
     /// Its content.
     pub content: Content<'a>,
     /// How it ends.
-    pub ended: Ended,
+    pub ended: ListEnd,
 }
 
 /// The line with this content, which doesn't end with a list.
@@ -24,7 +24,7 @@ pub(crate) fn line_without_list<'a>(
     match read {
         Ok(content) => Ok(Line {
             content,
-            ended: Ended::Other,
+            ended: ListEnd::Other,
         }),
         Err(fault) => Err(fault),
     }

@@ -18,7 +18,7 @@ use std::alloc::{AllocError, Global};
 
 /// How what was read ends, as far as it matters for a fault at the next token.
 #[derive(Clone, Copy)]
-pub(crate) enum Ended {
+pub(crate) enum ListEnd {
     /// With the last name of a list.
     Names,
     /// With a list that has no names.
@@ -201,28 +201,28 @@ fn some_nodes<L: NodeList + Drop>(alloc: Global, tokens: &mut Tokens) -> Result<
 
 /// A list of nodes, without the names that mean no node, and how it ends.
 #[tactic(auto, unfolding(dbc_grammar::specs::Parsing::nodes_at, dbc_grammar::specs::Parsing::no_names_at))]
-fn nodes<L: NodeList + Drop>(alloc: Global, tokens: &mut Tokens) -> Result<(L, Ended), ReadFault>
+fn nodes<L: NodeList + Drop>(alloc: Global, tokens: &mut Tokens) -> Result<(L, ListEnd), ReadFault>
     ensures { Reads (λ list. L.names list.0) result (nodes_at tokens.old) tokens.new }
 {
     if begins_node(tokens) {
         let names = some_nodes(alloc, tokens)?;
-        return Ok((names, Ended::Names));
+        return Ok((names, ListEnd::Names));
     }
-    Ok((L::empty(alloc), Ended::NoNames))
+    Ok((L::empty(alloc), ListEnd::NoNames))
 }
 
 /// The nodes of a list with the offsets of their names, and how it ends.
 pub(crate) fn nodes_with_offsets(
     alloc: Global,
     tokens: &mut Tokens,
-) -> Result<(Vec<NodeName>, Ended), ReadFault>
+) -> Result<(Vec<NodeName>, ListEnd), ReadFault>
     ensures { Reads (λ list. names_of list.0.items) result (nodes_at tokens.old) tokens.new }
 {
     nodes::<Vec<NodeName>>(alloc, tokens)
 }
 
 /// The names of a list of nodes, and how it ends.
-pub(crate) fn receivers(alloc: Global, tokens: &mut Tokens) -> Result<(Receivers, Ended), ReadFault>
+pub(crate) fn receivers(alloc: Global, tokens: &mut Tokens) -> Result<(Receivers, ListEnd), ReadFault>
     ensures { Reads (λ list. list.0) result (nodes_at tokens.old) tokens.new }
 {
     nodes::<Receivers>(alloc, tokens)

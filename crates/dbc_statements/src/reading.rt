@@ -14,7 +14,7 @@ use crate::comments::comment;
 use crate::heading::{bit_timing, new_symbols, node_names, value_table, version};
 use crate::line::{Line, line_without_list};
 use crate::messages::message_or_independent;
-use crate::names::Ended;
+use crate::names::ListEnd;
 use crate::passing::skip_to_end;
 use crate::statement::Statement;
 use crate::tokens::{Tokens, fault_after};
@@ -25,15 +25,15 @@ use std::alloc::Global;
 
 /// What is wrong with a word that is no keyword, where a statement or a further name of a list may begin: code 37 if a
 /// list may go on, since the word is too long for a name, and else 33.
-fn word_code(word: &Token, before: Ended) -> ReadCode {
+fn word_code(word: &Token, before: ListEnd) -> ReadCode {
     match before {
-        Ended::Names | Ended::NoNames if word.text.len() > NAME_LIMIT => ReadCode::Name,
+        ListEnd::Names | ListEnd::NoNames if word.text.len() > NAME_LIMIT => ReadCode::Name,
         _ => ReadCode::UnknownStatement,
     }
 }
 
 /// The fault after a comma that follows the last name of a list.
-fn fault_after_comma(tokens: &Tokens, before: Ended) -> ReadFault {
+fn fault_after_comma(tokens: &Tokens, before: ListEnd) -> ReadFault {
     match tokens.second() {
         Some(token) if is_word(&token) && key_of(&token).is_none() => ReadFault {
             code: word_code(&token, before),
@@ -51,7 +51,7 @@ fn fault_after_comma(tokens: &Tokens, before: Ended) -> ReadFault {
 }
 
 /// The fault of a token with which no statement begins, after a statement that ended as `before` says.
-fn fault_at_start(tokens: &Tokens, token: &Token, before: Ended) -> ReadFault
+fn fault_at_start(tokens: &Tokens, token: &Token, before: ListEnd) -> ReadFault
     requires { Spells token.now.kind token.now.text.now }
 {
     if is_word(token) {
@@ -61,13 +61,13 @@ fn fault_at_start(tokens: &Tokens, token: &Token, before: Ended) -> ReadFault
         };
     }
     match before {
-        Ended::Names if is_mark(token, b',') => fault_after_comma(tokens, before),
+        ListEnd::Names if is_mark(token, b',') => fault_after_comma(tokens, before),
         _ => tokens.unexpected(),
     }
 }
 
 /// The first keyword of a statement, and its offset.
-fn first_word(tokens: &mut Tokens, before: Ended) -> Result<(usize, Keyword), ReadFault>
+fn first_word(tokens: &mut Tokens, before: ListEnd) -> Result<(usize, Keyword), ReadFault>
     ensures { Reads itself result (token_at grammar.first_word tokens.old) tokens.new }
 {
     let token = tokens.front()?;
@@ -119,8 +119,8 @@ fn line<'a>(
 pub(crate) fn statement<'a>(
     alloc: Global,
     tokens: &mut Tokens<'a>,
-    before: Ended,
-) -> Result<(Statement<'a>, Ended), ReadFault>
+    before: ListEnd,
+) -> Result<(Statement<'a>, ListEnd), ReadFault>
     ensures reads { Reads (λ next. statement_of next.0) result (statement_at tokens.old) tokens.new }
     ensures nothing { IfOk result (λ next. NothingIsAttached next.0.content) }
 {
@@ -146,7 +146,7 @@ fn all_statements<'a>(
 {
     *reached = 0;
     let mut statements = Vec::new(alloc);
-    let mut ended = Ended::Other;
+    let mut ended = ListEnd::Other;
     'statements: while let Some(first) = tokens.first() {
         *reached = first.end;
         let (next, end) = statement(alloc, tokens, ended)?;

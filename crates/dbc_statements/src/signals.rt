@@ -9,7 +9,7 @@ ghost use Rattle.dbc_statements.specs.Reading.{Reads, itself, with_one};
 ghost use Rattle.dbc_statements.specs.Statement.{HaveNothingAttached, signals_of};
 
 use crate::fields::{Decimals, key, layout, made_name, mark, pair, text};
-use crate::names::{Ended, receivers};
+use crate::names::{ListEnd, receivers};
 use crate::statement::SignalOffsets;
 use crate::tokens::Tokens;
 use crate::words::{is_key, is_numeral, is_word, mux_of};
@@ -60,7 +60,7 @@ fn add_signal(
     tokens: &mut Tokens,
     signals: &mut Vec<Signal>,
     offsets: &mut Vec<SignalOffsets>,
-) -> Result<Ended, ReadFault>
+) -> Result<ListEnd, ReadFault>
     ensures ok { OnOk result (with_one (signals_of signals.old.items) (signal_at tokens.old)
         ≡ Some (signals_of signals.new.items, tokens.new)) }
     ensures nothing { OnOk result (HaveNothingAttached signals.old.items → HaveNothingAttached signals.new.items) }
@@ -116,13 +116,13 @@ fn is_signal(tokens: &Tokens) -> bool
 pub(crate) fn signals(
     alloc: Global,
     tokens: &mut Tokens,
-) -> Result<(Vec<Signal>, Vec<SignalOffsets>, Ended), ReadFault>
+) -> Result<(Vec<Signal>, Vec<SignalOffsets>, ListEnd), ReadFault>
     ensures reads { Reads (λ found. signals_of found.0.items) result (signals_at tokens.old) tokens.new }
     ensures nothing { IfOk result (λ found. HaveNothingAttached found.0.items) }
 {
     let mut signals = Vec::new(alloc);
     let mut offsets = Vec::new(alloc);
-    let mut ended = Ended::Other;
+    let mut ended = ListEnd::Other;
     'signals: while is_signal(tokens) {
         ended = add_signal(alloc, tokens, &mut signals, &mut offsets)?;
     }

@@ -10,7 +10,7 @@ use Rattle.store.specs.Holding.{Holding, Keeps, Leaves}
 use Rattle.store.specs.Looking.{IsShown}
 use Rattle.desk_types.specs.declared.problem.Problem.{Problem}
 use Rattle.desk_types.specs.declared.problem.Problem.TheVariants.{TryAgain}
-use Rattle.desk_call.specs.Call.{Requested, Asking, arrives, fails, shows}
+use Rattle.desk_call.specs.Call.{Requested, ArrivalSeen, arrives, fails, shows}
 use Rattle.office_types.specs.declared.look.Look.{Look}
 use Rattle.desk_reply.specs.Response.{answer_response, problem_response}
 use Rattle.desk.specs.Responding.{FollowsRequested, MayHaveTaken, Responds, answered_as, content_of, shown_response}
@@ -41,10 +41,10 @@ left_now h s law holding db may = subst (Keeps h) (sym (law holding.is_open db m
 pub follows_same : (h : List Answered) (requested : Requested) (s : State) → Leaves (Keeps h) s → Leaves (FollowsRequested h requested) s
 follows_same h requested s left db may = inl (left db may)
 
-pub follows_answer : (h : List Answered) (a : Asking) (answer : Answer) (s : State) → Leaves (Keeps (h ++ answered_as a answer ∷ [])) s → Leaves (FollowsRequested h (arrives a)) s
+pub follows_answer : (h : List Answered) (a : ArrivalSeen) (answer : Answer) (s : State) → Leaves (Keeps (h ++ answered_as a answer ∷ [])) s → Leaves (FollowsRequested h (arrives a)) s
 follows_answer h a answer s left db may = inr (a, refl, answer, left db may)
 
-pub follows_lost : (h : List Answered) (a : Asking) (s : State) → Leaves (λ db. Keeps h db ⊎ ((answer : Answer) × Keeps (h ++ answered_as a answer ∷ []) db)) s
+pub follows_lost : (h : List Answered) (a : ArrivalSeen) (s : State) → Leaves (λ db. Keeps h db ⊎ ((answer : Answer) × Keeps (h ++ answered_as a answer ∷ []) db)) s
     → Leaves (FollowsRequested h (arrives a)) s
 follows_lost h a s left db may = elim (left db may) [ inl same ↦ inl same | inr one ↦ inr (a, refl, one.0, one.1) ]
 
@@ -54,7 +54,7 @@ may_same h requested s holding left = (λ opened. inl holding, follows_same h re
 pub may_lost : (h : List Answered) (requested : Requested) (s : State) → (IsTrue s.is_open → Holding h s) → Leaves (FollowsRequested h requested) s → MayHaveTaken h requested s
 may_lost h requested s held left = (λ opened. inl (held opened), left)
 
-pub may_answered : (h : List Answered) (a : Asking) (answer : Answer) (s : State) → Holding (h ++ answered_as a answer ∷ []) s → Leaves (Keeps (h ++ answered_as a answer ∷ [])) s
+pub may_answered : (h : List Answered) (a : ArrivalSeen) (answer : Answer) (s : State) → Holding (h ++ answered_as a answer ∷ []) s → Leaves (Keeps (h ++ answered_as a answer ∷ [])) s
     → MayHaveTaken h (arrives a) s
 may_answered h a answer s holding left = (λ opened. inr (a, refl, (answer, holding)), follows_answer h a answer s left)
 
@@ -70,7 +70,7 @@ pub looked : (h : List Answered) (l : Look) (found : Option (List ℕ)) (s : Sta
     → ((office : Office) → IsLegal h office → IsShown office l found) → Holding h s → Leaves (Keeps h) s → Responds h (shows l) (shown_response (content_of l) found) s
 looked h l found s shown held left = inl (h, (refl, λ office legal. (found, shown office legal, refl)), held, left)
 
-pub arrived : (h : List Answered) (a : Asking) (answer : Answer) (s : State)
+pub arrived : (h : List Answered) (a : ArrivalSeen) (answer : Answer) (s : State)
     → Holding (h ++ answered_as a answer ∷ []) s → Leaves (Keeps (h ++ answered_as a answer ∷ [])) s → Responds h (arrives a) (answer_response answer) s
 arrived h a answer s held left = inl (h ++ answered_as a answer ∷ [], (answer, refl, refl), held, left)
 

@@ -10,7 +10,7 @@ use Rattle.store.specs.Holding.{Holding, Keeps, Leaves}
 use Rattle.desk_types.specs.Moved.{AppendsFront}
 use Rattle.desk_types.specs.declared.fault.DeskFault.{DeskFault}
 use Rattle.desk_types.specs.declared.fault.DeskFault.TheVariants.{Read, Write, Memory}
-use Rattle.desk_call.specs.Call.{Requested, Asking, arrives}
+use Rattle.desk_call.specs.Call.{Requested, ArrivalSeen, arrives}
 use Rattle.desk_types.specs.declared.problem.Problem.TheVariants.{TryAgain}
 use Rattle.desk_reply.specs.Response.{problem_response}
 use Rattle.desk_call.specs.Read.{IsNotWhole}
@@ -106,17 +106,17 @@ held_to Leading Else h2 s leads holding left = record {
 }
 
 -- where the text that was written says to try again, one more arrival may be left
-abbrev AsksAgain : Option (List ℕ) → List ℕ → List Answered → Trees → Type 0
-AsksAgain sent text h2 db = (a : Asking) × IsRequested sent (arrives a) × (text ≡ problem_response TryAgain) × (answer : Answer) × Keeps (h2 ++ answered_as a answer ∷ []) db
+abbrev IsSentAgain : Option (List ℕ) → List ℕ → List Answered → Trees → Type 0
+IsSentAgain sent text h2 db = (a : ArrivalSeen) × IsRequested sent (arrives a) × (text ≡ problem_response TryAgain) × (answer : Answer) × Keeps (h2 ++ answered_as a answer ∷ []) db
 
 requested_more : (h : List Answered) (sent : Option (List ℕ)) (requested : Requested) (text : List ℕ) (db : Trees) → IsRequested sent requested → text ≡ problem_response TryAgain → FollowsRequested h requested db
-    → Keeps h db ⊎ AsksAgain sent text h db
+    → Keeps h db ⊎ IsSentAgain sent text h db
 requested_more h sent requested text db is_requested again (inl keeps) = inl keeps
 requested_more h sent requested text db is_requested again (inr one) = inr (one.0, subst (λ (k : Requested). IsRequested sent k) one.1 is_requested, again, one.2, one.3)
 
 replied : (h : List Answered) (sent : Option (List ℕ)) (requested : Requested) (text : List ℕ) (s : State) → IsLegalHistory h → All IsInRange h → IsRequested sent requested → Responds h requested text s
-    → Led (IsReply h sent text) (AsksAgain sent text) s
-replied h sent requested text s legal ranged is_requested (inl r) = held_to (IsReply h sent text) (AsksAgain sent text) r.0 s (requested, is_requested, inl r.1) r.2 r.3
+    → Led (IsReply h sent text) (IsSentAgain sent text) s
+replied h sent requested text s legal ranged is_requested (inl r) = held_to (IsReply h sent text) (IsSentAgain sent text) r.0 s (requested, is_requested, inl r.1) r.2 r.3
 replied h sent requested text s legal ranged is_requested (inr r) = record {
   after = h;
   leads = (requested, is_requested, inr (refl, r.0));
@@ -127,15 +127,15 @@ replied h sent requested text s legal ranged is_requested (inr r) = record {
 }
 
 gone_on : (h : List Answered) (sent : Option (List ℕ)) (requested : Requested) (s : State) → LeavesNow s → IsRequested sent requested
-    → Holding h s ⊎ ((a : Asking) × (requested ≡ arrives a) × ((answer : Answer) × Holding (h ++ answered_as a answer ∷ []) s))
-    → Led (MayGoOn h sent) (AsksAgain sent (problem_response TryAgain)) s
-gone_on h sent requested s law is_requested (inl holding) = held_to (MayGoOn h sent) (AsksAgain sent (problem_response TryAgain)) h s (inl refl) holding (left_now h s law holding)
+    → Holding h s ⊎ ((a : ArrivalSeen) × (requested ≡ arrives a) × ((answer : Answer) × Holding (h ++ answered_as a answer ∷ []) s))
+    → Led (MayGoOn h sent) (IsSentAgain sent (problem_response TryAgain)) s
+gone_on h sent requested s law is_requested (inl holding) = held_to (MayGoOn h sent) (IsSentAgain sent (problem_response TryAgain)) h s (inl refl) holding (left_now h s law holding)
 gone_on h sent requested s law is_requested (inr t) =
     let h2 = h ++ answered_as t.0 t.2.0 ∷ [] in
-    held_to (MayGoOn h sent) (AsksAgain sent (problem_response TryAgain)) h2 s (inr (t.0, t.2.0, subst (λ (k : Requested). IsRequested sent k) t.1 is_requested, refl)) t.2.1 (left_now h2 s law t.2.1)
+    held_to (MayGoOn h sent) (IsSentAgain sent (problem_response TryAgain)) h2 s (inr (t.0, t.2.0, subst (λ (k : Requested). IsRequested sent k) t.1 is_requested, refl)) t.2.1 (left_now h2 s law t.2.1)
 
 may_have : (h : List Answered) (sent : Option (List ℕ)) (requested : Requested) (s : State) → LeavesNow s → IsLegalHistory h → All IsInRange h → IsRequested sent requested → MayHaveTaken h requested s
-    → IsTrue s.is_open ⊎ IsFalse s.is_open → Led (MayGoOn h sent) (AsksAgain sent (problem_response TryAgain)) s
+    → IsTrue s.is_open ⊎ IsFalse s.is_open → Led (MayGoOn h sent) (IsSentAgain sent (problem_response TryAgain)) s
 may_have h sent requested s law legal ranged is_requested taken (inl opened) = gone_on h sent requested s law is_requested (taken.0 opened)
 may_have h sent requested s law legal ranged is_requested taken (inr shut) = record {
   after = h;
@@ -147,8 +147,8 @@ may_have h sent requested s law legal ranged is_requested taken (inr shut) = rec
 }
 
 given_up : (h : List Answered) (sent : Option (List ℕ)) (s : State) → LeavesNow s → IsLegalHistory h → All IsInRange h → HasGivenUp h sent s
-    → Led (MayGoOn h sent) (AsksAgain sent (problem_response TryAgain)) s
-given_up h sent s law legal ranged (inl it) = held_to (MayGoOn h sent) (AsksAgain sent (problem_response TryAgain)) h s (inl refl) it.0 it.1
+    → Led (MayGoOn h sent) (IsSentAgain sent (problem_response TryAgain)) s
+given_up h sent s law legal ranged (inl it) = held_to (MayGoOn h sent) (IsSentAgain sent (problem_response TryAgain)) h s (inl refl) it.0 it.1
 given_up h sent s law legal ranged (inr g) = may_have h sent g.0 s law legal ranged g.1 g.2 (decides s.is_open)
 
 -- ---- a connection
@@ -159,7 +159,7 @@ led_to h fault sent written s it = record { after = it.after; leads = it.leads; 
 
 -- it leads on by what was written
 on : {Leading Leading2 : List Answered → Type 0} (sent written : Option (List ℕ)) (text : List ℕ) (s : State) → WroteFront written text → ((h2 : List Answered) → Leading h2 → Leading2 h2)
-    → Led Leading (AsksAgain sent text) s → Led Leading2 (λ h2 db. KeepsOneMore h2 sent written db) s
+    → Led Leading (IsSentAgain sent text) s → Led Leading2 (λ h2 db. KeepsOneMore h2 sent written db) s
 on sent written text s front more it = record {
   after = it.after;
   leads = more it.after it.leads;

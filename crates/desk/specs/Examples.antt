@@ -7,7 +7,7 @@ use Rattle.office_history.specs.declared.arrival.Answer.{Answer}
 use Rattle.store.specs.Holding.{Keeps}
 use Rattle.desk_types.specs.declared.fault.DeskFault.TheVariants.{Read}
 use Rattle.desk_types.specs.declared.problem.Problem.TheVariants.{NotFound, TryAgain}
-use Rattle.desk_call.specs.Call.{Asking, arrives, fails, shows}
+use Rattle.desk_call.specs.Call.{ArrivalSeen, arrives, fails, shows}
 use Rattle.office_types.specs.declared.look.Look.TheVariants.{Release}
 use Rattle.desk_reply.specs.Response.{problem_response}
 use Rattle.desk.specs.Responding.{IsRequested, answered_as, failed_response}
@@ -60,6 +60,6 @@ says_it_once : SaysFailure true true (Some (codes "lost 72\n")) (Some (codes "lo
 says_it_once = refl
 
 -- an arrival that was requested, and of whose answer nothing was written, may be kept
-kept_unanswered : (h : List Answered) (a : Asking) (answer : Answer) (sent : Option (List ℕ)) (db : Trees)
+kept_unanswered : (h : List Answered) (a : ArrivalSeen) (answer : Answer) (sent : Option (List ℕ)) (db : Trees)
     → IsRequested sent (arrives a) → Keeps (h ++ answered_as a answer ∷ []) db → KeepsOneMore h sent (Some []) db
 kept_unanswered h a answer sent db requested kept = (a, requested, (problem_response TryAgain, refl), answer, kept)

@@ -11,8 +11,8 @@ use Rattle.store.specs.Holding.{Holding, Keeps, Leaves}
 use Rattle.store.specs.Looking.{IsShown}
 use Rattle.desk_types.specs.Moved.{AppendsFront}
 use Rattle.desk_types.specs.declared.problem.Problem.TheVariants.{NotFound, TryAgain}
-use Rattle.desk_call.specs.Call.{Requested, Asking, arrives, fails, shows}
-use Rattle.desk_call.specs.Read.{Asks}
+use Rattle.desk_call.specs.Call.{Requested, ArrivalSeen, arrives, fails, shows}
+use Rattle.desk_call.specs.Read.{IsRequest}
 use Rattle.office_types.specs.declared.look.Look.{Look}
 use Rattle.office_types.specs.declared.look.Look.TheVariants as look
 use Rattle.desk_reply.specs.Response.{answer_response, problem_response, text_response}
@@ -35,7 +35,7 @@ abbrev pub IsLookResponse : Office → Look → List ℕ → Type 0
 IsLookResponse office l text = (found : Option (List ℕ)) × IsShown office l found × (text ≡ shown_response (content_of l) found)
 
 -- the arrival, which comes today, with its answer
-abbrev pub answered_as : Asking → Answer → Answered
+abbrev pub answered_as : ArrivalSeen → Answer → Answered
 answered_as a answer = record { profile = Two; team = a.team; key = a.key; content = a.content; command = a.command; answer = answer }
 
 -- The text is the response to the request, on the history h, and h2 is the history after it: with the arrival and
@@ -48,7 +48,7 @@ IsResponse h (arrives a) text h2 = (answer : Answer) × (h2 ≡ h ++ answered_as
 -- the trees keep the history, or it with the arrival that was requested
 abbrev pub FollowsRequested : List Answered → Requested → Trees → Type 0
 FollowsRequested h requested db =
-    Keeps h db ⊎ ((a : Asking) × (requested ≡ arrives a) × (answer : Answer) × Keeps (h ++ answered_as a answer ∷ []) db)
+    Keeps h db ⊎ ((a : ArrivalSeen) × (requested ≡ arrives a) × (answer : Answer) × Keeps (h ++ answered_as a answer ∷ []) db)
 
 -- The text is the response, the tables hold the history after it, and a crash leaves just that one; or it says to try
 -- again, and the tables, if they are still open, hold the history as before, and a crash leaves it, or it with the
@@ -63,14 +63,14 @@ Responds h requested text s =
 abbrev pub MayHaveTaken : List Answered → Requested → State → Type 0
 MayHaveTaken h requested s =
     (IsTrue s.is_open
-    → Holding h s ⊎ ((a : Asking) × (requested ≡ arrives a) × ((answer : Answer) × Holding (h ++ answered_as a answer ∷ []) s)))
+    → Holding h s ⊎ ((a : ArrivalSeen) × (requested ≡ arrives a) × ((answer : Answer) × Holding (h ++ answered_as a answer ∷ []) s)))
     × Leaves (FollowsRequested h requested) s
 
 -- ---- one connection
 
 -- this is what the first request asks, if the source tells its bytes
 abbrev pub IsRequested : Option (List ℕ) → Requested → Type 0
-IsRequested left requested = IfSome left (λ input. Asks input requested)
+IsRequested left requested = IfSome left (λ input. IsRequest input requested)
 
 -- the whole response was written
 abbrev pub HasServed : List Answered → Option (List ℕ) → Option (List ℕ) → Option (List ℕ) → State → Type 0

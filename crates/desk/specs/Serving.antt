@@ -10,7 +10,7 @@ use Rattle.desk_types.specs.Moved.{AppendsFront}
 use Rattle.desk_types.specs.declared.fault.DeskFault.{DeskFault}
 use Rattle.desk_types.specs.declared.fault.DeskFault.TheVariants.{Read, Write, Memory}
 use Rattle.desk_types.specs.declared.problem.Problem.TheVariants.{TryAgain}
-use Rattle.desk_call.specs.Call.{Requested, Asking, arrives}
+use Rattle.desk_call.specs.Call.{Requested, ArrivalSeen, arrives}
 use Rattle.desk_call.specs.Read.{IsNotWhole}
 use Rattle.desk_reply.specs.Response.{problem_response}
 use Rattle.desk.specs.Responding.{IsRequested, IsResponse, answered_as, failed_response}
@@ -69,7 +69,7 @@ IsReply h sent text h2 =
 -- the history is as before, or goes on with the arrival that was requested
 abbrev pub MayGoOn : List Answered → Option (List ℕ) → List Answered → Type 0
 MayGoOn h sent h2 =
-    (h2 ≡ h) ⊎ ((a : Asking) × (answer : Answer) × IsRequested sent (arrives a) × (h2 ≡ h ++ answered_as a answer ∷ []))
+    (h2 ≡ h) ⊎ ((a : ArrivalSeen) × (answer : Answer) × IsRequested sent (arrives a) × (h2 ≡ h ++ answered_as a answer ∷ []))
 
 -- from one history to another by a connection that ended so: with its whole response, with none, or with a beginning
 abbrev pub LeadsBy : Option DeskFault → List Answered → Option (List ℕ) → Option (List ℕ) → List Answered → Type 0
@@ -91,7 +91,7 @@ Follows h (v ∷ later) h2 = (h1 : List Answered) × Leads h v h1 × Follows h1 
 -- beginning of the text that says to try again
 abbrev pub KeepsOneMore : List Answered → Option (List ℕ) → Option (List ℕ) → Trees → Type 0
 KeepsOneMore h sent written db =
-    (a : Asking) × IsRequested sent (arrives a) × WroteFront written (problem_response TryAgain) × (answer : Answer) × Keeps (h ++ answered_as a answer ∷ []) db
+    (a : ArrivalSeen) × IsRequested sent (arrives a) × WroteFront written (problem_response TryAgain) × (answer : Answer) × Keeps (h ++ answered_as a answer ∷ []) db
 
 -- the trees keep the history, or it with the arrival of one of the connections, which had no answer
 abbrev pub KeepsWithOne : List Answered → List Visit → Trees → Type 0

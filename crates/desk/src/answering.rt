@@ -5,7 +5,7 @@ ghost use Rattle.sqlite.specs.State.{HasCleanDisk};
 ghost use Rattle.sqlite_trees.specs.View.{doubt};
 ghost use Rattle.office_history.specs.History.{Answered};
 ghost use Rattle.store.specs.Holding.{Holding};
-ghost use Rattle.desk_call.specs.Call.{arrives, asking_seen, seen, shows};
+ghost use Rattle.desk_call.specs.Call.{arrives, arrival_seen, seen, shows};
 ghost use Rattle.desk.specs.Responding.{MayHaveTaken, Responds, content_of, failed_response};
 
 use desk_call::Call;
@@ -63,17 +63,17 @@ fn arrived<S: Alter>(
     ensures clean { doubt (state S.Store office.old.conn).is_clean ≤ doubt (state S.Store office.new.conn).is_clean }
     ensures refused { IsTrue office.old.failed → office.new ≡ office.old }
     ensures failed { IsTrue office.old.failed → IfOk result
-        (λ text. text.items ≡ failed_response (arrives (asking_seen arrival.now))) }
+        (λ text. text.items ≡ failed_response (arrives (arrival_seen arrival.now))) }
     ensures open { HasCleanDisk (state S.Store office.new.conn) → (h : List Answered)
         → Holding h (state S.Store office.old.conn)
         → IsFalse office.new.failed → IsTrue (state S.Store office.new.conn).is_open }
     ensures ok { HasCleanDisk (state S.Store office.new.conn) → (h : List Answered)
         → Holding h (state S.Store office.old.conn)
-        → IfOk result (λ text. Responds h (arrives (asking_seen arrival.now)) text.items
+        → IfOk result (λ text. Responds h (arrives (arrival_seen arrival.now)) text.items
         (state S.Store office.new.conn)) }
     ensures err { HasCleanDisk (state S.Store office.new.conn) → (h : List Answered)
         → Holding h (state S.Store office.old.conn)
-        → OnErr result (MayHaveTaken h (arrives (asking_seen arrival.now)) (state S.Store office.new.conn)) }
+        → OnErr result (MayHaveTaken h (arrives (arrival_seen arrival.now)) (state S.Store office.new.conn)) }
 {
     match office.arrive(alloc, &arrival.team, &arrival.key, &arrival.request) {
         Ok(answer) => answer_response(alloc, &answer),

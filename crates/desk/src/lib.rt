@@ -21,7 +21,6 @@ mod listener;
 mod local_port;
 mod responding;
 mod serving;
-mod uninterrupted;
 mod waiting;
 
 pub use desk_call::Routes;

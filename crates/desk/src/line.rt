@@ -1,22 +1,27 @@
 //! One side of a TCP connection.
 ghost use Rattle.std.specs.Prelude.{◌≡◌, ◌<◌, ◌≤◌, None, IfOk, length};
 
-use crate::uninterrupted::{read_uninterrupted, write_uninterrupted};
 use desk_types::{Failed, Sink, Source};
-use std::io;
+use std::io::{self, ErrorKind, Read, Write};
 use std::net::TcpStream;
 use std::time::{Clock, Duration, Instant};
 
-/// For how many seconds a connection is waited for until its peer sends the first byte.
+/// For how many seconds a connection is waited for until its peer sends the first byte. This time, and those below,
+/// begin anew where the process is stopped while it waits for the peer, and goes on.
 const FIRST_BYTE_SECONDS: u64 = 2;
 
-/// For how many seconds any later read, or a write, may wait for the peer. Where the process is stopped meanwhile, they
-/// begin anew when it goes on.
+/// For how many seconds any later read, or a write, may wait for the peer.
 const TURN_SECONDS: u64 = 10;
 
 /// For how many seconds from its first read, or its first write, a side of a connection is read or written: no read or
 /// write begins later.
 const SIDE_SECONDS: u64 = 60;
+
+/// Whether a call of a socket was interrupted: then it has moved nothing, and is made again. Where a process is stopped
+/// while it waits for a socket with a time limit (`kill -STOP`), Linux ends the call so when the process goes on.
+pub(crate) fn is_interrupted(fault: &io::Error) -> bool {
+    fault.kind() == ErrorKind::Interrupted
+}
 
 /// A handle of a TCP connection that is only read, or only written, and within time limits.
 #[derive(Drop)]
@@ -66,12 +71,20 @@ impl Timed {
         ensures { IfOk result (λ n. n ≤ length buf.new) }
     {
         let is_first = self.began.is_none();
-        if self.has_time(clock) {
-            if let Ok(n) = read_uninterrupted(&mut self.stream, buf) {
-                let turn = Duration::from_secs(TURN_SECONDS);
-                if !is_first || self.stream.set_read_timeout(Some(turn)).is_ok() {
-                    return Ok(n);
+        for _call in 0..u32::MAX {
+            if !self.has_time(clock) {
+                return Err(Failed);
+            }
+            match self.stream.read(buf) {
+                Ok(n) => {
+                    let turn = Duration::from_secs(TURN_SECONDS);
+                    if !is_first || self.stream.set_read_timeout(Some(turn)).is_ok() {
+                        return Ok(n);
+                    }
+                    return Err(Failed);
                 }
+                Err(fault) if is_interrupted(&fault) => self.began = None,
+                Err(_) => return Err(Failed),
             }
         }
         Err(Failed)
@@ -82,11 +95,14 @@ impl Timed {
         ensures within { IfOk result (λ n. n ≤ length bytes.now) }
         ensures some { 0 < length bytes.now → IfOk result (λ n. 0 < n) }
     {
-        if self.has_time(clock) {
-            if let Ok(n) = write_uninterrupted(&mut self.stream, bytes) {
-                if n > 0 || bytes.is_empty() {
-                    return Ok(n);
-                }
+        for _call in 0..u32::MAX {
+            if !self.has_time(clock) {
+                return Err(Failed);
+            }
+            match self.stream.write(bytes) {
+                Ok(n) if n > 0 || bytes.is_empty() => return Ok(n),
+                Err(fault) if is_interrupted(&fault) => self.began = None,
+                _ => return Err(Failed),
             }
         }
         Err(Failed)

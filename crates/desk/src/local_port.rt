@@ -2,15 +2,15 @@
 ghost use Rattle.std.specs.Prelude.{◌≡◌, None, IfErr};
 
 use crate::fault::ServeFault;
-use crate::line::{Line, Timed};
+use crate::line::{Line, Timed, is_interrupted};
 use crate::listener::Listener;
-use crate::uninterrupted::read_uninterrupted;
 use desk_types::Failed;
 use std::io::{self, Read};
 use std::net::{Ipv4Addr, Net, Shutdown, SocketAddr, TcpListener, TcpStream};
 use std::time::{Clock, Duration, Instant};
 
-/// For how many seconds what a peer still sends after its response is read: no read begins later.
+/// For how many seconds what a peer still sends after its response is read: no read begins later. They begin anew where
+/// the process is stopped while it waits for the peer, and goes on.
 const DRAIN_SECONDS: u64 = 2;
 
 /// For how many seconds such a read may wait for the peer.
@@ -70,14 +70,19 @@ fn has_unread(stream: &mut TcpStream) -> bool {
 /// Reads what the peer still sends, so that it gets its response instead of a reset: at most 16 MiB, by at most
 /// `DRAIN_TURNS` reads, up to its end, or until it has sent nothing for a while or sends too long.
 fn drain<C: Clock>(stream: &mut TcpStream, clock: &C) -> io::Result<()> {
-    let began = Instant::now(clock)?;
+    let mut began = Instant::now(clock)?;
     let turn = Duration::from_secs(DRAIN_TURN_SECONDS);
     stream.set_read_timeout(Some(turn))?;
     let mut unread = [0u8; 4096];
     for _turn in 0..DRAIN_TURNS {
-        let taken = began.elapsed(clock)?;
-        if taken >= Duration::from_secs(DRAIN_SECONDS) || read_uninterrupted(stream, &mut unread)? == 0 {
+        if began.elapsed(clock)? >= Duration::from_secs(DRAIN_SECONDS) {
             return Ok(());
+        }
+        match stream.read(&mut unread) {
+            Ok(0) => return Ok(()),
+            Ok(_) => {}
+            Err(fault) if is_interrupted(&fault) => began = Instant::now(clock)?,
+            Err(fault) => return Err(fault),
         }
     }
     Ok(())

@@ -7,7 +7,7 @@ use Rattle.desk_head.specs.Fields.{Headers, named}
 use Rattle.desk_head.specs.declared.demand.Demand.TheVariants as demand
 use Rattle.desk_head.specs.declared.endpoint.Posting.TheVariants.{Import}
 use Rattle.desk_head.specs.declared.endpoint.Showing.TheVariants as showing
-use Rattle.desk_call.specs.Call.{arrives, asking_of, call_by, fails, look_of}
+use Rattle.desk_call.specs.Call.{arrives, arrival_of, call_by, fails, look_of}
 use Rattle.office_types.specs.declared.look.Look.TheVariants as look
 
 abbrev headers : List ℕ → List ℕ → Headers
@@ -21,7 +21,7 @@ taken : call_by (demand.Does Import 4) (codes "/import/truck") (headers (codes "
       content = codes "/import/truck BU_:";
       command = record { net = codes "truck"; task = task.Import (codes "BU_:") };
     })
-unfolding asking_of named
+unfolding arrival_of named
 taken = refl
 
 -- a body that ends too early
@@ -31,16 +31,16 @@ cut_off = refl
 
 -- ---- headers
 
-not_imported : asking_of Import (codes "/import/Truck") (headers (codes "engine") (codes "i1")) []
-    ∷ asking_of Import (codes "/import/truck") (headers (codes "Engine") (codes "i1")) []
-    ∷ asking_of Import (codes "/import/truck") (headers (codes "engine") (codes "-")) []
-    ∷ asking_of Import (codes "/import/truck") (headers (codes "engine") (codes "i 1")) []
-    ∷ asking_of Import (codes "/import/truck") ((codes "Team", codes "engine") ∷ []) []
-    ∷ asking_of Import (codes "/import/truck")
+not_imported : arrival_of Import (codes "/import/Truck") (headers (codes "engine") (codes "i1")) []
+    ∷ arrival_of Import (codes "/import/truck") (headers (codes "Engine") (codes "i1")) []
+    ∷ arrival_of Import (codes "/import/truck") (headers (codes "engine") (codes "-")) []
+    ∷ arrival_of Import (codes "/import/truck") (headers (codes "engine") (codes "i 1")) []
+    ∷ arrival_of Import (codes "/import/truck") ((codes "Team", codes "engine") ∷ []) []
+    ∷ arrival_of Import (codes "/import/truck")
     (headers (codes "engine") (codes "i1") ++ headers (codes "engine") (codes "i1")) []
     ∷ []
     ≡ None ∷ None ∷ None ∷ None ∷ None ∷ None ∷ []
-unfolding asking_of named
+unfolding arrival_of named
 not_imported = refl
 
 -- ---- what is shown

@@ -13,7 +13,7 @@ use Rattle.desk_head.specs.Head.{HasHead}
 use Rattle.desk_head.specs.declared.demand.Demand.{Demand}
 use Rattle.desk_head.specs.declared.demand.Demand.TheVariants.{Fails, Shows, Does}
 use Rattle.desk_call.specs.Call.{Requested, call_by, call_of}
-use Rattle.desk_call.specs.Read.{Asks, IsNotWhole}
+use Rattle.desk_call.specs.Read.{IsRequest, IsNotWhole}
 
 pub either : {E P Q : Type 0} (r : Result Bool E) (flag : Bool) → r ≡ Ok flag → (r ≡ Ok true → P)
     → (r ≡ Ok false → Q) → P ⊎ Q
@@ -44,13 +44,13 @@ goes_on got bs h tail has =
     ((has.0.0, ap (λ l. l ++ bs) has.0.1 ∙ append_assoc (print_request h) tail bs), has.1)
 
 -- what was read after the head, up to the end of the body or of the source
-pub asks : (a b d : Option (List ℕ)) (got tail rest : List ℕ) (h : RequestHead) (requested : Requested)
+pub requests : (a b d : Option (List ℕ)) (got tail rest : List ℕ) (h : RequestHead) (requested : Requested)
     → Consumes a b got → Moves b d tail rest → HasHead got h tail → requested ≡ call_of h rest
-    → (body_size (demand_of h) ≤ length rest) ⊎ IsAtEnd d → IfSome a (λ input. Asks input requested)
-asks None b d got tail rest h requested p m has is end = tt
-asks (Some x) None d got tail rest h requested p m has is end = absurd p
-asks (Some x) (Some y) None got tail rest h requested p m has is end = absurd m.2
-asks (Some x) (Some y) (Some z) got tail rest h requested p m has is end =
+    → (body_size (demand_of h) ≤ length rest) ⊎ IsAtEnd d → IfSome a (λ input. IsRequest input requested)
+requests None b d got tail rest h requested p m has is end = tt
+requests (Some x) None d got tail rest h requested p m has is end = absurd p
+requests (Some x) (Some y) None got tail rest h requested p m has is end = absurd m.2
+requests (Some x) (Some y) (Some z) got tail rest h requested p m has is end =
     let bs = m.0 in
     let after : tail ++ y ≡ rest ++ z =
     ap (λ l. tail ++ l) m.2 ∙ sym (append_assoc tail bs z) ∙ ap (λ l. l ++ z) (sym m.1) in

@@ -30,7 +30,7 @@ use Rattle.office_types.specs.declared.look.Look.{Look}
 use Rattle.office_types.specs.declared.look.Look.TheVariants as look
 
 -- an arrival, as contracts see it
-pub record Asking : Type 0 where
+pub record ArrivalSeen : Type 0 where
   pub team : List ℕ
   pub key : List ℕ
   pub content : List ℕ
@@ -39,15 +39,15 @@ pub record Asking : Type 0 where
 pub data Requested : Type 0 where
   fails : Problem → Requested
   shows : Look → Requested
-  arrives : Asking → Requested
+  arrives : ArrivalSeen → Requested
 
-abbrev pub asking_seen : Arrival → Asking
-asking_seen a = record { team = a.team; key = a.key; content = a.request.content.items; command = a.request.command }
+abbrev pub arrival_seen : Arrival → ArrivalSeen
+arrival_seen a = record { team = a.team; key = a.key; content = a.request.content.items; command = a.request.command }
 
 abbrev pub seen : declared.Call → Requested
 seen (call.Fails problem) = fails problem
 seen (call.Shows l) = shows l
-seen (call.Arrives a) = arrives (asking_seen a)
+seen (call.Arrives a) = arrives (arrival_seen a)
 
 -- ---- what is to be shown
 
@@ -100,14 +100,14 @@ content_of target body = target ++ 32 ∷ body
 
 -- an arrival, where the headers `Team` and `Request-Key` are there once and have their forms, and the body gives a
 -- command
-unfoldable pub asking_of : Posting → List ℕ → Headers → List ℕ → Option Asking
-asking_of p target headers body = do
+unfoldable pub arrival_of : Posting → List ℕ → Headers → List ℕ → Option ArrivalSeen
+arrival_of p target headers body = do
   team ← read_once plain_name_of (named (codes "team") headers)
   key ← read_once key_of (named (codes "request-key") headers)
   command ← command_of p target body
   Some (record { team = team; key = key; content = content_of target body; command = command })
 
-abbrev pub arrive_by : Option Asking → Requested
+abbrev pub arrive_by : Option ArrivalSeen → Requested
 arrive_by None = fails BadRequest
 arrive_by (Some a) = arrives a
 
@@ -117,7 +117,7 @@ abbrev pub call_by : Demand → List ℕ → Headers → List ℕ → Requested
 call_by (demand.Fails problem) target headers rest = fails problem
 call_by (demand.Shows s) target headers rest = show_by (look_of s target)
 call_by (demand.Does p n) target headers rest =
-    cond (nat_le n (length rest)) (arrive_by (asking_of p target headers (take n rest))) (fails BadRequest)
+    cond (nat_le n (length rest)) (arrive_by (arrival_of p target headers (take n rest))) (fails BadRequest)
 
 -- What a request asks that has this head, in bytes that go on with the rest. In order: what the head alone answers; a
 -- body that ends too early; headers or a body that aren't of their forms; targets with nothing there.

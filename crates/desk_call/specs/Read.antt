@@ -7,18 +7,18 @@ use Rattle.office_history.specs.declared.arrival.Arrival.{Arrival}
 use Rattle.desk_types.specs.declared.problem.Problem.TheVariants.{BadRequest}
 use Rattle.desk_head.specs.Demand.{demand_of, body_size}
 use Rattle.desk_head.specs.Head.{HasHead, HasNoHead, IsUnfinished}
-use Rattle.desk_call.specs.Call.{Requested, Asking, asking_seen, call_of, fails}
+use Rattle.desk_call.specs.Call.{Requested, ArrivalSeen, arrival_seen, call_of, fails}
 
 -- What the bytes ask: that of the request that they begin with. Bytes without a head within the limits are a bad
 -- request.
-abbrev pub Asks : List ℕ → Requested → Type 0
-Asks bytes requested =
+abbrev pub IsRequest : List ℕ → Requested → Type 0
+IsRequest bytes requested =
     (HasNoHead bytes × (requested ≡ fails BadRequest))
     ⊎ ((h : RequestHead) × (rest : List ℕ) × HasHead bytes h rest × (requested ≡ call_of h rest))
 
 -- a law: no bytes ask two things
-abbrev pub BytesAskOneThing : Type 0
-BytesAskOneThing = (bytes : List ℕ) (a b : Requested) → Asks bytes a → Asks bytes b → a ≡ b
+abbrev pub BytesRequestOneThing : Type 0
+BytesRequestOneThing = (bytes : List ℕ) (a b : Requested) → IsRequest bytes a → IsRequest bytes b → a ≡ b
 
 -- the bytes hold no whole request: less than a head, or a head that asks for a body that isn't all there
 abbrev pub IsNotWhole : List ℕ → Type 0
@@ -27,7 +27,7 @@ IsNotWhole bytes =
     × (length rest < body_size (demand_of h)))
 
 -- an arrival is the one that the definition finds; out of memory states nothing
-abbrev pub ReadsArrival : Option Asking → Result Arrival Unread → Type 0
-ReadsArrival found (Ok a) = found ≡ Some (asking_seen a)
+abbrev pub ReadsArrival : Option ArrivalSeen → Result Arrival Unread → Type 0
+ReadsArrival found (Ok a) = found ≡ Some (arrival_seen a)
 ReadsArrival found (Err Wrong) = found ≡ None
 ReadsArrival found (Err Memory) = ⊤

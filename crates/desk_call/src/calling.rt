@@ -3,7 +3,7 @@ ghost use Rattle.std.specs.Prelude.{◌≡◌, ◌≤◌, All, IfOk, length, map
 ghost use Rattle.httparse.specs.Spans.{IsHeaderWithin, header_bytes};
 ghost use Rattle.desk_call.specs.Call.{call_by, look_of, seen, show_by};
 
-use crate::asking::asking_of;
+use crate::arrivals::arrival_of;
 use crate::call::Call;
 use crate::looks::look_of;
 use desk_head::{Demand, Showing};
@@ -44,7 +44,7 @@ pub(crate) fn call_by(
         Demand::Does(posting, length) => {
             let length = length as usize;
             if length <= rest.len() {
-                match asking_of(alloc, posting, target, buf, headers, len, &rest[..length]) {
+                match arrival_of(alloc, posting, target, buf, headers, len, &rest[..length]) {
                     Ok(arrival) => Ok(Call::Arrives(arrival)),
                     Err(Unread::Wrong) => Ok(Call::Fails(Problem::BadRequest)),
                     Err(Unread::Memory) => Err(AllocError),

@@ -6,7 +6,7 @@
 //! the bytes of a source are; by [`bytes_ask_one_thing`] it is one.
 #![tactic(auto)]
 
-mod asking;
+mod arrivals;
 mod call;
 mod calling;
 mod laws;

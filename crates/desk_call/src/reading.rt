@@ -9,7 +9,7 @@ ghost use Rattle.desk_head.specs.Head.{IsHeadAt};
 ghost use Rattle.desk_head.specs.Limits.{request_limit};
 ghost use Rattle.desk_head.specs.Demand.{demand_of};
 ghost use Rattle.desk_call.specs.Call.{call_of, seen};
-ghost use Rattle.desk_call.specs.Read.{Asks, IsNotWhole};
+ghost use Rattle.desk_call.specs.Read.{IsRequest, IsNotWhole};
 
 use crate::call::Call;
 use crate::calling::call_by;
@@ -72,7 +72,7 @@ pub fn read_call<R: Source>(
 ) -> Result<Call, DeskFault>
     requires { R.failure_count source.old < 2 ^ 64 - 1 }
     ensures most { GivesAtMost (R.left source.old) (R.left source.new) request_limit }
-    ensures ok { IfOk result (λ call. IfSome (R.left source.old) (λ input. Asks input (seen call))) }
+    ensures ok { IfOk result (λ call. IfSome (R.left source.old) (λ input. IsRequest input (seen call))) }
     ensures kept { OnOk result (R.failure_count source.new ≡ R.failure_count source.old) }
     ensures read { IsErrOf result DeskFault.Read → (bytes : List ℕ)
         × Consumes (R.left source.old) (R.left source.new) bytes × IsNotWhole bytes }

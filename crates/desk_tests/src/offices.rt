@@ -73,7 +73,8 @@ pub(crate) trait Trial {
     fn is_passed<S: Alter>(&mut self, alloc: Global, office: &mut StoredOffice<S>) -> bool;
 }
 
-/// Opens an office on the connection, tries it, and gives the connection back. Whether it passed, or why it wasn't opened.
+/// Opens an office on the connection, tries it, and gives the connection back. Whether it passed, or why it wasn't
+/// opened.
 fn try_opened<S: Alter + Drop, T: Trial>(
     alloc: Global,
     conn: Connection<S>,

@@ -103,8 +103,8 @@ fn is_old_or_new<D: Disk + Drop>(alloc: Global, files: Files<D>, work: Work<'_>)
     passed == Ok(true) || passed == Err(Lost::OlderProfile)
 }
 
-/// That an office has what was answered, and of the next request all or nothing; gives the list its replies; and is then
-/// as it must be.
+/// That an office has what was answered, and of the next request all or nothing; gives the list its replies; and is
+/// then as it must be.
 #[derive(Drop)]
 struct Again<'a> {
     work: Work<'a>,

@@ -90,8 +90,8 @@ code_reported Memory other = absurd (other refl)
 unreadable_if_reported : (file : List ℕ) (reported : FileFault) → IsReportedFault file reported → IsUnreadable Two file reported
 unreadable_if_reported file reported h = record {
   unread = λ s reads. h.given.nothing s reads.0;
-  code = subst (Contains fault_codes) (sym h.tells.code) (code_reported h.fault.code h.tells.other);
-  offset = (let is = h.tells.offset in let within = h.given.within in omega (arith, is, within));
+  code = subst (Contains fault_codes) (sym h.reports.code) (code_reported h.fault.code h.reports.other);
+  offset = (let is = h.reports.offset in let within = h.given.within in omega (arith, is, within));
 }
 
 read_if_wanted : (wanted : Option (List ℕ)) (reading : FileReading) → IsWantedReading wanted reading → IsRead Two wanted reading

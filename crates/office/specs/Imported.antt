@@ -18,7 +18,7 @@ use Rattle.office_rules.specs.Step.{file_wanted}
 
 -- A fault of reading, as a refusal tells it: its code and its offset, up to the greatest 32-bit number. Out of memory
 -- isn't reported so.
-pub record TellsFault (f : ReadFault) (reported : FileFault) : Type 0 where
+pub record ReportsFault (f : ReadFault) (reported : FileFault) : Type 0 where
   pub other : f.code ≡ Memory → ⊥
   pub code : reported.fault ≡ code_number f.code
   pub offset : reported.at ≡ min f.at 4294967295
@@ -27,7 +27,7 @@ pub record TellsFault (f : ReadFault) (reported : FileFault) : Type 0 where
 pub record IsReportedFault (file : List ℕ) (reported : FileFault) : Type 0 where
   pub fault : ReadFault
   pub given : IsReadFault file fault
-  pub tells : TellsFault fault reported
+  pub reports : ReportsFault fault reported
 
 -- what `read` makes of the file: the sheet that it reads as, or else its fault
 abbrev pub IsReadAs : List ℕ → FileReading → Type 0

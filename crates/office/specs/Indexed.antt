@@ -72,8 +72,8 @@ pub record IsFoundAt (live : List LiveMessage) (i : Ident) (at : ℕ) : Type 0 w
 abbrev pub indexed_alike : LiveMessage → LiveMessage → Bool
 indexed_alike a b = bytes_eq a.message.name b.message.name && same_ident a.message.ident b.message.ident
 
--- The live message at the index has this name and this identifier; no other has the name or the identifier's number, and
--- the identifier isn't held.
+-- The live message at the index has this name and this identifier; no other has the name or the identifier's number,
+-- and the identifier isn't held.
 pub record IsRemovable (net : Net) (at : ℕ) (name : List ℕ) (i : Ident) : Type 0 where
   pub found : IsFoundAt net.live i at
   pub named : (d : LiveMessage) → ◌≡◌ {A = List ℕ} (let m : LiveMessage = slice_index_or net.live at d in m.message.name) name

@@ -1,5 +1,6 @@
 //! Carrying out what was decided on a network that is there, and on the book: in place, where nothing can fail once
-//! something has changed. More than two changes, and pairs that no command makes, are made on copies first.
+//! something has changed: one change, and a message with its SPN, an identifier that is held as its message goes, and a
+//! head without approvals. More changes, and all other pairs, are made on copies first.
 ghost use Rattle.std.specs.Prelude.{◌≡◌, ◌∷◌, [], OnOk, OnErr, Some};
 ghost use Rattle.office_types.specs.declared.change.Change.TheVariants as change;
 ghost use Rattle.office_rules.specs.Change.{AllFit, Fits, NetAndBook, all_applied, changed_book, net_changed};
@@ -288,8 +289,8 @@ fn set_head_then(
     }
 }
 
-/// Makes two changes, the second of which fits after the first one: in place those that a command makes together. When
-/// memory runs out, nothing changes.
+/// Makes two changes, the second of which fits after the first one: in place if they are one of the three pairs above.
+/// When memory runs out, nothing changes.
 fn carry_two_out(
     alloc: Global,
     name: &NetName,

@@ -1,8 +1,8 @@
 //! Changes of live messages and held identifiers, made at the index that binary search gives, and followed by the
 //! network's index.
 //!
-//! Where the index can't follow a change, since memory runs out or because no command but a bundle of one `take_bits`
-//! makes it, it is dropped: then it is made anew when a command would use it.
+//! Where the index can't follow a change, since memory runs out or because a message is replaced by one of another name
+//! or identifier, it is dropped: then it is made anew when a command would use it.
 ghost use Rattle.std.specs.Prelude.{◌≡◌, ◌<◌, ◌≤◌, OnOk, OnErr, insert, length, slice_set};
 ghost use Rattle.std.specs.List.Sorted.{IsStrictlySortedBy};
 ghost use Rattle.office_types.specs.State.{by_number};
@@ -29,7 +29,8 @@ fn ident_of(live: &LiveMessage) -> Ident
     live.message.ident
 }
 
-/// Inserts a live message at an index. When memory runs out, nothing changes.
+/// Inserts a live message at an index. When memory runs out, nothing changes, but where it does so for the index alone,
+/// that is dropped.
 fn insert_message(
     alloc: Global,
     net: &mut Net,
@@ -43,11 +44,17 @@ fn insert_message(
     ensures err { OnErr result (net.new ≡ net.old) }
     ensures index { IsIndexIfThere index.new net.new }
 {
-    let name = message.message.name.duplicate(alloc)?;
+    let name = match index {
+        None => None,
+        Some(_) => message.message.name.duplicate(alloc).ok(),
+    };
     let ident = ident_of(&message);
     net.live.insert(at, message)?;
     let before = replace(index, None);
-    *index = with_inserted(before, name, &ident);
+    *index = match name {
+        None => None,
+        Some(name) => with_inserted(before, name, &ident),
+    };
     Ok(())
 }
 

@@ -2,7 +2,7 @@
 ghost use Rattle.std.specs.Prelude.{◌≡◌, IfOk, MatchOption, min};
 ghost use Rattle.std.specs.Option.{option_copied};
 ghost use Rattle.dbc_lex.specs.declared.fault.ReadCode.TheVariants.{Memory};
-ghost use Rattle.office.specs.Imported.{IsImportDecision, IsReadDecision, TellsFault};
+ghost use Rattle.office.specs.Imported.{IsImportDecision, IsReadDecision, ReportsFault};
 
 use dbc_lex::{ReadCode, ReadFault};
 use dbc_read::read;
@@ -20,7 +20,7 @@ fn offset_of(at: usize) -> u32
 
 /// The fault as a refusal tells it, `None` where it is that memory ran out.
 fn reported_fault(fault: ReadFault) -> Option<FileFault>
-    ensures { MatchOption result (fault.code ≡ Memory) (TellsFault fault) }
+    ensures { MatchOption result (fault.code ≡ Memory) (ReportsFault fault) }
 {
     match fault.code {
         ReadCode::Memory => None,

@@ -6,8 +6,8 @@
 //! an office (`office_rules/specs/Kept.antt`), so the laws of `office_law` hold of what the program runs.
 //!
 //! The bodies of the commands are in `office_take`, `office_signals` and `office_import`; here one is chosen, an
-//! imported file is read, and changes are carried out: one change in place, and two that a command makes together; more
-//! of them on copies of the network and the book first, so that nothing is changed where memory runs out
+//! imported file is read, and changes are carried out: one change in place, and some pairs; more of them on copies of
+//! the network and the book first, so that nothing is changed where memory runs out
 //! (`carrying_there.rt`, and `carrying.rt` for a network that isn't there yet). `take_bits` alone goes another way here
 //! (`in_place.rt`): its signal is added to the live message, which a change would copy.
 //!

@@ -114,8 +114,8 @@ fn step_there(
     Ok((reply, copy))
 }
 
-/// One step where the network isn't there. Where the command changes anything, so that it opens the network, all indexes
-/// are dropped, since the network comes among the others.
+/// One step where the network isn't there. Where the command changes anything, so that it opens the network, all
+/// indexes are dropped, since the network comes among the others.
 fn step_nowhere(
     alloc: Global,
     team: &Team,

@@ -15,12 +15,12 @@ use Rattle.office_types.specs.declared.state.Office.{Office}
 use Rattle.office_rules.specs.Outcome.{reply_of}
 use Rattle.office_rules.specs.Profile.{Two}
 use Rattle.office_rules.specs.Step.{IsRead, Step, file_wanted, net_named, office_after, opening, step_outcome}
-use Rattle.office_rules.proofs.Asking.{Requested, asks, bus, engine, grants, left_by, office, on_bus, opens, takes, takes_spn, truck}
+use Rattle.office_rules.proofs.TeamCommand.{Requested, requests, bus, engine, grants, left_by, office, on_bus, opens, takes, takes_spn, truck}
 use Rattle.office_history.specs.declared.arrival.Answer.{Answer}
 use Rattle.office_history.specs.declared.arrival.Answer.TheVariants as answer
 use Rattle.office_history.specs.declared.arrival.Answer.TheVariants.{KeyReused}
 use Rattle.office_history.specs.History.{Answered, IsAnsweredAs, IsLegal, IsLegalHistory, first_arrivals, first_of}
-use Rattle.office_law.specs.Apart.{asks_book}
+use Rattle.office_law.specs.Apart.{needs_book}
 use Rattle.office_history.specs.Laws.{HaveOneNetwork, is_on, new_spns}
 
 abbrev answered : Requested → List ℕ → List ℕ → Answer → Answered
@@ -30,7 +30,7 @@ abbrev take_1 : Requested
 take_1 = takes engine (codes "E1") None
 
 abbrev retire_1 : Requested
-retire_1 = asks engine (act.Retire (codes "E1"))
+retire_1 = requests engine (act.Retire (codes "E1"))
 
 abbrev take_2 : Requested
 take_2 = takes engine (codes "E2") None
@@ -78,10 +78,10 @@ it_is_legal = record {
 -- A second release comes after the first one, which still has the message that is retired by then.
 
 abbrev released : List Requested
-released = opens Can 0 ∷ grants engine block.Std 256 258 ∷ take_1 ∷ asks engine act.Submit ∷ asks office act.Release ∷ []
+released = opens Can 0 ∷ grants engine block.Std 256 258 ∷ take_1 ∷ requests engine act.Submit ∷ requests office act.Release ∷ []
 
 abbrev released_again : List Requested
-released_again = released ++ retire_1 ∷ take_2 ∷ asks engine act.Submit ∷ asks office act.Release ∷ []
+released_again = released ++ retire_1 ∷ take_2 ∷ requests engine act.Submit ∷ requests office act.Release ∷ []
 
 -- the names of the messages in each release
 abbrev names_released : List Requested → List (List (List ℕ))
@@ -119,14 +119,14 @@ on_other = answered (on_bus (opens Can 0)) (codes "o9") (codes "open_net bus") (
 on_this_network : filter (is_on truck) (on_other ∷ moved_on) ≡ moved_on
 on_this_network = refl
 
-spns_ask_the_book : (asks_book (takes_spn (codes "P") None).command.task ≡ true) × (asks_book (grants engine block.Std 256 258).command.task ≡ false)
+spns_ask_the_book : (needs_book (takes_spn (codes "P") None).command.task ≡ true) × (needs_book (grants engine block.Std 256 258).command.task ≡ false)
 spns_ask_the_book = (refl, refl)
 
 -- The law that networks are apart wants that no pair of team and key names two networks: without that it would be
 -- false. Under the key that opened the other network no answer opens this one.
 
 abbrev AnswersAreApartUnderAnyKeys : Type 0
-AnswersAreApartUnderAnyKeys = (h g : List Answered) (a : Answered) → asks_book a.command.task ≡ false
+AnswersAreApartUnderAnyKeys = (h g : List Answered) (a : Answered) → needs_book a.command.task ≡ false
     → filter (is_on a.command.net) h ≡ filter (is_on a.command.net) g → IsLegalHistory (h ++ a ∷ []) → IsLegalHistory g → IsLegalHistory (g ++ a ∷ [])
 
 abbrev first_this : Answered

@@ -18,7 +18,7 @@ use Rattle.office_rules.specs.Importing.{FileReading}
 use Rattle.office_rules.specs.Outcome.{reply_of}
 use Rattle.office_rules.specs.Profile.{Profile}
 use Rattle.office_rules.specs.Step.{IsRead, Run, Step, file_wanted, net_named, office_after, opening, step_outcome}
-use Rattle.office_law.specs.Apart.{asks_book}
+use Rattle.office_law.specs.Apart.{needs_book}
 use Rattle.office_law.specs.Histories.{history}
 use Rattle.office_law.proofs.ApartBook.{task_alike}
 use Rattle.office_law.proofs.HistoriesApart.{one_history_one_network}
@@ -235,7 +235,7 @@ ends (b ∷ list) a (r ∷ rs) o after reported run =
     }
 
 -- a step in an office with the same network, where the book isn't read
-module _ (profile : Profile) (o p after : Office) (team : List ℕ) (c : Command) (r : Reply) (unrequested : asks_book c.task ≡ false) (same : net_named o c.net ≡ net_named p c.net)
+module _ (profile : Profile) (o p after : Office) (team : List ℕ) (c : Command) (r : Reply) (unrequested : needs_book c.task ≡ false) (same : net_named o c.net ≡ net_named p c.net)
     (step : Step profile o team c r after) where
   abbrev left_there : Office
   left_there = office_after p (step_outcome p team step.reading c)
@@ -252,7 +252,7 @@ module _ (profile : Profile) (o p after : Office) (team : List ℕ) (c : Command
 
 -- ---- the law
 
-module _ (once : ReadsAsOneAtMost) (h g : List Answered) (a : Answered) (unrequested : asks_book a.command.task ≡ false) (one_h : HaveOneNetwork (h ++ a ∷ []))
+module _ (once : ReadsAsOneAtMost) (h g : List Answered) (a : Answered) (unrequested : needs_book a.command.task ≡ false) (one_h : HaveOneNetwork (h ++ a ∷ []))
     (one_g : HaveOneNetwork (g ++ a ∷ [])) (same : filter (is_on a.command.net) h ≡ filter (is_on a.command.net) g)
     (office p : Office) (legal : IsLegal (h ++ a ∷ []) office) (other : IsLegal g p) where
   abbrev name : List ℕ

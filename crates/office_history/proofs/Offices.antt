@@ -5,7 +5,7 @@ use Rattle.office_types.specs.Command.{IsCommand}
 use Rattle.office_types.specs.PlainName.{IsPlainName}
 use Rattle.office_types.specs.declared.reply.Reply.{Reply}
 use Rattle.office_types.specs.declared.state.Office.{Office}
-use Rattle.office_rules.specs.Step.{Asking, Run, opening}
+use Rattle.office_rules.specs.Step.{TeamCommand, Run, opening}
 use Rattle.office_law.specs.Agree.{StepsAgree}
 use Rattle.office_law.proofs.KeptOffice.{offices_are_kept}
 use Rattle.office_history.specs.History.{Answered, first_arrivals, request_of, same_pair}
@@ -18,7 +18,7 @@ firsts_in_range (a ∷ h) all =
     (All-filter (λ b. not (same_pair a b)) IsInRange (first_arrivals h) (firsts_in_range h (All-tail IsInRange a h all)))
 
 -- the same requests lead from one office to one office
-pub one_run : StepsAgree → (qs : List Asking) (rs ss : List Reply) (o a b : Office) → Run o qs rs a → Run o qs ss b → a ≡ b
+pub one_run : StepsAgree → (qs : List TeamCommand) (rs ss : List Reply) (o a b : Office) → Run o qs rs a → Run o qs ss b → a ≡ b
 one_run agree [] [] [] o a b p q = p ∙ sym q
 one_run agree [] [] (s ∷ ss) o a b p q = absurd q
 one_run agree [] (r ∷ rs) ss o a b p q = absurd p

@@ -18,7 +18,7 @@ use Rattle.office_rules.specs.Commands.{outcome}
 use Rattle.office_rules.specs.Importing.{FileReading}
 use Rattle.office_rules.specs.Outcome.{Outcome, Refusing, Changing}
 use Rattle.office_rules.specs.Profile.{Profile}
-use Rattle.office_rules.specs.Step.{Asking, Run, Step, net_named, opening, step_outcome}
+use Rattle.office_rules.specs.Step.{TeamCommand, Run, Step, net_named, opening, step_outcome}
 use Rattle.office_law.specs.Apart.{KeepsReleases}
 use Rattle.office_law.specs.Agree.{StepsAgree}
 use Rattle.office_law.specs.Histories.{AreInOrder, net_after}
@@ -41,18 +41,18 @@ firsts_go_on (a ∷ h) more =
     (filter (others a) below.0, ap (λ firsts. a ∷ filter (others a) firsts) below.1 ∙ ap (λ rest. a ∷ rest) (filter-append (others a) (first_arrivals h) below.0))
 
 -- a run comes by the office that its first requests leave
-record ComesBy (o : Office) (qs ps : List Asking) (after : Office) : Type 0 where
+record SplitRun (o : Office) (qs ps : List TeamCommand) (after : Office) : Type 0 where
   mid : Office
   reported : List Reply
   later : List Reply
   to_there : Run o qs reported mid
   from_there : Run mid ps later after
 
-comes_by : (qs ps : List Asking) (rs : List Reply) (o after : Office) → Run o (qs ++ ps) rs after → ComesBy o qs ps after
-comes_by [] ps rs o after run = record { mid = o; reported = []; later = rs; to_there = refl; from_there = run }
-comes_by (q ∷ qs) ps [] o after run = absurd run
-comes_by (q ∷ qs) ps (r ∷ rs) o after run =
-    let below = comes_by qs ps rs run.0 after run.2 in
+split_run : (qs ps : List TeamCommand) (rs : List Reply) (o after : Office) → Run o (qs ++ ps) rs after → SplitRun o qs ps after
+split_run [] ps rs o after run = record { mid = o; reported = []; later = rs; to_there = refl; from_there = run }
+split_run (q ∷ qs) ps [] o after run = absurd run
+split_run (q ∷ qs) ps (r ∷ rs) o after run =
+    let below = split_run qs ps rs run.0 after run.2 in
     record { mid = below.mid; reported = r ∷ below.reported; later = below.later; to_there = (run.0, run.1, below.to_there); from_there = below.from_there }
 
 -- ---- networks stay in order
@@ -60,7 +60,7 @@ comes_by (q ∷ qs) ps (r ∷ rs) o after run =
 pub step_in_order : (profile : Profile) (o after : Office) (team : List ℕ) (c : Command) (r : Reply) → AreInOrder o → Step profile o team c r after → AreInOrder after
 step_in_order profile o after team c r sorted step = subst AreInOrder (sym step.left) (sorted_after o (step_outcome o team step.reading c) sorted)
 
-run_in_order : (qs : List Asking) (rs : List Reply) (o after : Office) → AreInOrder o → Run o qs rs after → AreInOrder after
+run_in_order : (qs : List TeamCommand) (rs : List Reply) (o after : Office) → AreInOrder o → Run o qs rs after → AreInOrder after
 run_in_order [] [] o after sorted run = subst AreInOrder (sym run) sorted
 run_in_order [] (r ∷ rs) o after sorted run = absurd run
 run_in_order (q ∷ qs) [] o after sorted run = absurd run
@@ -109,7 +109,7 @@ module _ (name : List ℕ) where
     | inr apart ↦ subst (IsThereStill net) (sym (networks_are_apart.others profile o after team c r name step apart ∙ is)) (as_it_was net)
   ]
 
-  after_run : (qs : List Asking) (rs : List Reply) (o after : Office) (net : Net) → AreInOrder o → Run o qs rs after → net_named o name ≡ Some net
+  after_run : (qs : List TeamCommand) (rs : List Reply) (o after : Office) (net : Net) → AreInOrder o → Run o qs rs after → net_named o name ≡ Some net
       → IsThereStill net (net_named after name)
   after_run [] [] o after net sorted run is = subst (IsThereStill net) (sym (ap (λ x. net_named x name) run ∙ is)) (as_it_was net)
   after_run [] (r ∷ rs) o after net sorted run is = absurd run
@@ -124,7 +124,7 @@ releases_stay agree h more before after name net legal goes_on is =
     let rest = firsts_go_on h more in
     let whole : Run opening (firsts ++ map request_of rest.0) goes_on.replies after =
     subst (λ requests. Run opening requests goes_on.replies after) (ap (map request_of) rest.1 ∙ map-append request_of (first_arrivals h) rest.0) goes_on.run in
-    let way = comes_by firsts (map request_of rest.0) goes_on.replies opening after whole in
+    let way = split_run firsts (map request_of rest.0) goes_on.replies opening after whole in
     let same : way.mid ≡ before = one_run agree firsts way.reported legal.replies opening way.mid before way.to_there legal.run in
     after_run name (map request_of rest.0) way.later before after net (run_in_order firsts legal.replies opening before offices_are_kept.opening_is.rising legal.run)
     (subst (λ o. Run o (map request_of rest.0) way.later after) same way.from_there) is

@@ -24,7 +24,7 @@ use Rattle.office_rules.specs.Importing.{FileReading}
 use Rattle.office_rules.specs.Outcome.{Outcome, Refusing, Changing, entered, reply_of}
 use Rattle.office_rules.specs.Signals.{take_spn}
 use Rattle.office_rules.specs.Profile.{Profile}
-use Rattle.office_rules.specs.Step.{Asking, Run, Step, net_named, office_after, opening, step_outcome}
+use Rattle.office_rules.specs.Step.{TeamCommand, Run, Step, net_named, office_after, opening, step_outcome}
 use Rattle.office_law.specs.Bundles.{bundle_of, command_of, requests_of}
 use Rattle.office_law.specs.Histories.{AreInOrder}
 use Rattle.office_law.proofs.BundleRuns.{bundles_run_their_parts}
@@ -32,7 +32,7 @@ use Rattle.office_law.proofs.KeptOffice.{offices_are_kept}
 use Rattle.office_law.proofs.FreshNumbers.{numbers_are_fresh}
 use Rattle.office_history.specs.declared.arrival.Answer.TheVariants as answer
 use Rattle.office_history.specs.History.{Answered, answer_of, first_arrivals, request_of}
-use Rattle.office_history.specs.Laws.{SpnsAreGivenOnce, action_spns, answer_spns, asks_new_spn, part_spns, spns_given, task_spns}
+use Rattle.office_history.specs.Laws.{SpnsAreGivenOnce, action_spns, answer_spns, wants_new_spn, part_spns, spns_given, task_spns}
 use Rattle.office_history.proofs.Releases.{step_in_order}
 
 -- ---- one outcome
@@ -67,10 +67,10 @@ module _ (team name : List ℕ) (book : SpnBook) (c : TakeSpn) (n : ℕ) where
   on_network None none reported = no_number ⊥ _ n reported
   on_network (Some net) none reported = spn_outcome net (take_spn team name (Some net) book c) none refl reported
 
-act_outcome : (team name : List ℕ) (net : Option Net) (book : SpnBook) (a : Action) (n : ℕ) → asks_new_spn a ≡ true
+act_outcome : (team name : List ℕ) (net : Option Net) (book : SpnBook) (a : Action) (n : ℕ) → wants_new_spn a ≡ true
     → reply_of (acted team name net book a) ≡ Number n → GivesNew book (acted team name net book a) n
-act_outcome team name net book (act.TakeSpn c) n asks reported = on_network team name book c n net (none_is c.same asks) reported
-act_outcome team name net book a n asks reported = absurd (false≢true asks)
+act_outcome team name net book (act.TakeSpn c) n requests reported = on_network team name book c n net (none_is c.same requests) reported
+act_outcome team name net book a n requests reported = absurd (false≢true requests)
 
 -- ---- one step
 
@@ -82,10 +82,10 @@ left_used : (o : Office) (out : Outcome) (n : ℕ) → Contains o.book.used n �
 left_used o (Refusing r) n there = there
 left_used o (Changing r net e) n there = numbers_are_fresh.stay_used o.book e n there
 
-act_new : (profile : Profile) (o after : Office) (team name : List ℕ) (a : Action) (r : Reply) (n : ℕ) → Step profile o team (command_of name a) r after → asks_new_spn a ≡ true → r ≡ Number n → IsNewIn o.book after.book n
-act_new profile o after team name a r n step asks reported =
+act_new : (profile : Profile) (o after : Office) (team name : List ℕ) (a : Action) (r : Reply) (n : ℕ) → Step profile o team (command_of name a) r after → wants_new_spn a ≡ true → r ≡ Number n → IsNewIn o.book after.book n
+act_new profile o after team name a r n step requests reported =
     subst (λ (x : Office). IsNewIn o.book x.book n) (sym step.left)
-    (left_new o (acted team name (net_named o name) o.book a) n (act_outcome team name (net_named o name) o.book a n asks (sym step.answered ∙ reported)))
+    (left_new o (acted team name (net_named o name) o.book a) n (act_outcome team name (net_named o name) o.book a n requests (sym step.answered ∙ reported)))
 
 step_used : (profile : Profile) (o after : Office) (team : List ℕ) (c : Command) (r : Reply) (n : ℕ) → Step profile o team c r after → Contains o.book.used n → Contains after.book.used n
 step_used profile o after team c r n step there = subst (λ (x : Office). Contains x.book.used n) (sym step.left) (left_used o (step_outcome o team step.reading c) n there)
@@ -136,14 +136,14 @@ both_new before mid after xs ys first second a b = record {
 
 -- ---- a step
 
-by_asking : (profile : Profile) (o after : Office) (team name : List ℕ) (a : Action) (n : ℕ) (b : Bool) → asks_new_spn a ≡ b → Step profile o team (command_of name a) (Number n) after
+by_command : (profile : Profile) (o after : Office) (team name : List ℕ) (a : Action) (n : ℕ) (b : Bool) → wants_new_spn a ≡ b → Step profile o team (command_of name a) (Number n) after
     → AreNew o.book.used after.book.used (if b then n ∷ [] else [])
-by_asking profile o after team name a n false asks step = none_new o.book.used after.book.used
-by_asking profile o after team name a n true asks step =
-    let new = act_new profile o after team name a (Number n) n step asks refl in one_new o.book.used after.book.used n new.0 new.1
+by_command profile o after team name a n false requests step = none_new o.book.used after.book.used
+by_command profile o after team name a n true requests step =
+    let new = act_new profile o after team name a (Number n) n step requests refl in one_new o.book.used after.book.used n new.0 new.1
 
 by_action : (profile : Profile) (o after : Office) (team name : List ℕ) (a : Action) (r : Reply) → Step profile o team (command_of name a) r after → AreNew o.book.used after.book.used (action_spns a r)
-by_action profile o after team name a (Number n) step = by_asking profile o after team name a n (asks_new_spn a) refl step
+by_action profile o after team name a (Number n) step = by_command profile o after team name a n (wants_new_spn a) refl step
 by_action profile o after team name a Done step = none_new o.book.used after.book.used
 by_action profile o after team name a (Start s) step = none_new o.book.used after.book.used
 by_action profile o after team name a (Counts new same) step = none_new o.book.used after.book.used
@@ -151,7 +151,7 @@ by_action profile o after team name a (Release k) step = none_new o.book.used af
 by_action profile o after team name a (Refused q) step = none_new o.book.used after.book.used
 by_action profile o after team name a (Bundled reported) step = none_new o.book.used after.book.used
 
-run_used : (qs : List Asking) (rs : List Reply) (o after : Office) → Run o qs rs after → Stays o.book.used after.book.used
+run_used : (qs : List TeamCommand) (rs : List Reply) (o after : Office) → Run o qs rs after → Stays o.book.used after.book.used
 run_used [] [] o after run = λ n there. subst (λ (x : Office). Contains x.book.used n) (sym run) there
 run_used [] (r ∷ rs) o after run = absurd run
 run_used (q ∷ qs) [] o after run = absurd run

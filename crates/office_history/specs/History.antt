@@ -5,7 +5,7 @@ use Rattle.office_types.specs.declared.command.Command.{Command}
 use Rattle.office_types.specs.declared.reply.Reply.{Reply}
 use Rattle.office_types.specs.declared.state.Office.{Office}
 use Rattle.office_rules.specs.Profile.{Profile}
-use Rattle.office_rules.specs.Step.{Asking, Run, opening}
+use Rattle.office_rules.specs.Step.{TeamCommand, Run, opening}
 use Rattle.office_history.specs.declared.arrival.Answer.{Answer}
 use Rattle.office_history.specs.declared.arrival.Answer.TheVariants as answer
 use Rattle.office_history.specs.declared.arrival.Answer.TheVariants.{KeyReused}
@@ -39,7 +39,7 @@ answer_again first content = if bytes_eq first.content content then first.answer
 abbrev pub IsAnsweredAs : Answered → Answered → Type 0
 IsAnsweredAs a first = a.answer ≡ answer_again first a.content
 
-abbrev pub request_of : Answered → Asking
+abbrev pub request_of : Answered → TeamCommand
 request_of a = (a.profile, a.team, a.command)
 
 abbrev pub answer_of : Answered → Answer

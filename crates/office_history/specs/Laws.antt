@@ -20,7 +20,7 @@ use Rattle.office_types.specs.declared.state.Net.{Net}
 use Rattle.office_types.specs.declared.state.Office.{Office}
 use Rattle.office_rules.specs.Kept.{IsOffice}
 use Rattle.office_rules.specs.Step.{Step, net_named, opening}
-use Rattle.office_law.specs.Apart.{asks_book}
+use Rattle.office_law.specs.Apart.{needs_book}
 use Rattle.office_history.specs.declared.arrival.Answer.{Answer}
 use Rattle.office_history.specs.declared.arrival.Answer.TheVariants as answer
 use Rattle.office_history.specs.declared.arrival.Answer.TheVariants.{KeyReused}
@@ -57,13 +57,13 @@ NumbersKeepTheirNames = (h : List Answered) (office : Office) (net : Net) (s t :
     → Contains office.nets net → Contains net.releases s → Contains net.releases t → Contains s.messages m → Contains t.messages n → number_of m ≡ number_of n → m.name ≡ n.name
 
 -- whether an action requests a suspect parameter number of its own, and not one to share
-abbrev pub asks_new_spn : Action → Bool
-asks_new_spn (act.TakeSpn c) = is_none c.same
-asks_new_spn a = false
+abbrev pub wants_new_spn : Action → Bool
+wants_new_spn (act.TakeSpn c) = is_none c.same
+wants_new_spn a = false
 
 -- the number that an action was given so
 abbrev pub action_spns : Action → Reply → List ℕ
-action_spns a (Number n) = if asks_new_spn a then n ∷ [] else []
+action_spns a (Number n) = if wants_new_spn a then n ∷ [] else []
 action_spns a r = []
 
 -- those that the parts of a bundle were
@@ -109,5 +109,5 @@ HaveOneNetwork h = AllPairs NamesOneNetwork h
 -- with the same answers, on its network, whatever else each of the two has: if the command doesn't ask the book, and
 -- with this arrival no pair of team and key names two networks in either.
 abbrev pub AnswersAreApart : Type 0
-AnswersAreApart = (h g : List Answered) (a : Answered) → asks_book a.command.task ≡ false → HaveOneNetwork (h ++ a ∷ []) → HaveOneNetwork (g ++ a ∷ [])
+AnswersAreApart = (h g : List Answered) (a : Answered) → needs_book a.command.task ≡ false → HaveOneNetwork (h ++ a ∷ []) → HaveOneNetwork (g ++ a ∷ [])
     → filter (is_on a.command.net) h ≡ filter (is_on a.command.net) g → IsLegalHistory (h ++ a ∷ []) → IsLegalHistory g → IsLegalHistory (g ++ a ∷ [])

@@ -4,13 +4,13 @@ ghost use Rattle.office_types.specs.declared.change.Change.TheVariants.{SetMessa
 ghost use Rattle.office_rules.specs.Importing.{new_messages, owned_by, spns_of};
 ghost use Rattle.office_import.specs.Changes.{import_reply};
 
-use crate::index::NetIndex;
+use crate::index::LiveIndex;
 use catalogue::{Copying, Items, Message, Sheet, Signal};
 use office_types::{Change, LiveMessage, Reply, Team, UsableSpn};
 use std::alloc::{AllocError, Global};
 
 /// How many of the messages are new.
-pub(crate) fn new_count(index: &NetIndex, messages: &[Message]) -> usize
+pub(crate) fn new_count(index: &LiveIndex, messages: &[Message]) -> usize
     ensures { result ≡ length (new_messages index.now messages.now) }
 {
     messages
@@ -20,7 +20,7 @@ pub(crate) fn new_count(index: &NetIndex, messages: &[Message]) -> usize
 }
 
 /// How many of the file's messages are new, and how many are live already.
-pub(crate) fn counts(index: &NetIndex, file: &Sheet) -> Reply
+pub(crate) fn counts(index: &LiveIndex, file: &Sheet) -> Reply
     ensures { result ≡ import_reply index.now file.now }
 {
     let messages = file.messages();
@@ -47,7 +47,7 @@ fn message_change(alloc: Global, team: &Team, message: &Message) -> Result<Chang
 pub(crate) fn add_messages(
     alloc: Global,
     team: &Team,
-    index: &NetIndex,
+    index: &LiveIndex,
     messages: &[Message],
     changes: &mut Items<Change>,
 ) -> Result<(), AllocError>
@@ -77,7 +77,7 @@ fn add_spns(signals: &[Signal], changes: &mut Items<Change>) -> Result<(), Alloc
 
 /// Adds those of the new ones of these messages.
 pub(crate) fn add_all_spns(
-    index: &NetIndex,
+    index: &LiveIndex,
     messages: &[Message],
     changes: &mut Items<Change>,
 ) -> Result<(), AllocError>

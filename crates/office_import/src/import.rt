@@ -14,7 +14,7 @@ ghost use Rattle.office_import.specs.Tests.{early_tests};
 use crate::changes::{add_all_spns, add_messages, counts};
 use crate::clear::first_unclear;
 use crate::frame::widened;
-use crate::index::NetIndex;
+use crate::index::LiveIndex;
 use crate::joining::first_refused;
 use crate::limits::is_too_large;
 use crate::news::{FrameNews, frame_news};
@@ -48,7 +48,7 @@ fn new_head(alloc: Global, net: &Net, file: &Sheet, news: FrameNews) -> Result<H
 fn import_changes(
     alloc: Global,
     team: &Team,
-    index: &NetIndex,
+    index: &LiveIndex,
     file: &Sheet,
     news: FrameNews,
 ) -> Result<Items<Change>, AllocError>
@@ -67,7 +67,7 @@ fn import_changes(
 fn decide_clear(
     alloc: Global,
     team: &Team,
-    index: &NetIndex,
+    index: &LiveIndex,
     file: &Sheet,
 ) -> Result<Decision, AllocError>
     requires { first_refusal (early_tests index.now file.now) ≡ None }
@@ -110,7 +110,7 @@ pub fn decide_import(
     if let Some(refusal) = early_refusal(alloc, net, file)? {
         return Ok(refusal_decision(alloc, refusal));
     }
-    let index = NetIndex::of(alloc, net)?;
+    let index = LiveIndex::of(alloc, net)?;
     decide_clear(alloc, team, &index, file)
 }
 

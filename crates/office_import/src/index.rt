@@ -23,14 +23,14 @@ fn has_equal(live: &[LiveMessage], message: &Message) -> bool
 
 /// A network, with what finds its messages by number and by name without a walk over them. Contracts see it as the
 /// network.
-pub(crate) struct NetIndex<'a> {
+pub(crate) struct LiveIndex<'a> {
     net: &'a Net,
     live: Searching<'a, LiveMessage>,
     held: Searching<'a, Ident>,
     names: BTreeSet<Name>,
 }
 
-impl<'a> Model for NetIndex<'a> {
+impl<'a> Model for LiveIndex<'a> {
     ghost use Rattle.std.specs.Prelude.{◌≡◌, ℕ, List};
     ghost use Rattle.std.specs.BTreeSet.{contains};
     ghost use Rattle.catalogue.specs.Keyed.{text_cmp};
@@ -46,14 +46,14 @@ impl<'a> Model for NetIndex<'a> {
         × ((n : List ℕ) → contains text_cmp index.names n ≡ has_name live_name index.net.now.live n) };
 }
 
-impl<'a> NetIndex<'a> {
+impl<'a> LiveIndex<'a> {
     /// The index of the network. The error is out of memory.
-    pub(crate) fn of(alloc: Global, net: &'a Net) -> Result<NetIndex<'a>, AllocError>
+    pub(crate) fn of(alloc: Global, net: &'a Net) -> Result<LiveIndex<'a>, AllocError>
         ensures { IfOk result (λ index. index ≡ net.now) }
     {
         let live = net.live.as_slice();
         let names = live_names(alloc, live)?;
-        Ok(NetIndex {
+        Ok(LiveIndex {
             net,
             live: Searching::of(live),
             held: Searching::of(net.held.as_slice()),
@@ -98,9 +98,9 @@ impl<'a> NetIndex<'a> {
     }
 }
 
-impl Drop for NetIndex<'_> {
+impl Drop for LiveIndex<'_> {
     fn drop(self) {
-        let NetIndex {
+        let LiveIndex {
             net: _net,
             live: _live,
             held: _held,

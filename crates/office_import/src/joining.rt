@@ -5,14 +5,14 @@ ghost use Rattle.catalogue.specs.Refusing.{first_refusal};
 ghost use Rattle.office_rules.specs.Importing.{may_bring, message_import_tests};
 ghost use Rattle.office_import.specs.Numbers.{team_numbers};
 
-use crate::index::NetIndex;
+use crate::index::LiveIndex;
 use crate::numbers::TeamNumbers;
 use can_id::{Ident, J1939};
 use catalogue::Message;
 use office_types::{Refusal, Team, is_office};
 
 /// Whether the team, which has these numbers, may bring a message of the identifier.
-fn may_bring(team: &Team, numbers: &TeamNumbers, index: &NetIndex, ident: Ident) -> bool
+fn may_bring(team: &Team, numbers: &TeamNumbers, index: &LiveIndex, ident: Ident) -> bool
     requires { numbers.now ≡ team_numbers team.now index.now.blocks }
     ensures { result ≡ may_bring team.now index.now ident }
 {
@@ -37,7 +37,7 @@ fn may_bring(team: &Team, numbers: &TeamNumbers, index: &NetIndex, ident: Ident)
 fn message_refusal(
     team: &Team,
     numbers: &TeamNumbers,
-    index: &NetIndex,
+    index: &LiveIndex,
     message: &Message,
 ) -> Option<Refusal>
     requires { numbers.now ≡ team_numbers team.now index.now.blocks }
@@ -64,7 +64,7 @@ fn message_refusal(
 pub(crate) fn first_refused(
     team: &Team,
     numbers: &TeamNumbers,
-    index: &NetIndex,
+    index: &LiveIndex,
     messages: &[Message],
 ) -> Option<Refusal>
     requires { numbers.now ≡ team_numbers team.now index.now.blocks }

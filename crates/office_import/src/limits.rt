@@ -4,7 +4,7 @@ ghost use Rattle.office_rules.specs.Importing.{is_too_large};
 ghost use Rattle.office_import.specs.News.{frame_news};
 
 use crate::changes::new_count;
-use crate::index::NetIndex;
+use crate::index::LiveIndex;
 use crate::news::FrameNews;
 use catalogue::{MESSAGE_LIMIT, ROSTER_LIMIT, Sheet};
 
@@ -16,7 +16,7 @@ fn passes(limit: usize, have: usize, more: usize) -> bool
 }
 
 /// Whether the network would pass a limit with what is new in the file.
-pub(crate) fn is_too_large(index: &NetIndex, file: &Sheet, news: &FrameNews) -> bool
+pub(crate) fn is_too_large(index: &LiveIndex, file: &Sheet, news: &FrameNews) -> bool
     requires { news.now ≡ frame_news index.now.head.frame file.now }
     ensures { result ≡ is_too_large index.now file.now }
 {

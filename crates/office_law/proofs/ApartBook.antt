@@ -20,7 +20,7 @@ use Rattle.office_rules.specs.Facts.{is_granted, is_j1939, is_spn_granted}
 use Rattle.office_rules.specs.Importing.{FileReading}
 use Rattle.office_rules.specs.Opening.{grant, granted}
 use Rattle.office_rules.specs.Outcome.{Entries, Outcome, Refusing, Changing, entered, on_net, unless, when}
-use Rattle.office_law.specs.Apart.{action_asks_book, asks_book}
+use Rattle.office_law.specs.Apart.{action_needs_book, needs_book}
 
 taken_alike : (b p q r : Bool) → b ≡ false → ◌≡◌ {A = Bool} (if b then p else r) (if b then q else r)
 taken_alike true p q r h = absurd (false≢true (sym h))
@@ -32,7 +32,7 @@ grant_alike team name (Some n) book other c h =
     ap (λ taken. unless (when (not (is_office team)) no.NotOffice ∷ on_net (Some n) (λ n. when (same_form c.block.form Pgn && not (is_j1939 n.head.kind)) no.NotJ1939 ∷ when taken no.BlockTaken ∷ [])) (granted name n c))
     (taken_alike (is_spn c.block.form) (is_spn_granted book c.block) (is_spn_granted other c.block) (is_granted n c.block) h)
 
-act_alike : (team name : List ℕ) (net : Option Net) (book other : SpnBook) (a : Action) → action_asks_book a ≡ false → acted team name net book a ≡ acted team name net other a
+act_alike : (team name : List ℕ) (net : Option Net) (book other : SpnBook) (a : Action) → action_needs_book a ≡ false → acted team name net book a ≡ acted team name net other a
 act_alike team name net book other (act.Grant c) h = grant_alike team name net book other c h
 act_alike team name net book other (act.TakeSpn c) h = absurd (false≢true (sym h))
 act_alike team name net book other a h = refl
@@ -43,17 +43,17 @@ same_then : (number : ℕ) (out : Outcome) (f g : Net → Entries → PartsOutco
 same_then number (Refusing r) f g h = refl
 same_then number (Changing r n e) f g h = ap (with_part r e) (h n e)
 
-parts_alike : (team name : List ℕ) (number : ℕ) (net : Option Net) (book other : SpnBook) (parts : List Action) → list_any action_asks_book parts ≡ false
+parts_alike : (team name : List ℕ) (number : ℕ) (net : Option Net) (book other : SpnBook) (parts : List Action) → list_any action_needs_book parts ≡ false
     → parts_done team name number net book parts ≡ parts_done team name number net other parts
 parts_alike team name number net book other [] h = refl
 parts_alike team name number net book other (a ∷ parts) h =
-    let none = or_parts (action_asks_book a) (list_any action_asks_book parts) h in
+    let none = or_parts (action_needs_book a) (list_any action_needs_book parts) h in
     same_then number (acted team name net book a) (λ n e. parts_done team name (number + 1) (Some n) (entered book e) parts) (λ n e. parts_done team name (number + 1) (Some n) (entered other e) parts)
     (λ n e. parts_alike team name (number + 1) (Some n) (entered book e) (entered other e) parts none.1)
     ∙ ap (λ out. part_then number out (λ n e. parts_done team name (number + 1) (Some n) (entered other e) parts)) (act_alike team name net book other a none.0)
 
 -- a command that doesn't read the book results in the same with any two books
-pub task_alike : (team name : List ℕ) (reading : FileReading) (net : Option Net) (book other : SpnBook) (t : Task) → asks_book t ≡ false
+pub task_alike : (team name : List ℕ) (reading : FileReading) (net : Option Net) (book other : SpnBook) (t : Task) → needs_book t ≡ false
     → done_task team name reading net book t ≡ done_task team name reading net other t
 task_alike team name reading net book other (Act a) h = act_alike team name net book other a h
 task_alike team name reading net book other (Import file) h = refl

@@ -176,7 +176,7 @@ module _ (profile : Profile) (team name : List ℕ) (parts : List Action) where
       run = run.run;
       why = why;
       refused = run.refused;
-      tells = refused_bundle r (no.BundleRefused (refused_part at why)) is
+      reports = refused_bundle r (no.BundleRefused (refused_part at why)) is
           ∙ ap (λ number. no.BundleRefused (refused_part number why)) (let w = run.there in let e : at ≡ length run.earlier + 1 = omega (arith, w) in e);
     },
   )

@@ -14,9 +14,9 @@ use Rattle.office_types.specs.declared.state.Office.{Office}
 use Rattle.office_rules.specs.Commands.{outcome}
 use Rattle.office_rules.specs.Outcome.{Outcome, Refusing, Changing, reply_of}
 use Rattle.office_rules.specs.Profile.{Profile}
-use Rattle.office_rules.specs.Step.{Asking, IsRead, Run, Step, file_wanted, net_named, office_after, step_outcome}
+use Rattle.office_rules.specs.Step.{TeamCommand, IsRead, Run, Step, file_wanted, net_named, office_after, step_outcome}
 use Rattle.office_law.specs.Agree.{IsFileRefused}
-use Rattle.office_law.specs.Apart.{asks_book}
+use Rattle.office_law.specs.Apart.{needs_book}
 use Rattle.office_law.specs.Histories.{AreInOrder, OneHistoryOneNetwork, RepliesApart, history, net_after}
 use Rattle.office_law.proofs.ApartBook.{task_alike}
 use Rattle.office_law.proofs.ApartReplies.{one_reply_one_network}
@@ -81,7 +81,7 @@ module _ (once : ReadsAsOneAtMost) (profile : Profile) (o p a b : Office) (team 
         ∙ sym (net_there sorted_too)
   ]
 
-  one_answer : asks_book c.task ≡ false → (r ≡ s) ⊎ (IsFileRefused profile o c r a × IsFileRefused profile p c s b)
+  one_answer : needs_book c.task ≡ false → (r ≡ s) ⊎ (IsFileRefused profile o c r a × IsFileRefused profile p c s b)
   one_answer unrequested =
       let alike : here ≡ there = task_alike team c.net second.reading (net_named o c.net) o.book p.book c.task unrequested in
       elim agreed [
@@ -123,14 +123,14 @@ module _ (name : List ℕ) where
   Leads net [] last = net ≡ last
   Leads net (e ∷ es) last = (mid : Option Net) × StepsTo net e mid × Leads mid es last
 
-  leads_more : (o mid : Office) (q : Asking) (r : Reply) (es : List (Profile × List ℕ × Command × Reply)) (last : Option Net) (b : Bool) → bytes_eq q.2.net name ≡ b
+  leads_more : (o mid : Office) (q : TeamCommand) (r : Reply) (es : List (Profile × List ℕ × Command × Reply)) (last : Option Net) (b : Bool) → bytes_eq q.2.net name ≡ b
       → AreInOrder o → Step q.0 o q.1 q.2 r mid → Leads (net_named mid name) es last → Leads (net_named o name) (if b then (q.0, q.1, q.2, r) ∷ es else es) last
   leads_more o mid q r es last true on sorted step rest = (net_named mid name, record { office = o; later = mid; step = step; sorted = sorted; was = refl; is = refl; on = on }, rest)
   leads_more o mid q r es last false on sorted step rest =
       subst (λ n. Leads n es last) (ap (λ x. net_named x name) step.left ∙ (nets_apart o q.1 step.reading q.2).others name on) rest
 
   -- a run's commands on the network lead from what it was to what it is
-  leads : (qs : List Asking) (rs : List Reply) (o a : Office) → AreInOrder o → Run o qs rs a → Leads (net_named o name) (history name qs rs) (net_named a name)
+  leads : (qs : List TeamCommand) (rs : List Reply) (o a : Office) → AreInOrder o → Run o qs rs a → Leads (net_named o name) (history name qs rs) (net_named a name)
   leads [] [] o a sorted h = sym (ap (λ x. net_named x name) h)
   leads [] (r ∷ rs) o a sorted h = absurd h
   leads (q ∷ qs) [] o a sorted h = absurd h

@@ -10,11 +10,11 @@ use Rattle.office_types.specs.declared.refusal.Refusal.TheVariants as no
 use Rattle.office_types.specs.declared.reply.Reply.TheVariants.{Done, Refused}
 use Rattle.office_rules.specs.Outcome.{Refusing}
 use Rattle.office_rules.specs.Profile.{Two}
-use Rattle.office_rules.specs.Step.{Asking, opening}
+use Rattle.office_rules.specs.Step.{TeamCommand, opening}
 use Rattle.office_law.specs.Deciding.{action_tests}
 use Rattle.office_law.specs.Histories.{history, net_after}
 
-submits : List ℕ → Asking
+submits : List ℕ → TeamCommand
 submits net = (Two, codes "engine", record { net = net; task = Act act.Submit })
 
 -- the history of one of two networks

@@ -52,7 +52,7 @@ use Rattle.office_rules.specs.Opening.{add_node, bare_net, grant, grant_tests, g
 use Rattle.office_rules.specs.Outcome.{Entries, no_entries, entered, Outcome, Refusing, Changing, given_or, unless}
 use Rattle.office_rules.specs.Retiring.{retire, retired, with_held, without_message}
 use Rattle.office_rules.specs.Profile.{Profile}
-use Rattle.office_rules.specs.Step.{Asking, IsRead, IsReadingOf, file_wanted, net_named, office_after, opening, Run, Step, step_outcome}
+use Rattle.office_rules.specs.Step.{TeamCommand, IsRead, IsReadingOf, file_wanted, net_named, office_after, opening, Run, Step, step_outcome}
 use Rattle.office_law.specs.Kept.{AreRequests, OfficesAreKept}
 use Rattle.office_law.proofs.Going.{Allowed, Goes, IsReadingSheet, goes_approve, goes_bits, goes_grant, goes_ident, goes_import, goes_node, goes_pgn, goes_reject, goes_release, goes_removal, goes_retire, goes_spn, goes_submit, goes_values}
 use Rattle.office_law.proofs.KeptBlocks.{IsNet-approved, IsNet-granted, IsNet-in_phase, IsNet-noded}
@@ -358,14 +358,14 @@ IsOffice-step profile before after team c reply h plain command step =
     (well_done team c.net before.book plain command.net h.book profile (net_named before c.net) c.task step.reading command.task step.read
     (found_named c.net before.book before.nets h.nets h.entered)))
 
-IsOffice-run : (before after : Office) (requests : List Asking) (replies : List Reply) → IsOffice before → AreRequests requests → Run before requests replies after → IsOffice after
+IsOffice-run : (before after : Office) (requests : List TeamCommand) (replies : List Reply) → IsOffice before → AreRequests requests → Run before requests replies after → IsOffice after
 IsOffice-run before after [] [] h all run = subst IsOffice (sym run) h
 IsOffice-run before after [] (r ∷ replies) h all run = absurd run
 IsOffice-run before after (q ∷ requests) [] h all run = absurd run
 IsOffice-run before after (q ∷ requests) (r ∷ replies) h all run =
-    let first = All-head (λ (p : Asking). IsPlainName p.1 × IsCommand p.2) q requests all in
+    let first = All-head (λ (p : TeamCommand). IsPlainName p.1 × IsCommand p.2) q requests all in
     IsOffice-run run.0 after requests replies (IsOffice-step q.0 before run.0 q.1 q.2 r h first.0 first.1 run.1)
-    (All-tail (λ (p : Asking). IsPlainName p.1 × IsCommand p.2) q requests all) run.2
+    (All-tail (λ (p : TeamCommand). IsPlainName p.1 × IsCommand p.2) q requests all) run.2
 
 pub offices_are_kept : OfficesAreKept
 offices_are_kept = record { opening_is = IsOffice-opening; step = IsOffice-step; run = IsOffice-run }

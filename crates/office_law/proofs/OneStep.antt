@@ -21,7 +21,7 @@ use Rattle.office_rules.specs.Step.{IsRead, IsReadingOf, IsUnreadable, Step, fil
 use Rattle.office_law.specs.Agree.{IsFileRefused, StepsAgree}
 
 -- an outcome that tells a fault of the file
-record TellsFault (profile : Profile) (net : Option Net) (task : Task) (out : Outcome) : Type 0 where
+record ReportsFault (profile : Profile) (net : Option Net) (task : Task) (out : Outcome) : Type 0 where
   file : List ℕ
   wanted : file_wanted net task ≡ Some file
   fault : Fault
@@ -45,7 +45,7 @@ wanted_so bytes false e = refl
 
 module _ (law : ReadsAsOneAtMost) (profile : Profile) (team name : List ℕ) (book : SpnBook) where
   two_readings : (net : Net) (file : List ℕ) (x y : FileReading) → in_review net.head.phase ≡ false → IsReadingOf profile file x → IsReadingOf profile file y
-      → (import team (Some net) x ≡ import team (Some net) y) ⊎ (TellsFault profile (Some net) (Import file) (import team (Some net) x) × TellsFault profile (Some net) (Import file) (import team (Some net) y))
+      → (import team (Some net) x ≡ import team (Some net) y) ⊎ (ReportsFault profile (Some net) (Import file) (import team (Some net) x) × ReportsFault profile (Some net) (Import file) (import team (Some net) y))
   two_readings net file (Reading s) (Reading t) e h k = inl (ap (λ (v : Sheet). import team (Some net) (Reading v)) (law file s t h.0.0 k.0.0 h.0.1 k.0.1).0)
   two_readings net file (Reading s) (Unreadable g) e h k = absurd (k.unread s h)
   two_readings net file (Unreadable f) (Reading t) e h k = absurd (h.unread t k)
@@ -55,19 +55,19 @@ module _ (law : ReadsAsOneAtMost) (profile : Profile) (team name : List ℕ) (bo
   )
 
   by_phase : (net : Net) (file : List ℕ) (x y : FileReading) (b : Bool) → in_review net.head.phase ≡ b → IsRead profile (file_wanted (Some net) (Import file)) x → IsRead profile (file_wanted (Some net) (Import file)) y
-      → (import team (Some net) x ≡ import team (Some net) y) ⊎ (TellsFault profile (Some net) (Import file) (import team (Some net) x) × TellsFault profile (Some net) (Import file) (import team (Some net) y))
+      → (import team (Some net) x ≡ import team (Some net) y) ⊎ (ReportsFault profile (Some net) (Import file) (import team (Some net) x) × ReportsFault profile (Some net) (Import file) (import team (Some net) y))
   by_phase net file x y true e h k = inl (in_review_so team net x e ∙ sym (in_review_so team net y e))
   by_phase net file x y false e h k = two_readings net file x y e (in_draft profile file x (in_review net.head.phase) e h) (in_draft profile file y (in_review net.head.phase) e k)
 
   agree : (net : Option Net) (task : Task) (x y : FileReading) → IsRead profile (file_wanted net task) x → IsRead profile (file_wanted net task) y
       → (done_task team name x net book task ≡ done_task team name y net book task)
-      ⊎ (TellsFault profile net task (done_task team name x net book task) × TellsFault profile net task (done_task team name y net book task))
+      ⊎ (ReportsFault profile net task (done_task team name x net book task) × ReportsFault profile net task (done_task team name y net book task))
   agree net (Act a) x y h k = inl refl
   agree net (Bundle parts) x y h k = inl refl
   agree None (Import file) x y h k = inl refl
   agree (Some net) (Import file) x y h k = by_phase net file x y (in_review net.head.phase) refl h k
 
-reported_so : (profile : Profile) (before a : Office) (team : List ℕ) (c : Command) (r : Reply) (step : Step profile before team c r a) → TellsFault profile (net_named before c.net) c.task (step_outcome before team step.reading c) → IsFileRefused profile before c r a
+reported_so : (profile : Profile) (before a : Office) (team : List ℕ) (c : Command) (r : Reply) (step : Step profile before team c r a) → ReportsFault profile (net_named before c.net) c.task (step_outcome before team step.reading c) → IsFileRefused profile before c r a
 reported_so profile before a team c r step t = record {
   file = t.file;
   wanted = t.wanted;

@@ -29,8 +29,8 @@ has name net = bytes_eq net.name name
 pub equal_texts : (a b : List ℕ) → bytes_eq a b ≡ true → a ≡ b
 equal_texts a b h = (bytes_eq-Decides a b).0 h
 
-pub order_tells : (x y : Net) → is_eq (by_name x y) ≡ bytes_eq x.name y.name
-order_tells x y = is_eq-slice_cmp x.name y.name
+pub order_shows : (x y : Net) → is_eq (by_name x y) ≡ bytes_eq x.name y.name
+order_shows x y = is_eq-slice_cmp x.name y.name
 
 -- what is above a network is above each one of its name
 above_all : (x y : Net) (ys : List Net) → x.name ≡ y.name → AllByRecursion (λ z. by_name y z ≡ Less) ys → are_above by_name x ys ≡ true
@@ -39,7 +39,7 @@ above_all x y (z ∷ zs) same h =
     ap (λ b. b && are_above by_name x zs) (ap (λ n. is_lt (text_cmp n z.name)) same ∙ ap is_lt h.0) ∙ above_all x y zs same h.1
 
 pub equal_order : (x y : Net) → x.name ≡ y.name → by_name x y ≡ Equal
-equal_order x y same = by_test (by_name x y) (order_tells x y ∙ (bytes_eq-Decides x.name y.name).1 same)
+equal_order x y same = by_test (by_name x y) (order_shows x y ∙ (bytes_eq-Decides x.name y.name).1 same)
   where
     by_test : (r : Ordering) → is_eq r ≡ true → r ≡ Equal
     by_test Less e = absurd (false≢true e)
@@ -83,7 +83,7 @@ module _ (name : List ℕ) (x : Net) where
       (λ late. ap (λ (o : Option Net). cond (has name y) (Some y) o) (other_put ys new))
     where
       same_name : (y : Net) → by_name x y ≡ Equal → x.name ≡ y.name
-      same_name y e = equal_texts x.name y.name (sym (order_tells x y) ∙ ap is_eq e)
+      same_name y e = equal_texts x.name y.name (sym (order_shows x y) ∙ ap is_eq e)
 
   apart_named : (y : Net) → has name x ≡ true → bytes_eq x.name y.name ≡ false → has name y ≡ false
   apart_named y new apart = ap (bytes_eq y.name) (sym (equal_texts x.name name new)) ∙ bytes_eq-flip y.name x.name ∙ apart
@@ -104,7 +104,7 @@ module _ (name : List ℕ) (x : Net) where
       (λ above e. ap (λ b. cond b (Some x) (find (has name) (y ∷ ys))) new)
       (λ above e. ap (λ b. cond b (Some x) (find (has name) ys)) new)
       (λ above e.
-      let apart : bytes_eq x.name y.name ≡ false = sym (order_tells x y) ∙ ap is_eq e in
+      let apart : bytes_eq x.name y.name ≡ false = sym (order_shows x y) ∙ ap is_eq e in
       ap (λ b. cond b (Some y) (cond (has name x) (Some x) (find (has name) ys))) (apart_named y new apart) ∙ ap (λ b. cond b (Some x) (find (has name) ys)) new)
       (λ late.
       ap (λ b. cond b (Some y) (find (has name) (put by_name x ys))) (apart_named y new (not_late y ys sorted.0 late)) ∙ own_put ys sorted.1 new)

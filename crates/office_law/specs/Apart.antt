@@ -22,16 +22,16 @@ use Rattle.office_rules.specs.Profile.{Profile}
 use Rattle.office_rules.specs.Step.{Step, net_named}
 
 -- the actions that look into the book
-abbrev pub action_asks_book : Action → Bool
-action_asks_book (act.TakeSpn c) = true
-action_asks_book (act.Grant c) = is_spn c.block.form
-action_asks_book a = false
+abbrev pub action_needs_book : Action → Bool
+action_needs_book (act.TakeSpn c) = true
+action_needs_book (act.Grant c) = is_spn c.block.form
+action_needs_book a = false
 
 -- and the commands; a bundle where one of its parts does
-abbrev pub asks_book : Task → Bool
-asks_book (Act a) = action_asks_book a
-asks_book (Import file) = false
-asks_book (Bundle parts) = list_any action_asks_book parts
+abbrev pub needs_book : Task → Bool
+needs_book (Act a) = action_needs_book a
+needs_book (Import file) = false
+needs_book (Bundle parts) = list_any action_needs_book parts
 
 -- A network's releases after a command: those before it, and by `release` alone the live sheet too, as the last one. A
 -- bundle adds those of its parts.
@@ -43,7 +43,7 @@ KeepsReleases task net after =
 pub record NetworksAreApart : Type 0 where
   -- no other command depends on the book
   pub without_book : (team : List ℕ) (reading : FileReading) (net : Option Net) (book other : SpnBook) (c : Command)
-      → asks_book c.task ≡ false → outcome team reading net book c ≡ outcome team reading net other c
+      → needs_book c.task ≡ false → outcome team reading net book c ≡ outcome team reading net other c
   -- whatever the books, two outcomes on one network with one reply leave one network
   pub one_net : (team : List ℕ) (reading : FileReading) (net : Option Net) (book other : SpnBook) (c : Command) (reply : Reply) (n m : Net) (e f : Entries)
       → outcome team reading net book c ≡ Changing reply n e → outcome team reading net other c ≡ Changing reply m f → n ≡ m

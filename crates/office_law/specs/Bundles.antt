@@ -13,7 +13,7 @@ use Rattle.office_types.specs.declared.reply.Reply.TheVariants.{Bundle, Refused}
 use Rattle.office_types.specs.declared.state.Office.{Office}
 use Rattle.office_rules.specs.Bundling.{refused_part}
 use Rattle.office_rules.specs.Profile.{Profile}
-use Rattle.office_rules.specs.Step.{Asking, Run, Step}
+use Rattle.office_rules.specs.Step.{TeamCommand, Run, Step}
 use Rattle.office_law.specs.Histories.{AreInOrder}
 
 -- a part as a command of its own
@@ -23,7 +23,7 @@ command_of name a = record { net = name; task = task.Act a }
 abbrev pub bundle_of : List ℕ → List Action → Command
 bundle_of name parts = record { net = name; task = task.Bundle parts }
 
-abbrev pub requests_of : Profile → List ℕ → List ℕ → List Action → List Asking
+abbrev pub requests_of : Profile → List ℕ → List ℕ → List Action → List TeamCommand
 requests_of profile team name parts = map (λ a. (profile, team, command_of name a)) parts
 
 -- The earlier parts run, and then this one is refused so. The refusal of the bundle has the part's number, from 1,
@@ -38,7 +38,7 @@ pub record IsPartRefused (profile : Profile) (before : Office) (team name : List
   pub run : Run before (requests_of profile team name earlier) reported mid
   pub why : Refusal
   pub refused : Step profile mid team (command_of name part) (Refused why) mid
-  pub tells : refusal ≡ no.BundleRefused (refused_part (length earlier + 1) why)
+  pub reports : refusal ≡ no.BundleRefused (refused_part (length earlier + 1) why)
 
 -- A bundle is answered by the replies of its parts, which ran in order, or is refused, and then it changes nothing.
 pub record BundlesRunTheirParts : Type 0 where

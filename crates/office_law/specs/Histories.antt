@@ -10,8 +10,8 @@ use Rattle.office_types.specs.declared.state.Office.{Office}
 use Rattle.office_rules.specs.Importing.{FileReading}
 use Rattle.office_rules.specs.Outcome.{Outcome, Refusing, Changing}
 use Rattle.office_rules.specs.Profile.{Profile}
-use Rattle.office_rules.specs.Step.{Asking, Run, Step, net_named, office_after, step_outcome}
-use Rattle.office_law.specs.Apart.{asks_book}
+use Rattle.office_rules.specs.Step.{TeamCommand, Run, Step, net_named, office_after, step_outcome}
+use Rattle.office_law.specs.Apart.{needs_book}
 use Rattle.office_law.specs.Agree.{IsFileRefused}
 
 -- the network after a command: a refusal leaves it as it was
@@ -32,10 +32,10 @@ OutcomesAreLeft = (before : Office) (team : List ℕ) (reading : FileReading) (c
 -- the faults of a file that reads as no sheet.
 abbrev pub RepliesApart : Type 0
 RepliesApart = (profile : Profile) (o p a b : Office) (team : List ℕ) (c : Command) (r s : Reply) → Step profile o team c r a → Step profile p team c s b →
-    net_named o c.net ≡ net_named p c.net → asks_book c.task ≡ false → (r ≡ s) ⊎ (IsFileRefused profile o c r a × IsFileRefused profile p c s b)
+    net_named o c.net ≡ net_named p c.net → needs_book c.task ≡ false → (r ≡ s) ⊎ (IsFileRefused profile o c r a × IsFileRefused profile p c s b)
 
 -- the commands on the network of this name, each with its profile and its team and with what it was answered
-abbrev pub history : List ℕ → List Asking → List Reply → List (Profile × List ℕ × Command × Reply)
+abbrev pub history : List ℕ → List TeamCommand → List Reply → List (Profile × List ℕ × Command × Reply)
 history name [] rs = []
 history name (q ∷ qs) [] = []
 history name (q ∷ qs) (r ∷ rs) = if bytes_eq q.2.net name then (q.0, q.1, q.2, r) ∷ history name qs rs else history name qs rs
@@ -43,5 +43,5 @@ history name (q ∷ qs) (r ∷ rs) = if bytes_eq q.2.net name then (q.0, q.1, q.
 -- Two runs of whatever commands in whatever offices leave one network of a name, where it was one before and those of
 -- the commands that are on it are the same and are answered alike.
 abbrev pub OneHistoryOneNetwork : Type 0
-OneHistoryOneNetwork = (name : List ℕ) (o p a b : Office) (qs ps : List Asking) (rs ss : List Reply) →
+OneHistoryOneNetwork = (name : List ℕ) (o p a b : Office) (qs ps : List TeamCommand) (rs ss : List Reply) →
     AreInOrder o → AreInOrder p → Run o qs rs a → Run p ps ss b → net_named o name ≡ net_named p name → history name qs rs ≡ history name ps ss → net_named a name ≡ net_named b name

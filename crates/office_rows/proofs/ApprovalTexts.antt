@@ -30,7 +30,7 @@ use Rattle.office_tables.proofs.Changing.{appends, makes, removes}
 use Rattle.office_tables.proofs.Keeping.{plain_in}
 use Rattle.office_tables.proofs.TableIndices.{approval, approval_there, approval_only}
 use Rattle.office_tables.proofs.Selecting.{query}
-use Rattle.office_tables.proofs.Finding.{ascending, Asks, Means, finds}
+use Rattle.office_tables.proofs.Finding.{ascending, IsSelect, Means, finds}
 use Rattle.office_rows.specs.Rows.{approval_row, has_two_texts, is_of_net}
 use Rattle.office_rows.specs.Shown.{approvals_order, approvals_shown}
 use Rattle.office_rows.proofs.Requested.{net_requested, one_test, texts_requested, two_tests}
@@ -110,9 +110,9 @@ approvals_columns = col 1 2 ∷ []
 abbrev approvals_by : List (Term × Key)
 approvals_by = (col 1 2, ascending) ∷ []
 
-approvals_asks : (params : Row) → Asks office_schema approvals_text 11 one_test approvals_columns approvals_by (codes "team" ∷ []) params
+approvals_selects : (params : Row) → IsSelect office_schema approvals_text 11 one_test approvals_columns approvals_by (codes "team" ∷ []) params
 unfolding understood everything office_schema
-approvals_asks params = record { command = refl; listing = refl; plain = (refl, refl) }
+approvals_selects params = record { command = refl; listing = refl; plain = (refl, refl) }
 
 approvals_means : (net : List ℕ) → Means values 11 one_test approvals_columns approvals_by (Text net ∷ []) (is_of_net net) approvals_shown approvals_order
 approvals_means net = record {
@@ -123,7 +123,7 @@ approvals_means net = record {
 
 pub approvals_found : {X : Type 0} (rows_of : X → List Row) (net : List ℕ) (old new : State) (r : Result X Error) → old.now.schema ≡ office_schema
     → IfOk r (λ x. Shown approvals_text (Text net ∷ []) old new (rows_of x)) → IfOk r (λ x. IsSelected (is_of_net net) approvals_shown approvals_order (tables_of old.now.trees).approval (rows_of x))
-approvals_found rows_of net = finds office_schema approvals_text 11 one_test approvals_columns approvals_by _ (Text net ∷ []) (approvals_asks (Text net ∷ [])) values (is_of_net net) approvals_shown approvals_order (approvals_means net) rows_of
+approvals_found rows_of net = finds office_schema approvals_text 11 one_test approvals_columns approvals_by _ (Text net ∷ []) (approvals_selects (Text net ∷ [])) values (is_of_net net) approvals_shown approvals_order (approvals_means net) rows_of
 
 pub approvals_plain : (s : Schema) → s ≡ office_schema → IsPlain (understood s approvals_text)
-approvals_plain = plain_in approvals_text (approvals_asks []).plain
+approvals_plain = plain_in approvals_text (approvals_selects []).plain

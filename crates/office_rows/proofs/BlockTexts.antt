@@ -31,7 +31,7 @@ use Rattle.office_tables.proofs.Changing.{appends, makes, removes}
 use Rattle.office_tables.proofs.Keeping.{plain_in}
 use Rattle.office_tables.proofs.TableIndices.{block, block_there, block_only}
 use Rattle.office_tables.proofs.Selecting.{query}
-use Rattle.office_tables.proofs.Finding.{ascending, Asks, Means, finds}
+use Rattle.office_tables.proofs.Finding.{ascending, IsSelect, Means, finds}
 use Rattle.office_rows.specs.declared.row.BlockRow.{BlockRow}
 use Rattle.office_rows.specs.Rows.{block_row, is_block, is_of_form, is_of_net}
 use Rattle.office_rows.specs.Shown.{blocks_of_form_order, blocks_of_form_shown, blocks_order, blocks_shown}
@@ -92,9 +92,9 @@ blocks_columns = col 1 2 ∷ col 1 3 ∷ col 1 4 ∷ col 1 5 ∷ []
 abbrev blocks_by : List (Term × Key)
 blocks_by = (col 1 2, ascending) ∷ (col 1 3, ascending) ∷ []
 
-blocks_asks : (params : Row) → Asks office_schema blocks_text 6 one_test blocks_columns blocks_by (codes "form" ∷ codes "first" ∷ codes "last" ∷ codes "team" ∷ []) params
+blocks_selects : (params : Row) → IsSelect office_schema blocks_text 6 one_test blocks_columns blocks_by (codes "form" ∷ codes "first" ∷ codes "last" ∷ codes "team" ∷ []) params
 unfolding understood everything office_schema
-blocks_asks params = record { command = refl; listing = refl; plain = (refl, refl) }
+blocks_selects params = record { command = refl; listing = refl; plain = (refl, refl) }
 
 blocks_means : (net : List ℕ) → Means values 6 one_test blocks_columns blocks_by (Text net ∷ []) (is_of_net net) blocks_shown blocks_order
 blocks_means net = record {
@@ -105,10 +105,10 @@ blocks_means net = record {
 
 pub blocks_found : {X : Type 0} (rows_of : X → List Row) (net : List ℕ) (old new : State) (r : Result X Error) → old.now.schema ≡ office_schema
     → IfOk r (λ x. Shown blocks_text (Text net ∷ []) old new (rows_of x)) → IfOk r (λ x. IsSelected (is_of_net net) blocks_shown blocks_order (tables_of old.now.trees).block (rows_of x))
-blocks_found rows_of net = finds office_schema blocks_text 6 one_test blocks_columns blocks_by _ (Text net ∷ []) (blocks_asks (Text net ∷ [])) values (is_of_net net) blocks_shown blocks_order (blocks_means net) rows_of
+blocks_found rows_of net = finds office_schema blocks_text 6 one_test blocks_columns blocks_by _ (Text net ∷ []) (blocks_selects (Text net ∷ [])) values (is_of_net net) blocks_shown blocks_order (blocks_means net) rows_of
 
 pub blocks_plain : (s : Schema) → s ≡ office_schema → IsPlain (understood s blocks_text)
-blocks_plain = plain_in blocks_text (blocks_asks []).plain
+blocks_plain = plain_in blocks_text (blocks_selects []).plain
 
 -- ---- select_blocks_of_form
 
@@ -121,9 +121,9 @@ blocks_of_form_columns = col 1 1 ∷ col 1 3 ∷ col 1 4 ∷ col 1 5 ∷ []
 abbrev blocks_of_form_by : List (Term × Key)
 blocks_of_form_by = (col 1 1, ascending) ∷ (col 1 3, ascending) ∷ []
 
-blocks_of_form_asks : (params : Row) → Asks office_schema blocks_of_form_text 6 form_test blocks_of_form_columns blocks_of_form_by (codes "net" ∷ codes "first" ∷ codes "last" ∷ codes "team" ∷ []) params
+blocks_of_form_selects : (params : Row) → IsSelect office_schema blocks_of_form_text 6 form_test blocks_of_form_columns blocks_of_form_by (codes "net" ∷ codes "first" ∷ codes "last" ∷ codes "team" ∷ []) params
 unfolding understood everything office_schema
-blocks_of_form_asks params = record { command = refl; listing = refl; plain = (refl, refl) }
+blocks_of_form_selects params = record { command = refl; listing = refl; plain = (refl, refl) }
 
 blocks_of_form_means : (form : ℕ) → Means values 6 form_test blocks_of_form_columns blocks_of_form_by (Int (pos form) ∷ []) (is_of_form form) blocks_of_form_shown blocks_of_form_order
 blocks_of_form_means form = record {
@@ -134,7 +134,7 @@ blocks_of_form_means form = record {
 
 pub blocks_of_form_found : {X : Type 0} (rows_of : X → List Row) (form : ℕ) (old new : State) (r : Result X Error) → old.now.schema ≡ office_schema
     → IfOk r (λ x. Shown blocks_of_form_text (Int (pos form) ∷ []) old new (rows_of x)) → IfOk r (λ x. IsSelected (is_of_form form) blocks_of_form_shown blocks_of_form_order (tables_of old.now.trees).block (rows_of x))
-blocks_of_form_found rows_of form = finds office_schema blocks_of_form_text 6 form_test blocks_of_form_columns blocks_of_form_by _ (Int (pos form) ∷ []) (blocks_of_form_asks (Int (pos form) ∷ [])) values (is_of_form form) blocks_of_form_shown blocks_of_form_order (blocks_of_form_means form) rows_of
+blocks_of_form_found rows_of form = finds office_schema blocks_of_form_text 6 form_test blocks_of_form_columns blocks_of_form_by _ (Int (pos form) ∷ []) (blocks_of_form_selects (Int (pos form) ∷ [])) values (is_of_form form) blocks_of_form_shown blocks_of_form_order (blocks_of_form_means form) rows_of
 
 pub blocks_of_form_plain : (s : Schema) → s ≡ office_schema → IsPlain (understood s blocks_of_form_text)
-blocks_of_form_plain = plain_in blocks_of_form_text (blocks_of_form_asks []).plain
+blocks_of_form_plain = plain_in blocks_of_form_text (blocks_of_form_selects []).plain

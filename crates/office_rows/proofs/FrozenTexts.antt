@@ -29,7 +29,7 @@ use Rattle.office_tables.proofs.Columns.{cast_null, cast_number, column_is}
 use Rattle.office_tables.proofs.Changing.{appends, makes}
 use Rattle.office_tables.proofs.Keeping.{plain_in}
 use Rattle.office_tables.proofs.TableIndices.{frozen, frozen_there, frozen_only}
-use Rattle.office_tables.proofs.Finding.{ascending, Asks, Means, finds}
+use Rattle.office_tables.proofs.Finding.{ascending, IsSelect, Means, finds}
 use Rattle.office_rows.specs.declared.row.FrozenRow.{FrozenRow}
 use Rattle.office_rows.specs.Rows.{frozen_row, has_net_and_number, is_of_net}
 use Rattle.office_rows.specs.Shown.{release_numbers_order, release_numbers_shown, release_order, release_shown, releases_order, releases_shown}
@@ -70,9 +70,9 @@ releases_columns = col 1 2 ∷ col 1 3 ∷ []
 abbrev releases_by : List (Term × Key)
 releases_by = (col 1 2, ascending) ∷ []
 
-releases_asks : (params : Row) → Asks office_schema releases_text 13 one_test releases_columns releases_by (codes "number" ∷ codes "body" ∷ []) params
+releases_selects : (params : Row) → IsSelect office_schema releases_text 13 one_test releases_columns releases_by (codes "number" ∷ codes "body" ∷ []) params
 unfolding understood everything office_schema
-releases_asks params = record { command = refl; listing = refl; plain = (refl, refl) }
+releases_selects params = record { command = refl; listing = refl; plain = (refl, refl) }
 
 releases_means : (net : List ℕ) → Means values 13 one_test releases_columns releases_by (Text net ∷ []) (is_of_net net) releases_shown releases_order
 releases_means net = record {
@@ -83,10 +83,10 @@ releases_means net = record {
 
 pub releases_found : {X : Type 0} (rows_of : X → List Row) (net : List ℕ) (old new : State) (r : Result X Error) → old.now.schema ≡ office_schema
     → IfOk r (λ x. Shown releases_text (Text net ∷ []) old new (rows_of x)) → IfOk r (λ x. IsSelected (is_of_net net) releases_shown releases_order (tables_of old.now.trees).frozen (rows_of x))
-releases_found rows_of net = finds office_schema releases_text 13 one_test releases_columns releases_by _ (Text net ∷ []) (releases_asks (Text net ∷ [])) values (is_of_net net) releases_shown releases_order (releases_means net) rows_of
+releases_found rows_of net = finds office_schema releases_text 13 one_test releases_columns releases_by _ (Text net ∷ []) (releases_selects (Text net ∷ [])) values (is_of_net net) releases_shown releases_order (releases_means net) rows_of
 
 pub releases_plain : (s : Schema) → s ≡ office_schema → IsPlain (understood s releases_text)
-releases_plain = plain_in releases_text (releases_asks []).plain
+releases_plain = plain_in releases_text (releases_selects []).plain
 
 -- ---- select_release_numbers
 
@@ -99,9 +99,9 @@ release_numbers_columns = col 1 2 ∷ []
 abbrev release_numbers_by : List (Term × Key)
 release_numbers_by = (col 1 2, ascending) ∷ []
 
-release_numbers_asks : (params : Row) → Asks office_schema release_numbers_text 13 one_test release_numbers_columns release_numbers_by (codes "number" ∷ []) params
+release_numbers_selects : (params : Row) → IsSelect office_schema release_numbers_text 13 one_test release_numbers_columns release_numbers_by (codes "number" ∷ []) params
 unfolding understood everything office_schema
-release_numbers_asks params = record { command = refl; listing = refl; plain = (refl, refl) }
+release_numbers_selects params = record { command = refl; listing = refl; plain = (refl, refl) }
 
 release_numbers_means : (net : List ℕ) → Means values 13 one_test release_numbers_columns release_numbers_by (Text net ∷ []) (is_of_net net) release_numbers_shown release_numbers_order
 release_numbers_means net = record {
@@ -112,10 +112,10 @@ release_numbers_means net = record {
 
 pub release_numbers_found : {X : Type 0} (rows_of : X → List Row) (net : List ℕ) (old new : State) (r : Result X Error) → old.now.schema ≡ office_schema
     → IfOk r (λ x. Shown release_numbers_text (Text net ∷ []) old new (rows_of x)) → IfOk r (λ x. IsSelected (is_of_net net) release_numbers_shown release_numbers_order (tables_of old.now.trees).frozen (rows_of x))
-release_numbers_found rows_of net = finds office_schema release_numbers_text 13 one_test release_numbers_columns release_numbers_by _ (Text net ∷ []) (release_numbers_asks (Text net ∷ [])) values (is_of_net net) release_numbers_shown release_numbers_order (release_numbers_means net) rows_of
+release_numbers_found rows_of net = finds office_schema release_numbers_text 13 one_test release_numbers_columns release_numbers_by _ (Text net ∷ []) (release_numbers_selects (Text net ∷ [])) values (is_of_net net) release_numbers_shown release_numbers_order (release_numbers_means net) rows_of
 
 pub release_numbers_plain : (s : Schema) → s ≡ office_schema → IsPlain (understood s release_numbers_text)
-release_numbers_plain = plain_in release_numbers_text (release_numbers_asks []).plain
+release_numbers_plain = plain_in release_numbers_text (release_numbers_selects []).plain
 
 -- ---- select_release
 
@@ -128,9 +128,9 @@ release_columns = col 1 3 ∷ []
 abbrev release_by : List (Term × Key)
 release_by = (col 1 2, ascending) ∷ []
 
-release_asks : (params : Row) → Asks office_schema release_text 13 two_tests release_columns release_by (codes "body" ∷ []) params
+release_selects : (params : Row) → IsSelect office_schema release_text 13 two_tests release_columns release_by (codes "body" ∷ []) params
 unfolding understood everything office_schema
-release_asks params = record { command = refl; listing = refl; plain = (refl, refl) }
+release_selects params = record { command = refl; listing = refl; plain = (refl, refl) }
 
 release_means : (net : List ℕ) (number : ℕ) → Means values 13 two_tests release_columns release_by (Text net ∷ Int (pos number) ∷ []) (has_net_and_number net number) release_shown release_order
 release_means net number = record {
@@ -141,7 +141,7 @@ release_means net number = record {
 
 pub release_found : {X : Type 0} (rows_of : X → List Row) (net : List ℕ) (number : ℕ) (old new : State) (r : Result X Error) → old.now.schema ≡ office_schema
     → IfOk r (λ x. Shown release_text (Text net ∷ Int (pos number) ∷ []) old new (rows_of x)) → IfOk r (λ x. IsSelected (has_net_and_number net number) release_shown release_order (tables_of old.now.trees).frozen (rows_of x))
-release_found rows_of net number = finds office_schema release_text 13 two_tests release_columns release_by _ (Text net ∷ Int (pos number) ∷ []) (release_asks (Text net ∷ Int (pos number) ∷ [])) values (has_net_and_number net number) release_shown release_order (release_means net number) rows_of
+release_found rows_of net number = finds office_schema release_text 13 two_tests release_columns release_by _ (Text net ∷ Int (pos number) ∷ []) (release_selects (Text net ∷ Int (pos number) ∷ [])) values (has_net_and_number net number) release_shown release_order (release_means net number) rows_of
 
 pub release_plain : (s : Schema) → s ≡ office_schema → IsPlain (understood s release_text)
-release_plain = plain_in release_text (release_asks []).plain
+release_plain = plain_in release_text (release_selects []).plain

@@ -30,7 +30,7 @@ use Rattle.office_tables.proofs.Changing.{appends, makes, removes}
 use Rattle.office_tables.proofs.Keeping.{plain_in}
 use Rattle.office_tables.proofs.TableIndices.{held, held_there, held_only}
 use Rattle.office_tables.proofs.Selecting.{query}
-use Rattle.office_tables.proofs.Finding.{ascending, Asks, Means, finds}
+use Rattle.office_tables.proofs.Finding.{ascending, IsSelect, Means, finds}
 use Rattle.office_rows.specs.Rows.{has_net_and_number, held_row, is_of_net}
 use Rattle.office_rows.specs.Shown.{held_order, held_shown}
 use Rattle.office_rows.proofs.Requested.{net_requested, numbered_requested, one_test, two_tests}
@@ -90,9 +90,9 @@ held_columns = col 1 2 ∷ []
 abbrev held_by : List (Term × Key)
 held_by = (col 1 2, ascending) ∷ []
 
-held_asks : (params : Row) → Asks office_schema held_text 8 one_test held_columns held_by (codes "number" ∷ []) params
+held_selects : (params : Row) → IsSelect office_schema held_text 8 one_test held_columns held_by (codes "number" ∷ []) params
 unfolding understood everything office_schema
-held_asks params = record { command = refl; listing = refl; plain = (refl, refl) }
+held_selects params = record { command = refl; listing = refl; plain = (refl, refl) }
 
 held_means : (net : List ℕ) → Means values 8 one_test held_columns held_by (Text net ∷ []) (is_of_net net) held_shown held_order
 held_means net = record {
@@ -103,7 +103,7 @@ held_means net = record {
 
 pub held_found : {X : Type 0} (rows_of : X → List Row) (net : List ℕ) (old new : State) (r : Result X Error) → old.now.schema ≡ office_schema
     → IfOk r (λ x. Shown held_text (Text net ∷ []) old new (rows_of x)) → IfOk r (λ x. IsSelected (is_of_net net) held_shown held_order (tables_of old.now.trees).held (rows_of x))
-held_found rows_of net = finds office_schema held_text 8 one_test held_columns held_by _ (Text net ∷ []) (held_asks (Text net ∷ [])) values (is_of_net net) held_shown held_order (held_means net) rows_of
+held_found rows_of net = finds office_schema held_text 8 one_test held_columns held_by _ (Text net ∷ []) (held_selects (Text net ∷ [])) values (is_of_net net) held_shown held_order (held_means net) rows_of
 
 pub held_plain : (s : Schema) → s ≡ office_schema → IsPlain (understood s held_text)
-held_plain = plain_in held_text (held_asks []).plain
+held_plain = plain_in held_text (held_selects []).plain

@@ -30,7 +30,7 @@ use Rattle.office_tables.proofs.Changing.{appends, makes, removes}
 use Rattle.office_tables.proofs.Keeping.{plain_in}
 use Rattle.office_tables.proofs.TableIndices.{message, message_there, message_only}
 use Rattle.office_tables.proofs.Selecting.{query}
-use Rattle.office_tables.proofs.Finding.{ascending, Asks, Means, finds}
+use Rattle.office_tables.proofs.Finding.{ascending, IsSelect, Means, finds}
 use Rattle.office_rows.specs.declared.row.MessageRow.{MessageRow}
 use Rattle.office_rows.specs.Rows.{has_net_and_number, is_any, is_of_net, message_row}
 use Rattle.office_rows.specs.Shown.{messages_order, messages_shown}
@@ -116,9 +116,9 @@ messages_columns = col 1 4 ∷ col 1 5 ∷ []
 abbrev messages_by : List (Term × Key)
 messages_by = (col 1 2, ascending) ∷ []
 
-messages_asks : (params : Row) → Asks office_schema messages_text 3 one_test messages_columns messages_by (codes "owner" ∷ codes "body" ∷ []) params
+messages_selects : (params : Row) → IsSelect office_schema messages_text 3 one_test messages_columns messages_by (codes "owner" ∷ codes "body" ∷ []) params
 unfolding understood everything office_schema
-messages_asks params = record { command = refl; listing = refl; plain = (refl, refl) }
+messages_selects params = record { command = refl; listing = refl; plain = (refl, refl) }
 
 messages_means : (net : List ℕ) → Means values 3 one_test messages_columns messages_by (Text net ∷ []) (is_of_net net) messages_shown messages_order
 messages_means net = record {
@@ -129,7 +129,7 @@ messages_means net = record {
 
 pub messages_found : {X : Type 0} (rows_of : X → List Row) (net : List ℕ) (old new : State) (r : Result X Error) → old.now.schema ≡ office_schema
     → IfOk r (λ x. Shown messages_text (Text net ∷ []) old new (rows_of x)) → IfOk r (λ x. IsSelected (is_of_net net) messages_shown messages_order (tables_of old.now.trees).message (rows_of x))
-messages_found rows_of net = finds office_schema messages_text 3 one_test messages_columns messages_by _ (Text net ∷ []) (messages_asks (Text net ∷ [])) values (is_of_net net) messages_shown messages_order (messages_means net) rows_of
+messages_found rows_of net = finds office_schema messages_text 3 one_test messages_columns messages_by _ (Text net ∷ []) (messages_selects (Text net ∷ [])) values (is_of_net net) messages_shown messages_order (messages_means net) rows_of
 
 pub messages_plain : (s : Schema) → s ≡ office_schema → IsPlain (understood s messages_text)
-messages_plain = plain_in messages_text (messages_asks []).plain
+messages_plain = plain_in messages_text (messages_selects []).plain

@@ -30,12 +30,12 @@ use Rattle.office_tables.proofs.Changing.{appends, makes, removes}
 use Rattle.office_tables.proofs.Keeping.{plain_in}
 use Rattle.office_tables.proofs.TableIndices.{msg, msg_there, msg_only}
 use Rattle.office_tables.proofs.Selecting.{query}
-use Rattle.office_tables.proofs.Finding.{ascending, Asks, Means, finds}
+use Rattle.office_tables.proofs.Finding.{ascending, IsSelect, Means, finds}
 use Rattle.office_rows.specs.declared.row.MsgRow.{MsgRow}
 use Rattle.office_rows.specs.Rows.{has_net_and_name, has_net_and_number, has_number_between, has_rowid_above, has_rowid_below, is_of_net, msg_row}
 use Rattle.office_rows.specs.Shown.{msg_numbers_order, msg_numbers_shown, msg_named_order, msgs_order, msg_named_shown, msgs_shown}
 use Rattle.office_rows.proofs.Requested.{above_requested, above_test, below_requested, below_test, named_requested, net_requested, numbered_requested, name_tests, one_test, two_tests, range_requested, range_tests}
-use Rattle.office_tables.proofs.Counting.{AsksCount, AsksFirst, counts, shows_first}
+use Rattle.office_tables.proofs.Counting.{IsCountSelect, IsFirstSelect, counts, shows_first}
 use Rattle.sqlite_sql.specs.Aggregate.{count}
 
 -- ---- insert_msg
@@ -93,9 +93,9 @@ msg_named_columns = col 1 2 ∷ col 1 3 ∷ col 1 4 ∷ col 1 5 ∷ col 1 6 ∷ 
 abbrev msg_named_by : List (Term × Key)
 msg_named_by = (col 1 2, ascending) ∷ []
 
-msg_named_asks : (params : Row) → Asks office_schema msg_named_text 17 name_tests msg_named_columns msg_named_by (codes "number" ∷ codes "name" ∷ codes "owner" ∷ codes "length" ∷ codes "sender" ∷ codes "comment" ∷ []) params
+msg_named_selects : (params : Row) → IsSelect office_schema msg_named_text 17 name_tests msg_named_columns msg_named_by (codes "number" ∷ codes "name" ∷ codes "owner" ∷ codes "length" ∷ codes "sender" ∷ codes "comment" ∷ []) params
 unfolding understood everything office_schema
-msg_named_asks params = record { command = refl; listing = refl; plain = (refl, refl) }
+msg_named_selects params = record { command = refl; listing = refl; plain = (refl, refl) }
 
 msg_named_means : (net : List ℕ) (name : List ℕ) → Means values 17 name_tests msg_named_columns msg_named_by (Text net ∷ Text name ∷ []) (has_net_and_name net name) msg_named_shown msg_named_order
 msg_named_means net name = record {
@@ -106,10 +106,10 @@ msg_named_means net name = record {
 
 pub msg_named_found : {X : Type 0} (rows_of : X → List Row) (net : List ℕ) (name : List ℕ) (old new : State) (r : Result X Error) → old.now.schema ≡ office_schema
     → IfOk r (λ x. Shown msg_named_text (Text net ∷ Text name ∷ []) old new (rows_of x)) → IfOk r (λ x. IsSelected (has_net_and_name net name) msg_named_shown msg_named_order (tables_of old.now.trees).msg (rows_of x))
-msg_named_found rows_of net name = finds office_schema msg_named_text 17 name_tests msg_named_columns msg_named_by _ (Text net ∷ Text name ∷ []) (msg_named_asks (Text net ∷ Text name ∷ [])) values (has_net_and_name net name) msg_named_shown msg_named_order (msg_named_means net name) rows_of
+msg_named_found rows_of net name = finds office_schema msg_named_text 17 name_tests msg_named_columns msg_named_by _ (Text net ∷ Text name ∷ []) (msg_named_selects (Text net ∷ Text name ∷ [])) values (has_net_and_name net name) msg_named_shown msg_named_order (msg_named_means net name) rows_of
 
 pub msg_named_plain : (s : Schema) → s ≡ office_schema → IsPlain (understood s msg_named_text)
-msg_named_plain = plain_in msg_named_text (msg_named_asks []).plain
+msg_named_plain = plain_in msg_named_text (msg_named_selects []).plain
 
 -- ---- select_msgs
 
@@ -122,9 +122,9 @@ msgs_columns = col 1 2 ∷ col 1 3 ∷ col 1 4 ∷ col 1 5 ∷ col 1 6 ∷ col 1
 abbrev msgs_by : List (Term × Key)
 msgs_by = (col 1 2, ascending) ∷ []
 
-msgs_asks : (params : Row) → Asks office_schema msgs_text 17 one_test msgs_columns msgs_by (codes "number" ∷ codes "name" ∷ codes "owner" ∷ codes "length" ∷ codes "sender" ∷ codes "comment" ∷ []) params
+msgs_selects : (params : Row) → IsSelect office_schema msgs_text 17 one_test msgs_columns msgs_by (codes "number" ∷ codes "name" ∷ codes "owner" ∷ codes "length" ∷ codes "sender" ∷ codes "comment" ∷ []) params
 unfolding understood everything office_schema
-msgs_asks params = record { command = refl; listing = refl; plain = (refl, refl) }
+msgs_selects params = record { command = refl; listing = refl; plain = (refl, refl) }
 
 msgs_means : (net : List ℕ) → Means values 17 one_test msgs_columns msgs_by (Text net ∷ []) (is_of_net net) msgs_shown msgs_order
 msgs_means net = record {
@@ -135,67 +135,67 @@ msgs_means net = record {
 
 pub msgs_found : {X : Type 0} (rows_of : X → List Row) (net : List ℕ) (old new : State) (r : Result X Error) → old.now.schema ≡ office_schema
     → IfOk r (λ x. Shown msgs_text (Text net ∷ []) old new (rows_of x)) → IfOk r (λ x. IsSelected (is_of_net net) msgs_shown msgs_order (tables_of old.now.trees).msg (rows_of x))
-msgs_found rows_of net = finds office_schema msgs_text 17 one_test msgs_columns msgs_by _ (Text net ∷ []) (msgs_asks (Text net ∷ [])) values (is_of_net net) msgs_shown msgs_order (msgs_means net) rows_of
+msgs_found rows_of net = finds office_schema msgs_text 17 one_test msgs_columns msgs_by _ (Text net ∷ []) (msgs_selects (Text net ∷ [])) values (is_of_net net) msgs_shown msgs_order (msgs_means net) rows_of
 
 pub msgs_plain : (s : Schema) → s ≡ office_schema → IsPlain (understood s msgs_text)
-msgs_plain = plain_in msgs_text (msgs_asks []).plain
+msgs_plain = plain_in msgs_text (msgs_selects []).plain
 
 -- ---- count_msgs
 
 abbrev pub count_text : List ℕ
 count_text = codes "SELECT count(*) FROM msg WHERE net = ?1"
 
-count_asks : (params : Row) → AsksCount count_text 17 one_test params
+count_selects : (params : Row) → IsCountSelect count_text 17 one_test params
 unfolding understood everything office_schema
-count_asks params = record { command = refl; listing = refl; plain = (refl, refl) }
+count_selects params = record { command = refl; listing = refl; plain = (refl, refl) }
 
 pub counted_msgs : {X : Type 0} (rows_of : X → List Row) (net : List ℕ) (old new : State) (r : Result X Error) → old.now.schema ≡ office_schema
     → IfOk r (λ x. Shown count_text (Text net ∷ []) old new (rows_of x)) → IfOk r (λ x. rows_of x ≡ (count (length (filter (is_of_net net) (tables_of old.now.trees).msg)) ∷ []) ∷ [])
-counted_msgs rows_of net = counts count_text 17 one_test (Text net ∷ []) (count_asks (Text net ∷ [])) (is_of_net net) (net_requested net) rows_of
+counted_msgs rows_of net = counts count_text 17 one_test (Text net ∷ []) (count_selects (Text net ∷ [])) (is_of_net net) (net_requested net) rows_of
 
 pub count_plain : (s : Schema) → s ≡ office_schema → IsPlain (understood s count_text)
-count_plain = plain_in count_text (count_asks []).plain
+count_plain = plain_in count_text (count_selects []).plain
 
 -- ---- select_msg_above, select_msg_below
 
 abbrev pub above_text : List ℕ
 above_text = codes "SELECT number FROM msg WHERE rowid > ?1 LIMIT 1"
 
-above_asks : (params : Row) → AsksFirst above_text 17 above_test (col 1 2 ∷ []) (codes "number" ∷ []) params
+above_selects : (params : Row) → IsFirstSelect above_text 17 above_test (col 1 2 ∷ []) (codes "number" ∷ []) params
 unfolding understood everything office_schema
-above_asks params = record { command = refl; listing = refl; plain = (refl, refl) }
+above_selects params = record { command = refl; listing = refl; plain = (refl, refl) }
 
 pub above_found : {X : Type 0} (rows_of : X → List Row) (number : ℕ) (old new : State) (r : Result X Error) → old.now.schema ≡ office_schema
     → IfOk r (λ x. Shown above_text (Int (pos number) ∷ []) old new (rows_of x)) → IfOk r (λ x. length (rows_of x) ≡ min 1 (length (filter (has_rowid_above number) (old.now.trees 17))))
 above_found rows_of number =
-    shows_first above_text 17 above_test (col 1 2 ∷ []) (codes "number" ∷ []) (Int (pos number) ∷ []) (above_asks (Int (pos number) ∷ [])) (has_rowid_above number) (above_requested number) rows_of
+    shows_first above_text 17 above_test (col 1 2 ∷ []) (codes "number" ∷ []) (Int (pos number) ∷ []) (above_selects (Int (pos number) ∷ [])) (has_rowid_above number) (above_requested number) rows_of
 
 pub above_plain : (s : Schema) → s ≡ office_schema → IsPlain (understood s above_text)
-above_plain = plain_in above_text (above_asks []).plain
+above_plain = plain_in above_text (above_selects []).plain
 
 abbrev pub below_text : List ℕ
 below_text = codes "SELECT number FROM msg WHERE rowid < ?1 LIMIT 1"
 
-below_asks : (params : Row) → AsksFirst below_text 17 below_test (col 1 2 ∷ []) (codes "number" ∷ []) params
+below_selects : (params : Row) → IsFirstSelect below_text 17 below_test (col 1 2 ∷ []) (codes "number" ∷ []) params
 unfolding understood everything office_schema
-below_asks params = record { command = refl; listing = refl; plain = (refl, refl) }
+below_selects params = record { command = refl; listing = refl; plain = (refl, refl) }
 
 pub below_found : {X : Type 0} (rows_of : X → List Row) (number : ℕ) (old new : State) (r : Result X Error) → old.now.schema ≡ office_schema
     → IfOk r (λ x. Shown below_text (Int (pos number) ∷ []) old new (rows_of x)) → IfOk r (λ x. length (rows_of x) ≡ min 1 (length (filter (has_rowid_below number) (old.now.trees 17))))
 below_found rows_of number =
-    shows_first below_text 17 below_test (col 1 2 ∷ []) (codes "number" ∷ []) (Int (pos number) ∷ []) (below_asks (Int (pos number) ∷ [])) (has_rowid_below number) (below_requested number) rows_of
+    shows_first below_text 17 below_test (col 1 2 ∷ []) (codes "number" ∷ []) (Int (pos number) ∷ []) (below_selects (Int (pos number) ∷ [])) (has_rowid_below number) (below_requested number) rows_of
 
 pub below_plain : (s : Schema) → s ≡ office_schema → IsPlain (understood s below_text)
-below_plain = plain_in below_text (below_asks []).plain
+below_plain = plain_in below_text (below_selects []).plain
 
 -- ---- select_msg_numbers
 
 abbrev pub msg_numbers_text : List ℕ
 msg_numbers_text = codes "SELECT number FROM msg WHERE net = ?1 AND number >= ?2 AND number <= ?3 ORDER BY number"
 
-msg_numbers_asks : (params : Row) → Asks office_schema msg_numbers_text 17 range_tests (col 1 2 ∷ []) ((col 1 2, ascending) ∷ []) (codes "number" ∷ []) params
+msg_numbers_selects : (params : Row) → IsSelect office_schema msg_numbers_text 17 range_tests (col 1 2 ∷ []) ((col 1 2, ascending) ∷ []) (codes "number" ∷ []) params
 unfolding understood everything office_schema
-msg_numbers_asks params = record { command = refl; listing = refl; plain = (refl, refl) }
+msg_numbers_selects params = record { command = refl; listing = refl; plain = (refl, refl) }
 
 msg_numbers_means : (net : List ℕ) (first last : ℕ) → Means values 17 range_tests (col 1 2 ∷ []) ((col 1 2, ascending) ∷ []) (Text net ∷ Int (pos first) ∷ Int (pos last) ∷ []) (has_number_between net first last) msg_numbers_shown msg_numbers_order
 msg_numbers_means net first last = record {
@@ -208,7 +208,7 @@ pub msg_numbers_found : {X : Type 0} (rows_of : X → List Row) (net : List ℕ)
     → IfOk r (λ x. Shown msg_numbers_text (Text net ∷ Int (pos first) ∷ Int (pos last) ∷ []) old new (rows_of x))
     → IfOk r (λ x. IsSelected (has_number_between net first last) msg_numbers_shown msg_numbers_order (tables_of old.now.trees).msg (rows_of x))
 msg_numbers_found rows_of net first last = finds office_schema msg_numbers_text 17 range_tests (col 1 2 ∷ []) ((col 1 2, ascending) ∷ []) _ (Text net ∷ Int (pos first) ∷ Int (pos last) ∷ [])
-    (msg_numbers_asks (Text net ∷ Int (pos first) ∷ Int (pos last) ∷ [])) values (has_number_between net first last) msg_numbers_shown msg_numbers_order (msg_numbers_means net first last) rows_of
+    (msg_numbers_selects (Text net ∷ Int (pos first) ∷ Int (pos last) ∷ [])) values (has_number_between net first last) msg_numbers_shown msg_numbers_order (msg_numbers_means net first last) rows_of
 
 pub msg_numbers_plain : (s : Schema) → s ≡ office_schema → IsPlain (understood s msg_numbers_text)
-msg_numbers_plain = plain_in msg_numbers_text (msg_numbers_asks []).plain
+msg_numbers_plain = plain_in msg_numbers_text (msg_numbers_selects []).plain

@@ -30,7 +30,7 @@ use Rattle.office_tables.proofs.Changing.{appends, makes, removes}
 use Rattle.office_tables.proofs.Keeping.{plain_in}
 use Rattle.office_tables.proofs.TableIndices.{net, net_there, net_only}
 use Rattle.office_tables.proofs.Selecting.{query}
-use Rattle.office_tables.proofs.Finding.{ascending, Asks, Means, finds}
+use Rattle.office_tables.proofs.Finding.{ascending, IsSelect, Means, finds}
 use Rattle.office_rows.specs.declared.row.NetRow.{NetRow}
 use Rattle.office_rows.specs.Rows.{is_any, is_of_net, net_row}
 use Rattle.office_rows.specs.Shown.{net_names_order, net_names_shown, net_order, net_shown}
@@ -91,9 +91,9 @@ net_names_columns = col 1 1 ∷ []
 abbrev net_names_by : List (Term × Key)
 net_names_by = (col 1 1, ascending) ∷ []
 
-net_names_asks : (params : Row) → Asks office_schema net_names_text 1 [] net_names_columns net_names_by (codes "name" ∷ []) params
+net_names_selects : (params : Row) → IsSelect office_schema net_names_text 1 [] net_names_columns net_names_by (codes "name" ∷ []) params
 unfolding understood everything office_schema
-net_names_asks params = record { command = refl; listing = refl; plain = (refl, refl) }
+net_names_selects params = record { command = refl; listing = refl; plain = (refl, refl) }
 
 net_names_means : Means values 1 [] net_names_columns net_names_by [] is_any net_names_shown net_names_order
 net_names_means = record {
@@ -104,10 +104,10 @@ net_names_means = record {
 
 pub net_names_found : {X : Type 0} (rows_of : X → List Row) (old new : State) (r : Result X Error) → old.now.schema ≡ office_schema
     → IfOk r (λ x. Shown net_names_text [] old new (rows_of x)) → IfOk r (λ x. IsSelected is_any net_names_shown net_names_order (tables_of old.now.trees).net (rows_of x))
-net_names_found rows_of = finds office_schema net_names_text 1 [] net_names_columns net_names_by _ [] (net_names_asks []) values is_any net_names_shown net_names_order net_names_means rows_of
+net_names_found rows_of = finds office_schema net_names_text 1 [] net_names_columns net_names_by _ [] (net_names_selects []) values is_any net_names_shown net_names_order net_names_means rows_of
 
 pub net_names_plain : (s : Schema) → s ≡ office_schema → IsPlain (understood s net_names_text)
-net_names_plain = plain_in net_names_text (net_names_asks []).plain
+net_names_plain = plain_in net_names_text (net_names_selects []).plain
 
 -- ---- select_net
 
@@ -120,9 +120,9 @@ net_columns = col 1 2 ∷ col 1 3 ∷ col 1 4 ∷ col 1 5 ∷ col 1 6 ∷ []
 abbrev net_by : List (Term × Key)
 net_by = (col 1 1, ascending) ∷ []
 
-net_asks : (params : Row) → Asks office_schema net_text 1 one_test net_columns net_by (codes "kind" ∷ codes "reviews" ∷ codes "phase" ∷ codes "submitter" ∷ codes "frame" ∷ []) params
+net_selects : (params : Row) → IsSelect office_schema net_text 1 one_test net_columns net_by (codes "kind" ∷ codes "reviews" ∷ codes "phase" ∷ codes "submitter" ∷ codes "frame" ∷ []) params
 unfolding understood everything office_schema
-net_asks params = record { command = refl; listing = refl; plain = (refl, refl) }
+net_selects params = record { command = refl; listing = refl; plain = (refl, refl) }
 
 net_means : (name : List ℕ) → Means values 1 one_test net_columns net_by (Text name ∷ []) (is_of_net name) net_shown net_order
 net_means name = record {
@@ -133,7 +133,7 @@ net_means name = record {
 
 pub net_found : {X : Type 0} (rows_of : X → List Row) (name : List ℕ) (old new : State) (r : Result X Error) → old.now.schema ≡ office_schema
     → IfOk r (λ x. Shown net_text (Text name ∷ []) old new (rows_of x)) → IfOk r (λ x. IsSelected (is_of_net name) net_shown net_order (tables_of old.now.trees).net (rows_of x))
-net_found rows_of name = finds office_schema net_text 1 one_test net_columns net_by _ (Text name ∷ []) (net_asks (Text name ∷ [])) values (is_of_net name) net_shown net_order (net_means name) rows_of
+net_found rows_of name = finds office_schema net_text 1 one_test net_columns net_by _ (Text name ∷ []) (net_selects (Text name ∷ [])) values (is_of_net name) net_shown net_order (net_means name) rows_of
 
 pub net_plain : (s : Schema) → s ≡ office_schema → IsPlain (understood s net_text)
-net_plain = plain_in net_text (net_asks []).plain
+net_plain = plain_in net_text (net_selects []).plain

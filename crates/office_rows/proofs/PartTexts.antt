@@ -29,7 +29,7 @@ use Rattle.office_tables.proofs.Columns.{cast_null, cast_number, column_is}
 use Rattle.office_tables.proofs.Changing.{appends, makes}
 use Rattle.office_tables.proofs.Keeping.{plain_in}
 use Rattle.office_tables.proofs.TableIndices.{part, part_there, part_only}
-use Rattle.office_tables.proofs.Finding.{ascending, Asks, Means, finds}
+use Rattle.office_tables.proofs.Finding.{ascending, IsSelect, Means, finds}
 use Rattle.office_rows.specs.declared.row.PartRow.{PartRow}
 use Rattle.office_rows.specs.Rows.{has_two_texts, part_row}
 use Rattle.office_rows.specs.Shown.{parts_order, parts_shown}
@@ -70,9 +70,9 @@ parts_columns = col 1 4 ∷ col 1 5 ∷ []
 abbrev parts_by : List (Term × Key)
 parts_by = (col 1 3, ascending) ∷ []
 
-parts_asks : (params : Row) → Asks office_schema parts_text 27 two_tests parts_columns parts_by (codes "kind" ∷ codes "a" ∷ []) params
+parts_selects : (params : Row) → IsSelect office_schema parts_text 27 two_tests parts_columns parts_by (codes "kind" ∷ codes "a" ∷ []) params
 unfolding understood everything office_schema
-parts_asks params = record { command = refl; listing = refl; plain = (refl, refl) }
+parts_selects params = record { command = refl; listing = refl; plain = (refl, refl) }
 
 parts_means : (team : List ℕ) (key : List ℕ) → Means values 27 two_tests parts_columns parts_by (Text team ∷ Text key ∷ []) (has_two_texts team key) parts_shown parts_order
 parts_means team key = record {
@@ -83,7 +83,7 @@ parts_means team key = record {
 
 pub parts_found : {X : Type 0} (rows_of : X → List Row) (team : List ℕ) (key : List ℕ) (old new : State) (r : Result X Error) → old.now.schema ≡ office_schema
     → IfOk r (λ x. Shown parts_text (Text team ∷ Text key ∷ []) old new (rows_of x)) → IfOk r (λ x. IsSelected (has_two_texts team key) parts_shown parts_order (tables_of old.now.trees).part (rows_of x))
-parts_found rows_of team key = finds office_schema parts_text 27 two_tests parts_columns parts_by _ (Text team ∷ Text key ∷ []) (parts_asks (Text team ∷ Text key ∷ [])) values (has_two_texts team key) parts_shown parts_order (parts_means team key) rows_of
+parts_found rows_of team key = finds office_schema parts_text 27 two_tests parts_columns parts_by _ (Text team ∷ Text key ∷ []) (parts_selects (Text team ∷ Text key ∷ [])) values (has_two_texts team key) parts_shown parts_order (parts_means team key) rows_of
 
 pub parts_plain : (s : Schema) → s ≡ office_schema → IsPlain (understood s parts_text)
-parts_plain = plain_in parts_text (parts_asks []).plain
+parts_plain = plain_in parts_text (parts_selects []).plain

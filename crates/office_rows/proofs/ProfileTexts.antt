@@ -29,7 +29,7 @@ use Rattle.office_tables.proofs.Columns.{cast_null, cast_number, keyed_column_is
 use Rattle.office_tables.proofs.Changing.{makes, puts, removes}
 use Rattle.office_tables.proofs.TableIndices.{profile, profile_there, profile_only}
 use Rattle.office_tables.proofs.Selecting.{query}
-use Rattle.office_tables.proofs.Finding.{ascending, Asks, Means, finds}
+use Rattle.office_tables.proofs.Finding.{ascending, IsSelect, Means, finds}
 use Rattle.office_rows.specs.Rows.{is_any, mark_row}
 use Rattle.office_rows.specs.Shown.{profile_order, profile_shown}
 use Rattle.office_rows.proofs.Requested.{all_wanted, none_left}
@@ -96,26 +96,26 @@ profile_columns = col 1 0 ∷ col 1 2 ∷ []
 abbrev profile_by : List (Term × Key)
 profile_by = (col 1 0, ascending) ∷ []
 
-abbrev AsksIn : Schema → Type 0
-AsksIn schema = Asks schema profile_text 0 [] profile_columns profile_by (codes "one" ∷ codes "number" ∷ []) []
+abbrev IsSelectIn : Schema → Type 0
+IsSelectIn schema = IsSelect schema profile_text 0 [] profile_columns profile_by (codes "one" ∷ codes "number" ∷ []) []
 
-asks_9 : AsksIn schema_9
+selects_9 : IsSelectIn schema_9
 unfolding understood everything schema_9
-asks_9 = record { command = refl; listing = refl; plain = (refl, refl) }
+selects_9 = record { command = refl; listing = refl; plain = (refl, refl) }
 
-asks_13 : AsksIn schema_13
+selects_13 : IsSelectIn schema_13
 unfolding understood everything schema_13
-asks_13 = record { command = refl; listing = refl; plain = (refl, refl) }
+selects_13 = record { command = refl; listing = refl; plain = (refl, refl) }
 
-asks_all : AsksIn office_schema
+selects_all : IsSelectIn office_schema
 unfolding understood everything office_schema
-asks_all = record { command = refl; listing = refl; plain = (refl, refl) }
+selects_all = record { command = refl; listing = refl; plain = (refl, refl) }
 
 -- the profile is the first table of an office of any time
-profile_asks : (schema : Schema) → IsOfficeSchema schema → AsksIn schema
-profile_asks schema (inl is) = subst AsksIn (sym is) asks_9
-profile_asks schema (inr (inl is)) = subst AsksIn (sym is) asks_13
-profile_asks schema (inr (inr is)) = subst AsksIn (sym is) asks_all
+profile_selects : (schema : Schema) → IsOfficeSchema schema → IsSelectIn schema
+profile_selects schema (inl is) = subst IsSelectIn (sym is) selects_9
+profile_selects schema (inr (inl is)) = subst IsSelectIn (sym is) selects_13
+profile_selects schema (inr (inr is)) = subst IsSelectIn (sym is) selects_all
 
 profile_means : Means keyed_values 0 [] profile_columns profile_by [] is_any profile_shown profile_order
 profile_means = record {
@@ -127,7 +127,7 @@ profile_means = record {
 pub profile_found : {X : Type 0} (rows_of : X → List Row) (old new : State) (r : Result X Error) → IsOfficeSchema old.now.schema
     → IfOk r (λ x. Shown profile_text [] old new (rows_of x)) → IfOk r (λ x. IsSelected is_any profile_shown profile_order (tables_of old.now.trees).profile (rows_of x))
 profile_found rows_of old new r known =
-    finds old.now.schema profile_text 0 [] profile_columns profile_by _ [] (profile_asks old.now.schema known) keyed_values is_any profile_shown profile_order profile_means rows_of old new r refl
+    finds old.now.schema profile_text 0 [] profile_columns profile_by _ [] (profile_selects old.now.schema known) keyed_values is_any profile_shown profile_order profile_means rows_of old new r refl
 
 pub profile_plain : (s : Schema) → IsOfficeSchema s → IsPlain (understood s profile_text)
-profile_plain s known = (profile_asks s known).plain
+profile_plain s known = (profile_selects s known).plain

@@ -31,12 +31,12 @@ use Rattle.office_tables.proofs.Changing.{appends, makes, removes}
 use Rattle.office_tables.proofs.Keeping.{plain_in}
 use Rattle.office_tables.proofs.TableIndices.{receiver, receiver_there, receiver_only}
 use Rattle.office_tables.proofs.Selecting.{query}
-use Rattle.office_tables.proofs.Finding.{ascending, Asks, Means, finds}
+use Rattle.office_tables.proofs.Finding.{ascending, IsSelect, Means, finds}
 use Rattle.office_rows.specs.declared.row.ReceiverRow.{ReceiverRow}
 use Rattle.office_rows.specs.Rows.{has_net_and_number, has_place_of, is_of_net, receiver_row}
 use Rattle.office_rows.specs.Shown.{receivers_order, receivers_shown}
 use Rattle.office_rows.proofs.Requested.{net_requested, numbered_requested, one_test, place_requested, three_tests, two_tests}
-use Rattle.office_tables.proofs.Counting.{AsksCount, counts}
+use Rattle.office_tables.proofs.Counting.{IsCountSelect, counts}
 use Rattle.sqlite_sql.specs.Aggregate.{count}
 
 -- ---- insert_receiver
@@ -114,9 +114,9 @@ receivers_columns = col 1 3 ∷ col 1 5 ∷ []
 abbrev receivers_by : List (Term × Key)
 receivers_by = (col 1 3, ascending) ∷ (col 1 4, ascending) ∷ []
 
-receivers_asks : (params : Row) → Asks office_schema receivers_text 23 two_tests receivers_columns receivers_by (codes "place" ∷ codes "name" ∷ []) params
+receivers_selects : (params : Row) → IsSelect office_schema receivers_text 23 two_tests receivers_columns receivers_by (codes "place" ∷ codes "name" ∷ []) params
 unfolding understood everything office_schema
-receivers_asks params = record { command = refl; listing = refl; plain = (refl, refl) }
+receivers_selects params = record { command = refl; listing = refl; plain = (refl, refl) }
 
 receivers_means : (net : List ℕ) (number : ℕ) → Means values 23 two_tests receivers_columns receivers_by (Text net ∷ Int (pos number) ∷ []) (has_net_and_number net number) receivers_shown receivers_order
 receivers_means net number = record {
@@ -127,23 +127,23 @@ receivers_means net number = record {
 
 pub receivers_found : {X : Type 0} (rows_of : X → List Row) (net : List ℕ) (number : ℕ) (old new : State) (r : Result X Error) → old.now.schema ≡ office_schema
     → IfOk r (λ x. Shown receivers_text (Text net ∷ Int (pos number) ∷ []) old new (rows_of x)) → IfOk r (λ x. IsSelected (has_net_and_number net number) receivers_shown receivers_order (tables_of old.now.trees).receiver (rows_of x))
-receivers_found rows_of net number = finds office_schema receivers_text 23 two_tests receivers_columns receivers_by _ (Text net ∷ Int (pos number) ∷ []) (receivers_asks (Text net ∷ Int (pos number) ∷ [])) values (has_net_and_number net number) receivers_shown receivers_order (receivers_means net number) rows_of
+receivers_found rows_of net number = finds office_schema receivers_text 23 two_tests receivers_columns receivers_by _ (Text net ∷ Int (pos number) ∷ []) (receivers_selects (Text net ∷ Int (pos number) ∷ [])) values (has_net_and_number net number) receivers_shown receivers_order (receivers_means net number) rows_of
 
 pub receivers_plain : (s : Schema) → s ≡ office_schema → IsPlain (understood s receivers_text)
-receivers_plain = plain_in receivers_text (receivers_asks []).plain
+receivers_plain = plain_in receivers_text (receivers_selects []).plain
 
 -- ---- count_receivers
 
 abbrev pub count_text : List ℕ
 count_text = codes "SELECT count(*) FROM receiver WHERE net = ?1"
 
-count_asks : (params : Row) → AsksCount count_text 23 one_test params
+count_selects : (params : Row) → IsCountSelect count_text 23 one_test params
 unfolding understood everything office_schema
-count_asks params = record { command = refl; listing = refl; plain = (refl, refl) }
+count_selects params = record { command = refl; listing = refl; plain = (refl, refl) }
 
 pub counted_receivers : {X : Type 0} (rows_of : X → List Row) (net : List ℕ) (old new : State) (r : Result X Error) → old.now.schema ≡ office_schema
     → IfOk r (λ x. Shown count_text (Text net ∷ []) old new (rows_of x)) → IfOk r (λ x. rows_of x ≡ (count (length (filter (is_of_net net) (tables_of old.now.trees).receiver)) ∷ []) ∷ [])
-counted_receivers rows_of net = counts count_text 23 one_test (Text net ∷ []) (count_asks (Text net ∷ [])) (is_of_net net) (net_requested net) rows_of
+counted_receivers rows_of net = counts count_text 23 one_test (Text net ∷ []) (count_selects (Text net ∷ [])) (is_of_net net) (net_requested net) rows_of
 
 pub count_plain : (s : Schema) → s ≡ office_schema → IsPlain (understood s count_text)
-count_plain = plain_in count_text (count_asks []).plain
+count_plain = plain_in count_text (count_selects []).plain

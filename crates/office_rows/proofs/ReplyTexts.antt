@@ -29,7 +29,7 @@ use Rattle.office_tables.proofs.Columns.{cast_null, cast_number, column_is}
 use Rattle.office_tables.proofs.Changing.{appends, makes}
 use Rattle.office_tables.proofs.Keeping.{plain_in}
 use Rattle.office_tables.proofs.TableIndices.{reply, reply_there, reply_only}
-use Rattle.office_tables.proofs.Finding.{ascending, Asks, Means, finds}
+use Rattle.office_tables.proofs.Finding.{ascending, IsSelect, Means, finds}
 use Rattle.office_rows.specs.declared.row.ReplyRow.{ReplyRow}
 use Rattle.office_rows.specs.Rows.{has_two_texts, reply_row}
 use Rattle.office_rows.specs.Shown.{reply_order, reply_shown}
@@ -70,9 +70,9 @@ reply_columns = col 1 3 ∷ col 1 4 ∷ col 1 5 ∷ col 1 6 ∷ col 1 7 ∷ []
 abbrev reply_by : List (Term × Key)
 reply_by = (col 1 2, ascending) ∷ []
 
-reply_asks : (params : Row) → Asks office_schema reply_text 15 two_tests reply_columns reply_by (codes "content" ∷ codes "kind" ∷ codes "a" ∷ codes "b" ∷ codes "c" ∷ []) params
+reply_selects : (params : Row) → IsSelect office_schema reply_text 15 two_tests reply_columns reply_by (codes "content" ∷ codes "kind" ∷ codes "a" ∷ codes "b" ∷ codes "c" ∷ []) params
 unfolding understood everything office_schema
-reply_asks params = record { command = refl; listing = refl; plain = (refl, refl) }
+reply_selects params = record { command = refl; listing = refl; plain = (refl, refl) }
 
 reply_means : (team : List ℕ) (key : List ℕ) → Means values 15 two_tests reply_columns reply_by (Text team ∷ Text key ∷ []) (has_two_texts team key) reply_shown reply_order
 reply_means team key = record {
@@ -83,7 +83,7 @@ reply_means team key = record {
 
 pub reply_found : {X : Type 0} (rows_of : X → List Row) (team : List ℕ) (key : List ℕ) (old new : State) (r : Result X Error) → old.now.schema ≡ office_schema
     → IfOk r (λ x. Shown reply_text (Text team ∷ Text key ∷ []) old new (rows_of x)) → IfOk r (λ x. IsSelected (has_two_texts team key) reply_shown reply_order (tables_of old.now.trees).reply (rows_of x))
-reply_found rows_of team key = finds office_schema reply_text 15 two_tests reply_columns reply_by _ (Text team ∷ Text key ∷ []) (reply_asks (Text team ∷ Text key ∷ [])) values (has_two_texts team key) reply_shown reply_order (reply_means team key) rows_of
+reply_found rows_of team key = finds office_schema reply_text 15 two_tests reply_columns reply_by _ (Text team ∷ Text key ∷ []) (reply_selects (Text team ∷ Text key ∷ [])) values (has_two_texts team key) reply_shown reply_order (reply_means team key) rows_of
 
 pub reply_plain : (s : Schema) → s ≡ office_schema → IsPlain (understood s reply_text)
-reply_plain = plain_in reply_text (reply_asks []).plain
+reply_plain = plain_in reply_text (reply_selects []).plain

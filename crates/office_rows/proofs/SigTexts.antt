@@ -30,13 +30,13 @@ use Rattle.office_tables.proofs.Changing.{appends, makes, removes}
 use Rattle.office_tables.proofs.Keeping.{plain_in}
 use Rattle.office_tables.proofs.TableIndices.{sig, sig_there, sig_only}
 use Rattle.office_tables.proofs.Selecting.{query}
-use Rattle.office_tables.proofs.Finding.{ascending, Asks, Means, finds}
+use Rattle.office_tables.proofs.Finding.{ascending, IsSelect, Means, finds}
 use Rattle.office_rows.specs.declared.row.SigRow.{SigRow}
 use Rattle.office_rows.specs.Mux.{mux_number}
 use Rattle.office_rows.specs.Rows.{has_net_and_number, has_place_of, is_of_net, sig_row}
 use Rattle.office_rows.specs.Shown.{sigs_order, sigs_shown}
 use Rattle.office_rows.proofs.Requested.{net_requested, numbered_requested, one_test, place_requested, three_tests, two_tests}
-use Rattle.office_tables.proofs.Counting.{AsksCount, counts}
+use Rattle.office_tables.proofs.Counting.{IsCountSelect, counts}
 use Rattle.sqlite_sql.specs.Aggregate.{count}
 
 -- ---- insert_sig
@@ -114,9 +114,9 @@ sigs_columns = col 1 3 ∷ col 1 4 ∷ col 1 5 ∷ col 1 6 ∷ col 1 7 ∷ col 1
 abbrev sigs_by : List (Term × Key)
 sigs_by = (col 1 3, ascending) ∷ []
 
-sigs_asks : (params : Row) → Asks office_schema sigs_text 20 two_tests sigs_columns sigs_by (codes "place" ∷ codes "name" ∷ codes "start" ∷ codes "size" ∷ codes "motorola" ∷ codes "signed" ∷ codes "mux" ∷ codes "factor" ∷ codes "shift" ∷ codes "least" ∷ codes "most" ∷ codes "unit" ∷ codes "comment" ∷ codes "spn" ∷ codes "label" ∷ []) params
+sigs_selects : (params : Row) → IsSelect office_schema sigs_text 20 two_tests sigs_columns sigs_by (codes "place" ∷ codes "name" ∷ codes "start" ∷ codes "size" ∷ codes "motorola" ∷ codes "signed" ∷ codes "mux" ∷ codes "factor" ∷ codes "shift" ∷ codes "least" ∷ codes "most" ∷ codes "unit" ∷ codes "comment" ∷ codes "spn" ∷ codes "label" ∷ []) params
 unfolding understood everything office_schema
-sigs_asks params = record { command = refl; listing = refl; plain = (refl, refl) }
+sigs_selects params = record { command = refl; listing = refl; plain = (refl, refl) }
 
 sigs_means : (net : List ℕ) (number : ℕ) → Means values 20 two_tests sigs_columns sigs_by (Text net ∷ Int (pos number) ∷ []) (has_net_and_number net number) sigs_shown sigs_order
 sigs_means net number = record {
@@ -127,23 +127,23 @@ sigs_means net number = record {
 
 pub sigs_found : {X : Type 0} (rows_of : X → List Row) (net : List ℕ) (number : ℕ) (old new : State) (r : Result X Error) → old.now.schema ≡ office_schema
     → IfOk r (λ x. Shown sigs_text (Text net ∷ Int (pos number) ∷ []) old new (rows_of x)) → IfOk r (λ x. IsSelected (has_net_and_number net number) sigs_shown sigs_order (tables_of old.now.trees).sig (rows_of x))
-sigs_found rows_of net number = finds office_schema sigs_text 20 two_tests sigs_columns sigs_by _ (Text net ∷ Int (pos number) ∷ []) (sigs_asks (Text net ∷ Int (pos number) ∷ [])) values (has_net_and_number net number) sigs_shown sigs_order (sigs_means net number) rows_of
+sigs_found rows_of net number = finds office_schema sigs_text 20 two_tests sigs_columns sigs_by _ (Text net ∷ Int (pos number) ∷ []) (sigs_selects (Text net ∷ Int (pos number) ∷ [])) values (has_net_and_number net number) sigs_shown sigs_order (sigs_means net number) rows_of
 
 pub sigs_plain : (s : Schema) → s ≡ office_schema → IsPlain (understood s sigs_text)
-sigs_plain = plain_in sigs_text (sigs_asks []).plain
+sigs_plain = plain_in sigs_text (sigs_selects []).plain
 
 -- ---- count_sigs
 
 abbrev pub count_text : List ℕ
 count_text = codes "SELECT count(*) FROM sig WHERE net = ?1"
 
-count_asks : (params : Row) → AsksCount count_text 20 one_test params
+count_selects : (params : Row) → IsCountSelect count_text 20 one_test params
 unfolding understood everything office_schema
-count_asks params = record { command = refl; listing = refl; plain = (refl, refl) }
+count_selects params = record { command = refl; listing = refl; plain = (refl, refl) }
 
 pub counted_sigs : {X : Type 0} (rows_of : X → List Row) (net : List ℕ) (old new : State) (r : Result X Error) → old.now.schema ≡ office_schema
     → IfOk r (λ x. Shown count_text (Text net ∷ []) old new (rows_of x)) → IfOk r (λ x. rows_of x ≡ (count (length (filter (is_of_net net) (tables_of old.now.trees).sig)) ∷ []) ∷ [])
-counted_sigs rows_of net = counts count_text 20 one_test (Text net ∷ []) (count_asks (Text net ∷ [])) (is_of_net net) (net_requested net) rows_of
+counted_sigs rows_of net = counts count_text 20 one_test (Text net ∷ []) (count_selects (Text net ∷ [])) (is_of_net net) (net_requested net) rows_of
 
 pub count_plain : (s : Schema) → s ≡ office_schema → IsPlain (understood s count_text)
-count_plain = plain_in count_text (count_asks []).plain
+count_plain = plain_in count_text (count_selects []).plain

@@ -31,12 +31,12 @@ use Rattle.office_tables.proofs.Changing.{appends, makes, removes}
 use Rattle.office_tables.proofs.Keeping.{plain_in}
 use Rattle.office_tables.proofs.TableIndices.{sigvalue, sigvalue_there, sigvalue_only}
 use Rattle.office_tables.proofs.Selecting.{query}
-use Rattle.office_tables.proofs.Finding.{ascending, Asks, Means, finds}
+use Rattle.office_tables.proofs.Finding.{ascending, IsSelect, Means, finds}
 use Rattle.office_rows.specs.declared.row.SigValueRow.{SigValueRow}
 use Rattle.office_rows.specs.Rows.{has_net_and_number, has_place_of, is_of_net, sigvalue_row}
 use Rattle.office_rows.specs.Shown.{sigvalues_order, sigvalues_shown}
 use Rattle.office_rows.proofs.Requested.{net_requested, numbered_requested, one_test, place_requested, three_tests, two_tests}
-use Rattle.office_tables.proofs.Counting.{AsksCount, counts}
+use Rattle.office_tables.proofs.Counting.{IsCountSelect, counts}
 use Rattle.sqlite_sql.specs.Aggregate.{count}
 
 -- ---- insert_sigvalue
@@ -114,9 +114,9 @@ sigvalues_columns = col 1 3 ∷ col 1 5 ∷ col 1 6 ∷ []
 abbrev sigvalues_by : List (Term × Key)
 sigvalues_by = (col 1 3, ascending) ∷ (col 1 4, ascending) ∷ []
 
-sigvalues_asks : (params : Row) → Asks office_schema sigvalues_text 25 two_tests sigvalues_columns sigvalues_by (codes "place" ∷ codes "value" ∷ codes "words" ∷ []) params
+sigvalues_selects : (params : Row) → IsSelect office_schema sigvalues_text 25 two_tests sigvalues_columns sigvalues_by (codes "place" ∷ codes "value" ∷ codes "words" ∷ []) params
 unfolding understood everything office_schema
-sigvalues_asks params = record { command = refl; listing = refl; plain = (refl, refl) }
+sigvalues_selects params = record { command = refl; listing = refl; plain = (refl, refl) }
 
 sigvalues_means : (net : List ℕ) (number : ℕ) → Means values 25 two_tests sigvalues_columns sigvalues_by (Text net ∷ Int (pos number) ∷ []) (has_net_and_number net number) sigvalues_shown sigvalues_order
 sigvalues_means net number = record {
@@ -127,23 +127,23 @@ sigvalues_means net number = record {
 
 pub sigvalues_found : {X : Type 0} (rows_of : X → List Row) (net : List ℕ) (number : ℕ) (old new : State) (r : Result X Error) → old.now.schema ≡ office_schema
     → IfOk r (λ x. Shown sigvalues_text (Text net ∷ Int (pos number) ∷ []) old new (rows_of x)) → IfOk r (λ x. IsSelected (has_net_and_number net number) sigvalues_shown sigvalues_order (tables_of old.now.trees).sigvalue (rows_of x))
-sigvalues_found rows_of net number = finds office_schema sigvalues_text 25 two_tests sigvalues_columns sigvalues_by _ (Text net ∷ Int (pos number) ∷ []) (sigvalues_asks (Text net ∷ Int (pos number) ∷ [])) values (has_net_and_number net number) sigvalues_shown sigvalues_order (sigvalues_means net number) rows_of
+sigvalues_found rows_of net number = finds office_schema sigvalues_text 25 two_tests sigvalues_columns sigvalues_by _ (Text net ∷ Int (pos number) ∷ []) (sigvalues_selects (Text net ∷ Int (pos number) ∷ [])) values (has_net_and_number net number) sigvalues_shown sigvalues_order (sigvalues_means net number) rows_of
 
 pub sigvalues_plain : (s : Schema) → s ≡ office_schema → IsPlain (understood s sigvalues_text)
-sigvalues_plain = plain_in sigvalues_text (sigvalues_asks []).plain
+sigvalues_plain = plain_in sigvalues_text (sigvalues_selects []).plain
 
 -- ---- count_sigvalues
 
 abbrev pub count_text : List ℕ
 count_text = codes "SELECT count(*) FROM sigvalue WHERE net = ?1"
 
-count_asks : (params : Row) → AsksCount count_text 25 one_test params
+count_selects : (params : Row) → IsCountSelect count_text 25 one_test params
 unfolding understood everything office_schema
-count_asks params = record { command = refl; listing = refl; plain = (refl, refl) }
+count_selects params = record { command = refl; listing = refl; plain = (refl, refl) }
 
 pub counted_sigvalues : {X : Type 0} (rows_of : X → List Row) (net : List ℕ) (old new : State) (r : Result X Error) → old.now.schema ≡ office_schema
     → IfOk r (λ x. Shown count_text (Text net ∷ []) old new (rows_of x)) → IfOk r (λ x. rows_of x ≡ (count (length (filter (is_of_net net) (tables_of old.now.trees).sigvalue)) ∷ []) ∷ [])
-counted_sigvalues rows_of net = counts count_text 25 one_test (Text net ∷ []) (count_asks (Text net ∷ [])) (is_of_net net) (net_requested net) rows_of
+counted_sigvalues rows_of net = counts count_text 25 one_test (Text net ∷ []) (count_selects (Text net ∷ [])) (is_of_net net) (net_requested net) rows_of
 
 pub count_plain : (s : Schema) → s ≡ office_schema → IsPlain (understood s count_text)
-count_plain = plain_in count_text (count_asks []).plain
+count_plain = plain_in count_text (count_selects []).plain

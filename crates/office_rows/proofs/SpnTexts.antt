@@ -30,7 +30,7 @@ use Rattle.office_tables.proofs.Changing.{makes, puts, removes}
 use Rattle.office_tables.proofs.Keeping.{plain_in}
 use Rattle.office_tables.proofs.TableIndices.{spn, spn_there, spn_only}
 use Rattle.office_tables.proofs.Selecting.{query}
-use Rattle.office_tables.proofs.Finding.{ascending, Asks, Means, finds}
+use Rattle.office_tables.proofs.Finding.{ascending, IsSelect, Means, finds}
 use Rattle.office_rows.specs.Rows.{is_any, is_number, spn_row}
 use Rattle.office_rows.specs.Shown.{spns_order, spns_shown}
 use Rattle.office_rows.proofs.Requested.{key_test, number_requested_alone}
@@ -90,9 +90,9 @@ spns_columns = col 1 0 ∷ []
 abbrev spns_by : List (Term × Key)
 spns_by = (col 1 0, ascending) ∷ []
 
-spns_asks : (params : Row) → Asks office_schema spns_text 10 [] spns_columns spns_by (codes "number" ∷ []) params
+spns_selects : (params : Row) → IsSelect office_schema spns_text 10 [] spns_columns spns_by (codes "number" ∷ []) params
 unfolding understood everything office_schema
-spns_asks params = record { command = refl; listing = refl; plain = (refl, refl) }
+spns_selects params = record { command = refl; listing = refl; plain = (refl, refl) }
 
 spns_means : Means keyed_values 10 [] spns_columns spns_by [] is_any spns_shown spns_order
 spns_means = record {
@@ -103,7 +103,7 @@ spns_means = record {
 
 pub spns_found : {X : Type 0} (rows_of : X → List Row) (old new : State) (r : Result X Error) → old.now.schema ≡ office_schema
     → IfOk r (λ x. Shown spns_text [] old new (rows_of x)) → IfOk r (λ x. IsSelected is_any spns_shown spns_order (tables_of old.now.trees).spn (rows_of x))
-spns_found rows_of = finds office_schema spns_text 10 [] spns_columns spns_by _ [] (spns_asks []) keyed_values is_any spns_shown spns_order spns_means rows_of
+spns_found rows_of = finds office_schema spns_text 10 [] spns_columns spns_by _ [] (spns_selects []) keyed_values is_any spns_shown spns_order spns_means rows_of
 
 pub spns_plain : (s : Schema) → s ≡ office_schema → IsPlain (understood s spns_text)
-spns_plain = plain_in spns_text (spns_asks []).plain
+spns_plain = plain_in spns_text (spns_selects []).plain

@@ -21,7 +21,7 @@ use Rattle.office_types.specs.declared.state.Net.{Net}
 use Rattle.office_rules.specs.Facts.{taken_groups}
 use Rattle.office_rules.specs.Importing.{Unreadable}
 use Rattle.office_rules.specs.Step.{opening}
-use Rattle.office_rules.proofs.Asking.{adds, asks, brake, engine, grants, imports, left_by, message, number, office, opens, replies_to, setup, takes, takes_group}
+use Rattle.office_rules.proofs.TeamCommand.{adds, requests, brake, engine, grants, imports, left_by, message, number, office, opens, replies_to, setup, takes, takes_group}
 
 abbrev three : Sheet
 three = record empty_sheet { messages = message (id.Std 256) (codes "A") [] ∷ message (id.Std 257) (codes "B") [] ∷ message (id.Std 258) (codes "C") [] ∷ [] }
@@ -48,7 +48,7 @@ imported_twice = refl
 -- a file that reads as no sheet is refused with its fault, but in review it isn't read
 unreadable : replies_to opening (setup (
     record (imports engine three) { reading = Unreadable (record { fault = 30; at = 565 }) }
-    ∷ asks engine act.Submit
+    ∷ requests engine act.Submit
     ∷ record (imports engine three) { reading = Unreadable (record { fault = 30; at = 565 }) } ∷ []))
     ≡ Done ∷ Done ∷ Refused (no.FileFault (record { fault = 30; at = 565 })) ∷ Done ∷ Refused no.InReview ∷ []
 unreadable = refl
@@ -114,9 +114,9 @@ one name = record empty_sheet { messages = message (id.Std 256) name [] ∷ [] }
 -- a number that is held for a message of a release doesn't come back, whoever brings it and under whatever name
 held_number : replies_to opening (setup (
     takes engine (codes "E1") None
-    ∷ asks engine act.Submit
-    ∷ asks office act.Release
-    ∷ asks engine (act.Retire (codes "E1"))
+    ∷ requests engine act.Submit
+    ∷ requests office act.Release
+    ∷ requests engine (act.Retire (codes "E1"))
     ∷ imports engine (one (codes "E1"))
     ∷ imports office (one (codes "Z"))
     ∷ imports brake (one (codes "Z")) ∷ []))

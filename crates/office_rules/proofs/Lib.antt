@@ -1,4 +1,4 @@
-pub mod Asking
+pub mod TeamCommand
 mod Rows
 mod FileRows
 pub mod Idents

@@ -37,7 +37,7 @@ use Rattle.office_rules.specs.Change.{Fits, HaveOwnBlocks, net_changed}
 use Rattle.office_rules.specs.Opening.{bare_net}
 use Rattle.office_rules.specs.Signals.{new_signal}
 use Rattle.office_rules.specs.Step.{opening}
-use Rattle.office_rules.proofs.Asking.{Requested, adds, asks, bits, brake, bundles, engine, grants, imports, left_by, message, named, number, office, on_bus, opens, path, removes, replies_to, sets_values, setup, takes, takes_bits, takes_ext, takes_group, takes_spn, truck}
+use Rattle.office_rules.proofs.TeamCommand.{Requested, adds, requests, bits, brake, bundles, engine, grants, imports, left_by, message, named, number, office, on_bus, opens, path, removes, replies_to, sets_values, setup, takes, takes_bits, takes_ext, takes_group, takes_spn, truck}
 
 full : replies_to opening (setup (takes engine (codes "E1") None ∷ takes engine (codes "E2") None ∷ takes engine (codes "E3") None ∷ takes engine (codes "E4") None ∷ []))
     ≡ Done ∷ Done ∷ Number 256 ∷ Number 257 ∷ Number 258 ∷ Refused no.BlockFull ∷ []
@@ -55,11 +55,11 @@ wanted = refl
 held : replies_to opening (setup (
     takes engine (codes "E1") None
     ∷ takes engine (codes "E2") None
-    ∷ asks engine (act.Retire (codes "E1"))
+    ∷ requests engine (act.Retire (codes "E1"))
     ∷ takes engine (codes "E3") None
-    ∷ asks engine act.Submit
-    ∷ asks office act.Release
-    ∷ asks engine (act.Retire (codes "E2"))
+    ∷ requests engine act.Submit
+    ∷ requests office act.Release
+    ∷ requests engine (act.Retire (codes "E2"))
     ∷ takes engine (codes "E4") None
     ∷ takes engine (codes "E5") (Some 257) ∷ []))
     ≡ Done ∷ Done ∷ Number 256 ∷ Number 257 ∷ Done ∷ Number 256 ∷ Done ∷ Release 1 ∷ Done ∷ Number 258 ∷ Refused no.Held ∷ []
@@ -135,12 +135,12 @@ no_net : replies_to opening (
     ∷ takes_bits (codes "P") 8 Intel Always None
     ∷ sets_values (codes "P") []
     ∷ removes (codes "P")
-    ∷ asks engine (act.Retire (codes "E1"))
+    ∷ requests engine (act.Retire (codes "E1"))
     ∷ imports engine empty_sheet
-    ∷ asks engine act.Submit
-    ∷ asks engine act.Approve
-    ∷ asks engine act.Reject
-    ∷ asks office act.Release ∷ [])
+    ∷ requests engine act.Submit
+    ∷ requests engine act.Approve
+    ∷ requests engine act.Reject
+    ∷ requests office act.Release ∷ [])
     ≡ map Refused (no.NoNet ∷ no.NoNet ∷ no.NoNet ∷ no.NoNet ∷ no.NoNet ∷ no.NoNet ∷ no.NoNet ∷ no.NoNet ∷ no.NoNet ∷ no.NoNet ∷ no.NoNet ∷ no.NoNet ∷ no.NoNet ∷ no.NoNet ∷ [])
 no_net = refl
 
@@ -152,7 +152,7 @@ abbrev node_names : List Net → List (List (List ℕ))
 node_names nets = map (λ net. map node_name net.head.frame.nodes) nets
 
 abbrev from_ecu : Requested
-from_ecu = asks engine (act.TakeIdent (record { form = Standard; message = record (named (codes "E1")) { node = Some (codes "ECU") }; want = None }))
+from_ecu = requests engine (act.TakeIdent (record { form = Standard; message = record (named (codes "E1")) { node = Some (codes "ECU") }; want = None }))
 
 nodes_added : replies_to opening (setup (
     from_ecu
@@ -160,7 +160,7 @@ nodes_added : replies_to opening (setup (
     ∷ adds (codes "ECU")
     ∷ adds (codes "Dash")
     ∷ from_ecu
-    ∷ asks engine act.Submit
+    ∷ requests engine act.Submit
     ∷ adds (codes "Lamp") ∷ []))
     ≡ Done ∷ Done ∷ Refused no.NoNode ∷ Done ∷ Refused no.NameTaken ∷ Done ∷ Number 256 ∷ Done ∷ Refused no.InReview ∷ []
 nodes_added = refl
@@ -183,14 +183,14 @@ no_node_more = refl
 reviewed : replies_to opening (
     opens Can 1
     ∷ grants engine block.Std 256 258
-    ∷ asks engine act.Submit
-    ∷ asks engine act.Approve
-    ∷ asks office act.Release
+    ∷ requests engine act.Submit
+    ∷ requests engine act.Approve
+    ∷ requests office act.Release
     ∷ takes engine (codes "E1") None
-    ∷ asks brake act.Approve
-    ∷ asks engine act.Release
-    ∷ asks office act.Release
-    ∷ asks office act.Release ∷ [])
+    ∷ requests brake act.Approve
+    ∷ requests engine act.Release
+    ∷ requests office act.Release
+    ∷ requests office act.Release ∷ [])
     ≡ Done ∷ Done ∷ Done ∷ Refused no.OwnReview ∷ Refused no.NeedsMore ∷ Refused no.InReview ∷ Done ∷ Refused no.NotOffice ∷ Release 1 ∷ Refused no.NotInReview ∷ []
 reviewed = refl
 
@@ -198,37 +198,37 @@ reviewed = refl
 turned_down : replies_to opening (
     opens Can 1
     ∷ grants engine block.Std 256 258
-    ∷ asks brake act.Reject
-    ∷ asks engine act.Submit
-    ∷ asks (codes "body") act.Approve
-    ∷ asks engine act.Reject
-    ∷ asks brake act.Reject
+    ∷ requests brake act.Reject
+    ∷ requests engine act.Submit
+    ∷ requests (codes "body") act.Approve
+    ∷ requests engine act.Reject
+    ∷ requests brake act.Reject
     ∷ takes engine (codes "E1") None
-    ∷ asks engine act.Submit
-    ∷ asks office act.Release
-    ∷ asks brake act.Approve
-    ∷ asks office act.Release ∷ [])
+    ∷ requests engine act.Submit
+    ∷ requests office act.Release
+    ∷ requests brake act.Approve
+    ∷ requests office act.Release ∷ [])
     ≡ Done ∷ Done ∷ Refused no.NotInReview ∷ Done ∷ Done ∷ Refused no.OwnReview ∷ Done ∷ Number 256 ∷ Done ∷ Refused no.NeedsMore ∷ Done ∷ Release 1 ∷ []
 turned_down = refl
 
 -- two approvals are those of two teams
 approved_by_two : replies_to opening (
     opens Can 2
-    ∷ asks engine act.Submit
-    ∷ asks brake act.Approve
-    ∷ asks brake act.Approve
-    ∷ asks office act.Release
-    ∷ asks (codes "body") act.Approve
-    ∷ asks office act.Release ∷ [])
+    ∷ requests engine act.Submit
+    ∷ requests brake act.Approve
+    ∷ requests brake act.Approve
+    ∷ requests office act.Release
+    ∷ requests (codes "body") act.Approve
+    ∷ requests office act.Release ∷ [])
     ≡ Done ∷ Done ∷ Done ∷ Done ∷ Refused no.NeedsMore ∷ Done ∷ Release 1 ∷ []
 approved_by_two = refl
 
 approvals_left : map (λ net. net.approvals) (left_by opening (
     opens Can 2
-    ∷ asks engine act.Submit
-    ∷ asks brake act.Approve
-    ∷ asks brake act.Approve
-    ∷ asks (codes "body") act.Approve ∷ [])).nets
+    ∷ requests engine act.Submit
+    ∷ requests brake act.Approve
+    ∷ requests brake act.Approve
+    ∷ requests (codes "body") act.Approve ∷ [])).nets
     ≡ (codes "body" ∷ brake ∷ []) ∷ []
 approvals_left = refl
 
@@ -253,7 +253,7 @@ bits_refused : replies_to opening (with_bits (
     ∷ takes_bits (codes "U") 2 Intel Always (Some 63)
     ∷ takes_bits (codes "V") 1 Intel Always (Some 0)
     ∷ takes_bits (codes "W") 1 Intel Multiplexor None
-    ∷ asks engine (act.RemoveSignal (path (codes "E1") (codes "Sel"))) ∷ []))
+    ∷ requests engine (act.RemoveSignal (path (codes "E1") (codes "Sel"))) ∷ []))
     ≡ bits_given (Refused no.NoRoom ∷ Refused no.OutsidePayload ∷ Refused no.Clash ∷ Refused no.TwoMultiplexors ∷ Refused no.NoMultiplexor ∷ [])
 unfolding walk shares_bit is_inside clash_after first_answer
 bits_refused = refl
@@ -271,11 +271,11 @@ spns_taken = refl
 
 -- the message, the signal and the team must be there and right
 signals_refused : replies_to opening (with_bits (
-    asks engine (act.RemoveSignal (path (codes "E9") (codes "P")))
-    ∷ asks engine (act.Retire (codes "E9"))
+    requests engine (act.RemoveSignal (path (codes "E9") (codes "P")))
+    ∷ requests engine (act.Retire (codes "E9"))
     ∷ record (takes_bits (codes "T") 8 Intel Always None) { team = brake }
     ∷ record (removes (codes "P")) { team = brake }
-    ∷ asks brake (act.Retire (codes "E1"))
+    ∷ requests brake (act.Retire (codes "E1"))
     ∷ takes_spn (codes "X") None
     ∷ sets_values (codes "X") []
     ∷ removes (codes "X")
@@ -285,7 +285,7 @@ unfolding walk shares_bit is_inside clash_after first_answer
 signals_refused = refl
 
 abbrev received : Requested
-received = asks engine (act.TakeBits (record (bits (codes "S") 4 Intel Always None) { receivers = codes "Dash" ∷ [] }))
+received = requests engine (act.TakeBits (record (bits (codes "S") 4 Intel Always None) { receivers = codes "Dash" ∷ [] }))
 
 receiver_wanted : replies_to opening (setup (takes engine (codes "E1") None ∷ received ∷ adds (codes "Dash") ∷ received ∷ []))
     ≡ Done ∷ Done ∷ Number 256 ∷ Refused no.NoNode ∷ Done ∷ Start 0 ∷ []
@@ -324,7 +324,7 @@ values_set : value_texts (left_by opening (with_bits (sets_values (codes "P") of
 unfolding walk shares_bit is_inside clash_after first_answer
 values_set = refl
 
-values_answered : replies_to opening (with_bits (sets_values (codes "P") off_on ∷ asks engine act.Submit ∷ sets_values (codes "P") [] ∷ []))
+values_answered : replies_to opening (with_bits (sets_values (codes "P") off_on ∷ requests engine act.Submit ∷ sets_values (codes "P") [] ∷ []))
     ≡ bits_given (Done ∷ Done ∷ Refused no.InReview ∷ [])
 unfolding walk shares_bit is_inside clash_after first_answer
 values_answered = refl

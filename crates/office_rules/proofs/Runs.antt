@@ -2,9 +2,9 @@
 use Rattle.std.proofs.Common.{List, [], ◌∷◌, ◌++◌, refl, subst}
 use Rattle.office_types.specs.declared.reply.Reply.{Reply}
 use Rattle.office_types.specs.declared.state.Office.{Office}
-use Rattle.office_rules.specs.Step.{Asking, Run, Step}
+use Rattle.office_rules.specs.Step.{TeamCommand, Run, Step}
 
-pub run_more : (a b c : Office) (qs : List Asking) (rs : List Reply) (q : Asking) (r : Reply)
+pub run_more : (a b c : Office) (qs : List TeamCommand) (rs : List Reply) (q : TeamCommand) (r : Reply)
     → Run a qs rs b → Step q.0 b q.1 q.2 r c → Run a (qs ++ q ∷ []) (rs ++ r ∷ []) c
 run_more a b c [] [] q r run step = (c, subst (λ (o : Office). Step q.0 o q.1 q.2 r c) run step, refl)
 run_more a b c [] (s ∷ rs) q r run step = absurd run

@@ -70,18 +70,18 @@ pub record Step (p : Profile) (before : Office) (team : List ℕ) (c : Command) 
   pub left : after ≡ office_after before (step_outcome before team reading c)
 
 -- a command with its team and its profile
-abbrev pub Asking : Type 0
-Asking = Profile × List ℕ × Command
+abbrev pub TeamCommand : Type 0
+TeamCommand = Profile × List ℕ × Command
 
 -- The commands in order, each with its profile and its team, are answered so, and leave the office so.
-abbrev pub Run : Office → List Asking → List Reply → Office → Type 0
+abbrev pub Run : Office → List TeamCommand → List Reply → Office → Type 0
 Run before [] [] after = after ≡ before
 Run before [] (r ∷ rs) after = ⊥
 Run before (q ∷ qs) [] after = ⊥
 Run before (q ∷ qs) (r ∷ rs) after = (mid : Office) × Step q.0 before q.1 q.2 r mid × Run mid qs rs after
 
 -- Commands that come today, each with its team.
-abbrev pub requested_now : List (List ℕ × Command) → List Asking
+abbrev pub requested_now : List (List ℕ × Command) → List TeamCommand
 requested_now requests = map (λ q. (Two, q.0, q.1)) requests
 
 -- The commands were run: their replies were added to the earlier ones.

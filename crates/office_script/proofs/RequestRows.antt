@@ -31,8 +31,8 @@ abbrev requested_in : List ℕ → Option (List ℕ × Requested)
 requested_in line = option_map (λ r. (r.team, r.requested)) (request_of LineNumber 1 line)
 
 -- a request of a team for an action on the network `truck`
-abbrev asks : List ℕ → Action → Option (List ℕ × Requested)
-asks team action = Some (team, Command (record { net = codes "truck"; task = Act action }))
+abbrev requests : List ℕ → Action → Option (List ℕ × Requested)
+requests team action = Some (team, Command (record { net = codes "truck"; task = Act action }))
 
 abbrev office : List ℕ
 office = codes "office"
@@ -40,37 +40,37 @@ office = codes "office"
 abbrev engine : List ℕ
 engine = codes "engine"
 
-open_net : requested_in (codes "- office open_net net=truck kind=j1939 reviews=9") ≡ asks office (act.OpenNet (record { kind = J1939; reviews = 9 }))
+open_net : requested_in (codes "- office open_net net=truck kind=j1939 reviews=9") ≡ requests office (act.OpenNet (record { kind = J1939; reviews = 9 }))
 unfolding requested_by digits
 open_net = refl
 
 -- fields in any order, leading zeros
 grant : requested_in (codes "- office grant net=truck form=std team=engine first=0256 last=258")
-    ≡ asks office (act.Grant (record { team = engine; block = record { form = block.Std; first = 256; last = 258 } }))
+    ≡ requests office (act.Grant (record { team = engine; block = record { form = block.Std; first = 256; last = 258 } }))
 unfolding requested_by digits
 grant = refl
 
 spn_grant : requested_in (codes "- office grant net=truck team=engine form=spn first=1 last=524287")
-    ≡ asks office (act.Grant (record { team = engine; block = record { form = block.Spn; first = 1; last = 524287 } }))
+    ≡ requests office (act.Grant (record { team = engine; block = record { form = block.Spn; first = 1; last = 524287 } }))
 unfolding requested_by digits
 spn_grant = refl
 
-add_node : requested_in (codes "- engine add_node net=truck name=ECU") ≡ asks engine (act.AddNode (codes "ECU"))
+add_node : requested_in (codes "- engine add_node net=truck name=ECU") ≡ requests engine (act.AddNode (codes "ECU"))
 unfolding requested_by is_name digits
 add_node = refl
 
 take_ident : requested_in (codes "- engine take_ident net=tr%75ck form=ext name=E1 length=64 want=4294967295")
-    ≡ asks engine (act.TakeIdent (record { form = Extended; message = record { name = codes "E1"; length = 64; node = None }; want = Some 4294967295 }))
+    ≡ requests engine (act.TakeIdent (record { form = Extended; message = record { name = codes "E1"; length = 64; node = None }; want = Some 4294967295 }))
 unfolding requested_by is_name digits
 take_ident = refl
 
 take_pgn : requested_in (codes "- engine take_pgn net=truck name=P1 length=8 node=ECU pdu=addressed priority=7 source=255 destination=0")
-    ≡ asks engine (act.TakePgn (record { message = record { name = codes "P1"; length = 8; node = Some (codes "ECU") }; pdu = Addressed (Some 0); priority = 7; source = 255 }))
+    ≡ requests engine (act.TakePgn (record { message = record { name = codes "P1"; length = 8; node = Some (codes "ECU") }; pdu = Addressed (Some 0); priority = 7; source = 255 }))
 unfolding requested_by is_name digits
 take_pgn = refl
 
 take_broadcast_pgn : requested_in (codes "- engine take_pgn net=truck name=P1 length=8 pdu=broadcast priority=6 source=0")
-    ≡ asks engine (act.TakePgn (record { message = record { name = codes "P1"; length = 8; node = None }; pdu = Broadcast; priority = 6; source = 0 }))
+    ≡ requests engine (act.TakePgn (record { message = record { name = codes "P1"; length = 8; node = None }; pdu = Broadcast; priority = 6; source = 0 }))
 unfolding requested_by is_name digits
 take_broadcast_pgn = refl
 
@@ -78,7 +78,7 @@ abbrev speed : SignalPath
 speed = record { message = codes "E1"; signal = codes "Speed" }
 
 take_spn : map requested_in (codes "- engine take_spn net=truck message=E1 signal=Speed" ∷ codes "- engine take_spn net=truck message=E1 signal=Speed same=0" ∷ [])
-    ≡ asks engine (act.TakeSpn (record { path = speed; same = None })) ∷ asks engine (act.TakeSpn (record { path = speed; same = Some 0 })) ∷ []
+    ≡ requests engine (act.TakeSpn (record { path = speed; same = None })) ∷ requests engine (act.TakeSpn (record { path = speed; same = Some 0 })) ∷ []
 unfolding requested_by is_name digits
 take_spn = refl
 
@@ -86,7 +86,7 @@ abbrev whole : ℕ → Number
 whole n = record { mantissa = pos n; exponent = pos 0 }
 
 take_bits : requested_in (codes "- engine take_bits net=truck message=E1 signal=Speed size=12 order=motorola signed=true mux=m3 factor=0.5 offset=-40 minimum=-40 maximum=3 unit=%C2%B0C receiver=Dash receiver=ECU start=16")
-    ≡ asks engine (act.TakeBits (record {
+    ≡ requests engine (act.TakeBits (record {
       path = speed;
       size = 12;
       order = Motorola;
@@ -105,7 +105,7 @@ take_bits = refl
 
 -- no mark, no receiver, no start, an empty unit
 take_few_bits : requested_in (codes "- engine take_bits net=truck message=E1 signal=Speed size=1 order=intel signed=false factor=1 offset=0 minimum=0 maximum=0 unit=")
-    ≡ asks engine (act.TakeBits (record {
+    ≡ requests engine (act.TakeBits (record {
       path = speed;
       size = 1;
       order = Intel;
@@ -123,22 +123,22 @@ unfolding requested_by is_name reading cut digits
 take_few_bits = refl
 
 set_values : map requested_in (codes "- engine set_values net=truck message=E1 signal=Speed value=0:Off value=1%3AOn" ∷ codes "- engine set_values net=truck message=E1 signal=Speed" ∷ [])
-    ≡ asks engine (act.SetValues (record { path = speed; values = record { value = whole 0; text = codes "Off" } ∷ record { value = whole 1; text = codes "On" } ∷ [] }))
-    ∷ asks engine (act.SetValues (record { path = speed; values = [] }))
+    ≡ requests engine (act.SetValues (record { path = speed; values = record { value = whole 0; text = codes "Off" } ∷ record { value = whole 1; text = codes "On" } ∷ [] }))
+    ∷ requests engine (act.SetValues (record { path = speed; values = [] }))
     ∷ []
 unfolding requested_by is_name reading cut digits
 set_values = refl
 
-remove_signal : requested_in (codes "- engine remove_signal net=truck message=E1 signal=Speed") ≡ asks engine (act.RemoveSignal speed)
+remove_signal : requested_in (codes "- engine remove_signal net=truck message=E1 signal=Speed") ≡ requests engine (act.RemoveSignal speed)
 unfolding requested_by is_name digits
 remove_signal = refl
 
-retire : requested_in (codes "- engine retire net=truck message=E1") ≡ asks engine (act.Retire (codes "E1"))
+retire : requested_in (codes "- engine retire net=truck message=E1") ≡ requests engine (act.Retire (codes "E1"))
 unfolding requested_by is_name digits
 retire = refl
 
 reviews : map requested_in (codes "- engine submit net=truck" ∷ codes "- brake approve net=truck" ∷ codes "- brake reject net=truck" ∷ codes "- office release net=truck" ∷ [])
-    ≡ asks engine act.Submit ∷ asks (codes "brake") act.Approve ∷ asks (codes "brake") act.Reject ∷ asks office act.Release ∷ []
+    ≡ requests engine act.Submit ∷ requests (codes "brake") act.Approve ∷ requests (codes "brake") act.Reject ∷ requests office act.Release ∷ []
 unfolding requested_by digits
 reviews = refl
 

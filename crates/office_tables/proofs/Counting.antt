@@ -118,12 +118,12 @@ module _ (t : ℕ) (tests project : List Term) (params : Row) where
       ap length a.shown ∙ length_first (λ (o : Output). o.1) a.ordered ∙ ap (min 1) (ordered ∙ kept)
 
 -- what such a text means under the office's schema
-pub record AsksFirst (sql : List ℕ) (t : ℕ) (tests project : List Term) (names : List (List ℕ)) (params : Row) : Type 0 where
+pub record IsFirstSelect (sql : List ℕ) (t : ℕ) (tests project : List Term) (names : List (List ℕ)) (params : Row) : Type 0 where
   pub command : command_of (understood office_schema sql) ≡ Select (record { lets = []; body = first_query t tests project params }) names
   pub listing : reads_listing office_schema sql ≡ false
   pub plain : IsPlain (understood office_schema sql)
 
-module _ (sql : List ℕ) (t : ℕ) (tests project : List Term) (names : List (List ℕ)) (params : Row) (asks : AsksFirst sql t tests project names params) (test : Row → Bool)
+module _ (sql : List ℕ) (t : ℕ) (tests project : List Term) (names : List (List ℕ)) (params : Row) (is_select : IsFirstSelect sql t tests project names params) (test : Row → Bool)
     (same : (r : Row) → test r ≡ list_all (holds (params ∷ r ∷ [])) tests) where
   test_is : (xs : List Row) → filter (wants t tests params) xs ≡ filter test xs
   test_is [] = refl
@@ -131,7 +131,7 @@ module _ (sql : List ℕ) (t : ℕ) (tests project : List Term) (names : List (L
 
   shows_first_of : (old new : State) (rows : List Row) → old.now.schema ≡ office_schema → Shown sql params old new rows → length rows ≡ min 1 (length (filter test (old.now.trees t)))
   shows_first_of old new rows schema h =
-      let read = reads_as sql params old new office_schema schema _ asks.command asks.plain asks.listing rows h in
+      let read = reads_as sql params old new office_schema schema _ is_select.command is_select.plain is_select.listing rows h in
       first_shown t tests project params (overlay old.now.trees []) rows (read.answer Null)
       ∙ ap (λ l. min 1 (length l)) (ap (filter (wants t tests params)) (plain_trees old.now.trees t) ∙ test_is (old.now.trees t))
 
@@ -141,17 +141,17 @@ module _ (sql : List ℕ) (t : ℕ) (tests project : List Term) (names : List (L
   shows_first rows_of old new (Ok x) schema h = shows_first_of old new (rows_of x) schema h
 
 -- what the text of a count means under the office's schema
-pub record AsksCount (sql : List ℕ) (t : ℕ) (tests : List Term) (params : Row) : Type 0 where
+pub record IsCountSelect (sql : List ℕ) (t : ℕ) (tests : List Term) (params : Row) : Type 0 where
   pub command : command_of (understood office_schema sql) ≡ Select (record { lets = []; body = count_query t tests params }) (codes "count(*)" ∷ [])
   pub listing : reads_listing office_schema sql ≡ false
   pub plain : IsPlain (understood office_schema sql)
 
-module _ (sql : List ℕ) (t : ℕ) (tests : List Term) (params : Row) (asks : AsksCount sql t tests params) (test : Row → Bool)
+module _ (sql : List ℕ) (t : ℕ) (tests : List Term) (params : Row) (is_select : IsCountSelect sql t tests params) (test : Row → Bool)
     (same : (r : Row) → test (values r) ≡ list_all (holds (params ∷ r ∷ [])) tests) where
   counts_these : (old new : State) (rows : List Row) → old.now.schema ≡ office_schema → Shown sql params old new rows
       → rows ≡ (count (length (filter test (map values (old.now.trees t)))) ∷ []) ∷ []
   counts_these old new rows schema h =
-      let read = reads_as sql params old new office_schema schema _ asks.command asks.plain asks.listing rows h in
+      let read = reads_as sql params old new office_schema schema _ is_select.command is_select.plain is_select.listing rows h in
       let passes = wants t tests params in
       let table = old.now.trees t in
       let many : length (filter passes table) ≡ length (filter test (map values table)) = sym (length-map (filter passes table) values) ∙ ap length (filter_map_is values test passes same table) in

@@ -24,7 +24,7 @@ abbrev pub ascending : Key
 ascending = record { collation = Binary; descending = false }
 
 -- what the text of a SELECT means under a schema
-pub record Asks (schema : Schema) (sql : List ℕ) (t : ℕ) (tests project : List Term) (order : List (Term × Key)) (names : List (List ℕ)) (params : Row) : Type 0 where
+pub record IsSelect (schema : Schema) (sql : List ℕ) (t : ℕ) (tests project : List Term) (order : List (Term × Key)) (names : List (List ℕ)) (params : Row) : Type 0 where
   pub command : command_of (understood schema sql) ≡ Select (record { lets = []; body = query t tests project order params }) names
   pub listing : reads_listing schema sql ≡ false
   pub plain : IsPlain (understood schema sql)
@@ -35,11 +35,11 @@ pub record Means (values : Row → Row) (t : ℕ) (tests project : List Term) (o
   pub shows_same : (r : Row) → show (values r) ≡ shown t tests project order params r
   pub orders_same : (x y : Row) → key_cmp 0 (map (λ k. k.1) order) (keys t tests project order params x) (keys t tests project order params y) ≡ by (values x) (values y)
 
-module _ (schema : Schema) (sql : List ℕ) (t : ℕ) (tests project : List Term) (order : List (Term × Key)) (names : List (List ℕ)) (params : Row) (asks : Asks schema sql t tests project order names params)
+module _ (schema : Schema) (sql : List ℕ) (t : ℕ) (tests project : List Term) (order : List (Term × Key)) (names : List (List ℕ)) (params : Row) (is_select : IsSelect schema sql t tests project order names params)
     (values : Row → Row) (test : Row → Bool) (show : Row → Row) (by : Row → Row → Ordering) (means : Means values t tests project order params test show by) where
   finds_these : (old new : State) (rows : List Row) → old.now.schema ≡ schema → Shown sql params old new rows → IsSelected test show by (map values (old.now.trees t)) rows
   finds_these old new rows has h =
-      let read = reads_as sql params old new schema has _ asks.command asks.plain asks.listing rows h in
+      let read = reads_as sql params old new schema has _ is_select.command is_select.plain is_select.listing rows h in
       let f = answers t tests project order params (overlay old.now.trees []) rows (read.answer Null) in
       selects values t tests project order params test show by means.tests_same means.shows_same means.orders_same (old.now.trees t) rows
       (subst (λ table. IsFound t tests project order params table rows) (plain_trees old.now.trees t) f)

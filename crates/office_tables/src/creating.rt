@@ -264,7 +264,7 @@ pub fn create_part<S: Alter>(tx: &mut Transaction<'_, S>) -> Result<usize, Error
 }
 
 /// Makes `profile`, `net`, `message`.
-fn make_first<S: Alter>(tx: &mut Transaction<'_, S>) -> Result<(), Error>
+fn make_net_tables<S: Alter>(tx: &mut Transaction<'_, S>) -> Result<(), Error>
     ensures same_reference { tx.new.conn.ghost_name ≡ tx.old.conn.ghost_name }
     ensures made { HasCleanDisk (state S.Store tx.new.conn.now)
         → (state S.Store tx.old.conn.now).now.schema ≡ no_schema
@@ -280,7 +280,7 @@ fn make_first<S: Alter>(tx: &mut Transaction<'_, S>) -> Result<(), Error>
 }
 
 /// Makes `block`, `held`, `spn`.
-fn make_second<S: Alter>(tx: &mut Transaction<'_, S>) -> Result<(), Error>
+fn make_number_tables<S: Alter>(tx: &mut Transaction<'_, S>) -> Result<(), Error>
     ensures same_reference { tx.new.conn.ghost_name ≡ tx.old.conn.ghost_name }
     ensures made { HasCleanDisk (state S.Store tx.new.conn.now) → AreMade schema_3 (state S.Store tx.old.conn.now)
         → OnOk result (AreMade schema_6 (state S.Store tx.new.conn.now)) }
@@ -295,7 +295,7 @@ fn make_second<S: Alter>(tx: &mut Transaction<'_, S>) -> Result<(), Error>
 }
 
 /// Makes `approval`, `frozen`, `reply`.
-fn make_third<S: Alter>(tx: &mut Transaction<'_, S>) -> Result<(), Error>
+fn make_reply_tables<S: Alter>(tx: &mut Transaction<'_, S>) -> Result<(), Error>
     ensures same_reference { tx.new.conn.ghost_name ≡ tx.old.conn.ghost_name }
     ensures made { HasCleanDisk (state S.Store tx.new.conn.now) → AreMade schema_6 (state S.Store tx.old.conn.now)
         → OnOk result (AreMade schema_9 (state S.Store tx.new.conn.now)) }
@@ -310,7 +310,7 @@ fn make_third<S: Alter>(tx: &mut Transaction<'_, S>) -> Result<(), Error>
 }
 
 /// Makes `msg`, `sig`, `receiver`.
-fn make_fourth<S: Alter>(tx: &mut Transaction<'_, S>) -> Result<(), Error>
+fn make_signal_tables<S: Alter>(tx: &mut Transaction<'_, S>) -> Result<(), Error>
     ensures same_reference { tx.new.conn.ghost_name ≡ tx.old.conn.ghost_name }
     ensures made { HasCleanDisk (state S.Store tx.new.conn.now) → AreMade schema_9 (state S.Store tx.old.conn.now)
         → OnOk result (AreMade schema_12 (state S.Store tx.new.conn.now)) }
@@ -328,7 +328,7 @@ fn make_fourth<S: Alter>(tx: &mut Transaction<'_, S>) -> Result<(), Error>
 }
 
 /// Makes `sigvalue`, `part`.
-fn make_fifth<S: Alter>(tx: &mut Transaction<'_, S>) -> Result<(), Error>
+fn make_part_tables<S: Alter>(tx: &mut Transaction<'_, S>) -> Result<(), Error>
     ensures same_reference { tx.new.conn.ghost_name ≡ tx.old.conn.ghost_name }
     ensures made { HasCleanDisk (state S.Store tx.new.conn.now) → AreMade schema_12 (state S.Store tx.old.conn.now)
         → OnOk result (AreMade office_schema (state S.Store tx.new.conn.now)) }
@@ -345,7 +345,7 @@ fn make_fifth<S: Alter>(tx: &mut Transaction<'_, S>) -> Result<(), Error>
 }
 
 /// Makes the tables of live messages and of bundles, after the others.
-pub fn make_last<S: Alter>(tx: &mut Transaction<'_, S>) -> Result<(), Error>
+pub fn make_live_tables<S: Alter>(tx: &mut Transaction<'_, S>) -> Result<(), Error>
     ensures same_reference { tx.new.conn.ghost_name ≡ tx.old.conn.ghost_name }
     ensures made { HasCleanDisk (state S.Store tx.new.conn.now) → AreMade schema_9 (state S.Store tx.old.conn.now)
         → OnOk result (AreMade office_schema (state S.Store tx.new.conn.now)) }
@@ -356,8 +356,8 @@ pub fn make_last<S: Alter>(tx: &mut Transaction<'_, S>) -> Result<(), Error>
         → KeepsCommit (state S.Store tx.old.conn.now) (state S.Store tx.new.conn.now) }
     ensures survives { Survives (state S.Store tx.old.conn.now) (state S.Store tx.new.conn.now) (λ _. ⊥) }
 {
-    make_fourth(tx)?;
-    make_fifth(tx)
+    make_signal_tables(tx)?;
+    make_part_tables(tx)
 }
 
 /// Makes the tables, each after those before it.
@@ -370,10 +370,10 @@ fn make_each<S: Alter>(tx: &mut Transaction<'_, S>) -> Result<(), Error>
         → KeepsCommit (state S.Store tx.old.conn.now) (state S.Store tx.new.conn.now) }
     ensures survives { Survives (state S.Store tx.old.conn.now) (state S.Store tx.new.conn.now) (λ _. ⊥) }
 {
-    make_first(tx)?;
-    make_second(tx)?;
-    make_third(tx)?;
-    make_last(tx)
+    make_net_tables(tx)?;
+    make_number_tables(tx)?;
+    make_reply_tables(tx)?;
+    make_live_tables(tx)
 }
 
 /// Makes all tables where there is none: they are the office's, with no row.

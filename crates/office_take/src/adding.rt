@@ -66,8 +66,8 @@ fn node_added(alloc: Global, head: &Head, name: &Name) -> Result<Decision, Alloc
     one_change(alloc, Change::SetHead(head), Reply::Done)
 }
 
-/// Decides an `add_node` of this name on a network that has this head. It reads no team and no book. The error is out of
-/// memory.
+/// Decides an `add_node` of this name on a network that has this head. It reads no team and no book. The error is out
+/// of memory.
 pub fn decide_add_node_on(alloc: Global, head: &Head, name: &Name) -> Result<Decision, AllocError>
     ensures { IfOk result (λ d. (at : List ℕ) (net : NetModel) (book : SpnBook)
         → Decides at (record { net = Some (with_head head.now net); book = book })

@@ -111,7 +111,8 @@ fn granted(alloc: Global, name: &NetName, command: &Grant) -> Result<Change, All
     }
 }
 
-/// Decides the team's `grant` on a network of this name that has this head and these blocks. The error is out of memory.
+/// Decides the team's `grant` on a network of this name that has this head and these blocks. The error is out of
+/// memory.
 pub fn decide_grant_on(
     alloc: Global,
     team: &Team,

@@ -51,7 +51,8 @@ pub(crate) fn least_beside(
     Ok(least_free(&rising, blocks, form))
 }
 
-/// The least number of the team's blocks that has the form and isn't taken, if there is one. The error is out of memory.
+/// The least number of the team's blocks that has the form and isn't taken, if there is one. The error is out of
+/// memory.
 pub(crate) fn least_of_team<T: Taken>(
     alloc: Global,
     taken: &T,

@@ -36,7 +36,7 @@ use Rattle.script_advice.specs.declared.cause.Wrong.{Wrong}
 abbrev pub wrong_at : ℕ → Cause → Wrong
 wrong_at index cause = record { word = index; cause = cause }
 
--- ---- the command of a line of a script, or of a bundle's file: its word, its fields, and whether it can be had of values
+-- ---- the command of a line of a script, or of a bundle's file: its word, its fields, and whether values give it
 
 abbrev pub command_word : LineCommand → List ℕ
 command_word (Whole kind) = word_of kind

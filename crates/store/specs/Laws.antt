@@ -12,7 +12,7 @@ use Rattle.office_types.specs.State.{live_messages, sheet_of}
 use Rattle.office_types.specs.declared.state.Net.{Net}
 use Rattle.office_types.specs.declared.state.Office.{Office}
 use Rattle.office_rules.specs.Step.{net_named}
-use Rattle.office_law.specs.Apart.{asks_book}
+use Rattle.office_law.specs.Apart.{needs_book}
 use Rattle.office_tables.specs.Tables.{Tables}
 use Rattle.office_rows.specs.Rows.{is_of_net}
 use Rattle.office_history.specs.History.{Answered, IsLegal, IsLegalHistory}
@@ -44,5 +44,5 @@ pub record HeldNumbersMeanOneThing : Type 0 where
 -- the command doesn't ask the book, and with this arrival no pair of team and key names two networks in either.
 abbrev pub HeldNetworksAreApart : Type 0
 HeldNetworksAreApart =
-    (h g : List Answered) (a : Answered) (t u : Tables) → Holds (h ++ a ∷ []) t → Holds g u → asks_book a.command.task ≡ false
+    (h g : List Answered) (a : Answered) (t u : Tables) → Holds (h ++ a ∷ []) t → Holds g u → needs_book a.command.task ≡ false
     → HaveOneNetwork (h ++ a ∷ []) → HaveOneNetwork (g ++ a ∷ []) → filter (is_on a.command.net) h ≡ filter (is_on a.command.net) g → IsLegalHistory (g ++ a ∷ [])

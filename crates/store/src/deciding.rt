@@ -4,7 +4,7 @@
 //! that give out a number the numbers that could be given out. `retire` also reads the last release: in the network of
 //! an office it has each live message that was released. `release`, `import` and bundles read all of their network but
 //! its releases; of these `release` reads how many there are, and a bundle with `retire` what is in them. The book is
-//! read where the command depends on it, and for a bundle.
+//! read for `grant`, for `take_spn`, and with all of a network.
 ghost use Rattle.std.specs.Prelude.{◌≡◌, true, false, Option, Some, IfSome};
 ghost use Rattle.std.specs.List.{list_any};
 ghost use Rattle.sqlite.specs.Held.{state};
@@ -182,8 +182,8 @@ fn decide_by_net<S: Alter>(
     Ok((decision, Some(next)))
 }
 
-/// Decides the team's command on what the tables have, where that is a network of an office, and gives the number of the
-/// network's next release if the changes may have one. An error is out of memory, what `sqlite` answers, or
+/// Decides the team's command on what the tables have, where that is a network of an office, and gives the number of
+/// the network's next release if the changes may have one. An error is out of memory, what `sqlite` answers, or
 /// `InvalidQuery` where the rows are no office's.
 pub(crate) fn decide_on_tables<S: Alter>(
     alloc: Global,

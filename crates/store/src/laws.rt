@@ -6,7 +6,7 @@ use office_history::{
 };
 
 /// After every history that tables hold, no two live messages of a network have one identifier, no message has two
-/// signals that share a bit, and `message` has one row for each live message and no other.
+/// signals that share a bit, and `msg` has one row for each live message and no other.
 pub fn held_networks_are_clear()
     ensures { HeldNetworksAreClear }
 {
@@ -25,8 +25,9 @@ pub fn held_numbers_mean_one_thing()
 
 /// After every history that tables hold, networks are apart: what the last arrival on a network was answered depends
 /// on the arrivals on that network alone, with what they were answered. So it may be answered the same where other
-/// tables hold the same arrivals on it, whatever they hold of other networks. This is so of each command but
-/// `take_spn` and a grant of suspect parameter numbers, which ask the book of the whole office.
+/// tables hold the same arrivals on it, whatever they hold of other networks. This is so of each command that doesn't
+/// depend on the book of the whole office, as `take_spn`, a grant of suspect parameter numbers and a bundle with one of
+/// these do, and where no pair of team and key names two networks.
 pub fn held_networks_are_apart()
     ensures { HeldNetworksAreApart }
 {

@@ -20,9 +20,9 @@ abbrev pub row_marks : Profile → List Row
 row_marks p = mark_row 1 (profile_number p) ∷ mark_row 2 2 ∷ []
 
 -- tables of the first profile hold arrivals of that profile alone
-abbrev pub CameUnder : Profile → List Answered → Type 0
-CameUnder One h = All (λ a. a.profile ≡ One) h
-CameUnder Two h = Unit {0}
+abbrev pub AreUnder : Profile → List Answered → Type 0
+AreUnder One h = All (λ a. a.profile ≡ One) h
+AreUnder Two h = Unit {0}
 
 -- no live message is there as rows, and no reply has parts
 pub record HasBodiesAlone (t : Tables) : Type 0 where
@@ -36,10 +36,10 @@ pub record HasBodiesAlone (t : Tables) : Type 0 where
 pub record HoldsAsBodies (h : List Answered) (t : Tables) : Type 0 where
   pub holds : HoldsIn HasBodies body_marks h t
   pub alone : HasBodiesAlone t
-  pub came : CameUnder One h
+  pub came : AreUnder One h
 
 -- the history in tables of a profile with live messages as rows; no body is there
 pub record HoldsAsRows (p : Profile) (h : List Answered) (t : Tables) : Type 0 where
   pub holds : HoldsIn HasRows (row_marks p) h t
   pub emptied : t.message ≡ []
-  pub came : CameUnder p h
+  pub came : AreUnder p h

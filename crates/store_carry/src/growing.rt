@@ -17,7 +17,7 @@ use crate::forms::Form;
 use crate::marks::Marks;
 use crate::renewing::renew_profile;
 use crate::watch::Watch;
-use office_tables::{create_part, make_last};
+use office_tables::{create_part, make_live_tables};
 use sqlite::{Alter, Error, Transaction};
 use std::alloc::Global;
 
@@ -45,7 +45,7 @@ pub fn carry_bodies<S: Alter, W: Watch>(
         → KeepsCommit (state S.Store tx.old.conn.now) (state S.Store tx.new.conn.now) }
     ensures survives { LeavesNothing (state S.Store tx.old.conn.now) (state S.Store tx.new.conn.now) }
 {
-    make_last(tx)?;
+    make_live_tables(tx)?;
     carry_over(alloc, tx, watch)
 }
 

@@ -15,7 +15,7 @@ use Rattle.store_rows.specs.Live.{AreLiveRows, live_rows}
 use Rattle.store_rows.specs.NetIn.{HasRows, IsNetIn, RestRows}
 use Rattle.store_rows.specs.Rows.{IsNetRow, IsRowOf}
 use Rattle.store_rows.proofs.Listing.{none_listed}
-use Rattle.store_net.specs.Excerpts.{ArePartsIn, IsExcerptFor, IsReadIn, IsRetireExcerpt, MatchBoth, TellsExcerpt}
+use Rattle.store_net.specs.Excerpts.{ArePartsIn, IsExcerptFor, IsReadIn, IsRetireExcerpt, MatchBoth, ShowsExcerpt}
 use Rattle.store_net.specs.Parts.{HasBlocks, HasHead}
 
 none_some : {X : Type 0} (x : X) → None ≡ Some x → ⊥
@@ -36,12 +36,12 @@ pub one_there : (P : Net → Excerpt → Type 0) (name : List ℕ) (t : Tables) 
 one_there P name t None e head holds at = none_some e.head (sym (head None at))
 one_there P name t (Some net) e head holds at = holds net at (one_some e.head net.head (head (Some net.head) at.head))
 
-pub none_reported : (name message : List ℕ) (t : Tables) (net : Option Net) → ((other : Option Head) → HasHead name t other → None ≡ other) → IsReadIn name t net → TellsExcerpt message net None
+pub none_reported : (name message : List ℕ) (t : Tables) (net : Option Net) → ((other : Option Head) → HasHead name t other → None ≡ other) → IsReadIn name t net → ShowsExcerpt message net None
 none_reported name message t net head at = none_there (IsExcerptFor message) name t net head at
 
 pub one_reported : (name message : List ℕ) (t : Tables) (net : Option Net) (e : Excerpt) → ((other : Option Head) → HasHead name t other → Some e.head ≡ other)
     → ((others : List GrantedBlock) → HasBlocks name t others → e.blocks ≡ others) → ((live : List LiveMessage) → AreLiveRows name (live_rows name t) live → e.found ≡ live_named live message)
-    → IsReadIn name t net → TellsExcerpt message net (Some e)
+    → IsReadIn name t net → ShowsExcerpt message net (Some e)
 one_reported name message t net e head blocks found at =
     one_there (IsExcerptFor message) name t net e head (λ n parts same. record { head = same; blocks = blocks n.blocks parts.blocks; found = found n.live parts.live }) at
 
@@ -60,11 +60,12 @@ pub rows_are_read : (name : List ℕ) (t : Tables) (net : Option Net) → IsNetI
 rows_are_read name t None at = subst (λ (r : RestRows). AreListed net_order (IsRowOf net_row (IsNetRow name)) r.head []) (sym at.rest) none_listed
 rows_are_read name t (Some net) at = record { head = at.rest.head; blocks = at.rest.blocks; held = at.rest.held; live = at.live }
 
--- of an excerpt for the message of a `retire`: no message is found, or it is known whether the last release has its number
-pub none_to_retire : (message : List ℕ) (net : Option Net) → TellsExcerpt message net None → MatchBoth (IsRetireExcerpt message) net None
+-- of an excerpt for the message of a `retire`: no message is found, or it is known whether the last release has its
+-- number
+pub none_to_retire : (message : List ℕ) (net : Option Net) → ShowsExcerpt message net None → MatchBoth (IsRetireExcerpt message) net None
 none_to_retire message net both = none_more (IsExcerptFor message) (IsRetireExcerpt message) net both
 
-pub one_to_retire : (message : List ℕ) (net : Option Net) (e made : Excerpt) → TellsExcerpt message net (Some e) → made ≡ record e { released = made.released }
+pub one_to_retire : (message : List ℕ) (net : Option Net) (e made : Excerpt) → ShowsExcerpt message net (Some e) → made ≡ record e { released = made.released }
     → ((n : Net) → net ≡ Some n → IfSome e.found (λ m. in_last n.releases m.message.ident ≡ made.released)) → MatchBoth (IsRetireExcerpt message) net (Some made)
 one_to_retire message None e made both is released = both
 one_to_retire message (Some n) e made both is released = subst (λ (x : Excerpt). IsRetireExcerpt message n x) (sym is) (record {

@@ -21,7 +21,7 @@ use Rattle.catalogue.proofs.Naming.{bytes_eq-flip}
 use Rattle.office_types.specs.State.{by_name}
 use Rattle.office_types.specs.declared.state.Head.{Head}
 use Rattle.office_types.specs.declared.state.Net.{Net}
-use Rattle.office_law.proofs.OrderedNets.{order_tells}
+use Rattle.office_law.proofs.OrderedNets.{order_shows}
 use Rattle.office_tables.specs.Tables.{Tables}
 use Rattle.office_tables.specs.Selected.{IsSelected}
 use Rattle.office_rows.specs.Rows.{frozen_row, is_any, is_of_net, net_row}
@@ -103,7 +103,7 @@ above net row is (n ∷ nets) (x ∷ rows) less all =
 not_among : (net : Net) (nets : List Net) → AllByRecursion (λ other. by_name net other ≡ Less) nets → among nets net.name ≡ false
 not_among net [] less = refl
 not_among net (n ∷ nets) less =
-    let apart : bytes_eq n.name net.name ≡ false = bytes_eq-flip n.name net.name ∙ sym (order_tells net n) ∙ ap is_eq less.0 in
+    let apart : bytes_eq n.name net.name ≡ false = bytes_eq-flip n.name net.name ∙ sym (order_shows net n) ∙ ap is_eq less.0 in
     ap (λ t. t || among nets net.name) apart ∙ not_among net nets less.1
 
 others_alone : (net : Net) (nets : List Net) (rows : List Row) → AllByRecursion (λ other. by_name net other ≡ Less) nets

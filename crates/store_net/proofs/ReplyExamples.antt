@@ -13,7 +13,7 @@ use Rattle.office_rules.specs.Profile.{Two}
 use Rattle.std.proofs.lemmas.List.Sorted.{IsPermutation-refl, IsPermutation-to_front}
 use Rattle.office_history.specs.declared.arrival.Answer.TheVariants as answer
 use Rattle.office_history.specs.History.{Answered}
-use Rattle.office_rules.proofs.Asking.{engine, takes}
+use Rattle.office_rules.proofs.TeamCommand.{engine, takes}
 use Rattle.store_net.specs.Kept.{AreKept, AreKeptParts, kept_row, part_rows}
 use Rattle.store_net.specs.Writing.{next_number}
 

@@ -40,8 +40,8 @@ MatchBoth P None (Some e) = ⊥
 MatchBoth P (Some net) None = ⊥
 MatchBoth P (Some net) (Some e) = P net e
 
-abbrev pub TellsExcerpt : List ℕ → Option Net → Option Excerpt → Type 0
-TellsExcerpt message net e = MatchBoth (IsExcerptFor message) net e
+abbrev pub ShowsExcerpt : List ℕ → Option Net → Option Excerpt → Type 0
+ShowsExcerpt message net e = MatchBoth (IsExcerptFor message) net e
 
 -- the excerpt is the network's but for identifiers, of which none is wanted: whether a live message has this name, and
 -- whether there are as many as there may be

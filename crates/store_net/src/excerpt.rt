@@ -4,7 +4,7 @@ ghost use Rattle.std.specs.Prelude.{Option, ◌≡◌};
 ghost use Rattle.office_types.specs.declared.state.Net.{Net as Network};
 ghost use Rattle.sqlite.specs.Held.{state};
 ghost use Rattle.store_rows.specs.NetIn.{IsNetAt};
-ghost use Rattle.store_net.specs.Excerpts.{HasHeadAndBlocks, IsReadIn, IsRetireExcerpt, MatchBoth, TellsExcerpt};
+ghost use Rattle.store_net.specs.Excerpts.{HasHeadAndBlocks, IsReadIn, IsRetireExcerpt, MatchBoth, ShowsExcerpt};
 ghost use Rattle.office_rows.specs.Statement.{ChangesNothing, CommitsNothing, Finds, LeavesNothing};
 
 use crate::message::message_at;
@@ -71,7 +71,7 @@ pub fn message_excerpt_at<S: Alter>(
 ) -> Result<Option<Excerpt>, Error>
     ensures same_reference { tx.new.conn.ghost_name ≡ tx.old.conn.ghost_name }
     ensures found { Finds result (state S.Store tx.old.conn.now) (state S.Store tx.new.conn.now)
-        (λ found t. (net : Option Network) → IsReadIn name.now t net → TellsExcerpt message.now net found) }
+        (λ found t. (net : Option Network) → IsReadIn name.now t net → ShowsExcerpt message.now net found) }
     ensures same { ChangesNothing result (state S.Store tx.old.conn.now) (state S.Store tx.new.conn.now) }
     ensures kept { CommitsNothing (state S.Store tx.old.conn.now) (state S.Store tx.new.conn.now) }
     ensures survives { LeavesNothing (state S.Store tx.old.conn.now) (state S.Store tx.new.conn.now) }

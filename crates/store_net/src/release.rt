@@ -84,8 +84,8 @@ fn body_has(alloc: Global, body: &[u8], ident: Ident) -> Result<bool, Error>
     }
 }
 
-/// Whether the network's release of the number has a message of the identifier; false where there is none of the number.
-/// The errors are those of [`release_text`].
+/// Whether the network's release of the number has a message of the identifier; false where there is none of the
+/// number. The errors are those of [`release_text`].
 fn release_has_at<S: Alter>(
     alloc: Global,
     tx: &mut Transaction<'_, S>,

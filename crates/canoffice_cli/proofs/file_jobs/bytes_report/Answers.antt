@@ -1,5 +1,5 @@
 use Rattle.canoffice_cli.specs.Explaining.{IsStated}
-use Rattle.canoffice_cli.specs.Performance.{ComesTo}
+use Rattle.canoffice_cli.specs.Performance.{IsTaskOutcome}
 use Rattle.canoffice_cli.proofs.StatedMore.{with_more, without_more}
 use Rattle.canoffice_cli.proofs.file_jobs.bytes_report.Goals as goal
 
@@ -9,7 +9,7 @@ returns-in_ok-report g c =
     let before = g.D.Databases.known c.args.databases.now in
     let after = g.D.Databases.known c.task_report.new.databases in
     let job = c.args.job in
-    with_more job.explain (ComesTo files before after job.task c.args.bytes.now) (IsStated files job.task job.path.now c.args.bytes.now) c.and_errors.result c.in_ok-report.report
+    with_more job.explain (IsTaskOutcome files before after job.task c.args.bytes.now) (IsStated files job.task job.path.now c.args.bytes.now) c.and_errors.result c.in_ok-report.report
     c.in_ok-stated.stated.items c.if-job.true c.in_ok-report.ensures (rw c.as_bytes.ensures.value at c.in_ok-stated.ensures) (rw c.deref.ensures.value at c.and_errors.ensures)
 
 pub returns-else-job : goal.returns-else-job
@@ -18,4 +18,4 @@ returns-else-job g c =
     let before = g.D.Databases.known c.args.databases.now in
     let after = g.D.Databases.known c.task_report-else-job.new.databases in
     let job = c.args.job in
-    without_more job.explain (ComesTo files before after job.task c.args.bytes.now) (IsStated files job.task job.path.now c.args.bytes.now) c.task_report-else-job.result c.if-job.false c.task_report-else-job.ensures
+    without_more job.explain (IsTaskOutcome files before after job.task c.args.bytes.now) (IsStated files job.task job.path.now c.args.bytes.now) c.task_report-else-job.result c.if-job.false c.task_report-else-job.ensures

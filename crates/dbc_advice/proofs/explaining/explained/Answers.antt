@@ -1,14 +1,14 @@
 use Rattle.std.proofs.Common.{ℕ, List, ◌++◌, ap, subst, ◌∙◌}
 use Rattle.dbc_advice.specs.Explained.{AreFaultLines}
-use Rattle.dbc_advice.specs.declared.telling.Reported.{Reported}
+use Rattle.dbc_advice.specs.declared.findings.Reported.{Reported}
 use Rattle.dbc_advice.proofs.explaining.explained.Goals as goal
 
 pub returns : goal.returns
 returns c =
     let P : List Reported → Type 0 = λ reported. AreFaultLines c.args.source.name.now c.args.source.text.now reported c.in_ok-lines.lines.items in
     record {
-      telling = c.in_ok-telling.telling;
-      is = c.in_ok-telling.ensures;
+      findings = c.in_ok-findings.findings;
+      is = c.in_ok-findings.ensures;
       faults = c.in_ok-lines.lines.items;
       lines = subst P c.deref.ensures.value c.in_ok-lines.ensures;
       rest = c.in_ok-rest.rest.items;

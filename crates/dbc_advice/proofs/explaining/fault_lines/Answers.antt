@@ -1,6 +1,6 @@
 use Rattle.std.proofs.Common.{ℕ, List, ◌++◌, ap, subst, ◌∙◌}
 use Rattle.dbc_advice.specs.Explained.{IsFaultLine}
-use Rattle.dbc_advice.specs.declared.telling.Reported.{Reported}
+use Rattle.dbc_advice.specs.declared.findings.Reported.{Reported}
 use Rattle.dbc_advice.proofs.ReportedLines.{line_after}
 use Rattle.dbc_advice.proofs.explaining.fault_lines.Goals as goal
 

@@ -1,6 +1,6 @@
 use Rattle.std.proofs.Common.{◌∙◌, ◌++◌, List, [], ◌∷◌, append_assoc, append-nil, refl, subst, sym}
 use Rattle.std.proofs.lemmas.Result.{err_from_is_err_and}
-use Rattle.dbc_grammar.specs.Statement as says
+use Rattle.dbc_grammar.specs.Statement as dbc
 use Rattle.dbc_read.specs.Definitions.{AreDefinitions}
 use Rattle.dbc_read.proofs.DefinitionsAlone.{few_with_one, many_stated}
 use Rattle.dbc_read.proofs.OneByOne.{begin_with_all, begin_with_more, begin_without, none_read, one_read}
@@ -8,7 +8,7 @@ use Rattle.dbc_statements.specs.Statement.{statement_of}
 use Rattle.dbc_read.proofs.definitions.further_definitions.Goals as goal
 
 pub statements-init : goal.statements-init
-statements-init c = record { source = refl; read = none_read _ c.args.statements.now.tokens (tt, λ before h. subst (λ (x : List says.Statement). AreDefinitions x c.args.gathered) (sym (append-nil before)) h) }
+statements-init c = record { source = refl; read = none_read _ c.args.statements.now.tokens (tt, λ before h. subst (λ (x : List dbc.Statement). AreDefinitions x c.args.gathered) (sym (append-nil before)) h) }
 
 pub statements-smaller : goal.statements-smaller
 statements-smaller c = (rw c.in-Some.is at c.in_ok-next.ensures.next).fewer
@@ -23,7 +23,7 @@ statements-preserved c =
           (λ stated h. (
             few_with_one stated s h.0 (sym c.has_many_texts.ensures ∙ c.if-has_many_texts.false),
             λ before are.
-                subst (λ (x : List says.Statement). AreDefinitions x c.gather_definition.new.gathered) (append_assoc before stated (s ∷ []))
+                subst (λ (x : List dbc.Statement). AreDefinitions x c.gather_definition.new.gathered) (append_assoc before stated (s ∷ []))
                 (c.in_ok-gather_definition.ensures (before ++ stated) (h.1 before are)),
           )) at.invariant.read;
     }

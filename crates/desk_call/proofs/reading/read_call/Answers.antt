@@ -7,7 +7,7 @@ use Rattle.desk_head.specs.Demand.{demand_of, body_size}
 use Rattle.desk_head.specs.Head.{IsHeadAt}
 use Rattle.desk_call.specs.Call.{call_of, seen}
 use Rattle.desk_call.proofs.Gives.{gives_request}
-use Rattle.desk_call.proofs.Whole.{asks, either, not_whole}
+use Rattle.desk_call.proofs.Whole.{requests, either, not_whole}
 use Rattle.desk_call.proofs.reading.read_call.Goals as goal
 
 pub returns-in-Err-read_until-clause-read : goal.returns-in-Err-read_until-clause-read
@@ -49,7 +49,7 @@ returns-in-Ok-call_read-clause-ok g c =
     let is : seen c.in-Ok-call_read.call ≡ call_of head.1.0 rest =
     rw c.deref-4.ensures.value at
     (c.in-Ok-call_read.ensures head.1.0 (rw c.deref-3.ensures.value head.1.2) demand) in
-    asks (left c.args.source.now) _ _ got (drop spans.len got) rest head.1.0 _
+    requests (left c.args.source.now) _ _ got (drop spans.len got) rest head.1.0 _
     c.in-Ok-Some.ensures.moves second head.1.1 is end
 
 pub returns-in-Err-read_until-clause-most : goal.returns-in-Err-read_until-clause-most

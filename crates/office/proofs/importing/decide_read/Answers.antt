@@ -17,6 +17,6 @@ returns-in-Some c =
     let given = read_fault c.args.file.now c.in-Err.fault _ refl other (c.in-Err.ensures.none other) c.in-Err.ensures.within c.in-Err.ensures.tokens in
     record {
       reading = Unreadable c.in-Some.reported;
-      read = record { fault = c.in-Err.fault; given = given; tells = c.in-Some.ensures };
+      read = record { fault = c.in-Err.fault; given = given; reports = c.in-Some.ensures };
       decides = c.decide_unreadable.ensures c.args.team.now;
     }

@@ -13,9 +13,9 @@ use Rattle.store_carry.proofs.growing.carry_bodies.Goals as goal
 pub returns-clause-held : goal.returns-clause-held
 returns-clause-held g c clean was =
     let s0 = state g.S.Store c.args.tx.now.conn.now in
-    let s1 = state g.S.Store c.make_last.new.tx.conn.now in
+    let s1 = state g.S.Store c.make_live_tables.new.tx.conn.now in
     let clean1 : HasCleanDisk s1 = omega (arith, c.carry_over.ensures.survives.clean, clean) in
-    let grown = c.in_ok-make_last.ensures.grown clean1 was in
+    let grown = c.in_ok-make_live_tables.ensures.grown clean1 was in
     on_ok_weaker c.carry_over.result
     (λ held h at. held h (subst (HoldsAsBodies h) (sym (grown_tables schema_9 s0 s1 grown)) at))
     (c.carry_over.ensures.held clean (grown_office schema_9 s0 s1 grown))
@@ -23,21 +23,21 @@ returns-clause-held g c clean was =
 pub returns-clause-office : goal.returns-clause-office
 returns-clause-office g c clean was =
     let s0 = state g.S.Store c.args.tx.now.conn.now in
-    let s1 = state g.S.Store c.make_last.new.tx.conn.now in
+    let s1 = state g.S.Store c.make_live_tables.new.tx.conn.now in
     let clean1 : HasCleanDisk s1 = omega (arith, c.carry_over.ensures.survives.clean, clean) in
-    c.carry_over.ensures.office clean (grown_office schema_9 s0 s1 (c.in_ok-make_last.ensures.grown clean1 was))
+    c.carry_over.ensures.office clean (grown_office schema_9 s0 s1 (c.in_ok-make_live_tables.ensures.grown clean1 was))
 
 pub returns-clause-inside : goal.returns-clause-inside
 returns-clause-inside g c clean was =
     let s0 = state g.S.Store c.args.tx.now.conn.now in
-    let s1 = state g.S.Store c.make_last.new.tx.conn.now in
+    let s1 = state g.S.Store c.make_live_tables.new.tx.conn.now in
     let clean1 : HasCleanDisk s1 = omega (arith, c.carry_over.ensures.survives.clean, clean) in
-    c.carry_over.ensures.inside clean (grown_office schema_9 s0 s1 (c.in_ok-make_last.ensures.grown clean1 was))
+    c.carry_over.ensures.inside clean (grown_office schema_9 s0 s1 (c.in_ok-make_live_tables.ensures.grown clean1 was))
 
 pub returns-clause-kept : goal.returns-clause-kept
 returns-clause-kept g c clean was =
     let s0 = state g.S.Store c.args.tx.now.conn.now in
-    let s1 = state g.S.Store c.make_last.new.tx.conn.now in
+    let s1 = state g.S.Store c.make_live_tables.new.tx.conn.now in
     let s2 = state g.S.Store c.carry_over.new.tx.conn.now in
     let clean1 : HasCleanDisk s1 = omega (arith, c.carry_over.ensures.survives.clean, clean) in
-    keeps_then s0 s1 s2 (c.make_last.ensures.kept clean1) (c.carry_over.ensures.kept clean (grown_office schema_9 s0 s1 (c.in_ok-make_last.ensures.grown clean1 was)))
+    keeps_then s0 s1 s2 (c.make_live_tables.ensures.kept clean1) (c.carry_over.ensures.kept clean (grown_office schema_9 s0 s1 (c.in_ok-make_live_tables.ensures.grown clean1 was)))

@@ -4,7 +4,7 @@ use Rattle.catalogue.specs.Messages.{number_of}
 use Rattle.catalogue.specs.Same.{same_message}
 use Rattle.office_types.specs.declared.state.LiveMessage.{LiveMessage}
 use Rattle.office_types.specs.declared.state.Net.{Net}
-use Rattle.office_import.proofs.index.NetIndex.is_live_so.Goals as goal
+use Rattle.office_import.proofs.index.LiveIndex.is_live_so.Goals as goal
 
 pub returns : goal.returns
 returns c =

@@ -5,7 +5,7 @@ ghost use Rattle.office_fields.specs.Given.{read_once};
 ghost use Rattle.office_fields.specs.Reading.{Reads};
 ghost use Rattle.office_fields.specs.Value.{plain_name_of};
 ghost use Rattle.desk_head.specs.Fields.{named};
-ghost use Rattle.desk_call.specs.Call.{asking_of, bundle_of, command_of, content_of, import_of, key_of};
+ghost use Rattle.desk_call.specs.Call.{arrival_of, bundle_of, command_of, content_of, import_of, key_of};
 ghost use Rattle.desk_call.specs.Read.{ReadsArrival};
 
 use crate::values::{key_of, net_in};
@@ -92,8 +92,8 @@ fn content_of(alloc: Global, target: &[u8], body: &[u8]) -> Result<Vec<u8>, Allo
 
 /// The arrival of a request with this target, these headers in the first `len` bytes of the buffer, and this body.
 /// `Wrong` where a header or the body isn't as it must be.
-#[tactic(auto, unfolding(crate::specs::Call::asking_of))]
-pub(crate) fn asking_of(
+#[tactic(auto, unfolding(crate::specs::Call::arrival_of))]
+pub(crate) fn arrival_of(
     alloc: Global,
     posting: Posting,
     target: &[u8],
@@ -104,7 +104,7 @@ pub(crate) fn asking_of(
 ) -> Result<Arrival, Unread>
     requires fits { len ≤ length buf.now }
     requires within { All (IsHeaderWithin len) headers.now }
-    ensures { ReadsArrival (asking_of posting target.now (map (header_bytes buf.now) headers.now) body.now) result }
+    ensures { ReadsArrival (arrival_of posting target.now (map (header_bytes buf.now) headers.now) body.now) result }
 {
     let team = team_in(alloc, buf, headers, len)?;
     let key = key_in(alloc, buf, headers, len)?;

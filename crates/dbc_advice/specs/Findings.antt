@@ -8,13 +8,13 @@ use Rattle.dbc_advice.specs.FaultyLines.{AreLines}
 use Rattle.dbc_advice.specs.MayBeThere.{MayBeThere}
 use Rattle.dbc_advice.specs.Pieces.{statement_before}
 use Rattle.dbc_advice.specs.declared.faulty_lines.Lines.{Lines}
-use Rattle.dbc_advice.specs.declared.telling.Ending.{Ending}
-use Rattle.dbc_advice.specs.declared.telling.Ending.TheVariants.{Reads, Many, Long, Unchanged}
-use Rattle.dbc_advice.specs.declared.telling.TheConstants.{BYTES_READ_AGAIN, FAULTS_REPORTED}
-use Rattle.dbc_advice.specs.declared.telling.Next.{Next}
-use Rattle.dbc_advice.specs.declared.telling.Next.TheVariants as next
-use Rattle.dbc_advice.specs.declared.telling.Telling.{Telling}
-use Rattle.dbc_advice.specs.declared.telling.Reported.{Reported}
+use Rattle.dbc_advice.specs.declared.findings.Ending.{Ending}
+use Rattle.dbc_advice.specs.declared.findings.Ending.TheVariants.{Reads, Many, Long, Unchanged}
+use Rattle.dbc_advice.specs.declared.findings.TheConstants.{BYTES_READ_AGAIN, FAULTS_REPORTED}
+use Rattle.dbc_advice.specs.declared.findings.Next.{Next}
+use Rattle.dbc_advice.specs.declared.findings.Next.TheVariants as next
+use Rattle.dbc_advice.specs.declared.findings.Findings.{Findings}
+use Rattle.dbc_advice.specs.declared.findings.Reported.{Reported}
 
 abbrev pub without : Lines → List ℕ → List ℕ
 without lines text = blanked lines.first lines.last text
@@ -58,7 +58,7 @@ EndsBy source reported left Many = length reported ≡ FAULTS_REPORTED
 EndsBy source reported left Long = BYTES_READ_AGAIN < length reported * length source
 EndsBy source reported left Unchanged = IsUnchanged source reported left
 
-pub record IsTelling (source : List ℕ) (t : Telling) : Type 0 where
+pub record AreFindings (source : List ℕ) (t : Findings) : Type 0 where
   pub left : List ℕ
   pub reported : AreReported source t.reported.items left
   pub few : length t.reported.items ≤ FAULTS_REPORTED

@@ -60,8 +60,8 @@ truck = codes "truck"
 abbrev pub bus : List ℕ
 bus = codes "bus"
 
-abbrev pub asks : List ℕ → Action → Requested
-asks team action = record { team = team; reading = Reading empty_sheet; command = record { net = truck; task = Act action } }
+abbrev pub requests : List ℕ → Action → Requested
+requests team action = record { team = team; reading = Reading empty_sheet; command = record { net = truck; task = Act action } }
 
 abbrev pub imports : List ℕ → Sheet → Requested
 imports team s = record { team = team; reading = Reading s; command = record { net = truck; task = Import [] } }
@@ -71,29 +71,29 @@ abbrev pub on_bus : Requested → Requested
 on_bus q = record q { command = record q.command { net = bus } }
 
 abbrev pub opens : NetKind → ℕ → Requested
-opens kind reviews = asks office (act.OpenNet (record { kind = kind; reviews = reviews }))
+opens kind reviews = requests office (act.OpenNet (record { kind = kind; reviews = reviews }))
 
 abbrev pub grants : List ℕ → BlockForm → ℕ → ℕ → Requested
-grants team form first last = asks office (act.Grant (record { team = team; block = record { form = form; first = first; last = last } }))
+grants team form first last = requests office (act.Grant (record { team = team; block = record { form = form; first = first; last = last } }))
 
 -- a network with a block of three identifiers
 abbrev pub setup : List Requested → List Requested
 setup qs = opens Can 0 ∷ grants engine block.Std 256 258 ∷ qs
 
 abbrev pub adds : List ℕ → Requested
-adds node = asks office (act.AddNode node)
+adds node = requests office (act.AddNode node)
 
 abbrev pub named : List ℕ → NewMessage
 named name = record { name = name; length = 8; node = None }
 
 abbrev pub takes : List ℕ → List ℕ → Option ℕ → Requested
-takes team name want = asks team (act.TakeIdent (record { form = Standard; message = named name; want = want }))
+takes team name want = requests team (act.TakeIdent (record { form = Standard; message = named name; want = want }))
 
 abbrev pub takes_ext : List ℕ → Option ℕ → Requested
-takes_ext name want = asks engine (act.TakeIdent (record { form = Extended; message = named name; want = want }))
+takes_ext name want = requests engine (act.TakeIdent (record { form = Extended; message = named name; want = want }))
 
 abbrev pub takes_group : List ℕ → Pdu → Requested
-takes_group name pdu = asks engine (act.TakePgn (record { message = named name; pdu = pdu; priority = 6; source = 0 }))
+takes_group name pdu = requests engine (act.TakePgn (record { message = named name; pdu = pdu; priority = 6; source = 0 }))
 
 abbrev pub path : List ℕ → List ℕ → SignalPath
 path message signal = record { message = message; signal = signal }
@@ -118,19 +118,19 @@ bits signal size order mux start = record {
 }
 
 abbrev pub takes_bits : List ℕ → ℕ → Order → Mux → Option ℕ → Requested
-takes_bits signal size order mux start = asks engine (act.TakeBits (bits signal size order mux start))
+takes_bits signal size order mux start = requests engine (act.TakeBits (bits signal size order mux start))
 
 abbrev pub takes_spn : List ℕ → Option ℕ → Requested
-takes_spn signal same = asks engine (act.TakeSpn (record { path = path (codes "E1") signal; same = same }))
+takes_spn signal same = requests engine (act.TakeSpn (record { path = path (codes "E1") signal; same = same }))
 
 abbrev pub message : Ident → List ℕ → List Signal → Message
 message i name signals = record { ident = i; name = name; length = 8; transmitter = None; comment = []; signals = signals }
 
 abbrev pub sets_values : List ℕ → List ValueText → Requested
-sets_values signal values = asks engine (act.SetValues (record { path = path (codes "E1") signal; values = values }))
+sets_values signal values = requests engine (act.SetValues (record { path = path (codes "E1") signal; values = values }))
 
 abbrev pub removes : List ℕ → Requested
-removes signal = asks engine (act.RemoveSignal (path (codes "E1") signal))
+removes signal = requests engine (act.RemoveSignal (path (codes "E1") signal))
 
 abbrev requested_action : Task → Action
 requested_action (Act a) = a

@@ -3,7 +3,7 @@ ghost use Rattle.std.specs.Prelude.{◌≡◌, ◌<◌, ◌≤◌, ◌*◌, ◌�
 ghost use Rattle.dbc_advice.specs.FaultyLines.{AreLines};
 ghost use Rattle.dbc_advice.specs.MayBeThere.{MayBeThere};
 ghost use Rattle.dbc_advice.specs.Pieces.{statement_before};
-ghost use Rattle.dbc_advice.specs.Telling.{IsBlankUpTo, IsTelling, IsNext, IsReported, without};
+ghost use Rattle.dbc_advice.specs.Findings.{IsBlankUpTo, AreFindings, IsNext, IsReported, without};
 ghost use Rattle.dbc_read.specs.Reading.{IsReadFault};
 
 use crate::blanking::blanked;
@@ -48,7 +48,7 @@ pub(crate) enum Ending {
 }
 
 /// The faults of a text.
-pub(crate) struct Telling {
+pub(crate) struct Findings {
     /// The faults, in the order in which they were found.
     pub reported: Vec<Reported>,
     /// Why no more are reported.
@@ -167,20 +167,20 @@ fn is_long(size: usize, reported: usize) -> bool
 /// The faults of the text: its fault, then that of the text with the lines of this fault blanked, and so on, until what
 /// is left reads as a sheet, or [`FAULTS_REPORTED`] are reported, or the text would be read again for more than
 /// [`BYTES_READ_AGAIN`], or all up to the last fault is blank already. The error is out of memory.
-pub(crate) fn reported_faults(alloc: Global, source: &[u8]) -> Result<Telling, AllocError>
-    ensures { IfOk result (IsTelling source.now) }
+pub(crate) fn reported_faults(alloc: Global, source: &[u8]) -> Result<Findings, AllocError>
+    ensures { IfOk result (AreFindings source.now) }
 {
     let mut reported = Vec::new(alloc);
     let mut text = Vec::from_slice(alloc, source)?;
     for count in 0..FAULTS_REPORTED {
         if is_long(source.len(), count) {
             let ending = Ending::Long;
-            return Ok(Telling { reported, ending });
+            return Ok(Findings { reported, ending });
         }
         match reported_next(alloc, &text)? {
             Next::Reads(reading) => {
                 let ending = Ending::Reads(reading);
-                return Ok(Telling { reported, ending });
+                return Ok(Findings { reported, ending });
             }
             Next::Fault(fault) => {
                 let Lines { first, last } = fault.lines;
@@ -189,14 +189,14 @@ pub(crate) fn reported_faults(alloc: Global, source: &[u8]) -> Result<Telling, A
                 let same = rest == text;
                 if same {
                     let ending = Ending::Unchanged;
-                    return Ok(Telling { reported, ending });
+                    return Ok(Findings { reported, ending });
                 }
                 text = rest;
             }
         }
     }
     let ending = Ending::Many;
-    Ok(Telling { reported, ending })
+    Ok(Findings { reported, ending })
 }
 
 impl Drop for Reported {
@@ -210,9 +210,9 @@ impl Drop for Reported {
     }
 }
 
-impl Drop for Telling {
+impl Drop for Findings {
     fn drop(self) {
-        let Telling {
+        let Findings {
             reported: _reported,
             ending: _ending,
         } = self;

@@ -1,6 +1,6 @@
 use Rattle.std.proofs.Common.{◌≡◌, length}
-use Rattle.dbc_advice.specs.Telling.{AreReported}
-use Rattle.dbc_advice.proofs.telling.reported_faults.Given as goal
+use Rattle.dbc_advice.specs.Findings.{AreReported}
+use Rattle.dbc_advice.proofs.findings.reported_faults.Given as goal
 
 abbrev pub invariant-loop-count : goal.invariant-loop-count
 invariant-loop-count l = record {

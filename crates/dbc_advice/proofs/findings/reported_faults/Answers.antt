@@ -1,7 +1,7 @@
 use Rattle.std.proofs.Common.{◌≡◌, ◌+◌, length, sym, ◌∙◌, arith}
-use Rattle.dbc_advice.specs.Telling.{IsReported}
+use Rattle.dbc_advice.specs.Findings.{IsReported}
 use Rattle.dbc_advice.proofs.ReportedMore.{is_reported, one_longer, reported_after, unchanged}
-use Rattle.dbc_advice.proofs.telling.reported_faults.Goals as goal
+use Rattle.dbc_advice.proofs.findings.reported_faults.Goals as goal
 
 pub returns-then-same : goal.returns-then-same
 returns-then-same c =

@@ -50,13 +50,33 @@ class Serve:
             client.sendall(request)
             return rest_of(client)
 
-    def stop_and_go_on(self):
-        """Stops the process where it waits, as `kill -STOP` does, and has it go on, as `kill -CONT` does."""
-        time.sleep(0.2)
-        self.process.send_signal(signal.SIGSTOP)
-        while "\nState:\tT" not in Path(f"/proc/{self.process.pid}/status").read_text():
+    def is_in(self, state):
+        """Waits until the process is in this state: S where it waits itself, T where it is stopped."""
+        while Path(f"/proc/{self.process.pid}/stat").read_text().rpartition(") ")[2][0] != state:
+            self.expect(self.process.poll(), None, "the exit status")
             time.sleep(0.01)
+
+    def stop(self, seconds):
+        """Stops the process where it waits, as `kill -STOP` does, and has it go on afterwards, as `kill -CONT` does."""
+        time.sleep(0.2)
+        self.is_in("S")
+        self.process.send_signal(signal.SIGSTOP)
+        self.is_in("T")
+        time.sleep(seconds)
         self.process.send_signal(signal.SIGCONT)
+
+    def import_large(self):
+        """The text of a file of 3.9 MB, which is imported into a new network `truck`. It is that of the live sheet then, and
+        more than the two ends of a connection keep."""
+        grant = '{"net":"truck","team":"engine","form":"ext","first":0,"last":20000}'
+        for key, command, body in (("o1", "open_net", '{"net":"truck","kind":"can","reviews":0}'), ("o2", "grant", grant)):
+            self.expect(self.ask(post(command, "office", key, body)), (200, '{"done":true}'), f"the answer to {command}")
+        text = 'VERSION ""\nNS_ :\nBS_:\nBU_:\n'
+        text += "".join(f"BO_ {2**31 + number} M{number}: 8 Vector__XXX\n" for number in range(14000))
+        text += "".join(f'CM_ BO_ {2**31 + number} "{"x" * 210}";\n' for number in range(14000))
+        head = f"POST /import/truck HTTP/1.1\r\nTeam: engine\r\nRequest-Key: i1\r\nContent-Length: {len(text)}\r\n\r\n"
+        self.expect(self.ask(head.encode() + text.encode()), (200, '{"new":14000,"same":0}'), "the answer to the import")
+        return text
 
     def end(self, status, errors):
         """It has served all its connections, and ends so."""

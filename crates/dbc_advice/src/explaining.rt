@@ -5,12 +5,12 @@ ghost use Rattle.dbc_advice.specs.Explained.{count_line, ending_text, fault_word
 
 use crate::clashes::unclear;
 use crate::faulty_lines::keyword_at;
+use crate::findings::{Ending, Findings, Reported, reported_faults};
 use crate::found::found_at;
 use crate::leaving::left_out;
 use crate::notes::Source;
 use crate::position::position_of;
 use crate::sentences::{code_label, reported_line, sentence};
-use crate::findings::{Ending, Reported, Findings, reported_faults};
 use dbc_read::Reading;
 use std::alloc::{AllocError, Global};
 

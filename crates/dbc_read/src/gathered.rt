@@ -105,8 +105,12 @@ pub(crate) fn attach_nothing(
 fn list_nothing(alloc: Global, signals: usize, gathered: &mut Gathered) -> Result<(), AllocError>
     ensures { OnOk result
         (gathered.new
-        ≡ record gathered.old { signal_comments = replicate signals []; signal_values = replicate signals [];
-        signal_types = replicate signals Integer; signal_spns = replicate signals 0 }) }
+        ≡ record gathered.old {
+          signal_comments = replicate signals [];
+          signal_values = replicate signals [];
+          signal_types = replicate signals Integer;
+          signal_spns = replicate signals 0;
+        }) }
 {
     gathered.signal_comments = no_texts(alloc, signals)?;
     gathered.signal_values = no_entries(alloc, signals)?;

@@ -222,7 +222,10 @@ pub(crate) fn nodes_with_offsets(
 }
 
 /// The names of a list of nodes, and how it ends.
-pub(crate) fn receivers(alloc: Global, tokens: &mut Tokens) -> Result<(Receivers, ListEnd), ReadFault>
+pub(crate) fn receivers(
+    alloc: Global,
+    tokens: &mut Tokens,
+) -> Result<(Receivers, ListEnd), ReadFault>
     ensures { Reads (λ list. list.0) result (nodes_at tokens.old) tokens.new }
 {
     nodes::<Receivers>(alloc, tokens)

@@ -63,8 +63,10 @@ pub fn keep_reply<S: Alter>(
 ) -> Result<(), Error>
     ensures same_reference { tx.new.conn.ghost_name ≡ tx.old.conn.ghost_name }
     ensures added { Writes result (state S.Store tx.old.conn.now) (state S.Store tx.new.conn.now) (λ before after. after
-        ≡ (record before { reply = before.reply ++ kept_row team.now key.now content.now reply.now ∷ [];
-        part = before.part ++ part_rows team.now key.now 1 (reply_parts reply.now) })) }
+        ≡ (record before {
+          reply = before.reply ++ kept_row team.now key.now content.now reply.now ∷ [];
+          part = before.part ++ part_rows team.now key.now 1 (reply_parts reply.now);
+        })) }
     ensures office { StaysOffice result (state S.Store tx.old.conn.now) (state S.Store tx.new.conn.now) }
     ensures inside { StaysInside result (state S.Store tx.old.conn.now) (state S.Store tx.new.conn.now) }
     ensures kept { AddsNoCommit (state S.Store tx.old.conn.now) (state S.Store tx.new.conn.now) }

@@ -21,12 +21,12 @@ statements-preserved c =
     let at = c.statements in
     let next = c.in-Some.next in
     let kept = c.without_offsets.result in
-    let cites_none : cites (content_of kept.content) ≡ false = ap (λ (s : dbc.Statement). cites s.content) c.without_offsets.ensures.dbc ∙ sym c.cites.ensures ∙ c.if-cites.false in
+    let cites_none : cites (content_of kept.content) ≡ false = ap (λ (s : dbc.Statement). cites s.content) c.without_offsets.ensures.says ∙ sym c.cites.ensures ∙ c.if-cites.false in
     record {
       source = c.read_next.ensures.source ∙ at.invariant.source;
       read = one_read _ _ (statement_of next) c.args.statements.now.tokens at.statements.tokens c.read_next.new.self.tokens (rw c.in-Some.is at c.in_ok-next.ensures.next)
           (λ stated h begun.
-          subst (λ (s : dbc.Statement). IsDefining (stated ++ s ∷ []) c.gather_statement.new.gathered) c.without_offsets.ensures.dbc
+          subst (λ (s : dbc.Statement). IsDefining (stated ++ s ∷ []) c.gather_statement.new.gathered) c.without_offsets.ensures.says
           (one_defined stated kept at.gathered c.gather_statement.new.gathered cites_none c.in_ok-gather_statement.ensures (h begun))) at.invariant.read;
       bare = λ h. subst (λ (g : Gathered). AreBare g.messages) (sym c.in_ok-gather_statement.ensures)
           (bare_after None (passed_of kept) kept.content at.gathered (c.without_offsets.ensures.nothing (rw c.in-Some.is at c.in_ok-next.ensures.nothing)) (at.invariant.bare h));

@@ -91,6 +91,8 @@ def rest_of(client):
     while more := client.recv(65536):
         text += more
     head, _, body = text.partition(b"\r\n\r\n")
+    if not head:
+        sys.exit("the connection was closed without a response")
     return int(head.split(b" ")[1]), body.decode(errors="surrogateescape")
 
 

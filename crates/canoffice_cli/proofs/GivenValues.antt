@@ -326,8 +326,7 @@ module _ (s : Shape) (words : List Text) (id : Text) (passes : Passes s words) w
       → ((first_of id (rows_after s.rules [] words) ≡ None) × (all_of id (rows_after s.rules [] words) ≡ None)) ⊎ IsFilled s.rules id (rows_after s.rules [] words)
   leaf_optional wants = optional_is_filled s [] words false [] id passes wants
 
--- the text that a typed getter reads of an argument that is a number in a range, for `signed_reads` of clap's
--- `CallerReads`
+-- the text that a typed getter of clap reads of an argument that is a number in a range, for `signed_reads`
 pub number_in_range : (a : Rule) (id : Text) (rows : List Row) (low high : ℕ) → a.parser ≡ Some (Signed (pos low) (pos high)) → IsFilledBy a id rows
     → (text : Text) × (one_of id rows ≡ Some (without_minus text)) × IsSignedIn (pos low) (pos high) text
 number_in_range a id rows low high parser filled = (

@@ -110,7 +110,7 @@ impl Timed {
 }
 
 /// One side of a TCP connection. It counts its failures, and fails once it has taken too long, or if no time limits
-/// could be set for it. No contract tells the bytes of a socket.
+/// could be set for it. No contract states the bytes of a socket.
 #[derive(Drop)]
 pub struct Line<'r, C> {
     pub(crate) timed: Option<Timed>,

@@ -28,7 +28,7 @@ pub trait Listener {
         ensures kept { ended self.new ≡ ended self.old }
         ensures failed { OnErr result ((coming self.new ≡ coming self.old) × NoneWaits (coming self.old)) };
 
-    /// IsClosed the connection, after its response or its fault.
+    /// Closes the connection, after its response or its fault.
     fn finish(&mut self, request: Self::Request, response: Self::Response)
         ensures ends { IsClosed (ended self.old) (ended self.new) (Self.Response.reported response)
             (Self.Request.failure_count request) (Self.Response.failure_count response) }

@@ -1,6 +1,6 @@
-//! Carrying out what was decided on a network that is there, and on the book: in place, where nothing can fail once
-//! something has changed: one change, and a message with its SPN, an identifier that is held as its message goes, and a
-//! head without approvals. More changes, and all other pairs, are made on copies first.
+//! Carrying out what was decided on a network that is there, and on the book. It is done in place where nothing can fail
+//! once something has changed: for one change, and for three pairs (a message and its SPN; an identifier that is held as
+//! its message goes; a head without approvals). More changes, and all other pairs, are made on copies first.
 ghost use Rattle.std.specs.Prelude.{◌≡◌, ◌∷◌, [], OnOk, OnErr, Some};
 ghost use Rattle.office_types.specs.declared.change.Change.TheVariants as change;
 ghost use Rattle.office_rules.specs.Change.{AllFit, Fits, NetAndBook, all_applied, changed_book, net_changed};
@@ -136,7 +136,7 @@ fn carry_both_out(
     carry_all_out(alloc, name, net, book, index, changes)
 }
 
-/// Sets a message, and enters a number into the book. When memory runs out, nothing changes.
+/// Sets a message, and enters a number into the book. When it fails, nothing changes.
 fn set_and_enter(
     alloc: Global,
     name: &NetName,
@@ -197,7 +197,7 @@ fn remove_and_hold(
     carry_both_out(alloc, name, net, book, index, first, second)
 }
 
-/// Sets a message, and makes another change, which fits after that. When memory runs out, nothing changes.
+/// Sets a message, and makes another change, which fits after that. When it fails, nothing changes.
 fn set_message_then(
     alloc: Global,
     name: &NetName,
@@ -290,7 +290,7 @@ fn set_head_then(
 }
 
 /// Makes two changes, the second of which fits after the first one: in place if they are one of the three pairs above.
-/// When memory runs out, nothing changes.
+/// When it fails, nothing changes.
 fn carry_two_out(
     alloc: Global,
     name: &NetName,
@@ -321,7 +321,7 @@ fn carry_two_out(
 }
 
 /// Carries out the changes that were decided for a network that is there, each of which fits after those before it, and
-/// the index follows. When memory runs out, nothing changes.
+/// the index follows. When it fails, nothing changes.
 pub(crate) fn carry_out_there(
     alloc: Global,
     name: &NetName,

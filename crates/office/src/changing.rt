@@ -29,8 +29,8 @@ fn ident_of(live: &LiveMessage) -> Ident
     live.message.ident
 }
 
-/// Inserts a live message at an index. When memory runs out, nothing changes, but where it does so for the index alone,
-/// that is dropped.
+/// Inserts a live message at an index of the list. When memory runs out, nothing changes; where it does so for the
+/// network's index alone, the message is inserted and that index is dropped.
 fn insert_message(
     alloc: Global,
     net: &mut Net,
@@ -83,7 +83,7 @@ pub(crate) fn replace_message(
     net.live.replace(at, message);
 }
 
-/// Sets a live message, in place of one of its number. When memory runs out, nothing changes.
+/// Sets a live message, in place of one of its number. When it fails, nothing changes.
 pub(crate) fn set_message(
     alloc: Global,
     net: &mut Net,

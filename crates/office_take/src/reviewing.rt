@@ -1,4 +1,4 @@
-//! TeamCommand for a review, approving, and turning a review down.
+//! Requesting a review, approving, and turning a review down.
 ghost use Rattle.std.specs.Prelude.{◌≡◌, ◌∷◌, [], ℕ, List, Some, IfOk};
 ghost use Rattle.std.specs.Option.{option_copied};
 ghost use Rattle.catalogue.specs.Refusing.{first_refusal};

@@ -1,5 +1,0 @@
-use Rattle.desk_call.proofs.One.{bytes_ask_one_thing}
-use Rattle.desk_call.proofs.laws.bytes_ask_one_thing.Goals as goal
-
-pub returns : goal.returns
-returns c = bytes_ask_one_thing

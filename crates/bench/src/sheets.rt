@@ -32,7 +32,7 @@ fn text_length(alloc: Global, sheet: &Sheet) -> Result<usize, AllocError> {
     Ok(text_of(alloc, sheet)?.len())
 }
 
-/// Compares the sheet with a copy, finds each message, asks whether the sheet is clear, and writes its text.
+/// Compares the sheet with a copy, finds each message, tests whether the sheet is clear, and writes its text.
 fn measure<R: Runtime>(rt: &R, alloc: Global, sheet: &Sheet, copy: &Sheet) -> io::Result<()> {
     let begin = Instant::now(rt)?;
     let equal = are_equal(sheet, copy);

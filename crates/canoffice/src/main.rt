@@ -17,7 +17,7 @@ fn main(rt: HostRuntime) -> ExitCode {
     ExitCode::from(run(&rt).code())
 }
 
-/// Reads the words, and performs what they ask for.
+/// Reads the words, and performs what they request.
 fn run(rt: &HostRuntime) -> Status {
     let words = match words(rt) {
         Ok(words) => words,
@@ -32,7 +32,7 @@ fn run(rt: &HostRuntime) -> Status {
     }
 }
 
-/// Performs what the words ask for. How far it is, is shown on standard error if that is a terminal.
+/// Performs what the words request. How far it is, is shown on standard error if that is a terminal.
 fn run_words(rt: &HostRuntime, words: &[&str]) -> Status {
     let errors = rt.stderr();
     let mut progress = Progress {

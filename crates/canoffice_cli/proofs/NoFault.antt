@@ -1,4 +1,4 @@
--- Steps that tell no fault, and the elements of a list.
+-- Steps that report no fault, and the elements of a list.
 use Rattle.std.proofs.Common.{◌≡◌, ◌⊎◌, ◌∙◌, ◌&&◌, ◌||◌, Bool, cond, true, false, refl, sym, ap, inl, inr, List, [], ◌∷◌, Some, true≢false}
 use Rattle.std.specs.Prelude.{find, unwrap_or}
 use Rattle.std.specs.List.{list_all, list_any}

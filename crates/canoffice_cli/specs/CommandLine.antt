@@ -1,4 +1,4 @@
--- The command line of the program, which job its words ask for, and which fault they have.
+-- The command line of the program, which job its words request, and which fault they have.
 use Rattle.std.specs.Prelude.{◌≡◌, ◌≢◌, ◌⊎◌, ℕ, Bool, List, [], ◌∷◌, find, map, codes, Option, Some, None, option_map, true, false, Result, Ok, Err}
 use Rattle.std.specs.Option.{option_and_then, option_map_or}
 use Rattle.std.specs.Str.{bytes_eq}
@@ -71,7 +71,7 @@ serve_app = with_rule (with_rule (with_rule (new_app (codes "serve")) (required_
 abbrev pub table_app : App
 table_app = with_rule (new_app (codes "table")) (required_word (codes "FILE"))
 
--- `--version` and `-V` ask for the version
+-- `--version` and `-V` request the version
 abbrev pub with_version : App → App
 with_version = on_top (λ s. record s { has_version = true })
 
@@ -95,7 +95,7 @@ canoffice_app =
 abbrev pub line_faults : List Text → Kinds
 line_faults words = fault_of canoffice_app words
 
--- ---- the job that the words ask for
+-- ---- the job that the words request
 
 -- the argument of this name has this value
 abbrev pub HasValue : List Row → Text → Text → Type 0
@@ -156,7 +156,7 @@ abbrev pub IsEntered : Option (Text × List Row) → Type 0
 IsEntered None = ⊥
 IsEntered (Some found) = IsWhole (find (λ s. bytes_eq found.0 s.name) canoffice_app.subs) found.1
 
--- ---- the fault of words that ask for no job
+-- ---- the fault of words that request no job
 
 -- the fault for clap's error of this kind
 abbrev pub IsFaultOfKind : ErrorKind → JobFault → Type 0
@@ -188,7 +188,7 @@ abbrev pub HasWrongNumber : List Text → Text → Type 0
 HasWrongNumber words word =
     (line_faults words ≡ []) × (name : Text) × (rows : List Row) × (subcommand_of canoffice_app words ≡ Some (name, rows)) × IsWrongNumber name rows word
 
--- the words ask for help, or for the version; or they have a fault of another kind, or a wrong number; or memory ran
+-- the words request help, or the version; or they have a fault of another kind, or a wrong number; or memory ran
 -- out
 abbrev pub IsJobFault : List Text → JobFault → Type 0
 IsJobFault words (Help text) = IsAmong DisplayHelp (line_faults words) ⊎ IsAmong DisplayVersion (line_faults words)
@@ -197,7 +197,7 @@ IsJobFault words (Usage text) =
     ⊎ ((word : Text) × HasWrongNumber words word)
 IsJobFault words Memory = Unit {0}
 
--- the words ask for a job, or have a fault
+-- the words request a job, or have a fault
 abbrev pub IsLine : List Text → Result Job JobFault → Type 0
 IsLine words (Ok job) = IsJob words job
 IsLine words (Err fault) = IsJobFault words fault

@@ -58,7 +58,7 @@ IsDone files input before after (Migrate database) o = IsMigrateOutcome before a
 IsDone files input before after (Serve database port count) o = IsServeOutcome before after database.now count o
 IsDone files input before after (Table file) o = IsFileOutcome files input before after (record { task = task.Table; path = file; explain = false }) o
 
--- the outcome of words that ask for no job: the text of their fault
+-- the outcome of words that request no job: the text of their fault
 abbrev pub IsFaultAnswer : JobFault → Outcome → Type 0
 IsFaultAnswer (Help text) o = o ≡ success (string_bytes text)
 IsFaultAnswer (Usage text) o = o ≡ wrong_input (string_bytes text)

@@ -11,7 +11,7 @@ ghost use Rattle.canoffice_cli.specs.Databases.{Begins};
 ghost use Rattle.canoffice_cli.specs.Outcome.{failure, outcome_of};
 
 use crate::lines::{Line, add_lines};
-use crate::progress::{AskingLines, Progress};
+use crate::progress::{Progress, RequestLines};
 use crate::report::{Report, Status};
 use crate::room::Room;
 use office_history::{Answer, Arrival, histories_grow};
@@ -84,7 +84,7 @@ fn answer_all<S: Alter, W: Write>(
     ensures err { OnErr result (office.new ≡ office.old) }
 {
     let mut answers = Vec::with_capacity(alloc, arrivals.len())?;
-    let mut lines = AskingLines::of(script);
+    let mut lines = RequestLines::of(script);
     for arrival in arrivals {
         progress.shows(lines.next_number());
         match office.arrive(alloc, &arrival.team, &arrival.key, &arrival.request) {
@@ -154,7 +154,7 @@ pub(crate) fn answer_in_memory<W: Write>(
 {
     let mut answers = Vec::with_capacity(alloc, arrivals.len())?;
     let mut office = KeyedOffice::new(alloc);
-    let mut lines = AskingLines::of(script);
+    let mut lines = RequestLines::of(script);
     for arrival in arrivals {
         progress.shows(lines.next_number());
         match office.arrive(alloc, &arrival.team, &arrival.key, &arrival.request) {

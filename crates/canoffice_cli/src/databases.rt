@@ -57,7 +57,7 @@ pub trait Databases {
     ) -> Result<(), Lost>
         ensures { IsMigrated (known self.old) (known self.new) path.now result };
 
-    /// Serves `count` connections of the port of this machine by the office in the database at the path, and tells on
+    /// Serves `count` connections of the port of this machine by the office in the database at the path, and shows on
     /// the machine's standard error when it listens, and when the office fails. The error is why it ended before that,
     /// or that the office has failed.
     fn serve(&mut self, alloc: Global, path: &str, port: u16, count: u32) -> Result<(), ServeEnd>

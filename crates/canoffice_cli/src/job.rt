@@ -1,4 +1,4 @@
-//! The job that the words of the command line ask for.
+//! The job that the words of the command line request.
 ghost use Rattle.std.specs.Prelude.{◌≡◌, IfOk, IfErr, map, codes};
 ghost use Rattle.clap.specs.Words.{found_of, kind_of, rows_of, subcommand_rows_of};
 ghost use Rattle.canoffice_cli.specs.CommandLine.{HasSome, IsEntered, IsJob, IsJobIn, IsJobOf, IsFaultOfKind};
@@ -73,10 +73,10 @@ pub enum Job<'a> {
     },
 }
 
-/// Why the words of the command line ask for no job.
+/// Why the words of the command line request no job.
 #[derive(Debug, Drop)]
 pub enum JobFault {
-    /// They ask for help, or for the version, and this is its text.
+    /// They request help, or the version, and this is its text.
     Help(String),
     /// They are wrong; this text explains the error and the usage.
     Usage(String),
@@ -93,10 +93,10 @@ enum ValueFault<'a> {
     Memory,
 }
 
-/// The job that the program's words ask for, each number in its range. The first word is the program's own name.
+/// The job that the program's words request, each number in its range. The first word is the program's own name.
 ///
 /// The result is a job exactly if clap finds no fault in the words and each word for a number gives one in its range,
-/// unless memory runs out: it is `Help` only if they ask for help or for the version, and `Usage` only if they have
+/// unless memory runs out: it is `Help` only if they request help or the version, and `Usage` only if they have
 /// another fault, or a word for a number that gives none in its range, the first of which the text names.
 pub fn job_of<'a>(alloc: Global, words: &'a [&'a str]) -> Result<Job<'a>, JobFault>
     ensures job { IfOk result (IsJob (map (λ s. s.now) words.entry.now)) }

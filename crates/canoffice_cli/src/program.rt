@@ -17,7 +17,7 @@ use crate::serving::serve_report;
 use std::alloc::{AllocError, Global};
 use std::io::Write;
 
-/// Does what the program's words ask for, writes the result to `out` and `errors`, and returns how the program ends. It
+/// Does what the program's words request, writes the result to `out` and `errors`, and returns how the program ends. It
 /// is shown in between how far a script is.
 ///
 /// The first word is the program's own name. If memory runs out, `LOST_MEMORY` is written instead of anything else;
@@ -56,7 +56,7 @@ fn answer<'a, F: FileSource + StandardInput, D: Databases, W: Write>(
     }
 }
 
-/// The report on words that ask for no job: the text of help, or of the version, or of usage.
+/// The report on words that request no job: the text of help, or of the version, or of usage.
 pub fn fault_report(alloc: Global, fault: JobFault) -> Result<Report, AllocError>
     ensures { IfOk result (λ report. IsFaultAnswer fault (outcome_of report)) }
 {

@@ -13,17 +13,17 @@ pub struct Progress<W> {
     pub to: Option<W>,
 }
 
-/// The lines of a script that ask for something, one after the other.
+/// The lines of a script that request something, one after the other.
 #[derive(Clone, Copy)]
-pub(crate) struct AskingLines<'a> {
+pub(crate) struct RequestLines<'a> {
     rest: &'a [u8],
     number: usize,
 }
 
-impl<'a> AskingLines<'a> {
+impl<'a> RequestLines<'a> {
     /// Before the first one.
-    pub(crate) fn of(script: &'a [u8]) -> AskingLines<'a> {
-        AskingLines {
+    pub(crate) fn of(script: &'a [u8]) -> RequestLines<'a> {
+        RequestLines {
             rest: script,
             number: 0,
         }

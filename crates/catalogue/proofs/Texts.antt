@@ -11,8 +11,8 @@ with_piece piece bytes h text = record { pieces = piece ∷ text.pieces; each = 
 differs : (b c : ℕ) → b == c ≡ false → b ≢ c
 differs b c e same = false≢true (sym e ∙ (Decides-eqb b c).1 same)
 
-tells : (b c : ℕ) → b ≢ c → b == c ≡ false
-tells b c h = not_true (b == c) (λ e. h ((Decides-eqb b c).0 e))
+are_apart : (b c : ℕ) → b ≢ c → b == c ≡ false
+are_apart b c h = not_true (b == c) (λ e. h ((Decides-eqb b c).0 e))
   where
     not_true : (t : Bool) → (t ≡ true → ⊥) → t ≡ false
     not_true true f = absurd (f refl)
@@ -38,7 +38,7 @@ pieces_of (b ∷ c ∷ bytes) h = next_piece b c bytes (b == 34) (b == 92) refl 
 join_is_text : (pieces : List (List ℕ)) → AllByRecursion IsPiece pieces → is_text (flat_map (λ piece. piece) pieces) ≡ true
 join_is_text [] h = refl
 join_is_text ([] ∷ pieces) h = absurd h.0
-join_is_text ((b ∷ []) ∷ pieces) h = rw (tells b 34 h.0.0, tells b 92 h.0.1) (join_is_text pieces h.1)
+join_is_text ((b ∷ []) ∷ pieces) h = rw (are_apart b 34 h.0.0, are_apart b 92 h.0.1) (join_is_text pieces h.1)
 join_is_text ((b ∷ c ∷ []) ∷ pieces) h = rw h.0 (join_is_text pieces h.1)
 join_is_text ((b ∷ c ∷ d ∷ more) ∷ pieces) h = absurd h.0
 
@@ -56,4 +56,4 @@ pub after_plain : (bytes : List ℕ) (i : ℕ) (escaped next r : Bool) → i < l
     → next ≡ (get_or bytes i 0 == 92) → is_text_after escaped (drop i bytes) ≡ r → is_text_after next (drop (i + 1) bytes) ≡ r
 after_plain bytes i escaped next r h t q n e =
     let here : is_text_after false (get_or bytes i 0 ∷ drop (suc i) bytes) ≡ r = rw (t, drop-cons bytes i 0 h) at e in
-    rw (n, add-one) (rw (tells (get_or bytes i 0) 34 q) at here)
+    rw (n, add-one) (rw (are_apart (get_or bytes i 0) 34 q) at here)

@@ -53,7 +53,7 @@ module _ (file text : List ℕ) (s : Sheet) where
       more_of (λ (p : Passed). without_missing p (missing_at s text p)) ps i d lt
       ∙ ap (λ (c : Option Cited). all_others s text (take i ps) ++ without_missing (get_or ps i d) c) (sym is)
 
-  -- the invariant of telling them: the lines of these, how many cite what is missing, and the others
+  -- the invariant of reporting them: the lines of these, how many cite what is missing, and the others
   pub record Reported (ps : List Passed) (reported : List ℕ) (count : ℕ) (left : List Passed) : Type 0 where
     pub lines : reported ≡ missing_lines file text (all_missing s text ps)
     pub missing : count ≡ length (all_missing s text ps)

@@ -121,7 +121,7 @@ struct Parts {
     others: Vec<Passed>,
 }
 
-/// Tells each of the statements that cite what isn't in the file, up to [`CITATIONS_REPORTED`].
+/// Reports each of the statements that cite what isn't in the file, up to [`CITATIONS_REPORTED`].
 fn parted(alloc: Global, source: Source, reading: &Reading) -> Result<Parts, AllocError>
     ensures { IfOk result
         (ArePartedFrom source.entry.name.now source.entry.text.now reading.now.sheet reading.now.passed) }

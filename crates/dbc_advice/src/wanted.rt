@@ -26,7 +26,7 @@ fn may_be_there(alloc: Global, before: &[u8], candidate: Candidate) -> Result<bo
     goes_on(alloc, &text)
 }
 
-/// Whether a token of the kind may come after the text, and none of these kinds tells that already.
+/// Whether a token of the kind may come after the text, and none of these kinds shows that already.
 fn is_wanted(
     alloc: Global,
     before: &[u8],
@@ -42,12 +42,12 @@ fn is_wanted(
     }
 }
 
-/// Whether one of these tells the kind too.
+/// Whether one of these shows the kind too.
 fn is_reported(candidate: Candidate, wanted: &[Candidate]) -> bool {
     wanted.iter().any(|other| candidate.is_reported_by(*other))
 }
 
-/// The kinds of which a token may come after the text, in the table's order, without those that another one tells too.
+/// The kinds of which a token may come after the text, in the table's order, without those that another one shows too.
 /// The error is out of memory.
 pub(crate) fn wanted_after(alloc: Global, before: &[u8]) -> Result<Vec<Candidate>, AllocError>
     ensures { IfOk result (λ wanted. All (MayBeThere before.now) wanted.items) }

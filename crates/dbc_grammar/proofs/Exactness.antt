@@ -50,7 +50,7 @@ exact_then {r} {q} {ts} {o} f first second follow = record {
   within = λ y rest h. within_trans ts h.middle rest (first.within h.value h.middle h.begins) ((second h.value h.middle).within y rest h.goes_on);
 }
 
--- after a rule that asks nothing of what follows
+-- after a rule that requires nothing of what follows
 pub exact_next : {A B : Type 0} {G : List Token → Type 0} {r : Rule A} {q : A → Rule B} {ts : List Token} {o : Parsed A} (f : A × List Token → Parsed B)
     → Exact Any ts (r ts) o → ((x : A) (mid : List Token) → Exact G mid (q x mid) (f (x, mid))) → Exact G ts ((r >>= q) ts) (option_and_then f o)
 exact_next f first second = exact_then f first second (λ x mid y rest h g. tt)

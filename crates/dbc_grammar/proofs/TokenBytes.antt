@@ -55,34 +55,34 @@ pub record Begins (kind : TokenKind) (bytes : List ℕ) : Type 0 where
   pub first : ℕ
   pub after : List ℕ
   pub parts : bytes ≡ first ∷ after
-  pub tells : kind_of first ≡ Some kind
+  pub kind_begins : kind_of first ≡ Some kind
 
 name_begins : (word : List ℕ) → Spells Name word → Begins Name word
 name_begins [] h = absurd cc
-name_begins (b ∷ bytes) h = record { first = b; after = bytes; parts = refl; tells = rw (and_parts (starts_identifier b) _ h).0 refl }
+name_begins (b ∷ bytes) h = record { first = b; after = bytes; parts = refl; kind_begins = rw (and_parts (starts_identifier b) _ h).0 refl }
 
 number_begins : (word whole tail : List ℕ) → word ≡ whole ++ tail → is_numeral whole ≡ true → Begins Number word
 number_begins word [] tail e h = absurd cc
 number_begins word (b ∷ whole) tail e h =
     let digits : are_digits (b ∷ whole) ≡ true = (and_parts _ (are_digits (b ∷ whole)) h).1 in
     let digit : is_ascii_digit b ≡ true = (and_parts (is_ascii_digit b) (are_digits whole) digits).0 in
-    record { first = b; after = whole ++ tail; parts = e; tells = kind_of_digit b digit }
+    record { first = b; after = whole ++ tail; parts = e; kind_begins = kind_of_digit b digit }
 
 pub spelling_begins : (kind : TokenKind) (word : List ℕ) → Spells kind word → Begins kind word
 spelling_begins Name word h = name_begins word h
 spelling_begins Number word (s, token) = number_begins word s.whole (s.fraction ++ s.exponent) token.parts token.whole
-spelling_begins Text word (inside, text, e) = record { first = 34; after = inside ++ 34 ∷ []; parts = e; tells = refl }
-spelling_begins Mark word (mark, h, e) = record { first = mark; after = []; parts = e; tells = kind_of_mark mark h }
+spelling_begins Text word (inside, text, e) = record { first = 34; after = inside ++ 34 ∷ []; parts = e; kind_begins = refl }
+spelling_begins Mark word (mark, h, e) = record { first = mark; after = []; parts = e; kind_begins = kind_of_mark mark h }
 
 pub begins_further : (kind : TokenKind) (word rest : List ℕ) → Spells kind word → Begins kind (word ++ rest)
 begins_further kind word rest h =
     let b = spelling_begins kind word h in
-    record { first = b.first; after = b.after ++ rest; parts = ap (λ v. v ++ rest) b.parts; tells = b.tells }
+    record { first = b.first; after = b.after ++ rest; parts = ap (λ v. v ++ rest) b.parts; kind_begins = b.kind_begins }
 
 -- the same bytes begin with one kind alone
 pub one_kind : (k l : TokenKind) (xs ys : List ℕ) → Begins k xs → Begins l ys → xs ≡ ys → k ≡ l
 one_kind k l xs ys x y e =
     let whole : x.first ∷ x.after ≡ y.first ∷ y.after = sym x.parts ∙ e ∙ y.parts in
     let same : x.first ≡ y.first = cc in
-    let kinds : Some k ≡ Some l = sym x.tells ∙ ap kind_of same ∙ y.tells in
+    let kinds : Some k ≡ Some l = sym x.kind_begins ∙ ap kind_of same ∙ y.kind_begins in
     cc

@@ -70,7 +70,7 @@ kind_means offset b bytes None g h = record {
     none kind x e =
         let whole : b ∷ bytes ≡ x.first ∷ x.after = e ∙ x.parts in
         let same : b ≡ x.first = cc in
-        let no : None ≡ Some kind = sym h ∙ ap kind_of same ∙ x.tells in
+        let no : None ≡ Some kind = sym h ∙ ap kind_of same ∙ x.kind_begins in
         absurd cc
 
     by_quote : (quote : Bool) → is_quote b ≡ quote → StrayByte offset ≡ (if quote then UnclosedText offset else StrayByte offset)

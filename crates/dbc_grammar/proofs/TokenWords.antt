@@ -126,7 +126,7 @@ word_found b bytes kind h = by_first b bytes kind (starts_identifier b) (is_asci
 pub of_that_kind : (b : ℕ) (bytes : List ℕ) (kind : TokenKind) → kind_of b ≡ Some kind
     → (k : TokenKind) (word rest : List ℕ) → Spells k word → b ∷ bytes ≡ word ++ rest → Spells kind word
 of_that_kind b bytes kind h k word rest s e =
-    let here : Begins kind (b ∷ bytes) = record { first = b; after = bytes; parts = refl; tells = h } in
+    let here : Begins kind (b ∷ bytes) = record { first = b; after = bytes; parts = refl; kind_begins = h } in
     let same : k ≡ kind = one_kind k kind (word ++ rest) (b ∷ bytes) (begins_further k word rest s) here (sym e) in
     subst (λ l. Spells l word) same s
 

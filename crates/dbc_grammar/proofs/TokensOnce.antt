@@ -13,7 +13,7 @@ use Rattle.dbc_grammar.proofs.TokenBytes.{begins_further, kind_is_no_gap, one_ki
 pub gap_stops : (kind : TokenKind) (word rest : List ℕ) → Spells kind word → Stops is_gap (word ++ rest)
 gap_stops kind word rest h =
     let b = begins_further kind word rest h in
-    rw b.parts (kind_is_no_gap b.first kind b.tells)
+    rw b.parts (kind_is_no_gap b.first kind b.kind_begins)
 
 pub first_gap_len : (offset : ℕ) (bytes : List ℕ) (t : Token) (rest : List ℕ) → (f : IsFirst offset bytes t rest) → prefix_len is_gap bytes ≡ length f.gap
 first_gap_len offset bytes t rest f =

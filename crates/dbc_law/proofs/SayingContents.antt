@@ -25,8 +25,8 @@ module _ {X : Type 0} {kind : Content → Option X} where
   pub ◌also◌ : {cs ds : List Content} {xs ys : List X} → States kind cs xs → States kind ds ys → States kind (cs ++ ds) (xs ++ ys)
   ◌also◌ {cs} {ds} first second = record { contents_are = filter_map-append kind cs ds ∙ (λ i. first.contents_are i ++ second.contents_are i) }
 
-  pub tell_same : {cs : List Content} {xs ys : List X} → xs ≡ ys → States kind cs xs → States kind cs ys
-  tell_same e tell = record { contents_are = tell.contents_are ∙ e }
+  pub states_same : {cs : List Content} {xs ys : List X} → xs ≡ ys → States kind cs xs → States kind cs ys
+  states_same e states = record { contents_are = states.contents_are ∙ e }
 
 -- statements say what their contents say
 pub each_in-contents : {X : Type 0} (kind : Content → Option X) (statements : List Statement) → each_in kind statements ≡ filter_map kind (contents_of statements)

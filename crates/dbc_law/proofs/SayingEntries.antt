@@ -11,7 +11,7 @@ use Rattle.catalogue.specs.declared.value_type.ValueType.TheVariants.{Integer, F
 use Rattle.dbc_grammar.proofs.EachStated.{kept_entries}
 use Rattle.dbc_grammar.proofs.SheetStated.{entries, part_entries}
 use Rattle.dbc_law.proofs.Contents.{comments, texts}
-use Rattle.dbc_law.proofs.SayingContents.{States, ◌also◌, no_contents, speaks, tell_same}
+use Rattle.dbc_law.proofs.SayingContents.{States, ◌also◌, no_contents, speaks, states_same}
 
 -- ---- tests of values that are not empty; each fails at the empty one alone
 
@@ -67,7 +67,7 @@ module _ {K V : Type 0} {kind : Content → Option (K × V)} (keep : V → Bool)
   pub each_states : {A : Type 0} (key : A → K) (value : A → V) (says : A → List Content)
       → ((x : A) → States kind (says x) (entry (keep (value x)) (key x) (value x))) → (xs : List A) → States kind (flat_map says xs) (kept_entries keep (entries key value xs))
   each_states key value says each [] = no_contents
-  each_states key value says each (x ∷ xs) = tell_same (by (keep (value x))) (each x also each_states key value says each xs)
+  each_states key value says each (x ∷ xs) = states_same (by (keep (value x))) (each x also each_states key value says each xs)
     where
       by : (b : Bool) → entry b (key x) (value x) ++ kept_entries keep (entries key value xs)
           ≡ cond b ((key x, value x) ∷ kept_entries keep (entries key value xs)) (kept_entries keep (entries key value xs))
@@ -79,5 +79,5 @@ module _ {K V : Type 0} {kind : Content → Option (K × V)} (keep : V → Bool)
       → ((m : M) → States kind (says m) (kept_entries keep (entries (key m) value (parts m)))) → (ms : List M) → States kind (flat_map says ms) (kept_entries keep (part_entries parts key value ms))
   parts_state parts key value says each [] = no_contents
   parts_state parts key value says each (m ∷ ms) =
-      tell_same (sym (filter-append (λ (e : K × V). keep e.1) (entries (key m) value (parts m)) (part_entries parts key value ms)))
+      states_same (sym (filter-append (λ (e : K × V). keep e.1) (entries (key m) value (parts m)) (part_entries parts key value ms)))
       (each m also parts_state parts key value says each ms)

@@ -66,8 +66,8 @@ module _ {X : Type 0} {kind : Content → Option X} where
 
   -- the definitions before the first of the contents are skipped
   pub passing_definitions : (cs : List Content) {us : List X} → kind PassedOver ≡ None → States kind cs us → States kind (with_spn_definitions cs) us
-  passing_definitions [] none tell = tell
-  passing_definitions (c ∷ cs) none tell = silent none (silent none tell)
+  passing_definitions [] none states = states
+  passing_definitions (c ∷ cs) none states = silent none (silent none states)
 
   none_each_signal : (says : Message → Signal → List Content) (s : Sheet) → ((m : Message) (x : Signal) → States kind (says m x) []) → States kind (each_signal says s) []
   none_each_signal says s none = none_flat (λ (m : Message). flat_map (says m) m.signals) (λ m. none_flat (says m) (none m) m.signals) s.messages

@@ -14,7 +14,7 @@ use Rattle.catalogue.specs.declared.value_table.ValueTable.{ValueTable}
 use Rattle.dbc_grammar.proofs.EachStated.{kept_entries}
 use Rattle.dbc_grammar.proofs.SheetStated.{entries, message_signals, part_entries, signal_key}
 use Rattle.dbc_law.proofs.Contents.{each_signal, message, message_comments, message_line, node_comments, signal_comments, spns, table, value_texts, value_types, with_spn_definitions}
-use Rattle.dbc_law.proofs.SayingContents.{States, ◌also◌, no_contents, speaks, tell_same}
+use Rattle.dbc_law.proofs.SayingContents.{States, ◌also◌, no_contents, speaks, states_same}
 use Rattle.dbc_law.proofs.SayingEntries.{chosen_states, comment_states, each_states, entry, parts_state, some_number, some_of, some_type, texts_state}
 use Rattle.dbc_law.proofs.SayingOtherKinds.{no_own_comment, no_signal_comments, passing_definitions}
 
@@ -45,7 +45,7 @@ node_comments_state s =
 pub message_comments_state : (s : Sheet) → States message_comment_in (flat_map message_comments s.messages) (kept_entries some_of (entries number_of (λ (m : Message). m.comment) s.messages))
 message_comments_state s =
     each_states some_of number_of (λ (m : Message). m.comment) message_comments
-    (λ m. tell_same (append-nil _)
+    (λ m. states_same (append-nil _)
     (comment_states (MessageCommentIs (Some (number_of m))) (number_of m) (λ t. refl) m.comment also no_signal_comments m (λ c n t. refl))) s.messages
 
 pub signal_comments_state : (s : Sheet)

@@ -40,5 +40,5 @@ word_longest kind word rest s ends =
     let b = spelling_begins kind word s in
     let e : word ++ rest ≡ b.first ∷ (b.after ++ rest) = ap (λ v. v ++ rest) b.parts in
     let long : word_len kind (b.first ∷ (b.after ++ rest)) ≡ Some (length word) = ap (word_len kind) (sym e) ∙ word_exact kind word rest s ends in
-    let found = subst (IsFound kind b.first (b.after ++ rest)) long (word_found b.first (b.after ++ rest) kind b.tells) in
-    subst (IsLongest (length word)) (sym e) (longest_of_all b.first (b.after ++ rest) kind (length word) b.tells found)
+    let found = subst (IsFound kind b.first (b.after ++ rest)) long (word_found b.first (b.after ++ rest) kind b.kind_begins) in
+    subst (IsLongest (length word)) (sym e) (longest_of_all b.first (b.after ++ rest) kind (length word) b.kind_begins found)

@@ -1,4 +1,4 @@
--- Legible pieces: each is spelled as its kind asks, and no word goes on where the next begins.
+-- Legible pieces: each is spelled as its kind requires, and no word goes on where the next begins.
 use Rattle.std.proofs.Common.{◌≡◌, ℕ, List, [], ◌∷◌, ◌++◌, refl, sym, subst, append_assoc}
 use Rattle.std.specs.List.{All, flat_map}
 use Rattle.std.proofs.lemmas.Grind.{flat_map-append}

@@ -12,7 +12,7 @@ use Rattle.dbc_lex.specs.Class.{class_of, of_kind}
 use Rattle.dbc_lex.specs.declared.kinds.Class.{Class}
 use Rattle.dbc_lex.specs.declared.kinds.Class.TheVariants.{Stray}
 
--- what a table of all bytes tells, if what it is for is the same for all numbers above them
+-- what a table of all bytes shows, if what it is for is the same for all numbers above them
 module _ {X : Type 0} (f : ℕ → X) (other : X) (above_bytes : (b : ℕ) → 256 ≤ b → f b ≡ other) where
   table_is : (table : List X) (b : ℕ) → table ≡ map f (range_with_len 0 256) → unwrap_or (slice_get table b) other ≡ f b
   table_is table b is = ap (λ (l : List X). unwrap_or (slice_get l b) other) is ∙ by_range (cases_lt b 256)

@@ -90,7 +90,7 @@ impl<'a> Lexer<'a> {
         }
     }
 
-    /// Another lexer at the same offset, for looking ahead.
+    /// Another lexer at the same offset, for reading on without moving this one.
     pub fn fork(&self) -> Lexer<'a>
         ensures { result ≡ self.now }
     {

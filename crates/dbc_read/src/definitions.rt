@@ -3,7 +3,7 @@
 //! What is gathered for a sheet is consumed, and the offsets of signals aren't kept. So if the sheet is refused, or the
 //! statements can't be gathered one by one, the text is read once more for its first fault: statement by statement, and
 //! nothing is kept but the definitions. Others can be at fault in one way only, by too many texts for the values of a
-//! signal. If there is such a statement, the definitions alone don't tell the first fault, since the texts may be of no
+//! signal. If there is such a statement, the definitions alone don't show the first fault, since the texts may be of no
 //! signal, or not the last ones of theirs.
 ghost use Rattle.std.specs.Prelude.{◌≡◌, ◌++◌, [], ◌∷◌, List, None, IfErr, IfNone, IfOk, IfSome, OnOk};
 ghost use Rattle.dbc_grammar.specs.Parsing.{statements_at};

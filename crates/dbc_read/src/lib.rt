@@ -18,7 +18,7 @@
 //! they that are at fault: the first fault is searched for among them (`first_fault`), with the offsets of signals
 //! (`described`). So it is for a file that can't be gathered as it comes: one that uses a number twice, say.
 //!
-//! Only where a statement lists too many texts for values, the definitions don't tell whether that is a fault. Such a
+//! Only where a statement lists too many texts for values, the definitions don't show whether that is a fault. Such a
 //! file is read into a list of all statements. The indices of what they cite are found by binary search (`keys`,
 //! `lookup`, `lookups`) before any of them is gathered; what is attached to signals is listed at these indices,
 //! searched for a fault, and then moved into the signals (`feed`, `feeding`).

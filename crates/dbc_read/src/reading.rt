@@ -1,5 +1,5 @@
 //! Reading a DBC text: one statement after the other, and a second time if something is defined late. If there is no
-//! sheet, its definitions tell the first fault. If too many texts for values leave that open, the text is read into
+//! sheet, its definitions show the first fault. If too many texts for values leave that open, the text is read into
 //! lists.
 ghost use Rattle.std.specs.Prelude.{◌≡◌, ◌≤◌, Err, IfErr, IfNone, IfOk, IfSome, Ok, length, map};
 ghost use Rattle.dbc_grammar.specs.Reads.{ReadsAs, ReadsOnlyAs};
@@ -128,7 +128,7 @@ fn read_text(alloc: Global, source: &[u8]) -> Result<Reading, ReadFault>
         Some(reading) => Ok(reading),
         None => match fault_of_definitions(alloc, source)? {
             Some(fault) => Err(fault),
-            // Whether too many texts for values are a fault, only all the statements tell.
+            // Whether too many texts for values are a fault, only all the statements show.
             None => read_lists(alloc, source),
         },
     }

@@ -1,4 +1,4 @@
--- The responses to what requests ask, on tables that hold a history.
+-- The responses to requests, on tables that hold a history.
 use Rattle.std.specs.Prelude.{◌≡◌, ◌⊎◌, ℕ, List, [], ◌∷◌, ◌++◌, Option, None, Some, IfSome, IsTrue}
 use Rattle.std.specs.Io.KnownBytes.{Appends}
 use Rattle.sqlite.specs.State.{State}
@@ -39,7 +39,7 @@ abbrev pub answered_as : ArrivalSeen → Answer → Answered
 answered_as a answer = record { profile = Two; team = a.team; key = a.key; content = a.content; command = a.command; answer = answer }
 
 -- The text is the response to the request, on the history h, and h2 is the history after it: with the arrival and
--- the answer that the text tells, or the same. Where the tables hold h2, it is legal: so the answer is the office's.
+-- the answer that the text shows, or the same. Where the tables hold h2, it is legal: so the answer is the office's.
 abbrev pub IsResponse : List Answered → Requested → List ℕ → List Answered → Type 0
 IsResponse h (fails problem) text h2 = (h2 ≡ h) × (text ≡ problem_response problem)
 IsResponse h (shows l) text h2 = (h2 ≡ h) × ((office : Office) → IsLegal h office → IsLookResponse office l text)
@@ -68,7 +68,7 @@ MayHaveTaken h requested s =
 
 -- ---- one connection
 
--- this is what the first request asks, if the source tells its bytes
+-- this is the first request, if the source states its bytes
 abbrev pub IsRequested : Option (List ℕ) → Requested → Type 0
 IsRequested left requested = IfSome left (λ input. IsRequest input requested)
 

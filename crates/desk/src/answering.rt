@@ -54,7 +54,7 @@ fn shown<S: Alter>(
     }
 }
 
-/// Has an arrival answered, and gives the response that tells the answer.
+/// Has an arrival answered, and gives the response that shows the answer.
 fn arrived<S: Alter>(
     alloc: Global,
     office: &mut StoredOffice<S>,
@@ -81,7 +81,7 @@ fn arrived<S: Alter>(
     }
 }
 
-/// Carries out what a request asks, and gives its response. The only error is out of memory: then an arrival may have
+/// Carries out a request, and gives its response. The only error is out of memory: then an arrival may have
 /// been taken.
 pub(crate) fn response_to<S: Alter>(
     alloc: Global,

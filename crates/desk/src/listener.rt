@@ -12,14 +12,14 @@ pub trait Listener {
     /// Where the response of a connection goes.
     type Response: Sink + Drop;
 
-    /// What the peers of the connections to come send, if it tells.
+    /// What the peers of the connections to come send, if it states that.
     ghost coming: { Self → Option (List (List ℕ)) };
 
-    /// How each of the connections ended that have, if it tells. It may cease to tell.
+    /// How each of the connections ended that have, if it states that. It may cease to.
     ghost ended: { Self → Option (List Ending) };
 
     /// The next connection, none of whose calls has failed yet. It may wait for one for ever. The error is that none
-    /// can be accepted; a listener that tells what comes has one only if nothing comes.
+    /// can be accepted; a listener that states what comes has one only if nothing comes.
     fn accept(&mut self) -> Result<(Self::Request, Self::Response), Failed>
         ensures sound { IfOk result (λ c. (Self.Request.failure_count c.0 ≡ 0)
             × (Self.Response.failure_count c.1 ≡ 0)) }

@@ -112,7 +112,7 @@ impl<'r, C: Clock> Listener for LocalPort<'r, C> {
         ))
     }
 
-    /// Tells the peer that nothing more comes. If it has sent bytes that are unread, what it still sends is read.
+    /// Shows the peer that nothing more comes. If it has sent bytes that are unread, what it still sends is read.
     fn finish(&mut self, mut request: Line<'r, C>, response: Line<'r, C>) {
         let (Some(reading), Some(writing)) = (&mut request.timed, &response.timed) else {
             return;

@@ -22,7 +22,7 @@ use store::StoredOffice;
 /// What is printed when the office fails, as of any call that is lost because the database failed.
 const OFFICE_FAILED: &[u8] = b"lost 72\n";
 
-/// Serves the next connection, and tells whether a fault ended it. The error is that none can be accepted: then nothing
+/// Serves the next connection, and gives whether a fault ended it. The error is that none can be accepted: then nothing
 /// is done.
 fn attend<S: Alter, L: Listener>(
     alloc: Global,
@@ -68,8 +68,8 @@ fn say_failure<E: Write>(errors: &mut E, had_failed: bool, has_failed: bool)
 /// the office has failed, it changes nothing any more, and whatever reaches it is answered by 503. When it fails,
 /// `lost 72` is written to `errors`, once and as far as the writer takes it.
 ///
-/// `Accept` if a connection can't be accepted: then those before it were served. With a listener that tells what comes,
-/// none came any more.
+/// `Accept` if a connection can't be accepted: then those before it were served. With a listener that states what
+/// comes, none came any more.
 pub fn serve<S: Alter, L: Listener, E: Write>(
     alloc: Global,
     routes: &Routes,

@@ -1,4 +1,4 @@
--- What a request asks of the office: the ordered tests, on its head and on what follows the head.
+-- What a request is to the office: the ordered tests, on its head and on what follows the head.
 use Rattle.std.specs.Prelude.{ℕ, nat_le, ◌&&◌, List, ◌∷◌, ◌++◌, length, map, take, codes, cond, Option, Some, None}
 use Rattle.std.specs.Option.{option_map}
 use Rattle.httparse.specs.Grammar.{RequestHead}
@@ -119,7 +119,7 @@ call_by (demand.Shows s) target headers rest = show_by (look_of s target)
 call_by (demand.Does p n) target headers rest =
     cond (nat_le n (length rest)) (arrive_by (arrival_of p target headers (take n rest))) (fails BadRequest)
 
--- What a request asks that has this head, in bytes that go on with the rest. In order: what the head alone answers; a
+-- What a request is that has this head, in bytes that go on with the rest. In order: what the head alone answers; a
 -- body that ends too early; headers or a body that aren't of their forms; targets with nothing there.
 unfoldable pub call_of : RequestHead → List ℕ → Requested
 call_of h rest = call_by (demand_of h) h.target (map name_and_value h.fields) rest

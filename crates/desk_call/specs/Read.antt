@@ -9,18 +9,18 @@ use Rattle.desk_head.specs.Demand.{demand_of, body_size}
 use Rattle.desk_head.specs.Head.{HasHead, HasNoHead, IsUnfinished}
 use Rattle.desk_call.specs.Call.{Requested, ArrivalSeen, arrival_seen, call_of, fails}
 
--- What the bytes ask: that of the request that they begin with. Bytes without a head within the limits are a bad
+-- What the bytes request: what the request does that they begin with. Bytes without a head within the limits are a bad
 -- request.
 abbrev pub IsRequest : List ℕ → Requested → Type 0
 IsRequest bytes requested =
     (HasNoHead bytes × (requested ≡ fails BadRequest))
     ⊎ ((h : RequestHead) × (rest : List ℕ) × HasHead bytes h rest × (requested ≡ call_of h rest))
 
--- a law: no bytes ask two things
+-- a law: no bytes hold two requests
 abbrev pub BytesRequestOneThing : Type 0
 BytesRequestOneThing = (bytes : List ℕ) (a b : Requested) → IsRequest bytes a → IsRequest bytes b → a ≡ b
 
--- the bytes hold no whole request: less than a head, or a head that asks for a body that isn't all there
+-- the bytes hold no whole request: less than a head, or a head with a body that isn't all there
 abbrev pub IsNotWhole : List ℕ → Type 0
 IsNotWhole bytes =
     IsUnfinished bytes ⊎ ((h : RequestHead) × (rest : List ℕ) × HasHead bytes h rest

@@ -3,7 +3,7 @@ use desk_types::Problem;
 use office_history::Arrival;
 use office_types::Look;
 
-/// What a request asks of the office.
+/// What a request is to the office.
 #[derive(Drop)]
 pub enum Call {
     /// Nothing: the problem answers it.

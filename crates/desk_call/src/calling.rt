@@ -22,7 +22,7 @@ fn show_at(alloc: Global, showing: Showing, target: &[u8]) -> Result<Call, Alloc
     }
 }
 
-/// The call of a request whose head asks for this, with this target and these headers in the first `len` bytes of the
+/// The call of a request whose head demands this, with this target and these headers in the first `len` bytes of the
 /// buffer, and with what was read after the head.
 pub(crate) fn call_by(
     alloc: Global,

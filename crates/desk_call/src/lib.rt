@@ -1,4 +1,4 @@
-//! What a request asks of the office: the ordered tests of the desk, and the reading of one request.
+//! What a request is to the office: the ordered tests of the desk, and the reading of one request.
 //!
 //! [`read_call`] reads the first request of a source, and no further than to its end, as a [`Call`]: a problem that
 //! answers it, something to look up, or an arrival. The tests are one function of the head and of what follows it

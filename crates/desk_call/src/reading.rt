@@ -62,7 +62,7 @@ fn call_read(
     call_by(alloc, demand, target, got, headers, spans.len, rest)
 }
 
-/// Reads the first request of a source, as what it asks. Nothing is read once the request is whole, or known to be
+/// Reads the first request of a source, as a call. Nothing is read once the request is whole, or known to be
 /// wrong by its head, and never more than a greatest head and a greatest body. `Read` if a call of the source fails
 /// before that, `Memory` if memory runs out.
 pub fn read_call<R: Source>(

@@ -61,14 +61,14 @@ small_if : (b : Bool) (a : Demand) → HasSmallBody a → HasSmallBody (cond b a
 small_if true a small = small
 small_if false a small = omega arith
 
-asks_small : (e : Option Endpoint) (h : RequestHead) → HasSmallBody (demand_by e h)
-asks_small None h = omega arith
-asks_small (Some (endpoint.Shows s)) h = small_if (bytes_eq h.method (codes "GET")) (Shows s) (omega arith)
-asks_small (Some (endpoint.Does p)) h =
+demands_small : (e : Option Endpoint) (h : RequestHead) → HasSmallBody (demand_by e h)
+demands_small None h = omega arith
+demands_small (Some (endpoint.Shows s)) h = small_if (bytes_eq h.method (codes "GET")) (Shows s) (omega arith)
+demands_small (Some (endpoint.Does p)) h =
     let found = body_length (map name_and_value h.fields) in
     small_if (bytes_eq h.method (codes "POST")) (does_by p found)
     (does_small p found (length_is_small (map name_and_value h.fields)))
 
 pub size_is_small : (h : RequestHead) → body_size (demand_of h) ≤ body_limit
 unfolding demand_of
-size_is_small h = asks_small (endpoint_of h.target) h
+size_is_small h = demands_small (endpoint_of h.target) h

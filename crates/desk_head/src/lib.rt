@@ -1,7 +1,7 @@
-//! The head of a request (RFC 9112), and what it asks for.
+//! The head of a request (RFC 9112), and what it demands.
 //!
 //! [`look`] finds the head at the front of bytes, by `httparse`, within the desk's limits, and [`read_head`] reads a
-//! source until the head is there or can't come. [`demand_at`] says what the head asks for: which [`Endpoint`],
+//! source until the head is there or can't come. [`demand_at`] says what the head demands: which [`Endpoint`],
 //! by the target's route in `matchit`'s router ([`Routes`]), and how long the body is; or which problem answers it.
 //! [`header_named`] gives the value of a header field, [`first_parameter`] and [`second_parameter`] the parameters of
 //! the target.

@@ -22,7 +22,7 @@ whole n = number (unsigned n)
 abbrev pub refused_data : List ℕ → ℕ → Data
 refused_data name n = object (member (codes "name") (string name) (member (codes "refused") (whole n) no_members))
 
--- a refusal that tells a fault and where it is
+-- a refusal that shows a fault and where it is
 abbrev pub fault_data : List ℕ → ℕ → FileFault → Data
 fault_data name n f =
     object

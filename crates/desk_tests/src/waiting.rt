@@ -9,7 +9,7 @@ use std::alloc::Global;
 use std::io::{self, ErrorKind};
 use store::StoredOffice;
 
-/// How the connections of these requests ended, which are served by one call that asks for one more than there are.
+/// How the connections of these requests ended, which are served by one call for one more than there are.
 fn ended_in_one_call<S: Alter>(
     alloc: Global,
     office: &mut StoredOffice<S>,

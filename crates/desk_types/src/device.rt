@@ -10,7 +10,7 @@ pub struct Failed;
 
 /// Where requests come from.
 pub trait Source {
-    /// The bytes that it will give from here on, if it tells them.
+    /// The bytes that it will give from here on, if it states them.
     ghost left: { Self → Option (List ℕ) };
 
     /// How many of its calls failed.
@@ -31,7 +31,7 @@ pub trait Source {
 
 /// Where answers go.
 pub trait Sink {
-    /// The bytes that it was given so far, if it tells them.
+    /// The bytes that it was given so far, if it states them.
     ghost reported: { Self → Option (List ℕ) };
 
     /// How many of its calls failed.

@@ -16,14 +16,14 @@ use Rattle.office_rules.specs.Commands.{outcome}
 use Rattle.office_rules.specs.Importing.{FileReading, Reading, Unreadable, import}
 use Rattle.office_rules.specs.Step.{file_wanted}
 
--- A fault of reading, as a refusal tells it: its code and its offset, up to the greatest 32-bit number. Out of memory
+-- A fault of reading, as a refusal shows it: its code and its offset, up to the greatest 32-bit number. Out of memory
 -- isn't reported so.
 pub record ReportsFault (f : ReadFault) (reported : FileFault) : Type 0 where
   pub other : f.code ≡ Memory → ⊥
   pub code : reported.fault ≡ code_number f.code
   pub offset : reported.at ≡ min f.at 4294967295
 
--- a fault that `read` gives for the file, as a refusal tells it
+-- a fault that `read` gives for the file, as a refusal shows it
 pub record IsReportedFault (file : List ℕ) (reported : FileFault) : Type 0 where
   pub fault : ReadFault
   pub given : IsReadFault file fault

@@ -1,6 +1,6 @@
-//! Carrying out what was decided on a network that is there, and on the book. It is done in place where nothing can fail
-//! once something has changed: for one change, and for three pairs (a message and its SPN; an identifier that is held as
-//! its message goes; a head without approvals). More changes, and all other pairs, are made on copies first.
+//! Carrying out what was decided on a network that is there, and on the book. It is done in place where nothing can
+//! fail once something has changed: for one change, and for three pairs (a message and its SPN; an identifier that is
+//! held as its message goes; a head without approvals). More changes, and all other pairs, are made on copies first.
 ghost use Rattle.std.specs.Prelude.{◌≡◌, ◌∷◌, [], OnOk, OnErr, Some};
 ghost use Rattle.office_types.specs.declared.change.Change.TheVariants as change;
 ghost use Rattle.office_rules.specs.Change.{AllFit, Fits, NetAndBook, all_applied, changed_book, net_changed};

@@ -18,7 +18,7 @@ fn offset_of(at: usize) -> u32
     at.min(4_294_967_295) as u32
 }
 
-/// The fault as a refusal tells it, `None` where it is that memory ran out.
+/// The fault as a refusal shows it, `None` where it is that memory ran out.
 fn reported_fault(fault: ReadFault) -> Option<FileFault>
     ensures { MatchOption result (fault.code ≡ Memory) (ReportsFault fault) }
 {

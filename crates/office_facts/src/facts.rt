@@ -1,4 +1,4 @@
-//! What a network's parts have, as the tests of commands ask for it.
+//! What a network's parts have, as the tests of commands need it.
 ghost use Rattle.std.specs.Prelude.{◌≡◌};
 ghost use Rattle.std.specs.Option.{option_copied};
 ghost use Rattle.catalogue.specs.Named.{has_name};

@@ -12,7 +12,7 @@ Reads-ok_or found (Some x) e = sym e
 
 -- what is there exactly where a test passes
 pub found_where : {A P : Type 0} (test : Bool) (found : Option A) (value : A) → SomeIff found P value → Decides test P → found ≡ where_true test (Some value)
-found_where true None value h tells = absurd (h (tells.0 refl))
-found_where true (Some x) value h tells = ap Some h.1
-found_where false None value h tells = refl
-found_where false (Some x) value h tells = let e : false ≡ true = tells.1 h.0 in cc
+found_where true None value h decides = absurd (h (decides.0 refl))
+found_where true (Some x) value h decides = ap Some h.1
+found_where false None value h decides = refl
+found_where false (Some x) value h decides = let e : false ≡ true = decides.1 h.0 in cc

@@ -14,7 +14,7 @@ use catalogue::Items;
 use office_types::{Action, Command, NetName, Parts, Task};
 use std::alloc::Global;
 
-/// What named values ask for.
+/// What named values request.
 #[derive(Drop)]
 pub enum Requested {
     /// A command.
@@ -111,7 +111,7 @@ fn file_import_of(alloc: Global, values: &[GivenValue<'_>]) -> Result<FileImport
     Ok(FileImport { net, file })
 }
 
-/// What a command with these values asks for: [`command_of`], but that an import has the path of its file.
+/// What a command with these values requests: [`command_of`], but that an import has the path of its file.
 pub fn requested_of(
     alloc: Global,
     kind: CommandKind,

@@ -106,7 +106,7 @@ abbrev pub HaveOneNetwork : List Answered → Type 0
 HaveOneNetwork h = AllPairs NamesOneNetwork h
 
 -- What an arrival is answered after one legal history it may be answered after any other that has the same arrivals,
--- with the same answers, on its network, whatever else each of the two has: if the command doesn't ask the book, and
+-- with the same answers, on its network, whatever else each of the two has: if the command doesn't read the book, and
 -- with this arrival no pair of team and key names two networks in either.
 abbrev pub AnswersAreApart : Type 0
 AnswersAreApart = (h g : List Answered) (a : Answered) → needs_book a.command.task ≡ false → HaveOneNetwork (h ++ a ∷ []) → HaveOneNetwork (g ++ a ∷ [])

@@ -13,11 +13,11 @@ pub struct Request {
 
 /// A team's request under a key.
 pub struct Arrival {
-    /// The team that asks.
+    /// The team whose request it is.
     pub team: Team,
     /// The key that the team gave the request.
     pub key: Key,
-    /// What it asks.
+    /// What it requests.
     pub request: Request,
 }
 

@@ -34,8 +34,8 @@ pub fn numbers_keep_their_names()
     texts_read_as_one_sheet();
 }
 
-/// In a legal history, no two first arrivals of `take_spn` that don't ask to share a number are answered the same one,
-/// on whatever networks.
+/// In a legal history, no two first arrivals of `take_spn` that don't request to share a number are answered the same
+/// one, on whatever networks.
 pub fn spns_are_given_once()
     ensures { SpnsAreGivenOnce }
 {}

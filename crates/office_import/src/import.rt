@@ -96,7 +96,7 @@ fn decide_clear(
 /// where its identifier is that of a live message which isn't equal to it, 52 `Held` where the identifier is held, 50
 /// `NameTaken` where a live message has its name, 49 `OutsideBlock` where the team isn't the office and has no block
 /// with the identifier's number or its parameter group; then 26 `TooMany` where a limit of the catalogue would be
-/// passed. The reply tells how many messages are added and how many were live. The error is out of memory.
+/// passed. The reply shows how many messages are added and how many were live. The error is out of memory.
 pub fn decide_import(
     alloc: Global,
     team: &Team,

@@ -99,7 +99,7 @@ never_released net i h form unlive unheld =
           | inr held ↦ not_held net i unheld (subst (Contains net.held) same held)
         ]
 
--- so if it becomes live, nothing is said of the last release
+-- so if it becomes live, nothing is claimed of the last release
 unreleased_last : (releases : List Sheet) (i : Ident) → was_released releases i ≡ false → was_released releases i ≡ in_last releases i
 unreleased_last releases i none = none ∙ sym (false_from_ne_true _ (λ is. false≢true (sym none ∙ last_released releases i is)))
 

@@ -20,7 +20,7 @@ use Rattle.office_rules.specs.Profile.{Profile}
 use Rattle.office_rules.specs.Step.{IsRead, IsReadingOf, IsUnreadable, Step, file_wanted, net_named, office_after, step_outcome}
 use Rattle.office_law.specs.Agree.{IsFileRefused, StepsAgree}
 
--- an outcome that tells a fault of the file
+-- an outcome that reports a fault of the file
 record ReportsFault (profile : Profile) (net : Option Net) (task : Task) (out : Outcome) : Type 0 where
   file : List ℕ
   wanted : file_wanted net task ≡ Some file

@@ -28,7 +28,7 @@ abbrev pub OutcomesAreLeft : Type 0
 OutcomesAreLeft = (before : Office) (team : List ℕ) (reading : FileReading) (c : Command) → AreInOrder before →
     net_named (office_after before (step_outcome before team reading c)) c.net ≡ net_after (net_named before c.net) (step_outcome before team reading c)
 
--- On one network, whatever else there is in two offices: a command that doesn't ask the book is answered alike, but for
+-- On one network, whatever else there is in two offices: a command that doesn't read the book is answered alike, but for
 -- the faults of a file that reads as no sheet.
 abbrev pub RepliesApart : Type 0
 RepliesApart = (profile : Profile) (o p a b : Office) (team : List ℕ) (c : Command) (r s : Reply) → Step profile o team c r a → Step profile p team c s b →

@@ -8,7 +8,7 @@ pub fn outcomes_are_left()
     ensures { OutcomesAreLeft }
 {}
 
-/// A command that doesn't ask the book is answered alike in two offices that have one network of its name, but for the
+/// A command that doesn't read the book is answered alike in two offices that have one network of its name, but for the
 /// faults of a file that reads as no sheet.
 pub fn replies_are_apart()
     ensures { RepliesApart }

@@ -41,7 +41,7 @@ pub fn bodies_dont_count()
 {}
 
 /// A step is a function: two steps of one office by one command of one team are the same. Only where an imported file
-/// reads as no sheet may they tell different faults of it.
+/// reads as no sheet may they report different faults of it.
 pub fn steps_agree()
     ensures { StepsAgree }
 {

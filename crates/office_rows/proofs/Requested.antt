@@ -1,4 +1,4 @@
--- What WHERE asks of a row of the tree is what the definitions ask of the row as it is shown.
+-- What WHERE requires of a row of the tree is what the definitions require of the row as it is shown.
 use Rattle.std.proofs.Common.{◌≡◌, ℕ, pos, List, [], ◌∷◌, refl, ap, sym, ◌∙◌}
 use Rattle.std.specs.List.{list_all}
 use Rattle.std.specs.Prelude.{◌&&◌, filter, not}

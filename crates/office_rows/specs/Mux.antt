@@ -1,4 +1,4 @@
--- The column that tells when a signal is there.
+-- The column that shows when a signal is there.
 use Rattle.std.specs.Prelude.{ℤ, pos, negsuc}
 use Rattle.office_rows.specs.declared.row.MuxColumn.{MuxColumn}
 use Rattle.office_rows.specs.declared.row.MuxColumn.TheVariants.{Always, Multiplexor, Under}

@@ -1,4 +1,4 @@
--- The rows of the tables, by the names of their columns, and which rows a statement asks for.
+-- The rows of the tables, by the names of their columns, and which rows a statement selects.
 use Rattle.std.specs.Prelude.{ℕ, List, [], ◌∷◌, Bool, true, false, ◌&&◌, pos}
 use Rattle.sqlite.specs.declared.types.Value.TheVariants.{Null, Int, Text, Blob}
 use Rattle.std.specs.Ordering.{is_ge, is_gt, is_le, is_lt}
@@ -68,7 +68,7 @@ sigvalue_row it =
 abbrev pub part_row : PartRow → Row
 part_row it = Text it.team.now ∷ Text it.key.now ∷ Int (pos it.place) ∷ Int (pos it.kind) ∷ Int (pos it.a) ∷ Int (pos it.b) ∷ []
 
--- ---- which rows a statement asks for
+-- ---- which rows a statement selects
 
 abbrev pub is_between : ℕ → ℕ → Value → Bool
 is_between first last v = is_ge (value_cmp v (Int (pos first))) && is_le (value_cmp v (Int (pos last)))

@@ -11,7 +11,7 @@
 //! `sqlite`'s error if there is one (memory ran out, the disk failed, a key is there already); then nothing is
 //! committed, and dropping the transaction rolls it back.
 //!
-//! The definitions are in `specs/`: `Rows.antt` (rows by the names of their columns, and which rows a text asks for)
+//! The definitions are in `specs/`: `Rows.antt` (rows by the names of their columns, and which rows a text selects)
 //! and `Shown.antt` (which columns a SELECT shows, and its order).
 #![tactic(auto)]
 

@@ -46,7 +46,7 @@ pub fn clear_profile<S: Alter>(tx: &mut Transaction<'_, S>) -> Result<usize, Err
     tx.execute("DELETE FROM profile", &[])
 }
 
-/// The rows of the profile (`one`, `number`), read outside a transaction: they tell of which time the tables are. The
+/// The rows of the profile (`one`, `number`), read outside a transaction: they show of which time the tables are. The
 /// text means the same under each schema that an office of some time has (`IsOfficeSchema`), so it may be read before
 /// it is known which of them the tables have.
 pub fn select_profile<S: Alter>(conn: &mut Connection<S>) -> Result<Vec<Row>, Error>

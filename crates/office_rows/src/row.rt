@@ -208,8 +208,8 @@ pub struct PartRow<'a> {
     pub place: u32,
     /// The kind of the answer.
     pub kind: u32,
-    /// The number that it tells.
+    /// The number that it holds.
     pub a: u32,
-    /// 0, as no part tells two numbers.
+    /// 0, as no part holds two numbers.
     pub b: u32,
 }

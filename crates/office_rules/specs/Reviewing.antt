@@ -19,7 +19,7 @@ use Rattle.office_rules.specs.Outcome.{no_entries, Outcome, Changing, when, on_n
 abbrev pub in_phase : Net → Phase → Net
 in_phase net phase = record net { head = record net.head { phase = phase }; approvals = [] }
 
--- Ask for a review: teams change nothing until it ends.
+-- Request a review: teams change nothing until it ends.
 
 abbrev pub submit_tests : Option Net → List (Test Refusal)
 submit_tests net = on_net net (λ n. when (in_review n.head.phase) no.InReview ∷ [])

@@ -1,4 +1,4 @@
--- The arrival of a line that asks for something.
+-- The arrival of a line that requests something.
 use Rattle.std.proofs.Common.{◌≡◌, ℕ, false, List, [], ◌∷◌, Some, Err, inr, refl}
 use Rattle.office_history.specs.declared.arrival.Arrival.{Arrival}
 use Rattle.office_script.specs.declared.filling.LineFault.{LineFault}
@@ -10,7 +10,7 @@ use Rattle.office_script.specs.Lines.{says_nothing}
 use Rattle.office_script.specs.Requests.{request_of, requests_of_line}
 use Rattle.office_script.specs.Script.{AreArrivalsOfLine, Fills, IsLineFault, NamesUnreadable}
 
--- a line that makes a request asks for one thing
+-- a line that makes a request makes one
 one_request : (dash : Dash) (number : ℕ) (line : List ℕ) (r : LineRequest) → says_nothing line ≡ false → request_of dash number line ≡ Some r → requests_of_line dash number line ≡ Some (r ∷ [])
 one_request dash number line r some made = rw (some, made) refl
 

@@ -26,7 +26,7 @@ use Rattle.office_script.specs.Lines.{lines_of}
 use Rattle.office_script.specs.Requests.{requested_by, request_of}
 use Rattle.office_script.specs.Script.{requests_of_lines}
 
--- the team of a line, and what it asks for
+-- the team of a line, and what it requests
 abbrev requested_in : List ℕ → Option (List ℕ × Requested)
 requested_in line = option_map (λ r. (r.team, r.requested)) (request_of LineNumber 1 line)
 
@@ -181,7 +181,7 @@ a_text : option_map (λ r. r.text) (request_of Wrong 1 (codes "a1 engine submit 
 unfolding requested_by digits
 a_text = refl
 
--- a remark and an empty line ask for nothing, and count
+-- a remark and an empty line request nothing, and count
 a_script : requests_of_lines LineNumber 1 (lines_of (codes "# one\n- engine submit net=truck\n\n- office release net=truck"))
     ≡ Some (
     record { team = engine; key = codes "line-2"; text = codes "submit net=truck"; requested = Command (record { net = codes "truck"; task = Act act.Submit }) }

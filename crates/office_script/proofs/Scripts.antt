@@ -31,7 +31,7 @@ pub record IsReadSoFar (files : Files) (dash : Dash) (text rest : List ℕ) (num
 pub read_none : (files : Files) (dash : Dash) (text : List ℕ) → IsReadSoFar files dash text text 0 []
 read_none files dash text = record { done = []; parts = refl; numbered = refl; read = record { requests = []; requested = refl; arrived = tt }; room = omega arith }
 
--- what a line and the lines after it ask for
+-- what a line and the lines after it request
 abbrev join_requests : Option Requests → Option Requests → Option Requests
 join_requests first rest = option_and_then (λ here. option_map (λ others. here ++ others) rest) first
 
@@ -43,7 +43,7 @@ joined_more (Some a) (Some middle) more before here e h =
     ap (option_map (λ (others : Requests). a ++ others)) (h middle refl)
     ∙ ap Some (sym (append_assoc a middle here) ∙ ap (λ (v : Requests). v ++ here) (some_same (a ++ middle) before e))
 
--- what one line more asks for is added
+-- what one line more requests is added
 requested_more : (dash : Dash) (first : ℕ) (done : List (List ℕ)) (line : List ℕ) (number : ℕ) (before here : Requests) → number ≡ first + length done → requests_of_lines dash first done ≡ Some before
     → requests_of_line dash number line ≡ Some here → requests_of_lines dash first (done ++ line ∷ []) ≡ Some (before ++ here)
 requested_more dash first [] line number before here at e h =

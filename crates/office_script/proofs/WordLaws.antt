@@ -27,7 +27,7 @@ are_words_of line (word ∷ words) h = sym (split_joined 32 word words h.apart) 
 pub words_law : (line : List ℕ) (words : List (List ℕ)) → (AreWordsOf line words ↔ (words ≡ words_of line))
 words_law line words = (are_words_of line words, λ e. rw e (words_of_are line))
 
--- the request of a line's parts: what its text asks for, under its key
+-- the request of a line's parts: what its text requests, under its key
 pub parts_make : (dash : Dash) (number : ℕ) (first second text word : List ℕ) (rest : List (List ℕ)) (key team : List ℕ) (requested : Requested) (copy : List ℕ) → words_of text ≡ word ∷ rest
     → key_of dash number first ≡ Some key → plain_name_of second ≡ Some team → requested_by word rest ≡ Some requested → copy ≡ text
     → request_of_words dash number (first ∷ second ∷ words_of text) ≡ Some (record { team = team; key = key; text = copy; requested = requested })

@@ -43,7 +43,7 @@ pub record IsBundleRequest (text : List ℕ) (i : FileImport) (bytes : List ℕ)
   pub command : request.command ≡ record { net = i.net; task = task.Bundle parts }
   pub content : request.content.items ≡ text ++ (10 ∷ bytes)
 
--- the request is of the text that a line has after its team, for what the text asks for; an import has the bytes of its
+-- the request is of the text that a line has after its team, for what the text requests; an import has the bytes of its
 -- file too, and in its content, after a line feed; a bundle has the parts in its file, and in its content those bytes
 abbrev pub IsRequestFor : Files → List ℕ → Requested → Request → Type 0
 IsRequestFor files text (requested.Command c) request = (request.command ≡ c) × (request.content.items ≡ text)
@@ -51,7 +51,7 @@ IsRequestFor files text (requested.Import i) request =
     (bytes : List ℕ) × Gives (files i.file) bytes × (request.command ≡ record { net = i.net; task = task.Import bytes }) × (request.content.items ≡ text ++ (10 ∷ bytes))
 IsRequestFor files text (requested.Bundle i) request = (bytes : List ℕ) × Gives (files i.file) bytes × IsBundleRequest text i bytes request
 
--- the arrival of what a line asks for
+-- the arrival of what a line requests
 pub record IsArrivalOf (files : Files) (r : LineRequest) (a : Arrival) : Type 0 where
   pub team : a.team ≡ r.team
   pub key : a.key ≡ r.key

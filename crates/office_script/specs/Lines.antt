@@ -33,7 +33,7 @@ pub record AreLinesOf (text : List ℕ) (lines : List (List ℕ)) : Type 0 where
   pub apart : All (All (λ b. b ≢ 10)) lines
   pub joined : with_feeds lines ≡ with_last_feed text
 
--- a line that asks for nothing: an empty one, or one that begins with `#` (35)
+-- a line that requests nothing: an empty one, or one that begins with `#` (35)
 abbrev pub says_nothing : List ℕ → Bool
 says_nothing [] = true
 says_nothing (b ∷ line) = b == 35

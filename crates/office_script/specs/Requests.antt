@@ -14,7 +14,7 @@ use Rattle.office_script.specs.Keys.{key_of}
 use Rattle.office_script.specs.Lines.{says_nothing}
 use Rattle.office_script.specs.Words.{words_of}
 
--- what the command of this word asks for with the fields of these words
+-- what the command of this word requests with the fields of these words
 unfoldable pub requested_by : List ℕ → List (List ℕ) → Option Requested
 requested_by word rest = do
   kind ← kind_of_word word

@@ -1,4 +1,4 @@
--- What a script asks for, over the files that it names.
+-- What a script requests, over the files that it names.
 use Rattle.std.specs.Prelude.{◌≡◌, ◌⊎◌, ℕ, ◌+◌, List, [], ◌∷◌, ◌++◌, length, Option, Some, None, Result, Ok, Err, ⊤}
 use Rattle.std.specs.Option.{option_map, option_and_then}
 use Rattle.office_fields.specs.declared.requested.Requested.{Requested}
@@ -20,7 +20,7 @@ use Rattle.office_script.specs.Bundles.{parts_in}
 use Rattle.office_script.specs.Lines.{lines_of}
 use Rattle.office_script.specs.Requests.{requests_of_line}
 
--- what the lines ask for, in order, if none is wrong; the number is that of the first one
+-- what the lines request, in order, if none is wrong; the number is that of the first one
 abbrev pub requests_of_lines : Dash → ℕ → List (List ℕ) → Option (List LineRequest)
 requests_of_lines dash number [] = Some []
 requests_of_lines dash number (line ∷ lines) =
@@ -90,7 +90,7 @@ pub record AreArrivalsOfLine (files : Files) (dash : Dash) (number : ℕ) (line 
   pub requested : requests_of_line dash number line ≡ Some requests
   pub arrived : HaveArrived files requests arrivals
 
--- the request for what a text asks for, or the file that can't be read; out of memory states nothing
+-- the request for what a text requests, or the file that can't be read; out of memory states nothing
 abbrev pub Fills : Files → List ℕ → Requested → Result Request LineFault → Type 0
 Fills files text a (Ok request) = IsRequestFor files text a request
 Fills files text a (Err why.Wrong) = AsksWrongParts files a

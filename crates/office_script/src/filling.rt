@@ -1,4 +1,4 @@
-//! The arrival of a line: what it asks for, with the bytes of the file that it names.
+//! The arrival of a line: what it requests, with the bytes of the file that it names.
 ghost use Rattle.std.specs.Prelude.{◌≡◌, ◌++◌, ◌∷◌, None, Err, IfErr, IfOk, IsErrOf};
 ghost use Rattle.office_fields.specs.declared.unread.Unread.TheVariants as unread;
 ghost use Rattle.office_types.specs.declared.command.Task.TheVariants as task;
@@ -63,7 +63,7 @@ impl<T: Drop> From<AllocFailed<T>> for LineFault {
     }
 }
 
-/// The content of an import: the text that asks for it, a line feed and the bytes of its file.
+/// The content of an import: the text that requests it, a line feed and the bytes of its file.
 fn import_content(text: Items<u8>, bytes: &[u8]) -> Result<Vec<u8>, AllocError>
     ensures { IfOk result (λ content. content.items ≡ text ++ (10 ∷ bytes.now)) }
 {
@@ -136,7 +136,7 @@ fn read_bundle<F: FileSource>(
     }
 }
 
-/// The request for what the text asks for, with the bytes of its file.
+/// The request for what the text requests, with the bytes of its file.
 fn filled<F: FileSource>(
     alloc: Global,
     text: Items<u8>,
@@ -155,7 +155,7 @@ fn filled<F: FileSource>(
     }
 }
 
-/// The arrival of what a line asks for.
+/// The arrival of what a line requests.
 fn arrival_of<F: FileSource>(
     alloc: Global,
     line: LineRequest,
@@ -176,7 +176,7 @@ fn arrival_of<F: FileSource>(
     }
 }
 
-/// Adds the arrival of the line of this number, from 1, if it asks for anything.
+/// Adds the arrival of the line of this number, from 1, if it requests anything.
 pub(crate) fn add_arrivals<F: FileSource>(
     alloc: Global,
     dash: Dash,

@@ -1,7 +1,7 @@
 //! Scripts: the requests to the office that the lines of a text make.
 //!
 //! A script is a sequence of bytes. Its lines are what is between line feeds (`lines`). A line that is empty or begins
-//! with `#` asks for nothing. Any other line consists of words with exactly one space between them (`words`): a key,
+//! with `#` requests nothing. Any other line consists of words with exactly one space between them (`words`): a key,
 //! the team, the command and its fields `name=value`, where in a value `%` and two hexadecimal digits stand for a byte
 //! (`escapes`, `fields`). As a key `-` stands for the number of its line, or is wrong ([`Dash`], `keys`). What the
 //! fields give is the matter of `office_fields`. An import and a bundle name a file, which is read from a
@@ -10,7 +10,7 @@
 //!
 //! The grammar is in `specs/`: `Lines.antt`, `Words.antt`, `Escapes.antt`, `Keys.antt` and `Fields.antt` define the
 //! parts of a text, `Requests.antt` the request that a line makes, `Files.antt` what reading a file may give and the
-//! arrival of a request, and `Script.antt` what a whole script asks for.
+//! arrival of a request, and `Script.antt` what a whole script requests.
 #![tactic(auto)]
 
 mod bundles;

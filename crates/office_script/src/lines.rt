@@ -37,7 +37,7 @@ pub fn first_line(text: &[u8]) -> Option<FirstLine<'_>>
     }
 }
 
-/// Whether a line asks for nothing: it is empty, or begins with `#`.
+/// Whether a line requests nothing: it is empty, or begins with `#`.
 pub fn says_nothing(line: &[u8]) -> bool
     ensures { result ≡ says_nothing line.now }
 {

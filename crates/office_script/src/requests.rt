@@ -1,4 +1,4 @@
-//! The request of a line: its key, its team, and what it asks for.
+//! The request of a line: its key, its team, and what it requests.
 ghost use Rattle.std.specs.Prelude.{◌≡◌, ◌∷◌, ℕ, IfOk, IfSome, None, MatchOption};
 ghost use Rattle.office_fields.specs.Kind.{kind_of_word};
 ghost use Rattle.office_fields.specs.Reading.{Reads};
@@ -16,16 +16,16 @@ use office_history::Key;
 use office_types::Team;
 use std::alloc::{AllocError, Global};
 
-/// What a line asks for.
+/// What a line requests.
 #[derive(Drop)]
 pub struct LineRequest {
-    /// The team that asks.
+    /// The team whose request it is.
     pub team: Team,
     /// The key of the request.
     pub key: Key,
     /// The words after the team, as they are in the line.
     pub text: Items<u8>,
-    /// What they ask for.
+    /// What they request.
     pub requested: Requested,
 }
 
@@ -64,7 +64,7 @@ fn kind_of(word: &[u8]) -> Result<CommandKind, Unread>
     CommandKind::of_word(word).ok_or(Unread::Wrong)
 }
 
-/// What the command of this word asks for with the fields of the words in `rest`.
+/// What the command of this word requests with the fields of the words in `rest`.
 #[tactic(auto, unfolding(crate::specs::Requests::requested_by))]
 fn requested_of_words(alloc: Global, word: &[u8], rest: Option<&[u8]>) -> Result<Requested, Unread>
     ensures { Reads (requested_by word.now (words_after rest.entry)) result }

@@ -1,4 +1,4 @@
-//! Scripts: what their lines ask for.
+//! Scripts: what their lines request.
 ghost use Rattle.std.specs.Prelude.{IfOk, IfErr};
 ghost use Rattle.office_script.specs.Lines.{lines_of};
 ghost use Rattle.office_script.specs.Script.{AreArrivalsOf, IsScriptFault};
@@ -24,7 +24,7 @@ pub enum ScriptFault {
 
 /// The arrivals of a script's lines, in order: each line's team, key and request, an import with the bytes of its file.
 ///
-/// An empty line and one that begins with `#` ask for nothing. Any other is `key team command field=value ..` with one
+/// An empty line and one that begins with `#` request nothing. Any other is `key team command field=value ..` with one
 /// space between words: `dash` says what `-` means as a key, any other key is a [`Key`](office_history::Key), and the
 /// command is that of its fields ([`requested_of`](office_fields::requested_of)). The content of a request is the line
 /// after its team, as it is, and for an import a line feed and the file's bytes after it. The lines are read one after

@@ -41,7 +41,7 @@ pub cast_int : (n : ℤ) → cast Integer (Int n) ≡ Int n
 unfolding unary
 cast_int n = either _ (Int n)
 
--- what WHERE asks of a column is what the definition asks
+-- what WHERE requires of a column is what the definition requires
 pub text_requested : (at : ℕ) (text : List ℕ) (r : Row) → has_text at text (values r) ≡ is_true (binary (Compare Eq Binary) (column r (suc at)) (Text text))
 text_requested at text r = ap (λ v. is_eq (value_cmp v (Text text))) (column_is r at) ∙ sym (holds_text (column r (suc at)) text)
 

@@ -1,4 +1,4 @@
--- What a SELECT from one table of the office shows, whatever it asks.
+-- What a SELECT from one table of the office shows, whatever its condition.
 use Rattle.std.proofs.Common.{◌≡◌, ℕ, List, [], map, Bool, false, Ok, Err, Result, subst}
 use Rattle.std.specs.Prelude.{IfOk}
 use Rattle.std.specs.declared.cmp.Ordering.{Ordering}

@@ -1,4 +1,4 @@
--- The trees tell the schema: no two are sound over the same list of objects.
+-- The trees determine the schema: no two are sound over the same list of objects.
 use Rattle.std.proofs.Common.{◌≡◌, inl, inr, ℕ, ◌+◌, List, [], ◌∷◌, Bool, true, false, Option, Some, None, codes, pos, filter, refl, sym, ap, subst, ◌∙◌, arith}
 use Rattle.std.specs.Prelude.{MatchBool, bytes_eq}
 use Rattle.std.specs.List.{AllZip}

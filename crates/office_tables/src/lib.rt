@@ -4,7 +4,7 @@
 //! `held`, `spn`, `approval`, `frozen`, `reply`, `msg`, `sig`, `receiver`, `sigvalue`, `part`. A table that comes later
 //! is made last. docs/DESIGN.md says what each row means.
 //!
-//! [`is_new`] tells whether there is a table yet, and [`knows_schema`] that trees of the office are read with its
+//! [`is_new`] shows whether there is a table yet, and [`knows_schema`] that trees of the office are read with its
 //! schema; [`knows_tables`] says so of every schema, as those of earlier times (`IsOfficeSchema`).
 //!
 //! The statements that read and write rows are in the crate `office_rows`. What a statement of each form makes of the

@@ -1,4 +1,4 @@
-//! What a connection that was just opened tells of the tables.
+//! What a connection that was just opened shows of the tables.
 ghost use Rattle.std.specs.Prelude.{◌≡◌, ◌↔◌, [], IsTrue};
 ghost use Rattle.office_tables.specs.Schema.{no_schema, office_schema};
 ghost use Rattle.sqlite.specs.Schema.{Schema as Tables};

@@ -161,7 +161,7 @@ fn new_message(
     })
 }
 
-/// The decision that makes the message with this identifier, and tells the number.
+/// The decision that makes the message with this identifier, and answers the number.
 pub(crate) fn message_taken(
     alloc: Global,
     team: &Team,

@@ -1,4 +1,4 @@
--- The ranges of a command's fields, which its types keep, and what the fields ask for.
+-- The ranges of a command's fields, which its types keep, and what the fields request.
 use Rattle.std.specs.Prelude.{ℕ, ◌≤◌, ◌<◌, ◌^◌, ◌==◌, ⊤, All, Option, Some, None, IfSome, if◌then◌else◌}
 use Rattle.catalogue.specs.Form.{IsMux, IsValueText}
 use Rattle.catalogue.specs.Limits.{length_limit, size_limit}

@@ -25,7 +25,7 @@ abbrev pub number_form : IdentForm → Form
 number_form Standard = Std
 number_form Extended = Ext
 
--- what else the form asks: a parameter group has a destination address, and then a low byte of 0, or it has none
+-- what else the form requires: a parameter group has a destination address, and then a low byte of 0, or it has none
 -- (SAE J1939-21); and no suspect parameter number is 0
 abbrev pub is_formed : Form → ℕ → Bool
 is_formed Std n = true

@@ -58,7 +58,7 @@ reply_text (Release n) = codes "release " ++ decimal n
 reply_text (Refused r) = codes "refused " ++ refusal_text r
 reply_text (Bundle ps) = codes "bundle" ++ parts_text ps
 
--- a reply's kind, and what it tells
+-- a reply's kind, and the numbers in it
 abbrev pub reply_numbers : Reply → ReplyNumbers
 reply_numbers Done = record { kind = 0; a = 0; b = 0; c = 0 }
 reply_numbers (Number n) = record { kind = 1; a = n; b = 0; c = 0 }

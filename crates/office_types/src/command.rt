@@ -53,7 +53,7 @@ pub enum Action {
     RemoveSignal(SignalPath),
     /// Take the message of this name out.
     Retire(Name),
-    /// Ask for a review.
+    /// Request a review.
     Submit,
     /// Approve of the network as it is.
     Approve,

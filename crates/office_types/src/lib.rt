@@ -1,6 +1,6 @@
 //! What the office speaks of: teams and networks, commands and replies, the state, and the allocators.
 //!
-//! A [`Command`] asks for one thing on one network: an [`Action`], or to import a file. Its fields are typed so that no
+//! A [`Command`] requests one thing on one network: an [`Action`], or to import a file. Its fields are typed so that no
 //! value out of range can be written ([`command_is_in_range`]). A [`Reply`] is what the office answers. The state is
 //! plain data: [`Office`] holds networks in the order of their names and the [`SpnBook`]; a [`Net`] holds its [`Head`],
 //! live messages, blocks, held identifiers, approvals and releases, each in the order of a key, so that the state is

@@ -50,7 +50,7 @@ pub enum PartReply {
     Release(u32),
 }
 
-/// A reply as four numbers: its kind, and up to three that it tells, 0 where there are fewer.
+/// A reply as four numbers: its kind, and up to three that it holds, 0 where there are fewer.
 #[derive(Clone, Copy, Debug, PartialEq, Eq)]
 pub struct ReplyNumbers {
     /// Done is 0, a number 1, a start 2, counts 3, a release 4, a refusal 5, a bundle 6.

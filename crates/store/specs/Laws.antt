@@ -41,7 +41,7 @@ pub record HeldNumbersMeanOneThing : Type 0 where
 
 -- Some tables hold a history that ends with an arrival, and other tables hold a history with the same arrivals before
 -- it on its network, answered the same. Then it may be answered the same there, whatever else either history has: if
--- the command doesn't ask the book, and with this arrival no pair of team and key names two networks in either.
+-- the command doesn't read the book, and with this arrival no pair of team and key names two networks in either.
 abbrev pub HeldNetworksAreApart : Type 0
 HeldNetworksAreApart =
     (h g : List Answered) (a : Answered) (t u : Tables) → Holds (h ++ a ∷ []) t → Holds g u → needs_book a.command.task ≡ false

@@ -14,8 +14,8 @@ pub fn held_networks_are_clear()
 }
 
 /// After every history that tables hold, and so after every run and every arrival: no two first arrivals of `take_spn`
-/// that don't ask to share a number were answered the same one; and in two releases of a network, one DBC number has
-/// one message name.
+/// that don't request to share a number were answered the same one; and in two releases of a network, one DBC number
+/// has one message name.
 pub fn held_numbers_mean_one_thing()
     ensures { HeldNumbersMeanOneThing }
 {

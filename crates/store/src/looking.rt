@@ -49,7 +49,7 @@ fn look_inside<S: Alter>(
 }
 
 /// Answers a question in one transaction, which changes nothing.
-fn ask<S: Alter>(
+fn look_alone<S: Alter>(
     alloc: Global,
     conn: &mut Connection<S>,
     question: &Look,
@@ -120,7 +120,7 @@ impl<S: Alter> StoredOffice<S> {
         if self.failed {
             return Err(Lost::Store);
         }
-        match ask(alloc, &mut self.conn, question) {
+        match look_alone(alloc, &mut self.conn, question) {
             Ok(text) => Ok(text),
             Err(error) => {
                 let lost = loss_by(&mut self.conn, error);

@@ -1,4 +1,4 @@
--- How many tables each form has tells it from the others.
+-- No two forms have as many tables.
 use Rattle.std.proofs.Common.{◌≡◌, ℕ, length, refl, ap, ◌∙◌, arith}
 use Rattle.std.specs.Prelude.{◌≢◌}
 use Rattle.sqlite.specs.Schema.{Schema}

@@ -85,14 +85,14 @@ no_sheet (Some net) none = absurd (cc)
 
 -- ---- what is known of the live sheet
 
-pub nothing_reported : (tell : Sheet → List ℕ) (net : Option Net) → None ≡ option_map sheet_of net → None ≡ option_map (λ (n : Net). tell (sheet_of n)) net
-nothing_reported tell None none = refl
-nothing_reported tell (Some net) none = absurd (cc)
+pub nothing_reported : (shown : Sheet → List ℕ) (net : Option Net) → None ≡ option_map sheet_of net → None ≡ option_map (λ (n : Net). shown (sheet_of n)) net
+nothing_reported shown None none = refl
+nothing_reported shown (Some net) none = absurd (cc)
 
-pub reported : (tell : Sheet → List ℕ) (net : Option Net) (sheet : Sheet) (text : List ℕ) → Some sheet ≡ option_map sheet_of net → text ≡ tell sheet
-    → Some text ≡ option_map (λ (n : Net). tell (sheet_of n)) net
-reported tell None sheet text found is = absurd (cc)
-reported tell (Some net) sheet text found is = let same : sheet ≡ sheet_of net = cc in ap Some (is ∙ ap tell same)
+pub reported : (shown : Sheet → List ℕ) (net : Option Net) (sheet : Sheet) (text : List ℕ) → Some sheet ≡ option_map sheet_of net → text ≡ shown sheet
+    → Some text ≡ option_map (λ (n : Net). shown (sheet_of n)) net
+reported shown None sheet text found is = absurd (cc)
+reported shown (Some net) sheet text found is = let same : sheet ≡ sheet_of net = cc in ap Some (is ∙ ap shown same)
 
 -- the message of a name in the live sheet is that of the live message
 named_in_sheet : (live : List LiveMessage) (name : List ℕ)

@@ -15,7 +15,7 @@
 //!
 //! Writing: [`write_changes`] writes the rows of a list of changes (`writing`, `change_rows`, `setting`): each removes
 //! the rows of its key and adds its own, so that the tables follow what the changes do at the network and in the book.
-//! [`keep_reply`] adds the row of an answered request, and [`answer_at`] tells what a request under the same key is
+//! [`keep_reply`] adds the row of an answered request, and [`answer_at`] gives what a request under the same key is
 //! answered (`replies`).
 //!
 //! Each is called in a transaction. It commits nothing, and leaves nothing that a crash could find: only the commit

@@ -122,7 +122,7 @@ fn flag_number(flag: bool) -> u32
     if flag { 1 } else { 0 }
 }
 
-/// The column that tells when a signal is there.
+/// The column that shows when a signal is there.
 fn mux_column(mux: Mux) -> MuxColumn
     ensures { result ≡ mux_column mux }
 {

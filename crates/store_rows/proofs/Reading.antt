@@ -35,7 +35,7 @@ shown_map R S f each [] (x ∷ xs) all = absurd all
 shown_map R S f each (a ∷ items) [] all = absurd all
 shown_map R S f each (a ∷ items) (x ∷ xs) all = (each a x all.0, shown_map R S f each items xs all.1)
 
--- a query that asks for the rows of a list shows its items
+-- a query that requests the rows of a list shows its items
 pub selected_shown : {A : Type 0} {by : Row → Row → Ordering} (o : IsTotalOrder by) (R S : A → Row → Type 0) (wanted : Row → Bool) (shown : Row → Row) (table rows : List Row) (items : List A)
     → ((a : A) (x : Row) → R a x → S a (shown x)) → AreListed by R (filter wanted table) items → IsSelected wanted shown by table rows → AreShown S items rows
 selected_shown o R S wanted shown table rows items each listed sel =

@@ -29,9 +29,9 @@ use Rattle.store_rows.specs.Listed.{AreListed}
 
 -- ---- one row
 
--- the row has columns that tell the item
+-- the row has columns that show the item
 abbrev pub IsRowOf : {T A : Type 0} → (T → Row) → (A → T → Type 0) → A → Row → Type 0
-IsRowOf {T} row_of Tells item row = (it : T) × Tells item it × (row ≡ row_of it)
+IsRowOf {T} row_of Shows item row = (it : T) × Shows item it × (row ≡ row_of it)
 
 -- the team that requested the review, empty in draft
 abbrev pub submitter_text : Phase → List ℕ

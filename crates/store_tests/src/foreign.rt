@@ -3,7 +3,7 @@ use sqlite::Connection;
 use std::io::{self, ErrorKind};
 use store::StoredOffice;
 
-/// Tells what opening an office on them says.
+/// Shows what opening an office on them says.
 pub(crate) fn try_foreign(rt: &HostRuntime) -> io::Result<()> {
     let mut conn = Connection::open_in_memory(rt.alloc())?;
     let made = conn.execute_batch("CREATE TABLE part (number INTEGER)");

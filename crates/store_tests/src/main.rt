@@ -7,7 +7,7 @@
 //! so.
 //!
 //! Without words it tries each text of `office_rows` on real tables (`rows`), tables of something else, and a list that
-//! a generator makes. The words `rows DATABASE` ask for the first alone.
+//! a generator makes. The words `rows DATABASE` request the first alone.
 #![tactic(auto)]
 
 mod comparing;
@@ -38,7 +38,7 @@ fn is_as_expected(rt: &HostRuntime, arrivals: &[Arrival]) -> io::Result<bool> {
     Ok(answered? && run?)
 }
 
-/// Tries the list, and tells what came of it.
+/// Tries the list, and shows what came of it.
 fn try_list(rt: &HostRuntime, name: &str, arrivals: &[Arrival]) -> io::Result<()> {
     let count = arrivals.len();
     if is_as_expected(rt, arrivals)? {

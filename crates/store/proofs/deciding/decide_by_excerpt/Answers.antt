@@ -17,13 +17,13 @@ returns-then-reads_book-clause-decided g c clean office net book at is_net in_bo
     let office1 : IsOffice s1.now = subst IsOffice (sym now1) office in
     let found = c.in_ok-book.ensures.found clean office1 book (subst (λ (d : Database). IsBookIn (tables_of d.trees) book) (sym now1) in_book) in
     excerpt_decided c.releases_dont_count.ensures c.args.team.now c.args.command.now c.in_ok-decide_excerpt.field-0 c.in-Some.excerpt net book c.in_ok-excerpt.field-0 c.requires c.in-Some.is
-    (c.in_ok-excerpt.ensures.found clean1 office net at is_net) (λ n has. c.in_ok-decide_excerpt.ensures n book has (λ asks. sym found))
+    (c.in_ok-excerpt.ensures.found clean1 office net at is_net) (λ n has. c.in_ok-decide_excerpt.ensures n book has (λ reads. sym found))
 
 pub returns-clause-decided : goal.returns-clause-decided
 returns-clause-decided g c clean office net book at is_net in_book =
     excerpt_decided c.releases_dont_count.ensures c.args.team.now c.args.command.now c.in_ok-decide_excerpt-2.field-0 c.in-Some.excerpt net book c.in_ok-excerpt.field-0 c.requires c.in-Some.is
     (c.in_ok-excerpt.ensures.found clean office net at is_net)
-    (λ n has. c.in_ok-decide_excerpt-2.ensures n book has (λ asks. absurd (false≢true (sym c.if-reads_book.false ∙ c.reads_book.ensures ∙ asks))))
+    (λ n has. c.in_ok-decide_excerpt-2.ensures n book has (λ reads. absurd (false≢true (sym c.if-reads_book.false ∙ c.reads_book.ensures ∙ reads))))
 
 pub returns-in_default-clause-decided : goal.returns-in_default-clause-decided
 returns-in_default-clause-decided g c clean office net book at is_net in_book =

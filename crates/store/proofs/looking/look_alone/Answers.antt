@@ -7,7 +7,7 @@ use Rattle.sqlite.proofs.Callers.{survives_begin}
 use Rattle.office_tables.specs.Tables.{IsOffice}
 use Rattle.store.specs.Holding.{Keeps, Leaves}
 use Rattle.store.proofs.Left.{either_left}
-use Rattle.store.proofs.looking.ask.Goals as goal
+use Rattle.store.proofs.looking.look_alone.Goals as goal
 
 pub returns-in_err-done-clause-left : goal.returns-in_err-done-clause-left
 returns-in_err-done-clause-left g c clean h holds =

@@ -37,7 +37,7 @@ class Serve:
             self.process.communicate()
         self.is_listening = self.first_line == f"listening on 127.0.0.1:{self.port}\n".encode()
 
-    def ask(self, request):
+    def answer_to(self, request):
         """The status and the body of the response; None if no whole response came."""
         text = b""
         try:

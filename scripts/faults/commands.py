@@ -16,7 +16,7 @@ def unpacked(path):
 
 
 class Printing:
-    """A command that only prints: its answer, or what is said of a lost run, alone. Where the rules leave the text
+    """A command that only prints: its answer, or what is shown of a lost run, alone. Where the rules leave the text
     open, as of what clap prints, there is no answer, and that of an undisturbed run counts."""
 
     def __init__(self, words, files=None, answer=None):

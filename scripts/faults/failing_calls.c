@@ -2,7 +2,7 @@
 
        cc -O2 -shared -fPIC -o failing_calls.so failing_calls.c -ldl
 
-   What fails is said by the environment:
+   What fails is set by the environment:
 
      FAULT_CALL      the call: `alloc` (malloc, calloc and realloc), or the name of one of those below
      FAULT_AT        which one of them is the first that fails, from 1; none if it is absent or 0

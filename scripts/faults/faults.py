@@ -22,7 +22,7 @@ class Fault:
 
     The effect is the name of an error (`EIO`, `ENOSPC`, ..), `short`, `empty` or `half`, or a stop: `stop-before` or
     `stop-after`, and with `-lost` or `-torn` what becomes of the bytes that aren't synced. The reach is `one`,
-    `later` (the call and all later ones) or `every` and a number. The head of failing_calls.c tells what they do."""
+    `later` (the call and all later ones) or `every` and a number. The head of failing_calls.c shows what they do."""
 
     call: str
     effect: str

@@ -44,7 +44,7 @@ class Serve:
         client.settimeout(60)
         return client
 
-    def ask(self, request):
+    def answer_to(self, request):
         """The status and the body of the response to the request."""
         with self.connect() as client:
             client.sendall(request)
@@ -70,12 +70,12 @@ class Serve:
         more than the two ends of a connection keep."""
         grant = '{"net":"truck","team":"engine","form":"ext","first":0,"last":20000}'
         for key, command, body in (("o1", "open_net", '{"net":"truck","kind":"can","reviews":0}'), ("o2", "grant", grant)):
-            self.expect(self.ask(post(command, "office", key, body)), (200, '{"done":true}'), f"the answer to {command}")
+            self.expect(self.answer_to(post(command, "office", key, body)), (200, '{"done":true}'), f"the answer to {command}")
         text = 'VERSION ""\nNS_ :\nBS_:\nBU_:\n'
         text += "".join(f"BO_ {2**31 + number} M{number}: 8 Vector__XXX\n" for number in range(14000))
         text += "".join(f'CM_ BO_ {2**31 + number} "{"x" * 210}";\n' for number in range(14000))
         head = f"POST /import/truck HTTP/1.1\r\nTeam: engine\r\nRequest-Key: i1\r\nContent-Length: {len(text)}\r\n\r\n"
-        self.expect(self.ask(head.encode() + text.encode()), (200, '{"new":14000,"same":0}'), "the answer to the import")
+        self.expect(self.answer_to(head.encode() + text.encode()), (200, '{"new":14000,"same":0}'), "the answer to the import")
         return text
 
     def end(self, status, errors):

@@ -86,7 +86,7 @@ fn answer_all<S: Alter, W: Write>(
     let mut answers = Vec::with_capacity(alloc, arrivals.len())?;
     let mut lines = RequestLines::of(script);
     for arrival in arrivals {
-        progress.shows(lines.next_number());
+        progress.show_line(lines.next_number());
         match office.arrive(alloc, &arrival.team, &arrival.key, &arrival.request) {
             Ok(answer) => answers.push_reserved(answer),
             Err(lost) => {
@@ -156,7 +156,7 @@ pub(crate) fn answer_in_memory<W: Write>(
     let mut office = KeyedOffice::new(alloc);
     let mut lines = RequestLines::of(script);
     for arrival in arrivals {
-        progress.shows(lines.next_number());
+        progress.show_line(lines.next_number());
         match office.arrive(alloc, &arrival.team, &arrival.key, &arrival.request) {
             Ok(answer) => answers.push_reserved(answer),
             Err(AllocError) => {

@@ -41,7 +41,7 @@ fn apply_in_memory<F: FileSource, W: Write>(
             // Room first, so that no answer is lost because memory for its line runs out.
             let room = Room::for_answers(alloc, arrivals.len())?;
             let reported = answer_in_memory(alloc, script, &arrivals, progress);
-            progress.ends();
+            progress.clear();
             reported?.report(alloc, room)
         }
         Err(fault) => amiss_report(alloc, fault),
@@ -66,7 +66,7 @@ fn apply_in_database<F: FileSource, D: Databases, W: Write>(
             // Room first, so that no answer is lost because memory for its line runs out.
             let room = Room::for_answers(alloc, arrivals.len())?;
             let reported = databases.answer(alloc, path, script, &arrivals, progress);
-            progress.ends();
+            progress.clear();
             reported?.report(alloc, room)
         }
         Err(fault) => amiss_report(alloc, fault),

@@ -73,6 +73,6 @@ pub fn migrate_report<D: Databases, W: Write>(
         (outcome_of report)) }
 {
     let done = databases.migrate(alloc, path, progress);
-    progress.ends();
+    progress.clear();
     migrated_report(alloc, done)
 }

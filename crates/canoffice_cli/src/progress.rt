@@ -44,7 +44,7 @@ impl<'a> RequestLines<'a> {
 
 impl<W: Write> Progress<W> {
     /// Shows that the line of this number is next, in the place of what was shown before.
-    pub(crate) fn shows(&mut self, line: usize) {
+    pub(crate) fn show_line(&mut self, line: usize) {
         if let Some(to) = &mut self.to {
             // Whether it is shown changes nothing of what is done.
             let _shown = write!(to, "\rline {line}");
@@ -52,7 +52,7 @@ impl<W: Write> Progress<W> {
     }
 
     /// Takes back what was shown.
-    pub(crate) fn ends(&mut self) {
+    pub(crate) fn clear(&mut self) {
         if let Some(to) = &mut self.to {
             let _shown = write!(to, "\r\x1b[K");
         }
@@ -68,7 +68,7 @@ fn show_message<W: Write>(to: &mut W, net: &NetName, message: &Name) -> io::Resu
 }
 
 impl<W: Write> Watch for Progress<W> {
-    fn shows(&mut self, net: &NetName, message: &Name) {
+    fn show(&mut self, net: &NetName, message: &Name) {
         if let Some(to) = &mut self.to {
             let _shown = show_message(to, net, message);
         }

@@ -10,7 +10,7 @@ use Rattle.sqlite.specs.Tree.{Trees}
 use Rattle.office_history.specs.History.{Answered}
 use Rattle.store.specs.Holding.{Holding, Leaves}
 use Rattle.desk_types.specs.Moved.{AppendsFront}
-use Rattle.desk.specs.Serving.{AreAccepted, AreClosed, Ending, FailsOnce, Follows, IsDeclined, KeepsWithOne, Leads, LedTo, Ran, SaysFailure, Visit, written_to}
+use Rattle.desk.specs.Serving.{AreAccepted, AreClosed, Ending, FailsOnce, Follows, IsDeclined, KeepsWithOne, Leads, HasGoneOn, HasServed, SaysFailure, Visit, written_to}
 use Rattle.desk.proofs.Visits.{LeavesNow, decides, left_now, legal_of, not_both, ranged_of}
 
 follows_then : (h : List Answered) (vs : List Visit) (v : Visit) (h1 h2 : List Answered) → Follows h vs h1 → Leads h1 v h2 → Follows h (vs ++ v ∷ []) h2
@@ -62,7 +62,7 @@ pub declined_none : All IsDeclined []
 declined_none = All-nil IsDeclined
 
 -- nothing was served yet
-pub ran_none : (h : List Answered) (failed : Bool) (s : State) → LeavesNow s → Holding h s → Ran h [] failed s
+pub ran_none : (h : List Answered) (failed : Bool) (s : State) → LeavesNow s → Holding h s → HasServed h [] failed s
 ran_none h failed s law holding = record {
   after = h;
   follows = refl;
@@ -80,19 +80,19 @@ still_one h vs v db (inr one) = inr (one.0, Contains-append_left vs (v ∷ []) o
 
 -- what a connection is served on, and what becomes of it
 pub record Turn (failed_old : Bool) (old : State) (v : Visit) (failed_new : Bool) (new : State) : Type 1 where
-  pub came : v.office_failed ≡ failed_old
+  pub before : v.office_failed ≡ failed_old
   pub refused : IsTrue failed_old → (failed_new ≡ failed_old) × (new ≡ old)
-  pub leads : (h : List Answered) → Holding h old → LedTo h v.fault v.sent (written_to v) new
+  pub leads : (h : List Answered) → Holding h old → HasGoneOn h v.fault v.sent (written_to v) new
   pub opened : (h : List Answered) → Holding h old → IsFalse failed_new → IsTrue new.is_open
 
 ran_on : (h : List Answered) (vs : List Visit) (v : Visit) (failed_old : Bool) (old : State) (failed_new : Bool) (new : State) → Turn failed_old old v failed_new new
-    → Ran h vs failed_old old → IsTrue failed_old ⊎ IsFalse failed_old → Ran h (vs ++ v ∷ []) failed_new new
+    → HasServed h vs failed_old old → IsTrue failed_old ⊎ IsFalse failed_old → HasServed h (vs ++ v ∷ []) failed_new new
 ran_on h vs v failed_old old failed_new new turn r (inl failed) =
     let same = turn.refused failed in
     let not_sound : IsFalse failed_new → ⊥ = λ sound. not_both failed_old failed (subst IsFalse same.0 sound) in
     record {
       after = r.after;
-      follows = follows_then h vs v r.after r.after r.follows (inl (subst IsTrue (sym turn.came) failed, refl));
+      follows = follows_then h vs v r.after r.after r.follows (inl (subst IsTrue (sym turn.before) failed, refl));
       legal = r.legal;
       in_range = r.in_range;
       is_open = λ sound. absurd (not_sound sound);
@@ -104,7 +104,7 @@ ran_on h vs v failed_old old failed_new new turn r (inr sound) =
     let led = turn.leads r.after holding in
     record {
       after = led.after;
-      follows = follows_then h vs v r.after led.after r.follows (inr (subst IsFalse (sym turn.came) sound, led.leads));
+      follows = follows_then h vs v r.after led.after r.follows (inr (subst IsFalse (sym turn.before) sound, led.leads));
       legal = led.legal;
       in_range = led.in_range;
       is_open = turn.opened r.after holding;
@@ -114,7 +114,7 @@ ran_on h vs v failed_old old failed_new new turn r (inr sound) =
 
 -- one more connection was served
 pub ran_then : (h : List Answered) (vs : List Visit) (v : Visit) (failed_old : Bool) (old : State) (failed_new : Bool) (new : State)
-    → Turn failed_old old v failed_new new → Ran h vs failed_old old → Ran h (vs ++ v ∷ []) failed_new new
+    → Turn failed_old old v failed_new new → HasServed h vs failed_old old → HasServed h (vs ++ v ∷ []) failed_new new
 ran_then h vs v failed_old old failed_new new turn ran = ran_on h vs v failed_old old failed_new new turn ran (decides failed_old)
 
 reported_then : {T : Type 0} (f : Visit → Option T) (vs : List Visit) (v : Visit) (xs ys : List T) → map f vs ≡ map Some xs → map f (v ∷ []) ≡ map Some ys

@@ -16,7 +16,7 @@ use Rattle.desk_reply.specs.Response.{problem_response}
 use Rattle.desk_call.specs.Read.{IsNotWhole}
 use Rattle.office_history.specs.declared.arrival.Answer.{Answer}
 use Rattle.desk.specs.Responding.{FollowsRequested, HasBegun, HasBegunRefusal, HasGivenUp, HasRefused, HasServed, IsRequested, MayHaveTaken, Responds, answered_as}
-use Rattle.desk.specs.Serving.{AreAccepted, IsAccepted, DeclinesBy, AreClosed, Ending, IsClosed, IsCause, IsCutShort, IsReply, KeepsOneMore, LeadsBy, LedTo, MayGoOn, Starts, Visit, Wrote, WroteFront, fault_of}
+use Rattle.desk.specs.Serving.{AreAccepted, IsAccepted, DeclinesBy, AreClosed, Ending, IsClosed, IsCause, IsCutShort, IsReply, KeepsOneMore, LeadsBy, HasGoneOn, MayGoOn, Starts, Visit, HasText, HasFront, fault_of}
 
 -- ---- what was written
 
@@ -40,28 +40,28 @@ written_is None reported reads writes = refl
 written_is (Some e) None reads writes = refl
 written_is (Some e) (Some bytes) reads writes = refl
 
-fresh : (new : Option (List ℕ)) (text : List ℕ) → Appends (Some []) new text → Wrote new text
+fresh : (new : Option (List ℕ)) (text : List ℕ) → Appends (Some []) new text → HasText new text
 fresh None text appends = absurd appends
 fresh (Some bytes) text appends = appends
 
-fresh_front : (new : Option (List ℕ)) (text front rest : List ℕ) → text ≡ front ++ rest → Appends (Some []) new front → WroteFront new text
+fresh_front : (new : Option (List ℕ)) (text front rest : List ℕ) → text ≡ front ++ rest → Appends (Some []) new front → HasFront new text
 fresh_front None text front rest is appends = absurd appends
 fresh_front (Some bytes) text front rest is appends = (rest, subst (λ (l : List ℕ). text ≡ l ++ rest) (sym appends) is)
 
 wrote : (ended : Option (List Ending)) (old new : Option (List ℕ)) (text : List ℕ)
-    → Starts ended old → Appends old new text → Wrote (written_of ended new) text
+    → Starts ended old → Appends old new text → HasText (written_of ended new) text
 wrote None old new text starts appends = tt
 wrote (Some e) old new text starts appends = fresh new text (subst (λ (o : Option (List ℕ)). Appends o new text) starts appends)
 
 wrote_front : (ended : Option (List Ending)) (old new : Option (List ℕ)) (text : List ℕ)
-    → Starts ended old → AppendsFront old new text → WroteFront (written_of ended new) text
+    → Starts ended old → AppendsFront old new text → HasFront (written_of ended new) text
 wrote_front None old new text starts a = tt
 wrote_front (Some e) old new text starts a =
     fresh_front new text a.0 a.1 a.2 (subst (λ (o : Option (List ℕ)). Appends o new a.0) starts a.3)
 
-wrote_nothing : (ended : Option (List Ending)) (old new : Option (List ℕ)) → Starts ended old → new ≡ old → Wrote (written_of ended new) []
+wrote_nothing : (ended : Option (List Ending)) (old new : Option (List ℕ)) → Starts ended old → new ≡ old → HasText (written_of ended new) []
 wrote_nothing None old new starts same = tt
-wrote_nothing (Some e) old new starts same = subst (λ (o : Option (List ℕ)). Wrote o []) (sym (same ∙ starts)) refl
+wrote_nothing (Some e) old new starts same = subst (λ (o : Option (List ℕ)). HasText o []) (sym (same ∙ starts)) refl
 
 -- ---- the history after it
 
@@ -154,11 +154,11 @@ given_up h sent s law legal ranged (inr g) = may_have h sent g.0 s law legal ran
 -- ---- a connection
 
 led_to : (h : List Answered) (fault : Option DeskFault) (sent written : Option (List ℕ)) (s : State) → Led (LeadsBy fault h sent written) (λ h2 db. KeepsOneMore h2 sent written db) s
-    → LedTo h fault sent written s
+    → HasGoneOn h fault sent written s
 led_to h fault sent written s it = record { after = it.after; leads = it.leads; legal = it.legal; in_range = it.in_range; held = it.held; left = it.left }
 
 -- it leads on by what was written
-on : {Leading Leading2 : List Answered → Type 0} (sent written : Option (List ℕ)) (text : List ℕ) (s : State) → WroteFront written text → ((h2 : List Answered) → Leading h2 → Leading2 h2)
+on : {Leading Leading2 : List Answered → Type 0} (sent written : Option (List ℕ)) (text : List ℕ) (s : State) → HasFront written text → ((h2 : List Answered) → Leading h2 → Leading2 h2)
     → Led Leading (IsSentAgain sent text) s → Led Leading2 (λ h2 db. KeepsOneMore h2 sent written db) s
 on sent written text s front more it = record {
   after = it.after;
@@ -166,15 +166,15 @@ on sent written text s front more it = record {
   legal = it.legal;
   in_range = it.in_range;
   held = it.held;
-  left = λ db may. elim (it.left db may) [ inl keeps ↦ inl keeps | inr one ↦ inr (one.0, one.1, subst (WroteFront written) one.2 front, one.3, one.4) ];
+  left = λ db may. elim (it.left db may) [ inl keeps ↦ inl keeps | inr one ↦ inr (one.0, one.1, subst (HasFront written) one.2 front, one.3, one.4) ];
 }
 
 -- what was written is a beginning of itself
-is_front : (written : Option (List ℕ)) (text : List ℕ) → Wrote written text → WroteFront written text
+is_front : (written : Option (List ℕ)) (text : List ℕ) → HasText written text → HasFront written text
 is_front None text wrote = tt
 is_front (Some bytes) text wrote = ([], sym wrote ∙ sym (append-nil bytes))
 
-no_front : (written : Option (List ℕ)) (text : List ℕ) → Wrote written [] → WroteFront written text
+no_front : (written : Option (List ℕ)) (text : List ℕ) → HasText written [] → HasFront written text
 no_front None text wrote = tt
 no_front (Some bytes) text wrote = (text, subst (λ (l : List ℕ). text ≡ l ++ text) (sym wrote) refl)
 
@@ -186,7 +186,7 @@ pub record Service {T : Type 0} (r : Result T DeskFault) (h : List Answered) (se
   pub lacking : IsErrOf r Memory → HasGivenUp h sent s × (new ≡ old)
 
 pub led : {T : Type 0} (r : Result T DeskFault) (h : List Answered) (ended : Option (List Ending)) (sent old new : Option (List ℕ)) (s : State)
-    → LeavesNow s → Starts ended old → IsLegalHistory h → All IsInRange h → Service r h sent old new s → LedTo h (fault_of r) sent (written_of ended new) s
+    → LeavesNow s → Starts ended old → IsLegalHistory h → All IsInRange h → Service r h sent old new s → HasGoneOn h (fault_of r) sent (written_of ended new) s
 led (Ok v) h ended sent old new s law starts legal ranged known =
     let w = known.whole in
     let text = wrote ended old new w.1 starts w.4 in

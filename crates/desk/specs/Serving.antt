@@ -54,12 +54,12 @@ abbrev pub HasCause : Visit → Type 0
 HasCause v = IsCause v.fault v.sent v.ending
 
 -- this was written, if that is known
-abbrev pub Wrote : Option (List ℕ) → List ℕ → Type 0
-Wrote written text = IfSome written (λ bytes. bytes ≡ text)
+abbrev pub HasText : Option (List ℕ) → List ℕ → Type 0
+HasText written text = IfSome written (λ bytes. bytes ≡ text)
 
 -- a beginning of this was written, if that is known
-abbrev pub WroteFront : Option (List ℕ) → List ℕ → Type 0
-WroteFront written text = IfSome written (λ bytes. (rest : List ℕ) × (text ≡ bytes ++ rest))
+abbrev pub HasFront : Option (List ℕ) → List ℕ → Type 0
+HasFront written text = IfSome written (λ bytes. (rest : List ℕ) × (text ≡ bytes ++ rest))
 
 -- the text is the response to the request, and h2 is the history after it; or the text says to try again
 abbrev pub IsReply : List Answered → Option (List ℕ) → List ℕ → List Answered → Type 0
@@ -73,10 +73,10 @@ MayGoOn h sent h2 =
 
 -- from one history to another by a connection that ended so: with its whole response, with none, or with a beginning
 abbrev pub LeadsBy : Option DeskFault → List Answered → Option (List ℕ) → Option (List ℕ) → List Answered → Type 0
-LeadsBy None h sent written h2 = (text : List ℕ) × IsReply h sent text h2 × Wrote written text
-LeadsBy (Some Read) h sent written h2 = (h2 ≡ h) × Wrote written []
-LeadsBy (Some Write) h sent written h2 = (text : List ℕ) × IsReply h sent text h2 × WroteFront written text
-LeadsBy (Some Memory) h sent written h2 = MayGoOn h sent h2 × Wrote written []
+LeadsBy None h sent written h2 = (text : List ℕ) × IsReply h sent text h2 × HasText written text
+LeadsBy (Some Read) h sent written h2 = (h2 ≡ h) × HasText written []
+LeadsBy (Some Write) h sent written h2 = (text : List ℕ) × IsReply h sent text h2 × HasFront written text
+LeadsBy (Some Memory) h sent written h2 = MayGoOn h sent h2 × HasText written []
 
 -- the same by a connection; one that comes when the office has failed leaves the history as it is
 abbrev pub Leads : List Answered → Visit → List Answered → Type 0
@@ -91,7 +91,7 @@ Follows h (v ∷ later) h2 = (h1 : List Answered) × Leads h v h1 × Follows h1 
 -- beginning of the text that says to try again
 abbrev pub KeepsOneMore : List Answered → Option (List ℕ) → Option (List ℕ) → Trees → Type 0
 KeepsOneMore h sent written db =
-    (a : ArrivalSeen) × IsRequested sent (arrives a) × WroteFront written (problem_response TryAgain) × (answer : Answer) × Keeps (h ++ answered_as a answer ∷ []) db
+    (a : ArrivalSeen) × IsRequested sent (arrives a) × HasFront written (problem_response TryAgain) × (answer : Answer) × Keeps (h ++ answered_as a answer ∷ []) db
 
 -- the trees keep the history, or it with the arrival of one of the connections, which had no answer
 abbrev pub KeepsWithOne : List Answered → List Visit → Trees → Type 0
@@ -99,7 +99,7 @@ KeepsWithOne h visits db = Keeps h db ⊎ ((v : Visit) × Contains visits v × K
 
 -- A connection that ended so leads to a legal history, whose commands are in range, and which the tables hold as long
 -- as they are open. A crash leaves that history, or it and the arrival, if that had no answer.
-pub record LedTo (h : List Answered) (fault : Option DeskFault) (sent written : Option (List ℕ)) (s : State) : Type 0 where
+pub record HasGoneOn (h : List Answered) (fault : Option DeskFault) (sent written : Option (List ℕ)) (s : State) : Type 0 where
   pub after : List Answered
   pub leads : LeadsBy fault h sent written after
   pub legal : IsLegalHistory after
@@ -110,7 +110,7 @@ pub record LedTo (h : List Answered) (fault : Option DeskFault) (sent written : 
 -- The connections lead to a legal history, whose commands are in range, and which the tables hold as long as they are
 -- open. They are, unless the office has failed. A crash leaves that history, or it and one arrival that had no
 -- answer.
-pub record Ran (h : List Answered) (visits : List Visit) (failed : Bool) (s : State) : Type 0 where
+pub record HasServed (h : List Answered) (visits : List Visit) (failed : Bool) (s : State) : Type 0 where
   pub after : List Answered
   pub follows : Follows h visits after
   pub legal : IsLegalHistory after
@@ -123,10 +123,10 @@ pub record Ran (h : List Answered) (visits : List Visit) (failed : Bool) (s : St
 
 -- from a connection to an office that has failed, which ended so: a request to that office gets the answer to try again
 abbrev pub DeclinesBy : Option DeskFault → Option (List ℕ) → Option (List ℕ) → Type 0
-DeclinesBy None sent written = (requested : Requested) × IsRequested sent requested × Wrote written (failed_response requested)
-DeclinesBy (Some Read) sent written = Wrote written []
-DeclinesBy (Some Write) sent written = (requested : Requested) × IsRequested sent requested × WroteFront written (failed_response requested)
-DeclinesBy (Some Memory) sent written = Wrote written []
+DeclinesBy None sent written = (requested : Requested) × IsRequested sent requested × HasText written (failed_response requested)
+DeclinesBy (Some Read) sent written = HasText written []
+DeclinesBy (Some Write) sent written = (requested : Requested) × IsRequested sent requested × HasFront written (failed_response requested)
+DeclinesBy (Some Memory) sent written = HasText written []
 
 -- if the office had failed when the connection came, it is declined so
 abbrev pub IsDeclined : Visit → Type 0

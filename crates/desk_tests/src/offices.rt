@@ -49,7 +49,7 @@ pub(crate) enum Outcome {
 struct Nobody;
 
 impl Watch for Nobody {
-    fn shows(&mut self, _net: &NetName, _message: &Name) {}
+    fn show(&mut self, _net: &NetName, _message: &Name) {}
 }
 
 /// An office on the connection.

@@ -50,7 +50,7 @@ file_requested (requested.Import i) = Some i.file
 file_requested (requested.Bundle i) = Some i.file
 
 -- a request for a bundle whose file has a wrong line, no part, or too many
-pub record AsksWrongParts (files : Files) (a : Requested) : Type 0 where
+pub record RequestsWrongParts (files : Files) (a : Requested) : Type 0 where
   pub bundle : FileImport
   pub requested : a ≡ requested.Bundle bundle
   pub bytes : List ℕ
@@ -61,14 +61,14 @@ pub record AsksWrongParts (files : Files) (a : Requested) : Type 0 where
 pub record NamesWrongParts (files : Files) (dash : Dash) (number : ℕ) (line : List ℕ) : Type 0 where
   pub request : LineRequest
   pub made : requests_of_line dash number line ≡ Some (request ∷ [])
-  pub names : AsksWrongParts files request.requested
+  pub names : RequestsWrongParts files request.requested
 
 -- the line of this number is wrong, or the file of its bundle is
 abbrev pub IsWrong : Files → Dash → ℕ → List ℕ → Type 0
 IsWrong files dash number line = (requests_of_line dash number line ≡ None) ⊎ NamesWrongParts files dash number line
 
 -- a request that names the file of this path, which may be unreadable
-pub record AsksUnreadable (files : Files) (path : List ℕ) (a : Requested) : Type 0 where
+pub record RequestsUnreadable (files : Files) (path : List ℕ) (a : Requested) : Type 0 where
   pub named : file_requested a ≡ Some path
   pub unreadable : FailsWith (files path) file.Unreadable
 
@@ -76,7 +76,7 @@ pub record AsksUnreadable (files : Files) (path : List ℕ) (a : Requested) : Ty
 pub record NamesUnreadable (files : Files) (dash : Dash) (path : List ℕ) (number : ℕ) (line : List ℕ) : Type 0 where
   pub request : LineRequest
   pub made : requests_of_line dash number line ≡ Some (request ∷ [])
-  pub names : AsksUnreadable files path request.requested
+  pub names : RequestsUnreadable files path request.requested
 
 -- the fault is that of the first line at which something is amiss; out of memory states nothing
 abbrev pub IsScriptFault : Files → Dash → List ℕ → ScriptFault → Type 0
@@ -93,8 +93,8 @@ pub record AreArrivalsOfLine (files : Files) (dash : Dash) (number : ℕ) (line 
 -- the request for what a text requests, or the file that can't be read; out of memory states nothing
 abbrev pub Fills : Files → List ℕ → Requested → Result Request LineFault → Type 0
 Fills files text a (Ok request) = IsRequestFor files text a request
-Fills files text a (Err why.Wrong) = AsksWrongParts files a
-Fills files text a (Err (why.Unreadable path)) = AsksUnreadable files path a
+Fills files text a (Err why.Wrong) = RequestsWrongParts files a
+Fills files text a (Err (why.Unreadable path)) = RequestsUnreadable files path a
 Fills files text a (Err why.Memory) = ⊤
 
 -- why a line has no arrival

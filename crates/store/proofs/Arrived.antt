@@ -99,7 +99,7 @@ first_holds laws h a d t u v holds today ranged new reported decision followed k
         profile = follows.profile ∙ holds.holds.profile;
       };
       emptied = follows.bodies ∙ holds.emptied;
-      came = tt;
+      under = tt;
     })
 
 -- ---- a repeat
@@ -122,5 +122,5 @@ again_holds h a first t holds ranged found reported = record {
     profile = holds.holds.profile;
   };
   emptied = holds.emptied;
-  came = tt;
+  under = tt;
 }

@@ -52,7 +52,7 @@ new_hold = record {
     profile = refl;
   };
   emptied = refl;
-  came = tt;
+  under = tt;
 }
 
 pub new_keeps : (db : Database) → IsNew db → Keeps [] db.trees

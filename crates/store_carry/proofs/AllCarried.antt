@@ -79,7 +79,7 @@ held_as_rows laws h t mid t2 at over is =
       holds = all_carried HasBodies HasRows _ (row_marks Two) h t last at.holds (ap (λ (u : Tables). record u { message = []; profile = [] }) over.rest)
           (λ name bodies. subst (λ l. HasRows name mid l) (chosen nets name) (each name (live_in (net_named at.holds.office name)) bodies (none_as_rows t at.alone name))) refl;
       emptied = refl;
-      came = tt;
+      under = tt;
     })
 
 -- ---- from the first profile to the second
@@ -91,5 +91,5 @@ pub held_renewed : (h : List Answered) (t t2 : Tables) → t2 ≡ (record t { pr
 held_renewed h t t2 is at = subst (HoldsAsRows Two h) (sym is) (record {
   holds = all_carried HasRows HasRows _ (row_marks Two) h t (record t { profile = row_marks Two }) at.holds refl (λ name live. live) refl;
   emptied = at.emptied;
-  came = tt;
+  under = tt;
 })

@@ -38,7 +38,7 @@ first_office = record {
     profile = refl;
   };
   alone = record { msg = refl; sig = refl; receiver = refl; sigvalue = refl; part = refl };
-  came = All-nil (λ (a : Answered). a.profile ≡ One);
+  under = All-nil (λ (a : Answered). a.profile ≡ One);
 }
 
 office_of_today : HoldsAsRows Two [] (record no_rows { profile = row_marks Two })
@@ -54,5 +54,5 @@ office_of_today = record {
     profile = refl;
   };
   emptied = refl;
-  came = tt;
+  under = tt;
 }

@@ -3,5 +3,7 @@ mod NetsCarried
 mod LiveAdded
 mod Grown
 pub mod Formed
+mod Outlined
+mod UniqueLists
 pub mod ProfileRows
 mod Examples

@@ -36,10 +36,10 @@ pub record HasBodiesAlone (t : Tables) : Type 0 where
 pub record HoldsAsBodies (h : List Answered) (t : Tables) : Type 0 where
   pub holds : HoldsIn HasBodies body_marks h t
   pub alone : HasBodiesAlone t
-  pub came : AreUnder One h
+  pub under : AreUnder One h
 
 -- the history in tables of a profile with live messages as rows; no body is there
 pub record HoldsAsRows (p : Profile) (h : List Answered) (t : Tables) : Type 0 where
   pub holds : HoldsIn HasRows (row_marks p) h t
   pub emptied : t.message ≡ []
-  pub came : AreUnder p h
+  pub under : AreUnder p h

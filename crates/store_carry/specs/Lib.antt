@@ -4,3 +4,4 @@ pub mod Carried
 pub mod Marks
 pub mod FormSchema
 pub mod InForm
+pub mod Outlines

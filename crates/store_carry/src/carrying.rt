@@ -37,7 +37,7 @@ fn write_messages<S: Alter, W: Watch>(
     ensures survives { LeavesNothing (state S.Store tx.old.conn.now) (state S.Store tx.new.conn.now) }
 {
     for message in live {
-        watch.shows(name, &message.message.name);
+        watch.show(name, &message.message.name);
         write_message(alloc, tx, name, message)?;
     }
     Ok(())

@@ -2,11 +2,13 @@
 ghost use Rattle.std.specs.Prelude.{◌≡◌, ◌≢◌};
 ghost use Rattle.sqlite.specs.Held.{state};
 ghost use Rattle.store_carry.specs.FormSchema.{schema_of};
+ghost use Rattle.store_carry.specs.Outlines.{IsLike};
 ghost use Rattle.store_carry.specs.declared.forms.Form.{Form as FormOf};
 
+use crate::outlines::is_begun;
 use sqlite::{Alter, Connection};
 
-/// The tables of an office of some time, by how many they are.
+/// The tables of an office of some time.
 #[derive(Clone, Copy, Debug, PartialEq, Eq)]
 pub enum Form {
     /// The nine tables of the first offices, whose live messages are bodies.
@@ -15,19 +17,25 @@ pub enum Form {
     Rows,
     /// All fourteen.
     All,
-    /// Some other number of tables: no office's.
+    /// Other tables, or others beside them: no office's.
     Foreign,
 }
 
-/// Which tables the connection has, by how many they are: of an office's it is exact.
+/// Which tables the connection has. Of those of an office it is exact; and what isn't `Foreign` is like those of an
+/// office: no table more or less, each with as many columns and the same unique ones, and no index or view beside them.
 pub fn form_of<S: Alter>(conn: &Connection<S>) -> Form
-    ensures { (form : FormOf) → form ≢ Form.Foreign → (state S.Store conn.now).now.schema ≡ schema_of form
-        → result ≡ form }
+    ensures known { (form : FormOf) → form ≢ Form.Foreign
+        → (state S.Store conn.now).now.schema ≡ schema_of form → result ≡ form }
+    ensures like { result ≢ Form.Foreign → IsLike (state S.Store conn.now).now.schema (schema_of result) }
 {
-    match conn.schema().tables.len() {
-        9 => Form::Bodies,
-        13 => Form::Rows,
-        14 => Form::All,
+    let schema = conn.schema();
+    if !is_begun(schema) {
+        return Form::Foreign;
+    }
+    match (schema.tables.len(), schema.indexes.len()) {
+        (9, 8) => Form::Bodies,
+        (13, 14) => Form::Rows,
+        (14, 15) => Form::All,
         _ => Form::Foreign,
     }
 }

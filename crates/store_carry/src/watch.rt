@@ -6,5 +6,5 @@ use office_types::NetName;
 /// Sees which messages are carried over. What it does with that changes nothing of what is done.
 pub trait Watch {
     /// This live message of the network is next.
-    fn shows(&mut self, net: &NetName, message: &Name);
+    fn show(&mut self, net: &NetName, message: &Name);
 }

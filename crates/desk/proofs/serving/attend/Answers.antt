@@ -1,7 +1,7 @@
 use Rattle.std.proofs.Common.{ℕ, List, [], ◌∷◌, Option, refl, sym, ap, subst}
 use Rattle.sqlite.specs.Held.{state}
 use Rattle.store.specs.Holding.{Holding}
-use Rattle.desk.specs.Serving.{AreAccepted, DeclinesBy, Ending, IsClosed, LedTo, Visit, fault_of}
+use Rattle.desk.specs.Serving.{AreAccepted, DeclinesBy, Ending, IsClosed, HasGoneOn, Visit, fault_of}
 use Rattle.desk.proofs.Visits.{caused, declined, ending_reported, led, legal_of, one_came, one_ended, ranged_of, written_is}
 use Rattle.desk.proofs.serving.attend.Goals as goal
 
@@ -44,7 +44,7 @@ returns-clause-served g c =
         unread = λ is. ap reported (one.read_kept is).1;
         lacking = λ is. ap reported (one.memory_kept is);
       })),
-      λ clean h holding. subst (λ (o : Option (List ℕ)). LedTo h fault sent o s) is_written (led c.serve_one-ended.result h before sent first last s c.leaves_now.ensures accepted.starts (legal_of h _ holding) (ranged_of h _ holding) (record {
+      λ clean h holding. subst (λ (o : Option (List ℕ)). HasGoneOn h fault sent o s) is_written (led c.serve_one-ended.result h before sent first last s c.leaves_now.ensures accepted.starts (legal_of h _ holding) (ranged_of h _ holding) (record {
         whole = one.served clean h holding;
         unread = λ is. (subst (λ o. Holding h (state g.S.Store o.conn)) (sym (one.read_kept is).0) holding, ap reported (one.read_kept is).1);
         unwritten = one.write clean h holding;

@@ -22,7 +22,7 @@ returns-clause-survives g c =
     let inside = survives_begin g.S.Store c.args.conn.now last (λ _. ⊥) (rw begun at c.carry.ensures.survives) in
     let carried = λ (clean : HasCleanDisk (state g.S.Store end)) (form : Form) (known : form ≢ Foreign) (was : IsOfficeWith (schema_of form) old.now).
     let clean_last : HasCleanDisk last = omega (arith, c.commit.ensures.survives.clean, clean) in
-    carried_as c.form_of-form.result form (state g.S.Store (record c.args.conn.now { in_transaction = true })) last (c.form_of-form.ensures form known was.schema_is) (rw begun at (c.in_ok-carry.ensures.office clean_last)) (rw begun at (c.in_ok-carry.ensures.held clean_last)) was in
+    carried_as c.form_of-form.result form (state g.S.Store (record c.args.conn.now { in_transaction = true })) last (c.form_of-form.ensures.known form known was.schema_is) (rw begun at (c.in_ok-carry.ensures.office clean_last)) (rw begun at (c.in_ok-carry.ensures.held clean_last)) was in
     subst (λ v. Survives old (state g.S.Store v) (MayCarry old.now)) same
     (survives_then old last (state g.S.Store end) (λ _. ⊥) (λ db. db ≡ last.now.trees) (MayCarry old.now) (λ clean db none. absurd none)
     (λ clean db is form known was. (last.now, carried clean form known was, is)) inside c.commit.ensures.survives)

@@ -1,15 +1,61 @@
-use Rattle.std.proofs.Common.{rules, ◌∙◌}
-use Rattle.store_carry.proofs.Formed.{all_counted, bodies_counted, counted, none_counted, rows_counted}
+use Rattle.std.proofs.Common.{rules, ◌∙◌, sym, subst}
+use Rattle.std.proofs.lemmas.Bool.{false≢true}
+use Rattle.store_carry.specs.FormSchema.{schema_of}
+use Rattle.store_carry.specs.Outlines.{IsLike}
+use Rattle.store_carry.specs.declared.forms.Form.TheVariants.{All, Bodies, Rows}
+use Rattle.store_carry.proofs.Formed.{all_counted, begun, bodies_counted, counted, like_all, like_bodies, like_rows, none_counted, rows_counted}
 use Rattle.store_carry.proofs.forms.form_of.Goals as goal
 
-pub returns-in-9 : goal.returns-in-9
-returns-in-9 g c form other same = bodies_counted form c.len.result c.in-9.is other (counted form c.schema.result.now c.len.result (c.schema.ensures.value ∙ same) c.len.ensures)
+pub returns-then-not-is_begun-clause-known : goal.returns-then-not-is_begun-clause-known
+returns-then-not-is_begun-clause-known g c form other same =
+    absurd (false≢true (sym c.if-not-is_begun.true ∙ c.is_begun.ensures.1 (begun form c.schema-schema.result.now (c.schema-schema.ensures.value ∙ same))))
 
-pub returns-in-13 : goal.returns-in-13
-returns-in-13 g c form other same = rows_counted form c.len.result c.in-13.is other (counted form c.schema.result.now c.len.result (c.schema.ensures.value ∙ same) c.len.ensures)
+pub returns-in-9-eq8-clause-known : goal.returns-in-9-eq8-clause-known
+returns-in-9-eq8-clause-known g c form other same =
+    bodies_counted form c.len.result c.len-2.result c.in-9-eq8.is-0 other
+    (counted form c.schema-schema.result.now c.len.result c.len-2.result (c.schema-schema.ensures.value ∙ same) c.len.ensures c.len-2.ensures)
 
-pub returns-in-14 : goal.returns-in-14
-returns-in-14 g c form other same = all_counted form c.len.result c.in-14.is other (counted form c.schema.result.now c.len.result (c.schema.ensures.value ∙ same) c.len.ensures)
+pub returns-in-9-eq8-clause-like : goal.returns-in-9-eq8-clause-like
+returns-in-9-eq8-clause-like g c _ =
+    subst (λ s. IsLike s (schema_of Bodies)) c.schema-schema.ensures.value
+    (like_bodies c.schema-schema.result.now (c.is_begun.ensures.0 c.if-not-is_begun.false) (sym c.len.ensures ∙ c.in-9-eq8.is-0) (sym c.len-2.ensures ∙ c.in-9-eq8.is-1))
 
-pub returns-in_default : goal.returns-in_default
-returns-in_default g c form other same = none_counted form c.len.result (search rules) (search rules) (search rules) other (counted form c.schema.result.now c.len.result (c.schema.ensures.value ∙ same) c.len.ensures)
+pub returns-in-13-eq14-clause-known : goal.returns-in-13-eq14-clause-known
+returns-in-13-eq14-clause-known g c form other same =
+    rows_counted form c.len.result c.len-2.result c.in-13-eq14.is-0 other
+    (counted form c.schema-schema.result.now c.len.result c.len-2.result (c.schema-schema.ensures.value ∙ same) c.len.ensures c.len-2.ensures)
+
+pub returns-in-13-eq14-clause-like : goal.returns-in-13-eq14-clause-like
+returns-in-13-eq14-clause-like g c _ =
+    subst (λ s. IsLike s (schema_of Rows)) c.schema-schema.ensures.value
+    (like_rows c.schema-schema.result.now (c.is_begun.ensures.0 c.if-not-is_begun.false) (sym c.len.ensures ∙ c.in-13-eq14.is-0) (sym c.len-2.ensures ∙ c.in-13-eq14.is-1))
+
+pub returns-in-14-eq15-clause-known : goal.returns-in-14-eq15-clause-known
+returns-in-14-eq15-clause-known g c form other same =
+    all_counted form c.len.result c.len-2.result c.in-14-eq15.is-0 other
+    (counted form c.schema-schema.result.now c.len.result c.len-2.result (c.schema-schema.ensures.value ∙ same) c.len.ensures c.len-2.ensures)
+
+pub returns-in-14-eq15-clause-like : goal.returns-in-14-eq15-clause-like
+returns-in-14-eq15-clause-like g c _ =
+    subst (λ s. IsLike s (schema_of All)) c.schema-schema.ensures.value
+    (like_all c.schema-schema.result.now (c.is_begun.ensures.0 c.if-not-is_begun.false) (sym c.len.ensures ∙ c.in-14-eq15.is-0) (sym c.len-2.ensures ∙ c.in-14-eq15.is-1))
+
+pub returns-in_default-clause-known : goal.returns-in_default-clause-known
+returns-in_default-clause-known g c form other same =
+    none_counted form c.len.result c.len-2.result (search rules) (search rules) (search rules) other
+    (counted form c.schema-schema.result.now c.len.result c.len-2.result (c.schema-schema.ensures.value ∙ same) c.len.ensures c.len-2.ensures)
+
+pub returns-in_default-2-clause-known : goal.returns-in_default-2-clause-known
+returns-in_default-2-clause-known g c form other same =
+    none_counted form c.len.result c.len-2.result (search rules) (search rules) (search rules) other
+    (counted form c.schema-schema.result.now c.len.result c.len-2.result (c.schema-schema.ensures.value ∙ same) c.len.ensures c.len-2.ensures)
+
+pub returns-in_default-3-clause-known : goal.returns-in_default-3-clause-known
+returns-in_default-3-clause-known g c form other same =
+    none_counted form c.len.result c.len-2.result (search rules) (search rules) (search rules) other
+    (counted form c.schema-schema.result.now c.len.result c.len-2.result (c.schema-schema.ensures.value ∙ same) c.len.ensures c.len-2.ensures)
+
+pub returns-in_default-4-clause-known : goal.returns-in_default-4-clause-known
+returns-in_default-4-clause-known g c form other same =
+    none_counted form c.len.result c.len-2.result (search rules) (search rules) (search rules) other
+    (counted form c.schema-schema.result.now c.len.result c.len-2.result (c.schema-schema.ensures.value ∙ same) c.len.ensures c.len-2.ensures)

@@ -16,7 +16,7 @@ use office_take::{
     ListedNumbers, NumberFacts, decide_add_node_on, decide_approve_on, decide_grant_on,
     decide_reject_on, decide_submit_on, decide_take_ident_on, decide_take_pgn_on,
 };
-use office_types::{Action, Command, Decision, SpnBook, Task, Team};
+use office_types::{Action, BlockForm, Command, Decision, SpnBook, Task, Team};
 use std::alloc::{AllocError, Global};
 
 /// Whether an excerpt is enough to decide the task: it is an action, but neither `open_net` nor `release`.
@@ -29,12 +29,14 @@ pub fn goes_by_excerpt(task: &Task) -> bool
     }
 }
 
-/// Whether the task, where an excerpt is enough for it, also reads the book: it is `grant` or `take_spn`.
+/// Whether the task, where an excerpt is enough for it, also reads the book: it is `take_spn`, or a `grant` of suspect
+/// parameter numbers.
 pub fn reads_book(task: &Task) -> bool
     ensures { result ≡ reads_book task.now }
 {
     match task {
-        Task::Act(action) => matches!(action, Action::Grant(_) | Action::TakeSpn(_)),
+        Task::Act(Action::Grant(grant)) => grant.block.form() == BlockForm::Spn,
+        Task::Act(action) => matches!(action, Action::TakeSpn(_)),
         Task::Import(_) | Task::Bundle(_) => false,
     }
 }
@@ -65,7 +67,7 @@ fn taken_numbers(excerpt: &Excerpt) -> ListedNumbers<'_>
 }
 
 /// Decides the team's command by an excerpt of its network, as [`decide`](crate::decide) does by every network that has
-/// this excerpt. Only `grant` and `take_spn` read the book. The error is out of memory.
+/// this excerpt. Only `take_spn`, and `grant` of suspect parameter numbers, read the book. The error is out of memory.
 pub fn decide_excerpt(
     alloc: Global,
     team: &Team,

@@ -1,5 +1,6 @@
 -- Excerpts: the part of a network that a command reads.
 use Rattle.std.specs.Prelude.{◌≡◌, ℕ, Bool, true, false, List, Option, Some, None, IfSome}
+use Rattle.office_types.specs.Block.{is_spn}
 use Rattle.office_types.specs.declared.command.Action.TheVariants as act
 use Rattle.office_types.specs.declared.command.Task.{Task}
 use Rattle.office_types.specs.declared.command.Task.TheVariants.{Act, Import, Bundle}
@@ -25,9 +26,9 @@ goes_by_excerpt (Act a) = true
 goes_by_excerpt (Import file) = false
 goes_by_excerpt (Bundle parts) = false
 
--- those of them that read the book of suspect parameter numbers
+-- those of them that read the book of suspect parameter numbers: `take_spn`, and a grant of a block of these
 abbrev pub reads_book : Task → Bool
-reads_book (Act (act.Grant c)) = true
+reads_book (Act (act.Grant c)) = is_spn c.block.form
 reads_book (Act (act.TakeSpn c)) = true
 reads_book task = false
 

@@ -31,9 +31,9 @@ use Rattle.office_tables.proofs.Keeping.{plain_in}
 use Rattle.office_tables.proofs.TableIndices.{held, held_there, held_only}
 use Rattle.office_tables.proofs.Selecting.{query}
 use Rattle.office_tables.proofs.Finding.{ascending, IsSelect, Means, finds}
-use Rattle.office_rows.specs.Rows.{has_net_and_number, held_row, is_of_net}
+use Rattle.office_rows.specs.Rows.{has_net_and_number, has_number_between, held_row, is_of_net}
 use Rattle.office_rows.specs.Shown.{held_order, held_shown}
-use Rattle.office_rows.proofs.Requested.{net_requested, numbered_requested, one_test, two_tests}
+use Rattle.office_rows.proofs.Requested.{net_requested, numbered_requested, one_test, range_requested, range_tests, two_tests}
 
 -- ---- insert_held
 
@@ -107,3 +107,28 @@ held_found rows_of net = finds office_schema held_text 8 one_test held_columns h
 
 pub held_plain : (s : Schema) → s ≡ office_schema → IsPlain (understood s held_text)
 held_plain = plain_in held_text (held_selects []).plain
+
+-- ---- select_held_numbers
+
+abbrev pub held_numbers_text : List ℕ
+held_numbers_text = codes "SELECT number FROM held WHERE net = ?1 AND number >= ?2 AND number <= ?3 ORDER BY number"
+
+held_numbers_selects : (params : Row) → IsSelect office_schema held_numbers_text 8 range_tests held_columns held_by (codes "number" ∷ []) params
+unfolding understood everything office_schema
+held_numbers_selects params = record { command = refl; listing = refl; plain = (refl, refl) }
+
+held_numbers_means : (net : List ℕ) (first last : ℕ) → Means values 8 range_tests held_columns held_by (Text net ∷ Int (pos first) ∷ Int (pos last) ∷ []) (has_number_between net first last) held_shown held_order
+held_numbers_means net first last = record {
+  tests_same = range_requested net first last;
+  shows_same = λ r. ap (λ v. v ∷ []) (column_is r 1);
+  orders_same = λ x y. then-Equal _ ∙ rw (column_is x 1, column_is y 1) refl;
+}
+
+pub held_numbers_found : {X : Type 0} (rows_of : X → List Row) (net : List ℕ) (first last : ℕ) (old new : State) (r : Result X Error) → old.now.schema ≡ office_schema
+    → IfOk r (λ x. Shown held_numbers_text (Text net ∷ Int (pos first) ∷ Int (pos last) ∷ []) old new (rows_of x))
+    → IfOk r (λ x. IsSelected (has_number_between net first last) held_shown held_order (tables_of old.now.trees).held (rows_of x))
+held_numbers_found rows_of net first last = finds office_schema held_numbers_text 8 range_tests held_columns held_by _ (Text net ∷ Int (pos first) ∷ Int (pos last) ∷ [])
+    (held_numbers_selects (Text net ∷ Int (pos first) ∷ Int (pos last) ∷ [])) values (has_number_between net first last) held_shown held_order (held_numbers_means net first last) rows_of
+
+pub held_numbers_plain : (s : Schema) → s ≡ office_schema → IsPlain (understood s held_numbers_text)
+held_numbers_plain = plain_in held_numbers_text (held_numbers_selects []).plain

@@ -35,7 +35,7 @@ use Rattle.office_rows.specs.declared.row.MsgRow.{MsgRow}
 use Rattle.office_rows.specs.Rows.{has_net_and_name, has_net_and_number, has_number_between, has_rowid_above, has_rowid_below, is_of_net, msg_row}
 use Rattle.office_rows.specs.Shown.{msg_numbers_order, msg_numbers_shown, msg_named_order, msgs_order, msg_named_shown, msgs_shown}
 use Rattle.office_rows.proofs.Requested.{above_requested, above_test, below_requested, below_test, named_requested, net_requested, numbered_requested, name_tests, one_test, two_tests, range_requested, range_tests}
-use Rattle.office_tables.proofs.Counting.{IsCountSelect, IsFirstSelect, counts, shows_first}
+use Rattle.office_tables.proofs.Counting.{IsCountSelect, IsAnySelect, counts, shows_any}
 use Rattle.sqlite_sql.specs.Aggregate.{count}
 
 -- ---- insert_msg
@@ -161,14 +161,14 @@ count_plain = plain_in count_text (count_selects []).plain
 abbrev pub above_text : List ℕ
 above_text = codes "SELECT number FROM msg WHERE rowid > ?1 LIMIT 1"
 
-above_selects : (params : Row) → IsFirstSelect above_text 17 above_test (col 1 2 ∷ []) (codes "number" ∷ []) params
+above_selects : (params : Row) → IsAnySelect above_text 17 above_test (col 1 2 ∷ []) (codes "number" ∷ []) params
 unfolding understood everything office_schema
 above_selects params = record { command = refl; listing = refl; plain = (refl, refl) }
 
 pub above_found : {X : Type 0} (rows_of : X → List Row) (number : ℕ) (old new : State) (r : Result X Error) → old.now.schema ≡ office_schema
     → IfOk r (λ x. Shown above_text (Int (pos number) ∷ []) old new (rows_of x)) → IfOk r (λ x. length (rows_of x) ≡ min 1 (length (filter (has_rowid_above number) (old.now.trees 17))))
 above_found rows_of number =
-    shows_first above_text 17 above_test (col 1 2 ∷ []) (codes "number" ∷ []) (Int (pos number) ∷ []) (above_selects (Int (pos number) ∷ [])) (has_rowid_above number) (above_requested number) rows_of
+    shows_any above_text 17 above_test (col 1 2 ∷ []) (codes "number" ∷ []) (Int (pos number) ∷ []) (above_selects (Int (pos number) ∷ [])) (has_rowid_above number) (above_requested number) rows_of
 
 pub above_plain : (s : Schema) → s ≡ office_schema → IsPlain (understood s above_text)
 above_plain = plain_in above_text (above_selects []).plain
@@ -176,14 +176,14 @@ above_plain = plain_in above_text (above_selects []).plain
 abbrev pub below_text : List ℕ
 below_text = codes "SELECT number FROM msg WHERE rowid < ?1 LIMIT 1"
 
-below_selects : (params : Row) → IsFirstSelect below_text 17 below_test (col 1 2 ∷ []) (codes "number" ∷ []) params
+below_selects : (params : Row) → IsAnySelect below_text 17 below_test (col 1 2 ∷ []) (codes "number" ∷ []) params
 unfolding understood everything office_schema
 below_selects params = record { command = refl; listing = refl; plain = (refl, refl) }
 
 pub below_found : {X : Type 0} (rows_of : X → List Row) (number : ℕ) (old new : State) (r : Result X Error) → old.now.schema ≡ office_schema
     → IfOk r (λ x. Shown below_text (Int (pos number) ∷ []) old new (rows_of x)) → IfOk r (λ x. length (rows_of x) ≡ min 1 (length (filter (has_rowid_below number) (old.now.trees 17))))
 below_found rows_of number =
-    shows_first below_text 17 below_test (col 1 2 ∷ []) (codes "number" ∷ []) (Int (pos number) ∷ []) (below_selects (Int (pos number) ∷ [])) (has_rowid_below number) (below_requested number) rows_of
+    shows_any below_text 17 below_test (col 1 2 ∷ []) (codes "number" ∷ []) (Int (pos number) ∷ []) (below_selects (Int (pos number) ∷ [])) (has_rowid_below number) (below_requested number) rows_of
 
 pub below_plain : (s : Schema) → s ≡ office_schema → IsPlain (understood s below_text)
 below_plain = plain_in below_text (below_selects []).plain

@@ -24,17 +24,18 @@ use Rattle.sqlite.proofs.Callers.{IsPlain, command_of}
 use Rattle.office_tables.specs.Schema.{office_schema}
 use Rattle.office_tables.specs.Tables.{tables_of, values, IsOffice}
 use Rattle.office_tables.specs.Statements.{Makes}
-use Rattle.office_tables.specs.Selected.{IsSelected}
+use Rattle.office_tables.specs.Selected.{IsFirstSelected, IsSelected}
 use Rattle.office_tables.proofs.Columns.{cast_int, cast_null, cast_number, column_is}
 use Rattle.office_tables.proofs.Changing.{appends, makes, removes}
 use Rattle.office_tables.proofs.Keeping.{plain_in}
 use Rattle.office_tables.proofs.TableIndices.{sig, sig_there, sig_only}
 use Rattle.office_tables.proofs.Selecting.{query}
 use Rattle.office_tables.proofs.Finding.{ascending, IsSelect, Means, finds}
+use Rattle.office_tables.proofs.TopRow.{IsTopSelect, descending, tops}
 use Rattle.office_rows.specs.declared.row.SigRow.{SigRow}
 use Rattle.office_rows.specs.Mux.{mux_number}
 use Rattle.office_rows.specs.Rows.{has_net_and_number, has_place_of, is_of_net, sig_row}
-use Rattle.office_rows.specs.Shown.{sigs_order, sigs_shown}
+use Rattle.office_rows.specs.Shown.{last_place_order, last_place_shown, sigs_order, sigs_shown}
 use Rattle.office_rows.proofs.Requested.{net_requested, numbered_requested, one_test, place_requested, three_tests, two_tests}
 use Rattle.office_tables.proofs.Counting.{IsCountSelect, counts}
 use Rattle.sqlite_sql.specs.Aggregate.{count}
@@ -131,6 +132,34 @@ sigs_found rows_of net number = finds office_schema sigs_text 20 two_tests sigs_
 
 pub sigs_plain : (s : Schema) → s ≡ office_schema → IsPlain (understood s sigs_text)
 sigs_plain = plain_in sigs_text (sigs_selects []).plain
+
+-- ---- select_last_place
+
+abbrev pub last_place_text : List ℕ
+last_place_text = codes "SELECT place FROM sig WHERE net = ?1 AND number = ?2 ORDER BY place DESC LIMIT 1"
+
+abbrev last_place_by : List (Term × Key)
+last_place_by = (col 1 3, descending) ∷ []
+
+last_place_selects : (params : Row) → IsTopSelect last_place_text 20 two_tests (col 1 3 ∷ []) last_place_by (codes "place" ∷ []) params
+unfolding understood everything office_schema
+last_place_selects params = record { command = refl; listing = refl; plain = (refl, refl) }
+
+last_place_means : (net : List ℕ) (number : ℕ) → Means values 20 two_tests (col 1 3 ∷ []) last_place_by (Text net ∷ Int (pos number) ∷ []) (has_net_and_number net number) last_place_shown last_place_order
+last_place_means net number = record {
+  tests_same = numbered_requested net number;
+  shows_same = λ r. rw (column_is r 2) refl;
+  orders_same = λ x y. then-Equal _ ∙ rw (column_is x 2, column_is y 2) refl;
+}
+
+pub last_place_found : {X : Type 0} (rows_of : X → List Row) (net : List ℕ) (number : ℕ) (old new : State) (r : Result X Error) → old.now.schema ≡ office_schema
+    → IfOk r (λ x. Shown last_place_text (Text net ∷ Int (pos number) ∷ []) old new (rows_of x))
+    → IfOk r (λ x. IsFirstSelected (has_net_and_number net number) last_place_shown last_place_order (tables_of old.now.trees).sig (rows_of x))
+last_place_found rows_of net number = tops last_place_text 20 two_tests (col 1 3 ∷ []) last_place_by (codes "place" ∷ []) (Text net ∷ Int (pos number) ∷ [])
+    (last_place_selects (Text net ∷ Int (pos number) ∷ [])) values (has_net_and_number net number) last_place_shown last_place_order (last_place_means net number) rows_of
+
+pub last_place_plain : (s : Schema) → s ≡ office_schema → IsPlain (understood s last_place_text)
+last_place_plain = plain_in last_place_text (last_place_selects []).plain
 
 -- ---- count_sigs
 

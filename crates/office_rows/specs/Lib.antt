@@ -1,4 +1,3 @@
 pub mod Mux
 pub mod Rows
 pub mod Shown
-pub mod Statement

@@ -3,7 +3,7 @@ use Rattle.std.specs.Prelude.{[], ◌∷◌}
 use Rattle.std.specs.Ordering.{then_cmp}
 use Rattle.std.specs.declared.cmp.Ordering.{Ordering}
 use Rattle.sqlite.specs.Order.{Row, column}
-use Rattle.office_tables.specs.Selected.{by_column}
+use Rattle.office_tables.specs.Selected.{by_column, by_column_descending}
 
 -- name; by name
 abbrev pub net_names_shown : Row → Row
@@ -116,6 +116,13 @@ sigs_shown row = column row 2 ∷ column row 3 ∷ column row 4 ∷ column row 5
 
 abbrev pub sigs_order : Row → Row → Ordering
 sigs_order = by_column 2
+
+-- place; the greatest place first
+abbrev pub last_place_shown : Row → Row
+last_place_shown row = column row 2 ∷ []
+
+abbrev pub last_place_order : Row → Row → Ordering
+last_place_order = by_column_descending 2
 
 -- place, name; by place, seat
 abbrev pub receivers_shown : Row → Row

@@ -4,8 +4,8 @@ ghost use Rattle.office_tables.specs.Selected.{IsSelected};
 ghost use Rattle.office_rows.specs.Rows.{approval_row, has_two_texts, is_of_net};
 ghost use Rattle.office_rows.specs.Shown.{approvals_order, approvals_shown};
 ghost use Rattle.sqlite.specs.Held.{state};
-ghost use Rattle.office_rows.specs.Statement.{AddsNoCommit, ChangesNothing, CommitsNothing, Finds, LeavesNothing};
-ghost use Rattle.office_rows.specs.Statement.{MakesTables};
+ghost use Rattle.office_tables.specs.Statements.{AddsNoCommit, ChangesNothing, CommitsNothing, Finds, LeavesNothing};
+ghost use Rattle.office_tables.specs.Statements.{MakesTables};
 
 use sqlite::types::ValueRef;
 use sqlite::{Alter, Error, Row, Transaction};

@@ -5,8 +5,8 @@ ghost use Rattle.office_rows.specs.Rows.{frozen_row, has_net_and_number, is_of_n
 ghost use Rattle.office_rows.specs.Shown.{release_numbers_order, release_numbers_shown, release_order, release_shown};
 ghost use Rattle.office_rows.specs.Shown.{releases_order, releases_shown};
 ghost use Rattle.sqlite.specs.Held.{state};
-ghost use Rattle.office_rows.specs.Statement.{AddsNoCommit, ChangesNothing, CommitsNothing, Finds, LeavesNothing};
-ghost use Rattle.office_rows.specs.Statement.{MakesTables};
+ghost use Rattle.office_tables.specs.Statements.{AddsNoCommit, ChangesNothing, CommitsNothing, Finds, LeavesNothing};
+ghost use Rattle.office_tables.specs.Statements.{MakesTables};
 
 use crate::row::FrozenRow;
 use sqlite::types::{ToSql, ValueRef};

@@ -1,10 +1,10 @@
 //! The statements of the office: one function for each fixed text, over the tables of `office_tables`.
 //!
 //! `insert_..` adds one row, `delete_..` removes the rows of a key or of the beginning of one, and `select_..` reads
-//! rows of one table in the order of its key, or whether one has a rowid above or below a number; `count_..` shows how
-//! many there are; `clear_..` removes all rows of a table, and only the carrying over of an
-//! earlier office's tables calls it. A row is changed by removing and adding it. No text changes or removes a release
-//! or a reply.
+//! rows of one table in the order of its key, or the last place of a message's signals, or whether a row has a rowid
+//! above or below a number; `count_..` shows how many there are; `clear_..` removes all rows of a table, and only the
+//! carrying over of an earlier office's tables calls it. A row is changed by removing and adding it. No text changes or
+//! removes a release or a reply.
 //!
 //! Each is called in a transaction and binds texts as bytes. On tables that are the office's, its contract gives the
 //! exact tables that it leaves, or the exact rows that it reads; on any other tables it is safe. Each answers
@@ -34,7 +34,7 @@ mod spn;
 pub use approval::{delete_approval, delete_approvals, insert_approval, select_approvals};
 pub use block::{delete_block, insert_block, select_blocks, select_blocks_of_form};
 pub use frozen::{insert_frozen, select_release, select_release_numbers, select_releases};
-pub use held::{delete_held, insert_held, select_held};
+pub use held::{delete_held, insert_held, select_held, select_held_numbers};
 pub use message::{clear_messages, delete_message, insert_message, select_messages};
 pub use msg::{
     count_msgs, delete_msgs, insert_msg, select_msg_above, select_msg_below, select_msg_named,
@@ -51,7 +51,7 @@ pub use row::{
     BlockRow, FrozenRow, MessageRow, MsgRow, MuxColumn, NetRow, PartRow, ReceiverRow, ReplyRow,
     SigRow, SigValueRow,
 };
-pub use sig::{count_sigs, delete_sig_at, delete_sigs, insert_sig, select_sigs};
+pub use sig::{count_sigs, delete_sig_at, delete_sigs, insert_sig, select_last_place, select_sigs};
 pub use sigvalue::{
     count_sigvalues, delete_sigvalues, delete_sigvalues_at, insert_sigvalue, select_sigvalues,
 };

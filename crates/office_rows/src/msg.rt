@@ -7,8 +7,8 @@ ghost use Rattle.office_rows.specs.Shown.{msg_numbers_order, msg_numbers_shown, 
 ghost use Rattle.office_rows.specs.Shown.{msg_named_shown, msgs_shown};
 ghost use Rattle.sqlite_sql.specs.Aggregate.{count};
 ghost use Rattle.sqlite.specs.Held.{state};
-ghost use Rattle.office_rows.specs.Statement.{AddsNoCommit, ChangesNothing, CommitsNothing, Finds, FindsIn};
-ghost use Rattle.office_rows.specs.Statement.{LeavesNothing, MakesTables};
+ghost use Rattle.office_tables.specs.Statements.{AddsNoCommit, ChangesNothing, CommitsNothing, Finds, FindsIn};
+ghost use Rattle.office_tables.specs.Statements.{LeavesNothing, MakesTables};
 
 use crate::row::MsgRow;
 use sqlite::types::{ToSql, ValueRef};

@@ -9,7 +9,7 @@ ghost use Rattle.office_rows.specs.Rows.{is_any, mark_row};
 ghost use Rattle.office_rows.specs.Shown.{profile_order, profile_shown};
 ghost use Rattle.sqlite.specs.Held.{state};
 ghost use Rattle.sqlite.specs.State.{HasCleanDisk, IsUnchanged, KeepsCommit, Survives};
-ghost use Rattle.office_rows.specs.Statement.{AddsNoCommit, Finds, LeavesNothing, MakesTables};
+ghost use Rattle.office_tables.specs.Statements.{AddsNoCommit, Finds, LeavesNothing, MakesTables};
 
 use sqlite::types::ToSql;
 use sqlite::{Alter, Connection, Error, Row, Transaction};

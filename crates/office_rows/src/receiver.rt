@@ -5,8 +5,8 @@ ghost use Rattle.office_rows.specs.Rows.{has_net_and_number, has_place_of, is_of
 ghost use Rattle.office_rows.specs.Shown.{receivers_order, receivers_shown};
 ghost use Rattle.sqlite_sql.specs.Aggregate.{count};
 ghost use Rattle.sqlite.specs.Held.{state};
-ghost use Rattle.office_rows.specs.Statement.{AddsNoCommit, ChangesNothing, CommitsNothing, Finds, LeavesNothing};
-ghost use Rattle.office_rows.specs.Statement.{MakesTables};
+ghost use Rattle.office_tables.specs.Statements.{AddsNoCommit, ChangesNothing, CommitsNothing, Finds, LeavesNothing};
+ghost use Rattle.office_tables.specs.Statements.{MakesTables};
 
 use crate::row::ReceiverRow;
 use sqlite::types::{ToSql, ValueRef};

@@ -1,12 +1,12 @@
 //! Rows of `sig`.
 ghost use Rattle.std.specs.Prelude.{[], filter, length, not, ◌++◌, ◌∷◌, ◌≡◌};
-ghost use Rattle.office_tables.specs.Selected.{IsSelected};
+ghost use Rattle.office_tables.specs.Selected.{IsFirstSelected, IsSelected};
 ghost use Rattle.office_rows.specs.Rows.{has_net_and_number, has_place_of, is_of_net, sig_row};
-ghost use Rattle.office_rows.specs.Shown.{sigs_order, sigs_shown};
+ghost use Rattle.office_rows.specs.Shown.{last_place_order, last_place_shown, sigs_order, sigs_shown};
 ghost use Rattle.sqlite_sql.specs.Aggregate.{count};
 ghost use Rattle.sqlite.specs.Held.{state};
-ghost use Rattle.office_rows.specs.Statement.{AddsNoCommit, ChangesNothing, CommitsNothing, Finds, LeavesNothing};
-ghost use Rattle.office_rows.specs.Statement.{MakesTables};
+ghost use Rattle.office_tables.specs.Statements.{AddsNoCommit, ChangesNothing, CommitsNothing, Finds, LeavesNothing};
+ghost use Rattle.office_tables.specs.Statements.{MakesTables};
 
 use crate::row::SigRow;
 use sqlite::types::{ToSql, ValueRef};
@@ -103,6 +103,27 @@ pub fn select_sigs<S: Alter>(
 {
     tx.query_all(
         "SELECT place, name, start, size, motorola, signed, mux, factor, shift, least, most, unit, comment, spn, label FROM sig WHERE net = ?1 AND number = ?2 ORDER BY place",
+        &[ValueRef::Text(net), number.to_sql()],
+    )
+}
+
+/// The greatest `place` of the signals of the network's message with the number, as one row of one number; no row where
+/// it has no signal.
+pub fn select_last_place<S: Alter>(
+    tx: &mut Transaction<'_, S>,
+    net: &[u8],
+    number: u32,
+) -> Result<Vec<Row>, Error>
+    ensures same_reference { tx.new.conn.ghost_name ≡ tx.old.conn.ghost_name }
+    ensures found { Finds result (state S.Store tx.old.conn.now) (state S.Store tx.new.conn.now)
+        (λ rows t. IsFirstSelected
+        (has_net_and_number net.now number) last_place_shown last_place_order t.sig rows.items) }
+    ensures same { ChangesNothing result (state S.Store tx.old.conn.now) (state S.Store tx.new.conn.now) }
+    ensures kept { CommitsNothing (state S.Store tx.old.conn.now) (state S.Store tx.new.conn.now) }
+    ensures survives { LeavesNothing (state S.Store tx.old.conn.now) (state S.Store tx.new.conn.now) }
+{
+    tx.query_all(
+        "SELECT place FROM sig WHERE net = ?1 AND number = ?2 ORDER BY place DESC LIMIT 1",
         &[ValueRef::Text(net), number.to_sql()],
     )
 }

@@ -98,8 +98,8 @@ length_first f [] = refl
 length_first f (x ∷ xs) = let e : min 1 (suc (length xs)) ≡ 1 = omega arith in sym e
 
 module _ (t : ℕ) (tests project : List Term) (params : Row) where
-  abbrev pub first_query : Query
-  first_query = record {
+  abbrev pub any_query : Query
+  any_query = record {
     from = inner t end;
     filter = tests;
     group = None;
@@ -111,34 +111,34 @@ module _ (t : ℕ) (tests project : List Term) (params : Row) where
     offset = lit (Int (pos 0));
   }
 
-  first_shown : (db : Trees) (rows : List Row) → IsAnswer first_query db params rows → length rows ≡ min 1 (length (filter (wants t tests params) (db t)))
-  first_shown db rows a =
-      let kept : length a.kept ≡ length (filter (wants t tests params) (db t)) = ap length a.distinct ∙ length-map a.staged (output first_query) ∙ ap length a.grouped ∙ matched t tests params (db t) in
+  any_shown : (db : Trees) (rows : List Row) → IsAnswer any_query db params rows → length rows ≡ min 1 (length (filter (wants t tests params) (db t)))
+  any_shown db rows a =
+      let kept : length a.kept ≡ length (filter (wants t tests params) (db t)) = ap length a.distinct ∙ length-map a.staged (output any_query) ∙ ap length a.grouped ∙ matched t tests params (db t) in
       let ordered : length a.ordered ≡ length a.kept = length_permutation a.kept a.ordered a.same in
       ap length a.shown ∙ length_first (λ (o : Output). o.1) a.ordered ∙ ap (min 1) (ordered ∙ kept)
 
 -- what such a text means under the office's schema
-pub record IsFirstSelect (sql : List ℕ) (t : ℕ) (tests project : List Term) (names : List (List ℕ)) (params : Row) : Type 0 where
-  pub command : command_of (understood office_schema sql) ≡ Select (record { lets = []; body = first_query t tests project params }) names
+pub record IsAnySelect (sql : List ℕ) (t : ℕ) (tests project : List Term) (names : List (List ℕ)) (params : Row) : Type 0 where
+  pub command : command_of (understood office_schema sql) ≡ Select (record { lets = []; body = any_query t tests project params }) names
   pub listing : reads_listing office_schema sql ≡ false
   pub plain : IsPlain (understood office_schema sql)
 
-module _ (sql : List ℕ) (t : ℕ) (tests project : List Term) (names : List (List ℕ)) (params : Row) (is_select : IsFirstSelect sql t tests project names params) (test : Row → Bool)
+module _ (sql : List ℕ) (t : ℕ) (tests project : List Term) (names : List (List ℕ)) (params : Row) (is_select : IsAnySelect sql t tests project names params) (test : Row → Bool)
     (same : (r : Row) → test r ≡ list_all (holds (params ∷ r ∷ [])) tests) where
   test_is : (xs : List Row) → filter (wants t tests params) xs ≡ filter test xs
   test_is [] = refl
   test_is (x ∷ xs) = ap (λ b. cond b (x ∷ filter (wants t tests params) xs) (filter (wants t tests params) xs)) (sym (same x)) ∙ ap (λ l. cond (test x) (x ∷ l) l) (test_is xs)
 
-  shows_first_of : (old new : State) (rows : List Row) → old.now.schema ≡ office_schema → Shown sql params old new rows → length rows ≡ min 1 (length (filter test (old.now.trees t)))
-  shows_first_of old new rows schema h =
+  shows_any_of : (old new : State) (rows : List Row) → old.now.schema ≡ office_schema → Shown sql params old new rows → length rows ≡ min 1 (length (filter test (old.now.trees t)))
+  shows_any_of old new rows schema h =
       let read = reads_as sql params old new office_schema schema _ is_select.command is_select.plain is_select.listing rows h in
-      first_shown t tests project params (overlay old.now.trees []) rows (read.answer Null)
+      any_shown t tests project params (overlay old.now.trees []) rows (read.answer Null)
       ∙ ap (λ l. min 1 (length l)) (ap (filter (wants t tests params)) (plain_trees old.now.trees t) ∙ test_is (old.now.trees t))
 
-  pub shows_first : {X : Type 0} (rows_of : X → List Row) (old new : State) (r : Result X Error) → old.now.schema ≡ office_schema
+  pub shows_any : {X : Type 0} (rows_of : X → List Row) (old new : State) (r : Result X Error) → old.now.schema ≡ office_schema
       → IfOk r (λ x. Shown sql params old new (rows_of x)) → IfOk r (λ x. length (rows_of x) ≡ min 1 (length (filter test (old.now.trees t))))
-  shows_first rows_of old new (Err e) schema h = tt
-  shows_first rows_of old new (Ok x) schema h = shows_first_of old new (rows_of x) schema h
+  shows_any rows_of old new (Err e) schema h = tt
+  shows_any rows_of old new (Ok x) schema h = shows_any_of old new (rows_of x) schema h
 
 -- what the text of a count means under the office's schema
 pub record IsCountSelect (sql : List ℕ) (t : ℕ) (tests : List Term) (params : Row) : Type 0 where

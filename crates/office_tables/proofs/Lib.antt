@@ -10,5 +10,8 @@ pub mod TableIndices
 pub mod OneSchema
 pub mod Making
 mod Examples
+mod Outlined
+mod UniqueLists
+pub mod TopRow
 pub mod Counting
 pub mod Growing

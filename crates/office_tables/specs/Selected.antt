@@ -1,6 +1,6 @@
 -- What a SELECT shows of a table.
-use Rattle.std.specs.Prelude.{◌≡◌, ℕ, List, Bool, filter, map, pos, IsPermutation, IsSorted}
-use Rattle.std.specs.Ordering.{is_eq, on}
+use Rattle.std.specs.Prelude.{◌≡◌, ℕ, List, Bool, filter, map, pos, take, IsPermutation, IsSorted}
+use Rattle.std.specs.Ordering.{flip_args, is_eq, on}
 use Rattle.std.specs.declared.cmp.Ordering.{Ordering}
 use Rattle.sqlite.specs.declared.types.Value.TheVariants.{Int, Text}
 use Rattle.sqlite.specs.Order.{Row, column, value_cmp}
@@ -12,9 +12,19 @@ pub record IsSelected (wanted : Row → Bool) (shown : Row → Row) (by : Row �
   pub sorted : IsSorted by found
   pub is : rows ≡ map shown found
 
+-- the first of them, or no row where none is wanted
+pub record IsFirstSelected (wanted : Row → Bool) (shown : Row → Row) (by : Row → Row → Ordering) (table rows : List Row) : Type 0 where
+  pub all : List Row
+  pub selected : IsSelected wanted shown by table all
+  pub first : rows ≡ take 1 all
+
 -- rows by the value of a column
 abbrev pub by_column : ℕ → Row → Row → Ordering
 by_column at = on (λ row. column row at) value_cmp
+
+-- the greatest value first
+abbrev pub by_column_descending : ℕ → Row → Row → Ordering
+by_column_descending at = flip_args (by_column at)
 
 -- the column has this text
 abbrev pub has_text : ℕ → List ℕ → Row → Bool

@@ -1,13 +1,14 @@
--- What a statement in a transaction makes of the tables.
-use Rattle.std.specs.Prelude.{◌≡◌, List, [], map, IsTrue}
+-- What a statement in a transaction makes of the tables, and words for what it does.
+use Rattle.std.specs.Prelude.{◌≡◌, ℕ, List, [], map, IfOk, IsTrue, OnOk, Result}
 use Rattle.sqlite.specs.Change.{KeepsRows, created, next_tree}
 use Rattle.sqlite.specs.Effect.{Database}
 use Rattle.sqlite.specs.Schema.{Schema}
 use Rattle.sqlite.specs.Table.{Table}
 use Rattle.sqlite.specs.Tree.{Trees}
-use Rattle.sqlite.specs.State.{State}
+use Rattle.sqlite.specs.State.{State, HasCleanDisk, IsUnchanged, KeepsCommit, Survives}
 use Rattle.sqlite_catalog.specs.Listing.{IsSound}
 use Rattle.sqlite.specs.Order.{Row}
+use Rattle.office_tables.specs.Schema.{no_schema}
 use Rattle.office_tables.specs.Tables.{AreNumbered, Tables, named, row_by, tables_of, no_rows, IsOffice, IsEmptyWith}
 
 -- the tables of the office before, changed in this way, are those after; nothing is committed
@@ -59,3 +60,82 @@ pub record Grows (before after : Schema) (old new : State) : Type 0 where
   pub office : IsOfficeWith after new.now
   pub tables_are : tables_in after new.now.trees ≡ tables_in before old.now.trees
   pub inside : IsTrue new.in_transaction
+
+-- ---- words for a statement on the office's tables, or for several of them
+
+-- What is promised of tables is under two conditions: they are the office's, and the disk has done its part.
+
+-- if it succeeds, this holds of its answer and the tables
+abbrev pub Finds : {X E : Type 0} → Result X E → State → State → (X → Tables → Type 0) → Type 0
+Finds result old new IsFound = HasCleanDisk new → IsOffice old.now → IfOk result (λ x. IsFound x (tables_of old.now.trees))
+
+-- if it succeeds, this holds of its answer and the trees, in which each row has its rowid first
+abbrev pub FindsIn : {X E : Type 0} → Result X E → State → State → (X → Trees → Type 0) → Type 0
+FindsIn result old new IsFound = HasCleanDisk new → IsOffice old.now → IfOk result (λ x. IsFound x old.now.trees)
+
+-- if it succeeds, it leaves everything as it is
+abbrev pub ChangesNothing : {X E : Type 0} → Result X E → State → State → Type 0
+ChangesNothing result old new = HasCleanDisk new → IsOffice old.now → OnOk result (IsUnchanged old new)
+
+-- the same of a connection that is open, after several statements or none
+abbrev pub StaysSame : {X E : Type 0} → Result X E → State → State → Type 0
+StaysSame result old new = HasCleanDisk new → IsOffice old.now → IsTrue old.is_open → OnOk result (IsUnchanged old new)
+
+-- if it succeeds, it makes these tables of those that there were
+abbrev pub MakesTables : {X E : Type 0} → Result X E → State → State → (Tables → Tables) → Type 0
+MakesTables result old new made = HasCleanDisk new → IsOffice old.now → OnOk result (Makes made old new)
+
+-- if it succeeds, this holds of the tables before and after it
+abbrev pub Writes : {X E : Type 0} → Result X E → State → State → (Tables → Tables → Type 0) → Type 0
+Writes result old new IsWritten = HasCleanDisk new → IsOffice old.now → OnOk result (IsWritten (tables_of old.now.trees) (tables_of new.now.trees))
+
+-- if it succeeds, the tables are the office's still
+abbrev pub StaysOffice : {X E : Type 0} → Result X E → State → State → Type 0
+StaysOffice result old new = HasCleanDisk new → IsOffice old.now → OnOk result (IsOffice new.now)
+
+-- if it succeeds, the transaction goes on
+abbrev pub StaysInside : {X E : Type 0} → Result X E → State → State → Type 0
+StaysInside result old new = HasCleanDisk new → IsOffice old.now → IsTrue old.in_transaction → OnOk result (IsTrue new.in_transaction)
+
+-- whether it succeeds or not, it commits nothing; a query on any other tables may fail in any way
+abbrev pub CommitsNothing : State → State → Type 0
+CommitsNothing old new = HasCleanDisk new → IsOffice old.now → KeepsCommit old new
+
+-- the same on any tables
+abbrev pub AddsNoCommit : State → State → Type 0
+AddsNoCommit old new = HasCleanDisk new → KeepsCommit old new
+
+-- and leaves nothing more for a crash to find
+abbrev pub LeavesNothing : State → State → Type 0
+LeavesNothing old new = Survives old new (λ _. ⊥)
+
+-- if it succeeds, a transaction is open, whether or not one was before
+abbrev pub EndsInside : {X E : Type 0} → Result X E → State → State → Type 0
+EndsInside result old new = HasCleanDisk new → IsOffice old.now → OnOk result (IsTrue new.in_transaction)
+
+-- ---- words for making tables
+
+-- there is no table
+abbrev pub HasNoTable : State → Type 0
+HasNoTable s = s.now.schema ≡ no_schema
+
+-- where there is no table, if it succeeds, it makes those of the schema, with no row
+abbrev pub MakesFromNone : {X E : Type 0} → Result X E → State → State → Schema → Type 0
+MakesFromNone result old new after = HasCleanDisk new → HasNoTable old → OnOk result (AreMade after new)
+
+-- where there is no table, if it succeeds, it makes the office's, with no row
+abbrev pub MakesOffice : {X E : Type 0} → Result X E → State → State → Type 0
+MakesOffice result old new = HasCleanDisk new → HasNoTable old → OnOk result (IsEmptyOffice new)
+
+-- where those of a schema were just made, if it succeeds, it makes those of a schema with more, with no row
+abbrev pub MakesNext : {X E : Type 0} → Result X E → State → State → Schema → Schema → Type 0
+MakesNext result old new before after = HasCleanDisk new → AreMade before old → OnOk result (AreMade after new)
+
+-- where there are those of a schema, with whatever rows, if it succeeds, it makes those of a schema with more, and no row
+-- changes
+abbrev pub AddsTables : {X E : Type 0} → Result X E → State → State → Schema → Schema → Type 0
+AddsTables result old new before after = HasCleanDisk new → IsOfficeWith before old.now → OnOk result (Grows before after old new)
+
+-- where this holds before it, if it succeeds, its answer is 0: no row was written
+abbrev pub WritesNoRow : {E : Type 0} → Result ℕ E → State → State → (State → Type 0) → Type 0
+WritesNoRow result old new IsBefore = HasCleanDisk new → IsBefore old → IfOk result (λ rows. rows ≡ 0)

@@ -2,27 +2,23 @@
 //!
 //! Each answers the error of `sqlite` if there is one (memory ran out, the disk failed, the table is there). Then
 //! nothing is committed, and the transaction is to be dropped, which rolls it back.
-ghost use Rattle.std.specs.Prelude.{◌≡◌, IfOk, OnOk};
-ghost use Rattle.office_tables.specs.Schema.{no_schema, schema_1, schema_2, schema_3, schema_4, schema_5, schema_6};
-ghost use Rattle.office_tables.specs.Schema.{schema_7, schema_8, schema_9, schema_10, schema_11, schema_12};
-ghost use Rattle.office_tables.specs.Schema.{schema_13, office_schema};
-ghost use Rattle.office_tables.specs.Statements.{AreMade, Grows, IsEmptyOffice, IsOfficeWith};
+ghost use Rattle.std.specs.Prelude.{◌≡◌};
+ghost use Rattle.office_tables.specs.Schema.{schema_1, schema_2, schema_3, schema_4, schema_5, schema_6, schema_7};
+ghost use Rattle.office_tables.specs.Schema.{schema_8, schema_9, schema_10, schema_11, schema_12, schema_13};
+ghost use Rattle.office_tables.specs.Schema.{office_schema};
+ghost use Rattle.office_tables.specs.Statements.{AddsNoCommit, AddsTables, AreMade, HasNoTable, LeavesNothing};
+ghost use Rattle.office_tables.specs.Statements.{MakesFromNone, MakesNext, MakesOffice, WritesNoRow};
 ghost use Rattle.sqlite.specs.Held.{state};
-ghost use Rattle.sqlite.specs.State.{HasCleanDisk, Survives, KeepsCommit};
 
 use sqlite::{Alter, Error, Transaction};
 
 /// Makes `profile` where there is no table. Gives 0: no row was written.
 pub fn create_profile<S: Alter>(tx: &mut Transaction<'_, S>) -> Result<usize, Error>
     ensures same_reference { tx.new.conn.ghost_name ≡ tx.old.conn.ghost_name }
-    ensures made { HasCleanDisk (state S.Store tx.new.conn.now)
-        → (state S.Store tx.old.conn.now).now.schema ≡ no_schema
-        → OnOk result (AreMade schema_1 (state S.Store tx.new.conn.now)) }
-    ensures rows { HasCleanDisk (state S.Store tx.new.conn.now)
-        → (state S.Store tx.old.conn.now).now.schema ≡ no_schema → IfOk result (λ rows. rows ≡ 0) }
-    ensures kept { HasCleanDisk (state S.Store tx.new.conn.now)
-        → KeepsCommit (state S.Store tx.old.conn.now) (state S.Store tx.new.conn.now) }
-    ensures survives { Survives (state S.Store tx.old.conn.now) (state S.Store tx.new.conn.now) (λ _. ⊥) }
+    ensures made { MakesFromNone result (state S.Store tx.old.conn.now) (state S.Store tx.new.conn.now) schema_1 }
+    ensures rows { WritesNoRow result (state S.Store tx.old.conn.now) (state S.Store tx.new.conn.now) HasNoTable }
+    ensures kept { AddsNoCommit (state S.Store tx.old.conn.now) (state S.Store tx.new.conn.now) }
+    ensures survives { LeavesNothing (state S.Store tx.old.conn.now) (state S.Store tx.new.conn.now) }
 {
     tx.execute(
         "CREATE TABLE profile (one INTEGER PRIMARY KEY, number INTEGER) STRICT",
@@ -33,13 +29,11 @@ pub fn create_profile<S: Alter>(tx: &mut Transaction<'_, S>) -> Result<usize, Er
 /// Makes `net` where the tables up to `profile` were just made. Gives 0: no row was written.
 pub fn create_net<S: Alter>(tx: &mut Transaction<'_, S>) -> Result<usize, Error>
     ensures same_reference { tx.new.conn.ghost_name ≡ tx.old.conn.ghost_name }
-    ensures made { HasCleanDisk (state S.Store tx.new.conn.now) → AreMade schema_1 (state S.Store tx.old.conn.now)
-        → OnOk result (AreMade schema_2 (state S.Store tx.new.conn.now)) }
-    ensures rows { HasCleanDisk (state S.Store tx.new.conn.now) → AreMade schema_1 (state S.Store tx.old.conn.now)
-        → IfOk result (λ rows. rows ≡ 0) }
-    ensures kept { HasCleanDisk (state S.Store tx.new.conn.now)
-        → KeepsCommit (state S.Store tx.old.conn.now) (state S.Store tx.new.conn.now) }
-    ensures survives { Survives (state S.Store tx.old.conn.now) (state S.Store tx.new.conn.now) (λ _. ⊥) }
+    ensures made { MakesNext result (state S.Store tx.old.conn.now) (state S.Store tx.new.conn.now) schema_1 schema_2 }
+    ensures rows { WritesNoRow result (state S.Store tx.old.conn.now) (state S.Store tx.new.conn.now)
+        (AreMade schema_1) }
+    ensures kept { AddsNoCommit (state S.Store tx.old.conn.now) (state S.Store tx.new.conn.now) }
+    ensures survives { LeavesNothing (state S.Store tx.old.conn.now) (state S.Store tx.new.conn.now) }
 {
     tx.execute(
         "CREATE TABLE net (name TEXT PRIMARY KEY, kind INTEGER, reviews INTEGER, phase INTEGER, submitter TEXT, frame BLOB) STRICT",
@@ -50,13 +44,11 @@ pub fn create_net<S: Alter>(tx: &mut Transaction<'_, S>) -> Result<usize, Error>
 /// Makes `message` where the tables up to `net` were just made. Gives 0: no row was written.
 pub fn create_message<S: Alter>(tx: &mut Transaction<'_, S>) -> Result<usize, Error>
     ensures same_reference { tx.new.conn.ghost_name ≡ tx.old.conn.ghost_name }
-    ensures made { HasCleanDisk (state S.Store tx.new.conn.now) → AreMade schema_2 (state S.Store tx.old.conn.now)
-        → OnOk result (AreMade schema_3 (state S.Store tx.new.conn.now)) }
-    ensures rows { HasCleanDisk (state S.Store tx.new.conn.now) → AreMade schema_2 (state S.Store tx.old.conn.now)
-        → IfOk result (λ rows. rows ≡ 0) }
-    ensures kept { HasCleanDisk (state S.Store tx.new.conn.now)
-        → KeepsCommit (state S.Store tx.old.conn.now) (state S.Store tx.new.conn.now) }
-    ensures survives { Survives (state S.Store tx.old.conn.now) (state S.Store tx.new.conn.now) (λ _. ⊥) }
+    ensures made { MakesNext result (state S.Store tx.old.conn.now) (state S.Store tx.new.conn.now) schema_2 schema_3 }
+    ensures rows { WritesNoRow result (state S.Store tx.old.conn.now) (state S.Store tx.new.conn.now)
+        (AreMade schema_2) }
+    ensures kept { AddsNoCommit (state S.Store tx.old.conn.now) (state S.Store tx.new.conn.now) }
+    ensures survives { LeavesNothing (state S.Store tx.old.conn.now) (state S.Store tx.new.conn.now) }
 {
     tx.execute(
         "CREATE TABLE message (net TEXT, number INTEGER, name TEXT, owner TEXT, body BLOB, PRIMARY KEY (net, number), UNIQUE (net, name)) STRICT",
@@ -67,13 +59,11 @@ pub fn create_message<S: Alter>(tx: &mut Transaction<'_, S>) -> Result<usize, Er
 /// Makes `block` where the tables up to `message` were just made. Gives 0: no row was written.
 pub fn create_block<S: Alter>(tx: &mut Transaction<'_, S>) -> Result<usize, Error>
     ensures same_reference { tx.new.conn.ghost_name ≡ tx.old.conn.ghost_name }
-    ensures made { HasCleanDisk (state S.Store tx.new.conn.now) → AreMade schema_3 (state S.Store tx.old.conn.now)
-        → OnOk result (AreMade schema_4 (state S.Store tx.new.conn.now)) }
-    ensures rows { HasCleanDisk (state S.Store tx.new.conn.now) → AreMade schema_3 (state S.Store tx.old.conn.now)
-        → IfOk result (λ rows. rows ≡ 0) }
-    ensures kept { HasCleanDisk (state S.Store tx.new.conn.now)
-        → KeepsCommit (state S.Store tx.old.conn.now) (state S.Store tx.new.conn.now) }
-    ensures survives { Survives (state S.Store tx.old.conn.now) (state S.Store tx.new.conn.now) (λ _. ⊥) }
+    ensures made { MakesNext result (state S.Store tx.old.conn.now) (state S.Store tx.new.conn.now) schema_3 schema_4 }
+    ensures rows { WritesNoRow result (state S.Store tx.old.conn.now) (state S.Store tx.new.conn.now)
+        (AreMade schema_3) }
+    ensures kept { AddsNoCommit (state S.Store tx.old.conn.now) (state S.Store tx.new.conn.now) }
+    ensures survives { LeavesNothing (state S.Store tx.old.conn.now) (state S.Store tx.new.conn.now) }
 {
     tx.execute(
         "CREATE TABLE block (net TEXT, form INTEGER, first INTEGER, last INTEGER, team TEXT, PRIMARY KEY (net, form, first)) STRICT",
@@ -84,13 +74,11 @@ pub fn create_block<S: Alter>(tx: &mut Transaction<'_, S>) -> Result<usize, Erro
 /// Makes `held` where the tables up to `block` were just made. Gives 0: no row was written.
 pub fn create_held<S: Alter>(tx: &mut Transaction<'_, S>) -> Result<usize, Error>
     ensures same_reference { tx.new.conn.ghost_name ≡ tx.old.conn.ghost_name }
-    ensures made { HasCleanDisk (state S.Store tx.new.conn.now) → AreMade schema_4 (state S.Store tx.old.conn.now)
-        → OnOk result (AreMade schema_5 (state S.Store tx.new.conn.now)) }
-    ensures rows { HasCleanDisk (state S.Store tx.new.conn.now) → AreMade schema_4 (state S.Store tx.old.conn.now)
-        → IfOk result (λ rows. rows ≡ 0) }
-    ensures kept { HasCleanDisk (state S.Store tx.new.conn.now)
-        → KeepsCommit (state S.Store tx.old.conn.now) (state S.Store tx.new.conn.now) }
-    ensures survives { Survives (state S.Store tx.old.conn.now) (state S.Store tx.new.conn.now) (λ _. ⊥) }
+    ensures made { MakesNext result (state S.Store tx.old.conn.now) (state S.Store tx.new.conn.now) schema_4 schema_5 }
+    ensures rows { WritesNoRow result (state S.Store tx.old.conn.now) (state S.Store tx.new.conn.now)
+        (AreMade schema_4) }
+    ensures kept { AddsNoCommit (state S.Store tx.old.conn.now) (state S.Store tx.new.conn.now) }
+    ensures survives { LeavesNothing (state S.Store tx.old.conn.now) (state S.Store tx.new.conn.now) }
 {
     tx.execute(
         "CREATE TABLE held (net TEXT, number INTEGER, PRIMARY KEY (net, number)) STRICT",
@@ -101,13 +89,11 @@ pub fn create_held<S: Alter>(tx: &mut Transaction<'_, S>) -> Result<usize, Error
 /// Makes `spn` where the tables up to `held` were just made. Gives 0: no row was written.
 pub fn create_spn<S: Alter>(tx: &mut Transaction<'_, S>) -> Result<usize, Error>
     ensures same_reference { tx.new.conn.ghost_name ≡ tx.old.conn.ghost_name }
-    ensures made { HasCleanDisk (state S.Store tx.new.conn.now) → AreMade schema_5 (state S.Store tx.old.conn.now)
-        → OnOk result (AreMade schema_6 (state S.Store tx.new.conn.now)) }
-    ensures rows { HasCleanDisk (state S.Store tx.new.conn.now) → AreMade schema_5 (state S.Store tx.old.conn.now)
-        → IfOk result (λ rows. rows ≡ 0) }
-    ensures kept { HasCleanDisk (state S.Store tx.new.conn.now)
-        → KeepsCommit (state S.Store tx.old.conn.now) (state S.Store tx.new.conn.now) }
-    ensures survives { Survives (state S.Store tx.old.conn.now) (state S.Store tx.new.conn.now) (λ _. ⊥) }
+    ensures made { MakesNext result (state S.Store tx.old.conn.now) (state S.Store tx.new.conn.now) schema_5 schema_6 }
+    ensures rows { WritesNoRow result (state S.Store tx.old.conn.now) (state S.Store tx.new.conn.now)
+        (AreMade schema_5) }
+    ensures kept { AddsNoCommit (state S.Store tx.old.conn.now) (state S.Store tx.new.conn.now) }
+    ensures survives { LeavesNothing (state S.Store tx.old.conn.now) (state S.Store tx.new.conn.now) }
 {
     tx.execute("CREATE TABLE spn (number INTEGER PRIMARY KEY) STRICT", &[])
 }
@@ -115,13 +101,11 @@ pub fn create_spn<S: Alter>(tx: &mut Transaction<'_, S>) -> Result<usize, Error>
 /// Makes `approval` where the tables up to `spn` were just made. Gives 0: no row was written.
 pub fn create_approval<S: Alter>(tx: &mut Transaction<'_, S>) -> Result<usize, Error>
     ensures same_reference { tx.new.conn.ghost_name ≡ tx.old.conn.ghost_name }
-    ensures made { HasCleanDisk (state S.Store tx.new.conn.now) → AreMade schema_6 (state S.Store tx.old.conn.now)
-        → OnOk result (AreMade schema_7 (state S.Store tx.new.conn.now)) }
-    ensures rows { HasCleanDisk (state S.Store tx.new.conn.now) → AreMade schema_6 (state S.Store tx.old.conn.now)
-        → IfOk result (λ rows. rows ≡ 0) }
-    ensures kept { HasCleanDisk (state S.Store tx.new.conn.now)
-        → KeepsCommit (state S.Store tx.old.conn.now) (state S.Store tx.new.conn.now) }
-    ensures survives { Survives (state S.Store tx.old.conn.now) (state S.Store tx.new.conn.now) (λ _. ⊥) }
+    ensures made { MakesNext result (state S.Store tx.old.conn.now) (state S.Store tx.new.conn.now) schema_6 schema_7 }
+    ensures rows { WritesNoRow result (state S.Store tx.old.conn.now) (state S.Store tx.new.conn.now)
+        (AreMade schema_6) }
+    ensures kept { AddsNoCommit (state S.Store tx.old.conn.now) (state S.Store tx.new.conn.now) }
+    ensures survives { LeavesNothing (state S.Store tx.old.conn.now) (state S.Store tx.new.conn.now) }
 {
     tx.execute(
         "CREATE TABLE approval (net TEXT, team TEXT, PRIMARY KEY (net, team)) STRICT",
@@ -132,13 +116,11 @@ pub fn create_approval<S: Alter>(tx: &mut Transaction<'_, S>) -> Result<usize, E
 /// Makes `frozen` where the tables up to `approval` were just made. Gives 0: no row was written.
 pub fn create_frozen<S: Alter>(tx: &mut Transaction<'_, S>) -> Result<usize, Error>
     ensures same_reference { tx.new.conn.ghost_name ≡ tx.old.conn.ghost_name }
-    ensures made { HasCleanDisk (state S.Store tx.new.conn.now) → AreMade schema_7 (state S.Store tx.old.conn.now)
-        → OnOk result (AreMade schema_8 (state S.Store tx.new.conn.now)) }
-    ensures rows { HasCleanDisk (state S.Store tx.new.conn.now) → AreMade schema_7 (state S.Store tx.old.conn.now)
-        → IfOk result (λ rows. rows ≡ 0) }
-    ensures kept { HasCleanDisk (state S.Store tx.new.conn.now)
-        → KeepsCommit (state S.Store tx.old.conn.now) (state S.Store tx.new.conn.now) }
-    ensures survives { Survives (state S.Store tx.old.conn.now) (state S.Store tx.new.conn.now) (λ _. ⊥) }
+    ensures made { MakesNext result (state S.Store tx.old.conn.now) (state S.Store tx.new.conn.now) schema_7 schema_8 }
+    ensures rows { WritesNoRow result (state S.Store tx.old.conn.now) (state S.Store tx.new.conn.now)
+        (AreMade schema_7) }
+    ensures kept { AddsNoCommit (state S.Store tx.old.conn.now) (state S.Store tx.new.conn.now) }
+    ensures survives { LeavesNothing (state S.Store tx.old.conn.now) (state S.Store tx.new.conn.now) }
 {
     tx.execute(
         "CREATE TABLE frozen (net TEXT, number INTEGER, body BLOB, PRIMARY KEY (net, number)) STRICT",
@@ -149,13 +131,11 @@ pub fn create_frozen<S: Alter>(tx: &mut Transaction<'_, S>) -> Result<usize, Err
 /// Makes `reply` where the tables up to `frozen` were just made. Gives 0: no row was written.
 pub fn create_reply<S: Alter>(tx: &mut Transaction<'_, S>) -> Result<usize, Error>
     ensures same_reference { tx.new.conn.ghost_name ≡ tx.old.conn.ghost_name }
-    ensures made { HasCleanDisk (state S.Store tx.new.conn.now) → AreMade schema_8 (state S.Store tx.old.conn.now)
-        → OnOk result (AreMade schema_9 (state S.Store tx.new.conn.now)) }
-    ensures rows { HasCleanDisk (state S.Store tx.new.conn.now) → AreMade schema_8 (state S.Store tx.old.conn.now)
-        → IfOk result (λ rows. rows ≡ 0) }
-    ensures kept { HasCleanDisk (state S.Store tx.new.conn.now)
-        → KeepsCommit (state S.Store tx.old.conn.now) (state S.Store tx.new.conn.now) }
-    ensures survives { Survives (state S.Store tx.old.conn.now) (state S.Store tx.new.conn.now) (λ _. ⊥) }
+    ensures made { MakesNext result (state S.Store tx.old.conn.now) (state S.Store tx.new.conn.now) schema_8 schema_9 }
+    ensures rows { WritesNoRow result (state S.Store tx.old.conn.now) (state S.Store tx.new.conn.now)
+        (AreMade schema_8) }
+    ensures kept { AddsNoCommit (state S.Store tx.old.conn.now) (state S.Store tx.new.conn.now) }
+    ensures survives { LeavesNothing (state S.Store tx.old.conn.now) (state S.Store tx.new.conn.now) }
 {
     tx.execute(
         "CREATE TABLE reply (team TEXT, key TEXT, content BLOB, kind INTEGER, a INTEGER, b INTEGER, c INTEGER, PRIMARY KEY (team, key)) STRICT",
@@ -166,16 +146,13 @@ pub fn create_reply<S: Alter>(tx: &mut Transaction<'_, S>) -> Result<usize, Erro
 /// Makes `msg` where the tables up to `reply` were just made. Gives 0: no row was written.
 pub fn create_msg<S: Alter>(tx: &mut Transaction<'_, S>) -> Result<usize, Error>
     ensures same_reference { tx.new.conn.ghost_name ≡ tx.old.conn.ghost_name }
-    ensures made { HasCleanDisk (state S.Store tx.new.conn.now) → AreMade schema_9 (state S.Store tx.old.conn.now)
-        → OnOk result (AreMade schema_10 (state S.Store tx.new.conn.now)) }
-    ensures grown { HasCleanDisk (state S.Store tx.new.conn.now)
-        → IsOfficeWith schema_9 (state S.Store tx.old.conn.now).now
-        → OnOk result (Grows schema_9 schema_10 (state S.Store tx.old.conn.now) (state S.Store tx.new.conn.now)) }
-    ensures rows { HasCleanDisk (state S.Store tx.new.conn.now) → AreMade schema_9 (state S.Store tx.old.conn.now)
-        → IfOk result (λ rows. rows ≡ 0) }
-    ensures kept { HasCleanDisk (state S.Store tx.new.conn.now)
-        → KeepsCommit (state S.Store tx.old.conn.now) (state S.Store tx.new.conn.now) }
-    ensures survives { Survives (state S.Store tx.old.conn.now) (state S.Store tx.new.conn.now) (λ _. ⊥) }
+    ensures made { MakesNext result (state S.Store tx.old.conn.now) (state S.Store tx.new.conn.now) schema_9 schema_10 }
+    ensures grown { AddsTables result (state S.Store tx.old.conn.now) (state S.Store tx.new.conn.now)
+        schema_9 schema_10 }
+    ensures rows { WritesNoRow result (state S.Store tx.old.conn.now) (state S.Store tx.new.conn.now)
+        (AreMade schema_9) }
+    ensures kept { AddsNoCommit (state S.Store tx.old.conn.now) (state S.Store tx.new.conn.now) }
+    ensures survives { LeavesNothing (state S.Store tx.old.conn.now) (state S.Store tx.new.conn.now) }
 {
     tx.execute(
         "CREATE TABLE msg (net TEXT, number INTEGER, name TEXT, owner TEXT, length INTEGER, sender TEXT, comment BLOB, PRIMARY KEY (net, number), UNIQUE (net, name)) STRICT",
@@ -186,16 +163,14 @@ pub fn create_msg<S: Alter>(tx: &mut Transaction<'_, S>) -> Result<usize, Error>
 /// Makes `sig` where the tables up to `msg` were just made. Gives 0: no row was written.
 pub fn create_sig<S: Alter>(tx: &mut Transaction<'_, S>) -> Result<usize, Error>
     ensures same_reference { tx.new.conn.ghost_name ≡ tx.old.conn.ghost_name }
-    ensures made { HasCleanDisk (state S.Store tx.new.conn.now) → AreMade schema_10 (state S.Store tx.old.conn.now)
-        → OnOk result (AreMade schema_11 (state S.Store tx.new.conn.now)) }
-    ensures grown { HasCleanDisk (state S.Store tx.new.conn.now)
-        → IsOfficeWith schema_10 (state S.Store tx.old.conn.now).now
-        → OnOk result (Grows schema_10 schema_11 (state S.Store tx.old.conn.now) (state S.Store tx.new.conn.now)) }
-    ensures rows { HasCleanDisk (state S.Store tx.new.conn.now) → AreMade schema_10 (state S.Store tx.old.conn.now)
-        → IfOk result (λ rows. rows ≡ 0) }
-    ensures kept { HasCleanDisk (state S.Store tx.new.conn.now)
-        → KeepsCommit (state S.Store tx.old.conn.now) (state S.Store tx.new.conn.now) }
-    ensures survives { Survives (state S.Store tx.old.conn.now) (state S.Store tx.new.conn.now) (λ _. ⊥) }
+    ensures made { MakesNext result (state S.Store tx.old.conn.now) (state S.Store tx.new.conn.now)
+        schema_10 schema_11 }
+    ensures grown { AddsTables result (state S.Store tx.old.conn.now) (state S.Store tx.new.conn.now)
+        schema_10 schema_11 }
+    ensures rows { WritesNoRow result (state S.Store tx.old.conn.now) (state S.Store tx.new.conn.now)
+        (AreMade schema_10) }
+    ensures kept { AddsNoCommit (state S.Store tx.old.conn.now) (state S.Store tx.new.conn.now) }
+    ensures survives { LeavesNothing (state S.Store tx.old.conn.now) (state S.Store tx.new.conn.now) }
 {
     tx.execute(
         "CREATE TABLE sig (net TEXT, number INTEGER, place INTEGER, name TEXT, start INTEGER, size INTEGER, motorola INTEGER, signed INTEGER, mux INTEGER, factor TEXT, shift TEXT, least TEXT, most TEXT, unit BLOB, comment BLOB, spn INTEGER, label INTEGER, PRIMARY KEY (net, number, place), UNIQUE (net, number, name)) STRICT",
@@ -206,16 +181,14 @@ pub fn create_sig<S: Alter>(tx: &mut Transaction<'_, S>) -> Result<usize, Error>
 /// Makes `receiver` where the tables up to `sig` were just made. Gives 0: no row was written.
 pub fn create_receiver<S: Alter>(tx: &mut Transaction<'_, S>) -> Result<usize, Error>
     ensures same_reference { tx.new.conn.ghost_name ≡ tx.old.conn.ghost_name }
-    ensures made { HasCleanDisk (state S.Store tx.new.conn.now) → AreMade schema_11 (state S.Store tx.old.conn.now)
-        → OnOk result (AreMade schema_12 (state S.Store tx.new.conn.now)) }
-    ensures grown { HasCleanDisk (state S.Store tx.new.conn.now)
-        → IsOfficeWith schema_11 (state S.Store tx.old.conn.now).now
-        → OnOk result (Grows schema_11 schema_12 (state S.Store tx.old.conn.now) (state S.Store tx.new.conn.now)) }
-    ensures rows { HasCleanDisk (state S.Store tx.new.conn.now) → AreMade schema_11 (state S.Store tx.old.conn.now)
-        → IfOk result (λ rows. rows ≡ 0) }
-    ensures kept { HasCleanDisk (state S.Store tx.new.conn.now)
-        → KeepsCommit (state S.Store tx.old.conn.now) (state S.Store tx.new.conn.now) }
-    ensures survives { Survives (state S.Store tx.old.conn.now) (state S.Store tx.new.conn.now) (λ _. ⊥) }
+    ensures made { MakesNext result (state S.Store tx.old.conn.now) (state S.Store tx.new.conn.now)
+        schema_11 schema_12 }
+    ensures grown { AddsTables result (state S.Store tx.old.conn.now) (state S.Store tx.new.conn.now)
+        schema_11 schema_12 }
+    ensures rows { WritesNoRow result (state S.Store tx.old.conn.now) (state S.Store tx.new.conn.now)
+        (AreMade schema_11) }
+    ensures kept { AddsNoCommit (state S.Store tx.old.conn.now) (state S.Store tx.new.conn.now) }
+    ensures survives { LeavesNothing (state S.Store tx.old.conn.now) (state S.Store tx.new.conn.now) }
 {
     tx.execute(
         "CREATE TABLE receiver (net TEXT, number INTEGER, place INTEGER, seat INTEGER, name TEXT, PRIMARY KEY (net, number, place, seat)) STRICT",
@@ -226,16 +199,14 @@ pub fn create_receiver<S: Alter>(tx: &mut Transaction<'_, S>) -> Result<usize, E
 /// Makes `sigvalue` where the tables up to `receiver` were just made. Gives 0: no row was written.
 pub fn create_sigvalue<S: Alter>(tx: &mut Transaction<'_, S>) -> Result<usize, Error>
     ensures same_reference { tx.new.conn.ghost_name ≡ tx.old.conn.ghost_name }
-    ensures made { HasCleanDisk (state S.Store tx.new.conn.now) → AreMade schema_12 (state S.Store tx.old.conn.now)
-        → OnOk result (AreMade schema_13 (state S.Store tx.new.conn.now)) }
-    ensures grown { HasCleanDisk (state S.Store tx.new.conn.now)
-        → IsOfficeWith schema_12 (state S.Store tx.old.conn.now).now
-        → OnOk result (Grows schema_12 schema_13 (state S.Store tx.old.conn.now) (state S.Store tx.new.conn.now)) }
-    ensures rows { HasCleanDisk (state S.Store tx.new.conn.now) → AreMade schema_12 (state S.Store tx.old.conn.now)
-        → IfOk result (λ rows. rows ≡ 0) }
-    ensures kept { HasCleanDisk (state S.Store tx.new.conn.now)
-        → KeepsCommit (state S.Store tx.old.conn.now) (state S.Store tx.new.conn.now) }
-    ensures survives { Survives (state S.Store tx.old.conn.now) (state S.Store tx.new.conn.now) (λ _. ⊥) }
+    ensures made { MakesNext result (state S.Store tx.old.conn.now) (state S.Store tx.new.conn.now)
+        schema_12 schema_13 }
+    ensures grown { AddsTables result (state S.Store tx.old.conn.now) (state S.Store tx.new.conn.now)
+        schema_12 schema_13 }
+    ensures rows { WritesNoRow result (state S.Store tx.old.conn.now) (state S.Store tx.new.conn.now)
+        (AreMade schema_12) }
+    ensures kept { AddsNoCommit (state S.Store tx.old.conn.now) (state S.Store tx.new.conn.now) }
+    ensures survives { LeavesNothing (state S.Store tx.old.conn.now) (state S.Store tx.new.conn.now) }
 {
     tx.execute(
         "CREATE TABLE sigvalue (net TEXT, number INTEGER, place INTEGER, seat INTEGER, value TEXT, words BLOB, PRIMARY KEY (net, number, place, seat)) STRICT",
@@ -246,16 +217,14 @@ pub fn create_sigvalue<S: Alter>(tx: &mut Transaction<'_, S>) -> Result<usize, E
 /// Makes `part` where the tables up to `sigvalue` were just made. Gives 0: no row was written.
 pub fn create_part<S: Alter>(tx: &mut Transaction<'_, S>) -> Result<usize, Error>
     ensures same_reference { tx.new.conn.ghost_name ≡ tx.old.conn.ghost_name }
-    ensures made { HasCleanDisk (state S.Store tx.new.conn.now) → AreMade schema_13 (state S.Store tx.old.conn.now)
-        → OnOk result (AreMade office_schema (state S.Store tx.new.conn.now)) }
-    ensures grown { HasCleanDisk (state S.Store tx.new.conn.now)
-        → IsOfficeWith schema_13 (state S.Store tx.old.conn.now).now
-        → OnOk result (Grows schema_13 office_schema (state S.Store tx.old.conn.now) (state S.Store tx.new.conn.now)) }
-    ensures rows { HasCleanDisk (state S.Store tx.new.conn.now) → AreMade schema_13 (state S.Store tx.old.conn.now)
-        → IfOk result (λ rows. rows ≡ 0) }
-    ensures kept { HasCleanDisk (state S.Store tx.new.conn.now)
-        → KeepsCommit (state S.Store tx.old.conn.now) (state S.Store tx.new.conn.now) }
-    ensures survives { Survives (state S.Store tx.old.conn.now) (state S.Store tx.new.conn.now) (λ _. ⊥) }
+    ensures made { MakesNext result (state S.Store tx.old.conn.now) (state S.Store tx.new.conn.now)
+        schema_13 office_schema }
+    ensures grown { AddsTables result (state S.Store tx.old.conn.now) (state S.Store tx.new.conn.now)
+        schema_13 office_schema }
+    ensures rows { WritesNoRow result (state S.Store tx.old.conn.now) (state S.Store tx.new.conn.now)
+        (AreMade schema_13) }
+    ensures kept { AddsNoCommit (state S.Store tx.old.conn.now) (state S.Store tx.new.conn.now) }
+    ensures survives { LeavesNothing (state S.Store tx.old.conn.now) (state S.Store tx.new.conn.now) }
 {
     tx.execute(
         "CREATE TABLE part (team TEXT, key TEXT, place INTEGER, kind INTEGER, a INTEGER, b INTEGER, PRIMARY KEY (team, key, place)) STRICT",
@@ -266,12 +235,9 @@ pub fn create_part<S: Alter>(tx: &mut Transaction<'_, S>) -> Result<usize, Error
 /// Makes `profile`, `net`, `message`.
 fn make_net_tables<S: Alter>(tx: &mut Transaction<'_, S>) -> Result<(), Error>
     ensures same_reference { tx.new.conn.ghost_name ≡ tx.old.conn.ghost_name }
-    ensures made { HasCleanDisk (state S.Store tx.new.conn.now)
-        → (state S.Store tx.old.conn.now).now.schema ≡ no_schema
-        → OnOk result (AreMade schema_3 (state S.Store tx.new.conn.now)) }
-    ensures kept { HasCleanDisk (state S.Store tx.new.conn.now)
-        → KeepsCommit (state S.Store tx.old.conn.now) (state S.Store tx.new.conn.now) }
-    ensures survives { Survives (state S.Store tx.old.conn.now) (state S.Store tx.new.conn.now) (λ _. ⊥) }
+    ensures made { MakesFromNone result (state S.Store tx.old.conn.now) (state S.Store tx.new.conn.now) schema_3 }
+    ensures kept { AddsNoCommit (state S.Store tx.old.conn.now) (state S.Store tx.new.conn.now) }
+    ensures survives { LeavesNothing (state S.Store tx.old.conn.now) (state S.Store tx.new.conn.now) }
 {
     create_profile(tx)?;
     create_net(tx)?;
@@ -282,11 +248,9 @@ fn make_net_tables<S: Alter>(tx: &mut Transaction<'_, S>) -> Result<(), Error>
 /// Makes `block`, `held`, `spn`.
 fn make_number_tables<S: Alter>(tx: &mut Transaction<'_, S>) -> Result<(), Error>
     ensures same_reference { tx.new.conn.ghost_name ≡ tx.old.conn.ghost_name }
-    ensures made { HasCleanDisk (state S.Store tx.new.conn.now) → AreMade schema_3 (state S.Store tx.old.conn.now)
-        → OnOk result (AreMade schema_6 (state S.Store tx.new.conn.now)) }
-    ensures kept { HasCleanDisk (state S.Store tx.new.conn.now)
-        → KeepsCommit (state S.Store tx.old.conn.now) (state S.Store tx.new.conn.now) }
-    ensures survives { Survives (state S.Store tx.old.conn.now) (state S.Store tx.new.conn.now) (λ _. ⊥) }
+    ensures made { MakesNext result (state S.Store tx.old.conn.now) (state S.Store tx.new.conn.now) schema_3 schema_6 }
+    ensures kept { AddsNoCommit (state S.Store tx.old.conn.now) (state S.Store tx.new.conn.now) }
+    ensures survives { LeavesNothing (state S.Store tx.old.conn.now) (state S.Store tx.new.conn.now) }
 {
     create_block(tx)?;
     create_held(tx)?;
@@ -297,11 +261,9 @@ fn make_number_tables<S: Alter>(tx: &mut Transaction<'_, S>) -> Result<(), Error
 /// Makes `approval`, `frozen`, `reply`.
 fn make_reply_tables<S: Alter>(tx: &mut Transaction<'_, S>) -> Result<(), Error>
     ensures same_reference { tx.new.conn.ghost_name ≡ tx.old.conn.ghost_name }
-    ensures made { HasCleanDisk (state S.Store tx.new.conn.now) → AreMade schema_6 (state S.Store tx.old.conn.now)
-        → OnOk result (AreMade schema_9 (state S.Store tx.new.conn.now)) }
-    ensures kept { HasCleanDisk (state S.Store tx.new.conn.now)
-        → KeepsCommit (state S.Store tx.old.conn.now) (state S.Store tx.new.conn.now) }
-    ensures survives { Survives (state S.Store tx.old.conn.now) (state S.Store tx.new.conn.now) (λ _. ⊥) }
+    ensures made { MakesNext result (state S.Store tx.old.conn.now) (state S.Store tx.new.conn.now) schema_6 schema_9 }
+    ensures kept { AddsNoCommit (state S.Store tx.old.conn.now) (state S.Store tx.new.conn.now) }
+    ensures survives { LeavesNothing (state S.Store tx.old.conn.now) (state S.Store tx.new.conn.now) }
 {
     create_approval(tx)?;
     create_frozen(tx)?;
@@ -312,14 +274,11 @@ fn make_reply_tables<S: Alter>(tx: &mut Transaction<'_, S>) -> Result<(), Error>
 /// Makes `msg`, `sig`, `receiver`.
 fn make_signal_tables<S: Alter>(tx: &mut Transaction<'_, S>) -> Result<(), Error>
     ensures same_reference { tx.new.conn.ghost_name ≡ tx.old.conn.ghost_name }
-    ensures made { HasCleanDisk (state S.Store tx.new.conn.now) → AreMade schema_9 (state S.Store tx.old.conn.now)
-        → OnOk result (AreMade schema_12 (state S.Store tx.new.conn.now)) }
-    ensures grown { HasCleanDisk (state S.Store tx.new.conn.now)
-        → IsOfficeWith schema_9 (state S.Store tx.old.conn.now).now
-        → OnOk result (Grows schema_9 schema_12 (state S.Store tx.old.conn.now) (state S.Store tx.new.conn.now)) }
-    ensures kept { HasCleanDisk (state S.Store tx.new.conn.now)
-        → KeepsCommit (state S.Store tx.old.conn.now) (state S.Store tx.new.conn.now) }
-    ensures survives { Survives (state S.Store tx.old.conn.now) (state S.Store tx.new.conn.now) (λ _. ⊥) }
+    ensures made { MakesNext result (state S.Store tx.old.conn.now) (state S.Store tx.new.conn.now) schema_9 schema_12 }
+    ensures grown { AddsTables result (state S.Store tx.old.conn.now) (state S.Store tx.new.conn.now)
+        schema_9 schema_12 }
+    ensures kept { AddsNoCommit (state S.Store tx.old.conn.now) (state S.Store tx.new.conn.now) }
+    ensures survives { LeavesNothing (state S.Store tx.old.conn.now) (state S.Store tx.new.conn.now) }
 {
     create_msg(tx)?;
     create_sig(tx)?;
@@ -330,14 +289,12 @@ fn make_signal_tables<S: Alter>(tx: &mut Transaction<'_, S>) -> Result<(), Error
 /// Makes `sigvalue`, `part`.
 fn make_part_tables<S: Alter>(tx: &mut Transaction<'_, S>) -> Result<(), Error>
     ensures same_reference { tx.new.conn.ghost_name ≡ tx.old.conn.ghost_name }
-    ensures made { HasCleanDisk (state S.Store tx.new.conn.now) → AreMade schema_12 (state S.Store tx.old.conn.now)
-        → OnOk result (AreMade office_schema (state S.Store tx.new.conn.now)) }
-    ensures grown { HasCleanDisk (state S.Store tx.new.conn.now)
-        → IsOfficeWith schema_12 (state S.Store tx.old.conn.now).now
-        → OnOk result (Grows schema_12 office_schema (state S.Store tx.old.conn.now) (state S.Store tx.new.conn.now)) }
-    ensures kept { HasCleanDisk (state S.Store tx.new.conn.now)
-        → KeepsCommit (state S.Store tx.old.conn.now) (state S.Store tx.new.conn.now) }
-    ensures survives { Survives (state S.Store tx.old.conn.now) (state S.Store tx.new.conn.now) (λ _. ⊥) }
+    ensures made { MakesNext result (state S.Store tx.old.conn.now) (state S.Store tx.new.conn.now)
+        schema_12 office_schema }
+    ensures grown { AddsTables result (state S.Store tx.old.conn.now) (state S.Store tx.new.conn.now)
+        schema_12 office_schema }
+    ensures kept { AddsNoCommit (state S.Store tx.old.conn.now) (state S.Store tx.new.conn.now) }
+    ensures survives { LeavesNothing (state S.Store tx.old.conn.now) (state S.Store tx.new.conn.now) }
 {
     create_sigvalue(tx)?;
     create_part(tx)?;
@@ -347,14 +304,12 @@ fn make_part_tables<S: Alter>(tx: &mut Transaction<'_, S>) -> Result<(), Error>
 /// Makes the tables of live messages and of bundles, after the others.
 pub fn make_live_tables<S: Alter>(tx: &mut Transaction<'_, S>) -> Result<(), Error>
     ensures same_reference { tx.new.conn.ghost_name ≡ tx.old.conn.ghost_name }
-    ensures made { HasCleanDisk (state S.Store tx.new.conn.now) → AreMade schema_9 (state S.Store tx.old.conn.now)
-        → OnOk result (AreMade office_schema (state S.Store tx.new.conn.now)) }
-    ensures grown { HasCleanDisk (state S.Store tx.new.conn.now)
-        → IsOfficeWith schema_9 (state S.Store tx.old.conn.now).now
-        → OnOk result (Grows schema_9 office_schema (state S.Store tx.old.conn.now) (state S.Store tx.new.conn.now)) }
-    ensures kept { HasCleanDisk (state S.Store tx.new.conn.now)
-        → KeepsCommit (state S.Store tx.old.conn.now) (state S.Store tx.new.conn.now) }
-    ensures survives { Survives (state S.Store tx.old.conn.now) (state S.Store tx.new.conn.now) (λ _. ⊥) }
+    ensures made { MakesNext result (state S.Store tx.old.conn.now) (state S.Store tx.new.conn.now)
+        schema_9 office_schema }
+    ensures grown { AddsTables result (state S.Store tx.old.conn.now) (state S.Store tx.new.conn.now)
+        schema_9 office_schema }
+    ensures kept { AddsNoCommit (state S.Store tx.old.conn.now) (state S.Store tx.new.conn.now) }
+    ensures survives { LeavesNothing (state S.Store tx.old.conn.now) (state S.Store tx.new.conn.now) }
 {
     make_signal_tables(tx)?;
     make_part_tables(tx)
@@ -363,12 +318,9 @@ pub fn make_live_tables<S: Alter>(tx: &mut Transaction<'_, S>) -> Result<(), Err
 /// Makes the tables, each after those before it.
 fn make_each<S: Alter>(tx: &mut Transaction<'_, S>) -> Result<(), Error>
     ensures same_reference { tx.new.conn.ghost_name ≡ tx.old.conn.ghost_name }
-    ensures made { HasCleanDisk (state S.Store tx.new.conn.now)
-        → (state S.Store tx.old.conn.now).now.schema ≡ no_schema
-        → OnOk result (AreMade office_schema (state S.Store tx.new.conn.now)) }
-    ensures kept { HasCleanDisk (state S.Store tx.new.conn.now)
-        → KeepsCommit (state S.Store tx.old.conn.now) (state S.Store tx.new.conn.now) }
-    ensures survives { Survives (state S.Store tx.old.conn.now) (state S.Store tx.new.conn.now) (λ _. ⊥) }
+    ensures made { MakesFromNone result (state S.Store tx.old.conn.now) (state S.Store tx.new.conn.now) office_schema }
+    ensures kept { AddsNoCommit (state S.Store tx.old.conn.now) (state S.Store tx.new.conn.now) }
+    ensures survives { LeavesNothing (state S.Store tx.old.conn.now) (state S.Store tx.new.conn.now) }
 {
     make_net_tables(tx)?;
     make_number_tables(tx)?;
@@ -379,12 +331,9 @@ fn make_each<S: Alter>(tx: &mut Transaction<'_, S>) -> Result<(), Error>
 /// Makes all tables where there is none: they are the office's, with no row.
 pub fn make_tables<S: Alter>(tx: &mut Transaction<'_, S>) -> Result<(), Error>
     ensures same_reference { tx.new.conn.ghost_name ≡ tx.old.conn.ghost_name }
-    ensures made { HasCleanDisk (state S.Store tx.new.conn.now)
-        → (state S.Store tx.old.conn.now).now.schema ≡ no_schema
-        → OnOk result (IsEmptyOffice (state S.Store tx.new.conn.now)) }
-    ensures kept { HasCleanDisk (state S.Store tx.new.conn.now)
-        → KeepsCommit (state S.Store tx.old.conn.now) (state S.Store tx.new.conn.now) }
-    ensures survives { Survives (state S.Store tx.old.conn.now) (state S.Store tx.new.conn.now) (λ _. ⊥) }
+    ensures made { MakesOffice result (state S.Store tx.old.conn.now) (state S.Store tx.new.conn.now) }
+    ensures kept { AddsNoCommit (state S.Store tx.old.conn.now) (state S.Store tx.new.conn.now) }
+    ensures survives { LeavesNothing (state S.Store tx.old.conn.now) (state S.Store tx.new.conn.now) }
 {
     make_each(tx)
 }

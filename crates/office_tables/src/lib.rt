@@ -5,18 +5,21 @@
 //! is made last. docs/DESIGN.md says what each row means.
 //!
 //! [`is_new`] shows whether there is a table yet, and [`knows_schema`] that trees of the office are read with its
-//! schema; [`knows_tables`] says so of every schema, as those of earlier times (`IsOfficeSchema`).
+//! schema; [`knows_tables`] says so of every schema, as those of earlier times (`IsOfficeSchema`). [`is_begun`]
+//! compares the tables of a database with those of an office.
 //!
 //! The statements that read and write rows are in the crate `office_rows`. What a statement of each form makes of the
 //! tables is proved here once, for any table: `proofs/Changing.antt` has INSERT and DELETE, `proofs/Selecting.antt`
-//! SELECT.
+//! SELECT, and `proofs/TopRow.antt` that with LIMIT 1.
 //!
 //! The definitions are in `specs/`: `Schema.antt` (the tables, as `sqlite` has them), `Tables.antt` (their rows),
-//! `Statements.antt` (what a statement makes of them) and `Selected.antt` (what a SELECT shows).
+//! `Statements.antt` (what a statement makes of them, and the words of its contracts), `Selected.antt` (what a SELECT
+//! shows) and `Outlines.antt` (what is compared of tables).
 #![tactic(auto)]
 
 mod creating;
 mod opening;
+mod outlines;
 
 pub use creating::{
     create_approval, create_block, create_frozen, create_held, create_message, create_msg,
@@ -24,3 +27,4 @@ pub use creating::{
     create_sigvalue, create_spn, make_live_tables, make_tables,
 };
 pub use opening::{is_new, knows_none, knows_schema, knows_tables};
+pub use outlines::is_begun;

@@ -11,7 +11,7 @@ ghost use Rattle.office_rules.specs.Change.{Decides};
 ghost use Rattle.office_rules.specs.Facts.{is_spn_granted};
 ghost use Rattle.office_rules.specs.Opening.{bare_net, grant, grant_tests};
 ghost use Rattle.office_take.specs.FactsOf.{with_parts};
-ghost use Rattle.office_take.specs.Granting.{grant_change};
+ghost use Rattle.office_take.specs.Granting.{IsAsGoodFor, grant_change};
 
 use catalogue::Copying;
 use office_facts::{is_j1939, one_change, refusal_decision};
@@ -57,9 +57,11 @@ fn is_spn(form: BlockForm) -> bool
     form == BlockForm::Spn
 }
 
-/// Whether a number of the block is granted already, on a network that has these blocks or in the book.
+/// Whether a number of the block is granted already: in the book where the block is of suspect parameter numbers, and
+/// else on a network that has these blocks, whatever the book.
 fn is_block_taken(blocks: &[GrantedBlock], book: &SpnBook, command: &Grant) -> bool
-    ensures { result ≡ (if is_spn command.now.block.form then is_spn_granted book.now command.now.block
+    ensures { (other : Book) → IsAsGoodFor command.now book.now other
+        → result ≡ (if is_spn command.now.block.form then is_spn_granted other command.now.block
         else list_any (λ g. have_common g.block command.now.block) blocks.now) }
 {
     if is_spn(command.block.form()) {
@@ -77,8 +79,8 @@ fn grant_refusal(
     book: &SpnBook,
     command: &Grant,
 ) -> Option<Refusal>
-    ensures { result ≡ first_refusal (grant_tests team.now
-        (Some (with_parts head.now blocks.now (bare_net [] head.now))) book.now command.now) }
+    ensures { (other : Book) → IsAsGoodFor command.now book.now other → result ≡ first_refusal (grant_tests team.now
+        (Some (with_parts head.now blocks.now (bare_net [] head.now))) other command.now) }
 {
     if !is_office(team) {
         Some(Refusal::NotOffice)
@@ -111,8 +113,8 @@ fn granted(alloc: Global, name: &NetName, command: &Grant) -> Result<Change, All
     }
 }
 
-/// Decides the team's `grant` on a network of this name that has this head and these blocks. The error is out of
-/// memory.
+/// Decides the team's `grant` on a network of this name that has this head and these blocks. The book counts for a
+/// block of suspect parameter numbers alone. The error is out of memory.
 pub fn decide_grant_on(
     alloc: Global,
     team: &Team,
@@ -122,9 +124,9 @@ pub fn decide_grant_on(
     book: &SpnBook,
     command: &Grant,
 ) -> Result<Decision, AllocError>
-    ensures { IfOk result (λ d. (net : NetModel)
-        → Decides name.now (record { net = Some (with_parts head.now blocks.now net); book = book.now })
-        (grant team.now name.now (Some (with_parts head.now blocks.now net)) book.now command.now) d) }
+    ensures { IfOk result (λ d. (net : NetModel) (other : Book) → IsAsGoodFor command.now book.now other
+        → Decides name.now (record { net = Some (with_parts head.now blocks.now net); book = other })
+        (grant team.now name.now (Some (with_parts head.now blocks.now net)) other command.now) d) }
 {
     if let Some(refusal) = grant_refusal(team, head, blocks, book, command) {
         return Ok(refusal_decision(alloc, refusal));

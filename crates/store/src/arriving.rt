@@ -12,7 +12,7 @@ ghost use Rattle.store.specs.Holding.{Holding, Keeps, Leaves};
 ghost use Rattle.store.specs.Holds.{Holds};
 ghost use Rattle.store.specs.Opening.{HasTables};
 ghost use Rattle.store.specs.Lost.{IsOfCall};
-ghost use Rattle.office_rows.specs.Statement.{CommitsNothing, Finds, LeavesNothing, StaysInside, StaysOffice};
+ghost use Rattle.office_tables.specs.Statements.{CommitsNothing, Finds, LeavesNothing, StaysInside, StaysOffice};
 
 use crate::deciding::decide_on_tables;
 use crate::losing::loss_by;

@@ -1,10 +1,11 @@
 //! What is decided on a request that comes for the first time, on what its command reads of the tables.
 //!
-//! Most commands read an excerpt of their network: its row and its blocks, and those on a message that one alone, those
-//! that give out a number the numbers that could be given out. `retire` also reads the last release: in the network of
-//! an office it has each live message that was released. `release`, `import` and bundles read all of their network but
-//! its releases; of these `release` reads how many there are, and a bundle with `retire` what is in them. The book is
-//! read for `grant`, for `take_spn`, and with all of a network.
+//! Most commands read an excerpt of their network: its row and its blocks, and those on a message that one alone.
+//! `take_ident` reads the live and the held identifiers in the team's blocks, and `take_pgn` all of 29 bits. `retire`
+//! also reads the last release: in the network of an office it has each live message that was released. `release`,
+//! `import` and bundles read all of their network but its releases; of these `release` reads how many there are, and a
+//! bundle with `retire` what is in them. The book is read for `take_spn`, for a `grant` of suspect parameter numbers,
+//! and with all of a network.
 ghost use Rattle.std.specs.Prelude.{◌≡◌, true, false, Option, Some, IfSome};
 ghost use Rattle.std.specs.List.{list_any};
 ghost use Rattle.sqlite.specs.Held.{state};
@@ -18,7 +19,7 @@ ghost use Rattle.store_rows.specs.NetIn.{IsNetAt};
 ghost use Rattle.store_rows.specs.Rows.{IsBookIn};
 ghost use Rattle.store_net.specs.Excerpts.{MatchBoth};
 ghost use Rattle.store_net.specs.Writing.{IsNext};
-ghost use Rattle.office_rows.specs.Statement.{ChangesNothing, CommitsNothing, Finds, LeavesNothing};
+ghost use Rattle.office_tables.specs.Statements.{ChangesNothing, CommitsNothing, Finds, LeavesNothing};
 
 use crate::counting::{reads_bodies, reads_releases};
 use catalogue::Items;

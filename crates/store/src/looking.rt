@@ -11,7 +11,7 @@ ghost use Rattle.store.specs.Holds.{Holds};
 ghost use Rattle.store.specs.Looking.{IsShown};
 ghost use Rattle.store.specs.Opening.{HasTables};
 ghost use Rattle.store.specs.Lost.{IsOfCall};
-ghost use Rattle.office_rows.specs.Statement.{ChangesNothing, CommitsNothing, Finds, LeavesNothing};
+ghost use Rattle.office_tables.specs.Statements.{ChangesNothing, CommitsNothing, Finds, LeavesNothing};
 
 use crate::losing::loss_by;
 use crate::lost::Lost;

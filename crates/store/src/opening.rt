@@ -14,7 +14,7 @@ ghost use Rattle.store.specs.Holding.{Holding, Keeps, Leaves};
 ghost use Rattle.store.specs.Lost.{IsOfCall};
 ghost use Rattle.store.specs.Opening.{HasNone, HasOffice, HasOlderMarks, HasTables, HoldingInSomeForm, HoldingOlder};
 ghost use Rattle.store.specs.Opening.{IsGrown, IsNew, KeepsInSomeForm, MayGrow};
-ghost use Rattle.office_rows.specs.Statement.{AddsNoCommit, LeavesNothing};
+ghost use Rattle.office_tables.specs.Statements.{AddsNoCommit, LeavesNothing};
 
 use crate::lost::Lost;
 use crate::stored_office::StoredOffice;

@@ -4,7 +4,7 @@ use Rattle.std.specs.Prelude.{◌≢◌}
 use Rattle.sqlite.specs.Schema.{Schema}
 use Rattle.office_tables.specs.Schema.{office_schema, schema_13, schema_9}
 use Rattle.store_carry.specs.FormSchema.{schema_of}
-use Rattle.store_carry.specs.Outlines.{IsBegun, IsLike, Outline, office_tables, outlines_of, table_of}
+use Rattle.office_tables.specs.Outlines.{IsBegun, IsLike, Outline, every_table, outlines_of, table_of}
 use Rattle.store_carry.specs.declared.forms.Form.{Form}
 use Rattle.store_carry.specs.declared.forms.Form.TheVariants.{All, Bodies, Foreign, Rows}
 
@@ -74,7 +74,7 @@ none_counted Foreign n k a b c other has = absurd (other refl)
 -- each form's tables are outlined so
 
 abbrev first : ℕ → List Outline
-first n = take n (outlines_of (map table_of office_tables))
+first n = take n (outlines_of (map table_of every_table))
 
 first_9 : outlines_of schema_9.tables ≡ first 9
 unfolding schema_9

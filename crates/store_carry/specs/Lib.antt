@@ -4,4 +4,3 @@ pub mod Carried
 pub mod Marks
 pub mod FormSchema
 pub mod InForm
-pub mod Outlines

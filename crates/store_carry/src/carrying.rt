@@ -1,16 +1,14 @@
 //! Live messages of all networks, from bodies to rows.
-ghost use Rattle.std.specs.Prelude.{◌≡◌, List, [], map, IsTrue, OnOk};
+ghost use Rattle.std.specs.Prelude.{◌≡◌, List, [], map};
 ghost use Rattle.office_history.specs.History.{Answered};
 ghost use Rattle.office_rules.specs.Profile.{Two};
-ghost use Rattle.office_tables.specs.Tables.{IsOffice};
 ghost use Rattle.office_types.specs.declared.state.Net.{Net as Network};
 ghost use Rattle.sqlite.specs.Held.{state};
-ghost use Rattle.sqlite.specs.State.{HasCleanDisk};
 ghost use Rattle.store_net.specs.Nets.{AreKnownNets};
 ghost use Rattle.store_carry.specs.Carried.{AddsLive, CarriesNet, CarriesNets};
 ghost use Rattle.store_carry.specs.Forms.{HoldsAsBodies, HoldsAsRows, row_marks};
-ghost use Rattle.office_rows.specs.Statement.{AddsNoCommit, CommitsNothing, LeavesNothing, MakesTables, StaysOffice};
-ghost use Rattle.office_rows.specs.Statement.{Writes};
+ghost use Rattle.office_tables.specs.Statements.{AddsNoCommit, CommitsNothing, EndsInside, LeavesNothing, MakesTables};
+ghost use Rattle.office_tables.specs.Statements.{StaysOffice, Writes};
 
 use crate::renewing::renew_profile;
 use crate::watch::Watch;
@@ -126,8 +124,7 @@ pub fn carry_over<S: Alter, W: Watch>(
     ensures held { Writes result (state S.Store tx.old.conn.now) (state S.Store tx.new.conn.now)
         (λ before after. (h : List Answered) → HoldsAsBodies h before → HoldsAsRows Two h after) }
     ensures office { StaysOffice result (state S.Store tx.old.conn.now) (state S.Store tx.new.conn.now) }
-    ensures inside { HasCleanDisk (state S.Store tx.new.conn.now) → IsOffice (state S.Store tx.old.conn.now).now
-        → OnOk result (IsTrue (state S.Store tx.new.conn.now).in_transaction) }
+    ensures inside { EndsInside result (state S.Store tx.old.conn.now) (state S.Store tx.new.conn.now) }
     ensures kept { CommitsNothing (state S.Store tx.old.conn.now) (state S.Store tx.new.conn.now) }
     ensures survives { LeavesNothing (state S.Store tx.old.conn.now) (state S.Store tx.new.conn.now) }
 {

@@ -2,10 +2,10 @@
 ghost use Rattle.std.specs.Prelude.{◌≡◌, ◌≢◌};
 ghost use Rattle.sqlite.specs.Held.{state};
 ghost use Rattle.store_carry.specs.FormSchema.{schema_of};
-ghost use Rattle.store_carry.specs.Outlines.{IsLike};
+ghost use Rattle.office_tables.specs.Outlines.{IsLike};
 ghost use Rattle.store_carry.specs.declared.forms.Form.{Form as FormOf};
 
-use crate::outlines::is_begun;
+use office_tables::is_begun;
 use sqlite::{Alter, Connection};
 
 /// The tables of an office of some time.

@@ -10,7 +10,7 @@ ghost use Rattle.sqlite.specs.State.{HasCleanDisk, KeepsCommit};
 ghost use Rattle.store_carry.specs.Forms.{HoldsAsBodies, HoldsAsRows};
 ghost use Rattle.store_carry.specs.FormSchema.{schema_of};
 ghost use Rattle.store_carry.specs.InForm.{HoldsAs};
-ghost use Rattle.office_rows.specs.Statement.{AddsNoCommit, LeavesNothing};
+ghost use Rattle.office_tables.specs.Statements.{AddsNoCommit, LeavesNothing};
 
 use crate::carrying::carry_over;
 use crate::forms::Form;

@@ -15,15 +15,13 @@
 //! transaction is to be rolled back then, and the tables are as before.
 //!
 //! The definitions are in `specs/`: `HoldsIn.antt` (tables that hold a history, with live messages in one form or
-//! another), `Forms.antt` (the forms that there are), `Outlines.antt` (by what tables are known), `Carried.antt` (what
-//! carrying over makes of the tables).
+//! another), `Forms.antt` (the forms that there are), `Carried.antt` (what carrying over makes of the tables).
 #![tactic(auto)]
 
 mod carrying;
 mod forms;
 mod growing;
 mod marks;
-mod outlines;
 mod renewing;
 mod watch;
 

@@ -6,7 +6,7 @@ ghost use Rattle.office_tables.specs.Tables.{IsOffice, tables_of};
 ghost use Rattle.sqlite.specs.Held.{state};
 ghost use Rattle.sqlite.specs.State.{HasCleanDisk};
 ghost use Rattle.store_carry.specs.Forms.{HoldsAsRows, row_marks};
-ghost use Rattle.office_rows.specs.Statement.{AddsNoCommit, LeavesNothing, MakesTables};
+ghost use Rattle.office_tables.specs.Statements.{AddsNoCommit, LeavesNothing, MakesTables};
 
 use office_rows::{clear_profile, insert_profile};
 use sqlite::{Alter, Error, Transaction};

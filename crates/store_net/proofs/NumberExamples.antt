@@ -5,7 +5,7 @@ use Rattle.can_id.specs.declared.form.IdentForm.TheVariants.{Standard, Extended}
 use Rattle.can_id.specs.declared.ident.Ident.{Ident}
 use Rattle.can_id.specs.declared.ident.Ident.TheVariants as id
 use Rattle.office_types.specs.declared.state.LiveMessage.{LiveMessage}
-use Rattle.store_net.specs.Numbers.{dbc_of, idents_between, idents_inside}
+use Rattle.store_net.specs.Numbers.{dbc_of, idents_between, idents_inside, live_idents}
 
 abbrev live_at : Ident → LiveMessage
 live_at i = record {
@@ -26,15 +26,15 @@ extended = refl
 too_great : dbc_of Extended 2147483648 ≡ 4294967295
 too_great = refl
 
-within : idents_between 257 258 live ≡ id.Std 258 ∷ []
+within : idents_between 257 258 (live_idents live) ≡ id.Std 258 ∷ []
 within = refl
 
 -- the number 256 of 11 bits isn't the one of 29 bits
-of_11_bits : idents_inside Standard (record { first = 250; last = 256 } ∷ record { first = 258; last = 258 } ∷ []) live ≡ id.Std 256 ∷ id.Std 258 ∷ []
+of_11_bits : idents_inside Standard (record { first = 250; last = 256 } ∷ record { first = 258; last = 258 } ∷ []) (live_idents live) ≡ id.Std 256 ∷ id.Std 258 ∷ []
 of_11_bits = refl
 
-of_29_bits : idents_inside Extended (record { first = 0; last = 300 } ∷ []) live ≡ id.Ext 256 ∷ []
+of_29_bits : idents_inside Extended (record { first = 0; last = 300 } ∷ []) (live_idents live) ≡ id.Ext 256 ∷ []
 of_29_bits = refl
 
-no_block : idents_inside Standard [] live ≡ []
+no_block : idents_inside Standard [] (live_idents live) ≡ []
 no_block = refl

@@ -23,23 +23,26 @@ use Rattle.store_net.proofs.Inside.{groups_inside, numbers_inside}
 
 -- numbers that were read of these identifiers
 pub read_inside : (team : List ℕ) (net : Net) (form : IdentForm) (own : List Block) (live held : List Ident) (numbers : List ℕ) → own ≡ blocks_of net.blocks team (block_form form)
-    → live ≡ idents_inside form own net.live → held ≡ net.held → numbers ≡ filter_map (number_in form) (live ++ held) → AllByRecursion IsIdentifier (live_idents net.live)
+    → live ≡ idents_inside form own (live_idents net.live) → held ≡ idents_inside form own net.held → numbers ≡ filter_map (number_in form) (live ++ held)
+    → AllByRecursion IsIdentifier (live_idents net.live) → AllByRecursion IsIdentifier net.held
     → AgreeInside (blocks_of net.blocks team (block_form form)) numbers (taken_numbers net form)
-read_inside team net form own live held numbers own_is live_is held_is are identifiers =
+read_inside team net form own live held numbers own_is live_is held_is are are_live are_held =
     let read =
     are ∙ ap (λ (l : List Ident). filter_map (number_in form) (l ++ held)) live_is
-    ∙ ap (λ (l : List Ident). filter_map (number_in form) (idents_inside form own net.live ++ l)) held_is in
+    ∙ ap (λ (l : List Ident). filter_map (number_in form) (idents_inside form own (live_idents net.live) ++ l)) held_is in
     subst (λ (b : List Block). AgreeInside b numbers (taken_numbers net form)) own_is
-    (subst (λ (l : List ℕ). AgreeInside own l (taken_numbers net form)) (sym read) (numbers_inside form own net.live net.held identifiers))
+    (subst (λ (l : List ℕ). AgreeInside own l (taken_numbers net form)) (sym read) (numbers_inside form own (live_idents net.live) net.held are_live are_held))
 
-pub groups_read : (team : List ℕ) (net : Net) (live held : List Ident) (groups : List ℕ) → live ≡ idents_between EXTENDED_FLAG (EXTENDED_FLAG + GREATEST_EXTENDED) net.live
-    → held ≡ net.held → groups ≡ filter_map group_of (live ++ held) → AllByRecursion IsIdentifier (live_idents net.live)
+pub groups_read : (team : List ℕ) (net : Net) (live held : List Ident) (groups : List ℕ) → live ≡ idents_between EXTENDED_FLAG (EXTENDED_FLAG + GREATEST_EXTENDED) (live_idents net.live)
+    → held ≡ idents_between EXTENDED_FLAG (EXTENDED_FLAG + GREATEST_EXTENDED) net.held → groups ≡ filter_map group_of (live ++ held)
+    → AllByRecursion IsIdentifier (live_idents net.live) → AllByRecursion IsIdentifier net.held
     → AgreeInside (blocks_of net.blocks team Pgn) groups (taken_groups net)
-groups_read team net live held groups live_is held_is are identifiers =
+groups_read team net live held groups live_is held_is are are_live are_held =
     let read =
     are ∙ ap (λ (l : List Ident). filter_map group_of (l ++ held)) live_is
-    ∙ ap (λ (l : List Ident). filter_map group_of (idents_between EXTENDED_FLAG (EXTENDED_FLAG + GREATEST_EXTENDED) net.live ++ l)) held_is in
-    subst (λ (l : List ℕ). AgreeInside (blocks_of net.blocks team Pgn) l (taken_groups net)) (sym read) (groups_inside (blocks_of net.blocks team Pgn) net.live net.held identifiers)
+    ∙ ap (λ (l : List Ident). filter_map group_of (idents_between EXTENDED_FLAG (EXTENDED_FLAG + GREATEST_EXTENDED) (live_idents net.live) ++ l)) held_is in
+    subst (λ (l : List ℕ). AgreeInside (blocks_of net.blocks team Pgn) l (taken_groups net)) (sym read)
+    (groups_inside (blocks_of net.blocks team Pgn) (live_idents net.live) net.held are_live are_held)
 
 pub of_ident : (team : List ℕ) (net : Net) (c : TakeIdent) (e : Excerpt) (live held : Bool) (numbers : List ℕ) → HasNameAndRoom c.message.name net e
     → live ≡ is_wanted (is_live net) c.form c.want → held ≡ is_wanted (is_held net) c.form c.want

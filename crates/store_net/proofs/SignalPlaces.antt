@@ -1,12 +1,11 @@
 -- The places of a message's signals, as the query on them shows them.
-use Rattle.std.proofs.Common.{◌≡◌, ◌∙◌, ℕ, ◌+◌, ◌<◌, ◌-◌, zero, suc, pos, Bool, true, false, cond, ◌||◌, List, [], ◌∷◌, ◌++◌, length, Option, None, Some, refl, sym, ap, subst, arith}
-use Rattle.std.specs.Prelude.{◌==◌, slice_get}
+use Rattle.std.proofs.Common.{◌≡◌, ◌∙◌, ℕ, ◌<◌, Bool, true, false, cond, ◌||◌, List, [], ◌∷◌, ◌++◌, Option, None, Some, refl, sym, ap, subst, arith}
+use Rattle.std.specs.Prelude.{◌==◌}
 use Rattle.std.specs.List.{AllByRecursion, list_any}
 use Rattle.std.specs.Option.{option_map}
 use Rattle.std.specs.Str.{bytes_eq}
 use Rattle.std.proofs.lemmas.Bool.{eq-eqb}
 use Rattle.std.proofs.lemmas.Bool.Decides.{nat_tests}
-use Rattle.sqlite.specs.declared.types.Value.TheVariants.{Int}
 use Rattle.sqlite.specs.Order.{Row, column}
 use Rattle.can_id.specs.Ident.{dbc_number}
 use Rattle.catalogue.specs.declared.signal.Signal.{Signal}
@@ -17,40 +16,7 @@ use Rattle.office_rules.specs.Facts.{live_named}
 use Rattle.office_types.specs.declared.command.SignalPath.{SignalPath}
 use Rattle.store_rows.specs.LiveWritten.{AreItsPlaces, IsGone, IsTakenOut, without_place, without_places}
 use Rattle.store_rows.specs.SignalShowing.{PlacesAscend, ShowsPlaced}
-use Rattle.store_rows.proofs.Values.{one_number}
 use Rattle.store_net.specs.Places.{is_text, number_in, places_named}
-
--- ---- a place after all
-
--- where no row is shown there is no signal
-pub none_placed : (placed : List (ℕ × Signal)) (rows : List Row) (k : ℕ) → AreShown ShowsPlaced placed rows → None ≡ slice_get rows (length rows - 1) → AllByRecursion (λ (q : ℕ × Signal). q.0 < k) placed
-none_placed [] rows k shown none = tt
-none_placed (q ∷ placed) [] k shown none = absurd shown
-none_placed (q ∷ placed) (r ∷ rows) k shown none =
-    let last : length (r ∷ rows) - 1 ≡ length rows = omega arith in
-    absurd (some_there (r ∷ rows) (length rows) (omega arith) (none ∙ ap (slice_get (r ∷ rows)) last))
-  where
-    some_there : (xs : List Row) (at : ℕ) → at < length xs → ◌≡◌ {A = Option Row} None (slice_get xs at) → ⊥
-    some_there [] at within none = omega (arith, within)
-    some_there (x ∷ xs) zero within none = cc
-    some_there (x ∷ xs) (suc at) within none = some_there xs at (omega (arith, within)) none
-
-pub below_last : (placed : List (ℕ × Signal)) (rows : List Row) (row : Row) (p : ℕ) → AreShown ShowsPlaced placed rows → PlacesAscend placed
-    → Some row ≡ slice_get rows (length rows - 1) → column row 0 ≡ Int (pos p) → AllByRecursion (λ (q : ℕ × Signal). q.0 < p + 1) placed
-below_last [] rows row p shown ascend some is = tt
-below_last (q ∷ placed) [] row p shown ascend some is = absurd shown
-below_last (q ∷ []) (r ∷ []) row p shown ascend some is =
-    let one : row ≡ r = cc in
-    let same : q.0 ≡ p = one_number (column r 0) q.0 p shown.0.place (ap (λ (x : Row). column x 0) (sym one) ∙ is) in
-    (omega (arith, same), tt)
-below_last (q ∷ []) (r ∷ r2 ∷ rows) row p shown ascend some is = absurd shown.1
-below_last (q ∷ q2 ∷ placed) (r ∷ []) row p shown ascend some is = absurd shown.1
-below_last (q ∷ q2 ∷ placed) (r ∷ r2 ∷ rows) row p shown ascend some is =
-    let last : length (r ∷ r2 ∷ rows) - 1 ≡ suc (length (r2 ∷ rows) - 1) = omega arith in
-    let rest = below_last (q2 ∷ placed) (r2 ∷ rows) row p shown.1 ascend.1 (some ∙ ap (slice_get (r ∷ r2 ∷ rows)) last) is in
-    let above : q.0 < q2.0 = ascend.0.0 in
-    let low : q2.0 < p + 1 = rest.0 in
-    (omega (arith, above, low), rest)
 
 -- ---- the places of a name
 
@@ -146,10 +112,6 @@ there_if_numbered (Some m) number some = (m, refl, same)
   where
     same : dbc_number m.message.ident ≡ number
     same = cc
-
-pub none_if_not_numbered : (found : Option LiveMessage) → None ≡ option_map (λ (m : LiveMessage). dbc_number m.message.ident) found → found ≡ None
-none_if_not_numbered None none = refl
-none_if_not_numbered (Some m) none = absurd (cc)
 
 pub taken_out : (name : List ℕ) (path : SignalPath) (live : List LiveMessage) (m : LiveMessage) (t t2 : Tables) → live_named live path.message ≡ Some m
     → IsGone name (dbc_number m.message.ident) path.signal t t2 → IsTakenOut name path live t t2

@@ -1,17 +1,15 @@
 //! The rows of each kind of change: one function for each that the tables have a row for.
-ghost use Rattle.std.specs.Prelude.{◌≡◌, false, Option, Some, OnOk};
+ghost use Rattle.std.specs.Prelude.{◌≡◌, false, Option, Some};
 ghost use Rattle.sqlite.specs.Held.{state};
-ghost use Rattle.sqlite.specs.State.{HasCleanDisk};
 ghost use Rattle.office_types.specs.Block.{is_spn};
 ghost use Rattle.office_types.specs.declared.change.Change.TheVariants.{SetHead, SetBlock, SetSpnBlock, Hold};
 ghost use Rattle.office_types.specs.declared.change.Change.TheVariants.{EnterSpn, SetApproval, ClearApprovals};
 ghost use Rattle.office_types.specs.declared.change.Change.TheVariants.{AddRelease};
 ghost use Rattle.office_types.specs.declared.state.Net.{Net as Network};
-ghost use Rattle.office_tables.specs.Tables.{IsOffice};
 ghost use Rattle.store_rows.specs.Rows.{next_release, submitter_text};
 ghost use Rattle.store_rows.specs.Written.{IsWritten};
-ghost use Rattle.store_net.specs.Writing.{IsInside};
-ghost use Rattle.office_rows.specs.Statement.{AddsNoCommit, LeavesNothing, Writes};
+ghost use Rattle.store_net.specs.Writing.{EndsInOffice};
+ghost use Rattle.office_tables.specs.Statements.{AddsNoCommit, LeavesNothing, Writes};
 
 use crate::release_sheet::release_sheet;
 use crate::setting::{set_approval, set_block, set_held, set_net, set_spn};
@@ -44,8 +42,7 @@ pub(crate) fn write_head<S: Alter>(
     ensures same_reference { tx.new.conn.ghost_name ≡ tx.old.conn.ghost_name }
     ensures written { Writes result (state S.Store tx.old.conn.now) (state S.Store tx.new.conn.now)
         (λ before after. (net : Option Network) → IsWritten name.now (SetHead head.now) net before after) }
-    ensures inside { HasCleanDisk (state S.Store tx.new.conn.now) → IsOffice (state S.Store tx.old.conn.now).now
-        → OnOk result (IsInside (state S.Store tx.new.conn.now)) }
+    ensures inside { EndsInOffice result (state S.Store tx.old.conn.now) (state S.Store tx.new.conn.now) }
     ensures kept { AddsNoCommit (state S.Store tx.old.conn.now) (state S.Store tx.new.conn.now) }
     ensures survives { LeavesNothing (state S.Store tx.old.conn.now) (state S.Store tx.new.conn.now) }
 {
@@ -71,8 +68,7 @@ pub(crate) fn write_block<S: Alter>(
     ensures written { Writes result (state S.Store tx.old.conn.now) (state S.Store tx.new.conn.now)
         (λ before after. (net : Option Network) → is_spn granted.now.block.form ≡ false
         → IsWritten name.now (SetBlock granted.now) net before after) }
-    ensures inside { HasCleanDisk (state S.Store tx.new.conn.now) → IsOffice (state S.Store tx.old.conn.now).now
-        → OnOk result (IsInside (state S.Store tx.new.conn.now)) }
+    ensures inside { EndsInOffice result (state S.Store tx.old.conn.now) (state S.Store tx.new.conn.now) }
     ensures kept { AddsNoCommit (state S.Store tx.old.conn.now) (state S.Store tx.new.conn.now) }
     ensures survives { LeavesNothing (state S.Store tx.old.conn.now) (state S.Store tx.new.conn.now) }
 {
@@ -96,8 +92,7 @@ pub(crate) fn write_spn_block<S: Alter>(
     ensures same_reference { tx.new.conn.ghost_name ≡ tx.old.conn.ghost_name }
     ensures written { Writes result (state S.Store tx.old.conn.now) (state S.Store tx.new.conn.now)
         (λ before after. (net : Option Network) → IsWritten name.now (SetSpnBlock block.now) net before after) }
-    ensures inside { HasCleanDisk (state S.Store tx.new.conn.now) → IsOffice (state S.Store tx.old.conn.now).now
-        → OnOk result (IsInside (state S.Store tx.new.conn.now)) }
+    ensures inside { EndsInOffice result (state S.Store tx.old.conn.now) (state S.Store tx.new.conn.now) }
     ensures kept { AddsNoCommit (state S.Store tx.old.conn.now) (state S.Store tx.new.conn.now) }
     ensures survives { LeavesNothing (state S.Store tx.old.conn.now) (state S.Store tx.new.conn.now) }
 {
@@ -120,8 +115,7 @@ pub(crate) fn write_held<S: Alter>(
     ensures same_reference { tx.new.conn.ghost_name ≡ tx.old.conn.ghost_name }
     ensures written { Writes result (state S.Store tx.old.conn.now) (state S.Store tx.new.conn.now)
         (λ before after. (net : Option Network) → IsWritten name.now (Hold ident) net before after) }
-    ensures inside { HasCleanDisk (state S.Store tx.new.conn.now) → IsOffice (state S.Store tx.old.conn.now).now
-        → OnOk result (IsInside (state S.Store tx.new.conn.now)) }
+    ensures inside { EndsInOffice result (state S.Store tx.old.conn.now) (state S.Store tx.new.conn.now) }
     ensures kept { AddsNoCommit (state S.Store tx.old.conn.now) (state S.Store tx.new.conn.now) }
     ensures survives { LeavesNothing (state S.Store tx.old.conn.now) (state S.Store tx.new.conn.now) }
 {
@@ -138,8 +132,7 @@ pub(crate) fn write_spn<S: Alter>(
     ensures same_reference { tx.new.conn.ghost_name ≡ tx.old.conn.ghost_name }
     ensures written { Writes result (state S.Store tx.old.conn.now) (state S.Store tx.new.conn.now)
         (λ before after. (net : Option Network) → IsWritten name.now (EnterSpn spn) net before after) }
-    ensures inside { HasCleanDisk (state S.Store tx.new.conn.now) → IsOffice (state S.Store tx.old.conn.now).now
-        → OnOk result (IsInside (state S.Store tx.new.conn.now)) }
+    ensures inside { EndsInOffice result (state S.Store tx.old.conn.now) (state S.Store tx.new.conn.now) }
     ensures kept { AddsNoCommit (state S.Store tx.old.conn.now) (state S.Store tx.new.conn.now) }
     ensures survives { LeavesNothing (state S.Store tx.old.conn.now) (state S.Store tx.new.conn.now) }
 {
@@ -155,8 +148,7 @@ pub(crate) fn write_approval<S: Alter>(
     ensures same_reference { tx.new.conn.ghost_name ≡ tx.old.conn.ghost_name }
     ensures written { Writes result (state S.Store tx.old.conn.now) (state S.Store tx.new.conn.now)
         (λ before after. (net : Option Network) → IsWritten name.now (SetApproval team.now) net before after) }
-    ensures inside { HasCleanDisk (state S.Store tx.new.conn.now) → IsOffice (state S.Store tx.old.conn.now).now
-        → OnOk result (IsInside (state S.Store tx.new.conn.now)) }
+    ensures inside { EndsInOffice result (state S.Store tx.old.conn.now) (state S.Store tx.new.conn.now) }
     ensures kept { AddsNoCommit (state S.Store tx.old.conn.now) (state S.Store tx.new.conn.now) }
     ensures survives { LeavesNothing (state S.Store tx.old.conn.now) (state S.Store tx.new.conn.now) }
 {
@@ -171,8 +163,7 @@ pub(crate) fn clear_approvals<S: Alter>(
     ensures same_reference { tx.new.conn.ghost_name ≡ tx.old.conn.ghost_name }
     ensures written { Writes result (state S.Store tx.old.conn.now) (state S.Store tx.new.conn.now)
         (λ before after. (net : Option Network) → IsWritten name.now ClearApprovals net before after) }
-    ensures inside { HasCleanDisk (state S.Store tx.new.conn.now) → IsOffice (state S.Store tx.old.conn.now).now
-        → OnOk result (IsInside (state S.Store tx.new.conn.now)) }
+    ensures inside { EndsInOffice result (state S.Store tx.old.conn.now) (state S.Store tx.new.conn.now) }
     ensures kept { AddsNoCommit (state S.Store tx.old.conn.now) (state S.Store tx.new.conn.now) }
     ensures survives { LeavesNothing (state S.Store tx.old.conn.now) (state S.Store tx.new.conn.now) }
 {
@@ -193,8 +184,7 @@ pub(crate) fn write_release<S: Alter>(
     ensures written { Writes result (state S.Store tx.old.conn.now) (state S.Store tx.new.conn.now)
         (λ before after. (net : Network) → number ≡ next_release net
         → IsWritten name.now (AddRelease release.now) (Some net) before after) }
-    ensures inside { HasCleanDisk (state S.Store tx.new.conn.now) → IsOffice (state S.Store tx.old.conn.now).now
-        → OnOk result (IsInside (state S.Store tx.new.conn.now)) }
+    ensures inside { EndsInOffice result (state S.Store tx.old.conn.now) (state S.Store tx.new.conn.now) }
     ensures kept { AddsNoCommit (state S.Store tx.old.conn.now) (state S.Store tx.new.conn.now) }
     ensures survives { LeavesNothing (state S.Store tx.old.conn.now) (state S.Store tx.new.conn.now) }
 {

@@ -5,7 +5,7 @@ ghost use Rattle.office_types.specs.declared.state.Net.{Net as Network};
 ghost use Rattle.sqlite.specs.Held.{state};
 ghost use Rattle.store_rows.specs.NetIn.{IsNetAt};
 ghost use Rattle.store_net.specs.Excerpts.{HasHeadAndBlocks, IsReadIn, IsRetireExcerpt, MatchBoth, ShowsExcerpt};
-ghost use Rattle.office_rows.specs.Statement.{ChangesNothing, CommitsNothing, Finds, LeavesNothing};
+ghost use Rattle.office_tables.specs.Statements.{ChangesNothing, CommitsNothing, Finds, LeavesNothing};
 
 use crate::message::message_at;
 use crate::parts::{blocks_of, head_of};

@@ -7,7 +7,7 @@ ghost use Rattle.office_types.specs.declared.state.LiveMessage.{LiveMessage as L
 ghost use Rattle.sqlite.specs.Held.{state};
 ghost use Rattle.sqlite_sql.specs.Aggregate.{count};
 ghost use Rattle.store_rows.specs.Live.{AreLiveRows, live_rows};
-ghost use Rattle.office_rows.specs.Statement.{ChangesNothing, CommitsNothing, Finds, LeavesNothing};
+ghost use Rattle.office_tables.specs.Statements.{ChangesNothing, CommitsNothing, Finds, LeavesNothing};
 
 use catalogue::{MESSAGE_LIMIT, Name};
 use office_rows::{count_msgs, select_msg_above, select_msg_below, select_msg_named};

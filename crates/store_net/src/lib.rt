@@ -9,9 +9,9 @@
 //! [`names_of`] gives their names. [`live_of`] reads live messages that are bodies, the form of profile 1.
 //!
 //! A command on one message reads that message alone ([`message_excerpt_at`]). One that gives out a number reads no
-//! message: of the identifiers of live messages [`ident_excerpt_at`] reads those in the team's blocks, and
-//! [`group_excerpt_at`] those of 29 bits (`heads`, `ranges`). `IsExcerptOf` of `office_facts` says what is decided by
-//! such an excerpt as by the network.
+//! message: of the identifiers of live messages and the held ones [`ident_excerpt_at`] reads those in the team's
+//! blocks, and [`group_excerpt_at`] those of 29 bits (`heads`, `ranges`). `IsExcerptOf` of `office_facts` says what is
+//! decided by such an excerpt as by the network.
 //!
 //! Writing: [`write_changes`] writes the rows of a list of changes (`writing`, `change_rows`, `setting`): each removes
 //! the rows of its key and adds its own, so that the tables follow what the changes do at the network and in the book.
@@ -57,7 +57,6 @@ pub use message_rows::{remove_message, write_message, write_receivers, write_val
 pub use nets::{names_of, nets_text};
 pub use number_excerpt::{group_excerpt_at, ident_excerpt_at};
 pub use parts::live_of;
-pub use ranges::live_idents_at;
 pub use reading::{book_of, counted_net_at, net_at, unreleased_net_at};
 pub use release::release_text;
 pub use replies::{answer_at, keep_reply};

@@ -10,7 +10,7 @@ ghost use Rattle.office_types.specs.declared.state.Net.{Net as Network};
 ghost use Rattle.sqlite.specs.Held.{state};
 ghost use Rattle.store_rows.specs.NetIn.{IsNetAt};
 ghost use Rattle.store_net.specs.Texts.{live_chart, live_table, live_text};
-ghost use Rattle.office_rows.specs.Statement.{ChangesNothing, CommitsNothing, Finds, LeavesNothing};
+ghost use Rattle.office_tables.specs.Statements.{ChangesNothing, CommitsNothing, Finds, LeavesNothing};
 
 use crate::live_list::{bare_messages, live_messages};
 use crate::message::message_at;

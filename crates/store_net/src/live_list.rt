@@ -11,7 +11,7 @@ ghost use Rattle.store_rows.specs.Live.{AreLiveRows, AreSignalsOf, live_rows};
 ghost use Rattle.store_rows.specs.SignalShowing.{ShowsLive};
 ghost use Rattle.store_net.specs.Detail.{live_in};
 ghost use Rattle.store_net.specs.declared.detail.Detail.TheVariants as read;
-ghost use Rattle.office_rows.specs.Statement.{ChangesNothing, CommitsNothing, Finds, LeavesNothing, StaysSame};
+ghost use Rattle.office_tables.specs.Statements.{ChangesNothing, CommitsNothing, Finds, LeavesNothing, StaysSame};
 
 use crate::detail::Detail;
 use crate::message::signals_for;

@@ -6,7 +6,7 @@ ghost use Rattle.office_types.specs.declared.state.LiveMessage.{LiveMessage as L
 ghost use Rattle.sqlite.specs.Held.{state};
 ghost use Rattle.store_rows.specs.Live.{AreLiveRows, AreSignalsOf, live_rows};
 ghost use Rattle.store_net.specs.Detail.{bare_signal, signals_in};
-ghost use Rattle.office_rows.specs.Statement.{ChangesNothing, CommitsNothing, Finds, LeavesNothing};
+ghost use Rattle.office_tables.specs.Statements.{ChangesNothing, CommitsNothing, Finds, LeavesNothing};
 
 use crate::detail::Detail;
 use catalogue::{Name, Signals};

@@ -1,18 +1,16 @@
 //! The rows of a live message, written and removed.
-ghost use Rattle.std.specs.Prelude.{◌≡◌, ◌≢◌, ◌++◌, ◌∷◌, [], IfOk, IfSome, IsTrue, OnOk};
+ghost use Rattle.std.specs.Prelude.{◌≡◌, ◌≢◌, ◌++◌, ◌∷◌, [], IfOk, IfSome, OnOk};
 ghost use Rattle.std.specs.List.{AllByRecursion};
 ghost use Rattle.can_id.specs.Ident.{IsIdentifier, dbc_number};
 ghost use Rattle.catalogue.specs.declared.value_texts.ValueText.{ValueText as Entry};
 ghost use Rattle.decimal.specs.Number.{IsDecimal};
 ghost use Rattle.decimal.specs.Printing.{text_of};
-ghost use Rattle.office_tables.specs.Tables.{IsOffice};
 ghost use Rattle.sqlite.specs.Held.{state};
-ghost use Rattle.sqlite.specs.State.{HasCleanDisk};
 ghost use Rattle.store_rows.specs.Live.{HasDecimals, flag_number, motorola_number, mux_column, sender_text, sig_values};
 ghost use Rattle.store_rows.specs.LiveWritten.{IsLive, IsSignal, placed_from, receiver_rows, value_rows, with_live};
 ghost use Rattle.store_rows.specs.LiveWritten.{with_msg, with_signal, with_signals, without_live};
-ghost use Rattle.office_rows.specs.Statement.{AddsNoCommit, LeavesNothing, MakesTables, StaysInside, StaysOffice};
-ghost use Rattle.office_rows.specs.Statement.{Writes};
+ghost use Rattle.office_tables.specs.Statements.{AddsNoCommit, EndsInside, LeavesNothing, MakesTables, StaysInside};
+ghost use Rattle.office_tables.specs.Statements.{StaysOffice, Writes};
 
 use crate::writing::number_above;
 use bitlayout::{Mux, Order};
@@ -190,8 +188,7 @@ pub(crate) fn write_signal<S: Alter>(
     ensures written { Writes result (state S.Store tx.old.conn.now) (state S.Store tx.new.conn.now)
         (λ before after. after ≡ with_signal net.now number place signal.now before) }
     ensures office { StaysOffice result (state S.Store tx.old.conn.now) (state S.Store tx.new.conn.now) }
-    ensures inside { HasCleanDisk (state S.Store tx.new.conn.now) → IsOffice (state S.Store tx.old.conn.now).now
-        → OnOk result (IsTrue (state S.Store tx.new.conn.now).in_transaction) }
+    ensures inside { EndsInside result (state S.Store tx.old.conn.now) (state S.Store tx.new.conn.now) }
     ensures kept { AddsNoCommit (state S.Store tx.old.conn.now) (state S.Store tx.new.conn.now) }
     ensures survives { LeavesNothing (state S.Store tx.old.conn.now) (state S.Store tx.new.conn.now) }
 {
@@ -311,8 +308,7 @@ pub fn write_message<S: Alter>(
     ensures written { Writes result (state S.Store tx.old.conn.now) (state S.Store tx.new.conn.now)
         (λ before after. after ≡ with_live name.now live.now before) }
     ensures office { StaysOffice result (state S.Store tx.old.conn.now) (state S.Store tx.new.conn.now) }
-    ensures inside { HasCleanDisk (state S.Store tx.new.conn.now) → IsOffice (state S.Store tx.old.conn.now).now
-        → OnOk result (IsTrue (state S.Store tx.new.conn.now).in_transaction) }
+    ensures inside { EndsInside result (state S.Store tx.old.conn.now) (state S.Store tx.new.conn.now) }
     ensures kept { AddsNoCommit (state S.Store tx.old.conn.now) (state S.Store tx.new.conn.now) }
     ensures survives { LeavesNothing (state S.Store tx.old.conn.now) (state S.Store tx.new.conn.now) }
 {

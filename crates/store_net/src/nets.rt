@@ -7,7 +7,7 @@ ghost use Rattle.views.specs.NetList.{net_line, nets_text};
 ghost use Rattle.store_rows.specs.Listed.{AreShown};
 ghost use Rattle.store_rows.specs.NetIn.{IsNetAt};
 ghost use Rattle.store_net.specs.Nets.{AreKnownNets, AreNets, IsNamed};
-ghost use Rattle.office_rows.specs.Statement.{ChangesNothing, CommitsNothing, Finds, LeavesNothing, StaysSame};
+ghost use Rattle.office_tables.specs.Statements.{ChangesNothing, CommitsNothing, Finds, LeavesNothing, StaysSame};
 
 use crate::parts::head_of;
 use office_rows::{select_net_names, select_release_numbers};

@@ -1,23 +1,23 @@
-//! What a command that gives out a number reads of its network: its row, its blocks, the held identifiers, and of the
-//! live messages whether one has a name, whether there are as many as there may be, and which identifiers they have
-//! that could be given out. No message is read.
+//! What a command that gives out a number reads of its network: its row, its blocks, of the live messages whether one
+//! has a name and whether there are as many as there may be, and which identifiers live messages have or are held:
+//! those in the team's blocks, or all of 29 bits. No message is read.
 ghost use Rattle.std.specs.Prelude.{◌≡◌, ◌++◌, ℕ, List, Option, IfOk};
-ghost use Rattle.std.specs.List.{filter_map, list_any};
+ghost use Rattle.std.specs.List.{filter_map};
 ghost use Rattle.office_facts.specs.Excerpt.{IsExcerptOf};
-ghost use Rattle.office_rules.specs.Facts.{group_of, is_wanted, number_in, same_ident};
+ghost use Rattle.office_rules.specs.Facts.{group_of, number_in};
 ghost use Rattle.office_types.specs.declared.command.Action.TheVariants as act;
 ghost use Rattle.office_types.specs.declared.command.Task.TheVariants.{Act};
 ghost use Rattle.office_types.specs.declared.state.Net.{Net as Network};
 ghost use Rattle.sqlite.specs.Held.{state};
 ghost use Rattle.store_net.specs.Excerpts.{HasNameAndRoom, IsReadIn, MatchBoth};
-ghost use Rattle.office_rows.specs.Statement.{ChangesNothing, CommitsNothing, Finds, LeavesNothing};
+ghost use Rattle.office_tables.specs.Statements.{ChangesNothing, CommitsNothing, Finds, LeavesNothing};
 
 use crate::heads::{is_full_at, is_named_at};
-use crate::parts::{blocks_of, head_of, held_of};
-use crate::ranges::{live_idents_at, live_inside_at, want_live_at};
+use crate::parts::{blocks_of, head_of};
+use crate::ranges::{TakenTable, idents_at, idents_inside_at, want_taken_at};
 use can_id::{EXTENDED_FLAG, GREATEST_EXTENDED, Ident, IdentForm};
 use catalogue::{Items, Name};
-use office_facts::{Excerpt, blocks_of as team_blocks, group_of, has_ident, number_in};
+use office_facts::{Excerpt, blocks_of as team_blocks, group_of, number_in};
 use office_types::{BlockForm, NetName, TakeIdent, TakePgn, Team};
 use sqlite::{Alter, Error, Transaction};
 use std::alloc::{AllocError, Global};
@@ -57,16 +57,6 @@ fn named_excerpt_at<S: Alter>(
     }))
 }
 
-/// Whether the wanted identifier is among the held ones.
-fn want_is_held(held: &[Ident], form: IdentForm, want: Option<u32>) -> bool
-    ensures { result ≡ is_wanted (λ i. list_any (λ h. same_ident h i) held.now) form want }
-{
-    match want {
-        None => false,
-        Some(number) => has_ident(held, form, number),
-    }
-}
-
 /// The numbers of the live and the held identifiers that have the form.
 fn numbers_of(
     alloc: Global,
@@ -92,9 +82,9 @@ fn groups_of(alloc: Global, live: &[Ident], held: &[Ident]) -> Result<Vec<u32>, 
         .collect(alloc)
 }
 
-/// The excerpt of the network for the team's `take_ident`, `None` where the network isn't there. Of the live
-/// identifiers it reads those in the team's blocks of the form, and the wanted one. An error is out of memory, what
-/// `sqlite` answers, or `InvalidQuery` where the rows are no network's.
+/// The excerpt of the network for the team's `take_ident`, `None` where the network isn't there. Of the live and the
+/// held identifiers it reads those in the team's blocks of the form, and the wanted one. An error is out of memory,
+/// what `sqlite` answers, or `InvalidQuery` where the rows are no network's.
 pub fn ident_excerpt_at<S: Alter>(
     alloc: Global,
     tx: &mut Transaction<'_, S>,
@@ -120,18 +110,19 @@ pub fn ident_excerpt_at<S: Alter>(
         team,
         BlockForm::of_identifiers(form),
     )?;
-    let live = live_inside_at(alloc, tx, name, form, &own)?;
-    let held = held_of(alloc, tx, name)?;
-    let want_live = want_live_at(alloc, tx, name, form, take.want)?;
-    let numbers = numbers_of(alloc, form, &live, held.as_slice())?;
+    let live = idents_inside_at(alloc, tx, name, TakenTable::Live, form, &own)?;
+    let held = idents_inside_at(alloc, tx, name, TakenTable::Held, form, &own)?;
+    let want_live = want_taken_at(alloc, tx, name, TakenTable::Live, form, take.want)?;
+    let want_held = want_taken_at(alloc, tx, name, TakenTable::Held, form, take.want)?;
+    let numbers = numbers_of(alloc, form, &live, &held)?;
     excerpt.want_live = want_live;
-    excerpt.want_held = want_is_held(held.as_slice(), form, take.want);
+    excerpt.want_held = want_held;
     excerpt.taken = Items::from_vec(numbers);
     Ok(Some(excerpt))
 }
 
-/// The excerpt of the network for a `take_pgn`, of whatever team; `None` where the network isn't there. Of the live
-/// identifiers it reads all of 29 bits. The errors are those of [`ident_excerpt_at`].
+/// The excerpt of the network for a `take_pgn`, of whatever team; `None` where the network isn't there. Of the live and
+/// the held identifiers it reads all of 29 bits. The errors are those of [`ident_excerpt_at`].
 pub fn group_excerpt_at<S: Alter>(
     alloc: Global,
     tx: &mut Transaction<'_, S>,
@@ -149,14 +140,9 @@ pub fn group_excerpt_at<S: Alter>(
     let Some(mut excerpt) = named_excerpt_at(alloc, tx, name, &take.message.name)? else {
         return Ok(None);
     };
-    let live = live_idents_at(
-        alloc,
-        tx,
-        name,
-        EXTENDED_FLAG,
-        EXTENDED_FLAG + GREATEST_EXTENDED,
-    )?;
-    let held = held_of(alloc, tx, name)?;
+    let last = EXTENDED_FLAG + GREATEST_EXTENDED;
+    let live = idents_at(alloc, tx, name, TakenTable::Live, EXTENDED_FLAG, last)?;
+    let held = idents_at(alloc, tx, name, TakenTable::Held, EXTENDED_FLAG, last)?;
     let groups = groups_of(alloc, live.as_slice(), held.as_slice())?;
     excerpt.taken = Items::from_vec(groups);
     Ok(Some(excerpt))

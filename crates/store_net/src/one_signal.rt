@@ -1,27 +1,26 @@
 //! The rows of one signal of a live message, added and removed: no row of another signal is written.
-ghost use Rattle.std.specs.Prelude.{[], ◌∷◌, ◌≡◌, ◌<◌, ℕ, List, IfOk, IsTrue, OnOk};
-ghost use Rattle.std.specs.List.{AllByRecursion};
+ghost use Rattle.std.specs.Prelude.{[], ◌∷◌, ◌≡◌, ℕ, List, IfOk};
 ghost use Rattle.std.specs.Option.{option_map};
 ghost use Rattle.can_id.specs.Ident.{dbc_number};
-ghost use Rattle.catalogue.specs.declared.signal.Signal.{Signal as Other};
 ghost use Rattle.office_rules.specs.Facts.{live_named};
-ghost use Rattle.office_tables.specs.Tables.{IsOffice};
+ghost use Rattle.office_rows.specs.Rows.{has_net_and_number};
+ghost use Rattle.office_rows.specs.Shown.{last_place_order, last_place_shown};
+ghost use Rattle.office_tables.specs.Selected.{IsFirstSelected};
+ghost use Rattle.office_tables.specs.Tables.{Tables};
 ghost use Rattle.office_types.specs.declared.state.LiveMessage.{LiveMessage as Live};
 ghost use Rattle.sqlite.specs.Held.{state};
-ghost use Rattle.sqlite.specs.State.{HasCleanDisk};
-ghost use Rattle.store_rows.specs.Listed.{AreShown};
 ghost use Rattle.store_rows.specs.Live.{AreLiveRows, live_rows};
-ghost use Rattle.store_rows.specs.LiveWritten.{IsAdded, IsTakenOut, without_place, without_places};
-ghost use Rattle.store_rows.specs.SignalShowing.{PlacesAscend, ShowsPlaced};
+ghost use Rattle.store_rows.specs.LiveWritten.{IsAdded, IsAfter, IsTakenOut, without_place, without_places};
 ghost use Rattle.store_net.specs.Places.{places_named};
-ghost use Rattle.office_rows.specs.Statement.{AddsNoCommit, ChangesNothing, CommitsNothing, Finds, LeavesNothing};
-ghost use Rattle.office_rows.specs.Statement.{MakesTables, StaysInside, StaysOffice, Writes};
+ghost use Rattle.office_tables.specs.Statements.{AddsNoCommit, ChangesNothing, CommitsNothing, EndsInside, Finds};
+ghost use Rattle.office_tables.specs.Statements.{LeavesNothing, MakesTables, StaysInside, StaysOffice, Writes};
 
 use crate::message_rows::write_signal;
 use crate::writing::number_above;
 use catalogue::{Name, Signal};
 use office_rows::{
-    delete_receivers_at, delete_sig_at, delete_sigvalues_at, select_msg_named, select_sigs,
+    delete_receivers_at, delete_sig_at, delete_sigvalues_at, select_last_place, select_msg_named,
+    select_sigs,
 };
 use office_types::{NetName, SignalPath};
 use sqlite::{Alter, Error, Row, Transaction};
@@ -49,12 +48,14 @@ fn number_named<S: Alter>(
     }
 }
 
-/// The place after those of the signals that the rows show.
+/// The place after the last one, which the rows show, and 0 where they show none. An error where there is no place
+/// after it, or the row shows no number.
 fn place_after(rows: &[Row]) -> Result<u32, Error>
-    ensures { IfOk result (λ place. (placed : List (ℕ × Other)) → AreShown ShowsPlaced placed rows.now
-        → PlacesAscend placed → AllByRecursion (λ (q : ℕ × Other). q.0 < place) placed) }
+    ensures { IfOk result (λ place. (net : List ℕ) (number : ℕ) (t : Tables)
+        → IsFirstSelected (has_net_and_number net number) last_place_shown last_place_order t.sig rows.now
+        → IsAfter net number t place) }
 {
-    match rows.last() {
+    match rows.first() {
         None => Ok(0),
         Some(row) => number_above(number_at(row, 0)?),
     }
@@ -73,8 +74,7 @@ pub(crate) fn add_signal<S: Alter>(
         (λ before after. (live : List Live) → AreLiveRows name.now (live_rows name.now before) live
         → IsAdded name.now message.now signal.now live before after) }
     ensures office { StaysOffice result (state S.Store tx.old.conn.now) (state S.Store tx.new.conn.now) }
-    ensures inside { HasCleanDisk (state S.Store tx.new.conn.now) → IsOffice (state S.Store tx.old.conn.now).now
-        → OnOk result (IsTrue (state S.Store tx.new.conn.now).in_transaction) }
+    ensures inside { EndsInside result (state S.Store tx.old.conn.now) (state S.Store tx.new.conn.now) }
     ensures kept { CommitsNothing (state S.Store tx.old.conn.now) (state S.Store tx.new.conn.now) }
     ensures survives { LeavesNothing (state S.Store tx.old.conn.now) (state S.Store tx.new.conn.now) }
 {
@@ -82,7 +82,7 @@ pub(crate) fn add_signal<S: Alter>(
     let Some(number) = number_named(tx, name, message)? else {
         return Err(Error::InvalidQuery);
     };
-    let rows = select_sigs(tx, net, number)?;
+    let rows = select_last_place(tx, net, number)?;
     let place = place_after(&rows)?;
     write_signal(alloc, tx, net, number, place, signal)
 }

@@ -9,7 +9,7 @@ ghost use Rattle.office_types.specs.declared.state.LiveMessage.{LiveMessage as L
 ghost use Rattle.sqlite.specs.Held.{state};
 ghost use Rattle.store_net.specs.Parts.{HasApprovals, HasBlocks, HasHead, HasHeld, HasLive, HasReleases};
 ghost use Rattle.store_net.specs.Parts.{HasSpnBlocks, HasUsed};
-ghost use Rattle.office_rows.specs.Statement.{ChangesNothing, CommitsNothing, Finds, LeavesNothing};
+ghost use Rattle.office_tables.specs.Statements.{ChangesNothing, CommitsNothing, Finds, LeavesNothing};
 
 use can_id::Ident;
 use catalogue::Items;

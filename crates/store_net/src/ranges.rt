@@ -1,41 +1,74 @@
-//! Identifiers of live messages within ranges of numbers: no message is read.
-ghost use Rattle.std.specs.Prelude.{◌≡◌, List};
-ghost use Rattle.office_rules.specs.Facts.{has_ident, is_wanted};
-ghost use Rattle.office_types.specs.declared.state.LiveMessage.{LiveMessage as Live};
+//! Identifiers of a network that are taken, within ranges of numbers: no message is read.
+ghost use Rattle.std.specs.Prelude.{◌≡◌, List, Some};
+ghost use Rattle.can_id.specs.declared.ident.Ident.{Ident as Identifier};
+ghost use Rattle.office_rules.specs.Facts.{is_wanted, same_ident};
 ghost use Rattle.sqlite.specs.Held.{state};
 ghost use Rattle.std.specs.List.{list_any};
-ghost use Rattle.store_net.specs.Numbers.{dbc_of, idents_between, idents_inside};
-ghost use Rattle.store_rows.specs.Live.{AreLiveRows, live_rows};
-ghost use Rattle.office_rows.specs.Statement.{ChangesNothing, CommitsNothing, Finds, LeavesNothing, StaysSame};
+ghost use Rattle.store_net.specs.Numbers.{HasTaken, dbc_of, idents_between, idents_inside};
+ghost use Rattle.store_rows.specs.Listed.{AreShown};
+ghost use Rattle.store_rows.specs.Showing.{ShowsIdent};
+ghost use Rattle.office_tables.specs.Statements.{ChangesNothing, CommitsNothing, Finds, LeavesNothing, StaysSame};
 
 use can_id::{EXTENDED_FLAG, Ident, IdentForm};
 use catalogue::Items;
 use office_facts::has_ident;
-use office_rows::select_msg_numbers;
+use office_rows::{select_held_numbers, select_msg_numbers};
 use office_types::{Block, NetName};
-use sqlite::{Alter, Error, Transaction};
+use sqlite::{Alter, Error, Row, Transaction};
 use std::alloc::Global;
 use store_rows::items_of;
 
-/// The identifiers of the network's live messages whose DBC numbers are from the first to the last, in ascending order
-/// of these numbers. An error is out of memory, what `sqlite` answers, or `InvalidQuery` where a row has no
+/// A table of identifiers that a network doesn't give out.
+#[derive(Clone, Copy, Debug, PartialEq, Eq)]
+pub(crate) enum TakenTable {
+    /// `msg`: those of its live messages.
+    Live,
+    /// `held`: those that are held for good.
+    Held,
+}
+
+/// The rows of the network's identifiers in the table whose DBC numbers are from the first to the last, ascending.
+fn numbers_between<S: Alter>(
+    tx: &mut Transaction<'_, S>,
+    name: &NetName,
+    table: TakenTable,
+    first: u32,
+    last: u32,
+) -> Result<Vec<Row>, Error>
+    ensures same_reference { tx.new.conn.ghost_name ≡ tx.old.conn.ghost_name }
+    ensures found { Finds result (state S.Store tx.old.conn.now) (state S.Store tx.new.conn.now)
+        (λ rows t. (idents : List Identifier) → HasTaken table name.now t idents
+        → AreShown ShowsIdent (idents_between first last idents) rows.items) }
+    ensures same { ChangesNothing result (state S.Store tx.old.conn.now) (state S.Store tx.new.conn.now) }
+    ensures kept { CommitsNothing (state S.Store tx.old.conn.now) (state S.Store tx.new.conn.now) }
+    ensures survives { LeavesNothing (state S.Store tx.old.conn.now) (state S.Store tx.new.conn.now) }
+{
+    match table {
+        TakenTable::Live => select_msg_numbers(tx, name.as_bytes(), first, last),
+        TakenTable::Held => select_held_numbers(tx, name.as_bytes(), first, last),
+    }
+}
+
+/// The identifiers that the network has in the table whose DBC numbers are from the first to the last, in ascending
+/// order of these numbers. An error is out of memory, what `sqlite` answers, or `InvalidQuery` where a row has no
 /// identifier's number.
-pub fn live_idents_at<S: Alter>(
+pub(crate) fn idents_at<S: Alter>(
     alloc: Global,
     tx: &mut Transaction<'_, S>,
     name: &NetName,
+    table: TakenTable,
     first: u32,
     last: u32,
 ) -> Result<Items<Ident>, Error>
     ensures same_reference { tx.new.conn.ghost_name ≡ tx.old.conn.ghost_name }
     ensures found { Finds result (state S.Store tx.old.conn.now) (state S.Store tx.new.conn.now)
-        (λ found t. (live : List Live) → AreLiveRows name.now (live_rows name.now t) live
-        → found ≡ idents_between first last live) }
+        (λ found t. (idents : List Identifier) → HasTaken table name.now t idents
+        → found ≡ idents_between first last idents) }
     ensures same { ChangesNothing result (state S.Store tx.old.conn.now) (state S.Store tx.new.conn.now) }
     ensures kept { CommitsNothing (state S.Store tx.old.conn.now) (state S.Store tx.new.conn.now) }
     ensures survives { LeavesNothing (state S.Store tx.old.conn.now) (state S.Store tx.new.conn.now) }
 {
-    let rows = select_msg_numbers(tx, name.as_bytes(), first, last)?;
+    let rows = numbers_between(tx, name, table, first, last)?;
     items_of(alloc, &rows)
 }
 
@@ -49,19 +82,20 @@ fn dbc_of(form: IdentForm, number: u32) -> u32
     }
 }
 
-/// The identifiers of the network's live messages in blocks of the form, block by block. The errors are those of
-/// [`live_idents_at`].
-pub(crate) fn live_inside_at<S: Alter>(
+/// The identifiers that the network has in the table in blocks of the form, block by block. The errors are those of
+/// [`idents_at`].
+pub(crate) fn idents_inside_at<S: Alter>(
     alloc: Global,
     tx: &mut Transaction<'_, S>,
     name: &NetName,
+    table: TakenTable,
     form: IdentForm,
     blocks: &[Block],
 ) -> Result<Vec<Ident>, Error>
     ensures same_reference { tx.new.conn.ghost_name ≡ tx.old.conn.ghost_name }
     ensures found { Finds result (state S.Store tx.old.conn.now) (state S.Store tx.new.conn.now)
-        (λ found t. (live : List Live) → AreLiveRows name.now (live_rows name.now t) live
-        → found.items ≡ idents_inside form blocks.now live) }
+        (λ found t. (idents : List Identifier) → HasTaken table name.now t idents
+        → found.items ≡ idents_inside form blocks.now idents) }
     ensures same { StaysSame result (state S.Store tx.old.conn.now) (state S.Store tx.new.conn.now) }
     ensures kept { CommitsNothing (state S.Store tx.old.conn.now) (state S.Store tx.new.conn.now) }
     ensures survives { LeavesNothing (state S.Store tx.old.conn.now) (state S.Store tx.new.conn.now) }
@@ -70,52 +104,55 @@ pub(crate) fn live_inside_at<S: Alter>(
     for block in blocks {
         let first = dbc_of(form, block.first);
         let last = dbc_of(form, block.last);
-        let inside = live_idents_at(alloc, tx, name, first, last)?;
+        let inside = idents_at(alloc, tx, name, table, first, last)?;
         idents.extend_from_slice(inside.as_slice())?;
     }
     Ok(idents)
 }
 
-/// Whether a live message has the identifier of the form and the number. The errors are those of [`live_idents_at`].
-fn is_live_at<S: Alter>(
+/// Whether the network has the identifier of the form and the number in the table. The errors are those of
+/// [`idents_at`].
+fn is_taken_at<S: Alter>(
     alloc: Global,
     tx: &mut Transaction<'_, S>,
     name: &NetName,
+    table: TakenTable,
     form: IdentForm,
     number: u32,
 ) -> Result<bool, Error>
     ensures same_reference { tx.new.conn.ghost_name ≡ tx.old.conn.ghost_name }
     ensures found { Finds result (state S.Store tx.old.conn.now) (state S.Store tx.new.conn.now)
-        (λ found t. (live : List Live) → AreLiveRows name.now (live_rows name.now t) live
-        → found ≡ is_wanted (λ i. list_any (has_ident i) live) form (Some number)) }
+        (λ found t. (idents : List Identifier) → HasTaken table name.now t idents
+        → found ≡ is_wanted (λ i. list_any (λ taken. same_ident taken i) idents) form (Some number)) }
     ensures same { ChangesNothing result (state S.Store tx.old.conn.now) (state S.Store tx.new.conn.now) }
     ensures kept { CommitsNothing (state S.Store tx.old.conn.now) (state S.Store tx.new.conn.now) }
     ensures survives { LeavesNothing (state S.Store tx.old.conn.now) (state S.Store tx.new.conn.now) }
 {
     let number_of_dbc = dbc_of(form, number);
-    let idents = live_idents_at(alloc, tx, name, number_of_dbc, number_of_dbc)?;
+    let idents = idents_at(alloc, tx, name, table, number_of_dbc, number_of_dbc)?;
     Ok(has_ident(idents.as_slice(), form, number))
 }
 
-/// Whether a live message has the wanted identifier; where none is wanted, nothing is read. The errors are those of
-/// [`live_idents_at`].
-pub(crate) fn want_live_at<S: Alter>(
+/// Whether the network has the wanted identifier in the table; where none is wanted, nothing is read. The errors are
+/// those of [`idents_at`].
+pub(crate) fn want_taken_at<S: Alter>(
     alloc: Global,
     tx: &mut Transaction<'_, S>,
     name: &NetName,
+    table: TakenTable,
     form: IdentForm,
     want: Option<u32>,
 ) -> Result<bool, Error>
     ensures same_reference { tx.new.conn.ghost_name ≡ tx.old.conn.ghost_name }
     ensures found { Finds result (state S.Store tx.old.conn.now) (state S.Store tx.new.conn.now)
-        (λ found t. (live : List Live) → AreLiveRows name.now (live_rows name.now t) live
-        → found ≡ is_wanted (λ i. list_any (has_ident i) live) form want) }
+        (λ found t. (idents : List Identifier) → HasTaken table name.now t idents
+        → found ≡ is_wanted (λ i. list_any (λ taken. same_ident taken i) idents) form want) }
     ensures same { StaysSame result (state S.Store tx.old.conn.now) (state S.Store tx.new.conn.now) }
     ensures kept { CommitsNothing (state S.Store tx.old.conn.now) (state S.Store tx.new.conn.now) }
     ensures survives { LeavesNothing (state S.Store tx.old.conn.now) (state S.Store tx.new.conn.now) }
 {
     match want {
         None => Ok(false),
-        Some(number) => is_live_at(alloc, tx, name, form, number),
+        Some(number) => is_taken_at(alloc, tx, name, table, form, number),
     }
 }

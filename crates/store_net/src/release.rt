@@ -11,7 +11,7 @@ ghost use Rattle.sqlite.specs.Held.{state};
 ghost use Rattle.store_rows.specs.NetIn.{IsNetAt};
 ghost use Rattle.office_rules.specs.Facts.{in_last};
 ghost use Rattle.store_net.specs.Texts.{IsTextOf, release_at, release_has, release_text};
-ghost use Rattle.office_rows.specs.Statement.{ChangesNothing, CommitsNothing, Finds, LeavesNothing};
+ghost use Rattle.office_tables.specs.Statements.{ChangesNothing, CommitsNothing, Finds, LeavesNothing};
 
 use crate::nets::release_count;
 use can_id::Ident;

@@ -6,8 +6,8 @@ ghost use Rattle.office_types.specs.Reply.{reply_parts};
 ghost use Rattle.office_types.specs.declared.reply.Reply.{Reply as ReplyModel};
 ghost use Rattle.office_history.specs.History.{Answered, answer_again, first_of};
 ghost use Rattle.store_net.specs.Kept.{AreKept, AreKeptParts, ShowsKept, ShowsReply, answer_parts, kept_row, part_rows};
-ghost use Rattle.office_rows.specs.Statement.{AddsNoCommit, ChangesNothing, CommitsNothing, Finds, LeavesNothing};
-ghost use Rattle.office_rows.specs.Statement.{StaysInside, StaysOffice, Writes};
+ghost use Rattle.office_tables.specs.Statements.{AddsNoCommit, ChangesNothing, CommitsNothing, Finds, LeavesNothing};
+ghost use Rattle.office_tables.specs.Statements.{StaysInside, StaysOffice, Writes};
 
 use crate::writing::number_above;
 use catalogue::Items;

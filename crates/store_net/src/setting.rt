@@ -3,7 +3,7 @@ ghost use Rattle.std.specs.Prelude.{◌≡◌};
 ghost use Rattle.sqlite.specs.Held.{state};
 ghost use Rattle.store_rows.specs.Written.{with_net_row, with_block_row, with_held_row, with_spn_row};
 ghost use Rattle.store_rows.specs.Written.{with_approval_row};
-ghost use Rattle.office_rows.specs.Statement.{AddsNoCommit, LeavesNothing, MakesTables};
+ghost use Rattle.office_tables.specs.Statements.{AddsNoCommit, LeavesNothing, MakesTables};
 
 use office_rows::{
     BlockRow, NetRow, delete_approval, delete_block, delete_held, delete_net, delete_spn,

@@ -1,7 +1,7 @@
 //! Rows of signals, receivers and value texts that no live message of their network has.
 ghost use Rattle.std.specs.Prelude.{◌≡◌};
 ghost use Rattle.sqlite.specs.Held.{state};
-ghost use Rattle.office_rows.specs.Statement.{ChangesNothing, CommitsNothing, LeavesNothing};
+ghost use Rattle.office_tables.specs.Statements.{ChangesNothing, CommitsNothing, LeavesNothing};
 
 use crate::heads::count_shown;
 use office_rows::{count_receivers, count_sigs, count_sigvalues};

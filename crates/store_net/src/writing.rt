@@ -10,7 +10,7 @@ ghost use Rattle.store_rows.specs.Follows.{Follows};
 ghost use Rattle.store_rows.specs.NetIn.{IsNetAt};
 ghost use Rattle.store_rows.specs.Written.{IsWritten};
 ghost use Rattle.store_net.specs.Writing.{IsNext, next_number};
-ghost use Rattle.office_rows.specs.Statement.{CommitsNothing, LeavesNothing, StaysInside, StaysOffice, Writes};
+ghost use Rattle.office_tables.specs.Statements.{CommitsNothing, LeavesNothing, StaysInside, StaysOffice, Writes};
 
 use crate::change_rows::{
     clear_approvals, write_approval, write_block, write_head, write_held, write_release, write_spn,

@@ -9,6 +9,7 @@ mod Examples
 mod Decimals
 pub mod PutTogether
 pub mod LiveRows
+pub mod LastPlace
 pub mod LiveChanges
 pub mod SeatRows
 pub mod LiveSet

@@ -82,7 +82,7 @@ module _ (name : List ℕ) (number : ℕ) where
 
   -- ---- their places ascend
 
-  place_of : (p : ℕ × Signal) (row : Row) → IsSigRow name number p row → column row 2 ≡ Int (pos p.0)
+  pub place_of : (p : ℕ × Signal) (row : Row) → IsSigRow name number p row → column row 2 ≡ Int (pos p.0)
   place_of p row r = ap (λ x. column x 2) r.row_is
 
   above : (p : ℕ × Signal) (row : Row) (placed : List (ℕ × Signal)) (rows : List Row) → column row 2 ≡ Int (pos p.0) → AllByRecursion (λ z. sigs_order row z ≡ Less) rows
@@ -100,7 +100,7 @@ module _ (name : List ℕ) (number : ℕ) where
   ascend (p ∷ placed) [] sorted shown = absurd shown
   ascend (p ∷ placed) (r ∷ rows) sorted shown = (above p r placed rows (place_of p r shown.0) sorted.0 shown.1, ascend placed rows sorted.1 shown.1)
 
-  of_number : (table : List Row) → numbered_rows number (filter (is_of_net name) table) ≡ filter (has_net_and_number name number) table
+  pub of_number : (table : List Row) → numbered_rows number (filter (is_of_net name) table) ≡ filter (has_net_and_number name number) table
   of_number table = both_tests (is_of_net name) (has_number 1 number) table
 
   -- the places ascend, and the query on the signals alone shows each at its place

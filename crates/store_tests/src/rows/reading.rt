@@ -3,9 +3,9 @@ use super::filling::{LONG, LONG_KEY, NETS, SHORT, SHORT_KEY};
 use super::showing::show;
 use super::signals::show_signals;
 use office_rows::{
-    select_approvals, select_blocks, select_blocks_of_form, select_held, select_messages,
-    select_net, select_net_names, select_profile, select_release, select_release_numbers,
-    select_releases, select_reply, select_spns,
+    select_approvals, select_blocks, select_blocks_of_form, select_held, select_held_numbers,
+    select_messages, select_net, select_net_names, select_profile, select_release,
+    select_release_numbers, select_releases, select_reply, select_spns,
 };
 use sqlite::{Alter, Connection, Transaction};
 use std::io;
@@ -33,6 +33,7 @@ fn show_net<S: Alter, R: Runtime>(
     show(rt, "message", select_messages(tx, net))?;
     show(rt, "block", select_blocks(tx, net))?;
     show(rt, "held", select_held(tx, net))?;
+    show(rt, "held number", select_held_numbers(tx, net, 1, 256))?;
     show(rt, "approval", select_approvals(tx, net))
 }
 

@@ -92,9 +92,8 @@ returns-in-Grant c =
     let is : command.task ≡ Act (Grant take) = c.in-Act.is ∙ ap Act c.in-Grant.is in
     IfOk-weaker c.decide_grant_on.result _ _
     (λ d h net other has requested. by_action team command (Grant take) net other d is
-    (subst (λ b. Decides command.net (record { net = Some net; book = b }) (grant team command.net (Some net) b take) d) (sym (requested (ap reads_book is)))
-    (subst (λ (n : Net). Decides command.net (record { net = Some n; book = c.args.book.now }) (grant team command.net (Some n) c.args.book.now take) d)
-    (with_its_parts net c.args.excerpt.now.head _ has.parts.head (c.as_slice-blocks.ensures ∙ has.parts.blocks)) (h net))))
+    (subst (λ (n : Net). Decides command.net (record { net = Some n; book = other }) (grant team command.net (Some n) other take) d)
+    (with_its_parts net c.args.excerpt.now.head _ has.parts.head (c.as_slice-blocks.ensures ∙ has.parts.blocks)) (h net other (λ spn. requested (ap reads_book is ∙ spn)))))
     c.decide_grant_on.ensures
 
 pub returns-in-AddNode : goal.returns-in-AddNode

@@ -1,4 +1,4 @@
-use Rattle.std.proofs.Common.{Option, None, Some, ap, subst, sym}
+use Rattle.std.proofs.Common.{Option, None, Some, refl, ap, subst, sym}
 use Rattle.std.specs.Option.{option_copied}
 use Rattle.std.proofs.lemmas.Result.{IfOk-weaker}
 use Rattle.office_types.specs.declared.refusal.Refusal.TheVariants as no
@@ -29,5 +29,5 @@ returns-in-Some c =
     IfOk-weaker c.decide_grant_on.result _ _
     (λ d h. subst (λ (n : Option Net). Decides name (record { net = n; book = book }) (grant team name n book command) d) (sym (ap option_copied c.in-Some.is))
     (subst (λ blocks. Decides name (record { net = Some (record c.in-Some.net.now { blocks = blocks }); book = book }) (grant team name (Some (record c.in-Some.net.now { blocks = blocks })) book command) d) c.as_slice-blocks.ensures
-    (h c.in-Some.net.now)))
+    (h c.in-Some.net.now book (λ spn. refl))))
     c.decide_grant_on.ensures

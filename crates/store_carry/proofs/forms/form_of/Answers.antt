@@ -1,7 +1,7 @@
 use Rattle.std.proofs.Common.{rules, ◌∙◌, sym, subst}
 use Rattle.std.proofs.lemmas.Bool.{false≢true}
 use Rattle.store_carry.specs.FormSchema.{schema_of}
-use Rattle.store_carry.specs.Outlines.{IsLike}
+use Rattle.office_tables.specs.Outlines.{IsLike}
 use Rattle.store_carry.specs.declared.forms.Form.TheVariants.{All, Bodies, Rows}
 use Rattle.store_carry.proofs.Formed.{all_counted, begun, bodies_counted, counted, like_all, like_bodies, like_rows, none_counted, rows_counted}
 use Rattle.store_carry.proofs.forms.form_of.Goals as goal

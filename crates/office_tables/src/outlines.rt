@@ -1,6 +1,6 @@
-//! What is compared of the tables of a database with those of an office.
+//! What is compared of the tables of a database with those of an office, by which an open knows them.
 ghost use Rattle.std.specs.Prelude.{◌≡◌, ◌↔◌, length, map, take, true};
-ghost use Rattle.store_carry.specs.Outlines.{IsBegun, office_tables, outline_of, outlines_of, table_of};
+ghost use Rattle.office_tables.specs.Outlines.{IsBegun, every_table, outline_of, outlines_of, table_of};
 
 use sqlite_schema::schema::{Schema, Table};
 
@@ -57,7 +57,7 @@ const TABLES: [OfficeTable; 14] = [
 
 impl OfficeTable {
     ghost use Rattle.std.specs.Prelude.{length, map};
-    ghost use Rattle.store_carry.specs.Outlines.{table_of};
+    ghost use Rattle.office_tables.specs.Outlines.{table_of};
 
     /// Its name.
     fn name(self) -> &'static [u8]
@@ -141,7 +141,7 @@ fn is_outlined(table: &Table, office: OfficeTable) -> bool
 /// Whether the tables are outlined as the first ones of an office, as many as they are.
 fn are_outlined(tables: &[Table]) -> bool
     ensures { (result ≡ true)
-        ↔ (outlines_of tables.now ≡ take (length tables.now) (outlines_of (map table_of office_tables))) }
+        ↔ (outlines_of tables.now ≡ take (length tables.now) (outlines_of (map table_of every_table))) }
 {
     if tables.len() > TABLES.len() {
         return false;
@@ -154,8 +154,9 @@ fn are_outlined(tables: &[Table]) -> bool
     true
 }
 
-/// Whether the tables are outlined as the first ones of an office, as many as they are, and there is no view.
-pub(crate) fn is_begun(schema: &Schema) -> bool
+/// Whether the tables are outlined as the first ones of an office, as many as they are, and there is no view. The
+/// outline of a table is its name, how many columns it has, and the lists of columns that are unique together.
+pub fn is_begun(schema: &Schema) -> bool
     ensures { (result ≡ true) ↔ IsBegun schema.now }
 {
     schema.views.is_empty() && are_outlined(schema.tables.as_slice())

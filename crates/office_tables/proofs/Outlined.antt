@@ -1,12 +1,12 @@
 -- Tables with the outlines of an office's.
-use Rattle.std.proofs.Common.{arith, ◌≡◌, ◌∙◌, ◌↔◌, ℕ, ◌+◌, ◌<◌, ◌≤◌, Bool, true, false, length, map, take, List, slice_index_or, refl, sym, ap}
+use Rattle.std.proofs.Common.{arith, ◌≡◌, ◌∙◌, ◌↔◌, ℕ, ◌+◌, ◌<◌, ◌≤◌, Bool, true, false, length, map, take, List, slice_index_or, sym, ap}
 use Rattle.std.proofs.lemmas.List.{get_or-map, get_or-take, length-map, take_all, take_more_same}
 use Rattle.sqlite.specs.Table.{Table}
-use Rattle.store_carry.specs.Outlines.{Outline, office_tables, outline_of, outlines_of, table_of}
-use Rattle.store_carry.specs.declared.outlines.OfficeTable.{OfficeTable}
+use Rattle.office_tables.specs.Outlines.{Outline, every_table, outline_of, outlines_of, table_of}
+use Rattle.office_tables.specs.declared.outlines.OfficeTable.{OfficeTable}
 
 abbrev all_tables : List Table
-all_tables = map table_of office_tables
+all_tables = map table_of every_table
 
 abbrev all : List Outline
 all = outlines_of all_tables
@@ -44,5 +44,5 @@ too_many ts many same =
     let most : take (length ts) all ≡ all = take_all (length ts) all (omega (arith, many)) in
     absurd (omega (arith, many, count ∙ ap length most))
 
-pub table_at : (at : ℕ) (d : OfficeTable) → at < 14 → table_of (slice_index_or office_tables at d) ≡ slice_index_or all_tables at (table_of (slice_index_or office_tables at d))
-table_at at d within = sym (get_or-map table_of office_tables at d (table_of (slice_index_or office_tables at d)) within)
+pub table_at : (at : ℕ) (d : OfficeTable) → at < 14 → table_of (slice_index_or every_table at d) ≡ slice_index_or all_tables at (table_of (slice_index_or every_table at d))
+table_at at d within = sym (get_or-map table_of every_table at d (table_of (slice_index_or every_table at d)) within)

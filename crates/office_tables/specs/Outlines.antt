@@ -3,8 +3,8 @@ use Rattle.std.specs.Prelude.{◌≡◌, ℕ, List, [], ◌∷◌, length, map, 
 use Rattle.sqlite.specs.Schema.{Schema}
 use Rattle.sqlite.specs.Table.{Table}
 use Rattle.office_tables.specs.Schema.{approval, block, frozen, held, message, msg, net, part, profile, receiver, reply, sig, sigvalue, spn}
-use Rattle.store_carry.specs.declared.outlines.OfficeTable.{OfficeTable}
-use Rattle.store_carry.specs.declared.outlines.OfficeTable.TheVariants as office
+use Rattle.office_tables.specs.declared.outlines.OfficeTable.{OfficeTable}
+use Rattle.office_tables.specs.declared.outlines.OfficeTable.TheVariants as office
 
 abbrev pub table_of : OfficeTable → Table
 table_of office.Profile = profile
@@ -23,8 +23,8 @@ table_of office.SigValue = sigvalue
 table_of office.Part = part
 
 -- the tables of an office, in the order in which they are made
-abbrev pub office_tables : List OfficeTable
-office_tables =
+abbrev pub every_table : List OfficeTable
+every_table =
     office.Profile ∷ office.Net ∷ office.Message ∷ office.Block ∷ office.Held ∷ office.Spn ∷ office.Approval ∷ office.Frozen ∷ office.Reply
     ∷ office.Msg ∷ office.Sig ∷ office.Receiver ∷ office.SigValue ∷ office.Part ∷ []
 
@@ -42,7 +42,7 @@ outlines_of tables = map outline_of tables
 
 -- the tables are outlined as the first ones of an office, as many as they are, and there is no view
 abbrev pub IsBegun : Schema → Type 0
-IsBegun s = (outlines_of s.tables ≡ take (length s.tables) (outlines_of (map table_of office_tables))) × (s.views ≡ [])
+IsBegun s = (outlines_of s.tables ≡ take (length s.tables) (outlines_of (map table_of every_table))) × (s.views ≡ [])
 
 -- the tables are outlined as the office's, there are as many indexes, so none beside those of the unique columns, and
 -- there is no view

@@ -1,6 +1,6 @@
 use Rattle.std.proofs.Common.{rules}
-use Rattle.store_carry.proofs.Outlined.{apart, table_at, one_more, too_many}
-use Rattle.store_carry.proofs.outlines.are_outlined.Goals as goal
+use Rattle.office_tables.proofs.Outlined.{apart, table_at, one_more, too_many}
+use Rattle.office_tables.proofs.outlines.are_outlined.Goals as goal
 
 pub returns-then-tables-gt14 : goal.returns-then-tables-gt14
 returns-then-tables-gt14 c = (λ no. absurd (cc), λ same. too_many c.args.tables.now (search rules) same)

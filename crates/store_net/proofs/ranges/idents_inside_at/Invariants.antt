@@ -2,11 +2,10 @@ use Rattle.std.proofs.Common.{◌≡◌, List, take}
 use Rattle.std.specs.Prelude.{IsTrue}
 use Rattle.sqlite.specs.Held.{state}
 use Rattle.sqlite.specs.State.{HasCleanDisk, IsUnchanged, KeepsCommit, Survives}
-use Rattle.office_types.specs.declared.state.LiveMessage.{LiveMessage}
+use Rattle.can_id.specs.declared.ident.Ident.{Ident}
 use Rattle.office_tables.specs.Tables.{IsOffice, tables_of}
-use Rattle.store_rows.specs.Live.{AreLiveRows, live_rows}
-use Rattle.store_net.specs.Numbers.{idents_inside}
-use Rattle.store_net.proofs.ranges.live_inside_at.Given as goal
+use Rattle.store_net.specs.Numbers.{HasTaken, idents_inside}
+use Rattle.store_net.proofs.ranges.idents_inside_at.Given as goal
 
 abbrev pub invariant-loop-block : goal.invariant-loop-block
 invariant-loop-block g l =
@@ -18,6 +17,6 @@ invariant-loop-block g l =
       same : HasCleanDisk now → IsOffice old.now → IsTrue old.is_open → IsUnchanged old now;
       kept : HasCleanDisk now → IsOffice old.now → KeepsCommit old now;
       survives : Survives old now (λ _. ⊥);
-      read : HasCleanDisk now → IsOffice old.now → (live : List LiveMessage) → AreLiveRows l.name (live_rows l.name (tables_of old.now.trees)) live
-          → l.idents.items ≡ idents_inside l.form (take l.block-index l.blocks) live;
+      read : HasCleanDisk now → IsOffice old.now → (idents : List Ident) → HasTaken l.table l.name (tables_of old.now.trees) idents
+          → l.idents.items ≡ idents_inside l.form (take l.block-index l.blocks) idents;
     }

@@ -1,6 +1,6 @@
 use Rattle.std.proofs.Common.{rules, ◌∙◌, refl, sym}
-use Rattle.store_carry.proofs.UniqueLists.{all_same, apart, one_more}
-use Rattle.store_carry.proofs.outlines.has_uniques.Goals as goal
+use Rattle.office_tables.proofs.UniqueLists.{all_same, apart, one_more}
+use Rattle.office_tables.proofs.outlines.has_uniques.Goals as goal
 
 pub returns-then-ne : goal.returns-then-ne
 returns-then-ne c = (

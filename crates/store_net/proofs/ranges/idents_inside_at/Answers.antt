@@ -8,17 +8,16 @@ use Rattle.sqlite.proofs.InsideLemmas.{keeps_then}
 use Rattle.can_id.specs.declared.ident.Ident.{Ident}
 use Rattle.office_types.specs.declared.block.Block.{Block}
 use Rattle.office_tables.specs.Tables.{IsOffice, tables_of}
-use Rattle.store_rows.specs.Live.{AreLiveRows, live_rows}
-use Rattle.store_net.specs.Numbers.{dbc_of, idents_between, idents_inside}
+use Rattle.store_net.specs.Numbers.{HasTaken, dbc_of, idents_between, idents_inside}
 use Rattle.store_net.proofs.Inside.{inside_more}
 use Rattle.store_net.proofs.Whole.{nothing_left}
-use Rattle.store_net.proofs.ranges.live_inside_at.Goals as goal
+use Rattle.store_net.proofs.ranges.idents_inside_at.Goals as goal
 
 pub loop-block-preserved : goal.loop-block-preserved
 loop-block-preserved g c =
     let old = state g.S.Store c.args.tx.now.conn.now in
     let mid = state g.S.Store c.loop-block.tx.conn.now in
-    let now = state g.S.Store c.live_idents_at.new.tx.conn.now in
+    let now = state g.S.Store c.idents_at.new.tx.conn.now in
     let name = c.args.name.now in
     let form = c.args.form in
     let blocks = c.args.blocks.now in
@@ -37,18 +36,18 @@ loop-block-preserved g c =
       same = λ clean was is_open. unchanged_then old mid now (i.same (early clean) was is_open) (w.same clean (office clean was));
       kept = λ clean was. keeps_then old mid now (i.kept (early clean) was) (w.kept clean (office clean was));
       survives = nothing_left old mid now i.survives w.survives;
-      read = λ clean was live h.
-          let h1 : AreLiveRows name (live_rows name (tables_of mid.now.trees)) live = subst (λ (d : Database). AreLiveRows name (live_rows name (tables_of d.trees)) live) (sym (i.now_is (early clean) was)) h in
-          let inside : c.in_ok-inside.inside ≡ idents_between (dbc_of form item.first) (dbc_of form item.last) live =
-          w.found clean (office clean was) live h1
-          ∙ ap (λ (n : ℕ). idents_between n c.dbc_of-last.result live) c.dbc_of-first.ensures
-          ∙ ap (λ (n : ℕ). idents_between (dbc_of form item.first) n live) c.dbc_of-last.ensures in
+      read = λ clean was idents has.
+          let has1 : HasTaken c.args.table name (tables_of mid.now.trees) idents = subst (λ (d : Database). HasTaken c.args.table name (tables_of d.trees) idents) (sym (i.now_is (early clean) was)) has in
+          let inside : c.in_ok-inside.inside ≡ idents_between (dbc_of form item.first) (dbc_of form item.last) idents =
+          w.found clean (office clean was) idents has1
+          ∙ ap (λ (n : ℕ). idents_between n c.dbc_of-last.result idents) c.dbc_of-first.ensures
+          ∙ ap (λ (n : ℕ). idents_between (dbc_of form item.first) n idents) c.dbc_of-last.ensures in
           c.in_ok-extend_from_slice.ensures.items ∙ ap (λ (l : List Ident). c.loop-block.idents.items ++ l) (c.as_slice.ensures ∙ inside)
-          ∙ ap (λ (l : List Ident). l ++ idents_between (dbc_of form item.first) (dbc_of form item.last) live) (i.read (early clean) was live h)
-          ∙ inside_more form live (take at blocks) item (take (at + 1) blocks) next;
+          ∙ ap (λ (l : List Ident). l ++ idents_between (dbc_of form item.first) (dbc_of form item.last) idents) (i.read (early clean) was idents has)
+          ∙ inside_more form idents (take at blocks) item (take (at + 1) blocks) next;
     }
 
 pub returns-clause-found : goal.returns-clause-found
-returns-clause-found g c clean office live h =
-    c.loop-block.invariant.read clean office live h
-    ∙ ap (λ (l : List Block). idents_inside c.args.form l live) (take_all c.loop-block.block-index c.args.blocks.now c.loop-block-test.false)
+returns-clause-found g c clean office idents has =
+    c.loop-block.invariant.read clean office idents has
+    ∙ ap (λ (l : List Block). idents_inside c.args.form l idents) (take_all c.loop-block.block-index c.args.blocks.now c.loop-block-test.false)

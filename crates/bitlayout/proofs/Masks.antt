@@ -1,20 +1,21 @@
 -- Masks, bit by bit.
-use Rattle.std.proofs.Common.{◌≡◌, ℕ, ◌+◌, ◌-◌, ◌*◌, ◌/◌, ◌%◌, ◌^◌, ◌<◌, ◌≤◌, ◌↔◌, ◌⊎◌, not, List, length, get_or, set, replicate, get_or-set_same, get_or-set_other, sym, ap, subst, ◌∙◌, inl, inr, arith, IsTrue, w64}
+use Rattle.std.proofs.Common.{◌≡◌, ℕ, ◌+◌, ◌-◌, ◌*◌, ◌/◌, ◌%◌, ◌^◌, ◌<◌, ◌≤◌, ◌↔◌, ◌⊎◌, not, List, length, get_or, set, replicate, get_or-set_same, get_or-set_other, refl, sym, ap, subst, ◌∙◌, inl, inr, arith, IsTrue, w64}
 use Rattle.std.proofs.lemmas.Bool.{cases_lt, cases_eq, eqb-true, eq-eqb, ne_eqb, false≢true}
-use Rattle.std.proofs.lemmas.Nat.{one_shl, shl_whole, shr-shr, and_le_l, pow_pos}
-use Rattle.std.proofs.lemmas.List.{get_or-replicate, length-replicate, get_or_past}
+use Rattle.std.proofs.lemmas.Nat.{or_lt, one_shl, shl_whole, shr-shr, and_le_l, pow_pos}
+use Rattle.std.proofs.lemmas.List.{get_or-replicate, length-replicate, length-set, get_or_past}
+use Rattle.std.proofs.lemmas.List.Elements.{All-get_or, All-replicate, All-set}
 use Rattle.std.proofs.lemmas.Nat.Bits.{bit_at_above, bit_at-lt, bit_at-zero, bit_at_and, bit_at_or, bit_at_ones, bit_at_ones_above, bit_at_cat_low, bit_at_cat_high, bit_at-trailing_zeros, shr_and_one}
 use Rattle.std.specs.Prelude.{bit_and, bit_or, nat_eq}
 use Rattle.std.specs.Int.{bit_at, trailing_zeros}
 use Rattle.bitlayout.specs.declared.layout.Order.{Order}
 use Rattle.bitlayout.specs.declared.layout.Order.TheVariants.{Intel, Motorola}
 use Rattle.bitlayout.specs.declared.layout.Layout.{Layout}
-use Rattle.bitlayout.specs.declared.mask.Mask.{Mask}
 use Rattle.bitlayout.specs.declared.mask.Strip.{Strip}
 use Rattle.bitlayout.specs.Bits.{IsBit}
 use Rattle.bitlayout.specs.Interval.{rank}
-use Rattle.bitlayout.specs.Mask.{HasBit, mask_end, Has, StripHas}
-use Rattle.bitlayout.specs.declared.mask.TheConstants.{MASK_WORDS}
+use Rattle.bitlayout.specs.Mask.{HasBit, Positions, mask_end, Has, StripHas}
+use Rattle.bitlayout.specs.Words.{AreWords, positions_of}
+use Rattle.bitlayout.specs.WordsBack.{has_words}
 use Rattle.bitlayout.proofs.Walks.{bit_within, bit_from_within, rank_byte}
 
 -- a run of ones, as it is computed
@@ -160,39 +161,88 @@ strip_positions layout first end bits is_first is_end each q = (
 
 -- ---- words
 
-pub none_in_zeros : (words q : ℕ) → HasBit (get_or (replicate words 0) (q / 64) 0) (q % 64) → ⊥
-none_in_zeros words q h = elim (cases_lt (q / 64) words) [
-  | inl within ↦ let none = ap (λ n. bit_at n (q % 64)) (get_or-replicate words (q / 64) 0 0 within) ∙ bit_at-zero (q % 64) in absurd (omega arith)
-  | inr past ↦ let none = ap (λ n. bit_at n (q % 64)) (get_or_past (replicate words 0) (q / 64) 0 (omega (arith, length-replicate {A = ℕ} words 0))) ∙ bit_at-zero (q % 64) in absurd (omega arith)
-]
+-- words of zeros, and one word with more bits
+pub zeros_are : AreWords (replicate 224 0)
+zeros_are = record { count = length-replicate {A = ℕ} 224 0; small = All-replicate (λ word. word < 2 ^ 64) 224 0 (omega arith) }
+
+pub more_are : (words : List ℕ) (index bits : ℕ) → bits < 2 ^ 64 → index < length words → AreWords words → AreWords (set words index (bit_or (get_or words index 0) bits))
+more_are words index bits small within are =
+    let word : ℕ = bit_or (get_or words index 0) bits in
+    record {
+      count = length-set words index word ∙ are.count;
+      small = All-set (λ w. w < 2 ^ 64) words index word (or_lt 64 (get_or words index 0) bits (All-get_or (λ w. w < 2 ^ 64) words index 0 within are.small) small) are.small;
+    }
 
 -- a word past the end has no bits
-pub word_within : (words : List ℕ) (k i : ℕ) → HasBit (get_or words k 0) i → k < length words
+word_within : (words : List ℕ) (k i : ℕ) → HasBit (get_or words k 0) i → k < length words
 word_within words k i h = elim (cases_lt k (length words)) [
   | inl within ↦ within
   | inr past ↦ let none = ap (λ n. bit_at n i) (get_or_past words k 0 past) ∙ bit_at-zero i in absurd (omega arith)
 ]
 
+-- the word at an index has the bits of its positions; past the last word it has none
+pub word_at : (words : List ℕ) (w i : ℕ) → length words ≡ 224 → i < 64 → HasBit (get_or words w 0) i ↔ Has (positions_of words) (64 * w + i)
+word_at words w i count small =
+    let at : (64 * w + i) / 64 ≡ w = omega arith in
+    let index : (64 * w + i) % 64 ≡ i = omega arith in
+    let is = has_words words (64 * w + i) in (
+      λ bit. let within = word_within words w i bit in is.1 (omega arith, rw (at, index) bit),
+      λ there. rw (at, index) at (is.0 there).1,
+    )
+
+-- past the last word there is none
+pub none_past : (words : List ℕ) (w i : ℕ) → 224 ≤ w → HasBit 0 i ↔ Has (positions_of words) (64 * w + i)
+none_past words w i past =
+    let zero = bit_at-zero i in
+    (λ bit. absurd (omega arith), λ there. let below = ((has_words words (64 * w + i)).0 there).0 in absurd (omega arith))
+
+-- words of zeros have no position
+pub none_in_zeros : (count q : ℕ) → Has (positions_of (replicate count 0)) q → ⊥
+none_in_zeros count q there = elim (cases_lt (q / 64) count) [
+  | inl within ↦
+      let bit = ((has_words (replicate count 0) q).0 there).1 in
+      let none = ap (λ n. bit_at n (q % 64)) (get_or-replicate count (q / 64) 0 0 within) ∙ bit_at-zero (q % 64) in
+      absurd (omega arith)
+  | inr past ↦
+      let bit = ((has_words (replicate count 0) q).0 there).1 in
+      let none = ap (λ n. bit_at n (q % 64)) (get_or_past (replicate count 0) (q / 64) 0 (omega (arith, length-replicate {A = ℕ} count 0))) ∙ bit_at-zero (q % 64) in
+      absurd (omega arith)
+]
+
 -- one word with more bits
-pub put_bits : (words : List ℕ) (index bits end q : ℕ) → index < length words → end ≡ 64 * length words →
+put_bits : (words : List ℕ) (index bits q : ℕ) → index < length words →
     HasBit (get_or (set words index (bit_or (get_or words index 0) bits)) (q / 64) 0) (q % 64)
-    ↔ (HasBit (get_or words (q / 64) 0) (q % 64) ⊎ ((q < end) × (q / 64 ≡ index) × HasBit bits (q % 64)))
-put_bits words index bits end q within all =
+    ↔ (HasBit (get_or words (q / 64) 0) (q % 64) ⊎ ((q / 64 ≡ index) × HasBit bits (q % 64)))
+put_bits words index bits q within =
     let value : ℕ = bit_or (get_or words index 0) bits in
     elim (cases_eq (q / 64) index) [
       | inl here ↦
           let at : get_or (set words index value) (q / 64) 0 ≡ value = ap (λ k. get_or (set words index value) k 0) here ∙ get_or-set_same words index value 0 within in
           let old : get_or words (q / 64) 0 ≡ get_or words index 0 = ap (λ k. get_or words k 0) here in
           rw (at, old) (
-            λ h. elim ((either_bit (get_or words index 0) bits (q % 64)).0 h) [ inl x ↦ inl x | inr x ↦ inr (omega arith, here, x) ],
-            λ h. (either_bit (get_or words index 0) bits (q % 64)).1 (elim h [ inl x ↦ inl x | inr (small, same, x) ↦ inr x ]),
+            λ h. elim ((either_bit (get_or words index 0) bits (q % 64)).0 h) [ inl x ↦ inl x | inr x ↦ inr (here, x) ],
+            λ h. (either_bit (get_or words index 0) bits (q % 64)).1 (elim h [ inl x ↦ inl x | inr (same, x) ↦ inr x ]),
           )
       | inr other ↦
           rw (get_or-set_other words index (q / 64) value 0 other) (
             λ h. inl h,
-            λ h. elim h [ inl x ↦ x | inr (small, same, x) ↦ absurd (other same) ],
+            λ h. elim h [ inl x ↦ x | inr (same, x) ↦ absurd (other same) ],
           )
     ]
+
+-- and the positions of the words
+pub put_positions : (words : List ℕ) (index bits q : ℕ) → index < length words →
+    Has (positions_of (set words index (bit_or (get_or words index 0) bits))) q ↔ (Has (positions_of words) q ⊎ ((q < mask_end) × (q / 64 ≡ index) × HasBit bits (q % 64)))
+put_positions words index bits q within =
+    let old = has_words words q in
+    let new = has_words (set words index (bit_or (get_or words index 0) bits)) q in
+    let more = put_bits words index bits q within in (
+      λ there. let (below, bit) = new.0 there in elim (more.0 bit) [ inl before ↦ inl (old.1 (below, before)) | inr (at, added) ↦ inr (below, at, added) ],
+      λ h. elim h [
+        | inl there ↦ let (below, bit) = old.0 there in new.1 (below, more.1 (inl bit))
+        | inr (below, at, added) ↦ new.1 (below, more.1 (inr (at, added)))
+      ],
+    )
 
 -- a strip is its two words
 pub strip_words : (strip : Strip) (low high q : ℕ) → high < 2 ^ 64 → ((i : ℕ) → i < 64 → HasBit low i ↔ HasBit strip.bits i) → ((i : ℕ) → HasBit high i ↔ HasBit strip.bits (64 + i))
@@ -240,65 +290,71 @@ two_puts first second strip = (
 )
 
 -- a position in the mask and in the strip
-abbrev pub Touches : Mask → Strip → Type 0
+abbrev pub Touches : Positions → Strip → Type 0
 Touches mask strip = (q : ℕ) × Has mask q × StripHas strip q
 
 abbrev pub InBoth : ℕ → ℕ → Type 0
 InBoth a b = (i : ℕ) × (i < 64) × HasBit a i × HasBit b i
 
-pub touch_low : (mask : Mask) (strip : Strip) (low : ℕ) → ((i : ℕ) → i < 64 → HasBit low i ↔ HasBit strip.bits i) → InBoth (get_or mask.words strip.word 0) low → Touches mask strip
-unfolding Has StripHas
-touch_low mask strip low of_low (i, small, in_mask, in_low) =
+-- the word has the bits of the 64 positions of the set from 64 times the index on
+abbrev pub IsWordAt : Positions → ℕ → ℕ → Type 0
+IsWordAt mask w word = (i : ℕ) → i < 64 → HasBit word i ↔ Has mask (64 * w + i)
+
+pub touch_low : (mask : Positions) (strip : Strip) (word low : ℕ) → IsWordAt mask strip.word word → ((i : ℕ) → i < 64 → HasBit low i ↔ HasBit strip.bits i) → InBoth word low → Touches mask strip
+unfolding StripHas
+touch_low mask strip word low of_word of_low (i, small, in_word, in_low) =
     let q : ℕ = 64 * strip.word + i in
-    let word : q / 64 ≡ strip.word = omega arith in
-    let bit : q % 64 ≡ i = omega arith in
     let place : q - 64 * strip.word ≡ i = omega arith in
-    (q, rw (word, bit) in_mask, (omega arith, rw place ((of_low i small).0 in_low)))
+    (q, (of_word i small).0 in_word, (omega arith, rw place ((of_low i small).0 in_low)))
 
-pub touch_high : (mask : Mask) (strip : Strip) (high : ℕ) → ((i : ℕ) → HasBit high i ↔ HasBit strip.bits (64 + i)) → InBoth (get_or mask.words (strip.word + 1) 0) high → Touches mask strip
-unfolding Has StripHas
-touch_high mask strip high of_high (i, small, in_mask, in_high) =
+pub touch_high : (mask : Positions) (strip : Strip) (word high : ℕ) → IsWordAt mask (strip.word + 1) word → ((i : ℕ) → HasBit high i ↔ HasBit strip.bits (64 + i)) → InBoth word high → Touches mask strip
+unfolding StripHas
+touch_high mask strip word high of_word of_high (i, small, in_word, in_high) =
     let q : ℕ = 64 * (strip.word + 1) + i in
-    let word : q / 64 ≡ strip.word + 1 = omega arith in
-    let bit : q % 64 ≡ i = omega arith in
     let place : q - 64 * strip.word ≡ 64 + i = omega arith in
-    (q, rw (word, bit) in_mask, (omega arith, rw place ((of_high i).0 in_high)))
+    (q, (of_word i small).0 in_word, (omega arith, rw place ((of_high i).0 in_high)))
 
-pub word_from_touch : (mask : Mask) (strip : Strip) (low high : ℕ) → high < 2 ^ 64 → ((i : ℕ) → i < 64 → HasBit low i ↔ HasBit strip.bits i) → ((i : ℕ) → HasBit high i ↔ HasBit strip.bits (64 + i))
-    → Touches mask strip → InBoth (get_or mask.words strip.word 0) low ⊎ InBoth (get_or mask.words (strip.word + 1) 0) high
-unfolding Has
-word_from_touch mask strip low high fits of_low of_high (q, in_mask, in_strip) = elim ((strip_words strip low high q fits of_low of_high).0 in_strip) [
-  | inl (at, bit) ↦ inl (q % 64, omega arith, rw at at in_mask, bit)
-  | inr (at, bit) ↦ inr (q % 64, omega arith, rw at at in_mask, bit)
+-- the bit of a position in the word that has it
+pub bit_in_word : (mask : Positions) (w word q : ℕ) → IsWordAt mask w word → q / 64 ≡ w → HasBit word (q % 64) ↔ Has mask q
+bit_in_word mask w word q of_word at =
+    let same : 64 * w + q % 64 ≡ q = omega arith in
+    subst (λ p. HasBit word (q % 64) ↔ Has mask p) same (of_word (q % 64) (omega arith))
+
+-- the test of a position in the word that has it
+pub position_tested : (mask : Positions) (word q at : ℕ) → at ≡ q → IsWordAt mask (at / 64) word → IsTrue (nat_eq (bit_and (word / 2 ^ (at % 64)) 1) 1) ↔ Has mask q
+position_tested mask word q at same of_word =
+    let bit = bit_in_word mask (at / 64) word at of_word refl in
+    let tested = bit_tested word (at % 64) in
+    subst (λ p. IsTrue (nat_eq (bit_and (word / 2 ^ (at % 64)) 1) 1) ↔ Has mask p) same (λ t. bit.0 (tested.0 t), λ there. tested.1 (bit.1 there))
+
+pub word_from_touch : (mask : Positions) (strip : Strip) (first second low high : ℕ) → IsWordAt mask strip.word first → IsWordAt mask (strip.word + 1) second → high < 2 ^ 64
+    → ((i : ℕ) → i < 64 → HasBit low i ↔ HasBit strip.bits i) → ((i : ℕ) → HasBit high i ↔ HasBit strip.bits (64 + i)) → Touches mask strip → InBoth first low ⊎ InBoth second high
+word_from_touch mask strip first second low high of_first of_second fits of_low of_high (q, in_mask, in_strip) = elim ((strip_words strip low high q fits of_low of_high).0 in_strip) [
+  | inl (at, bit) ↦ inl (q % 64, omega arith, (bit_in_word mask strip.word first q of_first at).1 in_mask, bit)
+  | inr (at, bit) ↦ inr (q % 64, omega arith, (bit_in_word mask (strip.word + 1) second q of_second at).1 in_mask, bit)
 ]
 
 -- ---- words of two masks
 
 -- no position of the next word is in both where the words have no bit in common
-pub none_in_word : (a b : Mask) (k : ℕ) → (InBoth (get_or a.words k 0) (get_or b.words k 0) → ⊥) → ((q : ℕ) → q < 64 * k → Has a q → Has b q → ⊥) → (q : ℕ) → q < 64 * (k + 1) → Has a q → Has b q → ⊥
-unfolding Has
+pub none_in_word : (a b : List ℕ) (k : ℕ) → (InBoth (get_or a k 0) (get_or b k 0) → ⊥) → ((q : ℕ) → q < 64 * k → Has (positions_of a) q → Has (positions_of b) q → ⊥)
+    → (q : ℕ) → q < 64 * (k + 1) → Has (positions_of a) q → Has (positions_of b) q → ⊥
 none_in_word a b k none before q below in_a in_b = elim (cases_lt q (64 * k)) [
   | inl earlier ↦ before q earlier in_a in_b
   | inr here ↦
       let word : q / 64 ≡ k = omega arith in
-      none (q % 64, omega arith, rw word at in_a, rw word at in_b)
+      none (q % 64, omega arith, rw word at ((has_words a q).0 in_a).1, rw word at ((has_words b q).0 in_b).1)
 ]
 
-pub both_from_word : (a b : Mask) (k : ℕ) → InBoth (get_or a.words k 0) (get_or b.words k 0) → (q : ℕ) × Has a q × Has b q
-unfolding Has
-both_from_word a b k (i, small, in_a, in_b) =
-    let q : ℕ = 64 * k + i in
-    let word : q / 64 ≡ k = omega arith in
-    let bit : q % 64 ≡ i = omega arith in
-    (q, rw (word, bit) in_a, rw (word, bit) in_b)
+pub both_from_word : (a b : List ℕ) (k : ℕ) → length a ≡ 224 → length b ≡ 224 → InBoth (get_or a k 0) (get_or b k 0) → (q : ℕ) × Has (positions_of a) q × Has (positions_of b) q
+both_from_word a b k of_a of_b (i, small, in_a, in_b) = (64 * k + i, (word_at a k i of_a small).0 in_a, (word_at b k i of_b small).0 in_b)
 
--- a position in a mask is below its end
-pub has_within : (mask : Mask) (q : ℕ) → Has mask q → q < 64 * length mask.words
-unfolding Has
-has_within mask q h = let within = word_within mask.words (q / 64) (q % 64) h in omega arith
+-- a position of the words is below their end
+pub words_end : (words : List ℕ) (q : ℕ) → Has (positions_of words) q → q < mask_end
+words_end words q there = ((has_words words q).0 there).0
 
 -- a bit of two numbers
-pub both_bits : (a b i : ℕ) → HasBit (bit_and a b) i ↔ (HasBit a i × HasBit b i)
+both_bits : (a b i : ℕ) → HasBit (bit_and a b) i ↔ (HasBit a i × HasBit b i)
 both_bits a b i =
     let is = bit_at_and a b i in
     let small_a = bit_at-lt a i in
@@ -306,29 +362,27 @@ both_bits a b i =
     (λ h. (omega arith, omega arith), λ (x, y). omega arith)
 
 -- two words with the bits of a strip that are in another mask
-pub shared_puts : (other : Mask) (strip : Strip) (layout : Layout) (low high q : ℕ) {Old Mid New : Type 0} → length other.words ≡ MASK_WORDS → high < 2 ^ 64
+pub shared_puts : (other : Positions) (strip : Strip) (layout : Layout) (first second low high q : ℕ) {Old Mid New : Type 0} → IsWordAt other strip.word first → IsWordAt other (strip.word + 1) second → (Has other q → q < mask_end) → high < 2 ^ 64
     → ((i : ℕ) → i < 64 → HasBit low i ↔ HasBit strip.bits i) → ((i : ℕ) → HasBit high i ↔ HasBit strip.bits (64 + i)) → (StripHas strip q ↔ IsBit layout q)
-    → Mid ↔ (Old ⊎ ((q < mask_end) × (q / 64 ≡ strip.word) × HasBit (bit_and (get_or other.words strip.word 0) low) (q % 64)))
-    → New ↔ (Mid ⊎ ((q < mask_end) × (q / 64 ≡ strip.word + 1) × HasBit (bit_and (get_or other.words (strip.word + 1) 0) high) (q % 64)))
+    → Mid ↔ (Old ⊎ ((q < mask_end) × (q / 64 ≡ strip.word) × HasBit (bit_and first low) (q % 64)))
+    → New ↔ (Mid ⊎ ((q < mask_end) × (q / 64 ≡ strip.word + 1) × HasBit (bit_and second high) (q % 64)))
     → New ↔ (Old ⊎ (Has other q × IsBit layout q))
-unfolding Has
-shared_puts other strip layout low high q words fits of_low of_high of_layout first second =
+shared_puts other strip layout first second low high q of_first of_second within fits of_low of_high of_layout put_first put_second =
     let parts = strip_words strip low high q fits of_low of_high in (
-      λ new. elim (second.0 new) [
-        | inl mid ↦ elim (first.0 mid) [
+      λ new. elim (put_second.0 new) [
+        | inl mid ↦ elim (put_first.0 mid) [
           | inl old ↦ inl old
-          | inr (below, at, bits) ↦ let (in_other, in_low) = (both_bits _ low (q % 64)).0 bits in inr (rw at in_other, of_layout.0 (parts.1 (inl (at, in_low))))
+          | inr (below, at, bits) ↦ let (in_other, in_low) = (both_bits first low (q % 64)).0 bits in inr ((bit_in_word other strip.word first q of_first at).0 in_other, of_layout.0 (parts.1 (inl (at, in_low))))
         ]
-        | inr (below, at, bits) ↦ let (in_other, in_high) = (both_bits _ high (q % 64)).0 bits in inr (rw at in_other, of_layout.0 (parts.1 (inr (at, in_high))))
+        | inr (below, at, bits) ↦ let (in_other, in_high) = (both_bits second high (q % 64)).0 bits in inr ((bit_in_word other (strip.word + 1) second q of_second at).0 in_other, of_layout.0 (parts.1 (inr (at, in_high))))
       ],
       λ h. elim h [
-        | inl old ↦ second.1 (inl (first.1 (inl old)))
+        | inl old ↦ put_second.1 (inl (put_first.1 (inl old)))
         | inr (in_other, bit) ↦
-            let within = word_within other.words (q / 64) (q % 64) in_other in
-            let below : q < mask_end = omega arith in
+            let below = within in_other in
             elim (parts.0 (of_layout.1 bit)) [
-              | inl (at, in_low) ↦ second.1 (inl (first.1 (inr (below, at, (both_bits _ low (q % 64)).1 (rw at at in_other, in_low)))))
-              | inr (at, in_high) ↦ second.1 (inr (below, at, (both_bits _ high (q % 64)).1 (rw at at in_other, in_high)))
+              | inl (at, in_low) ↦ put_second.1 (inl (put_first.1 (inr (below, at, (both_bits first low (q % 64)).1 ((bit_in_word other strip.word first q of_first at).1 in_other, in_low)))))
+              | inr (at, in_high) ↦ put_second.1 (inr (below, at, (both_bits second high (q % 64)).1 ((bit_in_word other (strip.word + 1) second q of_second at).1 in_other, in_high)))
             ]
       ],
     )

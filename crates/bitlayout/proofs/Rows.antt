@@ -1,12 +1,20 @@
 -- The definitions computed on small messages.
-use Rattle.std.proofs.Common.{◌≡◌, [], ◌∷◌, Some, None, refl}
+use Rattle.std.proofs.Common.{◌≡◌, ◌*◌, ◌≤◌, [], ◌∷◌, Some, None, refl, arith}
 use Rattle.bitlayout.specs.declared.layout.Order.TheVariants.{Intel, Motorola}
 use Rattle.bitlayout.specs.declared.place.Mux.TheVariants.{Always, Multiplexor, Under}
 use Rattle.bitlayout.specs.declared.clash.Clash.TheVariants.{TwoMultiplexors, NoMultiplexor, Overlap, Outside}
 use Rattle.bitlayout.specs.Bits.{positions, walk, shares_bit, is_inside}
 use Rattle.bitlayout.specs.Clash.{clash_after, first_clash_of}
 use Rattle.bitlayout.specs.First.{first_answer}
+use Rattle.bitlayout.specs.Mask.{mask_end}
 use Rattle.bitlayout.specs.Start.{least_start_of, place_from}
+
+-- a mask has 224 words of 64 positions, more than the 8 * 1785 of the longest payload
+reach : mask_end ≡ 64 * 224
+reach = refl
+
+longest_payload : 8 * 1785 ≤ mask_end
+longest_payload = omega arith
 
 -- twelve bits of a Motorola signal: the last of byte 2, all of byte 3, the first three of byte 4
 motorola_positions : positions (place_from 12 Motorola Always 16).layout ≡ 16 ∷ 31 ∷ 30 ∷ 29 ∷ 28 ∷ 27 ∷ 26 ∷ 25 ∷ 24 ∷ 39 ∷ 38 ∷ 37 ∷ []

@@ -2,11 +2,11 @@
 use Rattle.std.proofs.Common.{◌≡◌, ℕ, ◌+◌, ◌*◌, ◌<◌, ◌≤◌, min, List, [], ◌∷◌, ◌++◌, Option, Some, None, refl, sym, ap, arith}
 use Rattle.std.specs.Prelude.{IfSome, IfNone, is_none, if◌then◌else◌}
 use Rattle.bitlayout.specs.declared.layout.Order.{Order}
-use Rattle.bitlayout.specs.declared.layout.TheConstants.{GREATEST_START}
 use Rattle.bitlayout.specs.declared.place.Mux.{Mux}
 use Rattle.bitlayout.specs.declared.place.Place.{Place}
 use Rattle.bitlayout.specs.declared.clash.Clash.{Clash}
 use Rattle.bitlayout.specs.Clash.{first_clash_of}
+use Rattle.bitlayout.specs.Limits.{start_limit}
 use Rattle.bitlayout.specs.Start.{place_from, CanStartAt, HasNoStart, IsLeastStart, start_if_clear, least_start_of}
 use Rattle.bitlayout.proofs.Adding.{inside_from_added}
 use Rattle.bitlayout.proofs.Clearance.{clear_from_none, none_from_clear}
@@ -36,10 +36,10 @@ none_if_cannot places bytes size order mux start cannot = by_clash (first_clash_
 
 -- the answer that the clauses describe is the one that is computed
 pub least_start_is : (places : List Place) (bytes size : ℕ) (order : Order) (mux : Mux) (answer : Option ℕ)
-    → IfSome answer (IsLeastStart places bytes size order mux) → IfNone answer (HasNoStart places bytes size order mux) → IfSome answer (λ start. start < min (8 * bytes) (GREATEST_START + 1))
+    → IfSome answer (IsLeastStart places bytes size order mux) → IfNone answer (HasNoStart places bytes size order mux) → IfSome answer (λ start. start < min (8 * bytes) (start_limit + 1))
     → answer ≡ least_start_of places bytes size order mux
 least_start_is places bytes size order mux None least none payload =
-    sym (none_if_none (start_if_clear places bytes size order mux) (min (8 * bytes) (GREATEST_START + 1)) (λ k below. none_if_cannot places bytes size order mux k (none k (omega arith))))
+    sym (none_if_none (start_if_clear places bytes size order mux) (min (8 * bytes) (start_limit + 1)) (λ k below. none_if_cannot places bytes size order mux k (none k (omega arith))))
 least_start_is places bytes size order mux (Some start) (can, least) none payload =
-    sym (first_at (start_if_clear places bytes size order mux) (min (8 * bytes) (GREATEST_START + 1)) start start payload (start_if_can places bytes size order mux start can)
+    sym (first_at (start_if_clear places bytes size order mux) (min (8 * bytes) (start_limit + 1)) start start payload (start_if_can places bytes size order mux start can)
     (λ k below. none_if_cannot places bytes size order mux k (λ other. let above : start ≤ k = least k other in absurd (omega arith))))

@@ -3,8 +3,11 @@ pub mod Clash
 pub mod Clear
 pub mod First
 pub mod Interval
+pub mod Limits
 pub mod Mask
 pub mod Mux
 pub mod Order
 pub mod Start
 pub mod Taken
+pub mod Words
+pub mod WordsBack

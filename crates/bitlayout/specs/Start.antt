@@ -1,12 +1,12 @@
 -- Where one more signal can start.
 use Rattle.std.specs.Prelude.{ℕ, ◌+◌, ◌*◌, ◌≤◌, min, List, [], ◌∷◌, ◌++◌, Option, Some, None, if◌then◌else◌, is_none}
 use Rattle.bitlayout.specs.declared.layout.Order.{Order}
-use Rattle.bitlayout.specs.declared.layout.TheConstants.{GREATEST_START}
 use Rattle.bitlayout.specs.declared.place.Mux.{Mux}
 use Rattle.bitlayout.specs.declared.place.Place.{Place}
 use Rattle.bitlayout.specs.Clash.{first_clash_of}
 use Rattle.bitlayout.specs.Clear.{IsClear}
 use Rattle.bitlayout.specs.First.{first_answer}
+use Rattle.bitlayout.specs.Limits.{start_limit}
 
 -- the place of a signal from a start
 abbrev pub place_from : ℕ → Order → Mux → ℕ → Place
@@ -23,7 +23,7 @@ IsLeastStart places bytes size order mux start =
 
 -- there is no start from which the signal leaves the list clear
 abbrev pub HasNoStart : List Place → ℕ → ℕ → Order → Mux → Type 0
-HasNoStart places bytes size order mux = (start : ℕ) → start ≤ GREATEST_START → ¬ (CanStartAt places bytes size order mux start)
+HasNoStart places bytes size order mux = (start : ℕ) → start ≤ start_limit → ¬ (CanStartAt places bytes size order mux start)
 
 -- The same computed.
 
@@ -34,4 +34,4 @@ start_if_clear places bytes size order mux start =
 
 -- the least start; past the end of the payload there is none
 abbrev pub least_start_of : List Place → ℕ → ℕ → Order → Mux → Option ℕ
-least_start_of places bytes size order mux = first_answer (start_if_clear places bytes size order mux) (min (8 * bytes) (GREATEST_START + 1))
+least_start_of places bytes size order mux = first_answer (start_if_clear places bytes size order mux) (min (8 * bytes) (start_limit + 1))

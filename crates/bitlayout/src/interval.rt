@@ -1,8 +1,9 @@
 //! Walks as intervals of ranks.
 ghost use Rattle.std.specs.Prelude.{◌≡◌, ℕ, ◌+◌, ◌-◌, ◌*◌, ◌^◌, ◌<◌, ◌≤◌, ◌↔◌, IsTrue, min, max};
 ghost use Rattle.bitlayout.specs.Interval.{rank, IsWithin};
+ghost use Rattle.bitlayout.specs.Limits.{size_limit};
 
-use crate::layout::{Layout, Order, SIZE_LIMIT};
+use crate::layout::{Layout, Order};
 
 /// The numbers from `first` up to, but not including, `end`.
 #[derive(Clone, Copy, Debug, PartialEq, Eq)]
@@ -29,7 +30,7 @@ pub fn ranks(layout: Layout) -> Interval
     ensures first { result.first ≡ rank layout.order layout.start }
     ensures end { result.end ≡ rank layout.order layout.start + layout.size }
     ensures some { result.first < result.end }
-    ensures few { result.end ≤ result.first + SIZE_LIMIT }
+    ensures few { result.end ≤ result.first + size_limit }
     ensures small { result.end < 2 ^ 17 }
 {
     let first = rank_of(layout.order, u32::from(layout.start));

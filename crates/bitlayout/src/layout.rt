@@ -1,5 +1,6 @@
 //! Which bits of a payload a signal has: its start, its size and its byte order.
 ghost use Rattle.std.specs.Prelude.{◌≡◌, ◌≤◌, SomeIff};
+ghost use Rattle.bitlayout.specs.Limits.{size_limit};
 
 use std::marker::Model;
 
@@ -55,13 +56,13 @@ pub struct Size {
 
 impl Model for Size {
     ghost use Rattle.std.specs.Prelude.{ℕ, ◌≤◌};
-    ghost use Rattle.bitlayout.specs.declared.layout.TheConstants.{SIZE_LIMIT};
+    ghost use Rattle.bitlayout.specs.Limits.{size_limit};
 
     ghost Value = { ℕ };
 
     ghost view = { λ size. size.bits };
 
-    ghost invariant = { λ size. (1 ≤ size.bits) × (size.bits ≤ SIZE_LIMIT) };
+    ghost invariant = { λ size. (1 ≤ size.bits) × (size.bits ≤ size_limit) };
 
     ghost inverse = { λ n. record { bits = n } };
 }
@@ -69,7 +70,7 @@ impl Model for Size {
 impl Size {
     /// The size of this many bits, or `None` outside 1 to 64.
     pub fn new(bits: u8) -> Option<Size>
-        ensures { SomeIff result ((1 ≤ bits) × (bits ≤ SIZE_LIMIT)) bits }
+        ensures { SomeIff result ((1 ≤ bits) × (bits ≤ size_limit)) bits }
     {
         if bits >= 1 && bits <= SIZE_LIMIT {
             Some(Size { bits })
@@ -82,7 +83,7 @@ impl Size {
     pub fn bits(self) -> u8
         ensures value { result ≡ self }
         ensures least { 1 ≤ result }
-        ensures most { result ≤ SIZE_LIMIT }
+        ensures most { result ≤ size_limit }
     {
         self.bits
     }

@@ -1,5 +1,5 @@
 //! Sets of positions, kept as a bit for each position.
-ghost use Rattle.std.specs.Prelude.{◌≡◌, ℕ, ◌+◌, ◌-◌, ◌*◌, ◌/◌, ◌%◌, ◌<◌, ◌≤◌, ◌↔◌, ◌⊎◌, IsTrue, slice_index};
+ghost use Rattle.std.specs.Prelude.{◌≡◌, ℕ, ◌+◌, ◌-◌, ◌*◌, ◌/◌, ◌%◌, ◌<◌, ◌≤◌, ◌↔◌, ◌⊎◌, IsTrue};
 ghost use Rattle.bitlayout.specs.Bits.{IsBit};
 ghost use Rattle.bitlayout.specs.declared.layout.Order.TheVariants.{Motorola};
 ghost use Rattle.bitlayout.specs.Interval.{rank};
@@ -8,6 +8,7 @@ ghost use Rattle.bitlayout.specs.Mask.{HasBit, mask_end, Has, StripHas};
 
 use crate::interval::ranks;
 use crate::layout::{Layout, Order};
+use std::marker::Model;
 
 /// The number of words of 64 positions in a mask: 224, for payloads of up to 1785 bytes.
 pub const MASK_WORDS: usize = 224;
@@ -27,11 +28,31 @@ pub(crate) struct Strip {
     bits: u128,
 }
 
-/// A set of positions of a payload, each below [`MASK_END`].
-#[derive(Clone, Copy, Debug, PartialEq, Eq)]
+/// A set of positions of a payload, each below [`MASK_END`]. Contracts see it as the set.
+#[derive(Clone, Copy, Debug)]
 pub struct Mask {
     /// Bit i of word w is 1 where position 64 * w + i is in the set.
     words: [u64; MASK_WORDS],
+}
+
+impl Model for Mask {
+    ghost use Rattle.std.specs.Coded.{coded_ℕ};
+    ghost use Rattle.std.specs.FinSet as set;
+    ghost use Rattle.bitlayout.specs.Mask.{Positions};
+    ghost use Rattle.bitlayout.specs.Words.{AreWords, positions_of, words_of};
+    ghost use Rattle.bitlayout.specs.WordsBack.{words_back};
+
+    ghost Value = { Positions };
+
+    ghost coded = { set.code coded_ℕ };
+
+    ghost view = { λ mask. positions_of mask.words };
+
+    ghost invariant = { λ mask. AreWords mask.words };
+
+    ghost inverse = { λ positions. record { words = words_of positions } };
+
+    ghost inverse_ok = { λ mask h i. record { words = words_back mask.words h i } };
 }
 
 /// A word whose bits from `first` up to, but not including, `end` are 1.
@@ -115,9 +136,10 @@ impl Mask {
         }
     }
 
-    /// The word at an index, or 0 past the last word.
+    /// The bits of the 64 positions from 64 times the index on.
     fn word(&self, index: usize) -> u64
-        ensures { result ≡ slice_index self.now.words index }
+        ensures bits { (i : ℕ) → i < 64 → HasBit result i ↔ Has self.now (64 * index + i) }
+        ensures end { (q : ℕ) → Has self.now q → q < mask_end }
     {
         if index < MASK_WORDS {
             self.words[index]

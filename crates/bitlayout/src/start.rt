@@ -1,6 +1,7 @@
 //! Room for one more signal.
 ghost use Rattle.std.specs.Prelude.{◌≡◌, ◌+◌, ◌*◌, ◌<◌, ◌||◌, min, IfSome, IfNone, is_none};
 ghost use Rattle.bitlayout.specs.Clash.{has_multiplexor, clash_after};
+ghost use Rattle.bitlayout.specs.Limits.{start_limit};
 ghost use Rattle.bitlayout.specs.Mux.{is_multiplexor};
 ghost use Rattle.bitlayout.specs.Taken.{IsTakenBy};
 ghost use Rattle.bitlayout.specs.Start.{HasNoStart, IsLeastStart, least_start_of};
@@ -71,7 +72,7 @@ fn least_start_where(
     requires { multiplexed ≡ (is_multiplexor mux || has_multiplexor places.now) }
     ensures least { IfSome result (IsLeastStart places.now length size order mux) }
     ensures none { IfNone result (HasNoStart places.now length size order mux) }
-    ensures payload { IfSome result (λ start. start < min (8 * length) (GREATEST_START + 1)) }
+    ensures payload { IfSome result (λ start. start < min (8 * length) (start_limit + 1)) }
 {
     let positions = 8 * u32::from(length);
     if u32::from(size.bits()) > positions {

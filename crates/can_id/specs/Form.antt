@@ -2,9 +2,8 @@
 use Rattle.std.specs.Prelude.{ℕ}
 use Rattle.can_id.specs.declared.form.IdentForm.{IdentForm}
 use Rattle.can_id.specs.declared.form.IdentForm.TheVariants.{Standard, Extended}
-use Rattle.can_id.specs.declared.form.TheConstants.{GREATEST_STANDARD, GREATEST_EXTENDED}
 
 -- the greatest 11-bit number, and the greatest 29-bit number
 abbrev pub greatest_number : IdentForm → ℕ
-greatest_number Standard = GREATEST_STANDARD
-greatest_number Extended = GREATEST_EXTENDED
+greatest_number Standard = 2047
+greatest_number Extended = 536870911

@@ -1,36 +1,27 @@
--- The limits of this project's dialect of DBC files. The numbers themselves are constants of the code.
+-- The limits of this project's dialect of DBC files.
 use Rattle.std.specs.Prelude.{ℕ}
-use Rattle.bitlayout.specs.declared.layout.TheConstants.{GREATEST_START, SIZE_LIMIT}
-use Rattle.catalogue.specs.declared.limits.TheConstants.{MESSAGE_LIMIT, ROSTER_LIMIT, VALUE_TEXT_LIMIT, NAME_LIMIT, LENGTH_LIMIT, SPN_LIMIT}
+pub use Rattle.bitlayout.specs.Limits.{size_limit, start_limit}
 
 -- the greatest number of messages of a sheet
 abbrev pub message_limit : ℕ
-message_limit = MESSAGE_LIMIT
+message_limit = 16384
 
 -- the greatest number of nodes or value tables of a sheet, and of signals of a message
 abbrev pub roster_limit : ℕ
-roster_limit = ROSTER_LIMIT
+roster_limit = 4096
 
 -- the greatest number of texts in one list of them
 abbrev pub value_text_limit : ℕ
-value_text_limit = VALUE_TEXT_LIMIT
+value_text_limit = 65536
 
 -- the greatest length of a name, in bytes
 abbrev pub name_limit : ℕ
-name_limit = NAME_LIMIT
+name_limit = 128
 
--- the greatest length of a message, in bytes
+-- the greatest length of a message, in bytes: what the transport protocol of SAE J1939-21 carries
 abbrev pub length_limit : ℕ
-length_limit = LENGTH_LIMIT
+length_limit = 1785
 
--- the greatest start of a signal, a bit position
-abbrev pub start_limit : ℕ
-start_limit = GREATEST_START
-
--- the greatest size of a signal, in bits
-abbrev pub size_limit : ℕ
-size_limit = SIZE_LIMIT
-
--- the greatest suspect parameter number (SAE J1939)
+-- the greatest suspect parameter number, which has 19 bits (SAE J1939)
 abbrev pub spn_limit : ℕ
-spn_limit = SPN_LIMIT
+spn_limit = 524287

@@ -5,8 +5,9 @@ use Rattle.std.specs.Prelude.{◌≡◌, ◌↔◌, ℕ, ◌+◌, ◌-◌, Bool,
 use Rattle.std.specs.Prelude.{is_some, option_map, option_and_then, unwrap_or, if◌then◌else◌, codes}
 use Rattle.std.specs.Result.{result_ok}
 use Rattle.std.specs.Str.{bytes_eq}
-use Rattle.can_id.specs.Ident.{IsIdentifier, dbc_number}
-use Rattle.can_id.specs.declared.form.TheConstants.{EXTENDED_FLAG, GREATEST_EXTENDED, GREATEST_STANDARD}
+use Rattle.can_id.specs.Form.{greatest_number}
+use Rattle.can_id.specs.Ident.{IsIdentifier, dbc_number, extended_flag}
+use Rattle.can_id.specs.declared.form.IdentForm.TheVariants.{Standard, Extended}
 use Rattle.can_id.specs.declared.ident.Ident.{Ident}
 use Rattle.can_id.specs.declared.ident.Ident.TheVariants.{Std, Ext}
 use Rattle.bitlayout.specs.declared.layout.Layout.{Layout}
@@ -91,8 +92,8 @@ cited_number t = only (is_a NumberKind t && is_numeral t.text) (whole_of t.text)
 -- the identifier that DBC files write as the number: an 11-bit one as itself, a 29-bit one with bit 31 set
 abbrev pub ident_of : ℕ → Option Ident
 ident_of n =
-    if nat_le n GREATEST_STANDARD then Some (Std n)
-    else only (nat_le EXTENDED_FLAG n && nat_le n (EXTENDED_FLAG + GREATEST_EXTENDED)) (Ext (n - EXTENDED_FLAG))
+    if nat_le n (greatest_number Standard) then Some (Std n)
+    else only (nat_le extended_flag n && nat_le n (extended_flag + greatest_number Extended)) (Ext (n - extended_flag))
 
 -- it is the one identifier with this DBC number, and if it is None, no identifier has the number
 abbrev pub NumbersAreIdentifiers : Type 0

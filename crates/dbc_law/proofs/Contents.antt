@@ -1,4 +1,4 @@
--- What the statements of a canonical text say, one after the other: as `Canon` of the catalogue lists its lines, where
+-- What the statements of a canonical text say, one after the other: as `Canon` of `dbc_grammar` lists its lines, where
 -- the lines of a message and of its signals are one statement.
 use Rattle.std.proofs.Common.{◌==◌, ℕ, List, [], ◌∷◌, ◌++◌, map, Some, if◌then◌else◌}
 use Rattle.std.specs.List.{flat_map}

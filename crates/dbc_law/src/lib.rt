@@ -1,6 +1,6 @@
 //! The grammar law of DBC text: what is written reads as itself, and as nothing else.
 //!
-//! The canonical text of every sheet (`catalogue`'s `specs/Canon.antt`) has tokens, these divide into statements, and
+//! The canonical text of every sheet (`dbc_grammar`'s `specs/Canon.antt`) has tokens, these divide into statements, and
 //! the statements say the sheet; and since a text reads as one sheet at most, they say no other. So reading the text
 //! gives back the network from which it was written (nodes, tables, messages, signals, comments), and no other.
 //! Besides, the text has only fixed lines that contribute nothing to a sheet: `NS_`, `BS_`, and the declaration of the

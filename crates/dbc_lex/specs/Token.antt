@@ -1,4 +1,4 @@
--- The lexer's tokens as tokens of the definitions of `catalogue`.
+-- The lexer's tokens as tokens of the definitions of `dbc_grammar`.
 use Rattle.dbc_lex.specs.declared.token.Token.{Token as TextToken}
 use Rattle.dbc_grammar.specs.Token.{Token}
 

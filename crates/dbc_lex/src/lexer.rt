@@ -108,7 +108,7 @@ impl<'a> Lexer<'a> {
     ///
     /// Names, unsigned numbers, character strings and punctuation are those of Vector's DBC File Format Documentation;
     /// that only gaps come between tokens, and that each is as long as it can be, is this project's dialect. That the
-    /// tokens are slices of the text, in order, is a law of `catalogue` (`tokens_are_exact`).
+    /// tokens are slices of the text, in order, is a law of `dbc_grammar` (`tokens_are_exact`).
     #[inline(always)]
     pub fn next_token(&mut self) -> Result<Option<Token<'a>>, ReadFault>
         ensures { GivesNext self.old result self.new }

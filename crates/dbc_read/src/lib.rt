@@ -1,6 +1,6 @@
 //! Reading a DBC text: the sheet that it reads as, and the statements that are skipped.
 //!
-//! [`read`] returns the one sheet that the text reads as, or a fault if it reads as none (`ReadsAs` of `catalogue`'s
+//! [`read`] returns the one sheet that the text reads as, or a fault if it reads as none (`ReadsAs` of `dbc_grammar`'s
 //! `specs/Reads.antt`). `dbc_statements` divides the text; here its statements are put together.
 //!
 //! Statements are gathered as they come (`one_by_one`), so none of them is kept. First come those up to the first that

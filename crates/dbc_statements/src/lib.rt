@@ -1,10 +1,10 @@
 //! The statements of a DBC text.
 //!
 //! [`Statements`] gives the [`Statement`]s of a text one by one, and [`statements_of`] all of them. Which statements
-//! there are is defined in `catalogue`'s `specs/Grammar.antt`, as rules, and each function here reads what one of them
-//! describes (`Reads` of `specs/Reading.antt`). A statement has a [`Content`], which owns its parts, those of a sheet,
-//! and has the offsets that faults need. The names that it cites are slices of the text. Contracts see the statements
-//! of the grammar (`statements_of` of `specs/Statement.antt`).
+//! there are is defined in `dbc_grammar`'s `specs/Grammar.antt`, as rules, and each function here reads what one of
+//! them describes (`Reads` of `specs/Reading.antt`). A statement has a [`Content`], which owns its parts, those of a
+//! sheet, and has the offsets that faults need. The names that it cites are slices of the text. Contracts see the
+//! statements of the grammar (`statements_of` of `specs/Statement.antt`).
 //!
 //! A text is read once, token by token (`tokens`). A byte with which no token begins is reported before any other
 //! fault, wherever it is, so after the last statement that was begun the rest of the text is searched for one

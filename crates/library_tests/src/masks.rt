@@ -82,6 +82,22 @@ fn is_masked(layout: &Layout) -> bool {
     alike && !mask.has(14_335) && !mask.has(65_535)
 }
 
+/// Whether the mask of the last bit of the longest payload has that position, and the one before it not.
+fn last_bit_is_masked() -> bool {
+    match bit_at(14_279) {
+        Some(place) => {
+            let mask = Mask::of(place.layout);
+            mask.has(14_279) && !mask.has(14_278)
+        }
+        None => false,
+    }
+}
+
+#[test]
+fn masks_reach_the_longest_payload(rt: HostRuntime) {
+    assert!(rt; last_bit_is_masked());
+}
+
 fn is_masked_at(index: u16) -> bool {
     match layout_at(index) {
         Some(layout) => is_masked(&layout),

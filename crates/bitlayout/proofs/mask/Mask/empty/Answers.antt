@@ -1,8 +1,8 @@
-use Rattle.bitlayout.specs.Mask.{Has}
-use Rattle.bitlayout.specs.declared.mask.TheConstants.{MASK_WORDS}
-use Rattle.bitlayout.proofs.Masks.{none_in_zeros}
+use Rattle.bitlayout.proofs.Masks.{none_in_zeros, zeros_are}
 use Rattle.bitlayout.proofs.mask.Mask.empty.Goals as goal
 
+pub invariant_of-result : goal.invariant_of-result
+invariant_of-result c = zeros_are
+
 pub returns : goal.returns
-unfolding Has
-returns c q h = none_in_zeros MASK_WORDS q h
+returns c q h = none_in_zeros 224 q h

@@ -1,7 +1,5 @@
-use Rattle.bitlayout.specs.Mask.{Has}
-use Rattle.bitlayout.proofs.Masks.{bit_tested}
+use Rattle.bitlayout.proofs.Masks.{position_tested}
 use Rattle.bitlayout.proofs.mask.Mask.has.Goals as goal
 
 pub returns : goal.returns
-unfolding Has
-returns c = rw (c.word.ensures, c.from-position.ensures) (bit_tested _ _)
+returns c = position_tested c.args.self.now c.word.result c.args.position c.from-position.result c.from-position.ensures c.word.ensures.bits

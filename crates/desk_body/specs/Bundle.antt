@@ -1,12 +1,11 @@
 -- The parts of a bundle that a JSON body gives: an object of `commands`, a list of an object for each part.
-use Rattle.std.specs.Prelude.{ℕ, not, ◌&&◌, ◌||◌, ◌==◌, nat_le, Bool, true, List, [], ◌∷◌, length, Option, Some, codes}
+use Rattle.std.specs.Prelude.{ℕ, ◌&&◌, ◌||◌, Bool, true, List, [], ◌∷◌, Option, Some, codes}
 use Rattle.std.specs.Option.{option_map}
 use Rattle.std.specs.Str.{bytes_eq}
 use Rattle.serde_json.specs.Data.{Data, Items, no_items, item, Members, no_members, member}
 use Rattle.serde_json.specs.Find.{as_array, as_object, as_str, get}
-use Rattle.office_types.specs.Parts.{part_limit}
 use Rattle.office_types.specs.declared.command.Action.{Action}
-use Rattle.office_fields.specs.Requested.{part_of}
+use Rattle.office_fields.specs.Requested.{are_parts, part_of}
 use Rattle.office_fields.specs.Field.{part_fields}
 use Rattle.office_fields.specs.Given.{NamedValue}
 use Rattle.office_fields.specs.Kind.{action_of_word}
@@ -39,10 +38,6 @@ part_in d = do
 abbrev pub parts_of_items : Items → Option (List Action)
 parts_of_items no_items = Some []
 parts_of_items (item d ds) = part_in d >>= λ part. option_map (λ parts. part ∷ parts) (parts_of_items ds)
-
--- 1 to 64 of them
-abbrev pub are_parts : List Action → Option (List Action)
-are_parts parts = where_true (not (length parts == 0) && nat_le (length parts) part_limit) (Some parts)
 
 abbrev pub has_just_commands : Members → Bool
 has_just_commands no_members = true

@@ -6,7 +6,7 @@ use Rattle.httparse.specs.Spans.{name_and_value}
 use Rattle.catalogue.specs.WholeNumber.{whole_of}
 use Rattle.office_types.specs.declared.command.Command.{Command}
 use Rattle.office_types.specs.declared.command.Task.TheVariants as task
-use Rattle.office_types.specs.declared.release.TheConstants.{RELEASE_LIMIT}
+use Rattle.office_rules.specs.Reviewing.{release_limit}
 use Rattle.office_fields.specs.Given.{read_once}
 use Rattle.office_fields.specs.Value.{◌>>=◌, name_of, plain_name_of, where_true}
 use Rattle.office_history.specs.Key.{is_key}
@@ -53,7 +53,7 @@ seen (call.Arrives a) = arrives (arrival_seen a)
 
 -- the number of a release
 abbrev pub release_number : List ℕ → Option ℕ
-release_number bytes = whole_of bytes >>= λ n. where_true (nat_le 1 n && nat_le n RELEASE_LIMIT) (Some n)
+release_number bytes = whole_of bytes >>= λ n. where_true (nat_le 1 n && nat_le n release_limit) (Some n)
 
 abbrev pub net_in : List ℕ → Option (List ℕ)
 net_in target = plain_name_of (first_parameter target)

@@ -1,6 +1,7 @@
 -- The command that named values give.
-use Rattle.std.specs.Prelude.{List, Option, Some}
+use Rattle.std.specs.Prelude.{◌==◌, not, ◌&&◌, nat_le, List, length, Option, Some}
 use Rattle.std.specs.Option.{option_map}
+use Rattle.office_types.specs.Parts.{part_limit}
 use Rattle.office_types.specs.declared.command.Action.{Action}
 use Rattle.office_types.specs.declared.command.Command.{Command}
 use Rattle.office_types.specs.declared.command.Task.TheVariants as task
@@ -26,6 +27,10 @@ command_of k values = where_true (are_known (fields_of (Act k)) values) do
 -- a part of a bundle: a command without its network
 abbrev pub part_of : ActionKind → List NamedValue → Option Action
 part_of k values = where_true (are_known (part_fields k) values) (action_of k values)
+
+-- the parts, where there are 1 to 64
+abbrev pub are_parts : List Action → Option (List Action)
+are_parts parts = where_true (not (length parts == 0) && nat_le (length parts) part_limit) (Some parts)
 
 -- the import of a file that is still to be read, or the bundle of the parts in one
 abbrev pub file_import_of : List NamedValue → Option FileImport

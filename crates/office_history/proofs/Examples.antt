@@ -1,20 +1,26 @@
--- Worked examples, computed from the definitions: repeats after the office has moved on, releases that stay, suspect
--- parameter numbers that are given, and arrivals on two networks.
+-- Worked examples, computed from the definitions: repeats after the office has moved on, a file under both profiles,
+-- releases that stay, suspect parameter numbers that are given, and arrivals on two networks.
 use Rattle.std.proofs.Common.{◌≡◌, ℕ, true, false, List, [], ◌∷◌, ◌++◌, filter, map, take, Some, None, IfSome, arith, refl}
 use Rattle.std.specs.Prelude.{codes}
 use Rattle.std.proofs.lemmas.Bool.{false≢true}
 use Rattle.std.proofs.lemmas.List.Elements.{All-from_recursion}
 use Rattle.std.proofs.lemmas.Slice.Eq.{bytes_eq-Decides}
+use Rattle.bitlayout.specs.Bits.{walk, shares_bit, is_inside}
+use Rattle.bitlayout.specs.Clash.{clash_after}
+use Rattle.bitlayout.specs.First.{first_answer}
 use Rattle.catalogue.specs.Messages.{number_of}
 use Rattle.office_types.specs.declared.block.BlockForm.TheVariants as block
 use Rattle.office_types.specs.declared.command.Action.TheVariants as act
 use Rattle.office_types.specs.declared.command.NetKind.TheVariants.{Can}
-use Rattle.office_types.specs.declared.refusal.Refusal.TheVariants.{BlockFull}
-use Rattle.office_types.specs.declared.reply.Reply.TheVariants.{Done, Number, Refused}
+use Rattle.office_types.specs.declared.command.Task.TheVariants.{Import}
+use Rattle.office_types.specs.declared.refusal.Refusal.TheVariants.{BlockFull, FileFault}
+use Rattle.office_types.specs.declared.reply.Reply.TheVariants.{Counts, Done, Number, Refused}
 use Rattle.office_types.specs.declared.state.Office.{Office}
 use Rattle.office_rules.specs.Outcome.{reply_of}
-use Rattle.office_rules.specs.Profile.{Two}
+use Rattle.office_rules.specs.Importing.{FileReading, Reading, Unreadable}
+use Rattle.office_rules.specs.Profile.{Profile, One, Two}
 use Rattle.office_rules.specs.Step.{IsRead, Step, file_wanted, net_named, office_after, opening, step_outcome}
+use Rattle.office_rules.proofs.ProfileRows.{long_file, of_length, read_today, unread_before}
 use Rattle.office_rules.proofs.TeamCommand.{Requested, requests, bus, engine, grants, left_by, office, on_bus, opens, takes, takes_spn, truck}
 use Rattle.office_history.specs.declared.arrival.Answer.{Answer}
 use Rattle.office_history.specs.declared.arrival.Answer.TheVariants as answer
@@ -23,8 +29,11 @@ use Rattle.office_history.specs.History.{Answered, IsAnsweredAs, IsLegal, IsLega
 use Rattle.office_law.specs.Apart.{needs_book}
 use Rattle.office_history.specs.Laws.{HaveOneNetwork, is_on, new_spns}
 
+abbrev answered_under : Profile → Requested → List ℕ → List ℕ → Answer → Answered
+answered_under profile q key content answer = record { profile = profile; team = q.team; key = key; content = content; command = q.command; answer = answer }
+
 abbrev answered : Requested → List ℕ → List ℕ → Answer → Answered
-answered q key content answer = record { profile = Two; team = q.team; key = key; content = content; command = q.command; answer = answer }
+answered q key content answer = answered_under Two q key content answer
 
 abbrev take_1 : Requested
 take_1 = takes engine (codes "E1") None
@@ -52,9 +61,13 @@ requested_first = opens Can 0 ∷ grants engine block.Std 256 258 ∷ take_1 ∷
 the_first : first_arrivals moved_on ≡ take 5 moved_on
 the_first = refl
 
+step_under : (profile : Profile) (o : Office) (q : Requested) → IsRead profile (file_wanted (net_named o q.command.net) q.command.task) q.reading
+    → Step profile o q.team q.command (reply_of (step_outcome o q.team q.reading q.command)) (office_after o (step_outcome o q.team q.reading q.command))
+step_under profile o q read = record { reading = q.reading; read = read; answered = refl; left = refl }
+
 step_of : (o : Office) (q : Requested) → IsRead Two (file_wanted (net_named o q.command.net) q.command.task) q.reading
     → Step Two o q.team q.command (reply_of (step_outcome o q.team q.reading q.command)) (office_after o (step_outcome o q.team q.reading q.command))
-step_of o q read = record { reading = q.reading; read = read; answered = refl; left = refl }
+step_of o q read = step_under Two o q read
 
 abbrev pub after : ℕ → Office
 after n = left_by opening (take n requested_first)
@@ -73,6 +86,47 @@ it_is_legal = record {
     ),
   );
   again = All-from_recursion (λ a. IfSome (first_of moved_on a) (IsAnsweredAs a)) moved_on (refl, (refl, (refl, (refl, (refl, (refl, (refl, tt {0})))))));
+}
+
+-- A file with a message of 100 bytes is refused under the first profile. Its request is answered so again when it is
+-- repeated under the second one, where another request for the same file is carried out.
+
+abbrev brings : FileReading → Requested
+brings reading = record { team = office; reading = reading; command = record { net = truck; task = Import long_file } }
+
+abbrev brings_before : Requested
+brings_before = brings (Unreadable (record { fault = 38; at = 11 }))
+
+abbrev brings_today : Requested
+brings_today = brings (Reading (of_length 100))
+
+abbrev too_long : Answer
+too_long = answer.Reply (Refused (FileFault (record { fault = 38; at = 11 })))
+
+abbrev under_both : List Answered
+under_both =
+    answered_under One (opens Can 0) (codes "o1") (codes "open_net") (answer.Reply Done)
+    ∷ answered_under One brings_before (codes "g1") (codes "import") too_long
+    ∷ answered_under Two brings_today (codes "g1") (codes "import") too_long
+    ∷ answered_under Two brings_today (codes "g2") (codes "import") (answer.Reply (Counts 1 0)) ∷ []
+
+abbrev opened : Office
+opened = left_by opening (opens Can 0 ∷ [])
+
+abbrev imported : Office
+imported = left_by opened (brings_today ∷ [])
+
+it_is_legal_under_both : IsLegal under_both imported
+unfolding walk shares_bit is_inside clash_after first_answer
+it_is_legal_under_both = record {
+  replies = Done ∷ Refused (FileFault (record { fault = 38; at = 11 })) ∷ Counts 1 0 ∷ [];
+  replied = refl;
+  run = (
+    opened,
+    step_under One opening (opens Can 0) (tt {0}),
+    (opened, step_under One opened brings_before unread_before, (imported, step_under Two opened brings_today read_today, refl)),
+  );
+  again = All-from_recursion (λ a. IfSome (first_of under_both a) (IsAnsweredAs a)) under_both (refl, (refl, (refl, (refl, tt {0}))));
 }
 
 -- A second release comes after the first one, which still has the message that is retired by then.

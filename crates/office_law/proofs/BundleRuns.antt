@@ -58,9 +58,9 @@ module _ (profile : Profile) (team name : List ℕ) where
     pub part : Action
     pub later : List Action
     pub split : parts ≡ earlier ++ part ∷ later
-    pub reported : List Reply
+    pub reported : List PartReply
     pub mid : Office
-    pub run : Run o (requests_of profile team name earlier) reported mid
+    pub run : Run o (requests_of profile team name earlier) (map whole_reply reported) mid
     pub refused : Step profile mid team (command_of name part) (Refused why) mid
     pub there : at ≡ number + length earlier
 
@@ -79,15 +79,18 @@ module _ (profile : Profile) (team name : List ℕ) where
   -- after the first part, the outcome of the others
   module _ (o : Office) (number : ℕ) (a : Action) (parts : List Action) (r : Reply) (n : Net) (e : Entries) (is : part_outcome o a ≡ Changing r n e)
       (part : whole_reply (part_reply r) ≡ r) (named : n.name ≡ name) (found : net_named (after_all o n e) name ≡ Some n) where
+    first_step : Step profile o team (command_of name a) (whole_reply (part_reply r)) (after_all o n e)
+    first_step = subst (λ s. Step profile o team (command_of name a) s (after_all o n e)) (sym part) (step_of o a (Changing r n e) is)
+
     joined : (out : PartsOutcome) → RunsTo (after_all o n e) (number + 1) parts out → RunsTo o number (a ∷ parts) (with_part r e out)
     joined (RefusedAt at why) h = record {
       earlier = a ∷ h.earlier;
       part = h.part;
       later = h.later;
       split = ap (λ rest. a ∷ rest) h.split;
-      reported = r ∷ h.reported;
+      reported = part_reply r ∷ h.reported;
       mid = h.mid;
-      run = (after_all o n e, step_of o a (Changing r n e) is, h.run);
+      run = (after_all o n e, first_step, h.run);
       refused = h.refused;
       there = (let w : at ≡ (number + 1) + length h.earlier = h.there in omega (arith, w));
     }
@@ -100,7 +103,7 @@ module _ (profile : Profile) (team name : List ℕ) where
           named = h.named;
           run = (
             after_all o n e,
-            subst (λ s. Step profile o team (command_of name a) s (after_all o n e)) (sym part) (step_of o a (Changing r n e) is),
+            first_step,
             subst (Run (after_all o n e) (requests_of profile team name parts) (map whole_reply reported)) same h.run,
           );
         }

@@ -26,16 +26,16 @@ bundle_of name parts = record { net = name; task = task.Bundle parts }
 abbrev pub requests_of : Profile → List ℕ → List ℕ → List Action → List TeamCommand
 requests_of profile team name parts = map (λ a. (profile, team, command_of name a)) parts
 
--- The earlier parts run, and then this one is refused so. The refusal of the bundle has the part's number, from 1,
--- and the number of the part's refusal.
+-- The earlier parts run, and none of them is refused; then this one is refused so. The refusal of the bundle has the
+-- part's number, from 1, and the number of the part's refusal.
 pub record IsPartRefused (profile : Profile) (before : Office) (team name : List ℕ) (parts : List Action) (refusal : Refusal) : Type 0 where
   pub earlier : List Action
   pub part : Action
   pub later : List Action
   pub split : parts ≡ earlier ++ part ∷ later
-  pub reported : List Reply
+  pub reported : List PartReply
   pub mid : Office
-  pub run : Run before (requests_of profile team name earlier) reported mid
+  pub run : Run before (requests_of profile team name earlier) (map whole_reply reported) mid
   pub why : Refusal
   pub refused : Step profile mid team (command_of name part) (Refused why) mid
   pub reports : refusal ≡ no.BundleRefused (refused_part (length earlier + 1) why)

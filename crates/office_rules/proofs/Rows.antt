@@ -1,5 +1,5 @@
 -- Worked examples of commands without a file, computed from the definitions.
-use Rattle.std.proofs.Common.{◌≡◌, ◌+◌, ◌/◌, ℕ, false, List, [], ◌∷◌, map, Option, Some, None, refl, subst, sym}
+use Rattle.std.proofs.Common.{◌≡◌, ◌+◌, ◌/◌, ℕ, List, [], ◌∷◌, map, Option, Some, None, refl, subst, sym}
 use Rattle.std.proofs.lemmas.Bool.{true≢false}
 use Rattle.std.specs.List.{range_with_len}
 use Rattle.std.specs.Prelude.{◌%◌, codes}
@@ -17,7 +17,6 @@ use Rattle.catalogue.specs.Sheet.{empty_sheet, node_name}
 use Rattle.catalogue.specs.Signals.{signal_tests}
 use Rattle.catalogue.specs.declared.fault.SheetCode.{SheetCode}
 use Rattle.catalogue.specs.declared.fault.SheetCode.TheVariants.{DoubleName}
-use Rattle.catalogue.specs.declared.node.Node.{Node}
 use Rattle.catalogue.specs.declared.sheet.Sheet.{Sheet}
 use Rattle.catalogue.specs.declared.signal.Signal.{Signal}
 use Rattle.catalogue.specs.declared.value_texts.ValueText.{ValueText}

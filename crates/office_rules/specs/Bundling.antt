@@ -1,5 +1,5 @@
 -- Bundles: their parts are carried out in order, all of them or none.
-use Rattle.std.specs.Prelude.{ℕ, List, [], ◌∷◌, ◌++◌, Option, Some, None}
+use Rattle.std.specs.Prelude.{ℕ, List, ◌∷◌, ◌++◌, Option, Some, None}
 use Rattle.office_types.specs.Refusal.{refusal_number}
 use Rattle.office_types.specs.Reply.{part_reply}
 use Rattle.office_types.specs.declared.refusal.FileFault.{FileFault}
@@ -9,7 +9,7 @@ use Rattle.office_types.specs.declared.reply.PartReply.{PartReply}
 use Rattle.office_types.specs.declared.reply.Reply.{Reply}
 use Rattle.office_types.specs.declared.reply.Reply.TheVariants.{Bundle}
 use Rattle.office_types.specs.declared.state.Net.{Net}
-use Rattle.office_rules.specs.Outcome.{Entries, no_entries, Outcome, Refusing, Changing}
+use Rattle.office_rules.specs.Outcome.{Entries, Outcome, Refusing, Changing}
 
 -- The outcome of the parts: the first that is refused, with its number; or, where none is, all their replies, the
 -- network after the last of them, and what they enter into the book.

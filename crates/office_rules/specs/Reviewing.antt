@@ -7,7 +7,6 @@ use Rattle.office_types.specs.PlainName.{is_office}
 use Rattle.office_types.specs.State.{sheet_of}
 use Rattle.office_types.specs.declared.refusal.Refusal.{Refusal}
 use Rattle.office_types.specs.declared.refusal.Refusal.TheVariants as no
-use Rattle.office_types.specs.declared.release.TheConstants.{RELEASE_LIMIT}
 use Rattle.office_types.specs.declared.reply.Reply.TheVariants.{Done, Release}
 use Rattle.office_types.specs.declared.state.Net.{Net}
 use Rattle.office_types.specs.declared.state.Phase.{Phase}
@@ -51,7 +50,7 @@ reject team net =
 
 -- the greatest number of releases of a network
 abbrev pub release_limit : ℕ
-release_limit = RELEASE_LIMIT
+release_limit = 65535
 
 abbrev pub release_tests : List ℕ → Option Net → List (Test Refusal)
 release_tests team net =

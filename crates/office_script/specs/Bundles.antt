@@ -1,11 +1,10 @@
 -- The parts of a bundle, as a file has them: a line for each, of a command without a file and its fields.
-use Rattle.std.specs.Prelude.{ℕ, not, ◌&&◌, ◌==◌, nat_le, List, [], ◌∷◌, length, Option, Some, None, if◌then◌else◌}
+use Rattle.std.specs.Prelude.{ℕ, List, [], ◌∷◌, Option, Some, None, if◌then◌else◌}
 use Rattle.std.specs.Option.{option_map}
-use Rattle.office_types.specs.Parts.{part_limit}
 use Rattle.office_types.specs.declared.command.Action.{Action}
-use Rattle.office_fields.specs.Requested.{part_of}
+use Rattle.office_fields.specs.Requested.{are_parts, part_of}
 use Rattle.office_fields.specs.Kind.{action_of_word}
-use Rattle.office_fields.specs.Value.{◌>>=◌, where_true}
+use Rattle.office_fields.specs.Value.{◌>>=◌}
 use Rattle.office_script.specs.Fields.{fields_of}
 use Rattle.office_script.specs.Lines.{lines_of, says_nothing}
 use Rattle.office_script.specs.Words.{words_of}
@@ -27,9 +26,6 @@ parts_of_lines [] = Some []
 parts_of_lines (line ∷ lines) =
     if says_nothing line then parts_of_lines lines
     else part_of_words (words_of line) >>= λ part. option_map (λ parts. part ∷ parts) (parts_of_lines lines)
-
-abbrev pub are_parts : List Action → Option (List Action)
-are_parts parts = where_true (not (length parts == 0) && nat_le (length parts) part_limit) (Some parts)
 
 -- the parts that a file has, 1 to 64
 abbrev pub parts_in : List ℕ → Option (List Action)

@@ -2,7 +2,8 @@
 ghost use Rattle.std.specs.Prelude.{◌≡◌};
 ghost use Rattle.office_fields.specs.Kind.{action_of_word};
 ghost use Rattle.office_fields.specs.Reading.{Reads};
-ghost use Rattle.office_script.specs.Bundles.{are_parts, part_by, part_of_words, parts_in, parts_of_lines};
+ghost use Rattle.office_fields.specs.Requested.{are_parts};
+ghost use Rattle.office_script.specs.Bundles.{part_by, part_of_words, parts_in, parts_of_lines};
 ghost use Rattle.office_script.specs.Lines.{lines_of};
 ghost use Rattle.office_script.specs.Words.{words_after, words_of};
 

@@ -6,8 +6,11 @@ use Rattle.can_id.specs.declared.form.IdentForm.TheVariants.{Standard, Extended}
 use Rattle.catalogue.specs.Limits.{spn_limit}
 use Rattle.office_types.specs.declared.block.BlockForm.{BlockForm}
 use Rattle.office_types.specs.declared.block.BlockForm.TheVariants.{Std, Ext, Pgn, Spn}
-use Rattle.office_types.specs.declared.block.TheConstants.{GREATEST_PGN}
 use Rattle.office_types.specs.declared.block.Block.{Block}
+
+-- the greatest parameter group number with the extended data page clear (SAE J1939-21)
+abbrev pub greatest_pgn : ℕ
+greatest_pgn = 131071
 
 -- no suspect parameter number is 0, which says that a signal has none
 abbrev pub least_of : BlockForm → ℕ
@@ -19,7 +22,7 @@ least_of Spn = 1
 abbrev pub greatest_of : BlockForm → ℕ
 greatest_of Std = greatest_number Standard
 greatest_of Ext = greatest_number Extended
-greatest_of Pgn = GREATEST_PGN
+greatest_of Pgn = greatest_pgn
 greatest_of Spn = spn_limit
 
 -- the form of the blocks that hold identifiers of a form

@@ -7,17 +7,16 @@ use Rattle.can_id.specs.declared.form.IdentForm.TheVariants.{Standard, Extended}
 use Rattle.can_id.specs.J1939.{format_of, is_pdu1}
 use Rattle.catalogue.specs.Limits.{spn_limit}
 use Rattle.office_types.specs.Least.{IsLeastOf, least_from}
-use Rattle.office_types.specs.Block.{in_block}
+use Rattle.office_types.specs.Block.{greatest_pgn, in_block}
 use Rattle.office_types.specs.declared.free.Form.{Form}
 use Rattle.office_types.specs.declared.free.Form.TheVariants.{Std, Ext, Pdu1, Pdu2, Spn}
 use Rattle.office_types.specs.declared.block.Block.{Block}
-use Rattle.office_types.specs.declared.block.TheConstants.{GREATEST_PGN}
 
 abbrev pub greatest_number : Form → ℕ
 greatest_number Std = identifiers.greatest_number Standard
 greatest_number Ext = identifiers.greatest_number Extended
-greatest_number Pdu1 = GREATEST_PGN
-greatest_number Pdu2 = GREATEST_PGN
+greatest_number Pdu1 = greatest_pgn
+greatest_number Pdu2 = greatest_pgn
 greatest_number Spn = spn_limit
 
 -- the form of the numbers of identifiers

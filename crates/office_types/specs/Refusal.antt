@@ -70,7 +70,7 @@ fault_of (no.FileFault f) = f
 fault_of (no.BundleRefused f) = f
 fault_of r = record { fault = 0; at = 0 }
 
--- all refusals, by number; that of a file has this fault
+-- all refusals, by number; that of a file and that of a bundle have this fault
 abbrev pub all_refusals : FileFault → List Refusal
 all_refusals f =
     no.OutsidePayload ∷

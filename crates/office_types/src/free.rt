@@ -4,9 +4,9 @@ ghost use Rattle.std.specs.Prelude.{IsTrue, IfSome, List, length, slice_index};
 ghost use Rattle.std.specs.List.Sorted.{IsStrictlyIncreasing};
 ghost use Rattle.office_types.specs.Free.{has_form, greatest_number, lesser_of, IsLeastFree, IsNextFormed, IsNextOf};
 ghost use Rattle.office_types.specs.Free.{SplitsAt, least_free};
+ghost use Rattle.office_types.specs.Block.{greatest_pgn};
 ghost use Rattle.office_types.specs.Least.{IsLeastOf};
 ghost use Rattle.office_types.specs.declared.block.Block.{Block};
-ghost use Rattle.office_types.specs.declared.block.TheConstants.{GREATEST_PGN};
 ghost use Rattle.office_types.specs.declared.free.Form.{Form};
 ghost use Rattle.office_types.specs.declared.free.Form.TheVariants.{Pdu1, Pdu2};
 
@@ -99,7 +99,7 @@ pub(crate) fn count_below(taken: &[u32], number: u32) -> usize
 
 /// The least number from `from` on that is a parameter group with a destination address.
 fn next_addressed(from: u32) -> u32
-    requires { from ≤ GREATEST_PGN }
+    requires { from ≤ greatest_pgn }
     ensures { IsNextFormed Pdu1 from result }
 {
     let row = (from + 255) / 256;
@@ -112,7 +112,7 @@ fn next_addressed(from: u32) -> u32
 
 /// The least number from `from` on that is a parameter group without a destination address.
 fn next_broadcast(from: u32) -> u32
-    requires { from ≤ GREATEST_PGN }
+    requires { from ≤ greatest_pgn }
     ensures { IsNextFormed Pdu2 from result }
 {
     if has_destination(from) {

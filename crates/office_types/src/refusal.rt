@@ -158,7 +158,8 @@ impl Refusal {
         }
     }
 
-    /// The refusal of this number, with the fault where it is that of a file; `None` where no refusal has the number.
+    /// The refusal of this number, with the fault where it is that of a file or of a bundle; `None` where no refusal has
+    /// the number.
     pub fn of_number(number: u32, fault: FileFault) -> Option<Refusal>
         ensures { result ≡ refusal_at number fault }
     {
@@ -169,7 +170,7 @@ impl Refusal {
     }
 }
 
-/// All refusals, by number, with the fault for that of a file.
+/// All refusals, by number, with the fault for that of a file and for that of a bundle.
 fn all_refusals(fault: FileFault) -> [Refusal; 28]
     ensures { result ≡ all_refusals fault }
 {

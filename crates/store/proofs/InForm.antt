@@ -1,5 +1,5 @@
 -- Tables of some form that hold a history, as an office is opened on them.
-use Rattle.std.proofs.Common.{◌≡◌, ◌∙◌, false, inl, inr, List, refl, sym, subst}
+use Rattle.std.proofs.Common.{◌≡◌, ◌⊎◌, ◌∙◌, false, inl, inr, List, refl, sym, subst}
 use Rattle.std.specs.Prelude.{◌≢◌, IsTrue}
 use Rattle.sqlite.specs.Effect.{Database}
 use Rattle.sqlite.specs.Schema.{Schema}
@@ -20,9 +20,9 @@ use Rattle.store_carry.specs.declared.forms.Form.TheVariants.{All, Bodies, Forei
 use Rattle.store_carry.specs.declared.marks.Marks.{Marks}
 use Rattle.store_carry.specs.declared.marks.Marks.TheVariants as marks
 use Rattle.store_carry.specs.declared.marks.Marks.TheVariants.{Newer, Second}
-use Rattle.store_carry.proofs.ProfileRows.{is_second, not_second, second_or_bodies, second_or_first}
+use Rattle.store_carry.proofs.ProfileRows.{bodies_or_newer, first_or_newer, is_second, not_second, second_or_bodies, second_or_first, second_or_newer}
 use Rattle.store.specs.Holding.{Holding, Keeps, Leaves}
-use Rattle.store.specs.Opening.{HasOffice, HasTables, HoldingInSomeForm, HoldingOlder, IsCarried, IsGrown, KeepsInSomeForm, MayCarry, MayGrow, MayMigrate}
+use Rattle.store.specs.Opening.{HasForm, HasOffice, HasOlderMarks, HasTables, HoldingInSomeForm, HoldingOlder, IsCarried, IsGrown, KeepsInSomeForm, MayCarry, MayComplete, MayGrow, MayMigrate}
 
 -- ---- forms and their schemas
 
@@ -65,6 +65,9 @@ in_form h s holding = record {
     },
   );
 }
+
+pub with_form : (form : Form) (s : State) → HasForm form s → s.now.schema ≡ schema_of form → IsOfficeWith (schema_of form) s.now
+with_form form s tables schema = record { schema_is = schema; sound = tables.sound; numbered = tables.numbered }
 
 abbrev pub office_in_form : (h : List Answered) (s : State) → HoldingInSomeForm h s → HasOffice s
 office_in_form h s holding =
@@ -162,59 +165,75 @@ migrated h old new holding schema settled same grown carried = by_profile holdin
         let marks = newer_second form h old.now.trees keeps in
         completed h old new (record { is_open = holding.is_open; keeps = (Two, form, keeps) }) schema settled marks (λ all. same all marks) (λ rows. grown rows marks)
 
--- ---- what a crash leaves
+-- ---- what the marks exclude
 
--- all tables, whose rows hold the history under a profile
-in_all : (p : Profile) (h : List Answered) (db : Database) → IsOffice db → HoldsAsRows p h (tables_of db.trees) → KeepsAs p All h db.trees
-in_all One h db office holds = record { sound = office.trees.sound; numbered = office.trees.numbered; holds = subst (HoldsAsRows One h) (named_rows db.trees) holds }
-in_all Two h db office holds = record { sound = office.trees.sound; numbered = office.trees.numbered; holds = subst (HoldsAsRows Two h) (named_rows db.trees) holds }
+pub older_or_second : (t : Tables) → HasOlderMarks t → HasMarks t Second → ⊥
+older_or_second t (inl bodies) second = second_or_bodies t second bodies
+older_or_second t (inr first) second = second_or_first t second first
 
-rows_held : (p : Profile) (h : List Answered) (db : Trees) → KeepsAs p Rows h db → HoldsAsRows p h (tables_in schema_13 db)
-rows_held One h db keeps = keeps.holds
-rows_held Two h db keeps = keeps.holds
+older_or_newer : (t : Tables) → HasOlderMarks t → HasMarks t Newer → ⊥
+older_or_newer t (inl bodies) newer = bodies_or_newer t bodies newer
+older_or_newer t (inr first) newer = first_or_newer t first newer
 
-grown_in_form : (h : List Answered) (before : Database) (after : Trees) (keeps : KeepsInSomeForm h before.trees) → before.schema ≡ schema_of keeps.1 → MayGrow before after → KeepsInSomeForm h after
-grown_in_form h before after keeps schema grows = by_form keeps.0 keeps.1 keeps.2 schema
-  where
-    by_form : (p : Profile) (form : Form) → KeepsAs p form h before.trees → before.schema ≡ schema_of form → KeepsInSomeForm h after
-    by_form p Bodies keeps schema = absurd (grows.not_first schema)
-    by_form p Rows keeps schema =
-        let it = grows.grown (with_office Rows before p h schema keeps) in
-        (p, All, subst (KeepsAs p All h) (sym it.2) (in_all p h it.0 it.1.office (subst (HoldsAsRows p h) (sym it.1.tables_are) (rows_held p h before.trees keeps))))
-    by_form p All keeps schema = absurd (grows.not_all schema)
-    by_form p Foreign keeps schema = absurd (known_form p Foreign h before.trees keeps refl)
-
-carried_in_form : (h : List Answered) (before : Database) (after : Trees) (keeps : KeepsInSomeForm h before.trees) → before.schema ≡ schema_of keeps.1
-    → ¬ HasMarks (tables_of before.trees) Second → MayCarry before after → KeepsInSomeForm h after
-carried_in_form h before after keeps schema other carries = by_profile keeps.0 keeps.1 keeps.2 schema
-  where
-    by_profile : (p : Profile) (form : Form) → KeepsAs p form h before.trees → before.schema ≡ schema_of form → KeepsInSomeForm h after
-    by_profile One form keeps schema =
-        let it = carries form (known_form One form h before.trees keeps) (with_office form before One h schema keeps) in
-        (Two, All, subst (KeepsAs Two All h) (sym it.2) (in_all Two h it.0 it.1.office (it.1.holds h keeps)))
-    by_profile Two form keeps schema = absurd (other (newer_second form h before.trees keeps))
-
-pub left_in_form : (h : List Answered) (old new : State) (holding : HoldingInSomeForm h old) → old.now.schema ≡ schema_of holding.keeps.1 → ((db : Trees) → old.may_leave db → db ≡ old.now.trees)
-    → Survives old new (MayGrow old.now) → HasCleanDisk new → Leaves (KeepsInSomeForm h) new
-left_in_form h old new holding schema leaves survives clean db left = elim (survives.crash clean db left) [
-  | inl was ↦ subst (KeepsInSomeForm h) (sym (leaves db was)) holding.keeps
-  | inr grows ↦ grown_in_form h old.now db holding.keeps schema grows
-]
-
-pub left_migrating : (h : List Answered) (old new : State) (holding : HoldingInSomeForm h old) → old.now.schema ≡ schema_of holding.keeps.1 → ((db : Trees) → old.may_leave db → db ≡ old.now.trees)
-    → Survives old new (MayMigrate old.now) → HasCleanDisk new → Leaves (KeepsInSomeForm h) new
-left_migrating h old new holding schema leaves survives clean db left = elim (survives.crash clean db left) [
-  | inl was ↦ subst (KeepsInSomeForm h) (sym (leaves db was)) holding.keeps
-  | inr migrates ↦ elim migrates [
-    | inl grows ↦ grown_in_form h old.now db holding.keeps schema grows
-    | inr carries ↦ carried_in_form h old.now db holding.keeps schema carries.0 carries.1
-  ]
-]
+pub known_or_newer : (t : Tables) → HasMarks t Second ⊎ HasOlderMarks t → HasMarks t Newer → ⊥
+known_or_newer t (inl second) newer = second_or_newer t second newer
+known_or_newer t (inr older) newer = older_or_newer t older newer
 
 -- marks that are none of the others' are those of the first profile
-pub older_marks : (t : Tables) (m : Marks) → m ≢ Second → m ≢ Newer → m ≢ marks.Foreign → HasMarks t m → HasMarks t Second → ⊥
-older_marks t marks.Bodies second newer foreign has other = second_or_bodies t other has
-older_marks t marks.First second newer foreign has other = second_or_first t other has
-older_marks t Second second newer foreign has other = second refl
-older_marks t Newer second newer foreign has other = newer refl
-older_marks t marks.Foreign second newer foreign has other = foreign refl
+pub older_marks : (t : Tables) (m : Marks) → m ≢ Second → m ≢ Newer → m ≢ marks.Foreign → HasMarks t m → HasOlderMarks t
+older_marks t marks.Bodies second newer foreign has = inl has
+older_marks t marks.First second newer foreign has = inr has
+older_marks t Second second newer foreign has = absurd (second refl)
+older_marks t Newer second newer foreign has = absurd (newer refl)
+older_marks t marks.Foreign second newer foreign has = absurd (foreign refl)
+
+-- tables of a newer profile are neither carried over nor completed
+pub none_migrates : (before : Database) (after : Trees) → HasMarks (tables_of before.trees) Newer → MayMigrate before after → ⊥
+none_migrates before after newer (inl completes) = second_or_newer (tables_of before.trees) completes.0 newer
+none_migrates before after newer (inr carries) = older_or_newer (tables_of before.trees) carries.0 newer
+
+-- ---- what a crash leaves
+
+-- the tables that the connection committed, or those of now, which hold the history
+abbrev pub IsEither : List Answered → State → Trees → Type 0
+IsEither h old db = (db ≡ old.committed.trees) ⊎ Keeps h db
+
+-- the table of parts is made beside tables of the second profile, so they hold the history then
+grown_keeps : (h : List Answered) (before : Database) (after : Trees) (keeps : KeepsInSomeForm h before.trees) → before.schema ≡ schema_of keeps.1 → MayComplete before after → Keeps h after
+grown_keeps h before after keeps schema completes = by_form keeps.0 keeps.1 keeps.2 schema
+  where
+    by_form : (p : Profile) (form : Form) → KeepsAs p form h before.trees → before.schema ≡ schema_of form → Keeps h after
+    by_form One form keeps schema = absurd (older_not_second form h before.trees keeps completes.0)
+    by_form Two Bodies keeps schema = absurd keeps.holds
+    by_form Two Rows keeps schema =
+        let it = completes.1.grown (with_office Rows before Two h schema keeps) in
+        subst (Keeps h) (sym it.2) (record { office = it.1.office.trees; holds = subst (HoldsAsRows Two h) (sym it.1.tables_are) keeps.holds })
+    by_form Two All keeps schema = absurd (completes.1.not_all schema)
+    by_form Two Foreign keeps schema = absurd keeps.holds
+
+carried_keeps : (h : List Answered) (before : Database) (after : Trees) (keeps : KeepsInSomeForm h before.trees) → before.schema ≡ schema_of keeps.1
+    → HasOlderMarks (tables_of before.trees) → MayCarry before after → Keeps h after
+carried_keeps h before after keeps schema older carries = by_profile keeps.0 keeps.1 keeps.2 schema
+  where
+    by_profile : (p : Profile) (form : Form) → KeepsAs p form h before.trees → before.schema ≡ schema_of form → Keeps h after
+    by_profile One form keeps schema =
+        let it = carries form (known_form One form h before.trees keeps) (with_office form before One h schema keeps) in
+        subst (Keeps h) (sym it.2) (record { office = it.1.office.trees; holds = it.1.holds h keeps })
+    by_profile Two form keeps schema = absurd (older_or_second (tables_of before.trees) older (newer_second form h before.trees keeps))
+
+pub left_in_form : (h : List Answered) (old new : State) (holding : HoldingInSomeForm h old) → old.now.schema ≡ schema_of holding.keeps.1 → ((db : Trees) → old.may_leave db → db ≡ old.committed.trees)
+    → Survives old new (MayComplete old.now) → HasCleanDisk new → Leaves (IsEither h old) new
+left_in_form h old new holding schema leaves survives clean db left = elim (survives.crash clean db left) [
+  | inl was ↦ inl (leaves db was)
+  | inr completes ↦ inr (grown_keeps h old.now db holding.keeps schema completes)
+]
+
+pub left_migrating : (h : List Answered) (old new : State) (holding : HoldingInSomeForm h old) → old.now.schema ≡ schema_of holding.keeps.1 → ((db : Trees) → old.may_leave db → db ≡ old.committed.trees)
+    → Survives old new (MayMigrate old.now) → HasCleanDisk new → Leaves (IsEither h old) new
+left_migrating h old new holding schema leaves survives clean db left = elim (survives.crash clean db left) [
+  | inl was ↦ inl (leaves db was)
+  | inr migrates ↦ inr (elim migrates [
+    | inl completes ↦ grown_keeps h old.now db holding.keeps schema completes
+    | inr carries ↦ carried_keeps h old.now db holding.keeps schema carries.0 carries.1
+  ])
+]

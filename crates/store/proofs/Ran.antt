@@ -1,21 +1,27 @@
 -- A list of arrivals, and one more.
 use Rattle.std.proofs.Common.{◌≡◌, ◌⊎◌, inl, inr, true, false, List, [], ◌∷◌, ◌++◌, length, Ok, Err, Result, refl, sym, ap, subst, ◌∙◌, arith, append_assoc, append-nil, length-append}
-use Rattle.std.specs.Prelude.{All, Bool, ◌↔◌, IfErr, IfOk, IsTrue, OnErr}
+use Rattle.std.specs.Option.{option_or}
+use Rattle.std.specs.Prelude.{All, Bool, Contains, Option, Some, None, ◌↔◌, IfErr, IfOk, IsErr, IsSome, IsTrue, OnErr}
 use Rattle.std.proofs.lemmas.Bool.{cases_Bool}
-use Rattle.std.proofs.lemmas.List.Elements.{All-push, Contains-append_left, Contains-push}
+use Rattle.std.proofs.lemmas.List.Elements.{All-contains, All-push, Contains-append_left, Contains-push}
+use Rattle.std.proofs.lemmas.List.Folds.{find-append}
+use Rattle.sqlite.specs.Effect.{Database}
 use Rattle.sqlite.specs.Held.{state}
 use Rattle.sqlite.specs.State.{State}
 use Rattle.sqlite.specs.Tree.{Trees}
 use Rattle.sqlite_trees.specs.declared.store.Store.{Ghosts}
 use Rattle.office_history.specs.declared.arrival.Answer.{Answer}
 use Rattle.office_history.specs.declared.arrival.Arrival.{Arrival}
-use Rattle.office_history.specs.History.{Answered, IsLegalHistory}
+use Rattle.office_history.specs.History.{Answered, IsLegalHistory, first_of, same_pair}
 use Rattle.office_history.specs.Laws.{IsInRange}
+use Rattle.office_law.proofs.Lists.{All-from_contains}
 use Rattle.store.specs.declared.lost.Lost.{Lost}
 use Rattle.store.specs.declared.lost.Lost.TheVariants.{Memory, NewerProfile, OlderProfile, Store}
 use Rattle.store.specs.Lost.{IsOfCall}
+use Rattle.office_tables.specs.Tables.{AreOffice}
 use Rattle.store.specs.Holding.{Holding, Keeps, Leaves}
 use Rattle.store.specs.Office.{OfficeView}
+use Rattle.store.specs.Opening.{HasTables}
 use Rattle.store.specs.Headline.{HasRun}
 use Rattle.office_history.specs.Answering.{reported}
 use Rattle.store.specs.Running.{FailsBy, IsNoProfile, KeepsWithOne, answered_of, is_failure, lost_of}
@@ -87,6 +93,13 @@ named_more rs r all named = All-push IsNoProfile rs r all (is_named r named)
     is_named (Ok answer) named = ((λ e. cc), (λ e. cc))
     is_named (Err lost) named = ((λ e. named.0 (let it : lost ≡ NewerProfile = cc in it)), (λ e. named.1 (let it : lost ≡ OlderProfile = cc in it)))
 
+-- unless the office has failed, a loss is that memory ran out
+by_memory : (after : Bool) (lost : Lost) → (IsTrue after ↔ (◌≡◌ {A = Result Answer Lost} (Err lost) (Err Store))) → IsOfCall lost → after ≡ false → lost ≡ Memory
+by_memory after Memory failed named working = refl
+by_memory after Store failed named working = absurd (let both : true ≡ false = sym (failed.1 refl) ∙ working in cc)
+by_memory after NewerProfile failed named working = absurd (named.0 refl)
+by_memory after OlderProfile failed named working = absurd (named.1 refl)
+
 -- ---- what is held after it
 
 -- no arrival leaves the history as it is
@@ -146,13 +159,6 @@ module _ {S : Type 0} (g : Ghosts S) (h : List Answered) (xs : List Arrival) (rs
             ]));
       }
 
-  -- unless the office has failed, a loss is that memory ran out
-  by_memory : (lost : Lost) → (IsTrue new.failed ↔ (◌≡◌ {A = Result Answer Lost} (Err lost) (Err Store))) → IsOfCall lost → new.failed ≡ false → lost ≡ Memory
-  by_memory Memory failed named working = refl
-  by_memory Store failed named working = absurd (let both : true ≡ false = sym (failed.1 refl) ∙ working in cc)
-  by_memory NewerProfile failed named working = absurd (named.0 refl)
-  by_memory OlderProfile failed named working = absurd (named.1 refl)
-
   pub run_more : (r : Result Answer Lost) → (IsTrue new.failed ↔ (r ≡ Err Store)) → (IsTrue old.failed → new ≡ old) → IfErr r IsOfCall
       → ((k : List Answered) → Holding k (state g old.conn) → IfOk r (λ answer. Holding (k ++ reported a answer ∷ []) (state g new.conn) × Leaves (Keeps (k ++ reported a answer ∷ [])) (state g new.conn)))
       → ((k : List Answered) → Holding k (state g old.conn) → IsTrue (state g new.conn).is_open → OnErr r (Holding k (state g new.conn)))
@@ -167,5 +173,84 @@ module _ {S : Type 0} (g : Ghosts S) (h : List Answered) (xs : List Arrival) (rs
     | inl over ↦ subst (λ (o : OfficeView S). HasRun h (xs ++ a ∷ []) (rs ++ Err e ∷ []) o.failed (state g o.conn)) (sym (refused over)) (failed_more e over)
     | inr working ↦
         let held = before.held (before.is_open working) in
-        lost_next e (λ fine. is_open (by_memory e failed named fine)) (λ now. lost (h ++ answered_of xs rs) held now) (left (h ++ answered_of xs rs) held)
+        lost_next e (λ fine. is_open (by_memory new.failed e failed named fine)) (λ now. lost (h ++ answered_of xs rs) held now) (left (h ++ answered_of xs rs) held)
   ]
+
+-- ---- where nothing new was answered
+
+-- the tables of the last state are those of the first
+abbrev pub IsSame : State → State → Type 0
+IsSame first last = (last.now ≡ first.now) × (last.committed ≡ first.committed)
+
+same_then : (a b c : State) → IsSame a b → IsSame b c → IsSame a c
+same_then a b c one two = (two.0 ∙ one.0, two.1 ∙ one.1)
+
+-- what holds of the results holds of those before the last one, and of that
+before_last : {X : Type 0} (P : X → Type 0) (rs : List X) (r : X) → All P (rs ++ r ∷ []) → All P rs
+before_last P rs r all = All-from_contains P rs (λ x within. All-contains P (rs ++ r ∷ []) x all (Contains-append_left rs (r ∷ []) x within))
+
+the_last : {X : Type 0} (P : X → Type 0) (rs : List X) (r : X) → All P (rs ++ r ∷ []) → P r
+the_last P rs r all = All-contains P (rs ++ r ∷ []) r all (Contains-push rs r)
+
+-- the tables are as before while the connection is open, which it is unless the office has failed
+abbrev pub IsAsBefore : Bool → State → State → Type 0
+IsAsBefore failed first last = (failed ≡ false → IsTrue last.is_open) × (IsTrue last.is_open → IsSame first last)
+
+module _ {S : Type 0} (g : Ghosts S) (first : State) (old new : OfficeView S) where
+  -- one more arrival was lost
+  lost_again : (r : Result Answer Lost) → IsErr r → HasTables first → IsAsBefore old.failed first (state g old.conn)
+      → (IsTrue new.failed ↔ (r ≡ Err Store)) → (IsTrue old.failed → new ≡ old) → IfErr r IsOfCall
+      → (HasTables (state g old.conn) → IsTrue (state g new.conn).is_open → OnErr r (IsSame (state g old.conn) (state g new.conn)))
+      → IfErr r (λ lost. lost ≡ Memory → IsTrue (state g new.conn).is_open) → IsAsBefore new.failed first (state g new.conn)
+  lost_again (Ok answer) lost tables before failed refused named same is_open = absurd (cc)
+  lost_again (Err e) lost tables before failed refused named same is_open = elim (cases_Bool old.failed) [
+    | inl over ↦ subst (λ (o : OfficeView S). IsAsBefore o.failed first (state g o.conn)) (sym (refused over)) before
+    | inr working ↦
+        let opened = before.0 working in
+        let was = before.1 opened in
+        let held : HasTables (state g old.conn) = record { is_open = opened; office = subst (λ (d : Database). AreOffice d.trees) (sym was.0) tables.office } in
+        ((λ fine. is_open (by_memory new.failed e failed named fine)), λ now. same_then first (state g old.conn) (state g new.conn) was (same held now))
+  ]
+
+  pub lost_more_same : (rs : List (Result Answer Lost)) (r : Result Answer Lost) → HasTables first → (All IsErr rs → IsAsBefore old.failed first (state g old.conn))
+      → (IsTrue new.failed ↔ (r ≡ Err Store)) → (IsTrue old.failed → new ≡ old) → IfErr r IsOfCall
+      → (HasTables (state g old.conn) → IsTrue (state g new.conn).is_open → OnErr r (IsSame (state g old.conn) (state g new.conn)))
+      → IfErr r (λ lost. lost ≡ Memory → IsTrue (state g new.conn).is_open) → All IsErr (rs ++ r ∷ []) → IsAsBefore new.failed first (state g new.conn)
+  lost_more_same rs r tables before failed refused named same is_open lost =
+      lost_again r (the_last IsErr rs r lost) tables (before (before_last IsErr rs r lost)) failed refused named same is_open
+
+-- an arrival of the history repeats, also where more came after it
+repeats_later : (h k : List Answered) (a : Answered) → IsSome (first_of h a) → IsSome (first_of (h ++ k) a)
+repeats_later h k a some = subst IsSome (sym (find-append (λ b. same_pair b a) h k)) (stays (first_of h a) (first_of k a) some)
+  where
+    stays : (one two : Option Answered) → IsSome one → IsSome (option_or one two)
+    stays (Some f) two some = some
+    stays None two some = absurd (cc)
+
+abbrev pub Repeats : List Answered → Answered → Type 0
+Repeats h a = IsSome (first_of h a)
+
+module _ {S : Type 0} (g : Ghosts S) (first : State) (h : List Answered) (xs : List Arrival) (rs : List (Result Answer Lost)) (a : Arrival) (old new : OfficeView S) (ran : HasRun h xs rs old.failed (state g old.conn)) where
+  pub repeated_more : (r : Result Answer Lost) → (All (Repeats h) (answered_of xs rs) → IsTrue (state g old.conn).is_open → IsSame first (state g old.conn))
+      → (IsTrue new.failed ↔ (r ≡ Err Store)) → (IsTrue old.failed → new ≡ old)
+      → ((k : List Answered) → Holding k (state g old.conn) → IfOk r (λ answer. IsSome (first_of k (reported a answer)) → IsSame (state g old.conn) (state g new.conn)))
+      → (HasTables (state g old.conn) → IsTrue (state g new.conn).is_open → OnErr r (IsSame (state g old.conn) (state g new.conn)))
+      → All (Repeats h) (answered_of (xs ++ a ∷ []) (rs ++ r ∷ [])) → IsTrue (state g new.conn).is_open → IsSame first (state g new.conn)
+  repeated_more (Ok answer) before failed refused again same repeats now = elim (cases_Bool old.failed) [
+    | inl over ↦ absurd (let both = failed.0 (ap (λ (o : OfficeView S). o.failed) (refused over) ∙ over) in cc)
+    | inr working ↦
+        let all = subst (All (Repeats h)) (answered_more xs rs a answer ran.each) repeats in
+        let opened = ran.is_open working in
+        let this = repeats_later h (answered_of xs rs) (reported a answer) (the_last (Repeats h) (answered_of xs rs) (reported a answer) all) in
+        same_then first (state g old.conn) (state g new.conn) (before (before_last (Repeats h) (answered_of xs rs) (reported a answer) all) opened)
+        (again (h ++ answered_of xs rs) (ran.held opened) this)
+  ]
+  repeated_more (Err e) before failed refused again same repeats now =
+      let earlier = subst (All (Repeats h)) (answered_same xs rs a e ran.each) repeats in
+      elim (cases_Bool old.failed) [
+        | inl over ↦ subst (λ (o : OfficeView S). IsTrue (state g o.conn).is_open → IsSame first (state g o.conn)) (sym (refused over)) (before earlier) now
+        | inr working ↦
+            let opened = ran.is_open working in
+            let held : HasTables (state g old.conn) = record { is_open = opened; office = (ran.held opened).keeps.office } in
+            same_then first (state g old.conn) (state g new.conn) (before earlier opened) (same held now)
+      ]

@@ -27,6 +27,12 @@ pub record HasTables (s : State) : Type 0 where
   pub is_open : IsTrue s.is_open
   pub office : AreOffice s.now.trees
 
+-- the same of an office of that form
+pub record HasForm (form : Form) (s : State) : Type 0 where
+  pub is_open : IsTrue s.is_open
+  pub sound : IsSound (schema_of form) s.now.trees
+  pub numbered : AreNumbered (schema_of form) s.now.trees
+
 -- the same of an office of some time
 pub record HasOffice (s : State) : Type 0 where
   pub is_open : IsTrue s.is_open
@@ -63,9 +69,17 @@ pub record MayGrow (before : Database) (after : Trees) : Type 0 where
 abbrev pub MayCarry : Database → Trees → Type 0
 MayCarry before after = (form : Form) → form ≢ Foreign → IsOfficeWith (schema_of form) before → (db : Database) × IsCarried form before.trees db × (after ≡ db.trees)
 
--- what a crash may leave of either; only tables whose profile isn't the second are carried over
+-- the profile is the first
+abbrev pub HasOlderMarks : Tables → Type 0
+HasOlderMarks t = HasMarks t Bodies ⊎ HasMarks t First
+
+-- What a crash may leave of an open: only tables whose profile is the second get the table of parts.
+abbrev pub MayComplete : Database → Trees → Type 0
+MayComplete before after = HasMarks (tables_of before.trees) Second × MayGrow before after
+
+-- The same of `migrate`: only tables whose profile is the first are carried over.
 abbrev pub MayMigrate : Database → Trees → Type 0
-MayMigrate before after = MayGrow before after ⊎ ((¬ HasMarks (tables_of before.trees) Second) × MayCarry before after)
+MayMigrate before after = MayComplete before after ⊎ (HasOlderMarks (tables_of before.trees) × MayCarry before after)
 
 -- the trees hold the history in the tables of some profile and form, or in those of the first profile
 abbrev pub KeepsInSomeForm : List Answered → Trees → Type 0
@@ -82,7 +96,3 @@ pub record HoldingInSomeForm (h : List Answered) (s : State) : Type 0 where
 pub record HoldingOlder (h : List Answered) (s : State) : Type 0 where
   pub is_open : IsTrue s.is_open
   pub keeps : KeepsOlder h s.now.trees
-
--- the profile is the first
-abbrev pub HasOlderMarks : Tables → Type 0
-HasOlderMarks t = HasMarks t Bodies ⊎ HasMarks t First

@@ -1,13 +1,23 @@
 //! Calls that are lost.
-ghost use Rattle.std.specs.Prelude.{◌≡◌, false, IsTrue};
+ghost use Rattle.std.specs.Prelude.{◌≡◌, false, Err, IsTrue};
 ghost use Rattle.sqlite.specs.Held.{state};
 ghost use Rattle.sqlite.specs.State.{HasCleanDisk, Survives};
+ghost use Rattle.sqlite_resolve.specs.declared.error.CompileError.{CompileError};
 ghost use Rattle.store.specs.Lost.{IsOfCall};
 
 use crate::lost::Lost;
-use sqlite::{Alter, Connection, Error};
+use sqlite::{Alter, Connection, Error, Statement};
+
+/// Whether the text was refused for what it is.
+fn is_refused(prepared: &Result<Statement, Error>) -> bool
+    ensures { IsTrue result → (fault : CompileError) × (prepared.now ≡ Err (Error.SqlInputError fault)) }
+{
+    matches!(prepared, Err(Error::SqlInputError(_)))
+}
 
 /// Whether the connection is still open, so that it shows the last commit. A failure of the disk may have shut it.
+/// This takes no new memory, since memory may be what is lacking: an open one refuses a text that begins no statement
+/// before it requests any.
 fn is_open<S: Alter>(conn: &mut Connection<S>) -> bool
     requires { (state S.Store conn.old).in_transaction ≡ false }
     ensures autocommit { (state S.Store conn.new).in_transaction ≡ false }
@@ -21,9 +31,9 @@ fn is_open<S: Alter>(conn: &mut Connection<S>) -> bool
     ensures survives { Survives (state S.Store conn.old) (state S.Store conn.new) (λ _. ⊥) }
 {
     let _settled_before = conn.is_autocommit();
-    let prepared = conn.prepare("");
+    let prepared = conn.prepare("no statement");
     let _settled = conn.is_autocommit();
-    prepared.is_ok()
+    is_refused(&prepared)
 }
 
 /// Why a call is lost in which this error came: out of memory, if the connection is still open, and else an error of

@@ -13,8 +13,8 @@ ghost use Rattle.store_carry.specs.Marks.{HasMarks};
 ghost use Rattle.store_carry.specs.declared.forms.Form.{Form as FormOf};
 ghost use Rattle.store.specs.Holding.{Holding, Keeps, Leaves};
 ghost use Rattle.store.specs.Lost.{IsOfCall};
-ghost use Rattle.store.specs.Opening.{HasNone, HasOffice, HasTables, HoldingInSomeForm, IsCarried, IsGrown, IsNew};
-ghost use Rattle.store.specs.Opening.{KeepsInSomeForm, MayCarry, MayMigrate};
+ghost use Rattle.store.specs.Opening.{HasForm, HasNone, HasOffice, HasOlderMarks, HasTables, HoldingInSomeForm};
+ghost use Rattle.store.specs.Opening.{IsCarried, IsGrown, IsNew, MayCarry, MayMigrate};
 
 use crate::lost::Lost;
 use crate::opening::{complete, leaves_committed, start};
@@ -77,6 +77,9 @@ fn make_current<S: Alter, W: Watch>(
         → OnOk result (IsCarried form (state S.Store conn.old).now.trees (state S.Store conn.new).now
         × ((state S.Store conn.new).committed ≡ (state S.Store conn.new).now)
         × IsTrue (state S.Store conn.new).is_open) }
+    ensures known { HasCleanDisk (state S.Store conn.new) → IsOfficeSchema (state S.Store conn.old).now.schema
+        → OnOk result (HasMarks (tables_of (state S.Store conn.old).now.trees) Marks.Second
+        ⊎ HasOlderMarks (tables_of (state S.Store conn.old).now.trees)) }
     ensures newer { HasCleanDisk (state S.Store conn.new) → IsOfficeSchema (state S.Store conn.old).now.schema
         → IfErr result (λ lost. lost ≡ Lost.NewerProfile
         → HasMarks (tables_of (state S.Store conn.old).now.trees) Marks.Newer) }
@@ -132,6 +135,19 @@ impl<S: Alter> StoredOffice<S> {
         ensures migrated { IfOk result (λ office. HasCleanDisk (state S.Store office.conn) → (h : List Answered)
             → HoldingInSomeForm h (state S.Store conn) → Holding h (state S.Store office.conn)
             × Leaves (Keeps h) (state S.Store office.conn)) }
+        ensures grown { IfOk result (λ office. HasCleanDisk (state S.Store office.conn)
+            → HasForm Form.Rows (state S.Store conn)
+            → HasMarks (tables_of (state S.Store conn).now.trees) Marks.Second
+            → IsGrown (state S.Store conn).now.trees (state S.Store office.conn).now
+            × ((state S.Store office.conn).committed ≡ (state S.Store office.conn).now)
+            × IsTrue (state S.Store office.conn).is_open) }
+        ensures known { IfOk result (λ office. HasCleanDisk (state S.Store office.conn)
+            → HasOffice (state S.Store conn) → HasMarks (tables_of (state S.Store conn).now.trees) Marks.Second
+            ⊎ HasOlderMarks (tables_of (state S.Store conn).now.trees)) }
+        ensures newer_stays { HasOffice (state S.Store conn)
+            → HasMarks (tables_of (state S.Store conn).now.trees) Marks.Newer
+            → MatchResult result (λ office. HasCleanDisk (state S.Store office.conn) → ⊥)
+            (λ lost. Survives (state S.Store conn) (state S.Store lost.1) (λ _. ⊥)) }
         ensures newer { IfErr result (λ lost. HasCleanDisk (state S.Store lost.1) → HasOffice (state S.Store conn)
             → lost.0 ≡ Lost.NewerProfile → HasMarks (tables_of (state S.Store conn).now.trees) Marks.Newer) }
         ensures never_older { IfErr result (λ lost. lost.0 ≢ Lost.OlderProfile) }
@@ -141,8 +157,9 @@ impl<S: Alter> StoredOffice<S> {
             → (state S.Store lost.1).committed ≡ (state S.Store conn).committed) }
         ensures left { (h : List Answered) → HoldingInSomeForm h (state S.Store conn)
             → MatchResult result (λ office. HasCleanDisk (state S.Store office.conn)
-            → Leaves (KeepsInSomeForm h) (state S.Store office.conn))
-            (λ lost. HasCleanDisk (state S.Store lost.1) → Leaves (KeepsInSomeForm h) (state S.Store lost.1)) }
+            → Leaves (λ db. (db ≡ (state S.Store conn).committed.trees) ⊎ Keeps h db) (state S.Store office.conn))
+            (λ lost. HasCleanDisk (state S.Store lost.1)
+            → Leaves (λ db. (db ≡ (state S.Store conn).committed.trees) ⊎ Keeps h db) (state S.Store lost.1)) }
         ensures clean { MatchResult result (λ office. doubt (state S.Store conn).is_clean ≤ doubt
             (state S.Store office.conn).is_clean)
             (λ lost. doubt (state S.Store conn).is_clean ≤ doubt (state S.Store lost.1).is_clean) }

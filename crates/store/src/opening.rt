@@ -12,8 +12,8 @@ ghost use Rattle.office_history.specs.History.{Answered};
 ghost use Rattle.store_carry.specs.Marks.{HasMarks};
 ghost use Rattle.store.specs.Holding.{Holding, Keeps, Leaves};
 ghost use Rattle.store.specs.Lost.{IsOfCall};
-ghost use Rattle.store.specs.Opening.{HasNone, HasOffice, HasOlderMarks, HasTables, HoldingInSomeForm, HoldingOlder};
-ghost use Rattle.store.specs.Opening.{IsGrown, IsNew, KeepsInSomeForm, MayGrow};
+ghost use Rattle.store.specs.Opening.{HasForm, HasNone, HasOffice, HasOlderMarks, HasTables, HoldingInSomeForm};
+ghost use Rattle.store.specs.Opening.{HoldingOlder, IsGrown, IsNew, MayComplete, MayGrow};
 ghost use Rattle.office_tables.specs.Statements.{AddsNoCommit, LeavesNothing};
 
 use crate::lost::Lost;
@@ -168,7 +168,7 @@ fn make_ready<S: Alter>(conn: &mut Connection<S>) -> Result<(), Lost>
         → Survives (state S.Store conn.old) (state S.Store conn.new)
         (λ trees. (db : Database) × IsNew db × (trees ≡ db.trees)) }
     ensures survives { IsOfficeSchema (state S.Store conn.old).now.schema
-        → Survives (state S.Store conn.old) (state S.Store conn.new) (MayGrow (state S.Store conn.old).now) }
+        → Survives (state S.Store conn.old) (state S.Store conn.new) (MayComplete (state S.Store conn.old).now) }
     ensures clean { doubt (state S.Store conn.old).is_clean ≤ doubt (state S.Store conn.new).is_clean }
 {
     if is_new(conn) {
@@ -206,6 +206,12 @@ impl<S: Alter> StoredOffice<S> {
             → Holding h (state S.Store conn) → Holding h (state S.Store office.conn)) }
         ensures completed { IfOk result (λ office. HasCleanDisk (state S.Store office.conn) → (h : List Answered)
             → HoldingInSomeForm h (state S.Store conn) → Holding h (state S.Store office.conn)) }
+        ensures grown { IfOk result (λ office. HasCleanDisk (state S.Store office.conn)
+            → HasForm Form.Rows (state S.Store conn) → IsGrown (state S.Store conn).now.trees (state S.Store office.conn).now
+            × ((state S.Store office.conn).committed ≡ (state S.Store office.conn).now)
+            × IsTrue (state S.Store office.conn).is_open) }
+        ensures bodies { IfOk result (λ office. HasCleanDisk (state S.Store office.conn)
+            → HasForm Form.Bodies (state S.Store conn) → ⊥) }
         ensures second { IfOk result (λ office. HasCleanDisk (state S.Store office.conn)
             → HasOffice (state S.Store conn) → HasMarks (tables_of (state S.Store conn).now.trees) Marks.Second) }
         ensures unmigrated { IfOk result (λ office. HasCleanDisk (state S.Store office.conn) → (h : List Answered)
@@ -221,14 +227,19 @@ impl<S: Alter> StoredOffice<S> {
         ensures survives { HasTables (state S.Store conn)
             → MatchResult result (λ office. Survives (state S.Store conn) (state S.Store office.conn) (λ _. ⊥))
             (λ lost. Survives (state S.Store conn) (state S.Store lost.1) (λ _. ⊥)) }
+        ensures survives_in_form { HasOffice (state S.Store conn)
+            → MatchResult result (λ office. Survives (state S.Store conn) (state S.Store office.conn)
+            (MayComplete (state S.Store conn).now))
+            (λ lost. Survives (state S.Store conn) (state S.Store lost.1) (MayComplete (state S.Store conn).now)) }
         ensures left { (h : List Answered) → Holding h (state S.Store conn)
             → MatchResult result (λ office. HasCleanDisk (state S.Store office.conn)
             → Leaves (Keeps h) (state S.Store office.conn))
             (λ lost. HasCleanDisk (state S.Store lost.1) → Leaves (Keeps h) (state S.Store lost.1)) }
         ensures left_in_form { (h : List Answered) → HoldingInSomeForm h (state S.Store conn)
             → MatchResult result (λ office. HasCleanDisk (state S.Store office.conn)
-            → Leaves (KeepsInSomeForm h) (state S.Store office.conn))
-            (λ lost. HasCleanDisk (state S.Store lost.1) → Leaves (KeepsInSomeForm h) (state S.Store lost.1)) }
+            → Leaves (λ db. (db ≡ (state S.Store conn).committed.trees) ⊎ Keeps h db) (state S.Store office.conn))
+            (λ lost. HasCleanDisk (state S.Store lost.1)
+            → Leaves (λ db. (db ≡ (state S.Store conn).committed.trees) ⊎ Keeps h db) (state S.Store lost.1)) }
         ensures clean { MatchResult result (λ office. doubt (state S.Store conn).is_clean ≤ doubt
             (state S.Store office.conn).is_clean)
             (λ lost. doubt (state S.Store conn).is_clean ≤ doubt (state S.Store lost.1).is_clean) }

@@ -1,12 +1,13 @@
 //! Lists of arrivals.
-ghost use Rattle.std.specs.Prelude.{◌≡◌, ◌≤◌, List, All, IsTrue, IfOk, OnErr};
+ghost use Rattle.std.specs.Prelude.{◌≡◌, ◌≤◌, List, All, IsErr, IsSome, IsTrue, IfOk, OnErr};
 ghost use Rattle.sqlite.specs.Held.{state};
 ghost use Rattle.sqlite.specs.State.{HasCleanDisk};
 ghost use Rattle.sqlite_trees.specs.View.{doubt};
-ghost use Rattle.office_history.specs.History.{Answered};
+ghost use Rattle.office_history.specs.History.{Answered, first_of};
 ghost use Rattle.store.specs.Holding.{Holding};
 ghost use Rattle.store.specs.Headline.{HasRun};
-ghost use Rattle.store.specs.Running.{FailsBy, IsNoProfile};
+ghost use Rattle.store.specs.Opening.{HasTables};
+ghost use Rattle.store.specs.Running.{FailsBy, IsNoProfile, answered_of};
 
 use crate::lost::Lost;
 use crate::stored_office::StoredOffice;
@@ -26,6 +27,16 @@ impl<S: Alter> StoredOffice<S> {
             → Holding h (state S.Store self.old.conn)
             → IfOk result (λ results. HasRun h arrivals.now results.items self.new.failed
             (state S.Store self.new.conn)) }
+        ensures lost_same { HasCleanDisk (state S.Store self.new.conn) → HasTables (state S.Store self.old.conn)
+            → IsTrue (state S.Store self.new.conn).is_open
+            → IfOk result (λ results. All IsErr results.items
+            → ((state S.Store self.new.conn).now ≡ (state S.Store self.old.conn).now)
+            × ((state S.Store self.new.conn).committed ≡ (state S.Store self.old.conn).committed)) }
+        ensures repeated { HasCleanDisk (state S.Store self.new.conn) → (h : List Answered)
+            → Holding h (state S.Store self.old.conn) → IsTrue (state S.Store self.new.conn).is_open
+            → IfOk result (λ results. All (λ a. IsSome (first_of h a)) (answered_of arrivals.now results.items)
+            → ((state S.Store self.new.conn).now ≡ (state S.Store self.old.conn).now)
+            × ((state S.Store self.new.conn).committed ≡ (state S.Store self.old.conn).committed)) }
         ensures refused { IsTrue self.old.failed → self.new ≡ self.old }
         ensures failed { IfOk result (λ results. FailsBy self.old.failed results.items self.new.failed) }
         ensures named { IfOk result (λ results. All IsNoProfile results.items) }

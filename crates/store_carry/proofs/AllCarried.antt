@@ -59,6 +59,7 @@ nets_known laws Live marks h t at = record { ascending = (laws.kept h at.office 
 pub no_rows_listed : (name : List ℕ) → AreLiveRows name (record { msg = []; sig = []; receiver = []; sigvalue = [] }) []
 no_rows_listed name = record {
   messages = none_listed;
+  numbered = record { sigs = tt; receivers = tt; values = tt };
   signals = λ number. record { placed = []; are = refl; sigs = none_listed; receivers = none_listed; values = none_listed };
 }
 

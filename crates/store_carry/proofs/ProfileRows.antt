@@ -1,9 +1,11 @@
 -- The rows of the profile, where tables hold a history, say which profile it is: the sums of their numbers differ.
-use Rattle.std.proofs.Common.{◌≡◌, ◌∙◌, ℕ, zero, suc, ◌+◌, ◌<◌, pos, List, [], ◌∷◌, map, refl, sym, ap, subst, arith}
-use Rattle.std.specs.Prelude.{IsPermutation, IsSorted, filter, sum_by}
+use Rattle.std.proofs.Common.{◌≡◌, ◌∙◌, ℕ, zero, suc, ◌+◌, ◌<◌, pos, List, [], ◌∷◌, inl, inr, map, refl, sym, ap, subst, arith}
+use Rattle.std.specs.Prelude.{All as Each, IsPermutation, IsSorted, filter, sum_by}
 use Rattle.std.specs.Ordering.{is_lt}
-use Rattle.std.proofs.lemmas.List.Sorted.{IsPermutation-refl, sum_by-IsPermutation}
+use Rattle.std.proofs.lemmas.List.Elements.{All-from_recursion}
+use Rattle.std.proofs.lemmas.List.Sorted.{IsPermutation-refl, IsPermutation-sym, IsPermutation-trans, sum_by-IsPermutation}
 use Rattle.std.proofs.lemmas.List.Sums.{sum_by-cons}
+use Rattle.std.proofs.lemmas.Map.Views.{All-map-IsPermutation}
 use Rattle.sqlite.specs.declared.types.Value.{Value}
 use Rattle.sqlite.specs.declared.types.Value.TheVariants.{Int}
 use Rattle.sqlite.specs.Order.{Row, column}
@@ -14,9 +16,9 @@ use Rattle.office_rows.specs.Rows.{is_any}
 use Rattle.office_rows.specs.Shown.{profile_order, profile_shown}
 use Rattle.office_history.specs.History.{Answered}
 use Rattle.store_rows.proofs.Keys.{int_test}
-use Rattle.store_carry.specs.Forms.{row_marks}
+use Rattle.store_carry.specs.Forms.{body_marks, row_marks}
 use Rattle.store_carry.specs.InForm.{HoldsAs}
-use Rattle.store_carry.specs.Marks.{HasMarks}
+use Rattle.store_carry.specs.Marks.{HasMarks, IsKnownMark}
 use Rattle.store_carry.specs.declared.forms.Form.{Form}
 use Rattle.store_carry.specs.declared.forms.Form.TheVariants.{All, Bodies, Foreign, Rows}
 use Rattle.store_carry.specs.declared.marks.Marks.TheVariants as marks
@@ -52,6 +54,26 @@ second_or_bodies t has other = second_is_not t 1 (sym (selected_total t other.0 
 
 pub second_or_first : (t : Tables) → HasMarks t marks.Second → HasMarks t marks.First → ⊥
 second_or_first t has other = second_is_not t 3 (sym (selected_total t other.0 other.1) ∙ ap total other.2) (omega arith) has
+
+-- rows that are all known don't say that the profile is newer
+known_or_newer : (t : Tables) (rows : List Row) → IsSelected is_any profile_shown profile_order t.profile rows → Each IsKnownMark rows → HasMarks t marks.Newer → ⊥
+known_or_newer t rows sel known newer =
+    let other = newer.1 in
+    let table = filter is_any t.profile in
+    let same = IsPermutation-trans sel.found table other.found (IsPermutation-sym table sel.found sel.same) other.same in
+    newer.2 (subst (Each IsKnownMark) (sym other.is) (All-map-IsPermutation profile_shown IsKnownMark sel.found other.found same (subst (Each IsKnownMark) sel.is known)))
+
+pub bodies_or_newer : (t : Tables) → HasMarks t marks.Bodies → HasMarks t marks.Newer → ⊥
+bodies_or_newer t has newer =
+    let known = All-from_recursion IsKnownMark body_marks (inl refl, tt {0}) in known_or_newer t has.0 has.1 (subst (Each IsKnownMark) (sym has.2) known) newer
+
+pub first_or_newer : (t : Tables) → HasMarks t marks.First → HasMarks t marks.Newer → ⊥
+first_or_newer t has newer =
+    let known = All-from_recursion IsKnownMark (row_marks One) (inl refl, (inr (inr refl), tt {0})) in known_or_newer t has.0 has.1 (subst (Each IsKnownMark) (sym has.2) known) newer
+
+pub second_or_newer : (t : Tables) → HasMarks t marks.Second → HasMarks t marks.Newer → ⊥
+second_or_newer t has newer =
+    let known = All-from_recursion IsKnownMark (row_marks Two) (inr (inl refl), (inr (inr refl), tt {0})) in known_or_newer t has.0 has.1 (subst (Each IsKnownMark) (sym has.2) known) newer
 
 -- tables with the rows of those that hold a history of the first profile don't say the second
 pub not_second : (form : Form) (h : List Answered) (t u : Tables) → t.profile ≡ u.profile → HoldsAs One form h t → HasMarks u marks.Second → ⊥

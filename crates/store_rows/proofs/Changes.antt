@@ -15,7 +15,7 @@ use Rattle.catalogue.specs.Keyed.{put, text_cmp}
 use Rattle.catalogue.specs.declared.sheet.Sheet.{Sheet}
 use Rattle.office_types.specs.Block.{form_number, is_spn}
 use Rattle.office_types.specs.Book.{by_net}
-use Rattle.office_types.specs.State.{by_number, by_first, by_ident}
+use Rattle.office_types.specs.State.{by_first, by_ident}
 use Rattle.office_types.specs.declared.block.BlockForm.TheVariants.{Spn}
 use Rattle.office_types.specs.declared.book.SpnBlock.{SpnBlock}
 use Rattle.office_types.specs.declared.book.SpnBook.{SpnBook}
@@ -23,18 +23,15 @@ use Rattle.office_types.specs.declared.change.Change.{Change}
 use Rattle.office_types.specs.declared.change.Change.TheVariants.{SetHead, SetMessage, RemoveMessage, AddSignal, RemoveSignal, SetBlock, SetSpnBlock, Hold, EnterSpn, SetApproval, ClearApprovals, AddRelease}
 use Rattle.office_types.specs.declared.state.GrantedBlock.{GrantedBlock}
 use Rattle.office_types.specs.declared.state.Head.{Head}
-use Rattle.office_types.specs.declared.state.LiveMessage.{LiveMessage}
 use Rattle.office_types.specs.declared.state.Net.{Net}
 use Rattle.office_rules.specs.Change.{NetAndBook, applied, all_applied, changed_net, headed, IsHeadFirst}
-use Rattle.office_rules.specs.Facts.{has_ident}
-use Rattle.office_rules.specs.Numbers.{with_message}
 use Rattle.office_rules.specs.Opening.{with_block}
-use Rattle.office_rules.specs.Retiring.{with_held, without_message}
+use Rattle.office_rules.specs.Retiring.{with_held}
 use Rattle.office_rules.specs.Reviewing.{with_approval, with_release}
 use Rattle.office_tables.specs.Tables.{Tables}
 use Rattle.office_tables.specs.Selected.{has_text, has_number}
 use Rattle.office_rows.specs.Rows.{net_row, block_row, held_row, spn_row, approval_row, frozen_row, is_of_net, is_of_form, has_net_and_number, is_block, has_two_texts, is_number}
-use Rattle.office_rows.specs.Shown.{net_order, messages_order, blocks_order, blocks_of_form_order, held_order, spns_order, approvals_order, releases_order}
+use Rattle.office_rows.specs.Shown.{net_order, blocks_order, blocks_of_form_order, held_order, spns_order, approvals_order, releases_order}
 use Rattle.office_rows.specs.declared.row.NetRow.{NetRow}
 use Rattle.office_rows.specs.declared.row.BlockRow.{BlockRow}
 use Rattle.office_rows.specs.declared.row.FrozenRow.{FrozenRow}
@@ -45,10 +42,10 @@ use Rattle.store_rows.specs.NetIn.{IsNetAt, IsRestAt, RestRows, live_in, rest_of
 use Rattle.store_rows.specs.Rows.{IsRowOf, IsNetRow, IsBlockRow, IsSpnBlockRow, IsHeldRow, IsApprovalRow, IsFrozenRow, is_granted, next_release, numbered}
 use Rattle.store_rows.specs.Written.{IsWritten, with_net_row, with_block_row, with_held_row, with_spn_row, with_approval_row, without_approval_rows, with_frozen_row}
 use Rattle.store_rows.specs.Follows.{Follows, HasSame, AreWritten}
-use Rattle.store_rows.proofs.Keys.{and_left, and_right, and_none, not_true, one_value, own_text, other_text, other_net, own_net, text_order, number_order, number_below, own_number, other_form, spn_apart, same_number, tied_both, net_total, messages_total, blocks_total, blocks_of_form_total, held_total, spns_total, approvals_total}
+use Rattle.store_rows.proofs.Keys.{and_left, and_right, and_none, not_true, one_value, own_text, other_text, other_net, own_net, text_order, number_order, number_below, own_number, other_form, spn_apart, tied_both, net_total, blocks_total, blocks_of_form_total, held_total, spns_total, approvals_total}
 use Rattle.store_rows.proofs.Listing.{last_listed, none_listed}
 use Rattle.store_rows.proofs.LiveFollows.{adds_signal, removes_message, sets_message, takes_signal_out}
-use Rattle.store_rows.proofs.Setting.{left_here, left_others, left_none, added_here, added_elsewhere, set_elsewhere, set_in, set_keyed}
+use Rattle.store_rows.proofs.Setting.{left_others, left_none, added_here, added_elsewhere, set_elsewhere, set_in, set_keyed}
 
 -- the network, where it is there, with the book
 abbrev at_net : Net → SpnBook → NetAndBook

@@ -10,6 +10,7 @@ use Rattle.store_rows.proofs.Listing.{none_listed}
 no_live : (name : List ℕ) → AreLiveRows name (live_rows name no_rows) []
 no_live name = record {
   messages = none_listed;
+  numbered = record { sigs = tt; receivers = tt; values = tt };
   signals = λ number. record { placed = []; are = refl; sigs = none_listed; receivers = none_listed; values = none_listed };
 }
 

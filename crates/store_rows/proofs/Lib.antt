@@ -7,6 +7,7 @@ pub mod Values
 pub mod Reading
 mod Examples
 mod Decimals
+mod LiveExamples
 pub mod PutTogether
 pub mod LiveRows
 pub mod LastPlace

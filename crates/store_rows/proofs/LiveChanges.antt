@@ -1,17 +1,18 @@
 -- The rows of a live message in place of those of its number: the message is put among the live ones.
-use Rattle.std.proofs.Common.{◌≡◌, ◌≢◌, ◌∙◌, ℕ, ◌<◌, pos, Bool, true, false, cond, not, ◌&&◌, List, [], ◌∷◌, ◌++◌, append-nil, map, filter, find, Option, None, Some, refl, sym, ap, subst, arith, inl, inr}
+use Rattle.std.proofs.Common.{◌≡◌, ◌∙◌, ℕ, pos, Bool, true, false, cond, not, ◌&&◌, List, [], ◌∷◌, ◌++◌, append-nil, map, filter, find, Option, None, Some, refl, sym, ap, subst, arith}
 use Rattle.std.specs.Prelude.{◌==◌}
 use Rattle.std.specs.List.{AllByRecursion}
 use Rattle.std.specs.List.Sorted.{IsStrictlySortedBy}
 use Rattle.std.specs.Ordering.{is_eq, is_lt, nat_cmp, on}
 use Rattle.std.specs.declared.cmp.Ordering.{Ordering}
 use Rattle.std.specs.declared.cmp.Ordering.TheVariants.{Less, Equal, Greater}
-use Rattle.std.proofs.lemmas.Bool.{cases_Bool, eq-eqb, eqb-true, false≢true}
+use Rattle.std.proofs.lemmas.Bool.{eq-eqb, eqb-true, false≢true}
 use Rattle.std.proofs.lemmas.Bool.Decides.{nat_tests}
 use Rattle.std.proofs.lemmas.List.Elements.{filter-append}
 use Rattle.std.proofs.lemmas.List.Sorted.{IsPermutation-refl}
 use Rattle.sqlite.specs.declared.types.Value.TheVariants.{Int}
 use Rattle.sqlite.specs.Order.{Row, column, value_cmp}
+use Rattle.sqlite_trees.proofs.ListLemmas.{all-filter}
 use Rattle.can_id.specs.Ident.{dbc_number}
 use Rattle.catalogue.specs.Keyed.{are_above, put}
 use Rattle.catalogue.specs.declared.signal.Signal.{Signal}
@@ -21,12 +22,13 @@ use Rattle.office_types.specs.declared.state.LiveMessage.{LiveMessage}
 use Rattle.office_tables.specs.Selected.{has_number}
 use Rattle.office_rows.specs.Shown.{msgs_order, receivers_order, sigs_order, sigvalues_order}
 use Rattle.store_rows.specs.Listed.{AreListed, AreShown}
-use Rattle.store_rows.specs.Live.{AreLiveRows, AreSignalsOf, IsMsgRow, IsReceiverRow, IsSigRow, IsSigValueRow, LiveRows, msg_values, numbered_rows, parts_of, signals_numbered}
+use Rattle.store_rows.specs.Live.{AreLiveRows, AreSignalsOf, HasNumber, IsMsgRow, IsReceiverRow, IsSigRow, IsSigValueRow, LiveRows, msg_values, numbered_rows, parts_of, signals_numbered}
 use Rattle.store_rows.proofs.Keys.{int_test, number_order, one_value}
 use Rattle.catalogue.proofs.AscendingLists.{find_without}
 use Rattle.store_rows.proofs.Listing.{kept_listed, none_listed, set_listed}
 use Rattle.store_rows.proofs.LiveRows.{msgs_total}
 use Rattle.store_rows.proofs.PutTogether.{receivers_in, signal_in, values_in}
+use Rattle.store_rows.proofs.SeatRows.{all_append}
 use Rattle.store_rows.proofs.Setting.{left_none, left_others}
 
 -- ---- what is found by a number, once a thing is put among others
@@ -105,6 +107,10 @@ pub all_other : (number other : ℕ) (rows : List Row) → (number ≡ other →
 all_other number other [] apart of = tt
 all_other number other (r ∷ rows) apart of = (has_other number other r of.0 apart, all_other number other rows apart of.1)
 
+pub of_one : (number : ℕ) (rows : List Row) → AreOf number rows → AllByRecursion HasNumber rows
+of_one number [] of = tt
+of_one number (r ∷ rows) of = (record { number = number; is = of.0 }, of_one number rows of.1)
+
 -- the rows without those of the number, and then these
 abbrev pub replaced : ℕ → List Row → List Row → List Row
 replaced number new rows = filter (λ r. not (has number r)) rows ++ new
@@ -113,6 +119,10 @@ own_replaced : (number : ℕ) (new rows : List Row) → AreOf number new → num
 own_replaced number new rows of =
     filter-append (has number) (filter (λ r. not (has number r)) rows) new
     ∙ ap (λ l. l ++ filter (has number) new) (left_none (has number) rows) ∙ all_of number new (all_own number new of)
+
+replaced_numbered : (number : ℕ) (new rows : List Row) → AreOf number new → AllByRecursion HasNumber rows → AllByRecursion HasNumber (replaced number new rows)
+replaced_numbered number new rows of all =
+    all_append HasNumber (filter (λ r. not (has number r)) rows) new (all-filter HasNumber (λ r. not (has number r)) rows all) (of_one number new of)
 
 not_equal : (number other : ℕ) → (number ≡ other → ⊥) → is_eq (nat_cmp other number) ≡ false
 not_equal number other apart = grind (arith, nat_tests, apart)
@@ -248,6 +258,11 @@ module _ (name : List ℕ) where
       messages = set_listed msgs_total by_number m (msg_values name m) rows.msg live new.head
           (λ other row shown. subst (λ r. by_number m other ≡ msgs_order (msg_values name m) r) (sym shown.row_is) (number_order (number_of m) (number_of other) (number_of m) (number_of other) refl refl))
           h.messages;
+      numbered = record {
+        sigs = replaced_numbered (number_of m) sigs rows.sig of_sigs h.numbered.sigs;
+        receivers = replaced_numbered (number_of m) receivers rows.receiver of_receivers h.numbered.receivers;
+        values = replaced_numbered (number_of m) values rows.sigvalue of_values h.numbered.values;
+      };
       signals = signals_after;
     }
 
@@ -303,6 +318,11 @@ module _ (name : List ℕ) (rows : LiveRows) (live : List LiveMessage) (h : AreL
   pub removes_live : AreLiveRows name (without_rows_of number rows) (filter stays live)
   removes_live = record {
     messages = kept_listed stays (λ r. not (has number r)) stays_in_row rows.msg live h.messages;
+    numbered = record {
+      sigs = all-filter HasNumber (λ r. not (has number r)) rows.sig h.numbered.sigs;
+      receivers = all-filter HasNumber (λ r. not (has number r)) rows.receiver h.numbered.receivers;
+      values = all-filter HasNumber (λ r. not (has number r)) rows.sigvalue h.numbered.values;
+    };
     signals = signals_left;
   }
 

@@ -27,12 +27,12 @@ use Rattle.office_rows.specs.Shown.{msgs_order}
 use Rattle.store_rows.specs.Listed.{AreListed, AreShown}
 use Rattle.store_rows.specs.Live.{AreLiveRows, AreSignalsOf, IsMsgRow, IsReceiverRow, IsSigValueRow, live_rows, parts_of, signals_numbered}
 use Rattle.store_rows.specs.LiveWritten.{IsAdded, IsGone, IsLive, IsSignal, IsTakenOut, placed_from, with_live, with_signal, without_live, without_places}
-use Rattle.store_rows.specs.NetIn.{AreRestOf, IsNetAt, RestRows, rest_of}
+use Rattle.store_rows.specs.NetIn.{AreRestOf, RestRows, rest_of}
 use Rattle.store_rows.specs.Follows.{Follows}
 use Rattle.store_rows.proofs.Keys.{int_test, same_number}
 use Rattle.store_rows.proofs.LiveChanges.{each_numbered, live_ascends, number_test, put_finds}
 use Rattle.store_rows.proofs.LiveLast.{last_added}
-use Rattle.store_rows.proofs.LiveOut.{places_alone, places_apart, places_elsewhere, signal_gone}
+use Rattle.store_rows.proofs.LiveOut.{places_alone, places_apart, places_elsewhere, places_numbered, signal_gone}
 use Rattle.store_rows.proofs.LivePut.{found_all, put_shown}
 use Rattle.store_rows.proofs.LiveSet.{AreNamed, all_with, four, message_removed, message_removed_elsewhere, message_set, message_set_elsewhere, name_rows, named_each, names_show, other_rows, sig_rows, tables_are, text_rows, texts_show}
 use Rattle.store_rows.proofs.PutTogether.{receivers_in, values_in}
@@ -188,6 +188,7 @@ module _ (name : List ℕ) (m : LiveMessage) (signal : List ℕ) (live : List Li
       each = put_shown name m out refl (λ row r. record { row_is = r.row_is; identifier = r.identifier; sent = r.sent }) live h.messages.found
           (live_ascends name live h.messages.found h.messages.ascending h.messages.each) found h.messages.each;
     });
+    numbered = places_numbered name n gone.places t h.numbered;
     signals = each;
   }
 

@@ -1,5 +1,5 @@
 -- Signals added to a message that is there, at places above those of its signals: its other rows stay.
-use Rattle.std.proofs.Common.{◌≡◌, ◌∙◌, ℕ, ◌+◌, ◌<◌, pos, true, List, [], ◌∷◌, ◌++◌, append_assoc, map, filter, refl, sym, ap, subst}
+use Rattle.std.proofs.Common.{◌≡◌, ◌∙◌, ℕ, ◌+◌, ◌<◌, pos, List, [], ◌∷◌, ◌++◌, append_assoc, map, filter, refl, sym, ap, subst}
 use Rattle.std.specs.List.{AllByRecursion}
 use Rattle.std.specs.List.Sorted.{IsStrictlySortedBy}
 use Rattle.std.specs.Ordering.{ordering_then}
@@ -7,20 +7,19 @@ use Rattle.std.specs.declared.cmp.Ordering.{Ordering}
 use Rattle.std.specs.declared.cmp.Ordering.TheVariants.{Less}
 use Rattle.std.proofs.lemmas.List.Elements.{filter-append}
 use Rattle.std.proofs.lemmas.List.Sorted.{IsPermutation-append, IsPermutation-refl}
-use Rattle.sqlite.specs.declared.types.Value.TheVariants.{Int, Text}
+use Rattle.sqlite.specs.declared.types.Value.TheVariants.{Int}
 use Rattle.sqlite.specs.Order.{Row, column, value_cmp}
 use Rattle.catalogue.specs.declared.signal.Signal.{Signal}
 use Rattle.catalogue.specs.declared.value_texts.ValueText.{ValueText}
-use Rattle.decimal.specs.Number.{IsDecimal}
 use Rattle.office_tables.specs.Tables.{Tables}
 use Rattle.office_rows.specs.Rows.{is_of_net}
 use Rattle.office_rows.specs.Shown.{receivers_order, sigs_order, sigvalues_order}
 use Rattle.store_rows.specs.Listed.{AreListed, AreShown}
-use Rattle.store_rows.specs.Live.{AreSignalsOf, IsReceiverRow, IsSigRow, IsSigValueRow, LiveRows, live_rows, numbered_rows, parts_of}
+use Rattle.store_rows.specs.Live.{AreSignalsOf, IsReceiverRow, IsSigRow, IsSigValueRow, live_rows, numbered_rows, parts_of}
 use Rattle.store_rows.specs.LiveWritten.{IsSignal, placed_from, receiver_rows, value_rows, with_signal}
 use Rattle.store_rows.proofs.Keys.{number_below}
 use Rattle.store_rows.proofs.LiveChanges.{AreOf, all_of, all_own, has, of_each}
-use Rattle.store_rows.proofs.LiveSet.{AreNamed, all_with, ascend_from, name_rows, named_each, names_ascend, names_show, own_rows, sig_rows, signals_are, sigs_ascend, sigs_show, text_rows, texts_ascend, texts_show}
+use Rattle.store_rows.proofs.LiveSet.{AreNamed, all_with, ascend_from, name_rows, named_each, names_ascend, names_show, own_rows, sig_rows, sigs_ascend, sigs_show, text_rows, texts_ascend, texts_show}
 use Rattle.store_rows.proofs.PutTogether.{receivers_in, signal_in, values_in}
 use Rattle.store_rows.proofs.SeatRows.{all_append}
 

@@ -8,15 +8,15 @@ use Rattle.std.proofs.lemmas.Bool.Decides.{nat_tests}
 use Rattle.std.proofs.lemmas.List.Elements.{filter-append}
 use Rattle.sqlite.specs.declared.types.Value.TheVariants.{Int}
 use Rattle.sqlite.specs.Order.{Row, column, value_cmp}
+use Rattle.sqlite_trees.proofs.ListLemmas.{all-filter}
 use Rattle.catalogue.specs.Signals.{without_signal}
 use Rattle.catalogue.specs.declared.signal.Signal.{Signal}
-use Rattle.catalogue.specs.declared.value_texts.ValueText.{ValueText}
 use Rattle.office_tables.specs.Selected.{has_number}
 use Rattle.office_tables.specs.Tables.{Tables}
 use Rattle.office_rows.specs.Rows.{has_place_of, is_of_net}
 use Rattle.office_rows.specs.Shown.{receivers_order, sigs_order, sigvalues_order}
 use Rattle.store_rows.specs.Listed.{AreListed}
-use Rattle.store_rows.specs.Live.{AreSignalsOf, IsReceiverRow, IsSigRow, IsSigValueRow, live_rows, numbered_rows, parts_of}
+use Rattle.store_rows.specs.Live.{AreSignalsOf, HasNumber, HaveNumbers, IsReceiverRow, IsSigRow, IsSigValueRow, live_rows, numbered_rows, parts_of}
 use Rattle.store_rows.specs.LiveWritten.{AreItsPlaces, without_place, without_places}
 use Rattle.store_rows.proofs.Keys.{int_test, other_net}
 use Rattle.store_rows.proofs.Listing.{kept_listed}
@@ -131,6 +131,13 @@ module _ (net : List ℕ) (number place : ℕ) where
         (filter (is_of_net other) (filter (λ r. not (gone r)) t.sigvalue)) (filter (is_of_net other) t.sigvalue)
         refl (left_elsewhere other t.sig apart) (left_elsewhere other t.receiver apart) (left_elsewhere other t.sigvalue apart)
 
+    numbered_left : (table : List Row) → AllByRecursion HasNumber (filter (is_of_net net) table) → AllByRecursion HasNumber (filter (is_of_net net) (filter (λ r. not (gone r)) table))
+    numbered_left table all =
+        subst (AllByRecursion HasNumber) (sym (left_of_net table)) (all-filter HasNumber (λ r. not (has number r && at_place place r)) (filter (is_of_net net) table) all)
+
+    pub place_numbered : HaveNumbers (live_rows net t) → HaveNumbers (live_rows net after)
+    place_numbered all = record { sigs = numbered_left t.sig all.sigs; receivers = numbered_left t.receiver all.receivers; values = numbered_left t.sigvalue all.values }
+
     -- the signals of other messages stay
     pub place_apart : (other : ℕ) (signals : List Signal) → (number ≡ other → ⊥) → AreSignalsOf net other (live_rows net t) signals → AreSignalsOf net other (live_rows net after) signals
     place_apart other signals apart =
@@ -174,6 +181,10 @@ module _ (net : List ℕ) (number : ℕ) where
       subst (AreSignalsOf net number (live_rows net (without_places net number places (without_place net number place t))))
       (ap (map signal_in) (passes_both (is_elsewhere place) (stays places) (stays (place ∷ places)) (λ q. not_either (place == q.0) (list_any (λ p. p == q.0) places)) h.placed))
       (places_gone places (without_place net number place t) (map signal_in (filter (is_elsewhere place) h.placed)) (place_gone net number place t signals h))
+
+  pub places_numbered : (places : List ℕ) (t : Tables) → HaveNumbers (live_rows net t) → HaveNumbers (live_rows net (without_places net number places t))
+  places_numbered [] t all = all
+  places_numbered (place ∷ places) t all = places_numbered places (without_place net number place t) (place_numbered net number place t all)
 
   pub places_apart : (places : List ℕ) (t : Tables) (other : ℕ) (signals : List Signal) → (number ≡ other → ⊥) → AreSignalsOf net other (live_rows net t) signals
       → AreSignalsOf net other (live_rows net (without_places net number places t)) signals

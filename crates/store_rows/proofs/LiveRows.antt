@@ -1,5 +1,5 @@
 -- What the queries on the rows of live messages show.
-use Rattle.std.proofs.Common.{◌≡◌, ◌∙◌, ℕ, ◌<◌, pos, Bool, true, false, cond, List, [], ◌∷◌, map, filter, find, Option, None, Some, refl, sym, ap, subst, arith, inl, inr}
+use Rattle.std.proofs.Common.{◌≡◌, ◌∙◌, ℕ, ◌<◌, pos, Bool, false, cond, List, [], ◌∷◌, map, filter, find, Option, None, Some, refl, sym, ap, subst, arith, inl, inr}
 use Rattle.std.specs.Prelude.{◌==◌, slice_get}
 use Rattle.std.specs.List.{AllByRecursion}
 use Rattle.std.specs.List.Sorted.{IsStrictlySortedBy}
@@ -9,7 +9,7 @@ use Rattle.std.specs.Cmp.{IsTotalOrder, on_total, then_total}
 use Rattle.std.specs.declared.cmp.Ordering.TheVariants.{Less}
 use Rattle.std.proofs.lemmas.Bool.{cases_Bool, eq-eqb, eqb-true}
 use Rattle.std.proofs.lemmas.Bool.Decides.{nat_tests}
-use Rattle.sqlite.specs.declared.types.Value.TheVariants.{Int, Text}
+use Rattle.sqlite.specs.declared.types.Value.TheVariants.{Int}
 use Rattle.sqlite.specs.Order.{Row, column, value_cmp}
 use Rattle.sqlite_value.proofs.OrderLemmas.{value_cmp_total}
 use Rattle.can_id.specs.Ident.{dbc_number}
@@ -22,7 +22,7 @@ use Rattle.office_tables.specs.Tables.{Tables}
 use Rattle.office_rows.specs.Rows.{has_net_and_name, has_net_and_number, is_of_net}
 use Rattle.office_rows.specs.Shown.{msg_named_order, msg_named_shown, msgs_order, msgs_shown, receivers_order, receivers_shown, sigs_order, sigs_shown, sigvalues_order, sigvalues_shown}
 use Rattle.store_rows.specs.Listed.{AreListed, AreShown}
-use Rattle.store_rows.specs.Live.{AreLiveRows, AreSignalsOf, IsMsgRow, IsReceiverRow, IsSigRow, IsSigValueRow, live_rows, numbered_rows, parts_of, signals_numbered}
+use Rattle.store_rows.specs.Live.{AreLiveRows, AreSignalsOf, IsMsgRow, IsReceiverRow, IsSigRow, IsSigValueRow, live_rows, numbered_rows, parts_of}
 use Rattle.store_rows.specs.SignalShowing.{PlacesAscend, ShowsLive, ShowsPart, ShowsPlaced, ShowsReceiver, ShowsValueText}
 use Rattle.store_rows.proofs.Keys.{int_test, text_test}
 use Rattle.store_rows.proofs.Listing.{kept_listed}

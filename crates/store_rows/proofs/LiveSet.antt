@@ -1,12 +1,12 @@
 -- A message's rows as they are written: the message is put among the live ones, and other networks keep theirs.
-use Rattle.std.proofs.Common.{◌≡◌, ◌∙◌, ℕ, ◌+◌, ◌<◌, pos, Bool, true, false, cond, not, ◌&&◌, List, [], ◌∷◌, ◌++◌, append-nil, append_assoc, map, filter, refl, sym, ap, subst, arith}
+use Rattle.std.proofs.Common.{◌≡◌, ◌∙◌, ℕ, ◌+◌, ◌<◌, Bool, true, false, cond, not, ◌&&◌, List, [], ◌∷◌, ◌++◌, append-nil, append_assoc, map, filter, refl, sym, ap, subst, arith}
 use Rattle.std.specs.List.{AllByRecursion}
 use Rattle.std.specs.List.Sorted.{IsStrictlySortedBy}
 use Rattle.std.specs.Str.{bytes_eq}
 use Rattle.std.specs.Ordering.{is_eq}
 use Rattle.std.specs.declared.cmp.Ordering.TheVariants.{Less}
 use Rattle.std.proofs.lemmas.List.Elements.{filter-append}
-use Rattle.sqlite.specs.declared.types.Value.TheVariants.{Int, Text}
+use Rattle.sqlite.specs.declared.types.Value.TheVariants.{Text}
 use Rattle.sqlite.specs.Order.{Row, column, value_cmp}
 use Rattle.can_id.specs.Ident.{dbc_number}
 use Rattle.catalogue.specs.Keyed.{put}
@@ -15,12 +15,12 @@ use Rattle.catalogue.specs.declared.value_texts.ValueText.{ValueText}
 use Rattle.decimal.specs.Number.{IsDecimal}
 use Rattle.office_types.specs.State.{by_number}
 use Rattle.office_types.specs.declared.state.LiveMessage.{LiveMessage}
-use Rattle.office_tables.specs.Selected.{has_number, has_text}
+use Rattle.office_tables.specs.Selected.{has_number}
 use Rattle.office_tables.specs.Tables.{Tables}
 use Rattle.office_rows.specs.Rows.{has_net_and_number, is_of_net}
 use Rattle.office_rows.specs.Shown.{receivers_order, sigs_order, sigvalues_order}
 use Rattle.store_rows.specs.Listed.{AreShown}
-use Rattle.store_rows.specs.Live.{AreLiveRows, IsMsgRow, IsReceiverRow, IsSigRow, IsSigValueRow, LiveRows, live_rows, msg_values, parts_of, receiver_values, sig_values, sigvalue_values}
+use Rattle.store_rows.specs.Live.{AreLiveRows, IsReceiverRow, IsSigRow, IsSigValueRow, LiveRows, live_rows, msg_values, parts_of, receiver_values, sig_values, sigvalue_values}
 use Rattle.store_rows.specs.LiveWritten.{IsLive, IsSignal, placed_from, receiver_rows, value_rows, with_live, with_msg, with_signal, with_signals, without_live}
 use Rattle.store_rows.specs.SignalShowing.{PlacesAscend}
 use Rattle.store_rows.proofs.Keys.{number_below, other_net, other_text, own_text}

@@ -1,7 +1,8 @@
 -- What rows of `msg`, `sig`, `receiver` and `sigvalue` stand for: the live messages of a network.
 use Rattle.std.specs.Prelude.{◌≡◌, ◌≢◌, IfSome, ℕ, ◌==◌, Bool, true, false, List, [], ◌∷◌, ◌++◌, map, filter, find, Option, Some, None, unwrap_or, pos}
+use Rattle.std.specs.List.{AllByRecursion}
 use Rattle.sqlite.specs.declared.types.Value.TheVariants.{Int, Text, Blob}
-use Rattle.sqlite.specs.Order.{Row}
+use Rattle.sqlite.specs.Order.{Row, column}
 use Rattle.can_id.specs.Ident.{IsIdentifier, dbc_number}
 use Rattle.bitlayout.specs.declared.layout.Order.{Order}
 use Rattle.bitlayout.specs.declared.layout.Order.TheVariants.{Intel, Motorola}
@@ -132,7 +133,20 @@ signals_numbered live number = elim (find (λ m. dbc_number m.message.ident == n
   | Some m ↦ m.message.signals
 ]
 
--- the rows stand for the live messages, and there are no other rows
+-- the row has a number, 0 or more, as messages have
+pub record HasNumber (row : Row) : Type 0 where
+  pub number : ℕ
+  pub is : column row 1 ≡ Int (pos number)
+
+-- each row of a signal, of a receiver and of a value text has one
+pub record HaveNumbers (rows : LiveRows) : Type 0 where
+  pub sigs : AllByRecursion HasNumber rows.sig
+  pub receivers : AllByRecursion HasNumber rows.receiver
+  pub values : AllByRecursion HasNumber rows.sigvalue
+
+-- The rows stand for the live messages, and there are no other rows: each has a number, and those of a number are the
+-- signals of its message, none if there is no such message.
 pub record AreLiveRows (name : List ℕ) (rows : LiveRows) (live : List LiveMessage) : Type 0 where
   pub messages : AreListed msgs_order (IsMsgRow name) rows.msg live
+  pub numbered : HaveNumbers rows
   pub signals : (number : ℕ) → AreSignalsOf name number rows (signals_numbered live number)

@@ -1,5 +1,5 @@
 -- Rows of a message as they are written: seats and places are counted from 0.
-use Rattle.std.specs.Prelude.{◌≡◌, ◌≢◌, ◌==◌, IfSome, ℕ, ◌+◌, ◌<◌, List, [], ◌∷◌, ◌++◌, Option, Some, None, filter, not}
+use Rattle.std.specs.Prelude.{◌≡◌, ◌≢◌, ◌==◌, IfSome, ℕ, ◌+◌, ◌<◌, List, [], ◌∷◌, ◌++◌, Some, None, filter, not}
 use Rattle.std.specs.List.{AllByRecursion, list_any}
 use Rattle.std.specs.Str.{bytes_eq}
 use Rattle.sqlite.specs.Order.{Row}

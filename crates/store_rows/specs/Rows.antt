@@ -1,5 +1,5 @@
 -- What the rows of the tables stand for.
-use Rattle.std.specs.Prelude.{◌≡◌, ℕ, ◌+◌, List, [], ◌∷◌, Bool, ◌&&◌, not, filter, length, Option, Some, None, unwrap_or}
+use Rattle.std.specs.Prelude.{◌≡◌, ℕ, ◌+◌, List, [], ◌∷◌, Bool, ◌&&◌, not, filter, length, unwrap_or}
 use Rattle.sqlite.specs.Order.{Row}
 use Rattle.can_id.specs.Ident.{IsIdentifier, dbc_number}
 use Rattle.can_id.specs.declared.ident.Ident.{Ident}
@@ -19,8 +19,8 @@ use Rattle.office_types.specs.declared.state.Phase.{Phase}
 use Rattle.office_rules.specs.Facts.{spn_range}
 use Rattle.office_tables.specs.Tables.{Tables}
 use Rattle.office_bodies.specs.Body.{IsBody}
-use Rattle.office_rows.specs.Rows.{net_row, message_row, block_row, held_row, spn_row, approval_row, frozen_row, is_of_net, is_of_form}
-use Rattle.office_rows.specs.Shown.{net_order, messages_order, blocks_order, blocks_of_form_order, held_order, spns_order, approvals_order, releases_order}
+use Rattle.office_rows.specs.Rows.{block_row, held_row, spn_row, approval_row, is_of_net, is_of_form}
+use Rattle.office_rows.specs.Shown.{blocks_of_form_order, spns_order}
 use Rattle.office_rows.specs.declared.row.NetRow.{NetRow}
 use Rattle.office_rows.specs.declared.row.MessageRow.{MessageRow}
 use Rattle.office_rows.specs.declared.row.BlockRow.{BlockRow}

@@ -5,7 +5,7 @@ use Rattle.sqlite.specs.State.{HasCleanDisk}
 use Rattle.sqlite.proofs.StateLemmas.{survives_then}
 use Rattle.office_tables.specs.Tables.{tables_of}
 use Rattle.store.specs.Opening.{MayCarry, MayMigrate}
-use Rattle.store.proofs.InForm.{older_marks}
+use Rattle.store.proofs.InForm.{older_marks, older_or_second}
 use Rattle.store.proofs.Opened.{apart, apart_13, none_of_office}
 use Rattle.store.proofs.migrating.make_current.Goals as goal
 
@@ -18,15 +18,23 @@ returns-then-is_new-clause-grown g c clean has marks = absurd (apart_13 (sym (c.
 pub returns-then-is_new-clause-survives : goal.returns-then-is_new-clause-survives
 returns-then-is_new-clause-survives g c has = absurd (none_of_office _ (c.is_new.ensures.0 c.if-is_new.true) has)
 
+pub returns-then-is_new-clause-known : goal.returns-then-is_new-clause-known
+returns-then-is_new-clause-known g c clean has = absurd (none_of_office _ (c.is_new.ensures.0 c.if-is_new.true) has)
+
+pub returns-in_ok-carry_all-in_default-clause-known : goal.returns-in_ok-carry_all-in_default-clause-known
+returns-in_ok-carry_all-in_default-clause-known g c clean schema =
+    let clean_mid : HasCleanDisk (state g.S.Store c.read_marks.new.conn) = omega (arith, c.carry_all.ensures.clean, clean) in
+    inr (older_marks (tables_of (state g.S.Store c.args.conn.now).now.trees) c.in_ok-older.older c.in_default.not-Second c.in_default.not-Newer c.in_default.not-Foreign (c.in_ok-older.ensures.found clean_mid schema))
+
 pub returns-in_ok-carry_all-in_default-clause-same : goal.returns-in_ok-carry_all-in_default-clause-same
 returns-in_ok-carry_all-in_default-clause-same g c clean has second =
     let clean_mid : HasCleanDisk (state g.S.Store c.read_marks.new.conn) = omega (arith, c.carry_all.ensures.clean, clean) in
-    absurd (older_marks (tables_of (state g.S.Store c.args.conn.now).now.trees) c.in_ok-older.older c.in_default.not-Second c.in_default.not-Newer c.in_default.not-Foreign (c.in_ok-older.ensures.found clean_mid (inr (inr has))) second)
+    absurd (older_or_second (tables_of (state g.S.Store c.args.conn.now).now.trees) (older_marks (tables_of (state g.S.Store c.args.conn.now).now.trees) c.in_ok-older.older c.in_default.not-Second c.in_default.not-Newer c.in_default.not-Foreign (c.in_ok-older.ensures.found clean_mid (inr (inr has)))) second)
 
 pub returns-in_ok-carry_all-in_default-clause-grown : goal.returns-in_ok-carry_all-in_default-clause-grown
 returns-in_ok-carry_all-in_default-clause-grown g c clean has second =
     let clean_mid : HasCleanDisk (state g.S.Store c.read_marks.new.conn) = omega (arith, c.carry_all.ensures.clean, clean) in
-    absurd (older_marks (tables_of (state g.S.Store c.args.conn.now).now.trees) c.in_ok-older.older c.in_default.not-Second c.in_default.not-Newer c.in_default.not-Foreign (c.in_ok-older.ensures.found clean_mid (inr (inl has.schema_is))) second)
+    absurd (older_or_second (tables_of (state g.S.Store c.args.conn.now).now.trees) (older_marks (tables_of (state g.S.Store c.args.conn.now).now.trees) c.in_ok-older.older c.in_default.not-Second c.in_default.not-Newer c.in_default.not-Foreign (c.in_ok-older.ensures.found clean_mid (inr (inl has.schema_is)))) second)
 
 pub returns-in_ok-carry_all-in_default-clause-survives : goal.returns-in_ok-carry_all-in_default-clause-survives
 returns-in_ok-carry_all-in_default-clause-survives g c schema =

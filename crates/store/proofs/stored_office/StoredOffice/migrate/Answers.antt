@@ -1,9 +1,14 @@
 use Rattle.std.proofs.Common.{[], inl, inr, not, sym, ap, subst, ◌∙◌}
 use Rattle.sqlite.specs.Effect.{Database}
 use Rattle.sqlite.specs.Held.{state}
+use Rattle.office_tables.specs.Schema.{schema_13}
+use Rattle.office_tables.specs.Tables.{tables_of}
 use Rattle.store_carry.specs.FormSchema.{schema_of}
+use Rattle.store_carry.specs.declared.forms.Form.TheVariants.{Rows}
 use Rattle.store.specs.Holding.{Keeps}
-use Rattle.store.proofs.InForm.{left_migrating, migrated, office_in_form, schema_in_form}
+use Rattle.store.specs.Opening.{MayMigrate}
+use Rattle.store.proofs.InForm.{known_or_newer, left_migrating, migrated, none_migrates, office_in_form, schema_in_form, with_form}
+use Rattle.store.proofs.Left.{survives_more}
 use Rattle.store.proofs.Opened.{new_holding, new_keeps}
 use Rattle.store.proofs.stored_office.StoredOffice.migrate.Goals as goal
 
@@ -32,14 +37,31 @@ returns-in-Ok-clause-migrated g c clean h holding =
       λ db left. subst (Keeps h) (sym (c.leaves_committed-in-Ok.ensures kept.0.is_open db left ∙ ap (λ (d : Database). d.trees) kept.1)) kept.0.keeps,
     )
 
+pub returns-in-Ok-clause-grown : goal.returns-in-Ok-clause-grown
+returns-in-Ok-clause-grown g c clean tables second =
+    c.in-Ok.ensures.grown clean (with_form Rows (state g.S.Store c.args.conn) tables (c.knows_tables.ensures tables.is_open schema_13 tables.sound)) second
+
+pub returns-in-Ok-clause-known : goal.returns-in-Ok-clause-known
+returns-in-Ok-clause-known g c clean office =
+    c.in-Ok.ensures.known clean (schema_in_form (state g.S.Store c.args.conn) office (c.knows_tables.ensures office.is_open (schema_of office.form) office.sound))
+
+pub returns-in-Ok-clause-newer_stays : goal.returns-in-Ok-clause-newer_stays
+returns-in-Ok-clause-newer_stays g c office newer clean =
+    let old = state g.S.Store c.args.conn in
+    known_or_newer (tables_of old.now.trees) (c.in-Ok.ensures.known clean (schema_in_form old office (c.knows_tables.ensures office.is_open (schema_of office.form) office.sound))) newer
+
+pub returns-in-Err-clause-newer_stays : goal.returns-in-Err-clause-newer_stays
+returns-in-Err-clause-newer_stays g c office newer =
+    let old = state g.S.Store c.args.conn in
+    survives_more old (state g.S.Store c.make_current.new.conn) (MayMigrate old.now) (λ _. ⊥) (λ db may. none_migrates old.now db newer may)
+    (c.make_current.ensures.survives (schema_in_form old office (c.knows_tables.ensures office.is_open (schema_of office.form) office.sound)))
+
 pub returns-in-Ok-clause-left : goal.returns-in-Ok-clause-left
 returns-in-Ok-clause-left g c h holding clean =
     let old = state g.S.Store c.args.conn in
     let office = office_in_form h old holding in
     let schema = c.knows_tables.ensures office.is_open (schema_of office.form) office.sound in
-    let settled = c.is_autocommit-settled.ensures.settled (c.is_autocommit-settled.ensures.value ∙ ap not c.requires) holding.is_open in
-    left_migrating h old (state g.S.Store c.make_current.new.conn) holding schema (λ db was. c.leaves_committed.ensures holding.is_open db was ∙ ap (λ (d : Database). d.trees) (sym settled))
-    (c.make_current.ensures.survives (schema_in_form old office schema)) clean
+    left_migrating h old (state g.S.Store c.make_current.new.conn) holding schema (λ db was. c.leaves_committed.ensures holding.is_open db was) (c.make_current.ensures.survives (schema_in_form old office schema)) clean
 
 pub returns-in-Err-clause-newer : goal.returns-in-Err-clause-newer
 returns-in-Err-clause-newer g c clean office =
@@ -50,6 +72,4 @@ returns-in-Err-clause-left g c h holding clean =
     let old = state g.S.Store c.args.conn in
     let office = office_in_form h old holding in
     let schema = c.knows_tables.ensures office.is_open (schema_of office.form) office.sound in
-    let settled = c.is_autocommit-settled.ensures.settled (c.is_autocommit-settled.ensures.value ∙ ap not c.requires) holding.is_open in
-    left_migrating h old (state g.S.Store c.make_current.new.conn) holding schema (λ db was. c.leaves_committed.ensures holding.is_open db was ∙ ap (λ (d : Database). d.trees) (sym settled))
-    (c.make_current.ensures.survives (schema_in_form old office schema)) clean
+    left_migrating h old (state g.S.Store c.make_current.new.conn) holding schema (λ db was. c.leaves_committed.ensures holding.is_open db was) (c.make_current.ensures.survives (schema_in_form old office schema)) clean

@@ -1,13 +1,13 @@
 use Rattle.std.proofs.Common.{◌≡◌, ◌+◌, ◌<◌, ◌++◌, ◌∷◌, [], length, take, refl, sym, ap, subst, ◌∙◌, arith, take_all}
-use Rattle.std.specs.Prelude.{All, IsTrue}
+use Rattle.std.specs.Prelude.{All, IsErr, IsTrue}
 use Rattle.std.proofs.lemmas.List.{take_more}
 use Rattle.std.proofs.lemmas.List.Elements.{All-nil}
 use Rattle.sqlite.specs.Held.{state}
 use Rattle.sqlite.specs.State.{HasCleanDisk}
 use Rattle.store.specs.Holding.{Keeps}
 use Rattle.store.specs.Headline.{HasRun}
-use Rattle.store.specs.Running.{FailsBy, IsNoProfile}
-use Rattle.store.proofs.Ran.{fails_more, named_more, run_more, run_none}
+use Rattle.store.specs.Running.{FailsBy, IsNoProfile, answered_of}
+use Rattle.store.proofs.Ran.{Repeats, fails_more, lost_more_same, named_more, repeated_more, run_more, run_none}
 use Rattle.store.proofs.stored_office.StoredOffice.run.Goals as goal
 
 pub loop-arrival-preserved : goal.loop-arrival-preserved
@@ -30,6 +30,16 @@ loop-arrival-preserved g c =
           (fails_more _ c.loop-arrival.self.failed _ c.loop-arrival.results.items c.arrive-answered.result i.failed arrive.failed (λ was. subst IsTrue (ap (λ o. o.failed) (sym (arrive.refused was))) was));
       named = subst (All IsNoProfile) (sym c.push_reserved.ensures.items) (named_more c.loop-arrival.results.items c.arrive-answered.result i.named arrive.named);
       clean = let early = i.clean in omega (arith, early, arrive.clean);
+      lost_same = λ clean tables lost.
+          let early : HasCleanDisk mid = omega (arith, arrive.clean, clean) in
+          lost_more_same g.S.Store old c.loop-arrival.self c.arrive-answered.new.self c.loop-arrival.results.items c.arrive-answered.result tables (i.lost_same early tables)
+          arrive.failed arrive.refused arrive.named (arrive.lost_same clean) (arrive.memory clean) (subst (All IsErr) c.push_reserved.ensures.items lost);
+      repeated = λ clean h holding repeats.
+          let early : HasCleanDisk mid = omega (arith, arrive.clean, clean) in
+          repeated_more g.S.Store old h (take at arrivals) c.loop-arrival.results.items item c.loop-arrival.self c.arrive-answered.new.self (i.ran early h holding) c.arrive-answered.result
+          (i.repeated early h holding) arrive.failed arrive.refused (arrive.repeated clean) (arrive.lost_same clean)
+          (subst (λ l. All (Repeats h) (answered_of l (c.loop-arrival.results.items ++ c.arrive-answered.result ∷ []))) next
+          (subst (λ l. All (Repeats h) (answered_of (take (at + 1) arrivals) l)) c.push_reserved.ensures.items repeats));
       ran = λ clean h holding.
           let early : HasCleanDisk mid = omega (arith, arrive.clean, clean) in
           subst (λ l. HasRun h (take (at + 1) arrivals) l c.arrive-answered.new.self.failed now) (sym c.push_reserved.ensures.items)
@@ -48,6 +58,15 @@ returns-clause-ran g c clean h holding =
     let all : take c.loop-arrival.arrival-index arrivals ≡ arrivals = take_all c.loop-arrival.arrival-index arrivals c.loop-arrival-test.false in
     subst (λ l. HasRun h l c.loop-arrival.results.items c.loop-arrival.self.failed (state g.S.Store c.loop-arrival.self.conn)) all (c.loop-arrival.invariant.ran clean h holding)
 
+pub returns-clause-lost_same : goal.returns-clause-lost_same
+returns-clause-lost_same g c clean tables is_open lost = (c.loop-arrival.invariant.lost_same clean tables lost).1 is_open
+
+pub returns-clause-repeated : goal.returns-clause-repeated
+returns-clause-repeated g c clean h holding is_open repeats =
+    let arrivals = c.args.arrivals.now in
+    let all : take c.loop-arrival.arrival-index arrivals ≡ arrivals = take_all c.loop-arrival.arrival-index arrivals c.loop-arrival-test.false in
+    c.loop-arrival.invariant.repeated clean h holding (subst (λ l. All (Repeats h) (answered_of l c.loop-arrival.results.items)) (sym all) repeats) is_open
+
 pub loop-arrival-init : goal.loop-arrival-init
 loop-arrival-init g c =
     let old = state g.S.Store c.args.self.now.conn in
@@ -58,6 +77,8 @@ loop-arrival-init g c =
       failed = subst (λ l. FailsBy c.args.self.now.failed l c.args.self.now.failed) (sym c.in_ok-results.ensures.items) refl;
       named = subst (All IsNoProfile) (sym c.in_ok-results.ensures.items) (All-nil IsNoProfile);
       clean = omega arith;
+      lost_same = λ clean tables lost. ((λ working. tables.is_open), λ is_open. (refl, refl));
+      repeated = λ clean h holding repeats is_open. (refl, refl);
       ran = λ clean h holding.
           subst (λ l. HasRun h [] l c.args.self.now.failed old) (sym c.in_ok-results.ensures.items)
           (run_none h c.args.self.now.failed old (λ _. holding.is_open) holding (λ db left. subst (Keeps h) (sym (c.leaves_now.ensures holding.is_open db left)) holding.keeps));

@@ -10,7 +10,7 @@ use Rattle.sqlite.specs.Tree.{Trees}
 use Rattle.office_history.specs.History.{Answered}
 use Rattle.store.specs.Holding.{Holding, Leaves}
 use Rattle.desk_types.specs.Moved.{AppendsFront}
-use Rattle.desk.specs.Serving.{AreAccepted, AreClosed, Ending, FailsOnce, Follows, IsDeclined, KeepsWithOne, Leads, HasGoneOn, HasServed, SaysFailure, Visit, written_to}
+use Rattle.desk.specs.Serving.{AreAccepted, AreClosed, Ending, FailsOnce, Follows, IsDeclined, KeepsWithOne, Leads, HasGoneOn, HasServedAll, SaysFailure, Visit, written_to}
 use Rattle.desk.proofs.Visits.{LeavesNow, decides, left_now, legal_of, not_both, ranged_of}
 
 follows_then : (h : List Answered) (vs : List Visit) (v : Visit) (h1 h2 : List Answered) → Follows h vs h1 → Leads h1 v h2 → Follows h (vs ++ v ∷ []) h2
@@ -62,8 +62,8 @@ pub declined_none : All IsDeclined []
 declined_none = All-nil IsDeclined
 
 -- nothing was served yet
-pub ran_none : (h : List Answered) (failed : Bool) (s : State) → LeavesNow s → Holding h s → HasServed h [] failed s
-ran_none h failed s law holding = record {
+pub served_none : (h : List Answered) (failed : Bool) (s : State) → LeavesNow s → Holding h s → HasServedAll h [] failed s
+served_none h failed s law holding = record {
   after = h;
   follows = refl;
   legal = legal_of h s holding;
@@ -85,9 +85,9 @@ pub record Turn (failed_old : Bool) (old : State) (v : Visit) (failed_new : Bool
   pub leads : (h : List Answered) → Holding h old → HasGoneOn h v.fault v.sent (written_to v) new
   pub opened : (h : List Answered) → Holding h old → IsFalse failed_new → IsTrue new.is_open
 
-ran_on : (h : List Answered) (vs : List Visit) (v : Visit) (failed_old : Bool) (old : State) (failed_new : Bool) (new : State) → Turn failed_old old v failed_new new
-    → HasServed h vs failed_old old → IsTrue failed_old ⊎ IsFalse failed_old → HasServed h (vs ++ v ∷ []) failed_new new
-ran_on h vs v failed_old old failed_new new turn r (inl failed) =
+served_on : (h : List Answered) (vs : List Visit) (v : Visit) (failed_old : Bool) (old : State) (failed_new : Bool) (new : State) → Turn failed_old old v failed_new new
+    → HasServedAll h vs failed_old old → IsTrue failed_old ⊎ IsFalse failed_old → HasServedAll h (vs ++ v ∷ []) failed_new new
+served_on h vs v failed_old old failed_new new turn r (inl failed) =
     let same = turn.refused failed in
     let not_sound : IsFalse failed_new → ⊥ = λ sound. not_both failed_old failed (subst IsFalse same.0 sound) in
     record {
@@ -99,7 +99,7 @@ ran_on h vs v failed_old old failed_new new turn r (inl failed) =
       held = subst (λ (t : State). IsTrue t.is_open → Holding r.after t) (sym same.1) r.held;
       left = subst (λ (t : State). Leaves (KeepsWithOne r.after (vs ++ v ∷ [])) t) (sym same.1) (λ db may. still_one r.after vs v db (r.left db may));
     }
-ran_on h vs v failed_old old failed_new new turn r (inr sound) =
+served_on h vs v failed_old old failed_new new turn r (inr sound) =
     let holding = r.held (r.is_open sound) in
     let led = turn.leads r.after holding in
     record {
@@ -113,9 +113,9 @@ ran_on h vs v failed_old old failed_new new turn r (inr sound) =
     }
 
 -- one more connection was served
-pub ran_then : (h : List Answered) (vs : List Visit) (v : Visit) (failed_old : Bool) (old : State) (failed_new : Bool) (new : State)
-    → Turn failed_old old v failed_new new → HasServed h vs failed_old old → HasServed h (vs ++ v ∷ []) failed_new new
-ran_then h vs v failed_old old failed_new new turn ran = ran_on h vs v failed_old old failed_new new turn ran (decides failed_old)
+pub served_then : (h : List Answered) (vs : List Visit) (v : Visit) (failed_old : Bool) (old : State) (failed_new : Bool) (new : State)
+    → Turn failed_old old v failed_new new → HasServedAll h vs failed_old old → HasServedAll h (vs ++ v ∷ []) failed_new new
+served_then h vs v failed_old old failed_new new turn ran = served_on h vs v failed_old old failed_new new turn ran (decides failed_old)
 
 reported_then : {T : Type 0} (f : Visit → Option T) (vs : List Visit) (v : Visit) (xs ys : List T) → map f vs ≡ map Some xs → map f (v ∷ []) ≡ map Some ys
     → map f (vs ++ v ∷ []) ≡ map Some (xs ++ ys)

@@ -229,7 +229,9 @@ pub record Calls {T : Type 0} (r : Result T DeskFault) (sent after : Option (Lis
   pub healthy : OnOk r ((reads ≡ reads_old) × (writes ≡ writes_old))
   pub unread : IsErrOf r Read → (bytes : List ℕ) × Consumes sent after bytes × IsNotWhole bytes
   pub read_failed : IsErrOf r Read → reads ≡ reads_old + 1
+  pub read_writes : IsErrOf r Read → writes ≡ writes_old
   pub write_failed : IsErrOf r Write → writes ≡ writes_old + 1
+  pub write_reads : IsErrOf r Write → reads ≡ reads_old
   pub lacking : IsErrOf r Memory → (reads ≡ reads_old) × (writes ≡ writes_old)
 
 cut_short : (sent after : Option (List ℕ)) (bytes : List ℕ) → Consumes sent after bytes → IsNotWhole bytes → IsCutShort sent
@@ -249,9 +251,13 @@ caused (Ok v) ended reported sent after reads_old reads writes_old writes no_rea
     of_ending (λ e. (e.failed_reads ≡ 0) × (e.failed_writes ≡ 0)) ended reported reads writes (λ bytes. (known.healthy.0 ∙ no_read, known.healthy.1 ∙ no_write))
 caused (Err Read) ended reported sent after reads_old reads writes_old writes no_read no_write known =
     let u = known.unread refl in
-    (cut_short sent after u.0 u.1 u.2, of_ending (λ e. e.failed_reads ≡ 1) ended reported reads writes (λ bytes. known.read_failed refl ∙ ap (λ n. n + 1) no_read))
+    let failed = known.read_failed refl ∙ ap (λ n. n + 1) no_read in
+    let sound = known.read_writes refl ∙ no_write in
+    (cut_short sent after u.0 u.1 u.2, of_ending (λ e. (e.failed_reads ≡ 1) × (e.failed_writes ≡ 0)) ended reported reads writes (λ bytes. (failed, sound)))
 caused (Err Write) ended reported sent after reads_old reads writes_old writes no_read no_write known =
-    of_ending (λ e. e.failed_writes ≡ 1) ended reported reads writes (λ bytes. known.write_failed refl ∙ ap (λ n. n + 1) no_write)
+    let sound = known.write_reads refl ∙ no_read in
+    let failed = known.write_failed refl ∙ ap (λ n. n + 1) no_write in
+    of_ending (λ e. (e.failed_reads ≡ 0) × (e.failed_writes ≡ 1)) ended reported reads writes (λ bytes. (sound, failed))
 caused (Err Memory) ended reported sent after reads_old reads writes_old writes no_read no_write known =
     let k = known.lacking refl in
     of_ending (λ e. (e.failed_reads ≡ 0) × (e.failed_writes ≡ 0)) ended reported reads writes (λ bytes. (k.0 ∙ no_read, k.1 ∙ no_write))

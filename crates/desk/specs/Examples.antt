@@ -5,7 +5,7 @@ use Rattle.sqlite.specs.Tree.{Trees}
 use Rattle.office_history.specs.History.{Answered}
 use Rattle.office_history.specs.declared.arrival.Answer.{Answer}
 use Rattle.store.specs.Holding.{Keeps}
-use Rattle.desk_types.specs.declared.fault.DeskFault.TheVariants.{Read}
+use Rattle.desk_types.specs.declared.fault.DeskFault.TheVariants.{Read, Write}
 use Rattle.desk_types.specs.declared.problem.Problem.TheVariants.{NotFound, TryAgain}
 use Rattle.desk_call.specs.Call.{ArrivalSeen, arrives, fails, shows}
 use Rattle.office_types.specs.declared.look.Look.TheVariants.{Release}
@@ -42,7 +42,14 @@ one_ended = (unanswered ∷ [], refl, refl)
 
 -- a connection of which no read failed doesn't end by `Read`
 not_for_nothing : HasCause (record broken { ending = Some (record unanswered { failed_reads = 0 }) }) → ⊥
-not_for_nothing cause = let failed = cause.1 in cc
+not_for_nothing cause = let failed = cause.1.0 in cc
+
+-- nor does one end by `Write` of which a read failed, too
+abbrev both_failed : Ending
+both_failed = record { written = []; failed_reads = 1; failed_writes = 1 }
+
+not_after_a_read : HasCause (record broken { ending = Some both_failed; fault = Some Write }) → ⊥
+not_after_a_read cause = let failed = cause.0 in cc
 
 -- a request for nothing that is there is answered as ever once the office has failed, and one for a release is answered
 -- to try again

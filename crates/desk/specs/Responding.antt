@@ -32,23 +32,27 @@ shown_response content (Some text) = text_response content text
 
 -- the text is the response that shows this of the office
 abbrev pub IsLookResponse : Office → Look → List ℕ → Type 0
-IsLookResponse office l text = (found : Option (List ℕ)) × IsShown office l found × (text ≡ shown_response (content_of l) found)
+IsLookResponse office l text =
+    (found : Option (List ℕ)) × IsShown office l found × (text ≡ shown_response (content_of l) found)
 
 -- the arrival, which comes today, with its answer
 abbrev pub answered_as : ArrivalSeen → Answer → Answered
-answered_as a answer = record { profile = Two; team = a.team; key = a.key; content = a.content; command = a.command; answer = answer }
+answered_as a answer =
+    record { profile = Two; team = a.team; key = a.key; content = a.content; command = a.command; answer = answer }
 
 -- The text is the response to the request, on the history h, and h2 is the history after it: with the arrival and
 -- the answer that the text shows, or the same. Where the tables hold h2, it is legal: so the answer is the office's.
 abbrev pub IsResponse : List Answered → Requested → List ℕ → List Answered → Type 0
 IsResponse h (fails problem) text h2 = (h2 ≡ h) × (text ≡ problem_response problem)
 IsResponse h (shows l) text h2 = (h2 ≡ h) × ((office : Office) → IsLegal h office → IsLookResponse office l text)
-IsResponse h (arrives a) text h2 = (answer : Answer) × (h2 ≡ h ++ answered_as a answer ∷ []) × (text ≡ answer_response answer)
+IsResponse h (arrives a) text h2 =
+    (answer : Answer) × (h2 ≡ h ++ answered_as a answer ∷ []) × (text ≡ answer_response answer)
 
 -- the trees keep the history, or it with the arrival that was requested
 abbrev pub FollowsRequested : List Answered → Requested → Trees → Type 0
 FollowsRequested h requested db =
-    Keeps h db ⊎ ((a : ArrivalSeen) × (requested ≡ arrives a) × (answer : Answer) × Keeps (h ++ answered_as a answer ∷ []) db)
+    Keeps h db
+    ⊎ ((a : ArrivalSeen) × (requested ≡ arrives a) × (answer : Answer) × Keeps (h ++ answered_as a answer ∷ []) db)
 
 -- The text is the response, the tables hold the history after it, and a crash leaves just that one; or it says to try
 -- again, and the tables, if they are still open, hold the history as before, and a crash leaves it, or it with the
@@ -63,7 +67,8 @@ Responds h requested text s =
 abbrev pub MayHaveTaken : List Answered → Requested → State → Type 0
 MayHaveTaken h requested s =
     (IsTrue s.is_open
-    → Holding h s ⊎ ((a : ArrivalSeen) × (requested ≡ arrives a) × ((answer : Answer) × Holding (h ++ answered_as a answer ∷ []) s)))
+    → Holding h s
+    ⊎ ((a : ArrivalSeen) × (requested ≡ arrives a) × ((answer : Answer) × Holding (h ++ answered_as a answer ∷ []) s)))
     × Leaves (FollowsRequested h requested) s
 
 -- ---- one connection
@@ -75,16 +80,20 @@ IsRequested left requested = IfSome left (λ input. IsRequest input requested)
 -- the whole response was written
 abbrev pub HasServed : List Answered → Option (List ℕ) → Option (List ℕ) → Option (List ℕ) → State → Type 0
 HasServed h left reported_old reported_new s =
-    (requested : Requested) × (text : List ℕ) × IsRequested left requested × Responds h requested text s × Appends reported_old reported_new text
+    (requested : Requested) × (text : List ℕ) × IsRequested left requested × Responds h requested text s
+    × Appends reported_old reported_new text
 
 -- a beginning of the response was written, and the tables are as if it had all been
 abbrev pub HasBegun : List Answered → Option (List ℕ) → Option (List ℕ) → Option (List ℕ) → State → Type 0
 HasBegun h left reported_old reported_new s =
-    (requested : Requested) × (text : List ℕ) × IsRequested left requested × Responds h requested text s × AppendsFront reported_old reported_new text
+    (requested : Requested) × (text : List ℕ) × IsRequested left requested × Responds h requested text s
+    × AppendsFront reported_old reported_new text
 
 -- nothing was written, since memory ran out
 abbrev pub HasGivenUp : List Answered → Option (List ℕ) → State → Type 0
-HasGivenUp h left s = (Holding h s × Leaves (Keeps h) s) ⊎ ((requested : Requested) × IsRequested left requested × MayHaveTaken h requested s)
+HasGivenUp h left s =
+    (Holding h s × Leaves (Keeps h) s)
+    ⊎ ((requested : Requested) × IsRequested left requested × MayHaveTaken h requested s)
 
 -- ---- one connection to an office that has failed
 
@@ -95,8 +104,11 @@ failed_response requested = problem_response TryAgain
 
 -- the whole of that response was written
 abbrev pub HasRefused : Option (List ℕ) → Option (List ℕ) → Option (List ℕ) → Type 0
-HasRefused left reported_old reported_new = (requested : Requested) × IsRequested left requested × Appends reported_old reported_new (failed_response requested)
+HasRefused left reported_old reported_new =
+    (requested : Requested) × IsRequested left requested × Appends reported_old reported_new (failed_response requested)
 
 -- a beginning of it was written
 abbrev pub HasBegunRefusal : Option (List ℕ) → Option (List ℕ) → Option (List ℕ) → Type 0
-HasBegunRefusal left reported_old reported_new = (requested : Requested) × IsRequested left requested × AppendsFront reported_old reported_new (failed_response requested)
+HasBegunRefusal left reported_old reported_new =
+    (requested : Requested) × IsRequested left requested
+    × AppendsFront reported_old reported_new (failed_response requested)

@@ -42,12 +42,12 @@ fault_of (Err fault) = Some fault
 abbrev pub IsCutShort : Option (List ℕ) → Type 0
 IsCutShort sent = IfSome sent (λ input. (bytes : List ℕ) × (rest : List ℕ) × (input ≡ bytes ++ rest) × IsNotWhole bytes)
 
--- What ended the connection so. Without a fault no read and no write failed. `Read` is that of a read that failed
--- before the request was whole, and `Write` that of a write that failed. With `Memory` no read and no write failed.
+-- What ended the connection so. Without a fault no read and no write failed. With `Read` one read failed, before the
+-- request was whole, and no write; with `Write` one write, and no read. With `Memory` no read and no write failed.
 abbrev pub IsCause : Option DeskFault → Option (List ℕ) → Option Ending → Type 0
 IsCause None sent ending = IfSome ending (λ e. (e.failed_reads ≡ 0) × (e.failed_writes ≡ 0))
-IsCause (Some Read) sent ending = IsCutShort sent × IfSome ending (λ e. e.failed_reads ≡ 1)
-IsCause (Some Write) sent ending = IfSome ending (λ e. e.failed_writes ≡ 1)
+IsCause (Some Read) sent ending = IsCutShort sent × IfSome ending (λ e. (e.failed_reads ≡ 1) × (e.failed_writes ≡ 0))
+IsCause (Some Write) sent ending = IfSome ending (λ e. (e.failed_reads ≡ 0) × (e.failed_writes ≡ 1))
 IsCause (Some Memory) sent ending = IfSome ending (λ e. (e.failed_reads ≡ 0) × (e.failed_writes ≡ 0))
 
 abbrev pub HasCause : Visit → Type 0
@@ -64,12 +64,14 @@ HasFront written text = IfSome written (λ bytes. (rest : List ℕ) × (text ≡
 -- the text is the response to the request, and h2 is the history after it; or the text says to try again
 abbrev pub IsReply : List Answered → Option (List ℕ) → List ℕ → List Answered → Type 0
 IsReply h sent text h2 =
-    (requested : Requested) × IsRequested sent requested × (IsResponse h requested text h2 ⊎ ((h2 ≡ h) × (text ≡ problem_response TryAgain)))
+    (requested : Requested) × IsRequested sent requested
+    × (IsResponse h requested text h2 ⊎ ((h2 ≡ h) × (text ≡ problem_response TryAgain)))
 
 -- the history is as before, or goes on with the arrival that was requested
 abbrev pub MayGoOn : List Answered → Option (List ℕ) → List Answered → Type 0
 MayGoOn h sent h2 =
-    (h2 ≡ h) ⊎ ((a : ArrivalSeen) × (answer : Answer) × IsRequested sent (arrives a) × (h2 ≡ h ++ answered_as a answer ∷ []))
+    (h2 ≡ h)
+    ⊎ ((a : ArrivalSeen) × (answer : Answer) × IsRequested sent (arrives a) × (h2 ≡ h ++ answered_as a answer ∷ []))
 
 -- from one history to another by a connection that ended so: with its whole response, with none, or with a beginning
 abbrev pub LeadsBy : Option DeskFault → List Answered → Option (List ℕ) → Option (List ℕ) → List Answered → Type 0
@@ -80,7 +82,8 @@ LeadsBy (Some Memory) h sent written h2 = MayGoOn h sent h2 × HasText written [
 
 -- the same by a connection; one that comes when the office has failed leaves the history as it is
 abbrev pub Leads : List Answered → Visit → List Answered → Type 0
-Leads h v h2 = (IsTrue v.office_failed × (h2 ≡ h)) ⊎ (IsFalse v.office_failed × LeadsBy v.fault h v.sent (written_to v) h2)
+Leads h v h2 =
+    (IsTrue v.office_failed × (h2 ≡ h)) ⊎ (IsFalse v.office_failed × LeadsBy v.fault h v.sent (written_to v) h2)
 
 -- each connection leads from the history after the one before it
 abbrev pub Follows : List Answered → List Visit → List Answered → Type 0
@@ -91,11 +94,13 @@ Follows h (v ∷ later) h2 = (h1 : List Answered) × Leads h v h1 × Follows h1 
 -- beginning of the text that says to try again
 abbrev pub KeepsOneMore : List Answered → Option (List ℕ) → Option (List ℕ) → Trees → Type 0
 KeepsOneMore h sent written db =
-    (a : ArrivalSeen) × IsRequested sent (arrives a) × HasFront written (problem_response TryAgain) × (answer : Answer) × Keeps (h ++ answered_as a answer ∷ []) db
+    (a : ArrivalSeen) × IsRequested sent (arrives a) × HasFront written (problem_response TryAgain)
+    × (answer : Answer) × Keeps (h ++ answered_as a answer ∷ []) db
 
 -- the trees keep the history, or it with the arrival of one of the connections, which had no answer
 abbrev pub KeepsWithOne : List Answered → List Visit → Trees → Type 0
-KeepsWithOne h visits db = Keeps h db ⊎ ((v : Visit) × Contains visits v × KeepsOneMore h v.sent (written_to v) db)
+KeepsWithOne h visits db =
+    Keeps h db ⊎ ((v : Visit) × Contains visits v × KeepsOneMore h v.sent (written_to v) db)
 
 -- A connection that ended so leads to a legal history, whose commands are in range, and which the tables hold as long
 -- as they are open. A crash leaves that history, or it and the arrival, if that had no answer.
@@ -110,7 +115,7 @@ pub record HasGoneOn (h : List Answered) (fault : Option DeskFault) (sent writte
 -- The connections lead to a legal history, whose commands are in range, and which the tables hold as long as they are
 -- open. They are, unless the office has failed. A crash leaves that history, or it and one arrival that had no
 -- answer.
-pub record HasServed (h : List Answered) (visits : List Visit) (failed : Bool) (s : State) : Type 0 where
+pub record HasServedAll (h : List Answered) (visits : List Visit) (failed : Bool) (s : State) : Type 0 where
   pub after : List Answered
   pub follows : Follows h visits after
   pub legal : IsLegalHistory after
@@ -123,9 +128,11 @@ pub record HasServed (h : List Answered) (visits : List Visit) (failed : Bool) (
 
 -- from a connection to an office that has failed, which ended so: a request to that office gets the answer to try again
 abbrev pub DeclinesBy : Option DeskFault → Option (List ℕ) → Option (List ℕ) → Type 0
-DeclinesBy None sent written = (requested : Requested) × IsRequested sent requested × HasText written (failed_response requested)
+DeclinesBy None sent written =
+    (requested : Requested) × IsRequested sent requested × HasText written (failed_response requested)
 DeclinesBy (Some Read) sent written = HasText written []
-DeclinesBy (Some Write) sent written = (requested : Requested) × IsRequested sent requested × HasFront written (failed_response requested)
+DeclinesBy (Some Write) sent written =
+    (requested : Requested) × IsRequested sent requested × HasFront written (failed_response requested)
 DeclinesBy (Some Memory) sent written = HasText written []
 
 -- if the office had failed when the connection came, it is declined so
@@ -136,7 +143,8 @@ IsDeclined v = IsTrue v.office_failed → DeclinesBy v.fault v.sent (written_to 
 -- the last. Once it has, it has for all that come later.
 abbrev pub FailsOnce : Bool → List Visit → Bool → Type 0
 FailsOnce before [] after = after ≡ before
-FailsOnce before (v ∷ later) after = (v.office_failed ≡ before) × (next : Bool) × (IsTrue before → IsTrue next) × FailsOnce next later after
+FailsOnce before (v ∷ later) after =
+    (v.office_failed ≡ before) × (next : Bool) × (IsTrue before → IsTrue next) × FailsOnce next later after
 
 -- where the office fails, that is written to the standard error, or a beginning of it; else nothing is written there
 abbrev pub SaysFailure : Bool → Bool → Option (List ℕ) → Option (List ℕ) → Type 0
@@ -149,7 +157,8 @@ SaysFailure before after old new = new ≡ old
 abbrev pub AreAccepted : Option (List (List ℕ)) → Option (List (List ℕ)) → List Visit → Type 0
 AreAccepted None new visits = ⊤
 AreAccepted (Some coming) new visits =
-    (sent : List (List ℕ)) × (left : List (List ℕ)) × (coming ≡ sent ++ left) × (new ≡ Some left) × (map (λ v. v.sent) visits ≡ map Some sent)
+    (sent : List (List ℕ)) × (left : List (List ℕ)) × (coming ≡ sent ++ left) × (new ≡ Some left)
+    × (map (λ v. v.sent) visits ≡ map Some sent)
 
 -- These connections ended, in order, if the listener shows how. It may cease to show it, and never does again.
 abbrev pub AreClosed : Option (List Ending) → Option (List Ending) → List Visit → Type 0
@@ -178,4 +187,5 @@ abbrev pub IsClosed : Option (List Ending) → Option (List Ending) → Option (
 IsClosed None new written reads writes = new ≡ None
 IsClosed (Some ended) None written reads writes = ⊤
 IsClosed (Some ended) (Some more) written reads writes =
-    (bytes : List ℕ) × (written ≡ Some bytes) × (more ≡ ended ++ record { written = bytes; failed_reads = reads; failed_writes = writes } ∷ [])
+    (bytes : List ℕ) × (written ≡ Some bytes)
+    × (more ≡ ended ++ record { written = bytes; failed_reads = reads; failed_writes = writes } ∷ [])

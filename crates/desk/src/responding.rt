@@ -63,6 +63,7 @@ pub fn serve_one<S: Alter, R: Source, W: Sink>(
         → IsErrOf result DeskFault.Write → HasBegun h (R.left source.old) (W.reported sink.old) (W.reported sink.new)
         (state S.Store office.new.conn) }
     ensures write_failed { IsErrOf result DeskFault.Write → W.failure_count sink.new ≡ W.failure_count sink.old + 1 }
+    ensures write_reads { IsErrOf result DeskFault.Write → R.failure_count source.new ≡ R.failure_count source.old }
     ensures memory { HasCleanDisk (state S.Store office.new.conn) → (h : List Answered)
         → Holding h (state S.Store office.old.conn)
         → IsErrOf result DeskFault.Memory → HasGivenUp h (R.left source.old) (state S.Store office.new.conn) }

@@ -6,7 +6,7 @@ ghost use Rattle.sqlite.specs.State.{HasCleanDisk};
 ghost use Rattle.sqlite_trees.specs.View.{doubt};
 ghost use Rattle.office_history.specs.History.{Answered};
 ghost use Rattle.store.specs.Holding.{Holding};
-ghost use Rattle.desk.specs.Serving.{AreAccepted, AreClosed, FailsOnce, HasCause, IsDeclined, HasGoneOn, NoneWaits, HasServed};
+ghost use Rattle.desk.specs.Serving.{AreAccepted, AreClosed, FailsOnce, HasCause, IsDeclined, HasGoneOn, NoneWaits, HasServedAll};
 ghost use Rattle.desk.specs.Serving.{SaysFailure, Visit, fault_of, written_to};
 
 use crate::fault::ServeFault;
@@ -87,7 +87,7 @@ pub fn serve<S: Alter, L: Listener, E: Write>(
         × All HasCause visits × FailsOnce office.old.failed visits office.new.failed × All IsDeclined visits
         × (HasCleanDisk (state S.Store office.new.conn) → (h : List Answered)
         → Holding h (state S.Store office.old.conn)
-        → HasServed h visits office.new.failed (state S.Store office.new.conn)) }
+        → HasServedAll h visits office.new.failed (state S.Store office.new.conn)) }
 {
     office.leaves_now();
     for _served in 0..count {

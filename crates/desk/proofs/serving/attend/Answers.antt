@@ -35,7 +35,9 @@ returns-clause-served g c =
             healthy = one.healthy;
             unread = one.read;
             read_failed = one.read_failed;
+            read_writes = λ is. ap g.L.Response.Sink.failure_count (one.read_kept is).1;
             write_failed = one.write_failed;
+            write_reads = one.write_reads;
             lacking = one.memory_counts;
           }),
       λ is. subst (λ (o : Option (List ℕ)). DeclinesBy fault sent o) is_written (declined c.serve_one-ended.result before sent first last accepted.starts (record {

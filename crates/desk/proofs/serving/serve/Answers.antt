@@ -3,15 +3,15 @@ use Rattle.sqlite.specs.Held.{state}
 use Rattle.sqlite.specs.State.{HasCleanDisk}
 use Rattle.std.specs.Prelude.{IsTrue}
 use Rattle.std.proofs.lemmas.List.Elements.{All-nil, All-push}
-use Rattle.desk.specs.Serving.{AreAccepted, AreClosed, Ending, FailsOnce, HasCause, NoneWaits, HasServed, SaysFailure}
-use Rattle.desk.proofs.Turns.{came_none, came_then, declined_none, declined_then, ended_none, ended_then, fails_then, ran_none, ran_then, says_nothing, says_then}
+use Rattle.desk.specs.Serving.{AreAccepted, AreClosed, Ending, FailsOnce, HasCause, NoneWaits, HasServedAll, SaysFailure}
+use Rattle.desk.proofs.Turns.{came_none, came_then, declined_none, declined_then, ended_none, ended_then, fails_then, served_none, served_then, says_nothing, says_then}
 use Rattle.desk.proofs.serving.serve.Goals as goal
 
 pub loop-served-init : goal.loop-served-init
 loop-served-init g c = record {
   clean = omega arith;
   stated = says_nothing c.args.office.now.failed (g.E.Write.contents c.args.errors.now);
-  so_far = ([], refl, came_none _, ended_none _, All-nil HasCause, refl, declined_none, λ clean h holding. ran_none h _ _ c.leaves_now.ensures holding);
+  so_far = ([], refl, came_none _, ended_none _, All-nil HasCause, refl, declined_none, λ clean h holding. served_none h _ _ c.leaves_now.ensures holding);
 }
 
 pub loop-served-preserved : goal.loop-served-preserved
@@ -36,7 +36,7 @@ loop-served-preserved g c =
         declined_then w.0 one.0 w.6 one.6,
         λ clean h holding.
             let early : HasCleanDisk mid = omega (arith, a.clean, clean) in
-            ran_then h w.0 one.0 c.loop-served.office.failed mid c.attend.new.office.failed now (record {
+            served_then h w.0 one.0 c.loop-served.office.failed mid c.attend.new.office.failed now (record {
               before = one.2;
               refused = λ is. (ap (λ o. o.failed) (a.refused is), ap (λ o. state g.S.Store o.conn) (a.refused is));
               leads = one.7 clean;
@@ -64,7 +64,7 @@ returns-in-Err-clause-served g c =
       w.6,
       λ clean h holding.
           let early = subst (λ o. HasCleanDisk (state g.S.Store o.conn)) a.kept clean in
-          subst (λ o. HasServed h w.0 o.failed (state g.S.Store o.conn)) (sym a.kept) (w.7 early h holding),
+          subst (λ o. HasServedAll h w.0 o.failed (state g.S.Store o.conn)) (sym a.kept) (w.7 early h holding),
     )
 
 pub returns-clause-served : goal.returns-clause-served

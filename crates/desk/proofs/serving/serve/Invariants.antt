@@ -5,7 +5,7 @@ use Rattle.sqlite.specs.State.{HasCleanDisk}
 use Rattle.sqlite_trees.specs.View.{doubt}
 use Rattle.office_history.specs.History.{Answered}
 use Rattle.store.specs.Holding.{Holding}
-use Rattle.desk.specs.Serving.{AreAccepted, AreClosed, FailsOnce, HasCause, IsDeclined, HasServed, SaysFailure, Visit}
+use Rattle.desk.specs.Serving.{AreAccepted, AreClosed, FailsOnce, HasCause, IsDeclined, HasServedAll, SaysFailure, Visit}
 use Rattle.desk.proofs.serving.serve.Given as goal
 
 -- the connections so far were served
@@ -21,5 +21,5 @@ invariant-loop-served g l =
       so_far : (visits : List Visit) × (length visits ≡ l._served) × AreAccepted (coming l.fn.listener) (coming l.listener) visits
           × AreClosed (ended l.fn.listener) (ended l.listener) visits
           × All HasCause visits × FailsOnce l.fn.office.failed visits l.office.failed × All IsDeclined visits
-          × (HasCleanDisk now → (h : List Answered) → Holding h old → HasServed h visits l.office.failed now);
+          × (HasCleanDisk now → (h : List Answered) → Holding h old → HasServedAll h visits l.office.failed now);
     }

@@ -58,8 +58,9 @@ class Printing:
             return None
         if fault.is_stop:
             return "stopped" if (answer.errors, answer.status) == (b"", -9) else None
-        # Where memory has run out the database may lack what it needs to take a request back.
-        if answer.status == LOST and answer.errors in {fault.lost_line, b"lost 72\n"}:
+        # Where memory is gone for long the database may lack what it needs to take a request back, or to close.
+        lost_lines = {fault.lost_line} if fault.reach in {"one", "two"} else {fault.lost_line, b"lost 72\n"}
+        if answer.status == LOST and answer.errors in lost_lines:
             return answer.errors.decode().strip()
         return None
 

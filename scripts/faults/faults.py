@@ -21,8 +21,9 @@ class Fault:
     """Calls of one name, and what happens to those that fail.
 
     The effect is the name of an error (`EIO`, `ENOSPC`, ..), `short`, `empty` or `half`, or a stop: `stop-before` or
-    `stop-after`, and with `-lost` or `-torn` what becomes of the bytes that aren't synced. The reach is `one`,
-    `later` (the call and all later ones) or `every` and a number. The head of failing_calls.c shows what they do."""
+    `stop-after`, and with `-lost` or `-torn` what becomes of the bytes that aren't synced. The reach is `one`, `two`
+    (the call and the next), `later` (the call and all later ones) or `every` and a number. The head of failing_calls.c
+    shows what they do."""
 
     call: str
     effect: str
@@ -54,7 +55,7 @@ class Fault:
         else:
             found["FAULT_EFFECT"] = effect
         if self.reach != "one":
-            found["FAULT_LAST"] = "0"
+            found["FAULT_LAST"] = str(at + 1) if self.reach == "two" else "0"
         if self.reach.startswith("every"):
             found["FAULT_EVERY"] = self.reach.removeprefix("every")
         if armed:

@@ -15,5 +15,7 @@ pub mod GivenValues
 pub mod EnteredSubcommand
 pub mod EnteredLine
 pub mod Reported
+pub mod CanAnswer
+pub mod LongestLines
 pub mod Opened
 pub mod Applied

@@ -4,6 +4,7 @@ pub mod CommandLine
 pub mod Holding
 pub mod Databases
 pub mod Answered
+pub mod LongestLines
 pub mod Applied
 pub mod Exported
 pub mod Migrated

@@ -39,7 +39,7 @@ fn apply_in_memory<F: FileSource, W: Write>(
     match arrivals_of(alloc, script, Dash::LineNumber, files) {
         Ok(arrivals) => {
             // Room first, so that no answer is lost because memory for its line runs out.
-            let room = Room::for_answers(alloc, arrivals.len())?;
+            let room = Room::for_answers(alloc, &arrivals)?;
             let reported = answer_in_memory(alloc, script, &arrivals, progress);
             progress.clear();
             reported?.report(alloc, room)
@@ -64,7 +64,7 @@ fn apply_in_database<F: FileSource, D: Databases, W: Write>(
     match arrivals_of(alloc, script, Dash::Wrong, files) {
         Ok(arrivals) => {
             // Room first, so that no answer is lost because memory for its line runs out.
-            let room = Room::for_answers(alloc, arrivals.len())?;
+            let room = Room::for_answers(alloc, &arrivals)?;
             let reported = databases.answer(alloc, path, script, &arrivals, progress);
             progress.clear();
             reported?.report(alloc, room)

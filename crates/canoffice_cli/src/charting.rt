@@ -71,7 +71,7 @@ fn signals_report(alloc: Global, length: u16, signals: &[ChartSignal]) -> Result
 /// The chart of the signals that the words describe, in a message of so many bytes: `Success` if they are clear,
 /// `FaultFound` if they clash.
 ///
-/// If a word is malformed, the first one is reported and nothing is charted. `signal_of` of the crate `chart` has their
+/// If a word is malformed, the first one is reported and nothing is charted. `signal_of` of the crate `views` has their
 /// form.
 pub fn chart_report(alloc: Global, length: u16, words: &[&str]) -> Result<Report, AllocError>
     ensures { IfOk result (λ report. IsChartOutcome length (map (λ s. s.now) words.now) (outcome_of report)) }

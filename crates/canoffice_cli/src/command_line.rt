@@ -77,7 +77,7 @@ fn apply_command<'a>(alloc: Global) -> Result<Command<'a>, AllocError>
 }
 
 /// `chart LENGTH SIGNAL..`
-fn chart_command<'a>(alloc: Global) -> Result<Command<'a>, AllocError>
+pub(crate) fn chart_command<'a>(alloc: Global) -> Result<Command<'a>, AllocError>
     ensures app { IfOk result (λ c. app_of c ≡ chart_app) }
     ensures local { IfOk result (λ c. (fields_of c).has_globals ≡ false) }
 {
@@ -106,7 +106,7 @@ fn check_command<'a>(alloc: Global) -> Result<Command<'a>, AllocError>
 }
 
 /// `export --db FILE NET N`
-fn export_command<'a>(alloc: Global) -> Result<Command<'a>, AllocError>
+pub(crate) fn export_command<'a>(alloc: Global) -> Result<Command<'a>, AllocError>
     ensures app { IfOk result (λ c. app_of c ≡ export_app) }
     ensures local { IfOk result (λ c. (fields_of c).has_globals ≡ false) }
 {
@@ -143,7 +143,7 @@ fn migrate_command<'a>(alloc: Global) -> Result<Command<'a>, AllocError>
 }
 
 /// `serve --db FILE [--port N] [--count N]`
-fn serve_command<'a>(alloc: Global) -> Result<Command<'a>, AllocError>
+pub(crate) fn serve_command<'a>(alloc: Global) -> Result<Command<'a>, AllocError>
     ensures app { IfOk result (λ c. app_of c ≡ serve_app) }
     ensures local { IfOk result (λ c. (fields_of c).has_globals ≡ false) }
 {

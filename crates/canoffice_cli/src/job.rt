@@ -7,7 +7,7 @@ ghost use Rattle.canoffice_cli.specs.CommandLine.{IsJobFault, IsValueFault, IsVa
 use crate::command_line::canoffice_command;
 use crate::numbers::{Number, count_given, length_given, port_given, release_number};
 use clap::error::ErrorKind;
-use clap::{ArgMatches, Error};
+use clap::{ArgMatches, Command, Error};
 use std::alloc::{AllocError, Global};
 
 /// What the program is to do: a subcommand with the values of its arguments.
@@ -97,7 +97,7 @@ enum ValueFault<'a> {
 ///
 /// The result is a job exactly if clap finds no fault in the words and each word for a number gives one in its range,
 /// unless memory runs out: it is `Help` only if they request help or the version, and `Usage` only if they have
-/// another fault, or a word for a number that gives none in its range, the first of which the text names.
+/// another fault, or a word for a number that gives none in its range. The text is clap's, and no clause describes it.
 pub fn job_of<'a>(alloc: Global, words: &'a [&'a str]) -> Result<Job<'a>, JobFault>
     ensures job { IfOk result (IsJob (map (λ s. s.now) words.entry.now)) }
     ensures fault { IfErr result (IsJobFault (map (λ s. s.now) words.entry.now)) }
@@ -120,26 +120,31 @@ pub fn not_utf8_fault(alloc: Global) -> JobFault
     ensures { IsFaultOfKind ErrorKind.ValueValidation result }
 {
     let message = "invalid UTF-8 was detected in one or more arguments";
-    validation_fault(alloc, message)
-}
-
-/// The fault that the word gives no such number, in its range: `Usage`, unless memory runs out.
-fn wrong_number(alloc: Global, number: Number, word: &str) -> JobFault
-    ensures { IsFaultOfKind ErrorKind.ValueValidation result }
-{
-    match number.refusal(alloc, word) {
-        Ok(message) => validation_fault(alloc, &message),
+    match canoffice_command(alloc) {
+        Ok(command) => validation_fault(alloc, command, message),
         Err(AllocError) => JobFault::Memory,
     }
 }
 
-/// The fault that a word isn't as it must be, with the text that clap makes of the message.
-fn validation_fault(alloc: Global, message: &str) -> JobFault
+/// The fault that the word gives no such number, in its range: `Usage`, that of the number's subcommand, unless memory
+/// runs out.
+fn wrong_number(alloc: Global, number: Number, word: &str) -> JobFault
     ensures { IsFaultOfKind ErrorKind.ValueValidation result }
 {
-    let Ok(mut command) = canoffice_command(alloc) else {
+    let Ok(message) = number.refusal(alloc, word) else {
         return JobFault::Memory;
     };
+    match number.subcommand(alloc) {
+        Ok(command) => validation_fault(alloc, command, &message),
+        Err(AllocError) => JobFault::Memory,
+    }
+}
+
+/// The fault that a word isn't as it must be, with the text that clap makes of the message and the command's usage.
+fn validation_fault(alloc: Global, command: Command<'_>, message: &str) -> JobFault
+    ensures { IsFaultOfKind ErrorKind.ValueValidation result }
+{
+    let mut command = command;
     match command.error(ErrorKind::ValueValidation, message) {
         Ok(error) => line_fault(alloc, &error),
         Err(_) => JobFault::Memory,

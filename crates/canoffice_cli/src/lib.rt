@@ -55,5 +55,6 @@ pub use migrating::{migrate_on, migrate_report};
 pub use program::{fault_report, perform, report_of};
 pub use progress::Progress;
 pub use report::{LOST_MEMORY, Report, Status, bad_line, bad_word, cannot_read, help, usage};
+pub use room::answers_fit;
 pub use serving::{ServeEnd, serve_report};
 pub use tabling::table_report;

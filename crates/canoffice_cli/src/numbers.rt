@@ -4,6 +4,8 @@ ghost use Rattle.std.specs.Option.{option_map};
 ghost use Rattle.views.specs.Word.{length_of};
 ghost use Rattle.canoffice_cli.specs.Numbers.{count_given, number_given, port_given, release_number};
 
+use crate::command_line::{chart_command, export_command, serve_command};
+use clap::Command;
 use std::alloc::{AllocError, Global};
 use views::{length_of, whole_between};
 
@@ -43,6 +45,15 @@ impl Number {
         }
     }
 
+    /// Its subcommand, which usage calls so. The error is out of memory.
+    pub(crate) fn subcommand<'a>(self, alloc: Global) -> Result<Command<'a>, AllocError> {
+        match self {
+            Number::Length => chart_command(alloc)?.bin_name("canoffice chart"),
+            Number::Release => export_command(alloc)?.bin_name("canoffice export"),
+            Number::Port | Number::Count => serve_command(alloc)?.bin_name("canoffice serve"),
+        }
+    }
+
     /// Its range, as clap writes it.
     fn range(self) -> &'static str {
         match self {
@@ -61,7 +72,7 @@ impl Number {
     }
 }
 
-/// The length of a message that the word gives: 0 to 1785 bytes, as [`length_of`] of the crate `chart` reads it.
+/// The length of a message that the word gives: 0 to 1785 bytes, as [`length_of`] of the crate `views` reads it.
 pub(crate) fn length_given(word: &str) -> Option<u16>
     ensures { result ≡ length_of word.now }
 {

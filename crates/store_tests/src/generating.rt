@@ -1,5 +1,7 @@
 //! A script of requests that a fixed generator makes: three networks, four teams, and 300 keys. Most requests under one
 //! key are one request, and some aren't, so that there are repeats and keys that are reused.
+use crate::folder::Folder;
+use office_script::{FileSource, PathFault};
 use std::alloc::{AllocError, Global};
 
 /// A linear congruential generator, with the multiplier and increment of Numerical Recipes.
@@ -30,8 +32,8 @@ const TEAMS: [&[u8]; 4] = [
     b"a123456789-123456789-123456789-1",
 ];
 
-/// Requests: `@` is a network, `$` a team, and `#` a digit.
-const FORMS: [&[u8]; 24] = [
+/// Requests: `@` is a network, `$` a team, and `#` a digit. Bundles come more often, since most of them are refused.
+const FORMS: [&[u8]; 27] = [
     b"office open_net net=@ kind=j1939 reviews=1",
     b"office open_net net=@ kind=can reviews=0",
     b"office grant net=@ team=$ form=std first=1#0 last=199",
@@ -56,7 +58,30 @@ const FORMS: [&[u8]; 24] = [
     b"$ reject net=@",
     b"office release net=@",
     b"$ import net=@ file=three.dbc",
+    b"$ bundle net=@ file=bundle###",
+    b"$ bundle net=@ file=bundle###",
+    b"$ bundle net=@ file=bundle###",
 ];
+
+/// The commands of bundles, one a line: `#` is a digit.
+const BUNDLES: [&[u8]; 9] = [
+    b"retire message=N#\nretire message=M#\ntake_ident form=ext name=N# length=8\n",
+    b"add_node name=Node#\nadd_node name=Node#\nadd_node name=Node#\nadd_node name=Node#\n",
+    b"reject\ntake_ident form=std name=M# length=8\nrelease\n",
+    b"grant team=e form=ext first=3#00 last=3999\ntake_ident form=ext name=N# length=8\n",
+    b"reject\nadd_node name=Node#\nsubmit\n",
+    b"add_node name=Node#\n",
+    b"take_ident form=std name=M# length=8\ntake_ident form=std name=M# length=8\n\
+take_ident form=std name=M# length=8\n",
+    b"take_ident form=ext name=N# length=64\n\
+take_bits message=N# signal=S# size=8 order=intel signed=false factor=1 offset=0 minimum=0 maximum=0 unit=\n",
+    b"take_ident form=std name=M# length=8\n\
+take_bits message=M# signal=S# size=8 order=intel signed=false factor=1 offset=0 minimum=0 maximum=0 unit=\n\
+retire message=M#\n",
+];
+
+/// What the file of a generated bundle is called, before a number.
+const BUNDLE: &str = "bundle";
 
 impl Generator {
     /// One of the texts.
@@ -67,10 +92,9 @@ impl Generator {
         }
     }
 
-    /// Adds a request to the text.
-    fn add_request(&mut self, text: &mut Vec<u8>) -> Result<(), AllocError> {
-        let net = self.pick(&NETS);
-        for byte in self.pick(&FORMS) {
+    /// Adds what the form makes to the text.
+    fn add_form(&mut self, text: &mut Vec<u8>, form: &[u8], net: &[u8]) -> Result<(), AllocError> {
+        for byte in form {
             match *byte {
                 b'@' => text.extend_from_slice(net)?,
                 b'$' => text.extend_from_slice(self.pick(&TEAMS))?,
@@ -79,6 +103,51 @@ impl Generator {
             }
         }
         Ok(())
+    }
+
+    /// Adds a request to the text.
+    fn add_request(&mut self, text: &mut Vec<u8>) -> Result<(), AllocError> {
+        let net = self.pick(&NETS);
+        let form = self.pick(&FORMS);
+        self.add_form(text, form, net)
+    }
+}
+
+/// The files that generated requests name: those of a folder, and bundles, each of which a generator makes that begins
+/// at the number in the file's name.
+#[derive(Clone, Copy)]
+pub(crate) struct GeneratedFiles<'r> {
+    /// The folder.
+    pub(crate) folder: Folder<'r>,
+}
+
+/// The number of the bundle in the file of this name, or `None` where it has none.
+fn bundle_number(path: &str) -> Option<u32> {
+    path.strip_prefix(BUNDLE)?.parse().ok()
+}
+
+/// The text of the bundle of this number.
+fn bundle_text(alloc: Global, number: u32) -> Result<Vec<u8>, AllocError> {
+    let mut text = Vec::new(alloc);
+    let mut generator = Generator { state: number };
+    let form = generator.pick(&BUNDLES);
+    generator.add_form(&mut text, form, b"")?;
+    Ok(text)
+}
+
+impl FileSource for GeneratedFiles<'_> {
+    ghost use Rattle.office_script.specs.Files.{unknown};
+
+    ghost held = { λ _ _. unknown };
+
+    fn read(&self, alloc: Global, path: &str) -> Result<Vec<u8>, PathFault> {
+        let Some(number) = bundle_number(path) else {
+            return self.folder.read(alloc, path);
+        };
+        match bundle_text(alloc, number) {
+            Ok(text) => Ok(text),
+            Err(AllocError) => Err(PathFault::Memory),
+        }
     }
 }
 

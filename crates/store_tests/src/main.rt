@@ -23,7 +23,7 @@ use comparing::{is_answered, is_run};
 use expecting::Expected;
 use folder::Folder;
 use foreign::try_foreign;
-use generating::generated_text;
+use generating::{GeneratedFiles, generated_text};
 use office_history::Arrival;
 use reading::{arrivals_of, arrivals_of_case};
 use rows::try_rows;
@@ -55,7 +55,8 @@ fn try_generated(rt: &HostRuntime) -> io::Result<()> {
         rt,
         name: "office_import_twice",
     };
-    try_list(rt, "generated", &arrivals_of(&folder, &text, 1)?)
+    let files = GeneratedFiles { folder };
+    try_list(rt, "generated", &arrivals_of(rt.alloc(), &files, &text, 1)?)
 }
 
 /// Tries each folder's script, each line twice.

@@ -2,7 +2,9 @@
 use crate::folder::Folder;
 use catalogue::split_once;
 use office_history::{Arrival, Key};
-use office_script::{Dash, arrivals_of as arrivals_of_script, first_line, says_nothing};
+use office_script::{
+    Dash, FileSource, arrivals_of as arrivals_of_script, first_line, says_nothing,
+};
 use std::alloc::{AllocError, Global};
 use std::fs;
 use std::io::{self, ErrorKind};
@@ -40,11 +42,10 @@ fn key_of(alloc: Global, word: &[u8], number: usize) -> io::Result<Key> {
 }
 
 /// The arrival of the words after a line's key.
-fn arrival_of_words(folder: &Folder<'_>, words: &[u8]) -> io::Result<Arrival> {
-    let alloc = folder.rt.alloc();
+fn arrival_of_words<F: FileSource>(alloc: Global, files: &F, words: &[u8]) -> io::Result<Arrival> {
     let mut line = Vec::from_slice(alloc, b"- ")?;
     line.extend_from_slice(words)?;
-    match arrivals_of_script(alloc, &line, Dash::LineNumber, folder) {
+    match arrivals_of_script(alloc, &line, Dash::LineNumber, files) {
         Ok(arrivals) => match arrivals.into_iter().next() {
             Some(arrival) => Ok(arrival),
             None => Err(ErrorKind::InvalidData)?,
@@ -54,37 +55,44 @@ fn arrival_of_words(folder: &Folder<'_>, words: &[u8]) -> io::Result<Arrival> {
 }
 
 /// The arrival of a line.
-fn arrival_of(folder: &Folder<'_>, line: &[u8], number: usize) -> io::Result<Arrival> {
+fn arrival_of<F: FileSource>(
+    alloc: Global,
+    files: &F,
+    line: &[u8],
+    number: usize,
+) -> io::Result<Arrival> {
     let Some((word, words)) = split_once(line, b' ') else {
         return Err(ErrorKind::InvalidData)?;
     };
-    let key = key_of(folder.rt.alloc(), word, number)?;
-    let mut arrival = arrival_of_words(folder, words)?;
+    let key = key_of(alloc, word, number)?;
+    let mut arrival = arrival_of_words(alloc, files, words)?;
     arrival.key = key;
     Ok(arrival)
 }
 
 /// Adds the arrival of a line as often as `times` says.
-fn add_arrivals(
-    folder: &Folder<'_>,
+fn add_arrivals<F: FileSource>(
+    alloc: Global,
+    files: &F,
     line: &[u8],
     number: usize,
     times: usize,
     arrivals: &mut Vec<Arrival>,
 ) -> io::Result<()> {
     for _ in 0..times {
-        arrivals.push(arrival_of(folder, line, number)?)?;
+        arrivals.push(arrival_of(alloc, files, line, number)?)?;
     }
     Ok(())
 }
 
-/// The arrivals of the lines, each as often as `times` says. Files are those of the folder.
-pub(crate) fn arrivals_of(
-    folder: &Folder<'_>,
+/// The arrivals of the lines, each as often as `times` says.
+pub(crate) fn arrivals_of<F: FileSource>(
+    alloc: Global,
+    files: &F,
     text: &[u8],
     times: usize,
 ) -> io::Result<Vec<Arrival>> {
-    let mut arrivals = Vec::new(folder.rt.alloc());
+    let mut arrivals = Vec::new(alloc);
     let mut rest = text;
     // A text has at most as many lines as bytes.
     for number in 0..text.len() {
@@ -92,7 +100,7 @@ pub(crate) fn arrivals_of(
             break;
         };
         if !says_nothing(first.line) {
-            add_arrivals(folder, first.line, number, times, &mut arrivals)?;
+            add_arrivals(alloc, files, first.line, number, times, &mut arrivals)?;
         }
         rest = first.rest;
     }
@@ -101,7 +109,8 @@ pub(crate) fn arrivals_of(
 
 /// The arrivals of the folder's script, each as often as `times` says.
 pub(crate) fn arrivals_of_case(folder: &Folder<'_>, times: usize) -> io::Result<Vec<Arrival>> {
-    let path = folder.path_of(folder.rt.alloc(), "script.txt")?;
+    let alloc = folder.rt.alloc();
+    let path = folder.path_of(alloc, "script.txt")?;
     let text = fs::read(folder.rt, path.as_str())?;
-    arrivals_of(folder, &text, times)
+    arrivals_of(alloc, folder, &text, times)
 }

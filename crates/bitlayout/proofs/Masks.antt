@@ -180,7 +180,7 @@ word_within words k i h = elim (cases_lt k (length words)) [
   | inr past ↦ let none = ap (λ n. bit_at n i) (get_or_past words k 0 past) ∙ bit_at-zero i in absurd (omega arith)
 ]
 
--- the word at an index has the bits of its positions; past the last word it has none
+-- the word at an index has the bits of its positions; after the last word it has none
 pub word_at : (words : List ℕ) (w i : ℕ) → length words ≡ 224 → i < 64 → HasBit (get_or words w 0) i ↔ Has (positions_of words) (64 * w + i)
 word_at words w i count small =
     let at : (64 * w + i) / 64 ≡ w = omega arith in
@@ -190,7 +190,7 @@ word_at words w i count small =
       λ there. rw (at, index) at (is.0 there).1,
     )
 
--- past the last word there is none
+-- after the last word no position is in the set
 pub none_past : (words : List ℕ) (w i : ℕ) → 224 ≤ w → HasBit 0 i ↔ Has (positions_of words) (64 * w + i)
 none_past words w i past =
     let zero = bit_at-zero i in

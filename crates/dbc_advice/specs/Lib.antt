@@ -13,6 +13,7 @@ pub mod Reasons
 pub mod Unclear
 pub mod Clashes
 pub mod Tokens
+pub mod Names
 pub mod Citation
 pub mod LeftOut
 pub mod Explained

@@ -1,16 +1,16 @@
 //! What skipped statements cite.
 ghost use Rattle.std.specs.Prelude.{◌≡◌, IfOk, option_map};
-ghost use Rattle.catalogue.specs.Named.{has_name};
-ghost use Rattle.catalogue.specs.Sheet.{node_name};
-ghost use Rattle.catalogue.specs.Signals.{signal_name};
+ghost use Rattle.catalogue.specs.declared.sheet.Sheet as of_sheet;
 ghost use Rattle.std.specs.Option.{option_copied};
 ghost use Rattle.dbc_advice.specs.Citation.{citation_at, citation_text, cited_by_comment, cited_by_spn};
 ghost use Rattle.dbc_advice.specs.Citation.{cited_message, cited_node, cited_number, cited_of, cited_signal};
 ghost use Rattle.dbc_advice.specs.Citation.{cited_text, has_signal, is_missing};
+ghost use Rattle.dbc_advice.specs.Names.{AreNamesOf};
 ghost use Rattle.dbc_advice.specs.Tokens.{GivesToken};
 
 use crate::joined::{three, two};
-use catalogue::{Keyword, Message, Node, Sheet, Signal, whole_number};
+use crate::names::Names;
+use catalogue::{Keyword, Message, Sheet, whole_number};
 use dbc_grammar::TokenKind;
 use dbc_lex::{Lexer, Token};
 use std::alloc::{AllocError, Global};
@@ -105,20 +105,6 @@ pub(crate) fn citation_at(text: &[u8], at: usize) -> Option<Citation<'_>>
     }
 }
 
-/// Whether one of the nodes has the name.
-fn has_node(nodes: &[Node], name: &[u8]) -> bool
-    ensures { result ≡ has_name node_name nodes.now name.now }
-{
-    nodes.iter().any(|node| node.name.as_bytes() == name)
-}
-
-/// Whether one of the signals has the name.
-fn names_signal(signals: &[Signal], name: &[u8]) -> bool
-    ensures { result ≡ has_name signal_name signals.now name.now }
-{
-    signals.iter().any(|signal| signal.name.as_bytes() == name)
-}
-
 /// The message of the number.
 fn cited_message<'a>(sheet: &'a Sheet, number: &[u8]) -> Option<&'a Message>
     ensures { option_copied result ≡ cited_message sheet.now number.now }
@@ -126,24 +112,24 @@ fn cited_message<'a>(sheet: &'a Sheet, number: &[u8]) -> Option<&'a Message>
     sheet.find(whole_number(number)?)
 }
 
-/// Whether the message of the number has a signal of the name.
-fn has_signal(sheet: &Sheet, number: &[u8], name: &[u8]) -> bool
-    ensures { result ≡ has_signal sheet.now number.now name.now }
+/// Whether the sheet's message of the number has a signal of the name.
+fn has_signal(names: &Names, number: &[u8], name: &[u8]) -> bool
+    ensures { (s : of_sheet.Sheet) → AreNamesOf names.now s → result ≡ has_signal s number.now name.now }
 {
-    match cited_message(sheet, number) {
-        Some(message) => names_signal(message.signals.as_slice(), name),
+    match whole_number(number) {
+        Some(number) => names.has_signal(number, name),
         None => false,
     }
 }
 
-/// Whether the sheet has nothing that is cited so.
-pub(crate) fn is_missing(sheet: &Sheet, citation: Citation) -> bool
-    ensures { result ≡ is_missing sheet.now (cited_of citation.entry) }
+/// Whether the sheet, whose names these are, has nothing that is cited so.
+pub(crate) fn is_missing(sheet: &Sheet, names: &Names, citation: Citation) -> bool
+    ensures { AreNamesOf names.now sheet.now → result ≡ is_missing sheet.now (cited_of citation.entry) }
 {
     match citation {
-        Citation::Node(name) => !has_node(sheet.nodes(), name),
+        Citation::Node(name) => !names.has_node(name),
         Citation::Message(number) => cited_message(sheet, number).is_none(),
-        Citation::Signal(number, name) => !has_signal(sheet, number, name),
+        Citation::Signal(number, name) => !has_signal(names, number, name),
     }
 }
 

@@ -12,7 +12,7 @@ use crate::position::position_of;
 use crate::reasons::{Reason, reasons_of};
 use crate::sentences::{code_label, more_line, reported_line};
 use crate::unclear::reason_text;
-use bitlayout::Clash;
+use bitlayout::{Clash, first_clash};
 use catalogue::{Message, Sheet, SheetCode};
 use std::alloc::{AllocError, Global};
 
@@ -92,7 +92,12 @@ fn message_reasons(alloc: Global, message: &Message) -> Result<Vec<Reason>, Allo
     ensures { IfOk result (λ reasons. AreReasons message.now.length (places_of message.now.signals) reasons.items) }
 {
     let places = message.signals.places(alloc)?;
-    reasons_of(alloc, &places, message.length.bytes())
+    let bytes = message.length.bytes();
+    // Most messages are clear, and then no two signals are compared.
+    if first_clash(&places, bytes).is_none() {
+        return Ok(Vec::new(alloc));
+    }
+    reasons_of(alloc, &places, bytes)
 }
 
 /// The lines of the first of these reasons, so many as there is room for, and a last one: there are more.

@@ -70,13 +70,15 @@ fn keyword_line_between(text: &[u8], start: usize, end: usize) -> Option<usize>
     requires { start ≤ length text.now }
     ensures { IfSome result (λ line. (start < line) × (line ≤ length text.now)) }
 {
-    let mut before = line_end(text, start);
-    while before < text.len() && before + 1 < end {
+    // Ends of lines are looked for up to `end` alone: a line of many texts would else be walked to its end for each.
+    let (front, _) = text.split_at(end.min(text.len()).max(start));
+    let mut before = line_end(front, start);
+    while before + 1 < front.len() {
         let line = before + 1;
         if keyword_at(text, line).is_some() {
             return Some(line);
         }
-        before = line_end(text, line);
+        before = line_end(front, line);
     }
     None
 }
@@ -92,14 +94,14 @@ struct Runaway {
     end: usize,
 }
 
-/// Whether the fault may come of this text: no quote closes some text, or the text ends in the fault's own statement.
-fn concerns(text: &[u8], runaway: &Runaway, fault: ReadFault) -> bool
-    requires at { fault.at ≤ length text.now }
-    requires end { runaway.now.end ≤ length text.now }
+/// Whether a fault of the code, in the statement that begins at `statement`, may come of this text: no quote closes some
+/// text, or the text ends in that statement.
+fn concerns(text: &[u8], runaway: &Runaway, code: ReadCode, statement: usize) -> bool
+    requires { runaway.now.end ≤ length text.now }
 {
-    match fault.code {
+    match code {
         ReadCode::UnclosedText => true,
-        _ => statement_start(text, runaway.end) == statement_start(text, fault.at),
+        _ => statement_start(text, runaway.end) == statement,
     }
 }
 
@@ -111,6 +113,7 @@ fn runaway_before(text: &[u8], fault: ReadFault) -> Option<Runaway>
     ensures line { IfSome result (λ r. r.quote < r.line) }
     ensures within { IfSome result (λ r. r.line ≤ length text.now) }
 {
+    let statement = statement_start(text, fault.at);
     let mut lexer = Lexer::of(text);
     for _ in 0..text.len() {
         let token = match lexer.next_token() {
@@ -123,7 +126,7 @@ fn runaway_before(text: &[u8], fault: ReadFault) -> Option<Runaway>
             match keyword_line_between(text, quote, end) {
                 Some(line) => {
                     let runaway = Runaway { quote, line, end };
-                    if concerns(text, &runaway, fault) {
+                    if concerns(text, &runaway, fault.code, statement) {
                         return Some(runaway);
                     }
                 }

@@ -2,11 +2,13 @@
 //! kind.
 ghost use Rattle.std.specs.Prelude.{◌≡◌, ◌≤◌, IfOk, codes, length, option_map, string_bytes};
 ghost use Rattle.dbc_advice.specs.Citation.{cited_of};
-ghost use Rattle.dbc_advice.specs.LeftOut.{ArePartedFrom, count_text, has_keyword, kind_count, kind_text, kinds_text};
+ghost use Rattle.dbc_advice.specs.LeftOut.{ArePartedFrom, count_text, has_keyword, kind_count, kinds_text};
 ghost use Rattle.dbc_advice.specs.LeftOut.{left_out, line_after, missing_at, missing_line, passed_label, passed_line};
+ghost use Rattle.dbc_advice.specs.Names.{AreNamesOf};
 ghost use Rattle.dbc_advice.specs.ReportedLine.{more_text};
 
 use crate::citation::{Citation, citation_at, citation_text, is_missing};
+use crate::names::{Names, names_of};
 use crate::notes::Source;
 use crate::position::position_of;
 use crate::sentences::{more_line, reported_line};
@@ -41,12 +43,17 @@ fn passed_line(
     reported_line(alloc, source.name, position, &label, sentence)
 }
 
-/// What the skipped statement cites, if the sheet doesn't have it.
-fn missing_at<'a>(sheet: &Sheet, text: &'a [u8], passed: Passed) -> Option<Citation<'a>>
-    ensures { option_map cited_of result ≡ missing_at sheet.now text.now passed }
+/// What the skipped statement cites, if the sheet, whose names these are, doesn't have it.
+fn missing_at<'a>(
+    sheet: &Sheet,
+    names: &Names,
+    text: &'a [u8],
+    passed: Passed,
+) -> Option<Citation<'a>>
+    ensures { AreNamesOf names.now sheet.now → option_map cited_of result ≡ missing_at sheet.now text.now passed }
 {
     let citation = citation_at(text, passed.at)?;
-    if is_missing(sheet, citation) {
+    if is_missing(sheet, names, citation) {
         Some(citation)
     } else {
         None
@@ -129,8 +136,9 @@ fn parted(alloc: Global, source: Source, reading: &Reading) -> Result<Parts, All
     let mut lines = Vec::new(alloc);
     let mut others = Vec::new(alloc);
     let mut missing = 0usize;
+    let names = names_of(alloc, &reading.sheet)?;
     for passed in reading.passed.as_slice() {
-        match missing_at(&reading.sheet, source.text, *passed) {
+        match missing_at(&reading.sheet, &names, source.text, *passed) {
             Some(citation) => {
                 let line = line_after(alloc, missing, source, *passed, citation)?;
                 lines.extend_from_slice(&line)?;
@@ -157,21 +165,16 @@ fn more_missing(alloc: Global, file: &[u8], missing: usize) -> Result<Vec<u8>, A
     }
 }
 
-/// The line of the statement at the index, if no earlier one has its keyword, with how many have it.
+/// The line of the first of these statements that has its keyword, with how many have it.
 fn kind_line(
     alloc: Global,
     source: Source,
     passed: &[Passed],
-    index: usize,
     first: Passed,
 ) -> Result<Vec<u8>, AllocError>
-    requires { index ≤ length passed.now }
-    ensures { IfOk result (λ line. line.items ≡ kind_text source.entry.name.now source.entry.text.now passed.now
-        (index, first)) }
+    ensures { IfOk result (λ line. line.items ≡ passed_line source.entry.name.now source.entry.text.now first
+        (count_text (kind_count first.keyword passed.now))) }
 {
-    if has_keyword(&passed[..index], first.keyword) {
-        return Ok(Vec::new(alloc));
-    }
     let sentence = count_text(alloc, kind_count(passed, first.keyword))?;
     passed_line(alloc, source, first, sentence.as_bytes())
 }
@@ -181,9 +184,14 @@ fn kind_lines(alloc: Global, source: Source, passed: &[Passed]) -> Result<Vec<u8
     ensures { IfOk result (λ lines. lines.items ≡ kinds_text source.entry.name.now source.entry.text.now passed.now 0) }
 {
     let mut lines = Vec::new(alloc);
-    for (index, first) in passed.iter().enumerate() {
-        let line = kind_line(alloc, source, passed, index, *first)?;
-        lines.extend_from_slice(&line)?;
+    // The first statement of each keyword: few, so that a further one isn't looked for among all before it.
+    let mut firsts = Vec::new(alloc);
+    for one in passed {
+        if !has_keyword(&firsts, one.keyword) {
+            let line = kind_line(alloc, source, passed, *one)?;
+            lines.extend_from_slice(&line)?;
+            firsts.push(*one)?;
+        }
     }
     Ok(lines)
 }

@@ -103,24 +103,26 @@ fn unmultiplexed_reason(place: &Place, index: usize, multiplexed: bool) -> Optio
     }
 }
 
-/// The reasons of the place at `index`.
+/// The reasons of the place at `index`. `multiplexed` says whether one of the places is the multiplexor.
 fn reasons_at(
     alloc: Global,
     places: &[Place],
     index: usize,
     place: &Place,
     bytes: u16,
+    multiplexed: bool,
 ) -> Result<Vec<Reason>, AllocError>
     requires index { index ≤ length places.now }
     requires bytes { bytes ≤ length_limit }
-    ensures { IfOk result (λ reasons. reasons.items ≡ reasons_at bytes places.now (index, place.now)) }
+    ensures { IfOk result (λ reasons. multiplexed ≡ has_multiplexor places.now
+        → reasons.items ≡ reasons_at bytes places.now (index, place.now)) }
 {
     let mut reasons = Vec::new(alloc);
     match outside_reason(place, index, bytes) {
         Some(reason) => reasons.push(reason)?,
         None => {}
     }
-    match unmultiplexed_reason(place, index, any_multiplexor(places)) {
+    match unmultiplexed_reason(place, index, multiplexed) {
         Some(reason) => reasons.push(reason)?,
         None => {}
     }
@@ -144,11 +146,12 @@ pub(crate) fn reasons_of(
     ensures { IfOk result (λ reasons. AreReasons bytes places.now reasons.items) }
 {
     let mut reasons = Vec::new(alloc);
+    let multiplexed = any_multiplexor(places);
     for (index, place) in places.iter().enumerate() {
         if reasons.len() > REASONS_REPORTED {
             return Ok(reasons);
         }
-        let more = reasons_at(alloc, places, index, place, bytes)?;
+        let more = reasons_at(alloc, places, index, place, bytes, multiplexed)?;
         reasons.extend_from_slice(&more)?;
     }
     Ok(reasons)

@@ -1,6 +1,10 @@
 use Rattle.std.proofs.Common.{◌≡◌, ◌++◌}
 use Rattle.dbc_advice.specs.LeftOut.{kinds_text}
+use Rattle.dbc_advice.proofs.PassedKinds.{HaveKeywords}
 use Rattle.dbc_advice.proofs.leaving.kind_lines.Given as goal
 
-abbrev pub invariant-loop-index : goal.invariant-loop-index
-invariant-loop-index l = l.lines.items ++ kinds_text l.source.name.now l.source.text.now l.passed l.index ≡ kinds_text l.source.name.now l.source.text.now l.passed 0
+abbrev pub invariant-loop-one : goal.invariant-loop-one
+invariant-loop-one l = record {
+  lines : l.lines.items ++ kinds_text l.source.name.now l.source.text.now l.passed l.one-index ≡ kinds_text l.source.name.now l.source.text.now l.passed 0;
+  come : HaveKeywords l.firsts.items l.passed l.one-index;
+}

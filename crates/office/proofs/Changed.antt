@@ -1,7 +1,7 @@
 -- Changes of live messages and held identifiers, made where a search finds them.
 use Rattle.std.proofs.Common.{◌≡◌, ◌≢◌, ◌∙◌, ◌<◌, Bool, true, false, not, cond, ℕ, zero, suc, List, [], ◌∷◌, Option, Contains, length, get_or, set, filter, inl, inr, refl, sym, ap, subst, arith}
 use Rattle.std.specs.Cmp.{nat_cmp_is}
-use Rattle.std.specs.Prelude.{IfSome, slice_get, slice_set}
+use Rattle.std.specs.Prelude.{Err, IfSome, Ok, OnErr, OnOk, Result, slice_get, slice_set}
 use Rattle.std.specs.List.{AllByRecursion, IsDistinct, insert, list_any, remove}
 use Rattle.std.specs.List.Sorted.{IsStrictlySortedBy}
 use Rattle.std.specs.Ordering.{nat_cmp}
@@ -129,3 +129,10 @@ index-with_signal o net at s live within changed is = elim (slice_get_cases net.
       (index-replaced o net at h.0 (with_last_signal h.0 s) within (ap (λ z. indexed_alike z (with_last_signal h.0 s)) h.3 ∙ alike_with h.0 s) is)
   | inr past ↦ absurd (let v = past.0 in omega arith)
 ]
+
+-- the same where memory may have run out, so that nothing changed
+pub index-if_added : {A E : Type 0} (r : Result A E) (o : Option NetIndex) (net : Net) (at : ℕ) (s : Signal) (live : List LiveMessage) → at < length net.live
+    → OnOk r (IfSome (slice_get net.live at) (λ m. live ≡ slice_set net.live at (with_last_signal m s))) → OnErr r (live ≡ net.live) → IsIndexIfThere o net
+    → IsIndexIfThere o (record net { live = live })
+index-if_added (Ok x) o net at s live within ok err is = index-with_signal o net at s live within ok is
+index-if_added (Err e) o net at s live within ok err is = subst (λ (l : List LiveMessage). IsIndexIfThere o (record net { live = l })) (sym err) is

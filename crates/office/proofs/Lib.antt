@@ -1,11 +1,7 @@
 mod CarriedOut
-mod BundleDecided
-mod Decisions
 mod InPlace
-mod Excerpts
 mod Runs
 mod PutThere
-mod NumberSets
 mod Indexes
 mod Looked
 mod Changed

@@ -25,7 +25,7 @@ use Rattle.office_rules.specs.Facts.{MessageFacts, has_ident, live_named, messag
 use Rattle.office_rules.specs.Kept.{IsNet}
 use Rattle.office_rules.proofs.Idents.{same_ident-true}
 use Rattle.office_law.proofs.Idents.{same_ident-from}
-use Rattle.office_import.proofs.Searched.{gap_passes, passes_at}
+use Rattle.office_facts.proofs.Searched.{gap_passes, passes_at}
 use Rattle.office.specs.Indexed.{IsFoundAt, live_number}
 use Rattle.office.proofs.CarriedOut.{found_at, not_found}
 use Rattle.office.proofs.Indexes.{named, nothing_mapped}

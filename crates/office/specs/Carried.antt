@@ -1,15 +1,10 @@
 -- What a list of changes, decided for the network of a name, leaves of the whole office.
-use Rattle.std.specs.Prelude.{◌≡◌, ℕ, ◌<◌, List, length, Option, Some, None, Result, Ok, Err, slice_get}
+use Rattle.std.specs.Prelude.{◌≡◌, ℕ, ◌<◌, List, length, Option, Some, None, slice_get}
 use Rattle.catalogue.specs.Keyed.{put}
 use Rattle.office_types.specs.State.{by_name}
 use Rattle.office_types.specs.declared.change.Change.{Change}
-use Rattle.office_types.specs.declared.refusal.Refusal.{Refusal}
-use Rattle.office_types.specs.declared.reply.Reply.{Reply}
-use Rattle.office_types.specs.declared.reply.Reply.TheVariants.{Refused, Start}
-use Rattle.office_types.specs.declared.state.Net.{Net}
 use Rattle.office_types.specs.declared.state.Office.{Office}
 use Rattle.office_rules.specs.Change.{NetAndBook, all_applied}
-use Rattle.office_rules.specs.Outcome.{Outcome, Refusing, Changing}
 use Rattle.office_rules.specs.Step.{net_named}
 
 -- the office with its network and its book so
@@ -30,13 +25,3 @@ carried o name changes = with_both o (all_applied name changes (both_of o name))
 abbrev pub IsNetFound : Office → List ℕ → Option ℕ → Type 0
 IsNetFound o name None = net_named o name ≡ None
 IsNetFound o name (Some i) = (i < length o.nets) × (slice_get o.nets i ≡ net_named o name)
-
--- an outcome's reply is this, and it leaves the command's network so
-abbrev pub IsDone : Net → Outcome → Reply → Net → Type 0
-IsDone before (Refusing r) reply after = (reply ≡ Refused r) × (after ≡ before)
-IsDone before (Changing r net e) reply after = (reply ≡ r) × (after ≡ net)
-
--- the reply to a `take_bits` that was given this start, or refused
-abbrev pub bits_reply : Result ℕ Refusal → Reply
-bits_reply (Ok start) = Start start
-bits_reply (Err r) = Refused r

@@ -1,4 +1,2 @@
 pub mod Carried
-pub mod Bundled
-pub mod Imported
 pub mod Indexed

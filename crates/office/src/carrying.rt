@@ -1,8 +1,7 @@
 //! Finding a network of an office, and carrying out what was decided where it isn't there.
-ghost use Rattle.std.specs.Prelude.{◌≡◌, ◌∷◌, [], IfOk, OnOk, OnErr, position};
+ghost use Rattle.std.specs.Prelude.{◌≡◌, ◌∷◌, [], OnOk, OnErr, position};
 ghost use Rattle.std.specs.Str.{bytes_eq};
 ghost use Rattle.std.specs.List.Sorted.{IsStrictlySortedBy};
-ghost use Rattle.std.specs.Option.{option_copied};
 ghost use Rattle.catalogue.specs.Keyed.{put};
 ghost use Rattle.office_types.specs.State.{by_name};
 ghost use Rattle.office_types.specs.declared.state.Net.{Net};
@@ -10,8 +9,8 @@ ghost use Rattle.office_types.specs.declared.state.Office.{Office};
 ghost use Rattle.office_rules.specs.Change.{AllFit};
 ghost use Rattle.office.specs.Carried.{IsNetFound, both_of, carried};
 
-use crate::applying::{Draft, bare_net, change_all};
-use catalogue::{Copying, Items, Slot, put_item, slot_of};
+use catalogue::{Items, Slot, put_item, slot_of};
+use office_decide::{bare_net, change_all, draft_of};
 use office_types::{Change, Net, NetName, SpnBook};
 use std::alloc::{AllocError, Global};
 
@@ -71,24 +70,6 @@ fn carry_one_out(
             _ => Ok(()),
         },
     }
-}
-
-/// A copy of the network, if it is there, and of the book.
-pub(crate) fn draft_of(
-    alloc: Global,
-    found: Option<&Net>,
-    book: &SpnBook,
-) -> Result<Draft, AllocError>
-    ensures { IfOk result (λ draft. draft ≡ record { net = option_copied found.entry; book = book.now }) }
-{
-    let net = match found {
-        None => None,
-        Some(net) => Some(net.duplicate(alloc)?),
-    };
-    Ok(Draft {
-        net,
-        book: book.duplicate(alloc)?,
-    })
 }
 
 /// Makes several changes, each of which fits after those before it, where the network isn't there, on a copy of the

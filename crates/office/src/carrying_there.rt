@@ -7,15 +7,14 @@ ghost use Rattle.office_rules.specs.Change.{AllFit, Fits, NetAndBook, all_applie
 ghost use Rattle.office_rules.specs.Kept.{IsNet};
 ghost use Rattle.office.specs.Indexed.{IsIndexIfThere, is_of_messages};
 
-use crate::applying::{change_all, change_net};
-use crate::carrying::draft_of;
 use crate::changing::{
-    hold_message, remove_message, remove_signal_in, replace_message, set_message,
+    add_signal_in, hold_message, remove_message, remove_signal_in, replace_message, set_message,
 };
 use crate::looking_up::{find_ident, search_live};
 use crate::net_index::NetIndex;
 use can_id::Ident;
 use catalogue::{Items, put_item};
+use office_decide::{change_all, change_net, draft_of};
 use office_facts::same_ident;
 use office_types::{Change, Head, LiveMessage, Net, NetName, SpnBook, UsableSpn};
 use std::alloc::{AllocError, Global};
@@ -76,6 +75,7 @@ fn carry_one_out(
             remove_message(net, index, &ident);
             Ok(())
         }
+        Change::AddSignal(message, signal) => add_signal_in(alloc, net, index, &message, signal),
         Change::RemoveSignal(path) => remove_signal_in(alloc, net, index, &path),
         Change::SetSpnBlock(block) => put_item(&mut book.blocks, block),
         Change::EnterSpn(spn) => book.used.enter(spn),

@@ -3,11 +3,11 @@
 //!
 //! Where the index can't follow a change, since memory runs out or because a message is replaced by one of another name
 //! or identifier, it is dropped: then it is made anew when a command would use it.
-ghost use Rattle.std.specs.Prelude.{◌≡◌, ◌<◌, ◌≤◌, OnOk, OnErr, insert, length, slice_set};
+ghost use Rattle.std.specs.Prelude.{◌≡◌, ◌<◌, ◌≤◌, OnOk, OnErr, Some, insert, length, slice_set};
 ghost use Rattle.std.specs.List.Sorted.{IsStrictlySortedBy};
 ghost use Rattle.office_types.specs.State.{by_number};
-ghost use Rattle.office_types.specs.declared.change.Change.TheVariants.{RemoveSignal};
-ghost use Rattle.office_rules.specs.Change.{net_changed};
+ghost use Rattle.office_types.specs.declared.change.Change.TheVariants.{AddSignal, RemoveSignal};
+ghost use Rattle.office_rules.specs.Change.{Fits, net_changed};
 ghost use Rattle.office_rules.specs.Kept.{IsNet};
 ghost use Rattle.office_rules.specs.Numbers.{with_message};
 ghost use Rattle.office_rules.specs.Retiring.{with_held, without_message};
@@ -15,9 +15,9 @@ ghost use Rattle.office.specs.Indexed.{IsIndexIfThere, IsFoundAt, indexed_alike}
 
 use crate::looking_up::{find_ident, find_named, search_idents, search_live};
 use crate::net_index::{NetIndex, with_inserted, with_moved, with_removed};
-use crate::one_signal::with_signal_out;
 use can_id::Ident;
-use catalogue::Copying;
+use catalogue::{Copying, Name, Signal};
+use office_decide::{add_at, with_signal_out};
 use office_facts::same_ident;
 use office_types::{LiveMessage, Net, SignalPath};
 use std::alloc::{AllocError, Global};
@@ -102,6 +102,28 @@ pub(crate) fn set_message(
             Ok(())
         }
         Err(at) => insert_message(alloc, net, index, at, message),
+    }
+}
+
+/// Adds a signal as the last one of the live message of the name, which doesn't refuse it: in its place, so that no
+/// other signal is copied. When memory runs out, nothing changes.
+pub(crate) fn add_signal_in(
+    alloc: Global,
+    net: &mut Net,
+    index: &Option<NetIndex>,
+    message: &Name,
+    signal: Signal,
+) -> Result<(), AllocError>
+    requires net { IsNet net.old }
+    requires index { IsIndexIfThere index.now net.old }
+    requires fits { Fits (AddSignal message.now signal) (Some net.old) }
+    ensures ok { OnOk result (net.new ≡ net_changed (AddSignal message.now signal) net.old) }
+    ensures err { OnErr result (net.new ≡ net.old) }
+    ensures index { IsIndexIfThere index.now net.new }
+{
+    match find_named(net, index, message) {
+        None => Ok(()),
+        Some(at) => add_at(alloc, &mut net.live, at, signal),
     }
 }
 

@@ -1,28 +1,22 @@
-//! What the office does with an action on a network that has an index: what the action reads of the network's names and
-//! numbers is looked up there.
-ghost use Rattle.std.specs.Prelude.{◌≡◌, ℕ, List, Some, IfOk};
-ghost use Rattle.office_take.specs.FactsOf.{number_facts_of};
-ghost use Rattle.office_types.specs.declared.book.SpnBook.{SpnBook as Book};
-ghost use Rattle.office_rules.specs.Change.{Decides};
-ghost use Rattle.office_rules.specs.Commands.{acted};
-ghost use Rattle.office_rules.specs.Facts.{ident_facts, is_held, is_live, is_wanted};
+//! What an action reads of a network in memory that has an index: names and numbers are looked up in it.
+ghost use Rattle.std.specs.Prelude.{◌≡◌, true, ℕ, List};
+ghost use Rattle.office_facts.specs.By.{AreIdentFacts};
+ghost use Rattle.office_facts.specs.Excerpt.{AreFacts, fits};
+ghost use Rattle.office_facts.specs.FactsOf.{facts_of, number_facts_of};
+ghost use Rattle.office_facts.specs.Scope.{scope_as};
+ghost use Rattle.office_rules.specs.Facts.{is_held, is_live, is_wanted};
 ghost use Rattle.office_rules.specs.Kept.{IsNet};
-ghost use Rattle.office_rules.specs.Numbers.{take_ident};
-ghost use Rattle.office.specs.Indexed.{IsIndex};
+ghost use Rattle.office.specs.Indexed.{IsIndex, IsIndexIfThere};
 
-use crate::deciding::decide_action;
 use crate::looking_up::{facts_by, is_among, is_live};
 use crate::net_index::NetIndex;
 use can_id::{Ident, IdentForm};
-use office_facts::is_full;
-use office_law::numbers_elsewhere_do_not_count;
-use office_signals::{decide_remove_signal, decide_retire, decide_set_values, decide_take_spn};
-use office_take::{NumberFacts, decide_take_ident_on};
-use office_types::{Action, Decision, Net, NetName, SpnBook, TakeIdent, Team};
-use std::alloc::{AllocError, Global};
+use office_decide::{number_facts, retiring_facts, walk};
+use office_facts::{Facts, NumberFacts, Scope, TakenNumbers};
+use office_types::{Net, TakeIdent};
 
 /// Whether the wanted identifier is live, and whether it is held.
-fn wanted(net: &Net, form: IdentForm, want: Option<u32>) -> (bool, bool)
+fn is_live_or_held(net: &Net, form: IdentForm, want: Option<u32>) -> (bool, bool)
     requires { IsNet net.now }
     ensures live { result.0 ≡ is_wanted (is_live net.now) form want }
     ensures held { result.1 ≡ is_wanted (is_held net.now) form want }
@@ -39,78 +33,36 @@ fn wanted(net: &Net, form: IdentForm, want: Option<u32>) -> (bool, bool)
     }
 }
 
-/// What the network has for the command, but for the numbers that are taken.
-fn ident_facts<'a>(net: &'a Net, index: &NetIndex, command: &TakeIdent) -> NumberFacts<'a>
+/// What the network has for a `take_ident`.
+fn ident_facts<'a>(net: &'a Net, index: &'a NetIndex, take: &TakeIdent) -> NumberFacts<'a>
     requires net { IsNet net.now }
     requires index { IsIndex index.now net.now }
-    ensures { (taken : List ℕ) → number_facts_of result taken
-        ≡ record (ident_facts net.now command.now.message.name command.now.form command.now.want) { taken = taken } }
+    ensures { (team : List ℕ) → AreIdentFacts team net.now take.now (number_facts_of result) }
 {
-    let (want_live, want_held) = wanted(net, command.form, command.want);
-    NumberFacts {
-        kind: net.head.kind,
-        phase: &net.head.phase,
-        nodes: net.head.frame.nodes(),
-        blocks: net.blocks.as_slice(),
-        named: index.names.contains_key(&command.message.name),
-        full: is_full(net),
-        want_live,
-        want_held,
-    }
+    let named = index.names.contains_key(&take.message.name);
+    let wanted = is_live_or_held(net, take.form, take.want);
+    let taken = TakenNumbers::Ascending(index.numbers(take.form));
+    number_facts(net, named, wanted, taken)
 }
 
-/// Decides the team's `take_ident` on the network. The error is out of memory.
-fn decide_take_ident(
-    alloc: Global,
-    team: &Team,
-    net: &Net,
-    index: &NetIndex,
-    take: &TakeIdent,
-) -> Result<Decision, AllocError>
+/// What the network has for the scope: by its index, where it has one, and else by a walk.
+pub(crate) fn facts_for<'a>(
+    net: &'a Net,
+    index: &'a Option<NetIndex>,
+    scope: &Scope<'_>,
+) -> Facts<'a>
     requires net { IsNet net.now }
-    requires index { IsIndex index.now net.now }
-    ensures { IfOk result (λ d. (name : List ℕ) (book : Book)
-        → Decides name (record { net = Some net.now; book = book })
-        (take_ident team.now (Some net.now) take.now) d) }
+    requires index { IsIndexIfThere index.now net.now }
+    ensures fits { fits (scope_as scope.now) (facts_of result) ≡ true }
+    ensures facts { (team : List ℕ) → AreFacts team net.now (scope_as scope.now) (facts_of result) }
 {
-    numbers_elsewhere_do_not_count();
-    let facts = ident_facts(net, index, take);
-    decide_take_ident_on(alloc, team, &facts, index.numbers(take.form), take)
-}
-
-/// Decides an action on the network, as [`decide_action`] does. The error is out of memory.
-pub(crate) fn decide_indexed(
-    alloc: Global,
-    team: &Team,
-    name: &NetName,
-    net: &Net,
-    index: &NetIndex,
-    book: &SpnBook,
-    action: &Action,
-) -> Result<Decision, AllocError>
-    requires net { IsNet net.now }
-    requires index { IsIndex index.now net.now }
-    ensures { IfOk result (Decides name.now (record { net = Some net.now; book = book.now })
-        (acted team.now name.now (Some net.now) book.now action.now)) }
-{
-    match action {
-        Action::TakeIdent(take) => decide_take_ident(alloc, team, net, index, take),
-        Action::TakeSpn(take) => {
-            let facts = facts_by(net, index, &take.path.message);
-            decide_take_spn(alloc, team, name, &facts, book, take)
-        }
-        Action::SetValues(set) => {
-            let facts = facts_by(net, index, &set.path.message);
-            decide_set_values(alloc, team, &facts, set)
-        }
-        Action::RemoveSignal(path) => {
-            let facts = facts_by(net, index, &path.message);
-            decide_remove_signal(alloc, team, &facts, path)
-        }
-        Action::Retire(message) => {
-            let facts = facts_by(net, index, message);
-            decide_retire(alloc, team, &facts, net.releases.as_slice())
-        }
-        other => decide_action(alloc, team, name, Some(net), book, other),
+    match index {
+        None => walk(net, scope),
+        Some(index) => match scope {
+            Scope::Message(name) => Facts::Message(facts_by(net, index, name)),
+            Scope::Retiring(name) => retiring_facts(net, facts_by(net, index, name)),
+            Scope::Idents(take) => Facts::Numbers(ident_facts(net, index, take)),
+            _ => walk(net, scope),
+        },
     }
 }

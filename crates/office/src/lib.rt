@@ -1,44 +1,29 @@
-//! What the office does with a command.
+//! An office in memory.
 //!
-//! [`decide`] decides a team's command on its network: it gives the reply, and the changes that lead to the network and
-//! the book after it. [`PlainOffice`] is an office in memory: [`PlainOffice::step`] carries a command out completely,
-//! or refuses it and changes nothing, and [`PlainOffice::run`] runs a list of commands. What it holds is always that of
-//! an office (`office_rules/specs/Kept.antt`), so the laws of `office_law` hold of what the program runs.
+//! [`PlainOffice::step`] carries a command out completely, or refuses it and changes nothing, and [`PlainOffice::run`]
+//! runs a list of commands. What it holds is always that of an office (`office_rules/specs/Kept.antt`), so the laws of
+//! `office_law` hold of what the program runs.
 //!
-//! The bodies of the commands are in `office_take`, `office_signals` and `office_import`; here one is chosen, an
-//! imported file is read, and changes are carried out: one change in place, and some pairs; more of them on copies of
-//! the network and the book first, so that nothing is changed where memory runs out
-//! (`carrying_there.rt`, and `carrying.rt` for a network that isn't there yet). `take_bits` alone goes another way here
-//! (`in_place.rt`): its signal is added to the live message, which a change would copy.
+//! What a command does is decided by `office_decide`; here the changes are carried out: one change in place, and some
+//! pairs; more of them on copies of the network and the book first, so that nothing is changed where memory runs out
+//! (`carrying_there.rt`, and `carrying.rt` for a network that isn't there yet).
 //!
-//! A [`PlainOffice`] keeps an index beside each network that isn't small, once a command would use it (`net_index.rt`,
-//! over `number_set.rt`). With it commands but `take_pgn` find names and numbers without a walk (`looking_up.rt`,
-//! `indexed.rt`), and changes are made where a search ends (`changing.rt`), which the index follows. Without it
-//! everything is decided alike, by a walk.
+//! A [`PlainOffice`] keeps an index beside each network that isn't small, once a command would use it (`net_index.rt`).
+//! With it commands but `take_pgn` find names and numbers without a walk (`looking_up.rt`, `indexed.rt`), and changes are
+//! made where a search ends (`changing.rt`), which the index follows. Without it everything is decided alike, by a walk.
 //!
 //! The definitions are in `office_rules/specs`: `Commands.antt` and `Step.antt` the outcome of a command, `Change.antt`
 //! what changes do. `specs/Carried.antt` here has what they do to a whole office, `specs/Indexed.antt` what an index
 //! is.
 #![tactic(auto)]
 
-mod applying;
-mod bundling;
 mod carrying;
 mod carrying_there;
 mod changing;
-mod deciding;
-mod excerpt;
-mod importing;
-mod in_place;
 mod indexed;
 mod looking_up;
 mod net_index;
-mod number_set;
-mod one_signal;
 mod plain;
 mod stepping;
 
-pub use deciding::decide;
-pub use excerpt::{decide_excerpt, goes_by_excerpt, reads_book};
-pub use office_facts::Excerpt;
 pub use plain::PlainOffice;

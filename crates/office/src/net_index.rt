@@ -13,10 +13,9 @@ ghost use Rattle.office_types.specs.declared.state.Net.{Net as NetModel};
 ghost use Rattle.office_rules.specs.Facts.{live_named};
 ghost use Rattle.office.specs.Indexed.{IsIndex, IsIndexIfThere, IsRemovable, indexed_numbers, has_form_and_number, live_number};
 
-use crate::number_set::NumberSet;
 use can_id::{Ident, IdentForm};
 use catalogue::{Copying, Name};
-use office_take::ascending_numbers;
+use office_facts::{NumberSet, number_set_of};
 use office_types::{LiveMessage, Net};
 use std::alloc::{AllocError, Global};
 use std::collections::BTreeMap;
@@ -54,12 +53,12 @@ impl NetIndex {
         ensures { IfOk result (λ index. IsIndex index net.now) }
     {
         let names = names_of(alloc, net.live.as_slice())?;
-        let standard = ascending_numbers(alloc, net, IdentForm::Standard)?;
-        let extended = ascending_numbers(alloc, net, IdentForm::Extended)?;
+        let standard = number_set_of(alloc, net, IdentForm::Standard)?;
+        let extended = number_set_of(alloc, net, IdentForm::Extended)?;
         Ok(NetIndex {
             names,
-            standard: NumberSet::of(standard),
-            extended: NumberSet::of(extended),
+            standard,
+            extended,
         })
     }
 

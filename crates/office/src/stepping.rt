@@ -1,7 +1,5 @@
 //! One step of an office on its networks and its book.
-ghost use Rattle.std.specs.Prelude.{◌≡◌, ◌<◌, ◌≤◌, IfOk, IfSome, None, OnErr, Some, false, length, true, vec_len};
-ghost use Rattle.office_types.specs.declared.command.Action.TheVariants.{TakeBits as BitsTaken};
-ghost use Rattle.office_types.specs.declared.command.Task.TheVariants.{Act};
+ghost use Rattle.std.specs.Prelude.{◌≡◌, ◌<◌, ◌≤◌, IfOk, None, OnErr, Some, false, length, true, vec_len};
 ghost use Rattle.office_rules.specs.Change.{IsDecision};
 ghost use Rattle.office_rules.specs.Kept.{IsNet, IsOffice};
 ghost use Rattle.office_rules.specs.Profile.{Two};
@@ -11,29 +9,16 @@ ghost use Rattle.office.specs.Indexed.{AreIndexes, IsDoneOn, IsIndexIfThere};
 
 use crate::carrying::{carry_out, find_net};
 use crate::carrying_there::carry_out_there;
-use crate::deciding::decide;
-use crate::in_place::{bits_reply, take_bits_in_place};
-use crate::indexed::decide_indexed;
+use crate::indexed::facts_for;
 use crate::net_index::NetIndex;
 use catalogue::Copying;
-use office_types::{Action, Command, Decision, Net, Reply, SpnBook, TakeBits, Task, Team};
+use office_decide::{decide, decide_by};
+use office_facts::{Scope, scope_of};
+use office_types::{Command, Decision, Net, Reply, SpnBook, Task, Team};
 use std::alloc::{AllocError, Global};
 
 /// A network of at most so many live messages gets no index: it is walked over.
 const WALKED_OVER: usize = 16;
-
-/// The `take_bits` that the task is, if it is one.
-fn bits_wanted(task: &Task) -> Option<&TakeBits>
-    ensures { IfSome result (λ take. task.now ≡ Act (BitsTaken take.now)) }
-{
-    match task {
-        Task::Import(_) | Task::Bundle(_) => None,
-        Task::Act(action) => match action {
-            Action::TakeBits(take) => Some(take),
-            _ => None,
-        },
-    }
-}
 
 /// Makes the index of a network that has none, where the task would use it and the network isn't small. It stays
 /// without one where memory runs out.
@@ -41,29 +26,24 @@ fn make_index(alloc: Global, net: &Net, index: &mut Option<NetIndex>, task: &Tas
     requires { IsIndexIfThere index.old net.now }
     ensures { IsIndexIfThere index.new net.now }
 {
-    if index.is_none() && net.live.as_slice().len() > WALKED_OVER && goes_by_index(task) {
+    if index.is_none() && net.live.as_slice().len() > WALKED_OVER && looks_up(task) {
         *index = NetIndex::of(alloc, net).ok();
     }
 }
 
 /// Whether the task looks names or numbers up.
-fn goes_by_index(task: &Task) -> bool {
+fn looks_up(task: &Task) -> bool {
     match task {
         Task::Import(_) | Task::Bundle(_) => false,
         Task::Act(action) => matches!(
-            action,
-            Action::TakeIdent(_)
-                | Action::TakeSpn(_)
-                | Action::TakeBits(_)
-                | Action::SetValues(_)
-                | Action::RemoveSignal(_)
-                | Action::Retire(_)
+            scope_of(action),
+            Scope::Message(_) | Scope::Retiring(_) | Scope::Idents(_)
         ),
     }
 }
 
 /// Decides the team's command on a network that is there, by its index where it has one.
-fn decide_there(
+fn decide_by_index(
     alloc: Global,
     team: &Team,
     net: &Net,
@@ -75,12 +55,13 @@ fn decide_there(
     requires index { IsIndexIfThere index.now net.now }
     ensures { IfOk result (IsDecision team.now (record { net = Some net.now; book = book.now }) command.now) }
 {
-    if let Some(index) = index {
-        if let Task::Act(action) = &command.task {
-            return decide_indexed(alloc, team, &command.net, net, index, book, action);
+    match &command.task {
+        Task::Act(action) => {
+            let facts = facts_for(net, index, &scope_of(action));
+            decide_by(alloc, team, &command.net, &facts, book, action)
         }
+        Task::Import(_) | Task::Bundle(_) => decide(alloc, team, Some(net), book, command),
     }
-    decide(alloc, team, Some(net), book, command)
 }
 
 /// One step on a network that is there and the book: the team's command is carried out, or it is refused and nothing
@@ -103,11 +84,7 @@ fn step_there(
     ensures index { IsIndexIfThere index.new net.new }
 {
     make_index(alloc, net, index, &command.task);
-    if let Some(take) = bits_wanted(&command.task) {
-        let given = take_bits_in_place(alloc, team, net, index, take)?;
-        return Ok((bits_reply(given), bits_reply(given)));
-    }
-    let decision = decide_there(alloc, team, net, index, book, command)?;
+    let decision = decide_by_index(alloc, team, net, index, book, command)?;
     let Decision { changes, reply } = decision;
     let copy = reply.duplicate(alloc)?;
     carry_out_there(alloc, &command.net, net, book, index, changes)?;

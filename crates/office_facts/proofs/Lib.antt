@@ -1,3 +1,6 @@
 pub mod Deciding
-pub mod Owning
+pub mod Least
+mod NumberSets
+mod Owning
 pub mod Refusing
+pub mod Searched

@@ -1,9 +1,8 @@
 -- The outcome of a command that gives out a number, by facts of its network.
-use Rattle.std.specs.Prelude.{◌≡◌, ℕ, Bool, true, false, List, [], ◌∷◌, Option, Some, None}
+use Rattle.std.specs.Prelude.{◌≡◌, ℕ, true, false, List, ◌∷◌}
 use Rattle.can_id.specs.Ident.{ident_of}
 use Rattle.office_types.specs.Block.{block_form}
-use Rattle.office_types.specs.Command.{group_form}
-use Rattle.office_types.specs.Free.{is_taken, number_form}
+use Rattle.office_types.specs.Free.{is_taken}
 use Rattle.office_types.specs.declared.block.Block.{Block}
 use Rattle.office_types.specs.declared.block.BlockForm.TheVariants.{Pgn}
 use Rattle.office_types.specs.declared.command.TakeIdent.{TakeIdent}

@@ -1,3 +1,4 @@
+pub mod Scope
 pub mod FactsOf
-pub mod Excerpt
 pub mod By
+pub mod Excerpt

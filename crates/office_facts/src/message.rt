@@ -1,11 +1,12 @@
 //! What commands on a live message read of a network.
 ghost use Rattle.std.specs.Prelude.{◌≡◌};
 ghost use Rattle.office_facts.specs.FactsOf.{message_facts_of};
-ghost use Rattle.office_rules.specs.Facts.{message_facts};
+ghost use Rattle.office_rules.specs.Facts.{message_facts, was_released};
 
 use crate::facts::live_named;
+use can_id::Ident;
 use catalogue::{Name, Node};
-use office_types::{LiveMessage, Net, Phase};
+use office_types::{FrozenSheet, LiveMessage, Net, Phase};
 
 /// What a command on a live message reads of a network, wherever that is kept.
 #[derive(Drop)]
@@ -27,4 +28,11 @@ pub fn message_facts<'a>(net: &'a Net, name: &Name) -> MessageFacts<'a>
         nodes: net.head.frame.nodes(),
         found: live_named(net.live.as_slice(), name),
     }
+}
+
+/// Whether one of the releases has a message of the identifier.
+pub fn was_released(releases: &[FrozenSheet], ident: &Ident) -> bool
+    ensures { result ≡ was_released releases.now ident.now }
+{
+    releases.iter().any(|release| release.has(*ident))
 }

@@ -1,7 +1,6 @@
 pub mod Each
 pub mod Refused
 pub mod Imported
-pub mod Searched
 pub mod NameSets
 pub mod Sides
 pub mod Rostered

@@ -1,6 +1,5 @@
 //! Decisions on imports.
 ghost use Rattle.std.specs.Prelude.{◌≡◌, ℕ, List, None, Some, IfOk, IfSome, MatchOption};
-ghost use Rattle.std.specs.Option.{option_copied};
 ghost use Rattle.catalogue.specs.Refusing.{first_refusal};
 ghost use Rattle.office_types.specs.declared.book.SpnBook.{SpnBook};
 ghost use Rattle.office_types.specs.declared.command.Task.TheVariants.{Import};
@@ -128,25 +127,18 @@ pub fn decide_unreadable(alloc: Global, net: &Net, fault: FileFault) -> Decision
     }
 }
 
-/// Decides an import where the file need not be read, whatever it reads as: it is refused, with no change, with 40
-/// `NoNet` where the network isn't there, or 54 `InReview` where it is in review. `None` where the file must be read.
-/// Takes no memory.
-pub fn decide_unread(alloc: Global, net: Option<&Net>) -> Option<Decision>
+/// Decides an import where the network is in review, whatever the file reads as: it is refused with 54 `InReview`.
+/// `None` where the file must be read. Takes no memory.
+pub fn decide_unread(alloc: Global, net: &Net) -> Option<Decision>
     ensures decision { IfSome result (λ d. (team name : List ℕ) (book : SpnBook) (reading : FileReading) →
-        Decides name (record { net = option_copied net.entry; book = book })
-        (import team (option_copied net.entry) reading) d) }
+        Decides name (record { net = Some net.now; book = book }) (import team (Some net.now) reading) d) }
     ensures wanted { (file : List ℕ) → MatchOption result
-        (file_wanted (option_copied net.entry) (Import file) ≡ Some file)
-        (λ d. file_wanted (option_copied net.entry) (Import file) ≡ None) }
+        (file_wanted (Some net.now) (Import file) ≡ Some file)
+        (λ d. file_wanted (Some net.now) (Import file) ≡ None) }
 {
-    match net {
-        None => Some(refusal_decision(alloc, Refusal::NoNet)),
-        Some(net) => {
-            if in_review(&net.head.phase) {
-                Some(refusal_decision(alloc, Refusal::InReview))
-            } else {
-                None
-            }
-        }
+    if in_review(&net.head.phase) {
+        Some(refusal_decision(alloc, Refusal::InReview))
+    } else {
+        None
     }
 }

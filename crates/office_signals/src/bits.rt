@@ -118,7 +118,7 @@ fn bits_taken(alloc: Global, message: &Name, signal: Signal) -> Result<Decision,
 
 /// The signal that the team's `take_bits` adds to its message, as the last one, on a network that has these facts for
 /// it, or the first refusal. Nothing is changed here. The error is out of memory.
-pub fn new_signal_for(
+fn new_signal_for(
     alloc: Global,
     team: &Team,
     facts: &MessageFacts<'_>,

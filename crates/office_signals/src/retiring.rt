@@ -12,15 +12,8 @@ ghost use Rattle.office_rules.specs.Retiring.{retire};
 use crate::own::own_message;
 use can_id::Ident;
 use office_facts::{MessageFacts, one_change, refusal_decision, two_changes};
-use office_types::{Change, Decision, FrozenSheet, Reply, Team};
+use office_types::{Change, Decision, Reply, Team};
 use std::alloc::{AllocError, Global};
-
-/// Whether one of the releases has a message of the identifier.
-fn was_released(releases: &[FrozenSheet], ident: &Ident) -> bool
-    ensures { result ≡ was_released releases.now ident.now }
-{
-    releases.iter().any(|release| release.has(*ident))
-}
 
 /// The decision that takes the message of the identifier out, and holds the identifier where a release has it. The
 /// error is out of memory.
@@ -39,7 +32,7 @@ fn message_retired(alloc: Global, ident: &Ident, released: bool) -> Result<Decis
 
 /// Decides the team's `retire` of a message on a network that has these facts for it; `released` says whether one of
 /// the network's releases has the message's identifier. The error is out of memory.
-pub fn decide_retire_by_facts(
+pub fn decide_retire(
     alloc: Global,
     team: &Team,
     facts: &MessageFacts<'_>,
@@ -53,27 +46,5 @@ pub fn decide_retire_by_facts(
     match own_message(team, facts) {
         Err(refusal) => Ok(refusal_decision(alloc, refusal)),
         Ok(live) => message_retired(alloc, &live.message.ident, released),
-    }
-}
-
-/// Decides the team's `retire` of a message on a network that has these facts for it and these releases, which are
-/// looked through only where nothing refuses the command. The error is out of memory.
-pub fn decide_retire(
-    alloc: Global,
-    team: &Team,
-    facts: &MessageFacts<'_>,
-    releases: &[FrozenSheet],
-) -> Result<Decision, AllocError>
-    ensures { IfOk result (λ d. (name message : List ℕ) (net : Net) (book : SpnBook) →
-        message_facts_of facts.now ≡ message_facts net message → releases.now ≡ net.releases →
-        Decides name (record { net = Some net; book = book }) (retire team.now (Some net) message) d) }
-{
-    match own_message(team, facts) {
-        Err(refusal) => Ok(refusal_decision(alloc, refusal)),
-        Ok(live) => {
-            let ident = &live.message.ident;
-            let released = was_released(releases, ident);
-            message_retired(alloc, ident, released)
-        }
     }
 }

@@ -1,5 +1,3 @@
 pub mod Full
-pub mod Least
 mod Rows
-pub mod Shown
 pub mod Inside

@@ -1,27 +1,10 @@
--- The facts that a body is given, as the definitions speak of them, and the refusals that don't hang on which numbers
--- are taken.
+-- Networks that have the parts that a body is given, and the refusals that don't hang on which numbers are taken.
 use Rattle.std.specs.Prelude.{ℕ, List, Option, Some, None}
-use Rattle.office_rules.specs.Facts.{NumberFacts}
-use Rattle.office_take.specs.declared.numbers.NumberFacts.{NumberFacts as NumberFactsModel}
 use Rattle.office_types.specs.declared.refusal.Refusal.{Refusal}
 use Rattle.office_types.specs.declared.refusal.Refusal.TheVariants.{BlockFull}
 use Rattle.office_types.specs.declared.state.GrantedBlock.{GrantedBlock}
 use Rattle.office_types.specs.declared.state.Head.{Head}
 use Rattle.office_types.specs.declared.state.Net.{Net}
-
--- the facts, where these numbers are taken
-abbrev pub number_facts_of : NumberFactsModel → List ℕ → NumberFacts
-number_facts_of f taken = record {
-  kind = f.kind;
-  phase = f.phase.now;
-  nodes = f.nodes.now;
-  blocks = f.blocks.now;
-  named = f.named;
-  full = f.full;
-  want_live = f.want_live;
-  want_held = f.want_held;
-  taken = taken;
-}
 
 -- a network with this head, whatever else it has
 abbrev pub with_head : Head → Net → Net

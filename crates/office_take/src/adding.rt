@@ -1,6 +1,5 @@
 //! Adding a node.
 ghost use Rattle.std.specs.Prelude.{◌≡◌, ◌++◌, ◌∷◌, [], ℕ, List, length, nat_le, false, Some, IfOk};
-ghost use Rattle.std.specs.Option.{option_copied};
 ghost use Rattle.catalogue.specs.Limits.{roster_limit};
 ghost use Rattle.catalogue.specs.Refusing.{first_refusal};
 ghost use Rattle.office_types.specs.declared.book.SpnBook.{SpnBook};
@@ -14,7 +13,7 @@ ghost use Rattle.office_take.specs.FactsOf.{with_head};
 
 use catalogue::{Copying, Name, Node, ROSTER_LIMIT, Sheet, SheetCode, Text};
 use office_facts::{has_node, head_with, in_review, one_change, refusal_decision};
-use office_types::{Change, Decision, Head, Net, Refusal, Reply};
+use office_types::{Change, Decision, Head, Refusal, Reply};
 use std::alloc::{AllocError, Global};
 
 /// Why the node can't be added to a network that has this head.
@@ -68,7 +67,7 @@ fn node_added(alloc: Global, head: &Head, name: &Name) -> Result<Decision, Alloc
 
 /// Decides an `add_node` of this name on a network that has this head. It reads no team and no book. The error is out
 /// of memory.
-pub fn decide_add_node_on(alloc: Global, head: &Head, name: &Name) -> Result<Decision, AllocError>
+pub fn decide_add_node(alloc: Global, head: &Head, name: &Name) -> Result<Decision, AllocError>
     ensures { IfOk result (λ d. (at : List ℕ) (net : NetModel) (book : SpnBook)
         → Decides at (record { net = Some (with_head head.now net); book = book })
         (add_node (Some (with_head head.now net)) name.now) d) }
@@ -76,22 +75,5 @@ pub fn decide_add_node_on(alloc: Global, head: &Head, name: &Name) -> Result<Dec
     match add_node_refusal(head, name) {
         Some(refusal) => Ok(refusal_decision(alloc, refusal)),
         None => node_added(alloc, head, name),
-    }
-}
-
-/// Decides an `add_node` of this name on the network, which may not be there. It reads no team and no book. The error
-/// is out of memory.
-pub fn decide_add_node(
-    alloc: Global,
-    net: Option<&Net>,
-    name: &Name,
-) -> Result<Decision, AllocError>
-    ensures { IfOk result (λ d. (at : List ℕ) (book : SpnBook)
-        → Decides at (record { net = option_copied net.entry; book = book })
-        (add_node (option_copied net.entry) name.now) d) }
-{
-    match net {
-        None => Ok(refusal_decision(alloc, Refusal::NoNet)),
-        Some(net) => decide_add_node_on(alloc, &net.head, name),
     }
 }

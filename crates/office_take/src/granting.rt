@@ -1,11 +1,9 @@
 //! Granting a block.
-ghost use Rattle.std.specs.Prelude.{◌≡◌, [], IfOk, None, Some, if◌then◌else◌};
+ghost use Rattle.std.specs.Prelude.{◌≡◌, [], IfOk, Some, if◌then◌else◌};
 ghost use Rattle.std.specs.List.{list_any};
-ghost use Rattle.std.specs.Option.{option_copied};
 ghost use Rattle.catalogue.specs.Refusing.{first_refusal};
 ghost use Rattle.office_types.specs.Block.{have_common, is_spn};
 ghost use Rattle.office_types.specs.declared.book.SpnBook.{SpnBook as Book};
-ghost use Rattle.office_types.specs.declared.command.Grant.{Grant as GrantModel};
 ghost use Rattle.office_types.specs.declared.state.Net.{Net as NetModel};
 ghost use Rattle.office_rules.specs.Change.{Decides};
 ghost use Rattle.office_rules.specs.Facts.{is_spn_granted};
@@ -16,8 +14,8 @@ ghost use Rattle.office_take.specs.Granting.{IsAsGoodFor, grant_change};
 use catalogue::Copying;
 use office_facts::{is_j1939, one_change, refusal_decision};
 use office_types::{
-    BlockForm, Change, Decision, FormBlock, Grant, GrantedBlock, Head, Net, NetName, Refusal,
-    Reply, SpnBlock, SpnBook, Team, is_office,
+    BlockForm, Change, Decision, FormBlock, Grant, GrantedBlock, Head, NetName, Refusal, Reply,
+    SpnBlock, SpnBook, Team, is_office,
 };
 use std::alloc::{AllocError, Global};
 
@@ -115,7 +113,7 @@ fn granted(alloc: Global, name: &NetName, command: &Grant) -> Result<Change, All
 
 /// Decides the team's `grant` on a network of this name that has this head and these blocks. The book counts for a
 /// block of suspect parameter numbers alone. The error is out of memory.
-pub fn decide_grant_on(
+pub fn decide_grant(
     alloc: Global,
     team: &Team,
     name: &NetName,
@@ -133,36 +131,4 @@ pub fn decide_grant_on(
     }
     let change = granted(alloc, name, command)?;
     one_change(alloc, change, Reply::Done)
-}
-
-/// Why the team may not grant a block on a network that isn't there.
-fn nowhere_refusal(team: &Team) -> Refusal
-    ensures { (book : Book) (c : GrantModel) → Some result ≡ first_refusal (grant_tests team.now None book c) }
-{
-    if is_office(team) {
-        Refusal::NoNet
-    } else {
-        Refusal::NotOffice
-    }
-}
-
-/// Decides the team's `grant` on the network of this name, which may not be there. The error is out of memory.
-pub fn decide_grant(
-    alloc: Global,
-    team: &Team,
-    name: &NetName,
-    net: Option<&Net>,
-    book: &SpnBook,
-    command: &Grant,
-) -> Result<Decision, AllocError>
-    ensures { IfOk result (Decides name.now (record { net = option_copied net.entry; book = book.now })
-        (grant team.now name.now (option_copied net.entry) book.now command.now)) }
-{
-    match net {
-        None => Ok(refusal_decision(alloc, nowhere_refusal(team))),
-        Some(net) => {
-            let blocks = net.blocks.as_slice();
-            decide_grant_on(alloc, team, name, &net.head, blocks, book, command)
-        }
-    }
 }

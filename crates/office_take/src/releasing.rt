@@ -1,6 +1,5 @@
 //! Releases: freezing the live sheet.
-ghost use Rattle.std.specs.Prelude.{◌≡◌, ◌∷◌, [], ℕ, List, IfOk};
-ghost use Rattle.std.specs.Option.{option_copied};
+ghost use Rattle.std.specs.Prelude.{◌≡◌, ◌∷◌, [], ℕ, List, IfOk, Some};
 ghost use Rattle.catalogue.specs.Refusing.{first_refusal};
 ghost use Rattle.office_types.specs.State.{sheet_of, live_messages};
 ghost use Rattle.office_types.specs.declared.book.SpnBook.{SpnBook};
@@ -19,25 +18,19 @@ use office_types::{
 use std::alloc::{AllocError, Global};
 
 /// The first refusal of a release.
-fn release_refusal(team: &Team, net: Option<&Net>) -> Option<Refusal>
-    ensures { result ≡ first_refusal (release_tests team.now (option_copied net.entry)) }
+fn release_refusal(team: &Team, net: &Net) -> Option<Refusal>
+    ensures { result ≡ first_refusal (release_tests team.now (Some net.now)) }
 {
     if !is_office(team) {
-        return Some(Refusal::NotOffice);
-    }
-    match net {
-        None => Some(Refusal::NoNet),
-        Some(net) => {
-            if !in_review(&net.head.phase) {
-                Some(Refusal::NotInReview)
-            } else if net.approvals.as_slice().len() < usize::from(net.head.reviews.count()) {
-                Some(Refusal::NeedsMore)
-            } else if net.releases.as_slice().len() >= RELEASE_LIMIT as usize {
-                Some(Refusal::TooMany)
-            } else {
-                None
-            }
-        }
+        Some(Refusal::NotOffice)
+    } else if !in_review(&net.head.phase) {
+        Some(Refusal::NotInReview)
+    } else if net.approvals.as_slice().len() < usize::from(net.head.reviews.count()) {
+        Some(Refusal::NeedsMore)
+    } else if net.releases.as_slice().len() >= RELEASE_LIMIT as usize {
+        Some(Refusal::TooMany)
+    } else {
+        None
     }
 }
 
@@ -74,26 +67,20 @@ fn release_changes(alloc: Global, net: &Net) -> Result<Items<Change>, AllocError
 
 /// Decides a `release` of the team: the live sheet is frozen as the network's next release, and the network is in draft
 /// again, without approvals. It is refused, with no change, with the first of these that holds: 42 `NotOffice` where
-/// the team isn't the office, 40 `NoNet` where the network isn't there, 55 `NotInReview` where it isn't in review, 57
-/// `NeedsMore` where it has too few approvals, 26 `TooMany` where it has [`RELEASE_LIMIT`] releases. The reply is the
+/// the team isn't the office, 55 `NotInReview` where the network isn't in review, 57 `NeedsMore` where it has too few
+/// approvals, 26 `TooMany` where it has [`RELEASE_LIMIT`] releases. The reply is the
 /// number of the release, from 1. The error is out of memory.
-pub fn decide_release(alloc: Global, team: &Team, net: Option<&Net>) -> Result<Decision, AllocError>
-    ensures { IfOk result (λ d. (name : List ℕ) (book : SpnBook) →
-        Decides name (record { net = option_copied net.entry; book = book })
-        (release team.now (option_copied net.entry)) d) }
+pub fn decide_release(alloc: Global, team: &Team, net: &Net) -> Result<Decision, AllocError>
+    ensures { IfOk result (λ d. (name : List ℕ) (book : SpnBook)
+        → Decides name (record { net = Some net.now; book = book }) (release team.now (Some net.now)) d) }
 {
     if let Some(refusal) = release_refusal(team, net) {
         return Ok(refusal_decision(alloc, refusal));
     }
-    match net {
-        None => unreachable!(),
-        Some(net) => {
-            let number = net.releases.as_slice().len() as u32 + 1;
-            let changes = release_changes(alloc, net)?;
-            Ok(Decision {
-                changes,
-                reply: Reply::Release(number),
-            })
-        }
-    }
+    let number = net.releases.as_slice().len() as u32 + 1;
+    let changes = release_changes(alloc, net)?;
+    Ok(Decision {
+        changes,
+        reply: Reply::Release(number),
+    })
 }

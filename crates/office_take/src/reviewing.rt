@@ -1,6 +1,5 @@
 //! Requesting a review, approving, and turning a review down.
 ghost use Rattle.std.specs.Prelude.{◌≡◌, ◌∷◌, [], ℕ, List, Some, IfOk};
-ghost use Rattle.std.specs.Option.{option_copied};
 ghost use Rattle.catalogue.specs.Refusing.{first_refusal};
 ghost use Rattle.office_types.specs.declared.book.SpnBook.{SpnBook};
 ghost use Rattle.office_types.specs.declared.change.Change.TheVariants.{ClearApprovals, SetHead};
@@ -13,7 +12,7 @@ ghost use Rattle.office_take.specs.FactsOf.{with_head};
 
 use catalogue::Copying;
 use office_facts::{head_in, in_review, is_submitter, one_change, refusal_decision, two_changes};
-use office_types::{Change, Decision, Head, Net, Phase, Refusal, Reply, Team};
+use office_types::{Change, Decision, Head, Phase, Refusal, Reply, Team};
 use std::alloc::{AllocError, Global};
 
 /// The decision that brings the network with this head into the phase, without approvals.
@@ -32,7 +31,7 @@ fn phase_set(alloc: Global, head: &Head, phase: Phase) -> Result<Decision, Alloc
 }
 
 /// Decides the team's `submit` on a network that has this head. The error is out of memory.
-pub fn decide_submit_on(alloc: Global, team: &Team, head: &Head) -> Result<Decision, AllocError>
+pub fn decide_submit(alloc: Global, team: &Team, head: &Head) -> Result<Decision, AllocError>
     ensures { IfOk result (λ d. (name : List ℕ) (net : NetModel) (book : SpnBook)
         → Decides name (record { net = Some (with_head head.now net); book = book })
         (submit team.now (Some (with_head head.now net))) d) }
@@ -43,19 +42,6 @@ pub fn decide_submit_on(alloc: Global, team: &Team, head: &Head) -> Result<Decis
     let submitter = team.duplicate(alloc)?;
     phase_set(alloc, head, Phase::Review { submitter })
 }
-
-/// Decides the team's `submit` on the network, which may not be there. It reads no book. The error is out of memory.
-pub fn decide_submit(alloc: Global, team: &Team, net: Option<&Net>) -> Result<Decision, AllocError>
-    ensures { IfOk result (λ d. (name : List ℕ) (book : SpnBook)
-        → Decides name (record { net = option_copied net.entry; book = book })
-        (submit team.now (option_copied net.entry)) d) }
-{
-    match net {
-        None => Ok(refusal_decision(alloc, Refusal::NoNet)),
-        Some(net) => decide_submit_on(alloc, team, &net.head),
-    }
-}
-
 /// Why the team may not approve of a network that has this head or turn its review down.
 fn review_refusal(team: &Team, head: &Head) -> Option<Refusal>
     ensures { result ≡ first_refusal (review_tests team.now (Some (bare_net [] head.now))) }
@@ -70,7 +56,7 @@ fn review_refusal(team: &Team, head: &Head) -> Option<Refusal>
 }
 
 /// Decides the team's `approve` on a network that has this head. The error is out of memory.
-pub fn decide_approve_on(alloc: Global, team: &Team, head: &Head) -> Result<Decision, AllocError>
+pub fn decide_approve(alloc: Global, team: &Team, head: &Head) -> Result<Decision, AllocError>
     ensures { IfOk result (λ d. (name : List ℕ) (net : NetModel) (book : SpnBook)
         → Decides name (record { net = Some (with_head head.now net); book = book })
         (approve team.now (Some (with_head head.now net))) d) }
@@ -83,21 +69,8 @@ pub fn decide_approve_on(alloc: Global, team: &Team, head: &Head) -> Result<Deci
         }
     }
 }
-
-/// Decides the team's `approve` on the network, which may not be there. It reads no book. The error is out of memory.
-pub fn decide_approve(alloc: Global, team: &Team, net: Option<&Net>) -> Result<Decision, AllocError>
-    ensures { IfOk result (λ d. (name : List ℕ) (book : SpnBook)
-        → Decides name (record { net = option_copied net.entry; book = book })
-        (approve team.now (option_copied net.entry)) d) }
-{
-    match net {
-        None => Ok(refusal_decision(alloc, Refusal::NoNet)),
-        Some(net) => decide_approve_on(alloc, team, &net.head),
-    }
-}
-
 /// Decides the team's `reject` on a network that has this head. The error is out of memory.
-pub fn decide_reject_on(alloc: Global, team: &Team, head: &Head) -> Result<Decision, AllocError>
+pub fn decide_reject(alloc: Global, team: &Team, head: &Head) -> Result<Decision, AllocError>
     ensures { IfOk result (λ d. (name : List ℕ) (net : NetModel) (book : SpnBook)
         → Decides name (record { net = Some (with_head head.now net); book = book })
         (reject team.now (Some (with_head head.now net))) d) }
@@ -105,17 +78,5 @@ pub fn decide_reject_on(alloc: Global, team: &Team, head: &Head) -> Result<Decis
     match review_refusal(team, head) {
         Some(refusal) => Ok(refusal_decision(alloc, refusal)),
         None => phase_set(alloc, head, Phase::Draft),
-    }
-}
-
-/// Decides the team's `reject` on the network, which may not be there. It reads no book. The error is out of memory.
-pub fn decide_reject(alloc: Global, team: &Team, net: Option<&Net>) -> Result<Decision, AllocError>
-    ensures { IfOk result (λ d. (name : List ℕ) (book : SpnBook)
-        → Decides name (record { net = option_copied net.entry; book = book })
-        (reject team.now (option_copied net.entry)) d) }
-{
-    match net {
-        None => Ok(refusal_decision(alloc, Refusal::NoNet)),
-        Some(net) => decide_reject_on(alloc, team, &net.head),
     }
 }

@@ -1,91 +1,33 @@
 -- What is decided on a part of a network is decided on the network that the tables have.
-use Rattle.std.proofs.Common.{◌≡◌, ◌∙◌, ℕ, true, false, List, [], ◌∷◌, Option, Some, None, Result, Ok, Err, refl, sym, ap, subst}
-use Rattle.std.specs.Prelude.{Bool, IfOk, IfSome, is_some, not}
-use Rattle.std.specs.Str.{bytes_eq}
+use Rattle.std.proofs.Common.{◌≡◌, ◌∙◌, ℕ, true, false, List, [], ◌∷◌, Option, Some, None, refl, sym, ap, subst}
+use Rattle.std.specs.Prelude.{IfSome, is_some, not}
 use Rattle.std.specs.List.{list_any}
 use Rattle.std.specs.Option.{option_map}
 use Rattle.std.proofs.lemmas.Bool.{false≢true}
-use Rattle.std.proofs.lemmas.List.Elements.{All-contains}
 use Rattle.catalogue.specs.Refusing.{first_refusal}
 use Rattle.office_types.specs.PlainName.{is_office}
 use Rattle.office_types.specs.declared.book.SpnBook.{SpnBook}
 use Rattle.office_types.specs.declared.change.Change.{Change}
 use Rattle.office_types.specs.declared.change.Decision.{Decision}
+use Rattle.office_types.specs.declared.command.Action.{Action}
 use Rattle.office_types.specs.declared.command.Action.TheVariants as act
 use Rattle.office_types.specs.declared.command.Command.{Command}
 use Rattle.office_types.specs.declared.command.Task.{Task}
 use Rattle.office_types.specs.declared.command.Task.TheVariants.{Act, Import, Bundle}
 use Rattle.office_types.specs.declared.refusal.Refusal.{Refusal}
 use Rattle.office_types.specs.declared.refusal.Refusal.TheVariants as no
-use Rattle.office_types.specs.declared.state.LiveMessage.{LiveMessage}
 use Rattle.office_types.specs.declared.state.Net.{Net}
 use Rattle.office_rules.specs.Change.{AllFit, Decides, HaveOwnBlocks, IsDecision, IsHeadFirst, IsQuiet, all_applied, is_release}
 use Rattle.office_rules.specs.Commands.{done_task, outcome}
-use Rattle.office_rules.specs.Facts.{in_last, live_named, was_released}
 use Rattle.office_rules.specs.Importing.{FileReading}
-use Rattle.office_rules.specs.Kept.{IsNet}
 use Rattle.office_rules.specs.Outcome.{Refusing, refused_or, reply_of, when}
 use Rattle.office_law.specs.Released.{ReleasesDontCount, may_release, reads_releases, with_releases}
-use Rattle.office_law.proofs.Lists.{Contains-found}
-use Rattle.office_facts.specs.Excerpt.{IsExcerptOf, goes_by_excerpt}
+use Rattle.office_facts.specs.Excerpt.{AreFacts, IsExcerptOf, fits, is_for}
+use Rattle.office_facts.specs.FactsOf.{facts_in}
+use Rattle.office_facts.specs.Scope.{Scope, reads_part, scope_of}
 use Rattle.office_facts.specs.declared.excerpt.Excerpt.{Excerpt}
-use Rattle.office_tables.specs.Tables.{Tables}
-use Rattle.store_rows.specs.NetIn.{IsNetAt}
-use Rattle.store_net.specs.Excerpts.{IsReadIn, IsRetireExcerpt, MatchBoth}
-use Rattle.store_net.proofs.Excerpts.{rows_are_read}
+use Rattle.store_net.specs.Excerpts.{IsExcerptIn}
 use Rattle.store_net.specs.Writing.{IsNext}
-
--- ---- what is read
-
--- what holds of the excerpt makes it the task's, where the network is one of an office
-for_task : (P : Net → Excerpt → Type 0) (team : List ℕ) (task : Task) (net : Option Net) (found : Option Excerpt)
-    → ((n : Net) (e : Excerpt) → IsNet n → P n e → IsExcerptOf team n task e) → IfSome net IsNet → MatchBoth P net found → MatchBoth (λ n e. IsExcerptOf team n task e) net found
-for_task P team task None None own is_net read = tt
-for_task P team task None (Some e) own is_net read = absurd read
-for_task P team task (Some n) None own is_net read = absurd read
-for_task P team task (Some n) (Some e) own is_net read = own n e is_net read
-
--- what is read of a network, read for the whole task
-
-pub net_read : {E : Type 0} (P : Net → Excerpt → Type 0) (r : Result (Option Excerpt) E) (name team : List ℕ) (t : Tables) (task whole : Task) → whole ≡ task
-    → ((n : Net) (e : Excerpt) → IsNet n → P n e → IsExcerptOf team n task e) → IfOk r (λ found. (net : Option Net) → IsNetAt name t net → MatchBoth P net found)
-    → IfOk r (λ found. (net : Option Net) → IsNetAt name t net → IfSome net IsNet → MatchBoth (λ n e. IsExcerptOf team n whole e) net found)
-net_read P (Ok found) name team t task whole is own read =
-    λ net at is_net. subst (λ k. MatchBoth (λ n e. IsExcerptOf team n k e) net found) (sym is) (for_task P team task net found own is_net (read net at))
-net_read P (Err e) name team t task whole is own read = tt
-
-pub part_read : {E : Type 0} (P : Net → Excerpt → Type 0) (r : Result (Option Excerpt) E) (name team : List ℕ) (t : Tables) (task whole : Task) → whole ≡ task
-    → ((n : Net) (e : Excerpt) → P n e → IsExcerptOf team n task e) → IfOk r (λ found. (net : Option Net) → IsReadIn name t net → MatchBoth P net found)
-    → IfOk r (λ found. (net : Option Net) → IsNetAt name t net → IfSome net IsNet → MatchBoth (λ n e. IsExcerptOf team n whole e) net found)
-part_read P (Ok found) name team t task whole is own read =
-    λ net at is_net. subst (λ k. MatchBoth (λ n e. IsExcerptOf team n k e) net found) (sym is) (for_task P team task net found (λ n e _. own n e) is_net (read net (rows_are_read name t net at)))
-part_read P (Err e) name team t task whole is own read = tt
-
-pub numbers_read : {E : Type 0} (r : Result (Option Excerpt) E) (name team : List ℕ) (t : Tables) (task whole : Task) → whole ≡ task
-    → IfOk r (λ found. (net : Option Net) → IsReadIn name t net → MatchBoth (λ n e. IsExcerptOf team n task e) net found)
-    → IfOk r (λ found. (net : Option Net) → IsNetAt name t net → IfSome net IsNet → MatchBoth (λ n e. IsExcerptOf team n whole e) net found)
-numbers_read r name team t task whole is read = part_read (λ n e. IsExcerptOf team n task e) r name team t task whole is (λ n e it. it) read
-
-pub groups_read : {E : Type 0} (r : Result (Option Excerpt) E) (name team : List ℕ) (t : Tables) (task whole : Task) → whole ≡ task
-    → IfOk r (λ found. (net : Option Net) → IsReadIn name t net → (other : List ℕ) → MatchBoth (λ n e. IsExcerptOf other n task e) net found)
-    → IfOk r (λ found. (net : Option Net) → IsNetAt name t net → IfSome net IsNet → MatchBoth (λ n e. IsExcerptOf team n whole e) net found)
-groups_read (Ok found) name team t task whole is read = λ net at is_net. subst (λ k. MatchBoth (λ n e. IsExcerptOf team n k e) net found) (sym is) (read net (rows_are_read name t net at) team)
-groups_read (Err e) name team t task whole is read = tt
-
--- where `retire` finds its message, the last release has its identifier exactly if a release has it
-last_of_net : (n : Net) (name : List ℕ) (found : Option LiveMessage) (released : Bool) → IsNet n → found ≡ live_named n.live name
-    → IfSome found (λ m. in_last n.releases m.message.ident ≡ released) → IfSome found (λ m. was_released n.releases m.message.ident ≡ released)
-last_of_net n name None released is_net is last = tt
-last_of_net n name (Some m) released is_net is last =
-    All-contains (λ (l : LiveMessage). was_released n.releases l.message.ident ≡ in_last n.releases l.message.ident) n.live m is_net.releases.last
-    (Contains-found (λ (l : LiveMessage). bytes_eq l.message.name name) n.live m (sym is)) ∙ last
-
-pub to_retire : (team message : List ℕ) (n : Net) (e : Excerpt) → IsNet n → IsRetireExcerpt message n e → IsExcerptOf team n (Act (act.Retire message)) e
-to_retire team message n e is_net it = record {
-  parts = record { head = it.parts.head; blocks = it.parts.blocks; found = it.parts.found };
-  numbers = tt;
-  released = last_of_net n message e.found e.released is_net it.parts.found it.released;
-}
 
 -- ---- a network that isn't there
 
@@ -94,7 +36,7 @@ refuses None r = (r, refl)
 refuses (Some s) r = (s, refl)
 
 -- a command that goes by an excerpt is refused, whatever the book
-none_refused : (team name : List ℕ) (reading : FileReading) (t : Task) → goes_by_excerpt t ≡ true → (r : Refusal) × ((book : SpnBook) → done_task team name reading None book t ≡ Refusing r)
+none_refused : (team name : List ℕ) (reading : FileReading) (t : Task) → reads_part t ≡ true → (r : Refusal) × ((book : SpnBook) → done_task team name reading None book t ≡ Refusing r)
 none_refused team name reading (Act (act.OpenNet c)) by = absurd (false≢true by)
 none_refused team name reading (Act (act.Grant c)) by =
     let both = refuses (first_refusal (when (not (is_office team)) no.NotOffice ∷ when true no.NoNet ∷ [])) no.NoNet in (both.0, λ book. both.1)
@@ -114,7 +56,7 @@ none_refused team name reading (Import file) by = absurd (false≢true by)
 none_refused team name reading (Bundle parts) by = absurd (false≢true by)
 
 -- decided with some book, it is decided with any
-absent : (team : List ℕ) (c : Command) (d : Decision) (some book : SpnBook) → goes_by_excerpt c.task ≡ true → IsDecision team (record { net = None; book = some }) c d
+absent : (team : List ℕ) (c : Command) (d : Decision) (some book : SpnBook) → reads_part c.task ≡ true → IsDecision team (record { net = None; book = some }) c d
     → IsDecision team (record { net = None; book = book }) c d × (list_any is_release d.changes ≡ false)
 absent team c d some book by h =
     let refused = none_refused team c.net h.reading c.task by in
@@ -138,7 +80,7 @@ absent team c d some book by h =
 
 -- ---- by an excerpt
 
-adds_none : (t : Task) → goes_by_excerpt t ≡ true → may_release t ≡ false
+adds_none : (t : Task) → reads_part t ≡ true → may_release t ≡ false
 adds_none (Act act.Release) by = absurd (false≢true by)
 adds_none (Act a) by = refl
 adds_none (Import file) by = refl
@@ -147,18 +89,27 @@ adds_none (Bundle parts) by = absurd (false≢true by)
 abbrev IsDecided : List ℕ → Command → Decision → Option Net → SpnBook → Type 0
 IsDecided team c d net book = IsDecision team (record { net = net; book = book }) c d × (list_any is_release d.changes ≡ false)
 
-pub absent_decided : (team : List ℕ) (c : Command) (d : Decision) (some : SpnBook) (net : Option Net) (book : SpnBook) (found : Option Excerpt) → goes_by_excerpt c.task ≡ true → found ≡ None
-    → MatchBoth (λ n e. IsExcerptOf team n c.task e) net found → IsDecision team (record { net = None; book = some }) c d → IsDecided team c d net book
-absent_decided team c d some None book found by is read h = absent team c d some book by h
-absent_decided team c d some (Some n) book found by is read h = absurd (subst (MatchBoth (λ n e. IsExcerptOf team n c.task e) (Some n)) is read)
+-- what was read for the scope of the task's action
 
-pub excerpt_decided : ReleasesDontCount → (team : List ℕ) (c : Command) (d : Decision) (e : Excerpt) (net : Option Net) (book : SpnBook) (found : Option Excerpt) → goes_by_excerpt c.task ≡ true
-    → found ≡ Some e → MatchBoth (λ n e. IsExcerptOf team n c.task e) net found
+pub absent_decided : (team : List ℕ) (c : Command) (d : Decision) (some : SpnBook) (net : Option Net) (book : SpnBook) (scope : Scope) (found : Option Excerpt) → reads_part c.task ≡ true
+    → found ≡ None → IsExcerptIn team scope net found → IsDecision team (record { net = None; book = some }) c d → IsDecided team c d net book
+absent_decided team c d some None book scope found by is read h = absent team c d some book by h
+absent_decided team c d some (Some n) book scope found by is read h = absurd (subst (IsExcerptIn team scope (Some n)) is read)
+
+pub excerpt_decided : ReleasesDontCount → (team : List ℕ) (c : Command) (d : Decision) (a : Action) (e : Excerpt) (net : Option Net) (book : SpnBook) (scope : Scope) (found : Option Excerpt)
+    → reads_part c.task ≡ true → c.task ≡ Act a → scope ≡ scope_of a → found ≡ Some e → IsExcerptIn team scope net found
     → ((n : Net) → IsExcerptOf team n c.task e → IsDecision team (record { net = Some n; book = book }) c d) → IsDecided team c d net book
-excerpt_decided law team c d e None book found by is read one = absurd (subst (MatchBoth (λ n e. IsExcerptOf team n c.task e) None) is read)
-excerpt_decided law team c d e (Some n) book found by is read one =
-    let decision = one n (subst (MatchBoth (λ n e. IsExcerptOf team n c.task e) (Some n)) is read) in
+excerpt_decided law team c d a e None book scope found by act of is read one = absurd (subst (IsExcerptIn team scope None) is read)
+excerpt_decided law team c d a e (Some n) book scope found by act of is read one =
+    let its : AreFacts team n (scope_of a) (facts_in e) = subst (λ s. AreFacts team n s (facts_in e)) of (subst (IsExcerptIn team scope (Some n)) is read) in
+    let decision = one n (subst (λ t. IsExcerptOf team n t e) (sym act) its) in
     (decision, law.none_added team n book c d (adds_none c.task by) decision)
+
+-- it is of that scope
+pub fits_task : (t : Task) (a : Action) (e : Excerpt) (scope : Scope) (found : Option Excerpt) → t ≡ Act a → scope ≡ scope_of a → found ≡ Some e
+    → IfSome found (λ e. fits scope (facts_in e) ≡ true) → is_for t e ≡ true
+fits_task t a e scope found act of is fit =
+    ap (λ k. is_for k e) act ∙ ap (λ s. fits s (facts_in e)) (sym of) ∙ subst (λ o. IfSome o (λ e. fits scope (facts_in e) ≡ true)) is fit
 
 -- ---- without releases
 

@@ -22,7 +22,7 @@ use Rattle.store_carry.specs.declared.marks.Marks.TheVariants as marks
 use Rattle.store_carry.specs.declared.marks.Marks.TheVariants.{Newer, Second}
 use Rattle.store_carry.proofs.ProfileRows.{bodies_or_newer, first_or_newer, is_second, not_second, second_or_bodies, second_or_first, second_or_newer}
 use Rattle.store.specs.Holding.{Holding, Keeps, Leaves}
-use Rattle.store.specs.Opening.{HasForm, HasOffice, HasOlderMarks, HasTables, HoldingInSomeForm, HoldingOlder, IsCarried, IsGrown, KeepsInSomeForm, MayCarry, MayComplete, MayGrow, MayMigrate}
+use Rattle.store.specs.Opening.{HasForm, HasOffice, HasOlderMarks, HasTables, HoldingInSomeForm, HoldingOlder, IsCarried, IsGrown, KeepsInSomeForm, MayCarry, MayComplete, MayMigrate}
 
 -- ---- forms and their schemas
 

@@ -1,7 +1,7 @@
 -- A list of arrivals, and one more.
 use Rattle.std.proofs.Common.{◌≡◌, ◌⊎◌, inl, inr, true, false, List, [], ◌∷◌, ◌++◌, length, Ok, Err, Result, refl, sym, ap, subst, ◌∙◌, arith, append_assoc, append-nil, length-append}
 use Rattle.std.specs.Option.{option_or}
-use Rattle.std.specs.Prelude.{All, Bool, Contains, Option, Some, None, ◌↔◌, IfErr, IfOk, IsErr, IsSome, IsTrue, OnErr}
+use Rattle.std.specs.Prelude.{All, Bool, Option, Some, None, ◌↔◌, IfErr, IfOk, IsErr, IsSome, IsTrue, OnErr}
 use Rattle.std.proofs.lemmas.Bool.{cases_Bool}
 use Rattle.std.proofs.lemmas.List.Elements.{All-contains, All-push, Contains-append_left, Contains-push}
 use Rattle.std.proofs.lemmas.List.Folds.{find-append}

@@ -1,74 +1,32 @@
 //! What is decided on a request that comes for the first time, on what its command reads of the tables.
 //!
-//! Most commands read an excerpt of their network: its row and its blocks, and those on a message that one alone.
-//! `take_ident` reads the live and the held identifiers in the team's blocks, and `take_pgn` all of 29 bits. `retire`
-//! also reads the last release: in the network of an office it has each live message that was released. `release`,
-//! `import` and bundles read all of their network but its releases; of these `release` reads how many there are, and a
-//! bundle with `retire` what is in them. The book is read for `take_spn`, for a `grant` of suspect parameter numbers,
-//! and with all of a network.
+//! An action of a smaller scope than the whole network goes by an excerpt of that scope (`office_facts/specs/Scope.antt`).
+//! `open_net`, `release`, imports and bundles read all of their network but its releases; of these `release` reads how
+//! many there are, and a bundle with `retire` what is in them. The book is read for `take_spn`, for a `grant` of suspect
+//! parameter numbers, and with all of a network.
 ghost use Rattle.std.specs.Prelude.{◌≡◌, true, false, Option, Some, IfSome};
 ghost use Rattle.std.specs.List.{list_any};
 ghost use Rattle.sqlite.specs.Held.{state};
 ghost use Rattle.office_law.specs.Released.{reads_bodies, reads_releases};
-ghost use Rattle.office_facts.specs.Excerpt.{IsExcerptOf, goes_by_excerpt};
+ghost use Rattle.office_facts.specs.Scope.{reads_part};
 ghost use Rattle.office_rules.specs.Change.{IsDecision, is_release};
 ghost use Rattle.office_rules.specs.Kept.{IsNet};
 ghost use Rattle.office_types.specs.declared.book.SpnBook.{SpnBook as Book};
 ghost use Rattle.office_types.specs.declared.state.Net.{Net as Network};
 ghost use Rattle.store_rows.specs.NetIn.{IsNetAt};
 ghost use Rattle.store_rows.specs.Rows.{IsBookIn};
-ghost use Rattle.store_net.specs.Excerpts.{MatchBoth};
 ghost use Rattle.store_net.specs.Writing.{IsNext};
 ghost use Rattle.office_tables.specs.Statements.{ChangesNothing, CommitsNothing, Finds, LeavesNothing};
 
 use crate::counting::{reads_bodies, reads_releases};
 use catalogue::Items;
-use office::{Excerpt, decide, decide_excerpt, goes_by_excerpt, reads_book};
+use office_decide::{decide, decide_by_excerpt};
+use office_facts::{reads_book, reads_part, scope_of};
 use office_law::{bodies_dont_count, releases_dont_count};
-use office_types::{Action, Command, Decision, SpnBook, Task, Team, UsedSpns};
+use office_types::{Command, Decision, SpnBook, Task, Team, UsedSpns};
 use sqlite::{Alter, Error, Transaction};
 use std::alloc::Global;
-use store_net::{
-    book_of, counted_net_at, group_excerpt_at, head_excerpt_at, ident_excerpt_at,
-    message_excerpt_at, net_at, next_release, retire_excerpt_at, unreleased_net_at,
-};
-
-/// The part of the network that the team's command reads, `None` where the network isn't there.
-fn excerpt_at<S: Alter>(
-    alloc: Global,
-    tx: &mut Transaction<'_, S>,
-    team: &Team,
-    command: &Command,
-) -> Result<Option<Excerpt>, Error>
-    requires { goes_by_excerpt command.now.task ≡ true }
-    ensures same_reference { tx.new.conn.ghost_name ≡ tx.old.conn.ghost_name }
-    ensures found { Finds result (state S.Store tx.old.conn.now) (state S.Store tx.new.conn.now)
-        (λ found t. (net : Option Network) → IsNetAt command.now.net t net → IfSome net IsNet
-        → MatchBoth (λ net e. IsExcerptOf team.now net command.now.task e) net found) }
-    ensures same { ChangesNothing result (state S.Store tx.old.conn.now) (state S.Store tx.new.conn.now) }
-    ensures kept { CommitsNothing (state S.Store tx.old.conn.now) (state S.Store tx.new.conn.now) }
-    ensures survives { LeavesNothing (state S.Store tx.old.conn.now) (state S.Store tx.new.conn.now) }
-{
-    let name = &command.net;
-    match &command.task {
-        Task::Act(action) => match action {
-            Action::Grant(_) => head_excerpt_at(alloc, tx, name),
-            Action::AddNode(_) => head_excerpt_at(alloc, tx, name),
-            Action::TakeIdent(take) => ident_excerpt_at(alloc, tx, name, team, take),
-            Action::TakePgn(take) => group_excerpt_at(alloc, tx, name, take),
-            Action::TakeSpn(take) => message_excerpt_at(alloc, tx, name, &take.path.message),
-            Action::TakeBits(take) => message_excerpt_at(alloc, tx, name, &take.path.message),
-            Action::SetValues(set) => message_excerpt_at(alloc, tx, name, &set.path.message),
-            Action::RemoveSignal(path) => message_excerpt_at(alloc, tx, name, &path.message),
-            Action::Retire(message) => retire_excerpt_at(alloc, tx, name, message),
-            Action::Submit => head_excerpt_at(alloc, tx, name),
-            Action::Approve => head_excerpt_at(alloc, tx, name),
-            Action::Reject => head_excerpt_at(alloc, tx, name),
-            Action::OpenNet(_) | Action::Release => unreachable!(),
-        },
-        Task::Import(_) | Task::Bundle(_) => unreachable!(),
-    }
-}
+use store_net::{book_of, counted_net_at, excerpt_at, net_at, next_release, unreleased_net_at};
 
 /// A book without blocks and numbers. Takes no memory.
 fn empty_book(alloc: Global) -> SpnBook {
@@ -79,13 +37,13 @@ fn empty_book(alloc: Global) -> SpnBook {
 }
 
 /// Decides the team's command by the part of its network that it reads.
-fn decide_by_excerpt<S: Alter>(
+fn decide_by_part<S: Alter>(
     alloc: Global,
     tx: &mut Transaction<'_, S>,
     team: &Team,
     command: &Command,
 ) -> Result<Decision, Error>
-    requires { goes_by_excerpt command.now.task ≡ true }
+    requires { reads_part command.now.task ≡ true }
     ensures same_reference { tx.new.conn.ghost_name ≡ tx.old.conn.ghost_name }
     ensures decided { Finds result (state S.Store tx.old.conn.now) (state S.Store tx.new.conn.now)
         (λ d t. (net : Option Network) (book : Book) → IsNetAt command.now.net t net → IfSome net IsNet
@@ -96,14 +54,17 @@ fn decide_by_excerpt<S: Alter>(
     ensures survives { LeavesNothing (state S.Store tx.old.conn.now) (state S.Store tx.new.conn.now) }
 {
     releases_dont_count();
-    let Some(excerpt) = excerpt_at(alloc, tx, team, command)? else {
+    let Task::Act(action) = &command.task else {
+        unreachable!()
+    };
+    let Some(excerpt) = excerpt_at(alloc, tx, &command.net, team, &scope_of(action))? else {
         return Ok(decide(alloc, team, None, &empty_book(alloc), command)?);
     };
     if reads_book(&command.task) {
         let book = book_of(alloc, tx)?;
-        return Ok(decide_excerpt(alloc, team, &excerpt, &book, command)?);
+        return Ok(decide_by_excerpt(alloc, team, &excerpt, &book, command)?);
     }
-    Ok(decide_excerpt(alloc, team, &excerpt, &empty_book(alloc), command)?)
+    Ok(decide_by_excerpt(alloc, team, &excerpt, &empty_book(alloc), command)?)
 }
 
 /// The number of the next release: 1 where the network isn't there, and none is wanted where it is.
@@ -201,8 +162,8 @@ pub(crate) fn decide_on_tables<S: Alter>(
     ensures kept { CommitsNothing (state S.Store tx.old.conn.now) (state S.Store tx.new.conn.now) }
     ensures survives { LeavesNothing (state S.Store tx.old.conn.now) (state S.Store tx.new.conn.now) }
 {
-    if goes_by_excerpt(&command.task) {
-        let decision = decide_by_excerpt(alloc, tx, team, command)?;
+    if reads_part(&command.task) {
+        let decision = decide_by_part(alloc, tx, team, command)?;
         Ok((decision, None))
     } else if !reads_releases(&command.task) {
         decide_without_releases(alloc, tx, team, command)

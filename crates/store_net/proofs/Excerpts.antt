@@ -1,22 +1,26 @@
--- An excerpt that is read part by part is the network's.
-use Rattle.std.proofs.Common.{◌≡◌, ℕ, List, [], Option, Some, None, refl, sym, subst}
-use Rattle.std.specs.Prelude.{IfSome}
+-- What is read part by part is the network's.
+use Rattle.std.proofs.Common.{◌≡◌, ℕ, List, [], Option, Some, None, Result, Ok, Err, sym, subst}
+use Rattle.std.specs.Prelude.{IfOk, IfSome}
+use Rattle.std.specs.Str.{bytes_eq}
+use Rattle.std.proofs.lemmas.List.Elements.{All-contains}
+use Rattle.office_facts.specs.FactsOf.{message_in}
+use Rattle.office_facts.specs.Scope.{Scope}
 use Rattle.office_facts.specs.declared.excerpt.Excerpt.{Excerpt}
-use Rattle.office_types.specs.declared.state.GrantedBlock.{GrantedBlock}
 use Rattle.office_types.specs.declared.state.Head.{Head}
 use Rattle.office_types.specs.declared.state.LiveMessage.{LiveMessage}
 use Rattle.office_types.specs.declared.state.Net.{Net}
-use Rattle.office_rules.specs.Facts.{in_last, live_named}
+use Rattle.office_law.proofs.Lists.{Contains-found}
+use Rattle.office_rules.specs.Facts.{in_last, live_named, message_facts, was_released}
+use Rattle.office_rules.specs.Kept.{IsNet}
 use Rattle.office_tables.specs.Tables.{Tables}
 use Rattle.office_rows.specs.Rows.{net_row}
 use Rattle.office_rows.specs.Shown.{net_order}
 use Rattle.store_rows.specs.Listed.{AreListed}
-use Rattle.store_rows.specs.Live.{AreLiveRows, live_rows}
-use Rattle.store_rows.specs.NetIn.{HasRows, IsNetIn, RestRows}
+use Rattle.store_rows.specs.NetIn.{HasRows, IsNetAt, IsNetIn, RestRows}
 use Rattle.store_rows.specs.Rows.{IsNetRow, IsRowOf}
 use Rattle.store_rows.proofs.Listing.{none_listed}
-use Rattle.store_net.specs.Excerpts.{ArePartsIn, IsExcerptFor, IsReadIn, IsRetireExcerpt, MatchBoth, ShowsExcerpt}
-use Rattle.store_net.specs.Parts.{HasBlocks, HasHead}
+use Rattle.store_net.specs.Excerpts.{ArePartsIn, IsExcerptIn, IsReadIn, MatchBoth}
+use Rattle.store_net.specs.Parts.{HasHead}
 
 none_some : {X : Type 0} (x : X) → None ≡ Some x → ⊥
 none_some x e = cc
@@ -24,51 +28,52 @@ none_some x e = cc
 one_some : {X : Type 0} (x y : X) → Some x ≡ Some y → x ≡ y
 one_some x y e = cc
 
--- where the network isn't there, there is no excerpt
-pub none_there : (P : Net → Excerpt → Type 0) (name : List ℕ) (t : Tables) (net : Option Net) → ((other : Option Head) → HasHead name t other → None ≡ other)
+-- where the network isn't there, nothing is read
+pub none_there : {X : Type 0} (P : Net → X → Type 0) (name : List ℕ) (t : Tables) (net : Option Net) → ((other : Option Head) → HasHead name t other → None ≡ other)
     → IsReadIn name t net → MatchBoth P net None
 none_there P name t None head at = tt
 none_there P name t (Some net) head at = none_some net.head (head (Some net.head) at.head)
 
--- what holds of an excerpt with the head of the network that is there
-pub one_there : (P : Net → Excerpt → Type 0) (name : List ℕ) (t : Tables) (net : Option Net) (e : Excerpt) → ((other : Option Head) → HasHead name t other → Some e.head ≡ other)
-    → ((n : Net) → ArePartsIn name t n → e.head ≡ n.head → P n e) → IsReadIn name t net → MatchBoth P net (Some e)
-one_there P name t None e head holds at = none_some e.head (sym (head None at))
-one_there P name t (Some net) e head holds at = holds net at (one_some e.head net.head (head (Some net.head) at.head))
+-- what holds of something that was read with the head of the network that is there
+pub one_there : {X : Type 0} (P : Net → X → Type 0) (name : List ℕ) (t : Tables) (net : Option Net) (h : Head) (x : X) → ((other : Option Head) → HasHead name t other → Some h ≡ other)
+    → ((n : Net) → ArePartsIn name t n → h ≡ n.head → P n x) → IsReadIn name t net → MatchBoth P net (Some x)
+one_there P name t None h x head holds at = none_some h (sym (head None at))
+one_there P name t (Some net) h x head holds at = holds net at (one_some h net.head (head (Some net.head) at.head))
 
-pub none_reported : (name message : List ℕ) (t : Tables) (net : Option Net) → ((other : Option Head) → HasHead name t other → None ≡ other) → IsReadIn name t net → ShowsExcerpt message net None
-none_reported name message t net head at = none_there (IsExcerptFor message) name t net head at
-
-pub one_reported : (name message : List ℕ) (t : Tables) (net : Option Net) (e : Excerpt) → ((other : Option Head) → HasHead name t other → Some e.head ≡ other)
-    → ((others : List GrantedBlock) → HasBlocks name t others → e.blocks ≡ others) → ((live : List LiveMessage) → AreLiveRows name (live_rows name t) live → e.found ≡ live_named live message)
-    → IsReadIn name t net → ShowsExcerpt message net (Some e)
-one_reported name message t net e head blocks found at =
-    one_there (IsExcerptFor message) name t net e head (λ n parts same. record { head = same; blocks = blocks n.blocks parts.blocks; found = found n.live parts.live }) at
-
--- an excerpt made of another: none of none, and one of one
-pub none_more : (P Q : Net → Excerpt → Type 0) (net : Option Net) → MatchBoth P net None → MatchBoth Q net None
+-- what is made of what was read: nothing of nothing, and one of one
+pub none_more : {X Y : Type 0} (P : Net → X → Type 0) (Q : Net → Y → Type 0) (net : Option Net) → MatchBoth P net None → MatchBoth Q net None
 none_more P Q None both = tt
 none_more P Q (Some net) both = both
 
-pub one_more : (P Q : Net → Excerpt → Type 0) (name : List ℕ) (t : Tables) (net : Option Net) (e made : Excerpt) → MatchBoth P net (Some e)
-    → ((n : Net) → ArePartsIn name t n → P n e → Q n made) → IsReadIn name t net → MatchBoth Q net (Some made)
-one_more P Q name t None e made both more at = both
-one_more P Q name t (Some net) e made both more at = more net at both
+pub one_more : {X Y : Type 0} (P : Net → X → Type 0) (Q : Net → Y → Type 0) (name : List ℕ) (t : Tables) (net : Option Net) (x : X) (y : Y) → MatchBoth P net (Some x)
+    → ((n : Net) → ArePartsIn name t n → P n x → Q n y) → IsReadIn name t net → MatchBoth Q net (Some y)
+one_more P Q name t None x y both more at = both
+one_more P Q name t (Some net) x y both more at = more net at both
 
 -- a network that the tables have in the form of rows is read so
 pub rows_are_read : (name : List ℕ) (t : Tables) (net : Option Net) → IsNetIn HasRows name t net → IsReadIn name t net
 rows_are_read name t None at = subst (λ (r : RestRows). AreListed net_order (IsRowOf net_row (IsNetRow name)) r.head []) (sym at.rest) none_listed
 rows_are_read name t (Some net) at = record { head = at.rest.head; blocks = at.rest.blocks; held = at.rest.held; live = at.live }
 
--- of an excerpt for the message of a `retire`: no message is found, or it is known whether the last release has its
--- number
-pub none_to_retire : (message : List ℕ) (net : Option Net) → ShowsExcerpt message net None → MatchBoth (IsRetireExcerpt message) net None
-none_to_retire message net both = none_more (IsExcerptFor message) (IsRetireExcerpt message) net both
+-- the same where that needs the whole network of an office
+pub whole_there : {X : Type 0} (P : Net → X → Type 0) (name : List ℕ) (t : Tables) (net : Option Net) (h : Head) (x : X) → ((other : Option Head) → HasHead name t other → Some h ≡ other)
+    → ((n : Net) → IsNetAt name t (Some n) → IsNet n → h ≡ n.head → P n x) → IsNetAt name t net → IfSome net IsNet → MatchBoth P net (Some x)
+whole_there P name t None h x head holds at is_net = none_some h (sym (head None (rows_are_read name t None at)))
+whole_there P name t (Some net) h x head holds at is_net = holds net at is_net (one_some h net.head (head (Some net.head) at.rest.head))
 
-pub one_to_retire : (message : List ℕ) (net : Option Net) (e made : Excerpt) → ShowsExcerpt message net (Some e) → made ≡ record e { released = made.released }
-    → ((n : Net) → net ≡ Some n → IfSome e.found (λ m. in_last n.releases m.message.ident ≡ made.released)) → MatchBoth (IsRetireExcerpt message) net (Some made)
-one_to_retire message None e made both is released = both
-one_to_retire message (Some n) e made both is released = subst (λ (x : Excerpt). IsRetireExcerpt message n x) (sym is) (record {
-  parts = record { head = both.head; blocks = both.blocks; found = both.found };
-  released = released n refl;
-})
+-- read by those parts, for the scope that was matched
+pub by_parts : {E : Type 0} (r : Result (Option Excerpt) E) (name team : List ℕ) (t : Tables) (own scope : Scope) → scope ≡ own
+    → IfOk r (λ found. (net : Option Net) → IsReadIn name t net → IsExcerptIn team own net found)
+    → IfOk r (λ found. (net : Option Net) → IsNetAt name t net → IfSome net IsNet → IsExcerptIn team scope net found)
+by_parts (Ok found) name team t own scope is read = λ net at is_net. subst (λ s. IsExcerptIn team s net found) (sym is) (read net (rows_are_read name t net at))
+by_parts (Err e) name team t own scope is read = tt
+
+-- the last release has the identifier of a live message exactly if a release has it
+pub last_of_net : (n : Net) (name : List ℕ) (m : LiveMessage) → IsNet n → Some m ≡ live_named n.live name → was_released n.releases m.message.ident ≡ in_last n.releases m.message.ident
+last_of_net n name m is_net is =
+    All-contains (λ (l : LiveMessage). was_released n.releases l.message.ident ≡ in_last n.releases l.message.ident) n.live m is_net.releases.last
+    (Contains-found (λ (l : LiveMessage). bytes_eq l.message.name name) n.live m (sym is))
+
+-- the facts of a message that was read are the network's
+pub facts_read : (n : Net) (message : List ℕ) (h : Head) (found : Option LiveMessage) → h ≡ n.head → found ≡ live_named n.live message → message_in h found ≡ message_facts n message
+facts_read n message h found same is = λ i. record { phase = (same i).phase; nodes = (same i).frame.nodes; found = is i }

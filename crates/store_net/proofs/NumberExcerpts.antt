@@ -8,15 +8,13 @@ use Rattle.can_id.specs.declared.ident.Ident.{Ident}
 use Rattle.office_types.specs.Block.{block_form}
 use Rattle.office_types.specs.declared.block.Block.{Block}
 use Rattle.office_types.specs.declared.block.BlockForm.TheVariants.{Pgn}
-use Rattle.office_types.specs.declared.command.Action.TheVariants as act
 use Rattle.office_types.specs.declared.command.TakeIdent.{TakeIdent}
 use Rattle.office_types.specs.declared.command.TakePgn.{TakePgn}
-use Rattle.office_types.specs.declared.command.Task.TheVariants.{Act}
 use Rattle.office_types.specs.declared.state.Net.{Net}
 use Rattle.office_rules.specs.Facts.{blocks_of, group_of, is_held, is_live, is_wanted, number_in, taken_groups, taken_numbers}
-use Rattle.office_facts.specs.By.{AgreeInside}
-use Rattle.office_facts.specs.Excerpt.{IsExcerptOf}
-use Rattle.office_facts.specs.declared.excerpt.Excerpt.{Excerpt}
+use Rattle.office_facts.specs.By.{AgreeInside, AreGroupFacts, AreIdentFacts}
+use Rattle.office_facts.specs.FactsOf.{numbers_in}
+use Rattle.office_facts.specs.declared.excerpt.NumberExcerpt.{NumberExcerpt}
 use Rattle.store_net.specs.Excerpts.{HasNameAndRoom}
 use Rattle.store_net.specs.Numbers.{idents_between, idents_inside, live_idents}
 use Rattle.store_net.proofs.Inside.{groups_inside, numbers_inside}
@@ -44,47 +42,41 @@ groups_read team net live held groups live_is held_is are are_live are_held =
     subst (λ (l : List ℕ). AgreeInside (blocks_of net.blocks team Pgn) l (taken_groups net)) (sym read)
     (groups_inside (blocks_of net.blocks team Pgn) (live_idents net.live) net.held are_live are_held)
 
-pub of_ident : (team : List ℕ) (net : Net) (c : TakeIdent) (e : Excerpt) (live held : Bool) (numbers : List ℕ) → HasNameAndRoom c.message.name net e
+-- so what was read for either command is the network's
+
+pub of_ident : (team : List ℕ) (net : Net) (c : TakeIdent) (e : NumberExcerpt) (live held : Bool) (numbers : List ℕ) → HasNameAndRoom c.message.name net e
     → live ≡ is_wanted (is_live net) c.form c.want → held ≡ is_wanted (is_held net) c.form c.want
     → AgreeInside (blocks_of net.blocks team (block_form c.form)) numbers (taken_numbers net c.form)
-    → IsExcerptOf team net (Act (act.TakeIdent c)) (record e { want_live = live; want_held = held; taken = numbers })
+    → AreIdentFacts team net c (numbers_in (record e { want_live = live; want_held = held; taken = numbers }))
 of_ident team net c e live held numbers has live_is held_is agree = record {
-  parts = record { head = has.head; blocks = has.blocks; found = tt };
-  numbers = record {
-    others = λ i. record {
-      kind = (sym has.head i).kind;
-      phase = (sym has.head i).phase;
-      nodes = (sym has.head i).frame.nodes;
-      blocks = sym has.blocks i;
-      named = sym has.named i;
-      full = sym has.full i;
-      want_live = sym live_is i;
-      want_held = sym held_is i;
-      taken = numbers;
-    };
-    taken = agree;
+  others = λ i. record {
+    kind = (sym has.head i).kind;
+    phase = (sym has.head i).phase;
+    nodes = (sym has.head i).frame.nodes;
+    blocks = sym has.blocks i;
+    named = sym has.named i;
+    full = sym has.full i;
+    want_live = sym live_is i;
+    want_held = sym held_is i;
+    taken = numbers;
   };
-  released = tt;
+  taken = agree;
 }
 
-pub of_group : (team : List ℕ) (net : Net) (c : TakePgn) (e : Excerpt) (numbers : List ℕ) → HasNameAndRoom c.message.name net e
-    → AgreeInside (blocks_of net.blocks team Pgn) numbers (taken_groups net)
-    → IsExcerptOf team net (Act (act.TakePgn c)) (record e { taken = numbers })
-of_group team net c e numbers has agree = record {
-  parts = record { head = has.head; blocks = has.blocks; found = tt };
-  numbers = record {
-    others = λ i. record {
-      kind = (sym has.head i).kind;
-      phase = (sym has.head i).phase;
-      nodes = (sym has.head i).frame.nodes;
-      blocks = sym has.blocks i;
-      named = sym has.named i;
-      full = sym has.full i;
-      want_live = sym has.want_live i;
-      want_held = sym has.want_held i;
-      taken = numbers;
-    };
-    taken = agree;
+pub of_group : (team : List ℕ) (net : Net) (c : TakePgn) (e : NumberExcerpt) (groups : List ℕ) → HasNameAndRoom c.message.name net e
+    → AgreeInside (blocks_of net.blocks team Pgn) groups (taken_groups net)
+    → AreGroupFacts team net c (numbers_in (record e { taken = groups }))
+of_group team net c e groups has agree = record {
+  others = λ i. record {
+    kind = (sym has.head i).kind;
+    phase = (sym has.head i).phase;
+    nodes = (sym has.head i).frame.nodes;
+    blocks = sym has.blocks i;
+    named = sym has.named i;
+    full = sym has.full i;
+    want_live = sym has.want_live i;
+    want_held = sym has.want_held i;
+    taken = groups;
   };
-  released = tt;
+  taken = agree;
 }

@@ -1,55 +1,57 @@
-//! What commands read of their network that give out no number of it: its row, its blocks, and the message that they
-//! name alone. `retire` also reads whether the last release has its number.
-ghost use Rattle.std.specs.Prelude.{Option, ◌≡◌};
+//! What an action reads of its network in the tables: an excerpt of the action's scope.
+ghost use Rattle.std.specs.Prelude.{Option, ◌≡◌, ℕ, List, true, IfOk, IfSome};
+ghost use Rattle.office_facts.specs.Excerpt.{fits};
+ghost use Rattle.office_facts.specs.FactsOf.{facts_in};
+ghost use Rattle.office_facts.specs.Scope.{Head, Message, Parts, Retiring, is_part, scope_as};
+ghost use Rattle.office_rules.specs.Kept.{IsNet};
 ghost use Rattle.office_types.specs.declared.state.Net.{Net as Network};
 ghost use Rattle.sqlite.specs.Held.{state};
 ghost use Rattle.store_rows.specs.NetIn.{IsNetAt};
-ghost use Rattle.store_net.specs.Excerpts.{HasHeadAndBlocks, IsReadIn, IsRetireExcerpt, MatchBoth, ShowsExcerpt};
+ghost use Rattle.store_net.specs.Excerpts.{IsExcerptIn, IsReadIn};
 ghost use Rattle.office_tables.specs.Statements.{ChangesNothing, CommitsNothing, Finds, LeavesNothing};
 
 use crate::message::message_at;
+use crate::number_excerpt::{group_excerpt, ident_excerpt};
 use crate::parts::{blocks_of, head_of};
 use crate::release::last_has_at;
-use catalogue::{Items, Name};
-use office_facts::Excerpt;
-use office_types::{GrantedBlock, Head, LiveMessage, NetName};
+use catalogue::Name;
+use office_facts::{Excerpt, Scope};
+use office_types::{NetName, Team};
 use sqlite::{Alter, Error, Transaction};
 use std::alloc::Global;
 
-/// The excerpt of these parts.
-fn excerpt_of(
-    alloc: Global,
-    head: Head,
-    blocks: Items<GrantedBlock>,
-    found: Option<LiveMessage>,
-) -> Excerpt
-    ensures head { result.head ≡ head }
-    ensures blocks { result.blocks ≡ blocks }
-    ensures found { result.found ≡ found }
-{
-    Excerpt {
-        head,
-        blocks,
-        found,
-        named: false,
-        full: false,
-        want_live: false,
-        want_held: false,
-        taken: Items::new(alloc),
-        released: false,
-    }
-}
-
-/// The excerpt of the network for a command that reads no message, `None` where the network isn't there. An error is
-/// out of memory, what `sqlite` answers, or `InvalidQuery` where the rows are no network's.
-pub fn head_excerpt_at<S: Alter>(
+/// The head, `None` where the network isn't there.
+fn head_excerpt<S: Alter>(
     alloc: Global,
     tx: &mut Transaction<'_, S>,
     name: &NetName,
 ) -> Result<Option<Excerpt>, Error>
     ensures same_reference { tx.new.conn.ghost_name ≡ tx.old.conn.ghost_name }
     ensures found { Finds result (state S.Store tx.old.conn.now) (state S.Store tx.new.conn.now)
-        (λ found t. (net : Option Network) → IsReadIn name.now t net → MatchBoth HasHeadAndBlocks net found) }
+        (λ found t. (net : Option Network) → IsReadIn name.now t net
+        → (team : List ℕ) → IsExcerptIn team Head net found) }
+    ensures fits { IfOk result (λ found. IfSome found (λ e. fits Head (facts_in e) ≡ true)) }
+    ensures same { ChangesNothing result (state S.Store tx.old.conn.now) (state S.Store tx.new.conn.now) }
+    ensures kept { CommitsNothing (state S.Store tx.old.conn.now) (state S.Store tx.new.conn.now) }
+    ensures survives { LeavesNothing (state S.Store tx.old.conn.now) (state S.Store tx.new.conn.now) }
+{
+    let Some(head) = head_of(alloc, tx, name)? else {
+        return Ok(None);
+    };
+    Ok(Some(Excerpt::Head(head)))
+}
+
+/// The head and the blocks.
+fn parts_excerpt<S: Alter>(
+    alloc: Global,
+    tx: &mut Transaction<'_, S>,
+    name: &NetName,
+) -> Result<Option<Excerpt>, Error>
+    ensures same_reference { tx.new.conn.ghost_name ≡ tx.old.conn.ghost_name }
+    ensures found { Finds result (state S.Store tx.old.conn.now) (state S.Store tx.new.conn.now)
+        (λ found t. (net : Option Network) → IsReadIn name.now t net
+        → (team : List ℕ) → IsExcerptIn team Parts net found) }
+    ensures fits { IfOk result (λ found. IfSome found (λ e. fits Parts (facts_in e) ≡ true)) }
     ensures same { ChangesNothing result (state S.Store tx.old.conn.now) (state S.Store tx.new.conn.now) }
     ensures kept { CommitsNothing (state S.Store tx.old.conn.now) (state S.Store tx.new.conn.now) }
     ensures survives { LeavesNothing (state S.Store tx.old.conn.now) (state S.Store tx.new.conn.now) }
@@ -58,12 +60,11 @@ pub fn head_excerpt_at<S: Alter>(
         return Ok(None);
     };
     let blocks = blocks_of(alloc, tx, name)?;
-    Ok(Some(excerpt_of(alloc, head, blocks, None)))
+    Ok(Some(Excerpt::Parts(head, blocks)))
 }
 
-/// The excerpt of the network for a command on the message of the name, `None` where the network isn't there. The
-/// errors are those of [`head_excerpt_at`].
-pub fn message_excerpt_at<S: Alter>(
+/// The head and the message of the name.
+fn message_excerpt<S: Alter>(
     alloc: Global,
     tx: &mut Transaction<'_, S>,
     name: &NetName,
@@ -71,7 +72,9 @@ pub fn message_excerpt_at<S: Alter>(
 ) -> Result<Option<Excerpt>, Error>
     ensures same_reference { tx.new.conn.ghost_name ≡ tx.old.conn.ghost_name }
     ensures found { Finds result (state S.Store tx.old.conn.now) (state S.Store tx.new.conn.now)
-        (λ found t. (net : Option Network) → IsReadIn name.now t net → ShowsExcerpt message.now net found) }
+        (λ found t. (net : Option Network) → IsReadIn name.now t net
+        → (team : List ℕ) → IsExcerptIn team (Message message.now) net found) }
+    ensures fits { IfOk result (λ found. IfSome found (λ e. fits (Message message.now) (facts_in e) ≡ true)) }
     ensures same { ChangesNothing result (state S.Store tx.old.conn.now) (state S.Store tx.new.conn.now) }
     ensures kept { CommitsNothing (state S.Store tx.old.conn.now) (state S.Store tx.new.conn.now) }
     ensures survives { LeavesNothing (state S.Store tx.old.conn.now) (state S.Store tx.new.conn.now) }
@@ -79,14 +82,13 @@ pub fn message_excerpt_at<S: Alter>(
     let Some(head) = head_of(alloc, tx, name)? else {
         return Ok(None);
     };
-    let blocks = blocks_of(alloc, tx, name)?;
     let found = message_at(alloc, tx, name, message)?;
-    Ok(Some(excerpt_of(alloc, head, blocks, found)))
+    Ok(Some(Excerpt::Message(head, found)))
 }
 
-/// The excerpt of the network for a `retire` of the message of the name, `None` where the network isn't there. The
-/// errors are those of [`head_excerpt_at`].
-pub fn retire_excerpt_at<S: Alter>(
+/// The head and the message of the name, and whether a release has its identifier: whether the last one has it, which in
+/// the network of an office has each live message that was released.
+fn retiring_excerpt<S: Alter>(
     alloc: Global,
     tx: &mut Transaction<'_, S>,
     name: &NetName,
@@ -94,19 +96,52 @@ pub fn retire_excerpt_at<S: Alter>(
 ) -> Result<Option<Excerpt>, Error>
     ensures same_reference { tx.new.conn.ghost_name ≡ tx.old.conn.ghost_name }
     ensures found { Finds result (state S.Store tx.old.conn.now) (state S.Store tx.new.conn.now)
-        (λ found t. (net : Option Network) → IsNetAt name.now t net
-        → MatchBoth (IsRetireExcerpt message.now) net found) }
+        (λ found t. (net : Option Network) → IsNetAt name.now t net → IfSome net IsNet
+        → (team : List ℕ) → IsExcerptIn team (Retiring message.now) net found) }
+    ensures fits { IfOk result (λ found. IfSome found (λ e. fits (Retiring message.now) (facts_in e) ≡ true)) }
     ensures same { ChangesNothing result (state S.Store tx.old.conn.now) (state S.Store tx.new.conn.now) }
     ensures kept { CommitsNothing (state S.Store tx.old.conn.now) (state S.Store tx.new.conn.now) }
     ensures survives { LeavesNothing (state S.Store tx.old.conn.now) (state S.Store tx.new.conn.now) }
 {
-    let Some(mut excerpt) = message_excerpt_at(alloc, tx, name, message)? else {
+    let Some(head) = head_of(alloc, tx, name)? else {
         return Ok(None);
     };
-    let ident = match &excerpt.found {
+    let found = message_at(alloc, tx, name, message)?;
+    let ident = match &found {
         Some(live) => live.message.ident,
-        None => return Ok(Some(excerpt)),
+        None => return Ok(Some(Excerpt::Retiring(head, None, false))),
     };
-    excerpt.released = last_has_at(alloc, tx, name, ident)?;
-    Ok(Some(excerpt))
+    let released = last_has_at(alloc, tx, name, ident)?;
+    Ok(Some(Excerpt::Retiring(head, found, released)))
+}
+
+/// What the tables have of the network for the team and the scope, which isn't the whole network; `None` where the
+/// network isn't there. An error is out of memory, what `sqlite` answers, or `InvalidQuery` where the rows are no
+/// network's.
+pub fn excerpt_at<S: Alter>(
+    alloc: Global,
+    tx: &mut Transaction<'_, S>,
+    name: &NetName,
+    team: &Team,
+    scope: &Scope<'_>,
+) -> Result<Option<Excerpt>, Error>
+    requires { is_part (scope_as scope.now) ≡ true }
+    ensures same_reference { tx.new.conn.ghost_name ≡ tx.old.conn.ghost_name }
+    ensures found { Finds result (state S.Store tx.old.conn.now) (state S.Store tx.new.conn.now)
+        (λ found t. (net : Option Network) → IsNetAt name.now t net → IfSome net IsNet
+        → IsExcerptIn team.now (scope_as scope.now) net found) }
+    ensures fits { IfOk result (λ found. IfSome found (λ e. fits (scope_as scope.now) (facts_in e) ≡ true)) }
+    ensures same { ChangesNothing result (state S.Store tx.old.conn.now) (state S.Store tx.new.conn.now) }
+    ensures kept { CommitsNothing (state S.Store tx.old.conn.now) (state S.Store tx.new.conn.now) }
+    ensures survives { LeavesNothing (state S.Store tx.old.conn.now) (state S.Store tx.new.conn.now) }
+{
+    match scope {
+        Scope::Head => head_excerpt(alloc, tx, name),
+        Scope::Parts => parts_excerpt(alloc, tx, name),
+        Scope::Message(message) => message_excerpt(alloc, tx, name, message),
+        Scope::Retiring(message) => retiring_excerpt(alloc, tx, name, message),
+        Scope::Idents(take) => ident_excerpt(alloc, tx, name, team, take),
+        Scope::Groups(take) => group_excerpt(alloc, tx, name, take),
+        Scope::Whole => unreachable!(),
+    }
 }

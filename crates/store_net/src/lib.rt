@@ -8,10 +8,9 @@
 //! release and as no other sheet. [`nets_text`] lists all networks (`AreNets`), and
 //! [`names_of`] gives their names. [`live_of`] reads live messages that are bodies, the form of profile 1.
 //!
-//! A command on one message reads that message alone ([`message_excerpt_at`]). One that gives out a number reads no
-//! message: of the identifiers of live messages and the held ones [`ident_excerpt_at`] reads those in the team's
-//! blocks, and [`group_excerpt_at`] those of 29 bits (`heads`, `ranges`). `IsExcerptOf` of `office_facts` says what is
-//! decided by such an excerpt as by the network.
+//! [`excerpt_at`] reads what an action reads of its network, as the action's scope says (`office_facts`), and no more: one
+//! on a message reads no other message, and one that gives out a number reads none, but the identifiers that are live or
+//! held in the team's blocks, or, for a parameter group, of 29 bits (`number_excerpt`, `heads`, `ranges`).
 //!
 //! Writing: [`write_changes`] writes the rows of a list of changes (`writing`, `change_rows`, `setting`): each removes
 //! the rows of its key and adds its own, so that the tables follow what the changes do at the network and in the book.
@@ -49,13 +48,12 @@ mod setting;
 mod strays;
 mod writing;
 
-pub use excerpt::{head_excerpt_at, message_excerpt_at, retire_excerpt_at};
+pub use excerpt::excerpt_at;
 pub use live::{live_chart, live_table, live_text};
 pub use live_list::live_messages;
 pub use message::message_at;
 pub use message_rows::{remove_message, write_message, write_receivers, write_values};
 pub use nets::{names_of, nets_text};
-pub use number_excerpt::{group_excerpt_at, ident_excerpt_at};
 pub use parts::live_of;
 pub use reading::{book_of, counted_net_at, net_at, unreleased_net_at};
 pub use release::release_text;

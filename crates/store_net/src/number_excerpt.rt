@@ -1,35 +1,33 @@
 //! What a command that gives out a number reads of its network: its row, its blocks, of the live messages whether one
 //! has a name and whether there are as many as there may be, and which identifiers live messages have or are held:
 //! those in the team's blocks, or all of 29 bits. No message is read.
-ghost use Rattle.std.specs.Prelude.{◌≡◌, ◌++◌, ℕ, List, Option, IfOk};
-ghost use Rattle.std.specs.List.{filter_map};
-ghost use Rattle.office_facts.specs.Excerpt.{IsExcerptOf};
-ghost use Rattle.office_rules.specs.Facts.{group_of, number_in};
-ghost use Rattle.office_types.specs.declared.command.Action.TheVariants as act;
-ghost use Rattle.office_types.specs.declared.command.Task.TheVariants.{Act};
+ghost use Rattle.std.specs.Prelude.{◌≡◌, ℕ, List, Option, true, IfOk, IfSome};
+ghost use Rattle.office_facts.specs.Excerpt.{fits};
+ghost use Rattle.office_facts.specs.FactsOf.{facts_in};
+ghost use Rattle.office_facts.specs.Scope.{Groups, Idents};
 ghost use Rattle.office_types.specs.declared.state.Net.{Net as Network};
 ghost use Rattle.sqlite.specs.Held.{state};
-ghost use Rattle.store_net.specs.Excerpts.{HasNameAndRoom, IsReadIn, MatchBoth};
+ghost use Rattle.store_net.specs.Excerpts.{HasNameAndRoom, IsExcerptIn, IsReadIn, MatchBoth};
 ghost use Rattle.office_tables.specs.Statements.{ChangesNothing, CommitsNothing, Finds, LeavesNothing};
 
 use crate::heads::{is_full_at, is_named_at};
 use crate::parts::{blocks_of, head_of};
 use crate::ranges::{TakenTable, idents_at, idents_inside_at, want_taken_at};
-use can_id::{EXTENDED_FLAG, GREATEST_EXTENDED, Ident, IdentForm};
+use can_id::{EXTENDED_FLAG, GREATEST_EXTENDED};
 use catalogue::{Items, Name};
-use office_facts::{Excerpt, blocks_of as team_blocks, group_of, number_in};
+use office_facts::{Excerpt, NumberExcerpt, blocks_of as team_blocks, groups_of, numbers_of};
 use office_types::{BlockForm, NetName, TakeIdent, TakePgn, Team};
 use sqlite::{Alter, Error, Transaction};
-use std::alloc::{AllocError, Global};
+use std::alloc::Global;
 
-/// The excerpt of the network without identifiers: its head, its blocks, whether a live message has the name, and
+/// What is read for each of them, without identifiers: the head and the blocks, whether a live message has the name, and
 /// whether there are as many as there may be. `None` where the network isn't there.
-fn named_excerpt_at<S: Alter>(
+fn name_and_room<S: Alter>(
     alloc: Global,
     tx: &mut Transaction<'_, S>,
     name: &NetName,
     message: &Name,
-) -> Result<Option<Excerpt>, Error>
+) -> Result<Option<NumberExcerpt>, Error>
     ensures same_reference { tx.new.conn.ghost_name ≡ tx.old.conn.ghost_name }
     ensures found { Finds result (state S.Store tx.old.conn.now) (state S.Store tx.new.conn.now)
         (λ found t. (net : Option Network) → IsReadIn name.now t net
@@ -44,48 +42,20 @@ fn named_excerpt_at<S: Alter>(
     let blocks = blocks_of(alloc, tx, name)?;
     let named = is_named_at(tx, name, message)?;
     let full = is_full_at(tx, name)?;
-    Ok(Some(Excerpt {
+    Ok(Some(NumberExcerpt {
         head,
         blocks,
-        found: None,
         named,
         full,
         want_live: false,
         want_held: false,
         taken: Items::new(alloc),
-        released: false,
     }))
 }
 
-/// The numbers of the live and the held identifiers that have the form.
-fn numbers_of(
-    alloc: Global,
-    form: IdentForm,
-    live: &[Ident],
-    held: &[Ident],
-) -> Result<Vec<u32>, AllocError>
-    ensures { IfOk result (λ numbers. numbers.items ≡ filter_map (number_in form) (live.now ++ held.now)) }
-{
-    live.iter()
-        .chain(held.iter())
-        .filter_map(|ident| number_in(form, *ident))
-        .collect(alloc)
-}
-
-/// The parameter groups of the live and the held identifiers.
-fn groups_of(alloc: Global, live: &[Ident], held: &[Ident]) -> Result<Vec<u32>, AllocError>
-    ensures { IfOk result (λ groups. groups.items ≡ filter_map group_of (live.now ++ held.now)) }
-{
-    live.iter()
-        .chain(held.iter())
-        .filter_map(|ident| group_of(*ident))
-        .collect(alloc)
-}
-
-/// The excerpt of the network for the team's `take_ident`, `None` where the network isn't there. Of the live and the
-/// held identifiers it reads those in the team's blocks of the form, and the wanted one. An error is out of memory,
-/// what `sqlite` answers, or `InvalidQuery` where the rows are no network's.
-pub fn ident_excerpt_at<S: Alter>(
+/// The excerpt for the team's `take_ident`, `None` where the network isn't there. Of the live and the held identifiers it
+/// reads those in the team's blocks of the form, and the wanted one.
+pub(crate) fn ident_excerpt<S: Alter>(
     alloc: Global,
     tx: &mut Transaction<'_, S>,
     name: &NetName,
@@ -95,12 +65,13 @@ pub fn ident_excerpt_at<S: Alter>(
     ensures same_reference { tx.new.conn.ghost_name ≡ tx.old.conn.ghost_name }
     ensures found { Finds result (state S.Store tx.old.conn.now) (state S.Store tx.new.conn.now)
         (λ found t. (net : Option Network) → IsReadIn name.now t net
-        → MatchBoth (λ net e. IsExcerptOf team.now net (Act (act.TakeIdent take.now)) e) net found) }
+        → IsExcerptIn team.now (Idents take.now) net found) }
+    ensures fits { IfOk result (λ found. IfSome found (λ e. fits (Idents take.now) (facts_in e) ≡ true)) }
     ensures same { ChangesNothing result (state S.Store tx.old.conn.now) (state S.Store tx.new.conn.now) }
     ensures kept { CommitsNothing (state S.Store tx.old.conn.now) (state S.Store tx.new.conn.now) }
     ensures survives { LeavesNothing (state S.Store tx.old.conn.now) (state S.Store tx.new.conn.now) }
 {
-    let Some(mut excerpt) = named_excerpt_at(alloc, tx, name, &take.message.name)? else {
+    let Some(mut excerpt) = name_and_room(alloc, tx, name, &take.message.name)? else {
         return Ok(None);
     };
     let form = take.form;
@@ -118,12 +89,12 @@ pub fn ident_excerpt_at<S: Alter>(
     excerpt.want_live = want_live;
     excerpt.want_held = want_held;
     excerpt.taken = Items::from_vec(numbers);
-    Ok(Some(excerpt))
+    Ok(Some(Excerpt::Numbers(excerpt)))
 }
 
-/// The excerpt of the network for a `take_pgn`, of whatever team; `None` where the network isn't there. Of the live and
-/// the held identifiers it reads all of 29 bits. The errors are those of [`ident_excerpt_at`].
-pub fn group_excerpt_at<S: Alter>(
+/// The excerpt for a `take_pgn`, of whatever team; `None` where the network isn't there. Of the live and the held
+/// identifiers it reads all of 29 bits.
+pub(crate) fn group_excerpt<S: Alter>(
     alloc: Global,
     tx: &mut Transaction<'_, S>,
     name: &NetName,
@@ -132,12 +103,13 @@ pub fn group_excerpt_at<S: Alter>(
     ensures same_reference { tx.new.conn.ghost_name ≡ tx.old.conn.ghost_name }
     ensures found { Finds result (state S.Store tx.old.conn.now) (state S.Store tx.new.conn.now)
         (λ found t. (net : Option Network) → IsReadIn name.now t net
-        → (team : List ℕ) → MatchBoth (λ net e. IsExcerptOf team net (Act (act.TakePgn take.now)) e) net found) }
+        → (team : List ℕ) → IsExcerptIn team (Groups take.now) net found) }
+    ensures fits { IfOk result (λ found. IfSome found (λ e. fits (Groups take.now) (facts_in e) ≡ true)) }
     ensures same { ChangesNothing result (state S.Store tx.old.conn.now) (state S.Store tx.new.conn.now) }
     ensures kept { CommitsNothing (state S.Store tx.old.conn.now) (state S.Store tx.new.conn.now) }
     ensures survives { LeavesNothing (state S.Store tx.old.conn.now) (state S.Store tx.new.conn.now) }
 {
-    let Some(mut excerpt) = named_excerpt_at(alloc, tx, name, &take.message.name)? else {
+    let Some(mut excerpt) = name_and_room(alloc, tx, name, &take.message.name)? else {
         return Ok(None);
     };
     let last = EXTENDED_FLAG + GREATEST_EXTENDED;
@@ -145,5 +117,5 @@ pub fn group_excerpt_at<S: Alter>(
     let held = idents_at(alloc, tx, name, TakenTable::Held, EXTENDED_FLAG, last)?;
     let groups = groups_of(alloc, live.as_slice(), held.as_slice())?;
     excerpt.taken = Items::from_vec(groups);
-    Ok(Some(excerpt))
+    Ok(Some(Excerpt::Numbers(excerpt)))
 }

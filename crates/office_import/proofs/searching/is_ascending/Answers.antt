@@ -1,5 +1,5 @@
 use Rattle.office_import.specs.Searching.{number_by}
-use Rattle.office_import.proofs.Searched.{ascends}
+use Rattle.office_facts.proofs.Searched.{ascends}
 use Rattle.office_import.proofs.searching.is_ascending.Goals as goal
 
 pub returns : goal.returns

@@ -1,5 +1,5 @@
 use Rattle.office_import.specs.Searching.{number_by}
-use Rattle.office_import.proofs.Searched.{Climbs}
+use Rattle.office_facts.proofs.Searched.{Climbs}
 use Rattle.office_import.proofs.searching.is_ascending.Given as goal
 
 abbrev pub invariant-loop-i : goal.invariant-loop-i

@@ -1,7 +1,7 @@
 use Rattle.std.proofs.Common.{◌≡◌, ◌+◌, ◌-◌, ap, sym, take, drop, arith, ◌∙◌}
 use Rattle.std.specs.List.{list_any}
 use Rattle.office_import.specs.Searching.{number_by}
-use Rattle.office_import.proofs.Searched.{gap_passes, passes_at}
+use Rattle.office_facts.proofs.Searched.{gap_passes, passes_at}
 use Rattle.office_import.proofs.searching.Searching.of_number.Goals as goal
 
 pub returns-in-Ok : goal.returns-in-Ok

@@ -1,9 +1,0 @@
-use Rattle.std.proofs.Common.{◌≡◌}
-use Rattle.std.specs.Option.{option_copied}
-use Rattle.office.proofs.BundleDecided.{IsProgress}
-use Rattle.office.proofs.bundling.decide_bundle.Given as goal
-
-abbrev pub invariant-loop-part : goal.invariant-loop-part
-invariant-loop-part l =
-    (l.part_number ≡ l.part-index)
-    × IsProgress l.fn.team l.fn.name (record { net = option_copied l.fn.net; book = l.fn.book }) l.fn.parts l.part-index l.progress

@@ -1,0 +1,3 @@
+mod BundleDecided
+pub mod ByFacts
+mod Decisions

@@ -1,0 +1,2 @@
+pub mod Bundled
+pub mod Imported

@@ -1,0 +1,58 @@
+use Rattle.std.proofs.Common.{◌≡◌, ◌∙◌, List, length, refl, sym, subst, arith}
+use Rattle.std.specs.Prelude.{nat_le}
+use Rattle.sqlite.specs.Effect.{Database}
+use Rattle.sqlite.specs.Held.{state}
+use Rattle.sqlite.specs.State.{HasCleanDisk}
+use Rattle.catalogue.specs.Limits.{message_limit}
+use Rattle.catalogue.specs.Named.{has_name}
+use Rattle.office_types.specs.declared.state.LiveMessage.{LiveMessage}
+use Rattle.office_rules.specs.Facts.{live_name}
+use Rattle.office_tables.specs.Tables.{IsOffice, tables_of}
+use Rattle.store_rows.specs.Live.{AreLiveRows, live_rows}
+use Rattle.store_net.specs.Excerpts.{HasNameAndRoom}
+use Rattle.store_net.specs.Parts.{HasBlocks}
+use Rattle.store_net.proofs.Excerpts.{none_there, one_there}
+use Rattle.store_net.proofs.Whole.{nothing_left, read_before}
+use Rattle.store_net.proofs.number_excerpt.name_and_room.Goals as goal
+
+pub returns-in_default-clause-found : goal.returns-in_default-clause-found
+returns-in_default-clause-found g c clean office net at =
+    none_there (HasNameAndRoom c.args.message.now) c.args.name.now (tables_of (state g.S.Store c.args.tx.now.conn.now).now.trees) net
+    (λ other h. sym c.in_default.is ∙ c.in_ok-head.ensures.found clean office other h) at
+
+pub returns-clause-found : goal.returns-clause-found
+returns-clause-found g c clean office net at =
+    let name = c.args.name.now in
+    let message = c.args.message.now in
+    let s0 = state g.S.Store c.args.tx.now.conn.now in
+    let s1 = state g.S.Store c.head_of.new.tx.conn.now in
+    let s2 = state g.S.Store c.blocks_of.new.tx.conn.now in
+    let s3 = state g.S.Store c.is_named_at.new.tx.conn.now in
+    let clean3 : HasCleanDisk s3 = omega (arith, c.is_full_at.ensures.survives.clean, clean) in
+    let clean2 : HasCleanDisk s2 = omega (arith, c.is_named_at.ensures.survives.clean, clean3) in
+    let clean1 : HasCleanDisk s1 = omega (arith, c.blocks_of.ensures.survives.clean, clean2) in
+    let now1 : s1.now ≡ s0.now = (c.in_ok-head.ensures.same clean1 office).0.now_is in
+    let office1 : IsOffice s1.now = subst IsOffice (sym now1) office in
+    let now2 : s2.now ≡ s0.now = (c.in_ok-blocks.ensures.same clean2 office1).0.now_is ∙ now1 in
+    let office2 : IsOffice s2.now = subst IsOffice (sym now2) office in
+    let now3 : s3.now ≡ s0.now = (c.in_ok-named.ensures.same clean3 office2).0.now_is ∙ now2 in
+    let office3 : IsOffice s3.now = subst IsOffice (sym now3) office in
+    let blocks = read_before (HasBlocks name) c.in_ok-blocks.blocks s1.now s0.now now1 (c.in_ok-blocks.ensures.found clean2 office1) in
+    let named = subst (λ (d : Database). (live : List LiveMessage) → AreLiveRows name (live_rows name (tables_of d.trees)) live → c.in_ok-named.named ≡ has_name live_name live message) now2
+    (c.in_ok-named.ensures.found clean3 office2) in
+    let full = subst (λ (d : Database). (live : List LiveMessage) → AreLiveRows name (live_rows name (tables_of d.trees)) live → c.in_ok-full.full ≡ nat_le message_limit (length live)) now3
+    (c.in_ok-full.ensures.found clean office3) in
+    one_there (HasNameAndRoom message) name (tables_of s0.now.trees) net c.in-Some.head _
+    (λ other h. sym c.in-Some.is ∙ c.in_ok-head.ensures.found clean1 office other h)
+    (λ n parts same. record {
+      head = same;
+      blocks = blocks n.blocks parts.blocks;
+      named = named n.live parts.live;
+      full = full n.live parts.live;
+      want_live = refl;
+      want_held = refl;
+    }) at
+
+pub returns-clause-survives : goal.returns-clause-survives
+returns-clause-survives g c =
+    nothing_left _ _ _ c.head_of.ensures.survives (nothing_left _ _ _ c.blocks_of.ensures.survives (nothing_left _ _ _ c.is_named_at.ensures.survives c.is_full_at.ensures.survives))

@@ -8,8 +8,9 @@ use Rattle.serde_json.specs.Find.{as_array, as_bool, as_number, as_object, as_st
 use Rattle.serde_json.specs.Read.{read}
 use Rattle.office_types.specs.declared.command.Command.{Command}
 use Rattle.office_fields.specs.Requested.{command_of}
-use Rattle.office_fields.specs.Field.{fields_of, row_of}
+use Rattle.office_fields.specs.Field.{row_of}
 use Rattle.office_fields.specs.Given.{NamedValue}
+use Rattle.office_fields.specs.Kind.{fields_of}
 use Rattle.office_fields.specs.Value.{◌>>=◌, where_true}
 use Rattle.office_fields.specs.declared.field.Field.{Field}
 use Rattle.office_fields.specs.declared.field.FieldKind.{FieldKind}

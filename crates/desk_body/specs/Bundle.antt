@@ -6,9 +6,8 @@ use Rattle.serde_json.specs.Data.{Data, Items, no_items, item, Members, no_membe
 use Rattle.serde_json.specs.Find.{as_array, as_object, as_str, get}
 use Rattle.office_types.specs.declared.command.Action.{Action}
 use Rattle.office_fields.specs.Requested.{are_parts, part_of}
-use Rattle.office_fields.specs.Field.{part_fields}
 use Rattle.office_fields.specs.Given.{NamedValue}
-use Rattle.office_fields.specs.Kind.{action_of_word}
+use Rattle.office_fields.specs.Kind.{action_of_word, part_fields}
 use Rattle.office_fields.specs.Value.{◌>>=◌, where_true}
 use Rattle.office_fields.specs.declared.field.Field.{Field}
 use Rattle.office_fields.specs.declared.kind.ActionKind.{ActionKind}

@@ -1,8 +1,9 @@
 //! What the decisions on commands share: what they read of a network, and decisions of few changes.
 //!
-//! [`scope_of`] says what an action reads of its network. What is read are [`Facts`], wherever the network is kept: of a
-//! network in memory they are borrowed, and of one in rows they are those of an [`Excerpt`]. `specs/Scope.antt` has what
-//! each action reads, and `specs/Excerpt.antt` which facts are a network's.
+//! [`scope_of`] says what an action reads of its network, and [`reads_releases`] whether it reads releases. What is read
+//! are [`Facts`], wherever the network is kept: of a network in memory they are borrowed, and of one in rows they are
+//! those of an [`Excerpt`]. `specs/Scope.antt` has what each action reads, and `specs/Excerpt.antt` which facts are a
+//! network's.
 //!
 //! [`MessageFacts`] is what commands on a live message read, [`NumberFacts`] what those that give out a number read, with
 //! the [`TakenNumbers`], of which [`NumberSet`] is one kind. `facts` has what the tests read of a network's parts,
@@ -39,5 +40,5 @@ pub use idents::{group_of, has_ident, ident_is, number_in};
 pub use message::{MessageFacts, message_facts, was_released};
 pub use number_set::NumberSet;
 pub use numbers::NumberFacts;
-pub use scope::{Scope, reads_book, reads_part, scope_of};
+pub use scope::{Scope, reads_bodies, reads_book, reads_part, reads_releases, scope_of};
 pub use taken::{TakenNumbers, groups_of, number_set_of, numbers_of};

@@ -1,6 +1,8 @@
-//! What an action reads of its network.
+//! What an action reads of its network, of the book and of releases.
 ghost use Rattle.std.specs.Prelude.{◌≡◌};
+ghost use Rattle.std.specs.List.{list_any};
 ghost use Rattle.office_facts.specs.Scope.{reads_part, reads_book, scope_as, scope_of};
+ghost use Rattle.office_rules.specs.Commands.{action_reads_bodies, action_reads_releases, reads_bodies, reads_releases};
 
 use catalogue::Name;
 use office_types::{Action, BlockForm, TakeIdent, TakePgn, Task};
@@ -61,5 +63,53 @@ pub fn reads_book(task: &Task) -> bool
         Task::Act(Action::Grant(grant)) => grant.block.form() == BlockForm::Spn,
         Task::Act(action) => matches!(action, Action::TakeSpn(_)),
         Task::Import(_) | Task::Bundle(_) => false,
+    }
+}
+
+fn action_reads_releases(action: &Action) -> bool
+    ensures { result ≡ action_reads_releases action.now }
+{
+    matches!(action, Action::Retire(_) | Action::Release)
+}
+
+/// Whether one of the actions depends on the releases of its network.
+fn one_reads_releases(parts: &[Action]) -> bool
+    ensures { result ≡ list_any action_reads_releases parts.now }
+{
+    parts.iter().any(|part| action_reads_releases(part))
+}
+
+/// Whether the task depends on the releases of its network.
+pub fn reads_releases(task: &Task) -> bool
+    ensures { result ≡ reads_releases task.now }
+{
+    match task {
+        Task::Act(action) => action_reads_releases(action),
+        Task::Import(_) => false,
+        Task::Bundle(parts) => one_reads_releases(parts.as_slice()),
+    }
+}
+
+fn action_reads_bodies(action: &Action) -> bool
+    ensures { result ≡ action_reads_bodies action.now }
+{
+    matches!(action, Action::Retire(_))
+}
+
+/// Whether one of the actions depends on what is in the releases of its network.
+fn one_reads_bodies(parts: &[Action]) -> bool
+    ensures { result ≡ list_any action_reads_bodies parts.now }
+{
+    parts.iter().any(|part| action_reads_bodies(part))
+}
+
+/// Whether the task depends on what is in the releases of its network, and not only on how many there are.
+pub fn reads_bodies(task: &Task) -> bool
+    ensures { result ≡ reads_bodies task.now }
+{
+    match task {
+        Task::Act(action) => action_reads_bodies(action),
+        Task::Import(_) => false,
+        Task::Bundle(parts) => one_reads_bodies(parts.as_slice()),
     }
 }

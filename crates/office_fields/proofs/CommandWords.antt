@@ -7,18 +7,6 @@ use Rattle.office_fields.specs.Kind.{kind_of_word, word_of}
 
 pub named_back : (kind : CommandKind) → kind_of_word (word_of kind) ≡ Some kind
 named_back (Act act.OpenNet) = refl
-named_back (Act act.Grant) = refl
-named_back (Act act.AddNode) = refl
-named_back (Act act.TakeIdent) = refl
-named_back (Act act.TakePgn) = refl
-named_back (Act act.TakeSpn) = refl
-named_back (Act act.TakeBits) = refl
-named_back (Act act.SetValues) = refl
-named_back (Act act.RemoveSignal) = refl
-named_back (Act act.Retire) = refl
-named_back (Act act.Submit) = refl
-named_back (Act act.Approve) = refl
-named_back (Act act.Reject) = refl
-named_back (Act act.Release) = refl
+named_back (Act kind) = refl
 named_back Import = refl
 named_back Bundle = refl

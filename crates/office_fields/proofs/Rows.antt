@@ -11,10 +11,9 @@ use Rattle.office_fields.specs.declared.field.Field.TheVariants as field
 use Rattle.office_fields.specs.declared.field.FieldKind.TheVariants as kind
 use Rattle.office_fields.specs.declared.kind.ActionKind.TheVariants as act
 use Rattle.office_fields.specs.declared.kind.CommandKind.TheVariants.{Act, Import}
-use Rattle.office_fields.specs.Action.{pdu_of, range_of}
 use Rattle.office_fields.specs.Requested.{requested_of}
 use Rattle.office_fields.specs.Given.{NamedValue, are_known, given, values_of}
-use Rattle.office_fields.specs.Kind.{kind_of_word}
+use Rattle.office_fields.specs.Kind.{kind_of_word, pdu_of, range_of}
 use Rattle.office_fields.specs.Value.{value_from}
 
 -- ---- words

@@ -1,15 +1,11 @@
--- The fields of the commands: the table.
-use Rattle.std.specs.Prelude.{ℕ, List, [], ◌∷◌, codes}
+-- The table of fields.
+use Rattle.std.specs.Prelude.{ℕ, List, codes}
 use Rattle.office_fields.specs.declared.field.Field.{Field}
 use Rattle.office_fields.specs.declared.field.Field.TheVariants as field
 use Rattle.office_fields.specs.declared.field.FieldKind.{FieldKind}
 use Rattle.office_fields.specs.declared.field.FieldKind.TheVariants as kind
 use Rattle.office_fields.specs.declared.field.Occurrence.{Occurrence}
 use Rattle.office_fields.specs.declared.field.Occurrence.TheVariants.{Required, Optional, Repeated}
-use Rattle.office_fields.specs.declared.kind.ActionKind.{ActionKind}
-use Rattle.office_fields.specs.declared.kind.ActionKind.TheVariants as act
-use Rattle.office_fields.specs.declared.kind.CommandKind.{CommandKind}
-use Rattle.office_fields.specs.declared.kind.CommandKind.TheVariants.{Act, Import, Bundle}
 
 -- a field: its name, the kind of its values, and how often it may be given
 pub record Row : Type 0 where
@@ -62,33 +58,3 @@ row_of field.Receiver = repeated (codes "receiver") kind.Name
 row_of field.Start = optional (codes "start") kind.Start
 row_of field.Value = repeated (codes "value") kind.ValueText
 row_of field.File = required (codes "file") kind.Path
-
--- the fields of an action beside the network
-abbrev pub action_fields : ActionKind → List Field
-action_fields act.OpenNet = field.Kind ∷ field.Reviews ∷ []
-action_fields act.Grant = field.Team ∷ field.BlockForm ∷ field.First ∷ field.Last ∷ []
-action_fields act.AddNode = field.Name ∷ []
-action_fields act.TakeIdent = field.IdentForm ∷ field.Name ∷ field.Length ∷ field.Node ∷ field.Want ∷ []
-action_fields act.TakePgn =
-    field.Name ∷ field.Length ∷ field.Node ∷ field.Pdu ∷ field.Priority ∷ field.Source ∷ field.Destination ∷ []
-action_fields act.TakeSpn = field.Message ∷ field.Signal ∷ field.Same ∷ []
-action_fields act.TakeBits =
-    field.Message ∷ field.Signal ∷ field.Size ∷ field.Order ∷ field.Signed ∷ field.Mux ∷ field.Factor ∷ field.Offset ∷
-    field.Minimum ∷ field.Maximum ∷ field.Unit ∷ field.Receiver ∷ field.Start ∷ []
-action_fields act.SetValues = field.Message ∷ field.Signal ∷ field.Value ∷ []
-action_fields act.RemoveSignal = field.Message ∷ field.Signal ∷ []
-action_fields act.Retire = field.Message ∷ []
-action_fields act.Submit = []
-action_fields act.Approve = []
-action_fields act.Reject = []
-action_fields act.Release = []
-
--- the fields of a command
-abbrev pub fields_of : CommandKind → List Field
-fields_of (Act k) = field.Net ∷ action_fields k
-fields_of Import = field.Net ∷ field.File ∷ []
-fields_of Bundle = field.Net ∷ field.File ∷ []
-
--- those of a part of a bundle, which doesn't name its network
-abbrev pub part_fields : ActionKind → List Field
-part_fields k = action_fields k

@@ -12,9 +12,8 @@ use Rattle.office_fields.specs.declared.field.Field.TheVariants as field
 use Rattle.office_fields.specs.declared.kind.ActionKind.{ActionKind}
 use Rattle.office_fields.specs.declared.kind.CommandKind.{CommandKind}
 use Rattle.office_fields.specs.declared.kind.CommandKind.TheVariants.{Act, Import, Bundle}
-use Rattle.office_fields.specs.Action.{action_of}
-use Rattle.office_fields.specs.Field.{fields_of, part_fields}
 use Rattle.office_fields.specs.Given.{NamedValue, are_known, given}
+use Rattle.office_fields.specs.Kind.{action_of, fields_of, part_fields}
 use Rattle.office_fields.specs.Value.{◌>>=◌, where_true}
 
 -- a command, where no value is of another field

@@ -18,7 +18,7 @@ pub enum Field {
     First,
     /// `last`: the greatest number of a block.
     Last,
-    /// `name` of a new node or message.
+    /// `name`: the name that a node or a message is to have.
     Name,
     /// `form` of an identifier.
     IdentForm,

@@ -1,5 +1,5 @@
 //! New messages.
-ghost use Rattle.office_fields.specs.Action.{addressed_to, new_message_of, pdu_of, take_ident_of, take_pgn_of};
+ghost use Rattle.office_fields.specs.Kind.{addressed_to, new_message_of, pdu_of, take_ident_of, take_pgn_of};
 ghost use Rattle.office_fields.specs.Given.{named_values};
 ghost use Rattle.office_fields.specs.Reading.{Reads};
 

@@ -1,5 +1,5 @@
 //! Networks and blocks.
-ghost use Rattle.office_fields.specs.Action.{grant_of, open_net_of, range_of};
+ghost use Rattle.office_fields.specs.Kind.{grant_of, open_net_of, range_of};
 ghost use Rattle.office_fields.specs.Given.{named_values};
 ghost use Rattle.office_fields.specs.Reading.{Reads};
 

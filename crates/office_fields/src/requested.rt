@@ -4,10 +4,9 @@ ghost use Rattle.office_fields.specs.Requested.{requested_of, command_of, file_i
 ghost use Rattle.office_fields.specs.Given.{named_values};
 ghost use Rattle.office_fields.specs.Reading.{Reads};
 
-use crate::actions::action_of;
 use crate::field::Field;
 use crate::given::{GivenValue, are_known, once};
-use crate::kind::{ActionKind, CommandKind};
+use crate::kind::{ActionKind, CommandKind, action_of};
 use crate::path::FilePath;
 use crate::unread::Unread;
 use catalogue::Items;

@@ -1,5 +1,5 @@
 //! Signals of live messages.
-ghost use Rattle.office_fields.specs.Action.{coding_of, path_of, scaling_of, set_values_of, take_bits_of, take_spn_of};
+ghost use Rattle.office_fields.specs.Kind.{coding_of, path_of, scaling_of, set_values_of, take_bits_of, take_spn_of};
 ghost use Rattle.office_fields.specs.Given.{named_values};
 ghost use Rattle.office_fields.specs.Reading.{Reads};
 

@@ -14,7 +14,8 @@ use Rattle.office_rules.specs.Step.{net_named}
 use Rattle.office_law.specs.Apart.{KeepsReleases, NetworksAreApart}
 use Rattle.office_law.proofs.ApartBook.{task_alike}
 use Rattle.office_law.proofs.ApartReplies.{Agree, agree_task}
-use Rattle.office_law.proofs.Left.{AreReleasesAfter, IsLeft, left_task}
+use Rattle.office_law.proofs.Leaving.{left_task}
+use Rattle.office_law.proofs.Left.{AreReleasesAfter, IsLeft}
 use Rattle.office_law.proofs.NetsApart.{nets_apart}
 use Rattle.office_law.proofs.Passing.{Leaves}
 

@@ -24,7 +24,8 @@ use Rattle.office_rules.specs.Opening.{grant, grant_tests, granted}
 use Rattle.office_rules.specs.Outcome.{Entries, Outcome, Refusing, Changing, entered, given_or, on_net, refused_or, reply_of, unless}
 use Rattle.office_rules.specs.Signals.{spn_given, take_spn, take_spn_tests, with_spn}
 use Rattle.office_law.specs.Histories.{net_after}
-use Rattle.office_law.proofs.Left.{IsAnswer, IsLeft, left_act, left_task}
+use Rattle.office_law.proofs.Leaving.{left_act, left_task}
+use Rattle.office_law.proofs.Left.{IsAnswer, IsLeft}
 use Rattle.office_law.proofs.Passing.{Leaves}
 
 -- where both are answered, and alike, they leave one network

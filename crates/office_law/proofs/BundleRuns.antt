@@ -23,7 +23,8 @@ use Rattle.office_rules.specs.Profile.{Profile}
 use Rattle.office_rules.specs.Step.{IsRead, Run, Step, file_wanted, net_named, office_after}
 use Rattle.office_law.specs.Bundles.{BundlesRunTheirParts, IsPartRefused, command_of, requests_of}
 use Rattle.office_law.specs.Histories.{AreInOrder}
-use Rattle.office_law.proofs.Left.{IsLeft, left_act, name_of}
+use Rattle.office_law.proofs.Leaving.{left_act}
+use Rattle.office_law.proofs.Left.{IsLeft, name_of}
 use Rattle.office_law.proofs.NetsApart.{name_of_found}
 use Rattle.office_law.proofs.OrderedNets.{equal_order, own_put, put_found, sorted_after}
 use Rattle.office_law.proofs.Parts.{entered_both}

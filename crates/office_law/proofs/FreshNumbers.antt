@@ -39,7 +39,7 @@ use Rattle.office_rules.specs.Outcome.{Entries, no_entries, Outcome, Changing, e
 use Rattle.office_rules.specs.Signals.{spn_entered, spn_given, take_spn, take_spn_tests, with_spn}
 use Rattle.office_law.specs.Fresh.{GivesGroup, GivesIdent, GivesSpn, IsGrown, NumbersAreFresh, AreJoined, GivesFile}
 use Rattle.office_law.proofs.Fresh.{free_given, free_least, group_taken, identifier_of, other_group}
-use Rattle.office_law.proofs.Going.{group_with, is_group, small_address, small_number}
+use Rattle.office_law.proofs.NumberLaws.{group_with, is_group, small_address, small_number}
 use Rattle.office_law.proofs.Idents.{not_held, not_live, same_number}
 use Rattle.office_law.proofs.Inverting.{given, passed, same_Changing}
 use Rattle.office_law.proofs.KeptBook.{now_used, still_used}

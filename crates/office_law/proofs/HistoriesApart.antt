@@ -20,7 +20,8 @@ use Rattle.office_law.specs.Apart.{needs_book}
 use Rattle.office_law.specs.Histories.{AreInOrder, OneHistoryOneNetwork, RepliesApart, history, net_after}
 use Rattle.office_law.proofs.ApartBook.{task_alike}
 use Rattle.office_law.proofs.ApartReplies.{one_reply_one_network}
-use Rattle.office_law.proofs.Left.{IsAnswer, IsLeft, left_task}
+use Rattle.office_law.proofs.Leaving.{left_task}
+use Rattle.office_law.proofs.Left.{IsAnswer, IsLeft}
 use Rattle.office_law.proofs.OneStep.{steps_agree}
 use Rattle.office_law.proofs.Passing.{Leaves}
 use Rattle.office_law.proofs.NetsApart.{nets_apart}

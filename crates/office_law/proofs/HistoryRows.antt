@@ -11,7 +11,7 @@ use Rattle.office_types.specs.declared.reply.Reply.TheVariants.{Done, Refused}
 use Rattle.office_rules.specs.Outcome.{Refusing}
 use Rattle.office_rules.specs.Profile.{Two}
 use Rattle.office_rules.specs.Step.{TeamCommand, opening}
-use Rattle.office_law.specs.Deciding.{action_tests}
+use Rattle.office_rules.specs.Commands.{action_tests}
 use Rattle.office_law.specs.Histories.{history, net_after}
 
 submits : List ℕ → TeamCommand

@@ -1,147 +1,57 @@
 -- What every office keeps is kept by each step, and by runs of them.
-use Rattle.std.proofs.Common.{◌≡◌, ◌≤◌, ◌+◌, length, ◌∙◌, ◌||◌, not, Bool, true, false, cond, ℕ, List, [], ◌∷◌, Option, Some, None, Contains, inl, inr, refl, sym, ap, subst, arith}
-use Rattle.std.specs.Prelude.{IfSome, is_some}
+use Rattle.std.proofs.Common.{◌≡◌, ◌≤◌, ◌+◌, ◌∙◌, ◌||◌, Bool, true, false, cond, ℕ, List, [], ◌∷◌, Option, Some, None, Contains, inl, inr, refl, sym, ap, subst, arith}
 use Rattle.std.specs.List.{All, IsDistinct, find, list_any}
 use Rattle.std.specs.List.Sorted.{IsStrictlySortedBy}
-use Rattle.std.specs.Ordering.{is_eq, nat_cmp}
+use Rattle.std.specs.Ordering.{is_eq}
+use Rattle.std.specs.Prelude.{IfSome, is_some}
 use Rattle.std.specs.Str.{bytes_eq}
 use Rattle.std.specs.declared.cmp.Ordering.{Ordering}
 use Rattle.std.specs.declared.cmp.Ordering.TheVariants.{Equal}
 use Rattle.std.proofs.lemmas.Bool.{cond_both, false≢true}
 use Rattle.std.proofs.lemmas.Cmp.{nat_list_cmp_total, on_total}
-use Rattle.std.proofs.lemmas.List.Elements.{All-append, All-cons, All-filter, All-head, All-nil, All-tail, All-weaker}
+use Rattle.std.proofs.lemmas.List.Elements.{All-append, All-head, All-nil, All-tail, All-weaker}
 use Rattle.std.proofs.lemmas.List.Folds.{Any-from_list_any, list_any_at}
 use Rattle.std.proofs.lemmas.Map.Text.{is_eq-slice_cmp}
 use Rattle.std.proofs.lemmas.Slice.Eq.{bytes_eq-Decides}
-use Rattle.catalogue.specs.Form.{IsMessage}
 use Rattle.catalogue.specs.Keyed.{put, text_cmp}
 use Rattle.catalogue.proofs.PutKeeps.{All-put, IsStrictlySortedBy-put}
-use Rattle.catalogue.specs.Refusing.{Test}
-use Rattle.office_types.specs.declared.command.Action.{Action}
-use Rattle.office_types.specs.declared.command.Action.TheVariants as act
-use Rattle.office_types.specs.declared.command.Command.{Command}
-use Rattle.office_types.specs.declared.command.Task.{Task}
-use Rattle.office_types.specs.declared.command.Task.TheVariants.{Act, Import, Bundle}
-use Rattle.office_types.specs.declared.refusal.Refusal.{Refusal}
-use Rattle.office_types.specs.declared.refusal.Refusal.TheVariants as no
-use Rattle.office_types.specs.declared.reply.PartReply.{PartReply}
-use Rattle.office_types.specs.declared.reply.Reply.{Reply}
-use Rattle.office_types.specs.declared.reply.Reply.TheVariants.{Done, Release}
-use Rattle.office_rules.specs.Bundling.{both_entries}
-use Rattle.office_rules.specs.Commands.{acted, done_task, parts_done}
-use Rattle.office_rules.specs.Numbers.{take_ident, take_pgn}
-use Rattle.office_rules.specs.Reviewing.{approve, in_phase, reject, release, release_tests, submit, with_release}
-use Rattle.office_rules.specs.Signals.{remove_signal, set_values, take_bits, take_spn}
-use Rattle.office_law.proofs.OnSignals.{IsText-empty}
-use Rattle.office_law.proofs.Parts.{LeavesAll, entered_both, leaves_bundle, leaves_then, leaves_with}
-use Rattle.office_law.proofs.Passing.{Leaves, leaves_unless}
 use Rattle.office_types.specs.Book.{by_net}
 use Rattle.office_types.specs.Command.{IsAction, IsCommand, IsTask}
 use Rattle.office_types.specs.PlainName.{IsPlainName}
-use Rattle.office_types.specs.State.{by_name, live_messages, sheet_of}
+use Rattle.office_types.specs.State.{by_name}
 use Rattle.office_types.specs.declared.book.SpnBook.{SpnBook}
+use Rattle.office_types.specs.declared.command.Action.{Action}
+use Rattle.office_types.specs.declared.command.Action.TheVariants as act
+use Rattle.office_types.specs.declared.command.Command.{Command}
 use Rattle.office_types.specs.declared.command.OpenNet.{OpenNet}
+use Rattle.office_types.specs.declared.command.Task.{Task}
+use Rattle.office_types.specs.declared.command.Task.TheVariants.{Act, Import, Bundle}
+use Rattle.office_types.specs.declared.refusal.Refusal.{Refusal}
+use Rattle.office_types.specs.declared.reply.PartReply.{PartReply}
+use Rattle.office_types.specs.declared.reply.Reply.{Reply}
+use Rattle.office_types.specs.declared.reply.Reply.TheVariants.{Done}
 use Rattle.office_types.specs.declared.state.Net.{Net}
 use Rattle.office_types.specs.declared.state.Office.{Office}
-use Rattle.office_types.specs.declared.state.Phase.TheVariants.{Draft, Review}
-use Rattle.office_rules.specs.Facts.{in_review, is_live, was_released}
-use Rattle.office_rules.specs.Importing.{FileReading, Reading, Unreadable, import, new_messages, spns_entered}
-use Rattle.office_rules.specs.Kept.{AreEntered, IsBook, IsEntered, IsNet, IsOffice}
+use Rattle.office_rules.specs.Bundling.{both_entries}
+use Rattle.office_rules.specs.Commands.{acted, done_task, parts_done}
+use Rattle.office_rules.specs.Facts.{in_review}
+use Rattle.office_rules.specs.Importing.{FileReading, Reading, Unreadable, import}
+use Rattle.office_rules.specs.Kept.{IsBook, IsEntered, IsNet, IsOffice}
 use Rattle.office_rules.specs.Lists.{put_all}
-use Rattle.office_rules.specs.Opening.{add_node, bare_net, grant, grant_tests, granted, new_head, open_net, open_net_tests}
-use Rattle.office_rules.specs.Outcome.{Entries, no_entries, entered, Outcome, Refusing, Changing, given_or, unless}
-use Rattle.office_rules.specs.Retiring.{retire, retired, with_held, without_message}
+use Rattle.office_rules.specs.Opening.{bare_net, new_head, open_net_tests}
+use Rattle.office_rules.specs.Outcome.{Entries, no_entries, entered, Outcome, Refusing, Changing}
 use Rattle.office_rules.specs.Profile.{Profile}
 use Rattle.office_rules.specs.Step.{TeamCommand, IsRead, IsReadingOf, file_wanted, net_named, office_after, opening, Run, Step, step_outcome}
 use Rattle.office_law.specs.Kept.{AreRequests, OfficesAreKept}
-use Rattle.office_law.proofs.Going.{Allowed, Goes, IsReadingSheet, goes_approve, goes_bits, goes_grant, goes_ident, goes_import, goes_node, goes_pgn, goes_reject, goes_release, goes_removal, goes_retire, goes_spn, goes_submit, goes_values}
-use Rattle.office_law.proofs.KeptBlocks.{IsNet-approved, IsNet-granted, IsNet-in_phase, IsNet-noded}
-use Rattle.office_law.proofs.KeptBook.{IsBook-granted, IsBook-used, still_used}
-use Rattle.office_law.proofs.KeptEntered.{IsEntered-changed, IsEntered-imported, IsEntered-more, IsEntered-released, IsEntered-retired, IsEntered-silent, are_spns}
-use Rattle.office_law.proofs.KeptImport.{IsNet-imported}
-use Rattle.office_law.proofs.KeptMessages.{IsNet-changed, IsNet-joined, IsNet-released, IsNet-retired}
+use Rattle.office_law.proofs.EachAction.{laws_of}
+use Rattle.office_law.proofs.GoingImport.{IsReadingSheet, goes_import}
+use Rattle.office_law.proofs.KeptBook.{still_used}
+use Rattle.office_law.proofs.KeptEntered.{IsEntered-more}
 use Rattle.office_law.proofs.Lists.{Contains-put, Contains-put_other}
-use Rattle.office_law.proofs.Ways.{Way, GrantsSpns, Grants, AddsNode, Adds, Changes, Retires, Imports, Submits, Approves, Rejects, Releases}
-
--- What a command leaves of its network and of the book.
-pub record IsWellLeft (name : List ℕ) (book : SpnBook) (n : Net) (e : Entries) : Type 0 where
-  pub net : IsNet n
-  pub named : n.name ≡ name
-  pub book_is : IsBook (entered book e)
-  pub numbers : IsEntered (entered book e).used n
-  pub home : All (λ b. b.net ≡ name) e.blocks
-
--- the same of an equal network and equal entries
-left_at : (name : List ℕ) (book : SpnBook) (n m : Net) (e f : Entries) → n ≡ m → e ≡ f → IsWellLeft name book m f → IsWellLeft name book n e
-left_at name book n m e f same entries h =
-    subst (λ v. IsWellLeft name book v e) (sym same) (subst (λ v. IsWellLeft name book m v) (sym entries) h)
-
--- nothing enters the book
-quiet : (name : List ℕ) (book : SpnBook) (n : Net) → IsNet n → n.name ≡ name → IsBook book → IsEntered book.used n → IsWellLeft name book n no_entries
-quiet name book n h named b numbers = record { net = h; named = named; book_is = b; numbers = numbers; home = All-nil (λ b. b.net ≡ name) }
-
-same_numbers : (used : List ℕ) (net n : Net) → net.live ≡ n.live → net.releases ≡ n.releases → IsEntered used net → IsEntered used n
-same_numbers used net n live releases h = record {
-  live = subst (λ l. AreEntered used (live_messages l)) live h.live;
-  released = subst (λ r. All (λ s. AreEntered used s.messages) r) releases h.released;
-}
-
--- each way leaves the network and the book as they have to be
-pub well_left : (team name : List ℕ) (book : SpnBook) (net n : Net) (e : Entries) (inside : Type 0) → Allowed team name book net inside → net.name ≡ name → IsEntered book.used net
-    → Way (Allowed team name book net inside) team name book net n e → IsWellLeft name book n e
-well_left team name book net n e inside ok named numbers (GrantsSpns b can home same entries) =
-    left_at name book n net e (record no_entries { blocks = b ∷ [] }) same entries (record {
-      net = ok.net_is;
-      named = named;
-      book_is = IsBook-granted book b ok.book_is (can ok);
-      numbers = numbers;
-      home = All-cons (λ o. o.net ≡ name) b [] home (All-nil (λ o. o.net ≡ name));
-    })
-well_left team name book net n e inside ok named numbers (Grants g can same entries) =
-    left_at name book n _ e no_entries same entries
-    (quiet name book _ (IsNet-granted net g ok.net_is (can ok)) named ok.book_is (same_numbers book.used net _ refl refl numbers))
-well_left team name book net n e inside ok named numbers (AddsNode node can same entries) =
-    left_at name book n _ e no_entries same entries
-    (quiet name book _ (IsNet-noded net node ok.net_is (can ok)) named ok.book_is (same_numbers book.used net _ refl refl numbers))
-well_left team name book net n e inside ok named numbers (Adds m can same entries) =
-    left_at name book n _ e no_entries same entries
-    (quiet name book _ (IsNet-joined net m ok.net_is (can ok).joins (can ok).few) named ok.book_is (IsEntered-silent book.used net m numbers (can ok).silent))
-well_left team name book net n e inside ok named numbers (Changes m signals can none same) =
-    left_at name book n _ e e same refl (record {
-      net = IsNet-changed net e m signals ok.net_is (can ok);
-      named = named;
-      book_is = subst (λ bs. IsBook (record { blocks = put_all by_net bs book.blocks; used = put_all nat_cmp e.numbers book.used })) (sym none) (IsBook-used book e.numbers ok.book_is (can ok).numbers);
-      numbers = IsEntered-changed book.used net e m signals numbers (can ok);
-      home = subst (All (λ b. b.net ≡ name)) (sym none) (All-nil (λ b. b.net ≡ name));
-    })
-well_left team name book net n e inside ok named numbers (Retires m there same entries) =
-    left_at name book n _ e no_entries same entries
-    (quiet name book _ (IsNet-retired net m ok.net_is there) (name_kept ∙ named) ok.book_is (IsEntered-retired book.used net m.message.ident numbers))
-  where
-    name_kept : (retired net m.message.ident).name ≡ net.name
-    name_kept = cond_both (was_released net.releases m.message.ident) (with_held (without_message net m.message.ident) m.message.ident) (without_message net m.message.ident)
-        (λ (v : Net). v.name ≡ net.name) (λ _. refl) (λ _. refl)
-well_left team name book net n e inside ok named numbers (Imports s can same entries) =
-    left_at name book n _ e (spns_entered net s) same entries (record {
-      net = IsNet-imported team net s ok.net_is (can ok);
-      named = named;
-      book_is = IsBook-used book (spns_entered net s).numbers ok.book_is (are_spns (new_messages net s.messages)
-          (All-filter (λ m. not (is_live net m.ident)) IsMessage s.messages (can ok).sheet.messages));
-      numbers = IsEntered-imported book.used team net s numbers;
-      home = All-nil (λ b. b.net ≡ name);
-    })
-well_left team name book net n e inside ok named numbers (Submits plain same entries) =
-    left_at name book n _ e no_entries same entries
-    (quiet name book _ (IsNet-in_phase net (Review team) ok.net_is (plain ok)) named ok.book_is (same_numbers book.used net _ refl refl numbers))
-well_left team name book net n e inside ok named numbers (Approves can same entries) =
-    left_at name book n _ e no_entries same entries
-    (quiet name book _ (IsNet-approved net team ok.net_is (can ok)) named ok.book_is (same_numbers book.used net _ refl refl numbers))
-well_left team name book net n e inside ok named numbers (Rejects same entries) =
-    left_at name book n _ e no_entries same entries
-    (quiet name book _ (IsNet-in_phase net Draft ok.net_is tt) named ok.book_is (same_numbers book.used net _ refl refl numbers))
-well_left team name book net n e inside ok named numbers (Releases few same entries) =
-    left_at name book n _ e no_entries same entries
-    (quiet name book _ (IsNet-released net ok.net_is few) named ok.book_is (IsEntered-released book.used net Draft numbers))
+use Rattle.office_law.proofs.OnSignals.{IsText-empty}
+use Rattle.office_law.proofs.Parts.{LeavesAll, entered_both, leaves_bundle, leaves_then, leaves_with}
+use Rattle.office_law.proofs.Passing.{Leaves, leaves_unless}
+use Rattle.office_law.proofs.WellLeft.{Goes, IsWellLeft, quiet}
 
 -- A network that a command opens.
 opened : (name : List ℕ) (book : SpnBook) (c : OpenNet) → IsPlainName name → c.reviews ≤ 9 → IsBook book → IsWellLeft name book (bare_net name (new_head c)) no_entries
@@ -185,48 +95,22 @@ module _ (team name : List ℕ) (book : SpnBook) (plain : IsPlainName team) (nam
   abbrev Well : Outcome → Type 0
   Well = Leaves (λ r n e. IsWellLeft name book n e)
 
-  -- a command that goes a way
   along : (net : Net) (inside : Type 0) (out : Outcome) → IsFound name book net → inside → Goes team name book net inside out → Well out
-  along net inside (Refusing r) found fields way = tt
-  along net inside (Changing r n e) found fields way =
-      well_left team name book net n e inside (record { net_is = found.net_is; book_is = book_is; team_is = plain; name_is = named; fields = fields }) found.named found.numbers way
+  along net inside (Refusing r) found fields goes = tt
+  along net inside (Changing r n e) found fields goes =
+      goes (record { net_is = found.net_is; named = found.named; numbers = found.numbers; book_is = book_is; team_is = plain; name_is = named; fields = fields })
 
-  -- where there is no network
-  nowhere : (tests : List (Test Refusal)) (out : Net → Outcome) → Well (unless tests (given_or no.NoNet None out))
-  nowhere tests out = leaves_unless (λ r n e. IsWellLeft name book n e) tests (Refusing no.NoNet) (λ _. tt)
+  refused : (r : Refusal) (out : Outcome) → out ≡ Refusing r → Well out
+  refused r out same = subst Well (sym same) tt
 
-  opens : (net : Option Net) (c : OpenNet) → c.reviews ≤ 9 → Well (open_net team name net c)
-  opens net c few = leaves_unless (λ r n e. IsWellLeft name book n e) (open_net_tests team net) (Changing Done (bare_net name (new_head c)) no_entries) (λ _. opened name book c named few book_is)
+  nowhere : (a : Action) → IsAction a → Well (acted team name None book a)
+  nowhere (act.OpenNet c) fields =
+      leaves_unless (λ r n e. IsWellLeft name book n e) (open_net_tests team None) (Changing Done (bare_net name (new_head c)) no_entries) (λ _. opened name book c named fields book_is)
+  nowhere a fields = let none = (laws_of team name a).nowhere refl in refused none.0 (acted team name None book a) (none.1 book)
 
   well_acted : (net : Option Net) (a : Action) → IsAction a → IfSome net (IsFound name book) → Well (acted team name net book a)
-  well_acted net (act.OpenNet c) fields found = opens net c fields
-  well_acted (Some net) (act.Grant c) fields found = along net _ (grant team name (Some net) book c) found fields (goes_grant team name book net c)
-  well_acted (Some net) (act.AddNode node) fields found = along net _ (add_node (Some net) node) found fields (goes_node team name book net node)
-  well_acted (Some net) (act.TakeIdent c) fields found = along net _ (take_ident team (Some net) c) found fields (goes_ident team name book net c)
-  well_acted (Some net) (act.TakePgn c) fields found = along net _ (take_pgn team (Some net) c) found fields (goes_pgn team name book net c)
-  well_acted (Some net) (act.TakeSpn c) fields found = along net _ (take_spn team name (Some net) book c) found fields (goes_spn team name book net c)
-  well_acted (Some net) (act.TakeBits c) fields found = along net _ (take_bits team (Some net) c) found fields (goes_bits team name book net c)
-  well_acted (Some net) (act.SetValues c) fields found = along net _ (set_values team (Some net) c) found fields (goes_values team name book net c)
-  well_acted (Some net) (act.RemoveSignal path) fields found = along net _ (remove_signal team (Some net) path) found fields (goes_removal team name book net path)
-  well_acted (Some net) (act.Retire message) fields found = along net _ (retire team (Some net) message) found fields (goes_retire team name book net message)
-  well_acted (Some net) act.Submit fields found = along net _ (submit team (Some net)) found tt (goes_submit team name book net)
-  well_acted (Some net) act.Approve fields found = along net _ (approve team (Some net)) found tt (goes_approve team name book net)
-  well_acted (Some net) act.Reject fields found = along net _ (reject team (Some net)) found tt (goes_reject team name book net)
-  well_acted (Some net) act.Release fields found = along net _ (release team (Some net)) found tt (goes_release team name book net)
-  well_acted None (act.Grant c) fields found = nowhere (grant_tests team None book c) (λ n. granted name n c)
-  well_acted None (act.AddNode node) fields found = tt
-  well_acted None (act.TakeIdent c) fields found = tt
-  well_acted None (act.TakePgn c) fields found = tt
-  well_acted None (act.TakeSpn c) fields found = tt
-  well_acted None (act.TakeBits c) fields found = tt
-  well_acted None (act.SetValues c) fields found = tt
-  well_acted None (act.RemoveSignal path) fields found = tt
-  well_acted None (act.Retire message) fields found = tt
-  well_acted None act.Submit fields found = tt
-  well_acted None act.Approve fields found = tt
-  well_acted None act.Reject fields found = tt
-  well_acted None act.Release fields found =
-      nowhere (release_tests team None) (λ n. Changing (Release (length n.releases + 1)) (in_phase (with_release n (sheet_of n)) Draft) no_entries)
+  well_acted None a fields found = nowhere a fields
+  well_acted (Some net) a fields found = along net (IsAction a) (acted team name (Some net) book a) found fields ((laws_of team name a).kept book net)
 
 -- The parts of a bundle, one after the other.
 

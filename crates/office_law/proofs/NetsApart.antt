@@ -12,7 +12,8 @@ use Rattle.office_rules.specs.Outcome.{Outcome, Refusing, Changing}
 use Rattle.office_rules.specs.Step.{net_named, office_after, step_outcome}
 use Rattle.office_law.specs.Histories.{OutcomesAreLeft, net_after}
 use Rattle.office_law.proofs.OrderedNets.{equal_texts, has, other_put, own_put}
-use Rattle.office_law.proofs.Left.{IsLeft, left_task, name_of}
+use Rattle.office_law.proofs.Leaving.{left_task}
+use Rattle.office_law.proofs.Left.{IsLeft, name_of}
 use Rattle.office_law.proofs.Passing.{Leaves}
 
 found_first : (name : List ℕ) (x : Net) (b : Bool) (later : Option Net) → has name x ≡ b → name_of name later ≡ name → name_of name (cond b (Some x) later) ≡ name

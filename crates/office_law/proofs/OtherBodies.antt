@@ -1,76 +1,31 @@
--- A command that retires nothing depends on how many releases its network has, and on nothing in them.
-use Rattle.std.proofs.Common.{◌≡◌, ◌∙◌, ◌+◌, ℕ, not, nat_lt, nat_le, false, List, [], ◌∷◌, ◌++◌, length, Option, Some, None, refl, sym, ap, subst, append-nil, append_assoc, length-append}
+-- A command that doesn't depend on what is in a release is decided alike where there are as many other ones.
+use Rattle.std.proofs.Common.{◌≡◌, ◌∙◌, ◌+◌, ℕ, false, List, [], ◌∷◌, ◌++◌, length, Option, Some, None, refl, sym, ap, subst, append-nil, append_assoc, length-append}
 use Rattle.std.specs.List.{list_any}
 use Rattle.std.specs.Option.{option_map}
 use Rattle.std.proofs.lemmas.Bool.{false≢true, or_parts}
 use Rattle.std.proofs.lemmas.List.{append_cancel_left}
-use Rattle.catalogue.specs.Refusing.{Test, first_refusal}
 use Rattle.catalogue.specs.declared.sheet.Sheet.{Sheet}
-use Rattle.office_types.specs.State.{sheet_of}
-use Rattle.office_types.specs.PlainName.{is_office}
 use Rattle.office_types.specs.declared.book.SpnBook.{SpnBook}
 use Rattle.office_types.specs.declared.change.Change.{Change}
-use Rattle.office_types.specs.declared.change.Change.TheVariants.{SetHead, AddSignal, RemoveSignal, AddRelease}
+use Rattle.office_types.specs.declared.change.Change.TheVariants.{SetHead, AddSignal, RemoveSignal, SetSpn, SetValues, AddRelease}
 use Rattle.office_types.specs.declared.change.Decision.{Decision}
 use Rattle.office_types.specs.declared.command.Action.{Action}
-use Rattle.office_types.specs.declared.command.Action.TheVariants as act
 use Rattle.office_types.specs.declared.command.Task.{Task}
 use Rattle.office_types.specs.declared.command.Task.TheVariants.{Act, Import, Bundle}
-use Rattle.office_types.specs.declared.refusal.Refusal.{Refusal}
-use Rattle.office_types.specs.declared.refusal.Refusal.TheVariants as no
 use Rattle.office_types.specs.declared.reply.Reply.{Reply}
-use Rattle.office_types.specs.declared.reply.Reply.TheVariants.{Release}
 use Rattle.office_types.specs.declared.state.LiveMessage.{LiveMessage}
 use Rattle.office_types.specs.declared.state.Net.{Net}
-use Rattle.office_types.specs.declared.state.Phase.TheVariants.{Draft}
 use Rattle.office_rules.specs.Bundling.{PartsOutcome, RefusedAt, AllDone, bundle_outcome, part_then, with_part}
 use Rattle.office_rules.specs.Change.{AllFit, Decides, Fits, IsQuiet, NetAndBook, all_applied, applied, at_message, changed_book, changed_net, left_after, net_changed}
-use Rattle.office_rules.specs.Commands.{acted, done_task, outcome, parts_done}
-use Rattle.office_rules.specs.Facts.{in_review, live_named}
+use Rattle.office_rules.specs.Commands.{acted, done_task, outcome, parts_done, OfReleases, Nothing, Count, Bodies, action_reads_bodies, is_of_bodies, is_of_releases, reads_bodies, reads_releases, releases_read}
+use Rattle.office_rules.specs.Facts.{live_named}
 use Rattle.office_rules.specs.Importing.{FileReading}
-use Rattle.office_rules.specs.Outcome.{Entries, Outcome, Refusing, Changing, entered, no_entries, on_net, refused_or, reply_of, when}
-use Rattle.office_rules.specs.Reviewing.{in_phase, release, release_limit, with_release}
-use Rattle.office_law.specs.Released.{BodiesDontCount, ReleasesDontCount, is_retire, outcome_with, reads_bodies, reads_releases, with_releases}
+use Rattle.office_rules.specs.Outcome.{Entries, Outcome, Refusing, Changing, entered, no_entries, reply_of}
+use Rattle.office_law.specs.Released.{BodiesDontCount, ReleasesDontCount, outcome_with}
+use Rattle.office_law.proofs.Alike.{Alike, Depends, unreleased_alike, w}
+use Rattle.office_law.proofs.EachAction.{laws_of}
 use Rattle.office_law.proofs.OtherReleases.{releases_dont_count}
 use Rattle.office_law.proofs.Unreleased.{with_found}
-
-abbrev w : List Sheet → Net → Net
-w = with_releases
-
--- ---- two outcomes that differ in the releases that were there before
-
-abbrev Alike : List Sheet → List Sheet → Outcome → Outcome → Type 0
-Alike rs qs (Refusing r) out = out ≡ Refusing r
-Alike rs qs (Changing r n e) out = (added : List Sheet) × (n.releases ≡ rs ++ added) × (out ≡ Changing r (w (qs ++ added) n) e)
-
-unreleased_alike : (rs qs : List Sheet) (out : Outcome) → Alike rs qs (outcome_with rs out) (outcome_with qs out)
-unreleased_alike rs qs (Refusing r) = refl
-unreleased_alike rs qs (Changing r n e) = ([], sym (append-nil rs), ap (λ l. Changing r (w l n) e) (sym (append-nil qs)))
-
-refused_alike : (rs qs : List Sheet) (o : Option Refusal) (out other : Outcome) → Alike rs qs out other → Alike rs qs (refused_or o out) (refused_or o other)
-refused_alike rs qs None out other alike = alike
-refused_alike rs qs (Some r) out other alike = refl
-
--- `release`, by how many releases there are
-tests_of : ℕ → List ℕ → Net → List (Test Refusal)
-tests_of count team net =
-    when (not (is_office team)) no.NotOffice
-    ∷ on_net (Some net) (λ n.
-    when (not (in_review n.head.phase)) no.NotInReview
-    ∷ when (nat_lt (length n.approvals) n.head.reviews) no.NeedsMore
-    ∷ when (nat_le release_limit count) no.TooMany ∷ [])
-
-frozen : ℕ → List Sheet → Net → Outcome
-frozen count rs net = Changing (Release (count + 1)) (in_phase (with_release (w rs net) (sheet_of net)) Draft) no_entries
-
-released : ℕ → List ℕ → List Sheet → Net → Outcome
-released count team rs net = refused_or (first_refusal (tests_of count team net)) (frozen count rs net)
-
-release_alike : (rs qs : List Sheet) (team : List ℕ) (net : Net) → length rs ≡ length qs → Alike rs qs (release team (Some (w rs net))) (release team (Some (w qs net)))
-unfolding frozen tests_of released
-release_alike rs qs team net same =
-    subst (λ count. Alike rs qs (release team (Some (w rs net))) (released count team qs net)) same
-    (refused_alike rs qs (first_refusal (tests_of (length rs) team net)) (frozen (length rs) rs net) (frozen (length rs) qs net) (sheet_of net ∷ [], refl, refl))
 
 -- ---- actions and tasks
 
@@ -83,11 +38,14 @@ module _ (law : ReleasesDontCount) (team name : List ℕ) (reading : FileReading
       subst (λ out. Alike rs qs out (done_task team name reading (Some (w qs net)) book t)) (sym (one rs))
       (subst (Alike rs qs (outcome_with rs (done_task team name reading (Some net) book t))) (sym (one qs)) (unreleased_alike rs qs (done_task team name reading (Some net) book t)))
 
-  acted_alike : (rs qs : List Sheet) (net : Net) (book : SpnBook) (a : Action) → is_retire a ≡ false → length rs ≡ length qs
+  acted_alike : (rs qs : List Sheet) (net : Net) (book : SpnBook) (a : Action) → action_reads_bodies a ≡ false → length rs ≡ length qs
       → Alike rs qs (acted team name (Some (w rs net)) book a) (acted team name (Some (w qs net)) book a)
-  acted_alike rs qs net book act.Release none same = release_alike rs qs team net same
-  acted_alike rs qs net book (act.Retire message) none same = absurd (false≢true (sym none))
-  acted_alike rs qs net book a none same = by_law rs qs net book (Act a) refl
+  acted_alike rs qs net book a none same = by_reading (releases_read a) refl none
+    where
+      by_reading : (read : OfReleases) → releases_read a ≡ read → is_of_bodies read ≡ false → Alike rs qs (acted team name (Some (w rs net)) book a) (acted team name (Some (w qs net)) book a)
+      by_reading Nothing is none = by_law rs qs net book (Act a) (ap is_of_releases is)
+      by_reading Count is none = subst (λ read. Depends read (λ n. acted team name (Some n) book a)) is ((laws_of team name a).releases book) net rs qs same
+      by_reading Bodies is none = absurd (false≢true (sym none))
 
   -- the parts of a bundle
 
@@ -116,11 +74,11 @@ module _ (law : ReleasesDontCount) (team name : List ℕ) (reading : FileReading
   more_alike : (rs qs added : List Sheet) → length rs ≡ length qs → length (rs ++ added) ≡ length (qs ++ added)
   more_alike rs qs added same = length-append rs added ∙ ap (λ n. n + length added) same ∙ sym (length-append qs added)
 
-  parts_alike : (rs qs : List Sheet) (number : ℕ) (net : Net) (book : SpnBook) (parts : List Action) → list_any is_retire parts ≡ false → length rs ≡ length qs
+  parts_alike : (rs qs : List Sheet) (number : ℕ) (net : Net) (book : SpnBook) (parts : List Action) → list_any action_reads_bodies parts ≡ false → length rs ≡ length qs
       → PartsAlike rs qs (parts_done team name number (Some (w rs net)) book parts) (parts_done team name number (Some (w qs net)) book parts)
   parts_alike rs qs number net book [] none same = ([], sym (append-nil rs), ap (λ l. AllDone [] (Some (w l net)) no_entries) (sym (append-nil qs)))
   parts_alike rs qs number net book (a ∷ parts) none same =
-      let both = or_parts (is_retire a) (list_any is_retire parts) none in
+      let both = or_parts (action_reads_bodies a) (list_any action_reads_bodies parts) none in
       then_alike rs qs number (acted team name (Some (w rs net)) book a) (acted team name (Some (w qs net)) book a) (λ n e. parts_done team name (number + 1) (Some n) (entered book e) parts)
       (acted_alike rs qs net book a both.0 same)
       (λ added n e are. (
@@ -162,6 +120,8 @@ kept rs n = ap (λ l. w l n) (sym (append-nil rs))
 changed_alike : (rs : List Sheet) (c : Change) (net : Net) → net_changed c (w rs net) ≡ w (rs ++ adds c) (net_changed c net)
 changed_alike rs (AddSignal message s) net = message_alike rs message _ net ∙ kept rs (net_changed (AddSignal message s) net)
 changed_alike rs (RemoveSignal path) net = message_alike rs path.message _ net ∙ kept rs (net_changed (RemoveSignal path) net)
+changed_alike rs (SetSpn path n) net = message_alike rs path.message _ net ∙ kept rs (net_changed (SetSpn path n) net)
+changed_alike rs (SetValues path values) net = message_alike rs path.message _ net ∙ kept rs (net_changed (SetValues path values) net)
 changed_alike rs (AddRelease s) net = refl
 changed_alike rs c net = kept rs (net_changed c net)
 

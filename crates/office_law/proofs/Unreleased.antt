@@ -4,7 +4,7 @@ use Rattle.std.specs.List.{list_any}
 use Rattle.catalogue.specs.declared.sheet.Sheet.{Sheet}
 use Rattle.office_types.specs.declared.book.SpnBook.{SpnBook}
 use Rattle.office_types.specs.declared.change.Change.{Change}
-use Rattle.office_types.specs.declared.change.Change.TheVariants.{SetHead, SetMessage, RemoveMessage, AddSignal, RemoveSignal, SetBlock, SetSpnBlock, Hold, EnterSpn, SetApproval, ClearApprovals, AddRelease}
+use Rattle.office_types.specs.declared.change.Change.TheVariants.{AddSignal, RemoveSignal, SetSpn, SetValues, AddRelease}
 use Rattle.office_types.specs.declared.state.LiveMessage.{LiveMessage}
 use Rattle.office_types.specs.declared.state.Net.{Net}
 use Rattle.office_rules.specs.Change.{NetAndBook, all_applied, applied, at_message, changed_book, is_release, net_changed}
@@ -19,18 +19,8 @@ released (c ∷ cs) = released cs
 
 none_released : (cs : List Change) → released cs ≡ 0 → list_any is_release cs ≡ false
 none_released [] none = refl
-none_released (SetHead h ∷ cs) none = none_released cs none
-none_released (SetMessage m ∷ cs) none = none_released cs none
-none_released (RemoveMessage i ∷ cs) none = none_released cs none
-none_released (AddSignal message s ∷ cs) none = none_released cs none
-none_released (RemoveSignal path ∷ cs) none = none_released cs none
-none_released (SetBlock g ∷ cs) none = none_released cs none
-none_released (SetSpnBlock b ∷ cs) none = none_released cs none
-none_released (Hold i ∷ cs) none = none_released cs none
-none_released (EnterSpn n ∷ cs) none = none_released cs none
-none_released (SetApproval team ∷ cs) none = none_released cs none
-none_released (ClearApprovals ∷ cs) none = none_released cs none
 none_released (AddRelease s ∷ cs) none = absurd (omega (arith, none))
+none_released (c ∷ cs) none = none_released cs none
 
 -- the network with what becomes of the message that is found
 abbrev pub with_found : (LiveMessage → LiveMessage) → Net → Option LiveMessage → Net
@@ -60,24 +50,20 @@ later name c cs net book kept none step rest = record {
 
 releases_after : (name : List ℕ) (cs : List Change) (net : Net) (book : SpnBook) → IsAfter name cs net book
 releases_after name [] net book = record { after = net; is = refl; more = omega arith }
-releases_after name (SetHead h ∷ cs) net book = later name (SetHead h) cs net book refl refl refl (releases_after name cs (net_changed (SetHead h) net) book)
-releases_after name (SetMessage m ∷ cs) net book = later name (SetMessage m) cs net book refl refl refl (releases_after name cs (net_changed (SetMessage m) net) book)
-releases_after name (RemoveMessage i ∷ cs) net book = later name (RemoveMessage i) cs net book refl refl refl (releases_after name cs (net_changed (RemoveMessage i) net) book)
 releases_after name (AddSignal message s ∷ cs) net book =
     later name (AddSignal message s) cs net book (message_keeps message _ net) refl refl (releases_after name cs (net_changed (AddSignal message s) net) book)
 releases_after name (RemoveSignal path ∷ cs) net book =
     later name (RemoveSignal path) cs net book (message_keeps path.message _ net) refl refl (releases_after name cs (net_changed (RemoveSignal path) net) book)
-releases_after name (SetBlock g ∷ cs) net book = later name (SetBlock g) cs net book refl refl refl (releases_after name cs (net_changed (SetBlock g) net) book)
-releases_after name (SetSpnBlock b ∷ cs) net book = later name (SetSpnBlock b) cs net book refl refl refl (releases_after name cs net (changed_book (SetSpnBlock b) book))
-releases_after name (Hold i ∷ cs) net book = later name (Hold i) cs net book refl refl refl (releases_after name cs (net_changed (Hold i) net) book)
-releases_after name (EnterSpn n ∷ cs) net book = later name (EnterSpn n) cs net book refl refl refl (releases_after name cs net (changed_book (EnterSpn n) book))
-releases_after name (SetApproval team ∷ cs) net book = later name (SetApproval team) cs net book refl refl refl (releases_after name cs (net_changed (SetApproval team) net) book)
-releases_after name (ClearApprovals ∷ cs) net book = later name ClearApprovals cs net book refl refl refl (releases_after name cs (net_changed ClearApprovals net) book)
+releases_after name (SetSpn path n ∷ cs) net book =
+    later name (SetSpn path n) cs net book (message_keeps path.message _ net) refl refl (releases_after name cs (net_changed (SetSpn path n) net) book)
+releases_after name (SetValues path values ∷ cs) net book =
+    later name (SetValues path values) cs net book (message_keeps path.message _ net) refl refl (releases_after name cs (net_changed (SetValues path values) net) book)
 releases_after name (AddRelease s ∷ cs) net book =
     let rest = releases_after name cs (net_changed (AddRelease s) net) book in
     let one = length-append net.releases (s ∷ []) in
     let all = rest.more in
     record { after = rest.after; is = rest.is; more = omega (arith, one, all) }
+releases_after name (c ∷ cs) net book = later name c cs net book refl refl refl (releases_after name cs (net_changed c net) (changed_book c book))
 
 one_some : (a b : Net) → ◌≡◌ {A = Option Net} (Some a) (Some b) → a ≡ b
 one_some a b e = cc

@@ -1,5 +1,5 @@
--- The ways in which a command changes its network, each with what its tests and the ranges of its fields say of it.
-use Rattle.std.proofs.Common.{◌≡◌, ◌≤◌, ◌<◌, ◌⊎◌, true, false, ℕ, List, [], ◌∷◌, length, Contains, All}
+-- What the tests of a command and the ranges of its fields say of the change that it makes.
+use Rattle.std.proofs.Common.{◌≡◌, ◌≤◌, ◌<◌, ◌⊎◌, true, false, ℕ, List, [], length, Contains, All}
 use Rattle.catalogue.specs.Form.{IsNode, IsSheet, KeepsMessage}
 use Rattle.catalogue.specs.Limits.{message_limit, roster_limit, spn_limit}
 use Rattle.catalogue.specs.Messages.{IsClearMessage}
@@ -9,21 +9,15 @@ use Rattle.catalogue.specs.declared.sheet.Sheet.{Sheet}
 use Rattle.catalogue.specs.declared.signal.Signal.{Signal}
 use Rattle.office_types.specs.Block.{IsRange, is_spn, same_form}
 use Rattle.office_types.specs.PlainName.{IsPlainName}
-use Rattle.office_types.specs.State.{sheet_of}
 use Rattle.office_types.specs.declared.block.BlockForm.TheVariants.{Pgn}
 use Rattle.office_types.specs.declared.book.SpnBlock.{SpnBlock}
 use Rattle.office_types.specs.declared.book.SpnBook.{SpnBook}
 use Rattle.office_types.specs.declared.state.GrantedBlock.{GrantedBlock}
 use Rattle.office_types.specs.declared.state.LiveMessage.{LiveMessage}
 use Rattle.office_types.specs.declared.state.Net.{Net}
-use Rattle.office_types.specs.declared.state.Phase.TheVariants.{Draft, Review}
 use Rattle.office_rules.specs.Facts.{has_node, in_review, is_granted, is_held, is_j1939, is_live, is_named, is_spn_granted, is_submitter, spn_range}
-use Rattle.office_rules.specs.Importing.{imported, is_too_large, message_import_tests, spns_entered}
-use Rattle.office_rules.specs.Numbers.{with_message}
-use Rattle.office_rules.specs.Opening.{with_block, with_node}
-use Rattle.office_rules.specs.Outcome.{Entries, no_entries}
-use Rattle.office_rules.specs.Retiring.{retired}
-use Rattle.office_rules.specs.Reviewing.{in_phase, release_limit, with_approval, with_release}
+use Rattle.office_rules.specs.Importing.{is_too_large, message_import_tests}
+use Rattle.office_rules.specs.Outcome.{Entries}
 use Rattle.office_rules.specs.Signals.{with_signals}
 use Rattle.office_law.proofs.Passing.{NoneHolds}
 
@@ -81,18 +75,3 @@ pub record CanApprove (team : List ℕ) (net : Net) : Type 0 where
   pub plain : IsPlainName team
   pub reviewed : in_review net.head.phase ≡ true
   pub other : is_submitter team net.head.phase ≡ false
-
--- A command that isn't refused changes its network, which is there, in one of these ways. What it may do is known where
--- the office was as every office is.
-pub data Way (ok : Type 0) (team name : List ℕ) (book : SpnBook) (net n : Net) (e : Entries) : Type 0 where
-  GrantsSpns : (b : SpnBlock) → (ok → CanGrantSpns book b) → b.net ≡ name → n ≡ net → e ≡ record no_entries { blocks = b ∷ [] } → Way ok team name book net n e
-  Grants : (g : GrantedBlock) → (ok → CanGrant net g) → n ≡ with_block net g → e ≡ no_entries → Way ok team name book net n e
-  AddsNode : (node : Node) → (ok → CanAddNode net node) → n ≡ with_node net node → e ≡ no_entries → Way ok team name book net n e
-  Adds : (m : LiveMessage) → (ok → CanAdd net m) → n ≡ with_message net m → e ≡ no_entries → Way ok team name book net n e
-  Changes : (m : LiveMessage) (signals : List Signal) → (ok → CanChange net e m signals) → e.blocks ≡ [] → n ≡ with_message net (with_signals m signals) → Way ok team name book net n e
-  Retires : (m : LiveMessage) → Contains net.live m → n ≡ retired net m.message.ident → e ≡ no_entries → Way ok team name book net n e
-  Imports : (s : Sheet) → (ok → CanImport team net s) → n ≡ imported team net s → e ≡ spns_entered net s → Way ok team name book net n e
-  Submits : (ok → IsPlainName team) → n ≡ in_phase net (Review team) → e ≡ no_entries → Way ok team name book net n e
-  Approves : (ok → CanApprove team net) → n ≡ with_approval net team → e ≡ no_entries → Way ok team name book net n e
-  Rejects : n ≡ in_phase net Draft → e ≡ no_entries → Way ok team name book net n e
-  Releases : length net.releases < release_limit → n ≡ in_phase (with_release net (sheet_of net)) Draft → e ≡ no_entries → Way ok team name book net n e

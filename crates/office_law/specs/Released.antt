@@ -4,29 +4,15 @@ use Rattle.std.specs.List.{list_any}
 use Rattle.catalogue.specs.declared.sheet.Sheet.{Sheet}
 use Rattle.office_types.specs.declared.book.SpnBook.{SpnBook}
 use Rattle.office_types.specs.declared.change.Decision.{Decision}
-use Rattle.office_types.specs.declared.command.Action.{Action}
 use Rattle.office_types.specs.declared.command.Action.TheVariants as act
 use Rattle.office_types.specs.declared.command.Command.{Command}
 use Rattle.office_types.specs.declared.command.Task.{Task}
 use Rattle.office_types.specs.declared.command.Task.TheVariants.{Act, Import, Bundle}
 use Rattle.office_types.specs.declared.state.Net.{Net}
 use Rattle.office_rules.specs.Change.{IsDecision, is_release}
-use Rattle.office_rules.specs.Commands.{outcome}
+use Rattle.office_rules.specs.Commands.{outcome, reads_bodies, reads_releases}
 use Rattle.office_rules.specs.Importing.{FileReading}
 use Rattle.office_rules.specs.Outcome.{Outcome, Refusing, Changing}
-
--- the commands that depend on the releases of their network: `retire` on what they have, `release` on how many there
--- are
-abbrev pub action_reads_releases : Action → Bool
-action_reads_releases (act.Retire message) = true
-action_reads_releases act.Release = true
-action_reads_releases a = false
-
--- and bundles that have one of them
-abbrev pub reads_releases : Task → Bool
-reads_releases (Act a) = action_reads_releases a
-reads_releases (Import file) = false
-reads_releases (Bundle parts) = list_any action_reads_releases parts
 
 -- the commands that may add a release to their network: `release`, and bundles
 abbrev pub may_release : Task → Bool
@@ -44,29 +30,19 @@ outcome_with rs (Refusing r) = Refusing r
 outcome_with rs (Changing r n e) = Changing r (with_releases rs n) e
 
 pub record ReleasesDontCount : Type 0 where
-  -- another command has the same outcome, whatever the releases are
+  -- a command that doesn't depend on the releases has the same outcome, whatever they are
   pub outcomes : (team : List ℕ) (reading : FileReading) (net : Net) (rs : List Sheet) (book : SpnBook) (c : Command) → reads_releases c.task ≡ false
       → outcome team reading (Some (with_releases rs net)) book c ≡ outcome_with rs (outcome team reading (Some net) book c)
   -- so it is decided in the same way, and adds no release
   pub decisions : (team : List ℕ) (net : Net) (rs : List Sheet) (book : SpnBook) (c : Command) (d : Decision) → reads_releases c.task ≡ false
       → IsDecision team (record { net = Some net; book = book }) c d
       → IsDecision team (record { net = Some (with_releases rs net); book = book }) c d × (list_any is_release d.changes ≡ false)
-  -- nor does `retire` add one
+  -- nor does any other add one, but those that may
   pub none_added : (team : List ℕ) (net : Net) (book : SpnBook) (c : Command) (d : Decision) → may_release c.task ≡ false
       → IsDecision team (record { net = Some net; book = book }) c d → list_any is_release d.changes ≡ false
 
--- `retire` alone depends on what is in a release: whether it has the message's number
-abbrev pub is_retire : Action → Bool
-is_retire (act.Retire message) = true
-is_retire a = false
-
--- and bundles that have one
-abbrev pub reads_bodies : Task → Bool
-reads_bodies (Act a) = is_retire a
-reads_bodies (Import file) = false
-reads_bodies (Bundle parts) = list_any is_retire parts
-
--- any other command is decided in the same way where the network has as many other releases
+-- A command that doesn't depend on what is in a release is decided in the same way where its network has as many other
+-- releases.
 abbrev pub BodiesDontCount : Type 0
 BodiesDontCount = (team : List ℕ) (net : Net) (rs qs : List Sheet) (book : SpnBook) (c : Command) (d : Decision)
     → reads_bodies c.task ≡ false → length rs ≡ length qs

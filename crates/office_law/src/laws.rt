@@ -28,14 +28,14 @@ pub fn networks_are_apart()
     ensures { NetworksAreApart }
 {}
 
-/// Only `retire` depends on what the releases of its network have, and only `release` on how many there are. Any other
-/// command has the same outcome whatever they are, and adds none: so it is decided without them.
+/// A command that doesn't depend on the releases of its network has the same outcome whatever they are, and adds none.
+/// So it is decided without them.
 pub fn releases_dont_count()
     ensures { ReleasesDontCount }
 {}
 
-/// Only `retire`, and a bundle that has one, depends on what is in a release. Any other command is decided in the same
-/// way where its network has as many other releases.
+/// A command that doesn't depend on what is in a release is decided in the same way where its network has as many other
+/// releases.
 pub fn bodies_dont_count()
     ensures { BodiesDontCount }
 {}

@@ -9,7 +9,7 @@ use Rattle.office_types.specs.Block.{is_spn}
 use Rattle.office_types.specs.Book.{by_net}
 use Rattle.office_types.specs.declared.book.SpnBook.{SpnBook}
 use Rattle.office_types.specs.declared.change.Change.{Change}
-use Rattle.office_types.specs.declared.change.Change.TheVariants.{SetHead, SetMessage, RemoveMessage, AddSignal, RemoveSignal, SetBlock, SetSpnBlock, Hold, EnterSpn, SetApproval, ClearApprovals, AddRelease}
+use Rattle.office_types.specs.declared.change.Change.TheVariants.{SetHead, SetMessage, RemoveMessage, AddSignal, RemoveSignal, SetSpn, SetValues, SetBlock, SetSpnBlock, Hold, EnterSpn, SetApproval, ClearApprovals, AddRelease}
 use Rattle.office_types.specs.declared.change.Decision.{Decision}
 use Rattle.office_types.specs.declared.command.Command.{Command}
 use Rattle.office_types.specs.declared.state.Head.{Head}
@@ -24,7 +24,7 @@ use Rattle.office_rules.specs.Outcome.{Outcome, Refusing, Changing, entered, rep
 use Rattle.office_rules.specs.Profile.{Two}
 use Rattle.office_rules.specs.Retiring.{without_message, with_held}
 use Rattle.office_rules.specs.Reviewing.{with_approval, with_release}
-use Rattle.office_rules.specs.Signals.{with_last_signal, with_signal_out}
+use Rattle.office_rules.specs.Signals.{with_last_signal, with_signal_out, with_spn, with_values}
 use Rattle.office_rules.specs.Step.{IsRead, file_wanted}
 
 -- the command's network, if it is there, and the book
@@ -51,6 +51,8 @@ net_changed (SetMessage m) net = with_message net m
 net_changed (RemoveMessage i) net = without_message net i
 net_changed (AddSignal message s) net = at_message message (λ m. with_last_signal m s) net
 net_changed (RemoveSignal path) net = at_message path.message (λ m. with_signal_out m path.signal) net
+net_changed (SetSpn path n) net = at_message path.message (λ m. with_spn m path.signal n) net
+net_changed (SetValues path values) net = at_message path.message (λ m. with_values m path.signal values) net
 net_changed (SetBlock g) net = with_block net g
 net_changed (SetSpnBlock b) net = net
 net_changed (Hold i) net = with_held net i

@@ -13,6 +13,7 @@ use Rattle.catalogue.specs.Named.{has_name}
 use Rattle.catalogue.specs.Refusing.{Test}
 use Rattle.catalogue.specs.Signals.{has_multiplexor, at_signal, signal_is_multiplexor, places_of, signal_name, without_signal}
 use Rattle.catalogue.specs.declared.signal.Signal.{Signal}
+use Rattle.catalogue.specs.declared.value_texts.ValueText.{ValueText}
 use Rattle.catalogue.specs.declared.value_type.ValueType.TheVariants.{Integer}
 use Rattle.office_types.specs.Free.{is_taken, least_free}
 use Rattle.office_types.specs.declared.book.SpnBook.{SpnBook}
@@ -149,13 +150,13 @@ set_values_tests team facts c =
     when (not (has_signal m c.path.signal)) no.NoSignal
     ∷ when (nat_lt value_text_limit (length c.values)) no.TooMany ∷ [])
 
-abbrev pub with_values : LiveMessage → SetValues → LiveMessage
-with_values m c = with_signals m (at_signal (λ s. record s { values = c.values }) c.path.signal m.message.signals)
+abbrev pub with_values : LiveMessage → List ℕ → List ValueText → LiveMessage
+with_values m signal values = with_signals m (at_signal (λ s. record s { values = values }) signal m.message.signals)
 
 abbrev pub set_values : List ℕ → Option Net → SetValues → Outcome
 set_values team net c =
     unless (on_net net (λ n. set_values_tests team (message_facts n c.path.message) c))
-    (on_found net c.path.message (λ n m. Changing Done (with_message n (with_values m c)) no_entries))
+    (on_found net c.path.message (λ n m. Changing Done (with_message n (with_values m c.path.signal c.values)) no_entries))
 
 -- Take a signal out; not the multiplexor while another one is multiplexed.
 

@@ -6,7 +6,7 @@ use crate::reply::Reply;
 use crate::state::{GrantedBlock, Head, LiveMessage};
 use crate::team::Team;
 use can_id::Ident;
-use catalogue::{Copying, Items, Name, Signal};
+use catalogue::{Copying, Items, Name, Signal, ValueTexts};
 use std::alloc::{AllocError, Global};
 
 /// One thing that a command sets or removes: a row that is written or removed by its key. A change that isn't of the
@@ -23,6 +23,10 @@ pub enum Change {
     AddSignal(Name, Signal),
     /// Removes the signal from the live message.
     RemoveSignal(SignalPath),
+    /// Gives the live message's signal the suspect parameter number.
+    SetSpn(SignalPath, UsableSpn),
+    /// Sets the texts of the values of the live message's signal.
+    SetValues(SignalPath, ValueTexts),
     /// Sets the block of a form and a first number.
     SetBlock(GrantedBlock),
     /// Sets the block of suspect parameter numbers of a network and a first number, in the book.
@@ -59,6 +63,11 @@ impl Copying for Change {
                 signal.duplicate(alloc)?,
             )),
             Change::RemoveSignal(path) => Ok(Change::RemoveSignal(path.duplicate(alloc)?)),
+            Change::SetSpn(path, spn) => Ok(Change::SetSpn(path.duplicate(alloc)?, *spn)),
+            Change::SetValues(path, values) => Ok(Change::SetValues(
+                path.duplicate(alloc)?,
+                values.duplicate(alloc)?,
+            )),
             Change::SetBlock(block) => Ok(Change::SetBlock(block.duplicate(alloc)?)),
             Change::SetSpnBlock(block) => Ok(Change::SetSpnBlock(block.duplicate(alloc)?)),
             Change::Hold(ident) => Ok(Change::Hold(*ident)),

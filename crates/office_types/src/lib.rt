@@ -25,7 +25,6 @@ mod net_name;
 mod parts;
 mod plain_name;
 mod quantity;
-mod range;
 mod refusal;
 mod release;
 mod reply;
@@ -38,7 +37,7 @@ pub use can_id::IdentForm;
 pub use change::{Change, Decision};
 pub use command::{
     Action, Command, Grant, NetKind, NewMessage, OpenNet, Pdu, SetValues, SignalPath, TakeBits,
-    TakeIdent, TakePgn, TakeSpn, Task,
+    TakeIdent, TakePgn, TakeSpn, Task, command_is_in_range,
 };
 pub use free::{
     Form, is_ascending, least_free, least_free_counted, least_numbers_are_least, next_of,
@@ -48,7 +47,6 @@ pub use look::Look;
 pub use net_name::NetName;
 pub use parts::{PART_LIMIT, Parts};
 pub use quantity::{Priority, ReviewCount};
-pub use range::command_is_in_range;
 pub use refusal::{FileFault, Refusal, refusals_are_numbered};
 pub use release::{FrozenSheet, RELEASE_LIMIT};
 pub use reply::{PartNumbers, PartReply, Reply, ReplyNumbers, replies_are_numbered};

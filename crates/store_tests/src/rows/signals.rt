@@ -7,7 +7,7 @@ use office_rows::{
     delete_receivers_at, delete_sig_at, delete_sigs, delete_sigvalues, delete_sigvalues_at,
     insert_msg, insert_part, insert_receiver, insert_sig, insert_sigvalue, select_last_place,
     select_msg_above, select_msg_below, select_msg_named, select_msg_numbers, select_msgs,
-    select_parts, select_receivers, select_sigs, select_sigvalues,
+    select_parts, select_receivers, select_sigs, select_sigs_named, select_sigvalues,
 };
 use sqlite::{Alter, Error, Transaction};
 use std::io;
@@ -129,6 +129,7 @@ pub(crate) fn show_signals<S: Alter, R: Runtime>(
     show(rt, "values", count_sigvalues(tx, net))?;
     show(rt, "number", select_msg_numbers(tx, net, 1, 256))?;
     show(rt, "sig", select_sigs(tx, net, 256))?;
+    show(rt, "named sig", select_sigs_named(tx, net, 256, b"Last"))?;
     show(rt, "last place", select_last_place(tx, net, 256))?;
     show(rt, "receiver", select_receivers(tx, net, 256))?;
     show(rt, "value", select_sigvalues(tx, net, 256))?;

@@ -14,14 +14,14 @@ use Rattle.office_types.specs.State.{by_name}
 use Rattle.office_types.specs.declared.book.SpnBlock.{SpnBlock}
 use Rattle.office_types.specs.declared.book.SpnBook.{SpnBook}
 use Rattle.office_types.specs.declared.change.Change.{Change}
-use Rattle.office_types.specs.declared.change.Change.TheVariants.{SetHead, SetMessage, RemoveMessage, AddSignal, RemoveSignal, SetBlock, SetSpnBlock, Hold, EnterSpn, SetApproval, ClearApprovals, AddRelease}
+use Rattle.office_types.specs.declared.change.Change.TheVariants.{SetHead, SetMessage, RemoveMessage, AddSignal, RemoveSignal, SetSpn, SetValues, SetBlock, SetSpnBlock, Hold, EnterSpn, SetApproval, ClearApprovals, AddRelease}
 use Rattle.office_types.specs.declared.state.LiveMessage.{LiveMessage}
 use Rattle.office_types.specs.declared.state.Net.{Net}
 use Rattle.office_types.specs.declared.state.Office.{Office}
 use Rattle.office_rules.specs.Change.{changed_book, changed_net, net_changed}
 use Rattle.office_rules.specs.Facts.{live_named}
 use Rattle.office_rules.specs.Numbers.{with_message}
-use Rattle.office_rules.specs.Signals.{with_last_signal, with_signal_out}
+use Rattle.office_rules.specs.Signals.{with_last_signal, with_signal_out, with_spn, with_values}
 use Rattle.office_rules.specs.Step.{net_named}
 use Rattle.office_law.proofs.OrderedNets.{has, put_found}
 use Rattle.office.specs.Carried.{IsNetFound, carried, with_both}
@@ -74,6 +74,8 @@ changed_there name (SetMessage m) n = refl
 changed_there name (RemoveMessage i) n = refl
 changed_there name (AddSignal message s) n = refl
 changed_there name (RemoveSignal path) n = refl
+changed_there name (SetSpn path k) n = refl
+changed_there name (SetValues path values) n = refl
 changed_there name (SetBlock g) n = refl
 changed_there name (SetSpnBlock b) n = refl
 changed_there name (Hold i) n = refl
@@ -93,6 +95,8 @@ name_kept (SetMessage m) n = refl
 name_kept (RemoveMessage i) n = refl
 name_kept (AddSignal message s) n = name_kept_at n (λ m. with_last_signal m s) (live_named n.live message)
 name_kept (RemoveSignal path) n = name_kept_at n (λ m. with_signal_out m path.signal) (live_named n.live path.message)
+name_kept (SetSpn path k) n = name_kept_at n (λ m. with_spn m path.signal k) (live_named n.live path.message)
+name_kept (SetValues path values) n = name_kept_at n (λ m. with_values m path.signal values) (live_named n.live path.message)
 name_kept (SetBlock g) n = refl
 name_kept (SetSpnBlock b) n = refl
 name_kept (Hold i) n = refl

@@ -6,7 +6,7 @@ use Rattle.std.proofs.lemmas.Bool.{false≢true}
 use Rattle.office_types.specs.Free.{is_taken}
 use Rattle.office_types.specs.declared.book.SpnBook.{SpnBook}
 use Rattle.office_types.specs.declared.change.Change.{Change}
-use Rattle.office_types.specs.declared.change.Change.TheVariants.{SetHead, SetMessage, RemoveMessage, AddSignal, RemoveSignal, SetBlock, SetSpnBlock, Hold, EnterSpn, SetApproval, ClearApprovals, AddRelease}
+use Rattle.office_types.specs.declared.change.Change.TheVariants.{SetHead, SetMessage, RemoveMessage, AddSignal, RemoveSignal, SetSpn, SetValues, SetBlock, SetSpnBlock, Hold, EnterSpn, SetApproval, ClearApprovals, AddRelease}
 use Rattle.office_types.specs.declared.state.Net.{Net}
 use Rattle.office_types.specs.declared.state.LiveMessage.{LiveMessage}
 use Rattle.office_rules.specs.Facts.{live_named, number_in}
@@ -56,6 +56,8 @@ index-kept o n (SetMessage m) t is = absurd (false≢true (sym t))
 index-kept o n (RemoveMessage i) t is = absurd (false≢true (sym t))
 index-kept o n (AddSignal message s) t is = absurd (false≢true (sym t))
 index-kept o n (RemoveSignal path) t is = absurd (false≢true (sym t))
+index-kept o n (SetSpn path k) t is = absurd (false≢true (sym t))
+index-kept o n (SetValues path values) t is = absurd (false≢true (sym t))
 index-kept o n (SetBlock g) t is = same_index o n (net_changed (SetBlock g) n) refl refl is
 index-kept o n (SetSpnBlock b) t is = is
 index-kept o n (Hold i) t is = absurd (false≢true (sym t))

@@ -1,5 +1,5 @@
 -- Changes of live messages and held identifiers, made where a search finds them.
-use Rattle.std.proofs.Common.{◌≡◌, ◌≢◌, ◌∙◌, ◌<◌, Bool, true, false, not, cond, ℕ, zero, suc, List, [], ◌∷◌, Option, Contains, length, get_or, set, filter, inl, inr, refl, sym, ap, subst, arith}
+use Rattle.std.proofs.Common.{◌≡◌, ◌≢◌, ◌∙◌, ◌<◌, Bool, true, false, not, cond, ℕ, zero, suc, List, [], ◌∷◌, Option, Contains, length, get_or, set, filter, ◌++◌, inl, inr, refl, sym, ap, subst, arith}
 use Rattle.std.specs.Cmp.{nat_cmp_is}
 use Rattle.std.specs.Prelude.{Err, IfSome, Ok, OnErr, OnOk, Result, slice_get, slice_set}
 use Rattle.std.specs.List.{AllByRecursion, IsDistinct, insert, list_any, remove}
@@ -25,7 +25,7 @@ use Rattle.office_rules.specs.Facts.{has_ident, is_held, live_name, same_ident}
 use Rattle.office_rules.specs.Kept.{IsNet}
 use Rattle.office_rules.proofs.Idents.{same_ident-true}
 use Rattle.office_law.proofs.Idents.{same_ident-from, same_number}
-use Rattle.office_rules.specs.Signals.{with_last_signal}
+use Rattle.office_rules.specs.Signals.{with_last_signal, with_signals}
 use Rattle.office.specs.Indexed.{IsIndexIfThere, IsFoundAt, IsRemovable, indexed_alike, live_number}
 use Rattle.office.specs.declared.net_index.NetIndex.{NetIndex}
 use Rattle.office.proofs.InPlace.{alike_with}
@@ -120,13 +120,14 @@ module _ (net : Net) (is : IsNet net) (i : Ident) (at : ℕ) (found : IsFoundAt 
     | inr past ↦ absurd (let w = there.within in let v = past.0 in omega arith)
   ]
 
--- the index of a network of which a message has one signal more
-pub index-with_signal : (o : Option NetIndex) (net : Net) (at : ℕ) (s : Signal) (live : List LiveMessage) → at < length net.live
-    → IfSome (slice_get net.live at) (λ m. live ≡ slice_set net.live at (with_last_signal m s)) → IsIndexIfThere o net → IsIndexIfThere o (record net { live = live })
-index-with_signal o net at s live within changed is = elim (slice_get_cases net.live at).1 [
+-- the index of a network of which a message has other signals
+pub index-with_signals : (o : Option NetIndex) (net : Net) (at : ℕ) (signals : LiveMessage → List Signal) (live : List LiveMessage) → at < length net.live
+    → IfSome (slice_get net.live at) (λ m. live ≡ slice_set net.live at (with_signals m (signals m))) → IsIndexIfThere o net → IsIndexIfThere o (record net { live = live })
+index-with_signals o net at signals live within changed is = elim (slice_get_cases net.live at).1 [
   | inl h ↦
-      subst (λ (l : List LiveMessage). IsIndexIfThere o (record net { live = l })) (sym (subst (λ p. IfSome p (λ m. live ≡ slice_set net.live at (with_last_signal m s))) h.2 changed))
-      (index-replaced o net at h.0 (with_last_signal h.0 s) within (ap (λ z. indexed_alike z (with_last_signal h.0 s)) h.3 ∙ alike_with h.0 s) is)
+      let new : LiveMessage = with_signals h.0 (signals h.0) in
+      subst (λ (l : List LiveMessage). IsIndexIfThere o (record net { live = l })) (sym (subst (λ p. IfSome p (λ m. live ≡ slice_set net.live at (with_signals m (signals m)))) h.2 changed))
+      (index-replaced o net at h.0 new within (ap (λ z. indexed_alike z new) h.3 ∙ alike_with h.0 (signals h.0)) is)
   | inr past ↦ absurd (let v = past.0 in omega arith)
 ]
 
@@ -134,5 +135,5 @@ index-with_signal o net at s live within changed is = elim (slice_get_cases net.
 pub index-if_added : {A E : Type 0} (r : Result A E) (o : Option NetIndex) (net : Net) (at : ℕ) (s : Signal) (live : List LiveMessage) → at < length net.live
     → OnOk r (IfSome (slice_get net.live at) (λ m. live ≡ slice_set net.live at (with_last_signal m s))) → OnErr r (live ≡ net.live) → IsIndexIfThere o net
     → IsIndexIfThere o (record net { live = live })
-index-if_added (Ok x) o net at s live within ok err is = index-with_signal o net at s live within ok is
+index-if_added (Ok x) o net at s live within ok err is = index-with_signals o net at (λ m. m.message.signals ++ s ∷ []) live within ok is
 index-if_added (Err e) o net at s live within ok err is = subst (λ (l : List LiveMessage). IsIndexIfThere o (record net { live = l })) (sym err) is

@@ -1,12 +1,12 @@
 -- A live message that is changed in its place.
-use Rattle.std.proofs.Common.{◌≡◌, ◌∙◌, ◌<◌, ℕ, true, List, [], ◌∷◌, Option, Some, None, length, get_or, set, refl, sym, ap, subst}
+use Rattle.std.proofs.Common.{◌≡◌, ◌∙◌, ◌<◌, ℕ, true, List, [], ◌∷◌, Option, Some, None, length, get_or, set, inl, inr, refl, sym, ap, subst, arith}
 use Rattle.std.specs.Cmp.{nat_cmp_is}
 use Rattle.std.specs.List.{AllByRecursion, position}
 use Rattle.std.specs.List.Sorted.{IsStrictlySortedBy}
 use Rattle.std.specs.Ordering.{nat_cmp}
 use Rattle.std.specs.Prelude.{IfSome, slice_get, slice_set}
 use Rattle.std.specs.declared.cmp.Ordering.TheVariants.{Less, Equal}
-use Rattle.std.proofs.lemmas.Option.{get_or_from_slice_get, none-some}
+use Rattle.std.proofs.lemmas.Option.{none-some, slice_get_cases}
 use Rattle.std.proofs.lemmas.Slice.Eq.{bytes_eq-Decides}
 use Rattle.can_id.specs.Ident.{dbc_number}
 use Rattle.catalogue.specs.Keyed.{put}
@@ -18,10 +18,10 @@ use Rattle.office_types.specs.State.{by_number, live_messages}
 use Rattle.office_types.specs.declared.state.LiveMessage.{LiveMessage}
 use Rattle.office_types.specs.declared.state.Net.{Net}
 use Rattle.office_types.specs.declared.change.Change.TheVariants.{AddSignal}
-use Rattle.office_rules.specs.Change.{Fits, net_changed}
+use Rattle.office_rules.specs.Change.{Fits, at_message}
 use Rattle.office_rules.specs.Kept.{IsNet}
 use Rattle.office_rules.specs.Numbers.{with_message}
-use Rattle.office_rules.specs.Signals.{with_last_signal}
+use Rattle.office_rules.specs.Signals.{with_signals}
 use Rattle.office.proofs.PutThere.{put_same}
 use Rattle.office_law.proofs.Idents.{same_ident-itself}
 use Rattle.office.specs.Indexed.{indexed_alike}
@@ -45,32 +45,42 @@ put_live xs i x y sorted h is same =
     let order_same : by_number x ≡ by_number y = ap (λ i m. nat_cmp (dbc_number i) (dbc_number m.message.ident)) same in
     put_same by_number x y order_same xs i (rising_live xs sorted) h is (sym (nat_cmp_is (dbc_number y.message.ident) (dbc_number y.message.ident) Equal refl))
 
--- The live message of a name, to which a change adds a signal.
-module _ (net : Net) (message : List ℕ) (s : Signal) (fits : Fits (AddSignal message s) (Some net)) where
-  pub has_index : position (named message) net.live ≡ None → ⊥
-  has_index none = none-some fits.0 (sym (not_found (named message) net.live none) ∙ fits.1)
+-- The live message of a name, which gets other signals in its place.
+module _ (net : Net) (message : List ℕ) (signals : LiveMessage → List Signal) where
+  abbrev changed : LiveMessage → LiveMessage
+  changed m = with_signals m (signals m)
+
+  pub none_changed : position (named message) net.live ≡ None → net ≡ at_message message changed net
+  none_changed none =
+      subst (λ (o : Option LiveMessage). ◌≡◌ {A = Net} net (elim o [ None ↦ net | Some m ↦ with_message net (with_signals m (signals m)) ])) (sym (not_found (named message) net.live none)) refl
 
   module _ (i : ℕ) (at : position (named message) net.live ≡ Some i) where
     pub is_within : i < length net.live
     is_within = (found_at (named message) net.live i at).0
 
-    there : slice_get net.live i ≡ Some fits.0
-    there = (found_at (named message) net.live i at).1 ∙ fits.1
+    pub changed_in_place : (live : List LiveMessage) → IsNet net → IfSome (slice_get net.live i) (λ m. live ≡ slice_set net.live i (with_signals m (signals m)))
+        → ◌≡◌ {A = Net} (record net { live = live }) (at_message message changed net)
+    changed_in_place live is set_there = elim (slice_get_cases net.live i).1 [
+      | inl h ↦
+          let new : LiveMessage = with_signals h.0 (signals h.0) in
+          let there_put : live ≡ put by_number new net.live =
+          subst (λ o. IfSome o (λ m. live ≡ slice_set net.live i (with_signals m (signals m)))) h.2 set_there
+          ∙ sym (put_live net.live i new h.0 is.live.sheet.well_formed.together.ascending is_within (sym h.3) refl) in
+          ap (λ (l : List LiveMessage). record net { live = l }) there_put
+          ∙ subst (λ (o : Option LiveMessage). ◌≡◌ {A = Net} (with_message net new) (elim o [ None ↦ net | Some m ↦ with_message net (with_signals m (signals m)) ]))
+          (sym (sym (found_at (named message) net.live i at).1 ∙ h.2)) refl
+      | inr past ↦ absurd (let v = past.0 in let w = is_within in omega arith)
+    ]
 
-    pub fits_there : IfSome (slice_get net.live i) (λ m. first_refusal (signal_tests m.message.signals s) ≡ None)
-    fits_there = subst (λ o. IfSome o (λ m. first_refusal (signal_tests m.message.signals s) ≡ None)) (sym there) fits.2
+-- The live message of a name, to which a change adds a signal.
+module _ (net : Net) (message : List ℕ) (s : Signal) (fits : Fits (AddSignal message s) (Some net)) where
+  pub has_index : position (named message) net.live ≡ None → ⊥
+  has_index none = none-some fits.0 (sym (not_found (named message) net.live none) ∙ fits.1)
 
-    pub signal_added : (live : List LiveMessage) → IsNet net → IfSome (slice_get net.live i) (λ m. live ≡ slice_set net.live i (with_last_signal m s))
-        → ◌≡◌ {A = Net} (record net { live = live }) (net_changed (AddSignal message s) net)
-    signal_added live is changed =
-        let set_there : live ≡ slice_set net.live i (with_last_signal fits.0 s) =
-        subst (λ o. IfSome o (λ m. live ≡ slice_set net.live i (with_last_signal m s))) there changed in
-        let old : fits.0 ≡ get_or net.live i fits.0 = sym (get_or_from_slice_get net.live i fits.0 fits.0 there) in
-        let there_put : live ≡ put by_number (with_last_signal fits.0 s) net.live =
-        set_there ∙ sym (put_live net.live i (with_last_signal fits.0 s) fits.0 is.live.sheet.well_formed.together.ascending is_within old refl) in
-        ap (λ (l : List LiveMessage). record net { live = l }) there_put
-        ∙ subst (λ (o : Option LiveMessage). ◌≡◌ {A = Net} (with_message net (with_last_signal fits.0 s)) (elim o [ None ↦ net | Some m ↦ with_message net (with_last_signal m s) ])) (sym fits.1) refl
+  pub fits_there : (i : ℕ) → position (named message) net.live ≡ Some i → IfSome (slice_get net.live i) (λ m. first_refusal (signal_tests m.message.signals s) ≡ None)
+  fits_there i at =
+      subst (λ o. IfSome o (λ m. first_refusal (signal_tests m.message.signals s) ≡ None)) (sym ((found_at (named message) net.live i at).1 ∙ fits.1)) fits.2
 
--- a signal more leaves a message its name and its identifier
-pub alike_with : (m : LiveMessage) (s : Signal) → indexed_alike m (with_last_signal m s) ≡ true
-alike_with m s = rw ((bytes_eq-Decides m.message.name m.message.name).1 refl, same_ident-itself m.message.ident) refl
+-- other signals leave a message its name and its identifier
+pub alike_with : (m : LiveMessage) (signals : List Signal) → indexed_alike m (with_signals m signals) ≡ true
+alike_with m signals = rw ((bytes_eq-Decides m.message.name m.message.name).1 refl, same_ident-itself m.message.ident) refl

@@ -13,7 +13,7 @@ use Rattle.catalogue.specs.Keyed.{text_cmp}
 use Rattle.catalogue.specs.Named.{AreNamedApart}
 use Rattle.office_types.specs.Free.{is_taken}
 use Rattle.office_types.specs.declared.change.Change.{Change}
-use Rattle.office_types.specs.declared.change.Change.TheVariants.{SetMessage, RemoveMessage, AddSignal, RemoveSignal, Hold, EnterSpn, ClearApprovals}
+use Rattle.office_types.specs.declared.change.Change.TheVariants.{SetMessage, RemoveMessage, AddSignal, RemoveSignal, SetSpn, SetValues, Hold, EnterSpn, ClearApprovals}
 use Rattle.office_types.specs.declared.command.Command.{Command}
 use Rattle.office_types.specs.declared.reply.Reply.{Reply}
 use Rattle.office_types.specs.declared.state.LiveMessage.{LiveMessage}
@@ -86,6 +86,8 @@ is_of_messages (SetMessage m) = true
 is_of_messages (RemoveMessage i) = true
 is_of_messages (AddSignal message s) = true
 is_of_messages (RemoveSignal path) = true
+is_of_messages (SetSpn path n) = true
+is_of_messages (SetValues path values) = true
 is_of_messages (Hold i) = true
 is_of_messages c = false
 

@@ -1,6 +1,7 @@
 //! Carrying out what was decided on a network that is there, and on the book. It is done in place where nothing can
-//! fail once something has changed: for one change, and for three pairs (a message and its SPN; an identifier that is
-//! held as its message goes; a head without approvals). More changes, and all other pairs, are made on copies first.
+//! fail once something has changed: for one change, and for three pairs (a signal's SPN that enters the book; an
+//! identifier that is held as its message goes; a head without approvals). More changes, and all other pairs, are made
+//! on copies first.
 ghost use Rattle.std.specs.Prelude.{◌≡◌, ◌∷◌, [], OnOk, OnErr, Some};
 ghost use Rattle.office_types.specs.declared.change.Change.TheVariants as change;
 ghost use Rattle.office_rules.specs.Change.{AllFit, Fits, NetAndBook, all_applied, changed_book, net_changed};
@@ -8,15 +9,16 @@ ghost use Rattle.office_rules.specs.Kept.{IsNet};
 ghost use Rattle.office.specs.Indexed.{IsIndexIfThere, is_of_messages};
 
 use crate::changing::{
-    add_signal_in, hold_message, remove_message, remove_signal_in, replace_message, set_message,
+    add_signal_in, hold_message, remove_message, remove_signal_in, set_message, set_spn_in,
+    set_values_in,
 };
-use crate::looking_up::{find_ident, search_live};
+use crate::looking_up::find_ident;
 use crate::net_index::NetIndex;
 use can_id::Ident;
 use catalogue::{Items, put_item};
 use office_decide::{change_all, change_net, draft_of};
 use office_facts::same_ident;
-use office_types::{Change, Head, LiveMessage, Net, NetName, SpnBook, UsableSpn};
+use office_types::{Change, Head, Net, NetName, SignalPath, SpnBook, UsableSpn};
 use std::alloc::{AllocError, Global};
 
 /// Whether the change is of live messages or of held identifiers.
@@ -29,6 +31,8 @@ fn is_of_messages(change: &Change) -> bool
             | Change::RemoveMessage(_)
             | Change::AddSignal(_, _)
             | Change::RemoveSignal(_)
+            | Change::SetSpn(_, _)
+            | Change::SetValues(_, _)
             | Change::Hold(_)
     )
 }
@@ -76,7 +80,18 @@ fn carry_one_out(
             Ok(())
         }
         Change::AddSignal(message, signal) => add_signal_in(alloc, net, index, &message, signal),
-        Change::RemoveSignal(path) => remove_signal_in(alloc, net, index, &path),
+        Change::RemoveSignal(path) => {
+            remove_signal_in(net, index, &path);
+            Ok(())
+        }
+        Change::SetSpn(path, spn) => {
+            set_spn_in(net, index, &path, spn);
+            Ok(())
+        }
+        Change::SetValues(path, values) => {
+            set_values_in(net, index, &path, values);
+            Ok(())
+        }
         Change::SetSpnBlock(block) => put_item(&mut book.blocks, block),
         Change::EnterSpn(spn) => book.used.enter(spn),
         other => change_otherwise(alloc, net, index, other),
@@ -136,36 +151,27 @@ fn carry_both_out(
     carry_all_out(alloc, name, net, book, index, changes)
 }
 
-/// Sets a message, and enters a number into the book. When it fails, nothing changes.
+/// Gives a signal a number, and enters a number into the book. When memory runs out, nothing changes.
 fn set_and_enter(
-    alloc: Global,
     name: &NetName,
     net: &mut Net,
     book: &mut SpnBook,
-    index: &mut Option<NetIndex>,
-    message: LiveMessage,
+    index: &Option<NetIndex>,
+    path: &SignalPath,
     spn: UsableSpn,
+    entered: UsableSpn,
 ) -> Result<(), AllocError>
     requires net { IsNet net.old }
-    requires index { IsIndexIfThere index.old net.old }
+    requires index { IsIndexIfThere index.now net.old }
     ensures ok { OnOk result (◌≡◌ {A = NetAndBook} (record { net = Some net.new; book = book.new })
-        (all_applied name.now (change.SetMessage message ∷ change.EnterSpn spn ∷ [])
+        (all_applied name.now (change.SetSpn path.now spn ∷ change.EnterSpn entered ∷ [])
         (record { net = Some net.old; book = book.old }))) }
     ensures err { OnErr result ((net.new ≡ net.old) × (book.new ≡ book.old)) }
-    ensures index { IsIndexIfThere index.new net.new }
+    ensures index { IsIndexIfThere index.now net.new }
 {
-    match search_live(net.live.as_slice(), message.message.number()) {
-        Ok(at) => {
-            book.used.enter(spn)?;
-            replace_message(net, index, at, message);
-            Ok(())
-        }
-        Err(_) => {
-            let first = Change::SetMessage(message);
-            let second = Change::EnterSpn(spn);
-            carry_both_out(alloc, name, net, book, index, first, second)
-        }
-    }
+    book.used.enter(entered)?;
+    set_spn_in(net, index, path, spn);
+    Ok(())
 }
 
 /// Removes the live message of an identifier, and holds an identifier: the same one, where a command does both. When
@@ -197,30 +203,31 @@ fn remove_and_hold(
     carry_both_out(alloc, name, net, book, index, first, second)
 }
 
-/// Sets a message, and makes another change, which fits after that. When it fails, nothing changes.
-fn set_message_then(
+/// Gives a signal a number, and makes another change, which fits after that. When memory runs out, nothing changes.
+fn set_spn_then(
     alloc: Global,
     name: &NetName,
     net: &mut Net,
     book: &mut SpnBook,
     index: &mut Option<NetIndex>,
-    message: LiveMessage,
+    path: SignalPath,
+    spn: UsableSpn,
     second: Change,
 ) -> Result<(), AllocError>
     requires net { IsNet net.old }
     requires index { IsIndexIfThere index.old net.old }
-    requires fit { AllFit name.now (change.SetMessage message ∷ second ∷ [])
+    requires fit { AllFit name.now (change.SetSpn path spn ∷ second ∷ [])
         (record { net = Some net.old; book = book.old }) }
     ensures ok { OnOk result (◌≡◌ {A = NetAndBook} (record { net = Some net.new; book = book.new })
-        (all_applied name.now (change.SetMessage message ∷ second ∷ [])
+        (all_applied name.now (change.SetSpn path spn ∷ second ∷ [])
         (record { net = Some net.old; book = book.old }))) }
     ensures err { OnErr result ((net.new ≡ net.old) × (book.new ≡ book.old)) }
     ensures index { IsIndexIfThere index.new net.new }
 {
     match second {
-        Change::EnterSpn(spn) => set_and_enter(alloc, name, net, book, index, message, spn),
+        Change::EnterSpn(entered) => set_and_enter(name, net, book, index, &path, spn, entered),
         second => {
-            let first = Change::SetMessage(message);
+            let first = Change::SetSpn(path, spn);
             carry_both_out(alloc, name, net, book, index, first, second)
         }
     }
@@ -309,9 +316,7 @@ fn carry_two_out(
     ensures index { IsIndexIfThere index.new net.new }
 {
     match first {
-        Change::SetMessage(message) => set_message_then(
-            alloc, name, net, book, index, message, second,
-        ),
+        Change::SetSpn(path, spn) => set_spn_then(alloc, name, net, book, index, path, spn, second),
         Change::RemoveMessage(ident) => remove_message_then(
             alloc, name, net, book, index, ident, second,
         ),

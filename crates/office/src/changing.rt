@@ -6,7 +6,7 @@
 ghost use Rattle.std.specs.Prelude.{◌≡◌, ◌<◌, ◌≤◌, OnOk, OnErr, Some, insert, length, slice_set};
 ghost use Rattle.std.specs.List.Sorted.{IsStrictlySortedBy};
 ghost use Rattle.office_types.specs.State.{by_number};
-ghost use Rattle.office_types.specs.declared.change.Change.TheVariants.{AddSignal, RemoveSignal};
+ghost use Rattle.office_types.specs.declared.change.Change.TheVariants.{AddSignal, RemoveSignal, SetSpn, SetValues};
 ghost use Rattle.office_rules.specs.Change.{Fits, net_changed};
 ghost use Rattle.office_rules.specs.Kept.{IsNet};
 ghost use Rattle.office_rules.specs.Numbers.{with_message};
@@ -16,10 +16,10 @@ ghost use Rattle.office.specs.Indexed.{IsIndexIfThere, IsFoundAt, indexed_alike}
 use crate::looking_up::{find_ident, find_named, search_idents, search_live};
 use crate::net_index::{NetIndex, with_inserted, with_moved, with_removed};
 use can_id::Ident;
-use catalogue::{Copying, Name, Signal};
-use office_decide::{add_at, with_signal_out};
+use catalogue::{Copying, Name, Signal, ValueTexts};
+use office_decide::{add_at, set_spn_at, set_values_at, take_out_at};
 use office_facts::same_ident;
-use office_types::{LiveMessage, Net, SignalPath};
+use office_types::{LiveMessage, Net, SignalPath, UsableSpn};
 use std::alloc::{AllocError, Global};
 use std::mem::replace;
 
@@ -127,26 +127,47 @@ pub(crate) fn add_signal_in(
     }
 }
 
-/// Removes the signal of a live message, if both are there. When memory runs out, nothing changes.
-pub(crate) fn remove_signal_in(
-    alloc: Global,
-    net: &mut Net,
-    index: &mut Option<NetIndex>,
-    path: &SignalPath,
-) -> Result<(), AllocError>
+/// Removes the signal of a live message in its place, if both are there. Takes no memory.
+pub(crate) fn remove_signal_in(net: &mut Net, index: &Option<NetIndex>, path: &SignalPath)
     requires net { IsNet net.old }
-    requires index { IsIndexIfThere index.old net.old }
-    ensures ok { OnOk result (net.new ≡ net_changed (RemoveSignal path.now) net.old) }
-    ensures err { OnErr result (net.new ≡ net.old) }
-    ensures index { IsIndexIfThere index.new net.new }
+    requires index { IsIndexIfThere index.now net.old }
+    ensures net { net.new ≡ net_changed (RemoveSignal path.now) net.old }
+    ensures index { IsIndexIfThere index.now net.new }
 {
     match find_named(net, index, &path.message) {
-        None => Ok(()),
-        Some(at) => {
-            let without = with_signal_out(alloc, &net.live.as_slice()[at], &path.signal)?;
-            replace_message(net, index, at, without);
-            Ok(())
-        }
+        None => {}
+        Some(at) => take_out_at(&mut net.live, at, &path.signal),
+    }
+}
+
+/// Gives the signal of a live message the number in its place, if both are there. Takes no memory.
+pub(crate) fn set_spn_in(net: &mut Net, index: &Option<NetIndex>, path: &SignalPath, spn: UsableSpn)
+    requires net { IsNet net.old }
+    requires index { IsIndexIfThere index.now net.old }
+    ensures net { net.new ≡ net_changed (SetSpn path.now spn) net.old }
+    ensures index { IsIndexIfThere index.now net.new }
+{
+    match find_named(net, index, &path.message) {
+        None => {}
+        Some(at) => set_spn_at(&mut net.live, at, &path.signal, spn),
+    }
+}
+
+/// Sets the texts of the values of a live message's signal in its place, if both are there. Takes no memory.
+pub(crate) fn set_values_in(
+    net: &mut Net,
+    index: &Option<NetIndex>,
+    path: &SignalPath,
+    values: ValueTexts,
+)
+    requires net { IsNet net.old }
+    requires index { IsIndexIfThere index.now net.old }
+    ensures net { net.new ≡ net_changed (SetValues path.now values) net.old }
+    ensures index { IsIndexIfThere index.now net.new }
+{
+    match find_named(net, index, &path.message) {
+        None => {}
+        Some(at) => set_values_at(&mut net.live, at, &path.signal, values),
     }
 }
 

@@ -19,7 +19,8 @@ use Rattle.office_rules.specs.Bundling.{PartsOutcome, RefusedAt, AllDone, both_e
 use Rattle.office_rules.specs.Change.{AllFit, Decides, HaveOwnBlocks, IsHeadFirst, NetAndBook, all_applied, applied}
 use Rattle.office_rules.specs.Commands.{acted, parts_done}
 use Rattle.office_rules.specs.Outcome.{Entries, Outcome, Refusing, Changing, entered, no_entries}
-use Rattle.office_law.proofs.Left.{IsAnswer, IsLeft, left_act}
+use Rattle.office_law.proofs.Leaving.{left_act}
+use Rattle.office_law.proofs.Left.{IsAnswer, IsLeft}
 use Rattle.office_law.proofs.Parts.{entered_both}
 use Rattle.office_law.proofs.Passing.{Leaves}
 use Rattle.office_decide.specs.Bundled.{IsAdded, IsPartDecided, refusal_in}

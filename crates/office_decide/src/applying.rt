@@ -4,7 +4,7 @@ ghost use Rattle.std.specs.Option.{option_copied};
 ghost use Rattle.office_rules.specs.Change.{AllFit, Fits, net_changed, applied, all_applied};
 ghost use Rattle.office_rules.specs.Opening.{bare_net};
 
-use crate::one_signal::{add_signal, remove_signal};
+use crate::one_signal::{add_signal, remove_signal, set_spn, set_values};
 use catalogue::{Copying, Items, put_item};
 use office_facts::same_ident;
 use office_types::{Change, Head, Net, NetName, SpnBook};
@@ -89,6 +89,8 @@ pub fn change_net(alloc: Global, net: &mut Net, change: Change) -> Result<(), Al
         }
         Change::AddSignal(message, signal) => add_signal(alloc, net, &message, signal),
         Change::RemoveSignal(path) => remove_signal(alloc, net, &path),
+        Change::SetSpn(path, spn) => set_spn(alloc, net, &path, spn),
+        Change::SetValues(path, values) => set_values(alloc, net, &path, values),
         Change::SetBlock(block) => put_item(&mut net.blocks, block),
         Change::SetSpnBlock(_) | Change::EnterSpn(_) => Ok(()),
         Change::Hold(ident) => put_item(&mut net.held, ident),

@@ -24,7 +24,7 @@ use office_types::{
 };
 use std::alloc::{AllocError, Global};
 
-/// Why what wants a network is refused where it isn't there; what the office alone may do is refused to another team
+/// Why what needs a network is refused where it isn't there; what the office alone may do is refused to another team
 /// first.
 fn nowhere_refusal(team: &Team, is_of_office: bool) -> Refusal
     ensures { Some result ≡ first_refusal

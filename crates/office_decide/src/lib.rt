@@ -23,5 +23,5 @@ mod walking;
 pub use applying::{Draft, bare_net, change_all, change_net, draft_of};
 pub use by_facts::decide_by;
 pub use deciding::{decide, decide_by_excerpt};
-pub use one_signal::{add_at, with_signal_out};
+pub use one_signal::{add_at, set_spn_at, set_values_at, take_out_at};
 pub use walking::{number_facts, retiring_facts, walk};

@@ -5,7 +5,7 @@ use Rattle.sqlite.specs.declared.types.Value.TheVariants.{Null, Int, Text}
 use Rattle.sqlite.specs.Tree.{put_row}
 use Rattle.sqlite_value.specs.Order.{value_cmp}
 use lib.Ieee
-use Rattle.office_rows.specs.Rows.{approval_row, held_row, spn_row, is_of_net, has_net_and_number, has_rowid_above, has_rowid_below, has_two_texts, is_number}
+use Rattle.office_rows.specs.Rows.{approval_row, held_row, spn_row, is_of_net, has_name_of, has_net_and_number, has_rowid_above, has_rowid_below, has_two_texts, is_number}
 use Rattle.office_rows.specs.Shown.{held_shown, blocks_order, net_names_order}
 
 -- the held numbers of one network
@@ -29,6 +29,13 @@ without_truck = refl
 one_approval : map (has_two_texts (codes "truck") (codes "brake")) (approval_row (codes "truck") (codes "brake") ∷ approval_row (codes "brake") (codes "truck") ∷ []) ≡ true ∷ false ∷ []
 unfolding value_cmp lib.Ieee.is_nan lib.Ieee.lt
 one_approval = refl
+
+-- a signal of the message, one of another message, and one of another name
+one_signal : map (has_name_of (codes "truck") 256 (codes "Speed")) ((Text (codes "truck") ∷ Int (pos 256) ∷ Int (pos 4) ∷ Text (codes "Speed") ∷ [])
+    ∷ (Text (codes "truck") ∷ Int (pos 257) ∷ Int (pos 4) ∷ Text (codes "Speed") ∷ []) ∷ (Text (codes "truck") ∷ Int (pos 256) ∷ Int (pos 5) ∷ Text (codes "Gear") ∷ []) ∷ [])
+    ≡ true ∷ false ∷ false ∷ []
+unfolding value_cmp lib.Ieee.is_nan lib.Ieee.lt
+one_signal = refl
 
 -- rows of a tree, which begin with their rowids
 above_two : map (has_rowid_above 2) ((Int (pos 2) ∷ []) ∷ (Int (pos 3) ∷ []) ∷ []) ≡ false ∷ true ∷ []

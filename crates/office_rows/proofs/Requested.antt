@@ -15,7 +15,7 @@ use Rattle.sqlite_sql.specs.declared.ops.CompareOp.TheVariants.{Eq, Ge, Gt, Le, 
 use Rattle.office_tables.specs.Tables.{values, keyed_values}
 use Rattle.office_tables.proofs.Selecting.{and_true, truth_of}
 use Rattle.office_tables.proofs.Columns.{column_is, text_requested, number_requested, key_requested}
-use Rattle.office_rows.specs.Rows.{is_of_net, has_net_and_name, has_net_and_number, has_number_between, has_place_of, has_rowid_above, has_rowid_below, is_below, is_between, is_block, is_of_form, has_two_texts, is_any, is_number}
+use Rattle.office_rows.specs.Rows.{is_of_net, has_name_of, has_net_and_name, has_net_and_number, has_number_between, has_place_of, has_rowid_above, has_rowid_below, is_below, is_between, is_block, is_of_form, has_two_texts, is_any, is_number}
 
 -- the column of the table is the parameter at this index
 abbrev pub is_parameter : ℕ → ℕ → Term
@@ -32,6 +32,9 @@ name_tests = is_parameter 1 0 ∷ is_parameter 3 1 ∷ []
 
 abbrev pub three_tests : List Term
 three_tests = is_parameter 1 0 ∷ is_parameter 2 1 ∷ is_parameter 3 2 ∷ []
+
+abbrev pub signal_tests : List Term
+signal_tests = is_parameter 1 0 ∷ is_parameter 2 1 ∷ is_parameter 4 2 ∷ []
 
 abbrev pub form_test : List Term
 form_test = is_parameter 2 0 ∷ []
@@ -57,6 +60,13 @@ block_requested net form first r =
 
 pub place_requested : (net : List ℕ) (number place : ℕ) (r : Row) → has_place_of net number place (values r) ≡ list_all (holds ((Text net ∷ Int (pos number) ∷ Int (pos place) ∷ []) ∷ r ∷ [])) three_tests
 place_requested net number place r = block_requested net number place r
+
+pub signal_requested : (net : List ℕ) (number : ℕ) (name : List ℕ) (r : Row) → has_name_of net number name (values r) ≡ list_all (holds ((Text net ∷ Int (pos number) ∷ Text name ∷ []) ∷ r ∷ [])) signal_tests
+signal_requested net number name r =
+    let a = text_requested 0 net r in
+    let b = number_requested 1 number r in
+    let c = text_requested 3 name r ∙ sym (and_true _) in
+    rw (a, b, c)
 
 pub form_requested : (form : ℕ) (r : Row) → is_of_form form (values r) ≡ list_all (holds ((Int (pos form) ∷ []) ∷ r ∷ [])) form_test
 form_requested form r = number_requested 1 form r ∙ sym (and_true _)

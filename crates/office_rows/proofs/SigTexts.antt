@@ -34,9 +34,9 @@ use Rattle.office_tables.proofs.Finding.{ascending, IsSelect, Means, finds}
 use Rattle.office_tables.proofs.TopRow.{IsTopSelect, descending, tops}
 use Rattle.office_rows.specs.declared.row.SigRow.{SigRow}
 use Rattle.office_rows.specs.Mux.{mux_number}
-use Rattle.office_rows.specs.Rows.{has_net_and_number, has_place_of, is_of_net, sig_row}
+use Rattle.office_rows.specs.Rows.{has_name_of, has_net_and_number, has_place_of, is_of_net, sig_row}
 use Rattle.office_rows.specs.Shown.{last_place_order, last_place_shown, sigs_order, sigs_shown}
-use Rattle.office_rows.proofs.Requested.{net_requested, numbered_requested, one_test, place_requested, three_tests, two_tests}
+use Rattle.office_rows.proofs.Requested.{net_requested, numbered_requested, one_test, place_requested, signal_requested, signal_tests, three_tests, two_tests}
 use Rattle.office_tables.proofs.Counting.{IsCountSelect, counts}
 use Rattle.sqlite_sql.specs.Aggregate.{count}
 
@@ -132,6 +132,31 @@ sigs_found rows_of net number = finds office_schema sigs_text 20 two_tests sigs_
 
 pub sigs_plain : (s : Schema) → s ≡ office_schema → IsPlain (understood s sigs_text)
 sigs_plain = plain_in sigs_text (sigs_selects []).plain
+
+-- ---- select_sigs_named
+
+abbrev pub named_text : List ℕ
+named_text = codes "SELECT place, name, start, size, motorola, signed, mux, factor, shift, least, most, unit, comment, spn, label FROM sig WHERE net = ?1 AND number = ?2 AND name = ?3 ORDER BY place"
+
+named_selects : (params : Row) → IsSelect office_schema named_text 20 signal_tests sigs_columns sigs_by (codes "place" ∷ codes "name" ∷ codes "start" ∷ codes "size" ∷ codes "motorola" ∷ codes "signed" ∷ codes "mux" ∷ codes "factor" ∷ codes "shift" ∷ codes "least" ∷ codes "most" ∷ codes "unit" ∷ codes "comment" ∷ codes "spn" ∷ codes "label" ∷ []) params
+unfolding understood everything office_schema
+named_selects params = record { command = refl; listing = refl; plain = (refl, refl) }
+
+named_means : (net : List ℕ) (number : ℕ) (name : List ℕ) → Means values 20 signal_tests sigs_columns sigs_by (Text net ∷ Int (pos number) ∷ Text name ∷ []) (has_name_of net number name) sigs_shown sigs_order
+named_means net number name = record {
+  tests_same = signal_requested net number name;
+  shows_same = (sigs_means net number).shows_same;
+  orders_same = (sigs_means net number).orders_same;
+}
+
+pub named_found : {X : Type 0} (rows_of : X → List Row) (net : List ℕ) (number : ℕ) (name : List ℕ) (old new : State) (r : Result X Error) → old.now.schema ≡ office_schema
+    → IfOk r (λ x. Shown named_text (Text net ∷ Int (pos number) ∷ Text name ∷ []) old new (rows_of x))
+    → IfOk r (λ x. IsSelected (has_name_of net number name) sigs_shown sigs_order (tables_of old.now.trees).sig (rows_of x))
+named_found rows_of net number name = finds office_schema named_text 20 signal_tests sigs_columns sigs_by _ (Text net ∷ Int (pos number) ∷ Text name ∷ [])
+    (named_selects (Text net ∷ Int (pos number) ∷ Text name ∷ [])) values (has_name_of net number name) sigs_shown sigs_order (named_means net number name) rows_of
+
+pub named_plain : (s : Schema) → s ≡ office_schema → IsPlain (understood s named_text)
+named_plain = plain_in named_text (named_selects []).plain
 
 -- ---- select_last_place
 

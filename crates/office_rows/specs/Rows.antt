@@ -89,6 +89,10 @@ has_net_and_number net number row = has_text 0 net row && has_number 1 number ro
 abbrev pub has_place_of : List ℕ → ℕ → ℕ → Row → Bool
 has_place_of net number place row = has_text 0 net row && (has_number 1 number row && has_number 2 place row)
 
+-- a signal's message's network and number, and its name
+abbrev pub has_name_of : List ℕ → ℕ → List ℕ → Row → Bool
+has_name_of net number name row = has_text 0 net row && (has_number 1 number row && has_text 3 name row)
+
 -- a live message's network and name
 abbrev pub has_net_and_name : List ℕ → List ℕ → Row → Bool
 has_net_and_name net name row = has_text 0 net row && has_text 2 name row

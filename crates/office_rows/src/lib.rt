@@ -51,7 +51,10 @@ pub use row::{
     BlockRow, FrozenRow, MessageRow, MsgRow, MuxColumn, NetRow, PartRow, ReceiverRow, ReplyRow,
     SigRow, SigValueRow,
 };
-pub use sig::{count_sigs, delete_sig_at, delete_sigs, insert_sig, select_last_place, select_sigs};
+pub use sig::{
+    count_sigs, delete_sig_at, delete_sigs, insert_sig, select_last_place, select_sigs,
+    select_sigs_named,
+};
 pub use sigvalue::{
     count_sigvalues, delete_sigvalues, delete_sigvalues_at, insert_sigvalue, select_sigvalues,
 };

@@ -1,7 +1,7 @@
 //! Rows of `sig`.
 ghost use Rattle.std.specs.Prelude.{[], filter, length, not, ◌++◌, ◌∷◌, ◌≡◌};
 ghost use Rattle.office_tables.specs.Selected.{IsFirstSelected, IsSelected};
-ghost use Rattle.office_rows.specs.Rows.{has_net_and_number, has_place_of, is_of_net, sig_row};
+ghost use Rattle.office_rows.specs.Rows.{has_name_of, has_net_and_number, has_place_of, is_of_net, sig_row};
 ghost use Rattle.office_rows.specs.Shown.{last_place_order, last_place_shown, sigs_order, sigs_shown};
 ghost use Rattle.sqlite_sql.specs.Aggregate.{count};
 ghost use Rattle.sqlite.specs.Held.{state};
@@ -104,6 +104,27 @@ pub fn select_sigs<S: Alter>(
     tx.query_all(
         "SELECT place, name, start, size, motorola, signed, mux, factor, shift, least, most, unit, comment, spn, label FROM sig WHERE net = ?1 AND number = ?2 ORDER BY place",
         &[ValueRef::Text(net), number.to_sql()],
+    )
+}
+
+/// The signals of the name, of the network's message with the number, in the order of their places: the columns of
+/// [`select_sigs`].
+pub fn select_sigs_named<S: Alter>(
+    tx: &mut Transaction<'_, S>,
+    net: &[u8],
+    number: u32,
+    name: &[u8],
+) -> Result<Vec<Row>, Error>
+    ensures same_reference { tx.new.conn.ghost_name ≡ tx.old.conn.ghost_name }
+    ensures found { Finds result (state S.Store tx.old.conn.now) (state S.Store tx.new.conn.now)
+        (λ rows t. IsSelected (has_name_of net.now number name.now) sigs_shown sigs_order t.sig rows.items) }
+    ensures same { ChangesNothing result (state S.Store tx.old.conn.now) (state S.Store tx.new.conn.now) }
+    ensures kept { CommitsNothing (state S.Store tx.old.conn.now) (state S.Store tx.new.conn.now) }
+    ensures survives { LeavesNothing (state S.Store tx.old.conn.now) (state S.Store tx.new.conn.now) }
+{
+    tx.query_all(
+        "SELECT place, name, start, size, motorola, signed, mux, factor, shift, least, most, unit, comment, spn, label FROM sig WHERE net = ?1 AND number = ?2 AND name = ?3 ORDER BY place",
+        &[ValueRef::Text(net), number.to_sql(), ValueRef::Text(name)],
     )
 }
 

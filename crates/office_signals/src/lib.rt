@@ -1,6 +1,6 @@
 //! What the office decides on commands on a live message.
 //!
-//! Five commands: taking bits for a new signal ([`decide_take_bits`]), taking a suspect parameter number for a signal
+//! The commands: taking bits for a new signal ([`decide_take_bits`]), taking a suspect parameter number for a signal
 //! ([`decide_take_spn`]), setting the texts of a signal's values ([`decide_set_values`]), removing a signal
 //! ([`decide_remove_signal`]), and taking the whole message out ([`decide_retire`]).
 //!

@@ -3,19 +3,19 @@ ghost use Rattle.std.specs.Prelude.{◌≡◌, ◌∷◌, [], IfOk, IsTrue, None
 ghost use Rattle.office_facts.specs.FactsOf.{message_facts_of};
 ghost use Rattle.office_types.specs.Book.{is_spn_number};
 ghost use Rattle.office_types.specs.Free.{is_taken};
-ghost use Rattle.office_types.specs.declared.change.Change.TheVariants.{EnterSpn, SetMessage};
+ghost use Rattle.office_types.specs.declared.change.Change.TheVariants.{EnterSpn, SetSpn};
 ghost use Rattle.office_types.specs.declared.reply.Reply.TheVariants.{Number};
 ghost use Rattle.office_types.specs.declared.state.Net.{Net};
 ghost use Rattle.office_rules.specs.Change.{Decides};
 ghost use Rattle.office_rules.specs.Facts.{message_facts, spn_blocks_of};
-ghost use Rattle.office_rules.specs.Signals.{spn_given, spn_tests, take_spn, with_spn};
+ghost use Rattle.office_rules.specs.Signals.{spn_given, spn_tests, take_spn};
 ghost use Rattle.office_signals.specs.Given.{IsGiven};
 
 use crate::own::own_message;
-use catalogue::{Copying, Name, Spn};
+use catalogue::Copying;
 use office_facts::{MessageFacts, has_signal, refusal_decision, spn_blocks_of, two_changes};
 use office_types::{
-    Block, Change, Decision, Form, LiveMessage, NetName, Refusal, Reply, SpnBook, TakeSpn, Team,
+    Block, Change, Decision, Form, NetName, Refusal, Reply, SignalPath, SpnBook, TakeSpn, Team,
     UsableSpn, least_gap,
 };
 use std::alloc::{AllocError, Global};
@@ -100,35 +100,15 @@ fn spn_for(
     }
 }
 
-/// The message with the number at its signal of the name. The error is out of memory.
-fn with_spn(
-    alloc: Global,
-    live: &LiveMessage,
-    name: &Name,
-    spn: Spn,
-) -> Result<LiveMessage, AllocError>
-    ensures { IfOk result (λ m. m ≡ with_spn live.now name.now spn) }
-{
-    let mut with = live.duplicate(alloc)?;
-    with.message.signals.set_spn(name, spn);
-    Ok(with)
-}
-
-fn spn_taken(
-    alloc: Global,
-    live: &LiveMessage,
-    command: &TakeSpn,
-    spn: UsableSpn,
-) -> Result<Decision, AllocError>
-    ensures changes { IfOk result (λ d. d.changes ≡ SetMessage
-        (with_spn live.now command.now.path.signal spn) ∷ EnterSpn spn ∷ []) }
+/// The decision that gives the signal the number. The error is out of memory.
+fn spn_taken(alloc: Global, path: &SignalPath, spn: UsableSpn) -> Result<Decision, AllocError>
+    ensures changes { IfOk result (λ d. d.changes ≡ SetSpn path.now spn ∷ EnterSpn spn ∷ []) }
     ensures reply { IfOk result (λ d. d.reply ≡ Number spn) }
 {
     let number = spn.number();
-    let with = with_spn(alloc, live, &command.path.signal, spn.spn())?;
     two_changes(
         alloc,
-        Change::SetMessage(with),
+        Change::SetSpn(path.duplicate(alloc)?, spn),
         Change::EnterSpn(spn),
         Reply::Number(number),
     )
@@ -157,7 +137,7 @@ pub fn decide_take_spn(
             }
             match spn_for(alloc, team, name, book, command)? {
                 Err(refusal) => Ok(refusal_decision(alloc, refusal)),
-                Ok(spn) => spn_taken(alloc, live, command, spn),
+                Ok(spn) => spn_taken(alloc, &command.path, spn),
             }
         }
     }

@@ -3,17 +3,17 @@ ghost use Rattle.std.specs.Prelude.{◌≡◌, ◌≤◌, ◌∷◌, [], ℕ, Li
 ghost use Rattle.catalogue.specs.Limits.{value_text_limit};
 ghost use Rattle.office_facts.specs.FactsOf.{message_facts_of};
 ghost use Rattle.office_types.specs.declared.book.SpnBook.{SpnBook};
-ghost use Rattle.office_types.specs.declared.change.Change.TheVariants.{SetMessage};
+ghost use Rattle.office_types.specs.declared.change.Change.TheVariants.{SetValues as SetTexts};
 ghost use Rattle.office_types.specs.declared.reply.Reply.TheVariants.{Done};
 ghost use Rattle.office_types.specs.declared.state.Net.{Net};
 ghost use Rattle.office_rules.specs.Change.{Decides};
 ghost use Rattle.office_rules.specs.Facts.{message_facts};
-ghost use Rattle.office_rules.specs.Signals.{set_values, with_values};
+ghost use Rattle.office_rules.specs.Signals.{set_values};
 
 use crate::own::own_message;
 use catalogue::{Copying, Items, VALUE_TEXT_LIMIT, ValueText, ValueTexts};
 use office_facts::{MessageFacts, has_signal, one_change, refusal_decision};
-use office_types::{Change, Decision, LiveMessage, Refusal, Reply, SetValues, Team};
+use office_types::{Change, Decision, Refusal, Reply, SetValues, Team};
 use std::alloc::{AllocError, Global};
 
 /// A copy of the texts, of which there are few enough. The error is out of memory.
@@ -28,34 +28,15 @@ fn value_texts(alloc: Global, values: &Items<ValueText>) -> Result<ValueTexts, A
     }
 }
 
-/// The message with the texts at the command's signal. The error is out of memory.
-fn with_values(
-    alloc: Global,
-    live: &LiveMessage,
-    command: &SetValues,
-) -> Result<LiveMessage, AllocError>
+/// The decision that sets the texts. The error is out of memory.
+fn values_set(alloc: Global, command: &SetValues) -> Result<Decision, AllocError>
     requires { length command.now.values ≤ value_text_limit }
-    ensures { IfOk result (λ m. m ≡ with_values live.now command.now) }
-{
-    let values = value_texts(alloc, &command.values)?;
-    let mut with = live.duplicate(alloc)?;
-    with.message
-        .signals
-        .set_values(&command.path.signal, values);
-    Ok(with)
-}
-
-fn values_set(
-    alloc: Global,
-    live: &LiveMessage,
-    command: &SetValues,
-) -> Result<Decision, AllocError>
-    requires { length command.now.values ≤ value_text_limit }
-    ensures changes { IfOk result (λ d. d.changes ≡ SetMessage (with_values live.now command.now) ∷ []) }
+    ensures changes { IfOk result (λ d. d.changes ≡ SetTexts command.now.path command.now.values ∷ []) }
     ensures reply { IfOk result (λ d. d.reply ≡ Done) }
 {
-    let with = with_values(alloc, live, command)?;
-    one_change(alloc, Change::SetMessage(with), Reply::Done)
+    let path = command.path.duplicate(alloc)?;
+    let values = value_texts(alloc, &command.values)?;
+    one_change(alloc, Change::SetValues(path, values), Reply::Done)
 }
 
 /// Decides the team's `set_values` on a network that has these facts for the command's message. The error is out of
@@ -78,7 +59,7 @@ pub fn decide_set_values(
             } else if command.values.as_slice().len() > VALUE_TEXT_LIMIT {
                 Ok(refusal_decision(alloc, Refusal::TooMany))
             } else {
-                values_set(alloc, live, command)
+                values_set(alloc, command)
             }
         }
     }

@@ -31,7 +31,7 @@ use Rattle.store_net.proofs.Whole.{head_in}
 abbrev pub bare_placed : ℕ × Signal → ℕ × Signal
 bare_placed p = (p.0, bare_signal p.1)
 
-one_shown : (p : ℕ × Signal) (row : Row) → ShowsPlaced p row → ShowsPlaced (bare_placed p) row
+pub one_shown : (p : ℕ × Signal) (row : Row) → ShowsPlaced p row → ShowsPlaced (bare_placed p) row
 one_shown p row shown =
     let s = shown.signal in record {
       place = shown.place;

@@ -16,6 +16,7 @@ mod ReplyNumbers
 pub mod EachMessage
 pub mod Between
 mod SignalPlaces
+mod SetSignals
 pub mod HeadsShown
 pub mod Inside
 pub mod NumberExcerpts

@@ -7,9 +7,10 @@ use Rattle.std.proofs.lemmas.Result.{on_ok_weaker}
 use Rattle.sqlite.specs.declared.error.Error.{Error}
 use Rattle.catalogue.specs.declared.sheet.Sheet.{Sheet}
 use Rattle.catalogue.specs.declared.signal.Signal.{Signal}
+use Rattle.catalogue.specs.declared.value_texts.ValueText.{ValueText}
 use Rattle.office_types.specs.Block.{is_spn}
 use Rattle.office_types.specs.declared.change.Change.{Change}
-use Rattle.office_types.specs.declared.change.Change.TheVariants.{SetHead, SetMessage, RemoveMessage, AddSignal, RemoveSignal, SetBlock, SetSpnBlock, Hold, EnterSpn, SetApproval, ClearApprovals, AddRelease}
+use Rattle.office_types.specs.declared.change.Change.TheVariants.{SetHead, SetMessage, RemoveMessage, AddSignal, RemoveSignal, SetSpn, SetValues, SetBlock, SetSpnBlock, Hold, EnterSpn, SetApproval, ClearApprovals, AddRelease}
 use Rattle.office_types.specs.declared.command.SignalPath.{SignalPath}
 use Rattle.office_types.specs.declared.state.GrantedBlock.{GrantedBlock}
 use Rattle.office_types.specs.declared.state.LiveMessage.{LiveMessage}
@@ -18,7 +19,7 @@ use Rattle.office_rules.specs.Change.{HaveOwnBlocks, IsHeadFirst, NetAndBook, al
 use Rattle.office_tables.specs.Tables.{Tables}
 use Rattle.store_rows.specs.Follows.{AreWritten}
 use Rattle.store_rows.specs.Live.{AreLiveRows, live_rows}
-use Rattle.store_rows.specs.LiveWritten.{IsAdded, IsLive, IsTakenOut, with_live}
+use Rattle.store_rows.specs.LiveWritten.{AreTextsSet, IsAdded, IsLive, IsSpnSet, IsTakenOut, with_live}
 use Rattle.store_rows.specs.NetIn.{IsNetAt}
 use Rattle.store_rows.specs.Rows.{next_release}
 use Rattle.store_rows.specs.Written.{IsWritten}
@@ -66,6 +67,28 @@ added_signal r name change message s number t t2 is =
     by_net None at first written = absurd first
     by_net (Some net) at first written = written net.live at.live
 
+pub numbered_signal : {X : Type 0} (r : Result X Error) (name : List ℕ) (change : Change) (path : SignalPath) (n : ℕ) (number : Option ℕ) (t t2 : Tables) → change ≡ SetSpn path n
+    → OnOk r ((live : List LiveMessage) → AreLiveRows name (live_rows name t) live → IsSpnSet name path n live t t2) → OnOk r (WritesAt name change number t t2)
+numbered_signal r name change path n number t t2 is =
+    on_ok_weaker r (λ written net at first own next.
+    subst (λ d. IsWritten name d net t t2) (sym is) (by_net net at (subst (λ d. IsHeadFirst net (d ∷ [])) is first) written))
+  where
+    by_net : (net : Option Net) → IsNetAt name t net → IsHeadFirst net (SetSpn path n ∷ [])
+        → ((live : List LiveMessage) → AreLiveRows name (live_rows name t) live → IsSpnSet name path n live t t2) → IsWritten name (SetSpn path n) net t t2
+    by_net None at first written = absurd first
+    by_net (Some net) at first written = written net.live at.live
+
+pub described_signal : {X : Type 0} (r : Result X Error) (name : List ℕ) (change : Change) (path : SignalPath) (values : List ValueText) (number : Option ℕ) (t t2 : Tables) → change ≡ SetValues path values
+    → OnOk r ((live : List LiveMessage) → AreLiveRows name (live_rows name t) live → AreTextsSet name path values live t t2) → OnOk r (WritesAt name change number t t2)
+described_signal r name change path values number t t2 is =
+    on_ok_weaker r (λ written net at first own next.
+    subst (λ d. IsWritten name d net t t2) (sym is) (by_net net at (subst (λ d. IsHeadFirst net (d ∷ [])) is first) written))
+  where
+    by_net : (net : Option Net) → IsNetAt name t net → IsHeadFirst net (SetValues path values ∷ [])
+        → ((live : List LiveMessage) → AreLiveRows name (live_rows name t) live → AreTextsSet name path values live t t2) → IsWritten name (SetValues path values) net t t2
+    by_net None at first written = absurd first
+    by_net (Some net) at first written = written net.live at.live
+
 pub removed_signal : {X : Type 0} (r : Result X Error) (name : List ℕ) (change : Change) (path : SignalPath) (number : Option ℕ) (t t2 : Tables) → change ≡ RemoveSignal path
     → OnOk r ((live : List LiveMessage) → AreLiveRows name (live_rows name t) live → IsTakenOut name path live t t2) → OnOk r (WritesAt name change number t t2)
 removed_signal r name change path number t t2 is =
@@ -100,6 +123,8 @@ own_parts (SetMessage m) cs own = (tt, own)
 own_parts (RemoveMessage i) cs own = (tt, own)
 own_parts (AddSignal message s) cs own = (tt, own)
 own_parts (RemoveSignal path) cs own = (tt, own)
+own_parts (SetSpn path n) cs own = (tt, own)
+own_parts (SetValues path values) cs own = (tt, own)
 own_parts (SetBlock g) cs own = ((own.0, tt), own.1)
 own_parts (SetSpnBlock b) cs own = (tt, own)
 own_parts (Hold i) cs own = (tt, own)

@@ -132,7 +132,7 @@ fn mux_column(mux: Mux) -> MuxColumn
 }
 
 /// Writes the row of a signal, without its receivers and value texts.
-fn write_sig<S: Alter>(
+pub(crate) fn write_sig<S: Alter>(
     alloc: Global,
     tx: &mut Transaction<'_, S>,
     net: &[u8],

@@ -1,7 +1,11 @@
-//! The rows of one signal of a live message, added and removed: no row of another signal is written.
-ghost use Rattle.std.specs.Prelude.{[], ◌∷◌, ◌≡◌, ℕ, List, IfOk};
+//! The rows of one signal of a live message, added, removed and changed: no row of another signal is written.
+ghost use Rattle.std.specs.Prelude.{[], ◌∷◌, ◌≡◌, ℕ, List, IfOk, OnOk};
+ghost use Rattle.std.specs.List.{AllByRecursion};
 ghost use Rattle.std.specs.Option.{option_map};
 ghost use Rattle.can_id.specs.Ident.{dbc_number};
+ghost use Rattle.catalogue.specs.declared.signal.Signal.{Signal as SignalModel};
+ghost use Rattle.catalogue.specs.declared.value_texts.ValueText.{ValueText as Entry};
+ghost use Rattle.decimal.specs.Number.{IsDecimal};
 ghost use Rattle.office_rules.specs.Facts.{live_named};
 ghost use Rattle.office_rows.specs.Rows.{has_net_and_number};
 ghost use Rattle.office_rows.specs.Shown.{last_place_order, last_place_shown};
@@ -9,23 +13,27 @@ ghost use Rattle.office_tables.specs.Selected.{IsFirstSelected};
 ghost use Rattle.office_tables.specs.Tables.{Tables};
 ghost use Rattle.office_types.specs.declared.state.LiveMessage.{LiveMessage as Live};
 ghost use Rattle.sqlite.specs.Held.{state};
+ghost use Rattle.sqlite.specs.Order.{Row as Columns};
+ghost use Rattle.store_rows.specs.Listed.{AreShown};
 ghost use Rattle.store_rows.specs.Live.{AreLiveRows, live_rows};
-ghost use Rattle.store_rows.specs.LiveWritten.{IsAdded, IsAfter, IsTakenOut, without_place, without_places};
-ghost use Rattle.store_net.specs.Places.{places_named};
+ghost use Rattle.store_rows.specs.LiveWritten.{AreTextsSet, IsAdded, IsAfter, IsSpnSet, IsTakenOut, with_spns};
+ghost use Rattle.store_rows.specs.LiveWritten.{with_texts, without_place, without_places};
+ghost use Rattle.store_rows.specs.SignalShowing.{PlacesAscend, ShowsPlaced};
+ghost use Rattle.store_net.specs.Places.{places_shown};
 ghost use Rattle.office_tables.specs.Statements.{AddsNoCommit, ChangesNothing, CommitsNothing, EndsInside, Finds};
 ghost use Rattle.office_tables.specs.Statements.{LeavesNothing, MakesTables, StaysInside, StaysOffice, Writes};
 
-use crate::message_rows::write_signal;
+use crate::message_rows::{write_sig, write_signal, write_values};
 use crate::writing::number_above;
-use catalogue::{Name, Signal};
+use catalogue::{Name, Receivers, Signal, ValueText, ValueTexts};
 use office_rows::{
     delete_receivers_at, delete_sig_at, delete_sigvalues_at, select_last_place, select_msg_named,
-    select_sigs,
+    select_sigs_named,
 };
-use office_types::{NetName, SignalPath};
+use office_types::{NetName, SignalPath, UsableSpn};
 use sqlite::{Alter, Error, Row, Transaction};
 use std::alloc::Global;
-use store_rows::{number_at, text_at};
+use store_rows::{number_at, signal_of};
 
 /// The DBC number of the live message of the name, `None` where the network has none.
 fn number_named<S: Alter>(
@@ -106,46 +114,24 @@ fn remove_place<S: Alter>(
     Ok(())
 }
 
-/// Removes the rows of the signal that the row shows, if it is the signal of the name.
-fn remove_if_named<S: Alter>(
-    tx: &mut Transaction<'_, S>,
-    net: &[u8],
-    number: u32,
-    row: &Row,
-    signal: &Name,
-) -> Result<(), Error>
-    ensures same_reference { tx.new.conn.ghost_name ≡ tx.old.conn.ghost_name }
-    ensures removed { Writes result (state S.Store tx.old.conn.now) (state S.Store tx.new.conn.now)
-        (λ before after. after ≡ without_places net.now number (places_named signal.now (row.now ∷ [])) before) }
-    ensures office { StaysOffice result (state S.Store tx.old.conn.now) (state S.Store tx.new.conn.now) }
-    ensures inside { StaysInside result (state S.Store tx.old.conn.now) (state S.Store tx.new.conn.now) }
-    ensures kept { AddsNoCommit (state S.Store tx.old.conn.now) (state S.Store tx.new.conn.now) }
-    ensures survives { LeavesNothing (state S.Store tx.old.conn.now) (state S.Store tx.new.conn.now) }
-{
-    if text_at(row, 1)? != signal.as_bytes() {
-        return Ok(());
-    }
-    remove_place(tx, net, number, number_at(row, 0)?)
-}
-
-/// Removes the rows of the signal of the name, of those that the rows show.
-fn remove_named<S: Alter>(
+/// Removes the rows of the signals that the rows show.
+fn remove_shown<S: Alter>(
     tx: &mut Transaction<'_, S>,
     net: &[u8],
     number: u32,
     rows: &[Row],
-    signal: &Name,
 ) -> Result<(), Error>
     ensures same_reference { tx.new.conn.ghost_name ≡ tx.old.conn.ghost_name }
     ensures removed { Writes result (state S.Store tx.old.conn.now) (state S.Store tx.new.conn.now)
-        (λ before after. after ≡ without_places net.now number (places_named signal.now rows.now) before) }
+        (λ before after. after ≡ without_places net.now number (places_shown rows.now) before) }
     ensures office { StaysOffice result (state S.Store tx.old.conn.now) (state S.Store tx.new.conn.now) }
     ensures inside { StaysInside result (state S.Store tx.old.conn.now) (state S.Store tx.new.conn.now) }
     ensures kept { AddsNoCommit (state S.Store tx.old.conn.now) (state S.Store tx.new.conn.now) }
     ensures survives { LeavesNothing (state S.Store tx.old.conn.now) (state S.Store tx.new.conn.now) }
 {
     for row in rows {
-        remove_if_named(tx, net, number, row, signal)?;
+        let place = number_at(row, 0)?;
+        remove_place(tx, net, number, place)?;
     }
     Ok(())
 }
@@ -169,8 +155,163 @@ pub(crate) fn take_signal_out<S: Alter>(
     match number_named(tx, name, &path.message)? {
         None => Ok(()),
         Some(number) => {
-            let rows = select_sigs(tx, net, number)?;
-            remove_named(tx, net, number, &rows, &path.signal)
+            let rows = select_sigs_named(tx, net, number, path.signal.as_bytes())?;
+            remove_shown(tx, net, number, &rows)
+        }
+    }
+}
+
+/// Gives the signal that the row shows the suspect parameter number. Its receivers and value texts stay.
+fn set_row_spn<S: Alter>(
+    alloc: Global,
+    tx: &mut Transaction<'_, S>,
+    net: &[u8],
+    number: u32,
+    row: &Row,
+    spn: UsableSpn,
+) -> Result<(), Error>
+    ensures same_reference { tx.new.conn.ghost_name ≡ tx.old.conn.ghost_name }
+    ensures written { Writes result (state S.Store tx.old.conn.now) (state S.Store tx.new.conn.now)
+        (λ before after. (q : ℕ × SignalModel) → ShowsPlaced q row.now
+        → after ≡ with_spns net.now number spn (q ∷ []) before) }
+    ensures office { StaysOffice result (state S.Store tx.old.conn.now) (state S.Store tx.new.conn.now) }
+    ensures inside { StaysInside result (state S.Store tx.old.conn.now) (state S.Store tx.new.conn.now) }
+    ensures kept { AddsNoCommit (state S.Store tx.old.conn.now) (state S.Store tx.new.conn.now) }
+    ensures survives { LeavesNothing (state S.Store tx.old.conn.now) (state S.Store tx.new.conn.now) }
+{
+    let place = number_at(row, 0)?;
+    let mut signal = signal_of(alloc, row, Receivers::new(), ValueTexts::empty(alloc))?;
+    signal.spn = spn.spn();
+    delete_sig_at(tx, net, number, place)?;
+    write_sig(alloc, tx, net, number, place, &signal)
+}
+
+/// Gives each signal that the rows show the suspect parameter number.
+fn set_shown_spn<S: Alter>(
+    alloc: Global,
+    tx: &mut Transaction<'_, S>,
+    net: &[u8],
+    number: u32,
+    rows: &[Row],
+    spn: UsableSpn,
+) -> Result<(), Error>
+    ensures same_reference { tx.new.conn.ghost_name ≡ tx.old.conn.ghost_name }
+    ensures written { Writes result (state S.Store tx.old.conn.now) (state S.Store tx.new.conn.now)
+        (λ before after. (placed : List (ℕ × SignalModel)) → PlacesAscend placed → AreShown ShowsPlaced placed rows.now
+        → after ≡ with_spns net.now number spn placed before) }
+    ensures office { StaysOffice result (state S.Store tx.old.conn.now) (state S.Store tx.new.conn.now) }
+    ensures inside { StaysInside result (state S.Store tx.old.conn.now) (state S.Store tx.new.conn.now) }
+    ensures kept { AddsNoCommit (state S.Store tx.old.conn.now) (state S.Store tx.new.conn.now) }
+    ensures survives { LeavesNothing (state S.Store tx.old.conn.now) (state S.Store tx.new.conn.now) }
+{
+    for row in rows {
+        set_row_spn(alloc, tx, net, number, row, spn)?;
+    }
+    Ok(())
+}
+
+/// Gives the signal the suspect parameter number, by its row of `sig` alone. Where there is no such message or signal,
+/// nothing is written.
+pub(crate) fn set_signal_spn<S: Alter>(
+    alloc: Global,
+    tx: &mut Transaction<'_, S>,
+    name: &NetName,
+    path: &SignalPath,
+    spn: UsableSpn,
+) -> Result<(), Error>
+    ensures same_reference { tx.new.conn.ghost_name ≡ tx.old.conn.ghost_name }
+    ensures written { Writes result (state S.Store tx.old.conn.now) (state S.Store tx.new.conn.now)
+        (λ before after. (live : List Live) → AreLiveRows name.now (live_rows name.now before) live
+        → IsSpnSet name.now path.now spn live before after) }
+    ensures office { StaysOffice result (state S.Store tx.old.conn.now) (state S.Store tx.new.conn.now) }
+    ensures inside { StaysInside result (state S.Store tx.old.conn.now) (state S.Store tx.new.conn.now) }
+    ensures kept { CommitsNothing (state S.Store tx.old.conn.now) (state S.Store tx.new.conn.now) }
+    ensures survives { LeavesNothing (state S.Store tx.old.conn.now) (state S.Store tx.new.conn.now) }
+{
+    let net = name.as_bytes();
+    match number_named(tx, name, &path.message)? {
+        None => Ok(()),
+        Some(number) => {
+            let rows = select_sigs_named(tx, net, number, path.signal.as_bytes())?;
+            set_shown_spn(alloc, tx, net, number, &rows, spn)
+        }
+    }
+}
+
+/// Sets the value texts of the signal that the row shows.
+fn set_row_values<S: Alter>(
+    alloc: Global,
+    tx: &mut Transaction<'_, S>,
+    net: &[u8],
+    number: u32,
+    row: &Row,
+    values: &[ValueText],
+) -> Result<(), Error>
+    ensures same_reference { tx.new.conn.ghost_name ≡ tx.old.conn.ghost_name }
+    ensures decimals { OnOk result (AllByRecursion (λ (v : Entry). IsDecimal v.value) values.now) }
+    ensures written { Writes result (state S.Store tx.old.conn.now) (state S.Store tx.new.conn.now)
+        (λ before after. (q : ℕ × SignalModel) → ShowsPlaced q row.now
+        → after ≡ with_texts net.now number values.now (q ∷ []) before) }
+    ensures office { StaysOffice result (state S.Store tx.old.conn.now) (state S.Store tx.new.conn.now) }
+    ensures inside { StaysInside result (state S.Store tx.old.conn.now) (state S.Store tx.new.conn.now) }
+    ensures kept { AddsNoCommit (state S.Store tx.old.conn.now) (state S.Store tx.new.conn.now) }
+    ensures survives { LeavesNothing (state S.Store tx.old.conn.now) (state S.Store tx.new.conn.now) }
+{
+    let place = number_at(row, 0)?;
+    delete_sigvalues_at(tx, net, number, place)?;
+    write_values(alloc, tx, net, number, place, values)
+}
+
+/// Sets the value texts of each signal that the rows show.
+fn set_shown_values<S: Alter>(
+    alloc: Global,
+    tx: &mut Transaction<'_, S>,
+    net: &[u8],
+    number: u32,
+    rows: &[Row],
+    values: &[ValueText],
+) -> Result<(), Error>
+    ensures same_reference { tx.new.conn.ghost_name ≡ tx.old.conn.ghost_name }
+    ensures decimals { OnOk result (AllByRecursion
+        (λ (row : Columns). AllByRecursion (λ (v : Entry). IsDecimal v.value) values.now) rows.now) }
+    ensures written { Writes result (state S.Store tx.old.conn.now) (state S.Store tx.new.conn.now)
+        (λ before after. (placed : List (ℕ × SignalModel)) → PlacesAscend placed → AreShown ShowsPlaced placed rows.now
+        → after ≡ with_texts net.now number values.now placed before) }
+    ensures office { StaysOffice result (state S.Store tx.old.conn.now) (state S.Store tx.new.conn.now) }
+    ensures inside { StaysInside result (state S.Store tx.old.conn.now) (state S.Store tx.new.conn.now) }
+    ensures kept { AddsNoCommit (state S.Store tx.old.conn.now) (state S.Store tx.new.conn.now) }
+    ensures survives { LeavesNothing (state S.Store tx.old.conn.now) (state S.Store tx.new.conn.now) }
+{
+    for row in rows {
+        set_row_values(alloc, tx, net, number, row, values)?;
+    }
+    Ok(())
+}
+
+/// Sets the value texts of the signal, by its rows of `sigvalue` alone. Where there is no such message or signal,
+/// nothing is written.
+pub(crate) fn set_signal_values<S: Alter>(
+    alloc: Global,
+    tx: &mut Transaction<'_, S>,
+    name: &NetName,
+    path: &SignalPath,
+    values: &ValueTexts,
+) -> Result<(), Error>
+    ensures same_reference { tx.new.conn.ghost_name ≡ tx.old.conn.ghost_name }
+    ensures written { Writes result (state S.Store tx.old.conn.now) (state S.Store tx.new.conn.now)
+        (λ before after. (live : List Live) → AreLiveRows name.now (live_rows name.now before) live
+        → AreTextsSet name.now path.now values.now live before after) }
+    ensures office { StaysOffice result (state S.Store tx.old.conn.now) (state S.Store tx.new.conn.now) }
+    ensures inside { StaysInside result (state S.Store tx.old.conn.now) (state S.Store tx.new.conn.now) }
+    ensures kept { CommitsNothing (state S.Store tx.old.conn.now) (state S.Store tx.new.conn.now) }
+    ensures survives { LeavesNothing (state S.Store tx.old.conn.now) (state S.Store tx.new.conn.now) }
+{
+    let net = name.as_bytes();
+    match number_named(tx, name, &path.message)? {
+        None => Ok(()),
+        Some(number) => {
+            let rows = select_sigs_named(tx, net, number, path.signal.as_bytes())?;
+            set_shown_values(alloc, tx, net, number, &rows, values.as_slice())
         }
     }
 }

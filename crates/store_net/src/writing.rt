@@ -17,7 +17,7 @@ use crate::change_rows::{
     write_spn_block,
 };
 use crate::message_rows::{remove_message, write_message};
-use crate::one_signal::{add_signal, take_signal_out};
+use crate::one_signal::{add_signal, set_signal_spn, set_signal_values, take_signal_out};
 use office_types::{Change, Net, NetName};
 use sqlite::{Alter, Error, Transaction};
 use std::alloc::Global;
@@ -85,6 +85,8 @@ fn write_change<S: Alter>(
         Change::RemoveMessage(ident) => remove_message(tx, name, *ident),
         Change::AddSignal(message, signal) => add_signal(alloc, tx, name, message, signal),
         Change::RemoveSignal(path) => take_signal_out(tx, name, path),
+        Change::SetSpn(path, spn) => set_signal_spn(alloc, tx, name, path, *spn),
+        Change::SetValues(path, values) => set_signal_values(alloc, tx, name, path, values),
         Change::SetBlock(granted) => write_block(tx, name, granted),
         Change::SetSpnBlock(block) => write_spn_block(tx, name, block),
         Change::Hold(ident) => write_held(tx, name, *ident),
@@ -102,7 +104,8 @@ fn write_change<S: Alter>(
 /// become those of the network and the book that the changes lead to; other networks' rows, the kept replies and the
 /// profile stay. This is promised of changes as a decision has them: where the network isn't there, its head comes
 /// first, no block of suspect parameter numbers is set on the network itself, and `next` is the number of the network's
-/// next release, if the changes have one. A signal that is added or removed is written by its own rows alone.
+/// next release, if the changes have one. A signal that is added or removed, or gets a suspect parameter number or value
+/// texts, is written by its own rows alone.
 ///
 /// The error is `sqlite`'s: out of memory, the disk's, or that of rows with keys that are there already;
 /// [`Error::InvalidQuery`] where a release has no number or one of more than 32 bits, or its messages are no sheet's,

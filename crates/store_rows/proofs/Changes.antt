@@ -20,7 +20,7 @@ use Rattle.office_types.specs.declared.block.BlockForm.TheVariants.{Spn}
 use Rattle.office_types.specs.declared.book.SpnBlock.{SpnBlock}
 use Rattle.office_types.specs.declared.book.SpnBook.{SpnBook}
 use Rattle.office_types.specs.declared.change.Change.{Change}
-use Rattle.office_types.specs.declared.change.Change.TheVariants.{SetHead, SetMessage, RemoveMessage, AddSignal, RemoveSignal, SetBlock, SetSpnBlock, Hold, EnterSpn, SetApproval, ClearApprovals, AddRelease}
+use Rattle.office_types.specs.declared.change.Change.TheVariants.{SetHead, SetMessage, RemoveMessage, AddSignal, RemoveSignal, SetSpn, SetValues, SetBlock, SetSpnBlock, Hold, EnterSpn, SetApproval, ClearApprovals, AddRelease}
 use Rattle.office_types.specs.declared.state.GrantedBlock.{GrantedBlock}
 use Rattle.office_types.specs.declared.state.Head.{Head}
 use Rattle.office_types.specs.declared.state.Net.{Net}
@@ -45,6 +45,7 @@ use Rattle.store_rows.specs.Follows.{Follows, HasSame, AreWritten}
 use Rattle.store_rows.proofs.Keys.{and_left, and_right, and_none, not_true, one_value, own_text, other_text, other_net, own_net, text_order, number_order, number_below, own_number, other_form, spn_apart, tied_both, net_total, blocks_total, blocks_of_form_total, held_total, spns_total, approvals_total}
 use Rattle.store_rows.proofs.Listing.{last_listed, none_listed}
 use Rattle.store_rows.proofs.LiveFollows.{adds_signal, removes_message, sets_message, takes_signal_out}
+use Rattle.store_rows.proofs.NamedFollows.{sets_spn, sets_values}
 use Rattle.store_rows.proofs.Setting.{left_others, left_none, added_here, added_elsewhere, set_elsewhere, set_in, set_keyed}
 
 -- the network, where it is there, with the book
@@ -403,6 +404,10 @@ change_follows name (AddSignal message s) None book t t2 there w = absurd there
 change_follows name (AddSignal message s) (Some net) book t t2 there w = adds_signal name message s net book t t2 w
 change_follows name (RemoveSignal path) None book t t2 there w = absurd there
 change_follows name (RemoveSignal path) (Some net) book t t2 there w = takes_signal_out name path net book t t2 w
+change_follows name (SetSpn path n) None book t t2 there w = absurd there
+change_follows name (SetSpn path n) (Some net) book t t2 there w = sets_spn name path n net book t t2 w
+change_follows name (SetValues path values) None book t t2 there w = absurd there
+change_follows name (SetValues path values) (Some net) book t t2 there w = sets_values name path values net book t t2 w
 change_follows name (SetBlock g) None book t t2 there w = absurd there
 change_follows name (SetBlock g) (Some net) book t t2 there w = follows_to name t (with_block_row w.0 t) t2 _ _ w.3 (sets_block name g w.0 net book t w.1 w.2)
 change_follows name (SetSpnBlock b) None book t t2 there w = absurd there
@@ -425,6 +430,8 @@ there_after name (SetMessage m) None cs there = absurd there
 there_after name (RemoveMessage i) None cs there = absurd there
 there_after name (AddSignal message s) None cs there = absurd there
 there_after name (RemoveSignal path) None cs there = absurd there
+there_after name (SetSpn path n) None cs there = absurd there
+there_after name (SetValues path values) None cs there = absurd there
 there_after name (SetBlock g) None cs there = absurd there
 there_after name (SetSpnBlock b) None cs there = absurd there
 there_after name (Hold i) None cs there = absurd there
@@ -437,6 +444,8 @@ there_after name (SetMessage m) (Some net) cs there = tt
 there_after name (RemoveMessage i) (Some net) cs there = tt
 there_after name (AddSignal message s) (Some net) cs there = tt
 there_after name (RemoveSignal path) (Some net) cs there = tt
+there_after name (SetSpn path n) (Some net) cs there = tt
+there_after name (SetValues path values) (Some net) cs there = tt
 there_after name (SetBlock g) (Some net) cs there = tt
 there_after name (SetSpnBlock b) (Some net) cs there = tt
 there_after name (Hold i) (Some net) cs there = tt
@@ -452,6 +461,8 @@ first_alone (SetMessage m) None cs there = absurd there
 first_alone (RemoveMessage i) None cs there = absurd there
 first_alone (AddSignal message s) None cs there = absurd there
 first_alone (RemoveSignal path) None cs there = absurd there
+first_alone (SetSpn path n) None cs there = absurd there
+first_alone (SetValues path values) None cs there = absurd there
 first_alone (SetBlock g) None cs there = absurd there
 first_alone (SetSpnBlock b) None cs there = absurd there
 first_alone (Hold i) None cs there = absurd there

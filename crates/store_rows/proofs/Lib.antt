@@ -20,3 +20,5 @@ pub mod LivePut
 pub mod LiveLast
 pub mod LiveOut
 pub mod LiveFollows
+pub mod LiveNamed
+pub mod NamedFollows

@@ -23,6 +23,7 @@ use Rattle.office_tables.specs.Tables.{Tables, no_rows}
 use Rattle.office_rows.specs.Shown.{receivers_order, sigs_order, sigvalues_order}
 use Rattle.store_rows.specs.Listed.{AreListed}
 use Rattle.store_rows.specs.Live.{AreLiveRows, AreSignalsOf, IsReceiverRow, IsSigRow, IsSigValueRow, LiveRows, live_rows, signals_numbered}
+use Rattle.store_rows.specs.LiveWritten.{placed_named, with_spns, with_texts}
 use Rattle.store_rows.proofs.LiveChanges.{AreOf, all_of, all_other, all_own, none_of}
 use Rattle.store_rows.proofs.Listing.{none_listed}
 
@@ -232,3 +233,26 @@ stray_is_refused : (live : List LiveMessage) → AreLiveRows truck (live_rows tr
 stray_is_refused live h =
     let with_it : AreLiveRows truck (record rows { sig = stray ∷ rows.sig }) live = subst (λ r. AreLiveRows truck r live) with_stray h in
     not_negative with_it.numbered.sigs.0.number with_it.numbered.sigs.0.is
+
+-- ---- the signals of a name, changed
+
+abbrev at_their_places : List (ℕ × Signal)
+at_their_places = (0, speed) ∷ (2, gear) ∷ []
+
+-- the speed has another suspect parameter number, and stays at its place
+numbered : (with_spns truck 256 520 (placed_named (codes "Speed") at_their_places) tables).sig ≡ gear_row
+    ∷ (Text truck ∷ Int (pos 256) ∷ Int (pos 0) ∷ Text (codes "Speed") ∷ Int (pos 0) ∷ Int (pos 16) ∷ Int (pos 0) ∷ Int (pos 0) ∷ Int (negsuc 1)
+    ∷ Text (codes "0.125") ∷ Text (codes "0") ∷ Text (codes "0") ∷ Text (codes "250") ∷ Blob (codes "km/h") ∷ Blob [] ∷ Int (pos 520) ∷ Int (pos 0) ∷ []) ∷ []
+unfolding value_cmp lib.Ieee.is_nan lib.Ieee.lt digits unsigned_text
+numbered = refl
+
+-- the gear has one text in place of its two
+described : (with_texts truck 256 (record { value = one; text = codes "drive" } ∷ []) (placed_named (codes "Gear") at_their_places) tables).sigvalue
+    ≡ (Text truck ∷ Int (pos 256) ∷ Int (pos 2) ∷ Int (pos 0) ∷ Text (codes "1") ∷ Blob (codes "drive") ∷ []) ∷ []
+unfolding value_cmp lib.Ieee.is_nan lib.Ieee.lt digits unsigned_text
+described = refl
+
+-- no signal has the name
+none_numbered : with_spns truck 256 520 (placed_named (codes "Brake") at_their_places) tables ≡ tables
+unfolding value_cmp lib.Ieee.is_nan lib.Ieee.lt
+none_numbered = refl

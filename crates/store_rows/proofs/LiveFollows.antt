@@ -38,11 +38,11 @@ use Rattle.store_rows.proofs.LiveSet.{AreNamed, all_with, four, message_removed,
 use Rattle.store_rows.proofs.PutTogether.{receivers_in, values_in}
 
 -- the network, where it is there, with the book
-abbrev at_net : Net → SpnBook → NetAndBook
+abbrev pub at_net : Net → SpnBook → NetAndBook
 at_net net book = record { net = Some net; book = book }
 
 -- the other rows of a network with other live messages
-rest_with : (name : List ℕ) (rows : RestRows) (net : Net) (live : List LiveMessage) → AreRestOf name rows net → AreRestOf name rows (record net { live = live })
+pub rest_with : (name : List ℕ) (rows : RestRows) (net : Net) (live : List LiveMessage) → AreRestOf name rows net → AreRestOf name rows (record net { live = live })
 rest_with name rows net live at = record { named = at.named; head = at.head; blocks = at.blocks; held = at.held; approvals = at.approvals; releases = at.releases }
 
 -- ---- whole messages
@@ -99,7 +99,7 @@ removes_message name i net book t is =
 -- ---- one signal
 
 -- a live message that is found by its name is found by its number
-by_its_number : (name message : List ℕ) (t : Tables) (live : List LiveMessage) (m : LiveMessage) → AreLiveRows name (live_rows name t) live → live_named live message ≡ Some m
+pub by_its_number : (name message : List ℕ) (t : Tables) (live : List LiveMessage) (m : LiveMessage) → AreLiveRows name (live_rows name t) live → live_named live message ≡ Some m
     → find (λ (o : LiveMessage). dbc_number o.message.ident == dbc_number m.message.ident) live ≡ Some m
 by_its_number name message t live m h there =
     found_all (λ x. find (λ (o : LiveMessage). dbc_number o.message.ident == dbc_number x.message.ident) live ≡ Some x) (λ o. bytes_eq o.message.name message) m live
@@ -126,7 +126,7 @@ signal_added_elsewhere net n k s known t other apart =
     (named_each (IsSigValueRow net n) net (λ q x r. ap (λ (y : Row). column y 0) r.row_is) (parts_of values_in p) (text_rows net n p) (texts_show net n k (s ∷ []) (known, tt))))
 
 -- what becomes of the live message that is found
-at_found : (message : List ℕ) (f : LiveMessage → LiveMessage) (net : Net) (m : LiveMessage) → live_named net.live message ≡ Some m → with_message net (f m) ≡ at_message message f net
+pub at_found : (message : List ℕ) (f : LiveMessage → LiveMessage) (net : Net) (m : LiveMessage) → live_named net.live message ≡ Some m → with_message net (f m) ≡ at_message message f net
 at_found message f net m there = ap (λ (o : Option LiveMessage). elim o [ None ↦ net | Some x ↦ with_message net (f x) ]) (sym there)
 
 pub adds_signal : (name message : List ℕ) (s : Signal) (net : Net) (book : SpnBook) (t t2 : Tables) → IsAdded name message s net.live t t2

@@ -25,13 +25,13 @@ use Rattle.store_rows.proofs.SeatRows.{all_append}
 
 -- ---- lists after lists
 
-both_ascend : {X : Type 0} (by : X → X → Ordering) (xs ys : List X) → IsStrictlySortedBy by xs → IsStrictlySortedBy by ys → AllByRecursion (λ x. AllByRecursion (λ y. by x y ≡ Less) ys) xs
+pub both_ascend : {X : Type 0} (by : X → X → Ordering) (xs ys : List X) → IsStrictlySortedBy by xs → IsStrictlySortedBy by ys → AllByRecursion (λ x. AllByRecursion (λ y. by x y ≡ Less) ys) xs
     → IsStrictlySortedBy by (xs ++ ys)
 unfolding IsStrictlySortedBy
 both_ascend by [] ys one two below = two
 both_ascend by (x ∷ xs) ys one two below = (all_append (λ y. by x y ≡ Less) xs ys one.0 below.0, both_ascend by xs ys one.1 two below.1)
 
-both_shown : {A X : Type 0} (R : A → X → Type 0) (items items2 : List A) (rows rows2 : List X) → AreShown R items rows → AreShown R items2 rows2 → AreShown R (items ++ items2) (rows ++ rows2)
+pub both_shown : {A X : Type 0} (R : A → X → Type 0) (items items2 : List A) (rows rows2 : List X) → AreShown R items rows → AreShown R items2 rows2 → AreShown R (items ++ items2) (rows ++ rows2)
 both_shown R [] items2 [] rows2 one two = two
 both_shown R [] items2 (r ∷ rows) rows2 one two = absurd one
 both_shown R (a ∷ items) items2 [] rows2 one two = absurd one

@@ -39,7 +39,7 @@ none_stays p one [] = refl
 none_stays p one (x ∷ xs) = stays_if p x xs false (one x) ∙ none_stays p one xs
 
 -- what passes one test and then another
-passes_both : {A : Type 0} (p q r : A → Bool) → ((x : A) → r x ≡ (p x && q x)) → (xs : List A) → filter q (filter p xs) ≡ filter r xs
+pub passes_both : {A : Type 0} (p q r : A → Bool) → ((x : A) → r x ≡ (p x && q x)) → (xs : List A) → filter q (filter p xs) ≡ filter r xs
 passes_both p q r same [] = refl
 passes_both {A} p q r same (x ∷ xs) = by_tests (p x) (q x) refl refl (passes_both p q r same xs)
   where
@@ -52,7 +52,7 @@ passes_both {A} p q r same (x ∷ xs) = by_tests (p x) (q x) refl refl (passes_b
 
 -- ---- one place
 
-number_test : (m n : ℕ) → (m == n) ≡ is_eq (nat_cmp n m)
+pub number_test : (m n : ℕ) → (m == n) ≡ is_eq (nat_cmp n m)
 number_test m n = grind (arith, nat_tests)
 
 -- a signal, or a part of one, has another place

@@ -1,5 +1,5 @@
 -- What the queries on the rows of live messages show.
-use Rattle.std.proofs.Common.{◌≡◌, ◌∙◌, ℕ, ◌<◌, pos, Bool, false, cond, List, [], ◌∷◌, map, filter, find, Option, None, Some, refl, sym, ap, subst, arith, inl, inr}
+use Rattle.std.proofs.Common.{◌≡◌, ◌∙◌, ℕ, ◌<◌, pos, Bool, false, cond, ◌&&◌, List, [], ◌∷◌, map, filter, find, Option, None, Some, refl, sym, ap, subst, arith, inl, inr}
 use Rattle.std.specs.Prelude.{◌==◌, slice_get}
 use Rattle.std.specs.List.{AllByRecursion}
 use Rattle.std.specs.List.Sorted.{IsStrictlySortedBy}
@@ -19,10 +19,11 @@ use Rattle.office_types.specs.declared.state.LiveMessage.{LiveMessage}
 use Rattle.office_rules.specs.Facts.{live_named}
 use Rattle.office_tables.specs.Selected.{IsSelected, by_column, has_number, has_text}
 use Rattle.office_tables.specs.Tables.{Tables}
-use Rattle.office_rows.specs.Rows.{has_net_and_name, has_net_and_number, is_of_net}
+use Rattle.office_rows.specs.Rows.{has_name_of, has_net_and_name, has_net_and_number, is_of_net}
 use Rattle.office_rows.specs.Shown.{msg_named_order, msg_named_shown, msgs_order, msgs_shown, receivers_order, receivers_shown, sigs_order, sigs_shown, sigvalues_order, sigvalues_shown}
 use Rattle.store_rows.specs.Listed.{AreListed, AreShown}
 use Rattle.store_rows.specs.Live.{AreLiveRows, AreSignalsOf, IsMsgRow, IsReceiverRow, IsSigRow, IsSigValueRow, live_rows, numbered_rows, parts_of}
+use Rattle.store_rows.specs.LiveWritten.{placed_named}
 use Rattle.store_rows.specs.SignalShowing.{PlacesAscend, ShowsLive, ShowsPart, ShowsPlaced, ShowsReceiver, ShowsValueText}
 use Rattle.store_rows.proofs.Keys.{int_test, text_test}
 use Rattle.store_rows.proofs.Listing.{kept_listed}
@@ -112,6 +113,21 @@ module _ (name : List ℕ) (number : ℕ) where
   sigs_are_shown t signals sigs h sel =
       selected_shown sigs_total (IsSigRow name number) ShowsPlaced (has_net_and_number name number) sigs_shown t.sig sigs h.placed sig_shown
       (subst (λ l. AreListed sigs_order (IsSigRow name number) l h.placed) (of_number t.sig) h.sigs) sel
+
+  sig_named : (signal : List ℕ) (q : ℕ × Signal) (row : Row) → IsSigRow name number q row → bytes_eq q.1.name signal ≡ has_text 3 signal row
+  sig_named signal q row r = sym (text_test q.1.name signal) ∙ ap (λ x. has_text 3 signal x) (sym r.row_is)
+
+  of_name : (signal : List ℕ) (table : List Row) → filter (has_text 3 signal) (numbered_rows number (filter (is_of_net name) table)) ≡ filter (has_name_of name number signal) table
+  of_name signal table =
+      both_tests (has_number 1 number) (has_text 3 signal) (filter (is_of_net name) table) ∙ both_tests (is_of_net name) (λ r. has_number 1 number r && has_text 3 signal r) table
+
+  -- and the one on those of a name shows these
+  pub named_sigs_are_shown : (signal : List ℕ) (t : Tables) (signals : List Signal) (sigs : List Row) (h : AreSignalsOf name number (live_rows name t) signals)
+      → IsSelected (has_name_of name number signal) sigs_shown sigs_order t.sig sigs → AreShown ShowsPlaced (placed_named signal h.placed) sigs
+  named_sigs_are_shown signal t signals sigs h sel =
+      selected_shown sigs_total (IsSigRow name number) ShowsPlaced (has_name_of name number signal) sigs_shown t.sig sigs (placed_named signal h.placed) sig_shown
+      (subst (λ l. AreListed sigs_order (IsSigRow name number) l (placed_named signal h.placed)) (of_name signal t.sig)
+      (kept_listed (λ q. bytes_eq q.1.name signal) (has_text 3 signal) (sig_named signal) (numbered_rows number (filter (is_of_net name) t.sig)) h.placed h.sigs)) sel
 
   -- what the three queries on the message show
   pub record AreShownFor (t : Tables) (signals : List Signal) (sigs receivers values : List Row) : Type 0 where

@@ -1,6 +1,6 @@
 -- Rows of a message as they are written: seats and places are counted from 0.
-use Rattle.std.specs.Prelude.{◌≡◌, ◌≢◌, ◌==◌, IfSome, ℕ, ◌+◌, ◌<◌, List, [], ◌∷◌, ◌++◌, Some, None, filter, not}
-use Rattle.std.specs.List.{AllByRecursion, list_any}
+use Rattle.std.specs.Prelude.{◌≡◌, ◌≢◌, ◌==◌, IfSome, ℕ, ◌+◌, ◌<◌, Bool, ◌&&◌, List, [], ◌∷◌, ◌++◌, Some, None, filter, not}
+use Rattle.std.specs.List.{AllByRecursion, flat_map, list_any}
 use Rattle.std.specs.Str.{bytes_eq}
 use Rattle.sqlite.specs.Order.{Row}
 use Rattle.can_id.specs.Ident.{IsIdentifier, dbc_number}
@@ -10,6 +10,7 @@ use Rattle.decimal.specs.Number.{IsDecimal}
 use Rattle.office_types.specs.declared.command.SignalPath.{SignalPath}
 use Rattle.office_types.specs.declared.state.LiveMessage.{LiveMessage}
 use Rattle.office_rules.specs.Facts.{live_named}
+use Rattle.office_tables.specs.Selected.{has_number, has_text}
 use Rattle.office_tables.specs.Tables.{Tables}
 use Rattle.office_rows.specs.Rows.{has_net_and_number, has_place_of}
 use Rattle.store_rows.specs.Live.{AreSignalsOf, HasDecimals, live_rows, msg_values, receiver_values, sig_values, sigvalue_values}
@@ -114,4 +115,51 @@ abbrev pub IsTakenOut : List ℕ → SignalPath → List LiveMessage → Tables 
 IsTakenOut name path live t t2 = elim (live_named live path.message) [
   | None ↦ t2 ≡ t
   | Some m ↦ IsGone name (dbc_number m.message.ident) path.signal t t2
+]
+
+-- ---- the signals of a name
+
+-- those of the name, with their places
+abbrev pub placed_named : List ℕ → List (ℕ × Signal) → List (ℕ × Signal)
+placed_named signal placed = filter (λ q. bytes_eq q.1.name signal) placed
+
+-- a row of one of these signals, by its message and its place
+abbrev pub is_of_placed : List ℕ → ℕ → List (ℕ × Signal) → Row → Bool
+is_of_placed net number placed row = has_text 0 net row && (has_number 1 number row && list_any (λ q. has_number 2 q.0 row) placed)
+
+-- new rows of these signals, in place of those that they had
+abbrev pub with_rows_of : List ℕ → ℕ → (ℕ × Signal → List Row) → List (ℕ × Signal) → List Row → List Row
+with_rows_of net number new placed rows = filter (λ row. not (is_of_placed net number placed row)) rows ++ flat_map new placed
+
+-- their rows of `sig`, with the suspect parameter number
+abbrev pub with_spns : List ℕ → ℕ → ℕ → List (ℕ × Signal) → Tables → Tables
+with_spns net number n placed t = record t { sig = with_rows_of net number (λ q. sig_values net number q.0 (record q.1 { spn = n }) ∷ []) placed t.sig }
+
+-- their rows of `sigvalue`, which are those of the value texts
+abbrev pub with_texts : List ℕ → ℕ → List ValueText → List (ℕ × Signal) → Tables → Tables
+with_texts net number values placed t = record t { sigvalue = with_rows_of net number (λ q. value_rows net number q.0 0 values) placed t.sigvalue }
+
+-- the rows of the live message's signals of the name got the suspect parameter number, and no other row changed
+pub record HasSpn (name : List ℕ) (m : LiveMessage) (signal : List ℕ) (n : ℕ) (t t2 : Tables) : Type 0 where
+  pub before : AreSignalsOf name (dbc_number m.message.ident) (live_rows name t) m.message.signals
+  pub tables_are : t2 ≡ with_spns name (dbc_number m.message.ident) n (placed_named signal before.placed) t
+
+-- they got the value texts, whose values are decimals, and no other row changed
+pub record HasTexts (name : List ℕ) (m : LiveMessage) (signal : List ℕ) (values : List ValueText) (t t2 : Tables) : Type 0 where
+  pub before : AreSignalsOf name (dbc_number m.message.ident) (live_rows name t) m.message.signals
+  pub decimals : AllByRecursion (λ (q : ℕ × Signal). AllByRecursion (λ (v : ValueText). IsDecimal v.value) values) (placed_named signal before.placed)
+  pub tables_are : t2 ≡ with_texts name (dbc_number m.message.ident) values (placed_named signal before.placed) t
+
+-- those of the live message of the path, if it is there
+
+abbrev pub IsSpnSet : List ℕ → SignalPath → ℕ → List LiveMessage → Tables → Tables → Type 0
+IsSpnSet name path n live t t2 = elim (live_named live path.message) [
+  | None ↦ t2 ≡ t
+  | Some m ↦ HasSpn name m path.signal n t t2
+]
+
+abbrev pub AreTextsSet : List ℕ → SignalPath → List ValueText → List LiveMessage → Tables → Tables → Type 0
+AreTextsSet name path values live t t2 = elim (live_named live path.message) [
+  | None ↦ t2 ≡ t
+  | Some m ↦ HasTexts name m path.signal values t t2
 ]

@@ -4,14 +4,14 @@ use Rattle.sqlite.specs.Tree.{put_row}
 use Rattle.can_id.specs.Ident.{IsIdentifier, dbc_number}
 use Rattle.office_types.specs.Block.{is_spn}
 use Rattle.office_types.specs.declared.change.Change.{Change}
-use Rattle.office_types.specs.declared.change.Change.TheVariants.{SetHead, SetMessage, RemoveMessage, AddSignal, RemoveSignal, SetBlock, SetSpnBlock, Hold, EnterSpn, SetApproval, ClearApprovals, AddRelease}
+use Rattle.office_types.specs.declared.change.Change.TheVariants.{SetHead, SetMessage, RemoveMessage, AddSignal, RemoveSignal, SetSpn, SetValues, SetBlock, SetSpnBlock, Hold, EnterSpn, SetApproval, ClearApprovals, AddRelease}
 use Rattle.office_types.specs.declared.state.Net.{Net}
 use Rattle.office_tables.specs.Tables.{Tables}
 use Rattle.office_rows.specs.Rows.{net_row, block_row, held_row, spn_row, approval_row, frozen_row, is_of_net, has_net_and_number, is_block, has_two_texts, is_number}
 use Rattle.office_rows.specs.declared.row.NetRow.{NetRow}
 use Rattle.office_rows.specs.declared.row.BlockRow.{BlockRow}
 use Rattle.office_rows.specs.declared.row.FrozenRow.{FrozenRow}
-use Rattle.store_rows.specs.LiveWritten.{IsAdded, IsLive, IsTakenOut, with_live, without_live}
+use Rattle.store_rows.specs.LiveWritten.{AreTextsSet, IsAdded, IsLive, IsSpnSet, IsTakenOut, with_live, without_live}
 use Rattle.store_rows.specs.Rows.{IsNetRow, IsBlockRow, IsSpnBlockRow, IsFrozenRow, next_release}
 
 abbrev pub with_net_row : NetRow → Tables → Tables
@@ -47,6 +47,10 @@ IsWritten name (AddSignal message s) None t t2 = ⊥
 IsWritten name (AddSignal message s) (Some net) t t2 = IsAdded name message s net.live t t2
 IsWritten name (RemoveSignal path) None t t2 = ⊥
 IsWritten name (RemoveSignal path) (Some net) t t2 = IsTakenOut name path net.live t t2
+IsWritten name (SetSpn path n) None t t2 = ⊥
+IsWritten name (SetSpn path n) (Some net) t t2 = IsSpnSet name path n net.live t t2
+IsWritten name (SetValues path values) None t t2 = ⊥
+IsWritten name (SetValues path values) (Some net) t t2 = AreTextsSet name path values net.live t t2
 IsWritten name (SetBlock g) net t t2 = (it : BlockRow) × IsBlockRow name g it × (is_spn g.block.form ≡ false) × (t2 ≡ with_block_row it t)
 IsWritten name (SetSpnBlock b) net t t2 = (it : BlockRow) × IsSpnBlockRow b it × (t2 ≡ with_block_row it t)
 IsWritten name (Hold i) net t t2 = IsIdentifier i × (t2 ≡ with_held_row name (dbc_number i) t)

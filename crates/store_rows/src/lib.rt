@@ -33,3 +33,4 @@ pub use granted::granted_of;
 pub use items::items_of;
 pub use live_message::live_message_of;
 pub use merging::signals_of;
+pub use signal::signal_of;

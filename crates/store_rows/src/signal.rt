@@ -74,7 +74,7 @@ impl FromRow for ValueText {
 }
 
 /// The signal of the row, with these receivers and value texts.
-pub(crate) fn signal_of(
+pub fn signal_of(
     alloc: Global,
     row: &Row,
     receivers: Receivers,

@@ -2,7 +2,7 @@ use Rattle.std.proofs.lemmas.Result.{on_ok_weaker}
 use Rattle.sqlite.specs.Held.{state}
 use Rattle.office_types.specs.declared.change.Change.TheVariants.{SetHead, RemoveMessage, SetSpnBlock, Hold, EnterSpn, SetApproval, ClearApprovals}
 use Rattle.office_tables.specs.Tables.{tables_of}
-use Rattle.store_net.proofs.OneByOne.{added_release, added_signal, any_change, own_block, removed_signal, whole_message}
+use Rattle.store_net.proofs.OneByOne.{added_release, added_signal, any_change, described_signal, numbered_signal, own_block, removed_signal, whole_message}
 use Rattle.store_net.proofs.writing.write_change.Goals as goal
 
 pub returns-in-SetHead-clause-written : goal.returns-in-SetHead-clause-written
@@ -29,6 +29,16 @@ pub returns-in-RemoveSignal-clause-written : goal.returns-in-RemoveSignal-clause
 returns-in-RemoveSignal-clause-written g c clean office =
     removed_signal c.take_signal_out.result c.args.name.now c.args.change.now c.in-RemoveSignal.path c.args.number (tables_of (state g.S.Store c.args.tx.now.conn.now).now.trees) (tables_of (state g.S.Store c.take_signal_out.new.tx.conn.now).now.trees)
     c.in-RemoveSignal.is (c.take_signal_out.ensures.written clean office)
+
+pub returns-in-SetSpn-clause-written : goal.returns-in-SetSpn-clause-written
+returns-in-SetSpn-clause-written g c clean office =
+    numbered_signal c.set_signal_spn.result c.args.name.now c.args.change.now c.in-SetSpn.path c.in-SetSpn.spn c.args.number (tables_of (state g.S.Store c.args.tx.now.conn.now).now.trees) (tables_of (state g.S.Store c.set_signal_spn.new.tx.conn.now).now.trees)
+    c.in-SetSpn.is (c.set_signal_spn.ensures.written clean office)
+
+pub returns-in-SetValues-clause-written : goal.returns-in-SetValues-clause-written
+returns-in-SetValues-clause-written g c clean office =
+    described_signal c.set_signal_values.result c.args.name.now c.args.change.now c.in-SetValues.path c.in-SetValues.values c.args.number (tables_of (state g.S.Store c.args.tx.now.conn.now).now.trees) (tables_of (state g.S.Store c.set_signal_values.new.tx.conn.now).now.trees)
+    c.in-SetValues.is (c.set_signal_values.ensures.written clean office)
 
 pub returns-in-Some-clause-written : goal.returns-in-Some-clause-written
 returns-in-Some-clause-written g c clean office =

@@ -4,8 +4,8 @@ use Rattle.sqlite.specs.Held.{state}
 use Rattle.sqlite.specs.State.{HasCleanDisk, KeepsCommit, Survives}
 use Rattle.office_tables.specs.Tables.{IsOffice, tables_of}
 use Rattle.store_rows.specs.LiveWritten.{without_places}
-use Rattle.store_net.specs.Places.{places_named}
-use Rattle.store_net.proofs.one_signal.remove_named.Given as goal
+use Rattle.store_net.specs.Places.{places_shown}
+use Rattle.store_net.proofs.one_signal.remove_shown.Given as goal
 
 abbrev pub invariant-loop-row : goal.invariant-loop-row
 invariant-loop-row g l =
@@ -18,5 +18,5 @@ invariant-loop-row g l =
       office : HasCleanDisk now → IsOffice old.now → IsOffice now.now;
       inside : HasCleanDisk now → IsOffice old.now → IsTrue old.in_transaction → IsTrue now.in_transaction;
       removed : HasCleanDisk now → IsOffice old.now
-          → tables_of now.now.trees ≡ without_places l.net l.number (places_named l.signal (take l.row-index l.rows)) (tables_of old.now.trees);
+          → tables_of now.now.trees ≡ without_places l.net l.number (places_shown (take l.row-index l.rows)) (tables_of old.now.trees);
     }

@@ -2,6 +2,7 @@
 use Rattle.std.proofs.Common.{◌≡◌, ◌∙◌, ℕ, List, [], ◌∷◌, ◌++◌, map, Ok, Err, Result, false, refl, sym, ap}
 use Rattle.std.specs.Prelude.{IsTrue, OnOk}
 use Rattle.std.proofs.lemmas.List.{map-append}
+use Rattle.std.proofs.lemmas.Result.{on_ok_weaker}
 use Rattle.sqlite.specs.declared.error.Error.{Error}
 use Rattle.sqlite.specs.declared.error.Error.TheVariants.{SqliteFailure}
 use Rattle.sqlite.specs.declared.error.ErrorCode.TheVariants.{TransactionState}
@@ -63,3 +64,8 @@ pub grows_part : (old new : State) (r : Result ℕ Error) → IsOfficeWith schem
     → (IsTrue old.in_transaction → ExecutesInside 0 part_text [] old new r) → OnOk r (Grows schema_13 office_schema old new)
 unfolding office_schema
 grows_part old new r was = grows schema_13 part_text part part_defined old new r was refl
+
+pub extends_part : (old new : State) (r : Result ℕ Error) → old.now.schema ≡ schema_13 → (old.in_transaction ≡ false → r ≡ Err (SqliteFailure TransactionState))
+    → (IsTrue old.in_transaction → ExecutesInside 0 part_text [] old new r) → OnOk r (new.now.schema ≡ office_schema)
+unfolding office_schema
+extends_part old new r was ended ran = on_ok_weaker r (λ done. done.0.at.schema_is) (adds schema_13 part_text part part_defined old new r was ended ran)

@@ -10,8 +10,8 @@ pub mod TableIndices
 pub mod OneSchema
 pub mod Making
 mod Examples
-mod Outlined
-mod UniqueLists
+mod EveryTable
+mod Firsts
 pub mod TopRow
 pub mod Counting
 pub mod Growing

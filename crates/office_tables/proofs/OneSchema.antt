@@ -126,7 +126,7 @@ view_once row v w h k =
     let all = aside_once row v w k.kind k.owner k.code v.foreign w.foreign (rw (kind, owner, code) at h.aside) k.aside in
     view_is v w (text_once _ _ _ h.described.name_is k.described.name_is) (tree_once _ _ _ h.described.id k.described.id) all.1 all.0 all.2 all.3
 
-schema_is : (a b : Schema) → a.tables ≡ b.tables → a.indexes ≡ b.indexes → a.views ≡ b.views → a ≡ b
+pub schema_is : (a b : Schema) → a.tables ≡ b.tables → a.indexes ≡ b.indexes → a.views ≡ b.views → a ≡ b
 schema_is a b x y z = ap (λ l. record a { tables = l }) x ∙ ap (λ l. record a { tables = b.tables; indexes = l }) y ∙ ap (λ l. record b { views = l }) z
 
 -- one list of objects is that of one schema

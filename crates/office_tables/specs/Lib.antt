@@ -2,4 +2,4 @@ pub mod Schema
 pub mod Tables
 pub mod Statements
 pub mod Selected
-pub mod Outlines
+pub mod Comparing

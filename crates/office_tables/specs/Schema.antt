@@ -13,10 +13,10 @@ use Rattle.sqlite_schema.specs.declared.schema.Column.{Column}
 
 -- ---- columns
 
-abbrev column_of : Kind → List ℕ → Column
+abbrev pub column_of : Kind → List ℕ → Column
 column_of kind name = record { name = name; kind = kind; is_strict = true; not_null = false; default = Null; collation = Binary }
 
-abbrev integer : List ℕ → Column
+abbrev pub integer : List ℕ → Column
 integer = column_of Integer
 
 abbrev text : List ℕ → Column
@@ -26,7 +26,7 @@ abbrev blob : List ℕ → Column
 blob = column_of Blob
 
 -- a column of the primary key, which takes no NULL
-abbrev keyed : Column → Column
+abbrev pub keyed : Column → Column
 keyed column = record column { not_null = true }
 
 -- ---- tables

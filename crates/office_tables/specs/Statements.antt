@@ -136,6 +136,10 @@ MakesNext result old new before after = HasCleanDisk new → AreMade before old 
 abbrev pub AddsTables : {X E : Type 0} → Result X E → State → State → Schema → Schema → Type 0
 AddsTables result old new before after = HasCleanDisk new → IsOfficeWith before old.now → OnOk result (Grows before after old new)
 
+-- where the tables are those of a schema, if it succeeds, they are those of a schema with more
+abbrev pub Extends : {X E : Type 0} → Result X E → State → State → Schema → Schema → Type 0
+Extends result old new before after = HasCleanDisk new → old.now.schema ≡ before → OnOk result (new.now.schema ≡ after)
+
 -- where this holds before it, if it succeeds, its answer is 0: no row was written
 abbrev pub WritesNoRow : {E : Type 0} → Result ℕ E → State → State → (State → Type 0) → Type 0
 WritesNoRow result old new IsBefore = HasCleanDisk new → IsBefore old → IfOk result (λ rows. rows ≡ 0)

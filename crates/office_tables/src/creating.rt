@@ -6,7 +6,7 @@ ghost use Rattle.std.specs.Prelude.{◌≡◌};
 ghost use Rattle.office_tables.specs.Schema.{schema_1, schema_2, schema_3, schema_4, schema_5, schema_6, schema_7};
 ghost use Rattle.office_tables.specs.Schema.{schema_8, schema_9, schema_10, schema_11, schema_12, schema_13};
 ghost use Rattle.office_tables.specs.Schema.{office_schema};
-ghost use Rattle.office_tables.specs.Statements.{AddsNoCommit, AddsTables, AreMade, HasNoTable, LeavesNothing};
+ghost use Rattle.office_tables.specs.Statements.{AddsNoCommit, AddsTables, AreMade, Extends, HasNoTable, LeavesNothing};
 ghost use Rattle.office_tables.specs.Statements.{MakesFromNone, MakesNext, MakesOffice, WritesNoRow};
 ghost use Rattle.sqlite.specs.Held.{state};
 
@@ -220,6 +220,8 @@ pub fn create_part<S: Alter>(tx: &mut Transaction<'_, S>) -> Result<usize, Error
     ensures made { MakesNext result (state S.Store tx.old.conn.now) (state S.Store tx.new.conn.now)
         schema_13 office_schema }
     ensures grown { AddsTables result (state S.Store tx.old.conn.now) (state S.Store tx.new.conn.now)
+        schema_13 office_schema }
+    ensures extended { Extends result (state S.Store tx.old.conn.now) (state S.Store tx.new.conn.now)
         schema_13 office_schema }
     ensures rows { WritesNoRow result (state S.Store tx.old.conn.now) (state S.Store tx.new.conn.now)
         (AreMade schema_13) }

@@ -14,17 +14,20 @@
 //!
 //! The definitions are in `specs/`: `Schema.antt` (the tables, as `sqlite` has them), `Tables.antt` (their rows),
 //! `Statements.antt` (what a statement makes of them, and the words of its contracts), `Selected.antt` (what a SELECT
-//! shows) and `Outlines.antt` (what is compared of tables).
+//! shows) and `Comparing.antt` (what is compared of tables).
 #![tactic(auto)]
 
+mod comparing;
 mod creating;
+mod office_column;
+mod office_index;
+mod office_table;
 mod opening;
-mod outlines;
 
+pub use comparing::is_begun;
 pub use creating::{
     create_approval, create_block, create_frozen, create_held, create_message, create_msg,
     create_net, create_part, create_profile, create_receiver, create_reply, create_sig,
     create_sigvalue, create_spn, make_live_tables, make_tables,
 };
 pub use opening::{is_new, knows_none, knows_schema, knows_tables};
-pub use outlines::is_begun;

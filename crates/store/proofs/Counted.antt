@@ -5,7 +5,8 @@ use Rattle.office_types.specs.declared.change.Decision.{Decision}
 use Rattle.office_types.specs.declared.command.Command.{Command}
 use Rattle.office_types.specs.declared.state.Net.{Net}
 use Rattle.office_rules.specs.Change.{IsDecision}
-use Rattle.office_law.specs.Released.{BodiesDontCount, reads_bodies}
+use Rattle.office_rules.specs.Commands.{reads_bodies}
+use Rattle.office_law.specs.Released.{BodiesDontCount}
 use Rattle.store_net.specs.Counted.{HasAsMany}
 use Rattle.store_net.specs.Writing.{IsNext, next_number}
 

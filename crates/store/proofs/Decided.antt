@@ -1,11 +1,9 @@
 -- What is decided on a part of a network is decided on the network that the tables have.
-use Rattle.std.proofs.Common.{◌≡◌, ◌∙◌, ℕ, true, false, List, [], ◌∷◌, Option, Some, None, refl, sym, ap, subst}
-use Rattle.std.specs.Prelude.{IfSome, is_some, not}
+use Rattle.std.proofs.Common.{◌≡◌, ◌∙◌, ℕ, true, false, List, [], Option, Some, None, refl, sym, ap, subst}
+use Rattle.std.specs.Prelude.{IfSome, is_some}
 use Rattle.std.specs.List.{list_any}
 use Rattle.std.specs.Option.{option_map}
 use Rattle.std.proofs.lemmas.Bool.{false≢true}
-use Rattle.catalogue.specs.Refusing.{first_refusal}
-use Rattle.office_types.specs.PlainName.{is_office}
 use Rattle.office_types.specs.declared.book.SpnBook.{SpnBook}
 use Rattle.office_types.specs.declared.change.Change.{Change}
 use Rattle.office_types.specs.declared.change.Decision.{Decision}
@@ -15,13 +13,13 @@ use Rattle.office_types.specs.declared.command.Command.{Command}
 use Rattle.office_types.specs.declared.command.Task.{Task}
 use Rattle.office_types.specs.declared.command.Task.TheVariants.{Act, Import, Bundle}
 use Rattle.office_types.specs.declared.refusal.Refusal.{Refusal}
-use Rattle.office_types.specs.declared.refusal.Refusal.TheVariants as no
 use Rattle.office_types.specs.declared.state.Net.{Net}
 use Rattle.office_rules.specs.Change.{AllFit, Decides, HaveOwnBlocks, IsDecision, IsHeadFirst, IsQuiet, all_applied, is_release}
-use Rattle.office_rules.specs.Commands.{done_task, outcome}
+use Rattle.office_rules.specs.Commands.{done_task, outcome, reads_releases}
 use Rattle.office_rules.specs.Importing.{FileReading}
-use Rattle.office_rules.specs.Outcome.{Refusing, refused_or, reply_of, when}
-use Rattle.office_law.specs.Released.{ReleasesDontCount, may_release, reads_releases, with_releases}
+use Rattle.office_rules.specs.Outcome.{Refusing, reply_of}
+use Rattle.office_law.specs.Released.{ReleasesDontCount, may_release, with_releases}
+use Rattle.office_law.proofs.EachAction.{laws_of}
 use Rattle.office_facts.specs.Excerpt.{AreFacts, IsExcerptOf, fits, is_for}
 use Rattle.office_facts.specs.FactsOf.{facts_in}
 use Rattle.office_facts.specs.Scope.{Scope, reads_part, scope_of}
@@ -31,27 +29,10 @@ use Rattle.store_net.specs.Writing.{IsNext}
 
 -- ---- a network that isn't there
 
-refuses : (o : Option Refusal) (r : Refusal) → (s : Refusal) × (refused_or o (Refusing r) ≡ Refusing s)
-refuses None r = (r, refl)
-refuses (Some s) r = (s, refl)
-
 -- a command that goes by an excerpt is refused, whatever the book
 none_refused : (team name : List ℕ) (reading : FileReading) (t : Task) → reads_part t ≡ true → (r : Refusal) × ((book : SpnBook) → done_task team name reading None book t ≡ Refusing r)
 none_refused team name reading (Act (act.OpenNet c)) by = absurd (false≢true by)
-none_refused team name reading (Act (act.Grant c)) by =
-    let both = refuses (first_refusal (when (not (is_office team)) no.NotOffice ∷ when true no.NoNet ∷ [])) no.NoNet in (both.0, λ book. both.1)
-none_refused team name reading (Act (act.AddNode node)) by = (no.NoNet, λ book. refl)
-none_refused team name reading (Act (act.TakeIdent c)) by = (no.NoNet, λ book. refl)
-none_refused team name reading (Act (act.TakePgn c)) by = (no.NoNet, λ book. refl)
-none_refused team name reading (Act (act.TakeSpn c)) by = (no.NoNet, λ book. refl)
-none_refused team name reading (Act (act.TakeBits c)) by = (no.NoNet, λ book. refl)
-none_refused team name reading (Act (act.SetValues c)) by = (no.NoNet, λ book. refl)
-none_refused team name reading (Act (act.RemoveSignal path)) by = (no.NoNet, λ book. refl)
-none_refused team name reading (Act (act.Retire message)) by = (no.NoNet, λ book. refl)
-none_refused team name reading (Act act.Submit) by = (no.NoNet, λ book. refl)
-none_refused team name reading (Act act.Approve) by = (no.NoNet, λ book. refl)
-none_refused team name reading (Act act.Reject) by = (no.NoNet, λ book. refl)
-none_refused team name reading (Act act.Release) by = absurd (false≢true by)
+none_refused team name reading (Act a) by = (laws_of team name a).nowhere refl
 none_refused team name reading (Import file) by = absurd (false≢true by)
 none_refused team name reading (Bundle parts) by = absurd (false≢true by)
 

@@ -1,6 +1,7 @@
 -- Tables of some form that hold a history, as an office is opened on them.
-use Rattle.std.proofs.Common.{◌≡◌, ◌⊎◌, ◌∙◌, false, inl, inr, List, refl, sym, subst}
-use Rattle.std.specs.Prelude.{◌≢◌, IsTrue}
+use Rattle.std.proofs.Common.{◌≡◌, ◌⊎◌, ◌∙◌, false, inl, inr, Err, List, Ok, Result, refl, sym, subst}
+use Rattle.std.specs.Prelude.{◌≢◌, IsTrue, OnOk}
+use Rattle.std.proofs.lemmas.Result.{on_ok_weaker}
 use Rattle.sqlite.specs.Effect.{Database}
 use Rattle.sqlite.specs.Schema.{Schema}
 use Rattle.sqlite.specs.State.{HasCleanDisk, IsUnchanged, Shows, State, Survives}
@@ -13,7 +14,7 @@ use Rattle.office_tables.proofs.Changing.{named_rows}
 use Rattle.office_history.specs.History.{Answered}
 use Rattle.store_carry.specs.FormSchema.{schema_of}
 use Rattle.store_carry.specs.Forms.{HoldsAsRows}
-use Rattle.store_carry.specs.InForm.{HoldsAs, KeepsAs}
+use Rattle.store_carry.specs.InForm.{HoldsAs, KeepsAs, first_marks}
 use Rattle.store_carry.specs.Marks.{HasMarks}
 use Rattle.store_carry.specs.declared.forms.Form.{Form}
 use Rattle.store_carry.specs.declared.forms.Form.TheVariants.{All, Bodies, Foreign, Rows}
@@ -21,8 +22,9 @@ use Rattle.store_carry.specs.declared.marks.Marks.{Marks}
 use Rattle.store_carry.specs.declared.marks.Marks.TheVariants as marks
 use Rattle.store_carry.specs.declared.marks.Marks.TheVariants.{Newer, Second}
 use Rattle.store_carry.proofs.ProfileRows.{bodies_or_newer, first_or_newer, is_second, not_second, second_or_bodies, second_or_first, second_or_newer}
+use Rattle.store.specs.declared.lost.Lost.{Lost}
 use Rattle.store.specs.Holding.{Holding, Keeps, Leaves}
-use Rattle.store.specs.Opening.{HasForm, HasOffice, HasOlderMarks, HasTables, HoldingInSomeForm, HoldingOlder, IsCarried, IsGrown, KeepsInSomeForm, MayCarry, MayComplete, MayMigrate}
+use Rattle.store.specs.Opening.{HasForm, HasMarksOf, HasOffice, HasOlderMarks, HasTables, HoldingInSomeForm, HoldingOlder, IsCarried, IsGrown, KeepsInSomeForm, MayCarry, MayComplete, MayMigrate}
 
 -- ---- forms and their schemas
 
@@ -31,6 +33,15 @@ form_schema Bodies known s is = inl is
 form_schema Rows known s is = inr (inl is)
 form_schema All known s is = inr (inr is)
 form_schema Foreign known s is = absurd (known refl)
+
+-- what was found of the tables, where it is that form
+pub form_is : (s : Schema) (found form : Form) → found ≡ form → form ≢ Foreign → (found ≢ Foreign → s ≡ schema_of found) → s ≡ schema_of form
+form_is s found form is known exact = subst (λ f. s ≡ schema_of f) is (exact (λ none. known (sym is ∙ none)))
+
+pub never_foreign : (s : Schema) (found : Form) → found ≡ Foreign → ((form : Form) → form ≢ Foreign → s ≡ schema_of form → found ≡ form) → IsOfficeSchema s → ⊥
+never_foreign s found foreign known (inl nine) = let bodies = known Bodies (λ is. cc) nine in cc
+never_foreign s found foreign known (inr (inl thirteen)) = let rows = known Rows (λ is. cc) thirteen in cc
+never_foreign s found foreign known (inr (inr all)) = let every = known All (λ is. cc) all in cc
 
 pub known_form : (p : Profile) (form : Form) (h : List Answered) (db : Trees) → KeepsAs p form h db → form ≢ Foreign
 known_form p Bodies h db keeps is = cc
@@ -175,9 +186,31 @@ older_or_newer : (t : Tables) → HasOlderMarks t → HasMarks t Newer → ⊥
 older_or_newer t (inl bodies) newer = bodies_or_newer t bodies newer
 older_or_newer t (inr first) newer = first_or_newer t first newer
 
-pub known_or_newer : (t : Tables) → HasMarks t Second ⊎ HasOlderMarks t → HasMarks t Newer → ⊥
-known_or_newer t (inl second) newer = second_or_newer t second newer
-known_or_newer t (inr older) newer = older_or_newer t older newer
+pub known_or_newer : (form : Form) (t : Tables) → HasMarksOf form t → HasMarks t Newer → ⊥
+known_or_newer Bodies t bodies newer = bodies_or_newer t bodies newer
+known_or_newer Rows t (inl first) newer = first_or_newer t first newer
+known_or_newer Rows t (inr second) newer = second_or_newer t second newer
+known_or_newer All t (inl first) newer = first_or_newer t first newer
+known_or_newer All t (inr second) newer = second_or_newer t second newer
+known_or_newer Foreign t none newer = none
+
+-- the profile that tables of a form have is the first, by the rows of that form, or the second, but not with bodies
+pub first_of_form : (form : Form) (t : Tables) (m : Marks) → form ≢ Foreign → m ≡ first_marks form → HasMarks t m → HasMarksOf form t
+first_of_form Bodies t m known is has = subst (HasMarks t) is has
+first_of_form Rows t m known is has = inl (subst (HasMarks t) is has)
+first_of_form All t m known is has = inl (subst (HasMarks t) is has)
+first_of_form Foreign t m known is has = absurd (known refl)
+
+on_any : {Y X : Type 0} (r : Result Y Lost) → X → OnOk r X
+on_any (Ok y) it = it
+on_any (Err e) it = tt
+
+pub second_of_form : (form : Form) (s : Schema) (t : Tables) {Y : Type 0} (r : Result Y Lost) → form ≢ Foreign → s ≡ schema_of form → (s ≡ schema_9 → OnOk r ⊥) → HasMarks t Second
+    → OnOk r (HasMarksOf form t)
+second_of_form Bodies s t r known is bodies has = on_ok_weaker r (λ none. absurd none) (bodies is)
+second_of_form Rows s t r known is bodies has = on_any r (inr has)
+second_of_form All s t r known is bodies has = on_any r (inr has)
+second_of_form Foreign s t r known is bodies has = absurd (known refl)
 
 -- marks that are none of the others' are those of the first profile
 pub older_marks : (t : Tables) (m : Marks) → m ≢ Second → m ≢ Newer → m ≢ marks.Foreign → HasMarks t m → HasOlderMarks t

@@ -1,11 +1,12 @@
 -- Connections as an office is opened on them.
 use Rattle.std.specs.Prelude.{◌≡◌, ◌≢◌, ◌⊎◌, List, IsTrue}
 use Rattle.sqlite.specs.Effect.{Database}
+use Rattle.sqlite.specs.Schema.{Schema}
 use Rattle.sqlite.specs.State.{State}
 use Rattle.sqlite.specs.Tree.{Trees}
 use Rattle.sqlite_catalog.specs.Listing.{IsSound}
 use Rattle.office_rules.specs.Profile.{One, Profile, Two}
-use Rattle.office_tables.specs.Schema.{no_schema, office_schema, schema_13, schema_9}
+use Rattle.office_tables.specs.Schema.{IsOfficeSchema, no_schema, office_schema, schema_13, schema_9}
 use Rattle.office_tables.specs.Statements.{IsOfficeWith, tables_in}
 use Rattle.office_tables.specs.Tables.{AreNumbered, AreOffice, IsOffice, Tables, no_rows, tables_of}
 use Rattle.office_history.specs.History.{Answered}
@@ -14,8 +15,8 @@ use Rattle.store_carry.specs.Forms.{HoldsAsRows, row_marks}
 use Rattle.store_carry.specs.InForm.{KeepsAs}
 use Rattle.store_carry.specs.Marks.{HasMarks}
 use Rattle.store_carry.specs.declared.forms.Form.{Form}
-use Rattle.store_carry.specs.declared.forms.Form.TheVariants.{Foreign}
-use Rattle.store_carry.specs.declared.marks.Marks.TheVariants.{Bodies, First, Second}
+use Rattle.store_carry.specs.declared.forms.Form.TheVariants.{All, Bodies, Foreign, Rows}
+use Rattle.store_carry.specs.declared.marks.Marks.TheVariants as marks
 
 -- the connection has no table
 pub record HasNone (s : State) : Type 0 where
@@ -40,6 +41,29 @@ pub record HasOffice (s : State) : Type 0 where
   pub known : form ≢ Foreign
   pub sound : IsSound (schema_of form) s.now.trees
   pub numbered : AreNumbered (schema_of form) s.now.trees
+
+-- ---- what is taken
+
+-- by an open: no table, or those of an office of now, of which that of bundles' parts alone may be missing
+abbrev pub MayOpen : Schema → Type 0
+MayOpen schema = (schema ≡ no_schema) ⊎ (schema ≡ schema_13) ⊎ (schema ≡ office_schema)
+
+-- by `migrate`: no table, or those of an office of some time
+abbrev pub MayMigrateFrom : Schema → Type 0
+MayMigrateFrom schema = (schema ≡ no_schema) ⊎ IsOfficeSchema schema
+
+-- the profile is the first
+abbrev pub HasOlderMarks : Tables → Type 0
+HasOlderMarks t = HasMarks t marks.Bodies ⊎ HasMarks t marks.First
+
+-- the profile is one that tables of this form have: where live messages are bodies the first, and else either
+abbrev pub HasMarksOf : Form → Tables → Type 0
+HasMarksOf Bodies t = HasMarks t marks.Bodies
+HasMarksOf Rows t = HasMarks t marks.First ⊎ HasMarks t marks.Second
+HasMarksOf All t = HasMarks t marks.First ⊎ HasMarks t marks.Second
+HasMarksOf Foreign t = ⊥
+
+-- ---- what becomes of it
 
 -- the tables as they are made: the rows of profile 2, and no other
 abbrev pub new_tables : Tables
@@ -69,13 +93,9 @@ pub record MayGrow (before : Database) (after : Trees) : Type 0 where
 abbrev pub MayCarry : Database → Trees → Type 0
 MayCarry before after = (form : Form) → form ≢ Foreign → IsOfficeWith (schema_of form) before → (db : Database) × IsCarried form before.trees db × (after ≡ db.trees)
 
--- the profile is the first
-abbrev pub HasOlderMarks : Tables → Type 0
-HasOlderMarks t = HasMarks t Bodies ⊎ HasMarks t First
-
 -- What a crash may leave of an open: only tables whose profile is the second get the table of parts.
 abbrev pub MayComplete : Database → Trees → Type 0
-MayComplete before after = HasMarks (tables_of before.trees) Second × MayGrow before after
+MayComplete before after = HasMarks (tables_of before.trees) marks.Second × MayGrow before after
 
 -- The same of `migrate`: only tables whose profile is the first are carried over.
 abbrev pub MayMigrate : Database → Trees → Type 0

@@ -1,13 +1,14 @@
 //! What is decided on a request that comes for the first time, on what its command reads of the tables.
 //!
-//! An action of a smaller scope than the whole network goes by an excerpt of that scope (`office_facts/specs/Scope.antt`).
-//! `open_net`, `release`, imports and bundles read all of their network but its releases; of these `release` reads how
-//! many there are, and a bundle with `retire` what is in them. The book is read for `take_spn`, for a `grant` of suspect
-//! parameter numbers, and with all of a network.
+//! An action of a smaller scope than the whole network goes by an excerpt of that scope
+//! (`office_facts/specs/Scope.antt`). The others, imports and bundles read all of their network but its releases; of
+//! these they read how many there are, or what is in them, where they depend on it (`releases_read` in
+//! `office_rules/specs/Commands.antt`). The book is read for `take_spn`, for a `grant` of suspect parameter numbers,
+//! and with all of a network.
 ghost use Rattle.std.specs.Prelude.{◌≡◌, true, false, Option, Some, IfSome};
 ghost use Rattle.std.specs.List.{list_any};
 ghost use Rattle.sqlite.specs.Held.{state};
-ghost use Rattle.office_law.specs.Released.{reads_bodies, reads_releases};
+ghost use Rattle.office_rules.specs.Commands.{reads_bodies, reads_releases};
 ghost use Rattle.office_facts.specs.Scope.{reads_part};
 ghost use Rattle.office_rules.specs.Change.{IsDecision, is_release};
 ghost use Rattle.office_rules.specs.Kept.{IsNet};
@@ -18,10 +19,9 @@ ghost use Rattle.store_rows.specs.Rows.{IsBookIn};
 ghost use Rattle.store_net.specs.Writing.{IsNext};
 ghost use Rattle.office_tables.specs.Statements.{ChangesNothing, CommitsNothing, Finds, LeavesNothing};
 
-use crate::counting::{reads_bodies, reads_releases};
 use catalogue::Items;
 use office_decide::{decide, decide_by_excerpt};
-use office_facts::{reads_book, reads_part, scope_of};
+use office_facts::{reads_bodies, reads_book, reads_part, reads_releases, scope_of};
 use office_law::{bodies_dont_count, releases_dont_count};
 use office_types::{Command, Decision, SpnBook, Task, Team, UsedSpns};
 use sqlite::{Alter, Error, Transaction};

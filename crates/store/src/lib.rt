@@ -18,7 +18,6 @@
 #![tactic(auto)]
 
 mod arriving;
-mod counting;
 mod deciding;
 mod laws;
 mod looking;

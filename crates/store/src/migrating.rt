@@ -4,20 +4,21 @@ ghost use Rattle.sqlite.specs.Effect.{Database};
 ghost use Rattle.sqlite.specs.Held.{state};
 ghost use Rattle.sqlite.specs.State.{HasCleanDisk, IsUnchanged, Survives};
 ghost use Rattle.sqlite_trees.specs.View.{doubt};
-ghost use Rattle.office_tables.specs.Schema.{IsOfficeSchema, no_schema, office_schema, schema_13};
+ghost use Rattle.office_tables.specs.Schema.{IsOfficeSchema, no_schema, office_schema, schema_9, schema_13};
 ghost use Rattle.office_tables.specs.Statements.{IsOfficeWith};
 ghost use Rattle.office_tables.specs.Tables.{tables_of};
 ghost use Rattle.office_history.specs.History.{Answered};
 ghost use Rattle.store_carry.specs.FormSchema.{schema_of};
+ghost use Rattle.store_carry.specs.InForm.{first_marks};
 ghost use Rattle.store_carry.specs.Marks.{HasMarks};
 ghost use Rattle.store_carry.specs.declared.forms.Form.{Form as FormOf};
 ghost use Rattle.store.specs.Holding.{Holding, Keeps, Leaves};
 ghost use Rattle.store.specs.Lost.{IsOfCall};
-ghost use Rattle.store.specs.Opening.{HasForm, HasNone, HasOffice, HasOlderMarks, HasTables, HoldingInSomeForm};
-ghost use Rattle.store.specs.Opening.{IsCarried, IsGrown, IsNew, MayCarry, MayMigrate};
+ghost use Rattle.store.specs.Opening.{HasForm, HasMarksOf, HasNone, HasOffice, HasTables, HoldingInSomeForm};
+ghost use Rattle.store.specs.Opening.{IsCarried, IsGrown, IsNew, MayCarry, MayMigrate, MayMigrateFrom};
 
 use crate::lost::Lost;
-use crate::opening::{complete, leaves_committed, start};
+use crate::opening::{complete, is_office, leaves_committed, refuse, start};
 use crate::stored_office::StoredOffice;
 use office_tables::{is_new, knows_tables};
 use sqlite::{Alter, Connection, Error};
@@ -38,6 +39,8 @@ fn carry_all<S: Alter, W: Watch>(
         → OnOk result (IsCarried form (state S.Store conn.old).now.trees (state S.Store conn.new).now
         × ((state S.Store conn.new).committed ≡ (state S.Store conn.new).now)
         × IsTrue (state S.Store conn.new).is_open) }
+    ensures matched { (form : FormOf) → form ≢ Form.Foreign → (state S.Store conn.old).now.schema ≡ schema_of form
+        → OnOk result (marks ≡ first_marks form) }
     ensures back { HasCleanDisk (state S.Store conn.new) → (form : FormOf) → form ≢ Form.Foreign
         → IsOfficeWith (schema_of form) (state S.Store conn.old).now → IsTrue (state S.Store conn.new).is_open
         → OnErr result ((state S.Store conn.new).committed ≡ (state S.Store conn.old).committed) }
@@ -71,15 +74,19 @@ fn make_current<S: Alter, W: Watch>(
         → OnOk result (IsGrown (state S.Store conn.old).now.trees (state S.Store conn.new).now
         × ((state S.Store conn.new).committed ≡ (state S.Store conn.new).now)
         × IsTrue (state S.Store conn.new).is_open) }
+    ensures known { HasCleanDisk (state S.Store conn.new) → (form : FormOf) → form ≢ Form.Foreign
+        → (state S.Store conn.old).now.schema ≡ schema_of form
+        → OnOk result (HasMarksOf form (tables_of (state S.Store conn.old).now.trees)) }
+    ensures bodies { HasCleanDisk (state S.Store conn.new) → (state S.Store conn.old).now.schema ≡ schema_9
+        → HasMarks (tables_of (state S.Store conn.old).now.trees) Marks.Second → OnOk result ⊥ }
+    ensures taken { HasCleanDisk (state S.Store conn.new)
+        → OnOk result (MayMigrateFrom (state S.Store conn.old).now.schema) }
     ensures carried { HasCleanDisk (state S.Store conn.new) → (form : FormOf) → form ≢ Form.Foreign
         → IsOfficeWith (schema_of form) (state S.Store conn.old).now
         → ¬ HasMarks (tables_of (state S.Store conn.old).now.trees) Marks.Second
         → OnOk result (IsCarried form (state S.Store conn.old).now.trees (state S.Store conn.new).now
         × ((state S.Store conn.new).committed ≡ (state S.Store conn.new).now)
         × IsTrue (state S.Store conn.new).is_open) }
-    ensures known { HasCleanDisk (state S.Store conn.new) → IsOfficeSchema (state S.Store conn.old).now.schema
-        → OnOk result (HasMarks (tables_of (state S.Store conn.old).now.trees) Marks.Second
-        ⊎ HasOlderMarks (tables_of (state S.Store conn.old).now.trees)) }
     ensures newer { HasCleanDisk (state S.Store conn.new) → IsOfficeSchema (state S.Store conn.old).now.schema
         → IfErr result (λ lost. lost ≡ Lost.NewerProfile
         → HasMarks (tables_of (state S.Store conn.old).now.trees) Marks.Newer) }
@@ -100,6 +107,9 @@ fn make_current<S: Alter, W: Watch>(
 {
     if is_new(conn) {
         return start(conn);
+    }
+    if !is_office(conn) {
+        return refuse(conn);
     }
     match read_marks(conn)? {
         Marks::Second => complete(conn),
@@ -125,6 +135,8 @@ impl<S: Alter> StoredOffice<S> {
         requires { (state S.Store conn).in_transaction ≡ false }
         ensures autocommit { IfErr result (λ lost. (state S.Store lost.1).in_transaction ≡ false) }
         ensures working { IfOk result (λ office. office.failed ≡ false) }
+        ensures taken { IfOk result (λ office. HasCleanDisk (state S.Store office.conn)
+            → MayMigrateFrom (state S.Store conn).now.schema) }
         ensures made { IfOk result (λ office. HasCleanDisk (state S.Store office.conn) → HasNone (state S.Store conn)
             → Holding [] (state S.Store office.conn) × Leaves (Keeps []) (state S.Store office.conn)) }
         ensures unmade { IfErr result (λ lost. HasCleanDisk (state S.Store lost.1) → HasNone (state S.Store conn)
@@ -142,8 +154,10 @@ impl<S: Alter> StoredOffice<S> {
             × ((state S.Store office.conn).committed ≡ (state S.Store office.conn).now)
             × IsTrue (state S.Store office.conn).is_open) }
         ensures known { IfOk result (λ office. HasCleanDisk (state S.Store office.conn)
-            → HasOffice (state S.Store conn) → HasMarks (tables_of (state S.Store conn).now.trees) Marks.Second
-            ⊎ HasOlderMarks (tables_of (state S.Store conn).now.trees)) }
+            → (has : HasOffice (state S.Store conn)) → HasMarksOf has.form (tables_of (state S.Store conn).now.trees)) }
+        ensures bodies { IfOk result (λ office. HasCleanDisk (state S.Store office.conn)
+            → HasForm Form.Bodies (state S.Store conn)
+            → HasMarks (tables_of (state S.Store conn).now.trees) Marks.Second → ⊥) }
         ensures newer_stays { HasOffice (state S.Store conn)
             → HasMarks (tables_of (state S.Store conn).now.trees) Marks.Newer
             → MatchResult result (λ office. HasCleanDisk (state S.Store office.conn) → ⊥)

@@ -1,5 +1,6 @@
 //! Opening an office on tables of an earlier run, or on none.
-ghost use Rattle.std.specs.Prelude.{◌≡◌, ◌≤◌, ◌⊎◌, [], List, false, IsTrue, IfOk, IfErr, OnOk, OnErr, MatchResult};
+ghost use Rattle.std.specs.Prelude.{◌≡◌, ◌≢◌, ◌↔◌, ◌≤◌, ◌⊎◌, [], List, false};
+ghost use Rattle.std.specs.Prelude.{IsTrue, IfOk, IfErr, OnOk, OnErr, MatchResult};
 ghost use Rattle.sqlite.specs.Tree.{Trees};
 ghost use Rattle.sqlite.specs.Effect.{Database};
 ghost use Rattle.sqlite.specs.Held.{state};
@@ -13,7 +14,7 @@ ghost use Rattle.store_carry.specs.Marks.{HasMarks};
 ghost use Rattle.store.specs.Holding.{Holding, Keeps, Leaves};
 ghost use Rattle.store.specs.Lost.{IsOfCall};
 ghost use Rattle.store.specs.Opening.{HasForm, HasNone, HasOffice, HasOlderMarks, HasTables, HoldingInSomeForm};
-ghost use Rattle.store.specs.Opening.{HoldingOlder, IsGrown, IsNew, MayComplete, MayGrow};
+ghost use Rattle.store.specs.Opening.{HoldingOlder, IsGrown, IsNew, MayComplete, MayGrow, MayOpen};
 ghost use Rattle.office_tables.specs.Statements.{AddsNoCommit, LeavesNothing};
 
 use crate::lost::Lost;
@@ -68,6 +69,8 @@ fn make_part<S: Alter>(conn: &mut Connection<S>) -> Result<(), Error>
         → OnOk result (IsGrown (state S.Store conn.old).now.trees (state S.Store conn.new).now
         × ((state S.Store conn.new).committed ≡ (state S.Store conn.new).now)
         × IsTrue (state S.Store conn.new).is_open) }
+    ensures tables { HasCleanDisk (state S.Store conn.new) → (state S.Store conn.old).now.schema ≡ schema_13
+        → OnOk result ((state S.Store conn.new).now.schema ≡ office_schema) }
     ensures back { HasCleanDisk (state S.Store conn.new) → IsTrue (state S.Store conn.new).is_open
         → OnErr result ((state S.Store conn.new).committed ≡ (state S.Store conn.old).committed) }
     ensures survives { Survives (state S.Store conn.old) (state S.Store conn.new)
@@ -112,6 +115,10 @@ pub(crate) fn leaves_committed<S: Alter>(conn: &Connection<S>)
 pub(crate) fn complete<S: Alter>(conn: &mut Connection<S>) -> Result<(), Lost>
     requires { (state S.Store conn.old).in_transaction ≡ false }
     ensures autocommit { (state S.Store conn.new).in_transaction ≡ false }
+    ensures taken { OnOk result (((state S.Store conn.old).now.schema ≡ schema_13)
+        ⊎ ((state S.Store conn.old).now.schema ≡ office_schema)) }
+    ensures tables { HasCleanDisk (state S.Store conn.new)
+        → OnOk result ((state S.Store conn.new).now.schema ≡ office_schema) }
     ensures same { (state S.Store conn.old).now.schema ≡ office_schema → OnOk result (conn.new ≡ conn.old) }
     ensures grown { HasCleanDisk (state S.Store conn.new) → IsOfficeWith schema_13 (state S.Store conn.old).now
         → OnOk result (IsGrown (state S.Store conn.old).now.trees (state S.Store conn.new).now
@@ -135,8 +142,32 @@ pub(crate) fn complete<S: Alter>(conn: &mut Connection<S>) -> Result<(), Lost>
     }
 }
 
-/// Makes the tables where there are none. Of those that are there tests the profile, and makes the last of them if it
-/// isn't there yet.
+/// Whether the tables are those of an office of some time.
+pub(crate) fn is_office<S: Alter>(conn: &Connection<S>) -> bool
+    ensures { IsTrue result ↔ IsOfficeSchema (state S.Store conn.now).now.schema }
+{
+    match form_of(conn) {
+        Form::Foreign => false,
+        _ => true,
+    }
+}
+
+/// Says why tables that are no office's aren't taken: their profile may be one that isn't known here.
+pub(crate) fn refuse<S: Alter>(conn: &mut Connection<S>) -> Result<(), Lost>
+    requires { (state S.Store conn.old).in_transaction ≡ false }
+    ensures autocommit { (state S.Store conn.new).in_transaction ≡ false }
+    ensures refused { OnOk result ⊥ }
+    ensures never_older { IfErr result (λ lost. lost ≢ Lost.OlderProfile) }
+    ensures clean { doubt (state S.Store conn.old).is_clean ≤ doubt (state S.Store conn.new).is_clean }
+{
+    if matches!(read_marks(conn)?, Marks::Newer) {
+        return Err(Lost::NewerProfile);
+    }
+    Err(Lost::Store)
+}
+
+/// Makes the tables where there are none. Of those that are there tests the profile and whether they are an office's,
+/// and makes the last of them if it isn't there yet.
 fn make_ready<S: Alter>(conn: &mut Connection<S>) -> Result<(), Lost>
     requires { (state S.Store conn.old).in_transaction ≡ false }
     ensures autocommit { (state S.Store conn.new).in_transaction ≡ false }
@@ -154,6 +185,9 @@ fn make_ready<S: Alter>(conn: &mut Connection<S>) -> Result<(), Lost>
         → OnOk result ⊥ }
     ensures second { HasCleanDisk (state S.Store conn.new) → IsOfficeSchema (state S.Store conn.old).now.schema
         → OnOk result (HasMarks (tables_of (state S.Store conn.old).now.trees) Marks.Second) }
+    ensures taken { HasCleanDisk (state S.Store conn.new) → OnOk result (MayOpen (state S.Store conn.old).now.schema) }
+    ensures tables { HasCleanDisk (state S.Store conn.new)
+        → OnOk result ((state S.Store conn.new).now.schema ≡ office_schema) }
     ensures older { HasCleanDisk (state S.Store conn.new) → IsOfficeSchema (state S.Store conn.old).now.schema
         → IfErr result (λ lost. lost ≡ Lost.OlderProfile
         → HasOlderMarks (tables_of (state S.Store conn.old).now.trees)) }
@@ -174,12 +208,12 @@ fn make_ready<S: Alter>(conn: &mut Connection<S>) -> Result<(), Lost>
     if is_new(conn) {
         return start(conn);
     }
+    if !is_office(conn) {
+        return refuse(conn);
+    }
     match read_marks(conn)? {
         Marks::Second => complete(conn),
-        Marks::Bodies | Marks::First => match form_of(conn) {
-            Form::Foreign => Err(Lost::Store),
-            _ => Err(Lost::OlderProfile),
-        },
+        Marks::Bodies | Marks::First => Err(Lost::OlderProfile),
         Marks::Newer => Err(Lost::NewerProfile),
         Marks::Foreign => Err(Lost::Store),
     }
@@ -187,15 +221,20 @@ fn make_ready<S: Alter>(conn: &mut Connection<S>) -> Result<(), Lost>
 
 impl<S: Alter> StoredOffice<S> {
     /// Opens the office on the connection. New tables, which hold the empty history, are made where there is no table,
-    /// index or view. Tables that hold a history hold it still. Where it is lost, the connection is given back:
-    /// [`Lost::NewerProfile`] where the tables are of a profile that isn't known here, [`Lost::OlderProfile`] where
-    /// they are of the first, which [`StoredOffice::migrate`] carries over; out of memory, or an error of the store, as
-    /// on tables of something else. Either the tables are as before then, or, where the disk failed, they may be new.
-    /// Tables of the second profile that lack the table of bundles' parts get it.
+    /// index or view. Else only the tables of an office are taken, as canoffice makes them. Tables that hold a history
+    /// hold it still. Where it is lost, the connection is given back: [`Lost::NewerProfile`] where the tables are of a
+    /// profile that isn't known here, [`Lost::OlderProfile`] where they are of the first, which
+    /// [`StoredOffice::migrate`] carries over; out of memory, or an error of the store, as on tables of something else.
+    /// Either the tables are as before then, or, where the disk failed, they may be new. Tables of the second profile
+    /// that lack the table of bundles' parts get it.
     pub fn open(conn: Connection<S>) -> Result<StoredOffice<S>, (Lost, Connection<S>)>
         requires { (state S.Store conn).in_transaction ≡ false }
         ensures autocommit { IfErr result (λ lost. (state S.Store lost.1).in_transaction ≡ false) }
         ensures working { IfOk result (λ office. office.failed ≡ false) }
+        ensures taken { IfOk result (λ office. HasCleanDisk (state S.Store office.conn)
+            → MayOpen (state S.Store conn).now.schema) }
+        ensures tables { IfOk result (λ office. HasCleanDisk (state S.Store office.conn)
+            → (state S.Store office.conn).now.schema ≡ office_schema) }
         ensures made { IfOk result (λ office. HasCleanDisk (state S.Store office.conn) → HasNone (state S.Store conn)
             → Holding [] (state S.Store office.conn) × Leaves (Keeps []) (state S.Store office.conn)) }
         ensures unmade { IfErr result (λ lost. HasCleanDisk (state S.Store lost.1) → HasNone (state S.Store conn)

@@ -1,10 +1,11 @@
--- How many tables and indexes each form has, and that its tables are outlined as the first ones of an office.
-use Rattle.std.proofs.Common.{◌≡◌, ℕ, List, [], length, map, take, refl, sym, subst, ap, ◌∙◌, arith}
+-- How many tables and indexes each form has, and that they are the first ones of an office.
+use Rattle.std.proofs.Common.{◌≡◌, ℕ, length, take, refl, sym, subst, ap, ◌∙◌, arith}
 use Rattle.std.specs.Prelude.{◌≢◌}
 use Rattle.sqlite.specs.Schema.{Schema}
 use Rattle.office_tables.specs.Schema.{office_schema, schema_13, schema_9}
 use Rattle.store_carry.specs.FormSchema.{schema_of}
-use Rattle.office_tables.specs.Outlines.{IsBegun, IsLike, Outline, every_table, outlines_of, table_of}
+use Rattle.office_tables.specs.Comparing.{IsBegun}
+use Rattle.office_tables.proofs.OneSchema.{schema_is}
 use Rattle.store_carry.specs.declared.forms.Form.{Form}
 use Rattle.store_carry.specs.declared.forms.Form.TheVariants.{All, Bodies, Foreign, Rows}
 
@@ -71,53 +72,39 @@ none_counted Rows n k a b c other has = absurd (b has)
 none_counted All n k a b c other has = absurd (c has)
 none_counted Foreign n k a b c other has = absurd (other refl)
 
--- each form's tables are outlined so
+-- each form's tables are the first ones of an office
 
-abbrev first : ℕ → List Outline
-first n = take n (outlines_of (map table_of every_table))
+first_9 : IsBegun schema_9
+unfolding schema_9 office_schema
+first_9 = (refl, refl, refl)
 
-first_9 : outlines_of schema_9.tables ≡ first 9
-unfolding schema_9
-first_9 = refl
+first_13 : IsBegun schema_13
+unfolding schema_13 office_schema
+first_13 = (refl, refl, refl)
 
-first_13 : outlines_of schema_13.tables ≡ first 13
-unfolding schema_13
-first_13 = refl
-
-first_14 : outlines_of office_schema.tables ≡ first 14
+first_14 : IsBegun office_schema
 unfolding office_schema
-first_14 = refl
-
-no_view_9 : schema_9.views ≡ []
-unfolding schema_9
-no_view_9 = refl
-
-no_view_13 : schema_13.views ≡ []
-unfolding schema_13
-no_view_13 = refl
-
-no_view_14 : office_schema.views ≡ []
-unfolding office_schema
-no_view_14 = refl
+first_14 = (refl, refl, refl)
 
 begun_of : (form : Form) → IsBegun (schema_of form)
-begun_of Bodies = (first_9 ∙ ap first (sym nine), no_view_9)
-begun_of Rows = (first_13 ∙ ap first (sym thirteen), no_view_13)
-begun_of All = (first_14 ∙ ap first (sym fourteen), no_view_14)
-begun_of Foreign = (refl, refl)
+begun_of Bodies = first_9
+begun_of Rows = first_13
+begun_of All = first_14
+begun_of Foreign = (refl, refl, refl)
 
 pub begun : (form : Form) (schema : Schema) → schema ≡ schema_of form → IsBegun schema
 begun form schema same = subst IsBegun (sym same) (begun_of form)
 
-like : (n k : ℕ) (schema office : Schema) → IsBegun schema → length schema.tables ≡ n → length schema.indexes ≡ k → outlines_of office.tables ≡ first n
-    → length office.indexes ≡ k → IsLike schema office
-like n k schema office is tables indexes begins own = (is.0 ∙ ap first tables ∙ sym begins, indexes ∙ sym own, is.1)
+-- the first ones, as many as a form has, are its own
+same_counts : (schema office : Schema) → IsBegun schema → IsBegun office → length schema.tables ≡ length office.tables → length schema.indexes ≡ length office.indexes → schema ≡ office
+same_counts schema office is own tables indexes =
+    schema_is schema office (is.0 ∙ ap (λ n. take n office_schema.tables) tables ∙ sym own.0) (is.1 ∙ ap (λ n. take n office_schema.indexes) indexes ∙ sym own.1) (is.2 ∙ sym own.2)
 
-pub like_bodies : (schema : Schema) → IsBegun schema → length schema.tables ≡ 9 → length schema.indexes ≡ 8 → IsLike schema (schema_of Bodies)
-like_bodies schema is tables indexes = like 9 8 schema schema_9 is tables indexes first_9 eight_indexes
+pub bodies_are : (schema : Schema) → IsBegun schema → length schema.tables ≡ 9 → length schema.indexes ≡ 8 → schema ≡ schema_of Bodies
+bodies_are schema is tables indexes = same_counts schema schema_9 is first_9 (tables ∙ sym nine) (indexes ∙ sym eight_indexes)
 
-pub like_rows : (schema : Schema) → IsBegun schema → length schema.tables ≡ 13 → length schema.indexes ≡ 14 → IsLike schema (schema_of Rows)
-like_rows schema is tables indexes = like 13 14 schema schema_13 is tables indexes first_13 fourteen_indexes
+pub rows_are : (schema : Schema) → IsBegun schema → length schema.tables ≡ 13 → length schema.indexes ≡ 14 → schema ≡ schema_of Rows
+rows_are schema is tables indexes = same_counts schema schema_13 is first_13 (tables ∙ sym thirteen) (indexes ∙ sym fourteen_indexes)
 
-pub like_all : (schema : Schema) → IsBegun schema → length schema.tables ≡ 14 → length schema.indexes ≡ 15 → IsLike schema (schema_of All)
-like_all schema is tables indexes = like 14 15 schema office_schema is tables indexes first_14 fifteen_indexes
+pub all_are : (schema : Schema) → IsBegun schema → length schema.tables ≡ 14 → length schema.indexes ≡ 15 → schema ≡ schema_of All
+all_are schema is tables indexes = same_counts schema office_schema is first_14 (tables ∙ sym fourteen) (indexes ∙ sym fifteen_indexes)

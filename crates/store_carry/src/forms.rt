@@ -2,7 +2,6 @@
 ghost use Rattle.std.specs.Prelude.{◌≡◌, ◌≢◌};
 ghost use Rattle.sqlite.specs.Held.{state};
 ghost use Rattle.store_carry.specs.FormSchema.{schema_of};
-ghost use Rattle.office_tables.specs.Outlines.{IsLike};
 ghost use Rattle.store_carry.specs.declared.forms.Form.{Form as FormOf};
 
 use office_tables::is_begun;
@@ -21,12 +20,12 @@ pub enum Form {
     Foreign,
 }
 
-/// Which tables the connection has. Of those of an office it is exact; and what isn't `Foreign` is like those of an
-/// office: no table more or less, each with as many columns and the same unique ones, and no index or view beside them.
+/// Which tables the connection has: those of a form exactly if they are its tables as canoffice makes them, with no
+/// table, index, view or trigger beside them.
 pub fn form_of<S: Alter>(conn: &Connection<S>) -> Form
     ensures known { (form : FormOf) → form ≢ Form.Foreign
         → (state S.Store conn.now).now.schema ≡ schema_of form → result ≡ form }
-    ensures like { result ≢ Form.Foreign → IsLike (state S.Store conn.now).now.schema (schema_of result) }
+    ensures exact { result ≢ Form.Foreign → (state S.Store conn.now).now.schema ≡ schema_of result }
 {
     let schema = conn.schema();
     if !is_begun(schema) {

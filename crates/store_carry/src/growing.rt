@@ -9,7 +9,7 @@ ghost use Rattle.sqlite.specs.Held.{state};
 ghost use Rattle.sqlite.specs.State.{HasCleanDisk, KeepsCommit};
 ghost use Rattle.store_carry.specs.Forms.{HoldsAsBodies, HoldsAsRows};
 ghost use Rattle.store_carry.specs.FormSchema.{schema_of};
-ghost use Rattle.store_carry.specs.InForm.{HoldsAs};
+ghost use Rattle.store_carry.specs.InForm.{HoldsAs, first_marks};
 ghost use Rattle.office_tables.specs.Statements.{AddsNoCommit, LeavesNothing};
 
 use crate::carrying::carry_over;
@@ -73,7 +73,7 @@ pub fn carry_rows<S: Alter>(tx: &mut Transaction<'_, S>) -> Result<(), Error>
 
 /// Carries tables of the first profile over, in a transaction, by what their profile says and which they are. An error
 /// is out of memory, what `sqlite` answers, or `InvalidQuery` where rows are no office's, or the tables aren't those
-/// that the profile speaks of.
+/// that the profile speaks of (`matched`).
 pub fn carry<S: Alter, W: Watch>(
     alloc: Global,
     tx: &mut Transaction<'_, S>,
@@ -93,6 +93,7 @@ pub fn carry<S: Alter, W: Watch>(
     ensures inside { HasCleanDisk (state S.Store tx.new.conn.now)
         → IsOfficeWith (schema_of form) (state S.Store tx.old.conn.now).now
         → OnOk result (IsTrue (state S.Store tx.new.conn.now).in_transaction) }
+    ensures matched { OnOk result (marks ≡ first_marks form) }
     ensures kept { HasCleanDisk (state S.Store tx.new.conn.now)
         → IsOfficeWith (schema_of form) (state S.Store tx.old.conn.now).now
         → KeepsCommit (state S.Store tx.old.conn.now) (state S.Store tx.new.conn.now) }

@@ -1,6 +1,6 @@
 use Rattle.sqlite.specs.Held.{state}
 use Rattle.office_tables.specs.Schema.{schema_13, part}
-use Rattle.office_tables.proofs.Growing.{grows_part}
+use Rattle.office_tables.proofs.Growing.{extends_part, grows_part}
 use Rattle.office_tables.proofs.Making.{makes_part, counts, part_text, part_defined}
 use Rattle.office_tables.proofs.creating.create_part.Goals as goal
 
@@ -15,3 +15,7 @@ returns-clause-rows g c clean made =
 pub returns-clause-grown : goal.returns-clause-grown
 returns-clause-grown g c clean was =
     grows_part (state g.S.Store c.args.tx.now.conn.now) (state g.S.Store c.execute.new.self.conn.now) c.execute.result was (λ no. (c.execute.ensures.ended no).0) (c.execute.ensures.runs clean)
+
+pub returns-clause-extended : goal.returns-clause-extended
+returns-clause-extended g c clean was =
+    extends_part (state g.S.Store c.args.tx.now.conn.now) (state g.S.Store c.execute.new.self.conn.now) c.execute.result was (λ no. (c.execute.ensures.ended no).0) (c.execute.ensures.runs clean)

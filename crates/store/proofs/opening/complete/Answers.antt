@@ -1,8 +1,23 @@
+use Rattle.std.proofs.Common.{inl, inr}
 use Rattle.sqlite.specs.Held.{state}
 use Rattle.store_carry.specs.declared.forms.Form.TheVariants.{All, Bodies, Rows}
 use Rattle.store.specs.Opening.{MayGrow}
+use Rattle.store.proofs.InForm.{form_is}
 use Rattle.store.proofs.Left.{survives_more}
 use Rattle.store.proofs.opening.complete.Goals as goal
+
+pub returns-in-All-clause-taken : goal.returns-in-All-clause-taken
+returns-in-All-clause-taken g c = inr (form_is (state g.S.Store c.args.conn.now).now.schema c.form_of.result All c.in-All.is (λ is. cc) c.form_of.ensures.exact)
+
+pub returns-in-All-clause-tables : goal.returns-in-All-clause-tables
+returns-in-All-clause-tables g c clean = form_is (state g.S.Store c.args.conn.now).now.schema c.form_of.result All c.in-All.is (λ is. cc) c.form_of.ensures.exact
+
+pub returns-in_ok-make_part-in-Rows-clause-taken : goal.returns-in_ok-make_part-in-Rows-clause-taken
+returns-in_ok-make_part-in-Rows-clause-taken g c = inl (form_is (state g.S.Store c.args.conn.now).now.schema c.form_of.result Rows c.in-Rows.is (λ is. cc) c.form_of.ensures.exact)
+
+pub returns-in_ok-make_part-in-Rows-clause-tables : goal.returns-in_ok-make_part-in-Rows-clause-tables
+returns-in_ok-make_part-in-Rows-clause-tables g c clean =
+    c.in_ok-make_part-in-Rows.ensures.tables clean (form_is (state g.S.Store c.args.conn.now).now.schema c.form_of.result Rows c.in-Rows.is (λ is. cc) c.form_of.ensures.exact)
 
 pub returns-in-All-clause-grown : goal.returns-in-All-clause-grown
 returns-in-All-clause-grown g c clean was = let rows = c.form_of.ensures.known Rows (λ is. cc) was.schema_is in let all = c.in-All.is in absurd (cc)

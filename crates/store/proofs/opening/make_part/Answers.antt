@@ -1,4 +1,4 @@
-use Rattle.std.proofs.Common.{◌≡◌, sym, subst, arith, rules}
+use Rattle.std.proofs.Common.{◌≡◌, ◌∙◌, ap, sym, subst, arith, rules}
 use Rattle.std.specs.Prelude.{OnOk}
 use Rattle.std.proofs.lemmas.Result.{on_ok_weaker}
 use Rattle.sqlite.specs.Effect.{Database}
@@ -7,7 +7,7 @@ use Rattle.sqlite.specs.State.{HasCleanDisk, Survives}
 use Rattle.sqlite.specs.Tree.{Trees}
 use Rattle.sqlite.proofs.Callers.{survives_begin}
 use Rattle.sqlite.proofs.StateLemmas.{survives_then}
-use Rattle.office_tables.specs.Schema.{schema_13}
+use Rattle.office_tables.specs.Schema.{office_schema, schema_13}
 use Rattle.office_tables.specs.Statements.{IsOfficeWith}
 use Rattle.store.specs.Opening.{IsGrown}
 use Rattle.store.proofs.InForm.{IsDone, grown_done, grown_so}
@@ -25,6 +25,18 @@ returns-clause-grown g c clean was =
     let grown = (rw begun at (c.in_ok-create_part.ensures.grown clean_last)) was in
     subst (λ v. OnOk c.commit.result (IsDone (IsGrown old.now.trees) (state g.S.Store v))) same
     (on_ok_weaker c.commit.result (λ done. grown_done _ last (state g.S.Store end) grown done.1) (c.commit.ensures.ok clean_end))
+
+pub returns-clause-tables : goal.returns-clause-tables
+returns-clause-tables g c clean has =
+    let last = state g.S.Store c.create_part.new.tx.conn.now in
+    let end = c.commit.new.self.0 in
+    let same : end ≡ c.conn-2-1.given.0 = search rules in
+    let clean_end : HasCleanDisk (state g.S.Store end) = subst (λ v. HasCleanDisk (state g.S.Store v)) (sym same) clean in
+    let clean_last : HasCleanDisk last = omega (arith, c.commit.ensures.survives.clean, clean_end) in
+    let begun = c.transaction-tx.ensures.begun in
+    let made = (rw begun at (c.in_ok-create_part.ensures.extended clean_last)) has in
+    subst (λ v. OnOk c.commit.result ((state g.S.Store v).now.schema ≡ office_schema)) same
+    (on_ok_weaker c.commit.result (λ done. ap (λ (db : Database). db.schema) done.1.now_is ∙ made) (c.commit.ensures.ok clean_end))
 
 pub returns-clause-survives : goal.returns-clause-survives
 returns-clause-survives g c =

@@ -1,9 +1,6 @@
-use Rattle.std.proofs.Common.{rules, ◌∙◌, sym, subst}
+use Rattle.std.proofs.Common.{rules, ◌∙◌, sym}
 use Rattle.std.proofs.lemmas.Bool.{false≢true}
-use Rattle.store_carry.specs.FormSchema.{schema_of}
-use Rattle.office_tables.specs.Outlines.{IsLike}
-use Rattle.store_carry.specs.declared.forms.Form.TheVariants.{All, Bodies, Rows}
-use Rattle.store_carry.proofs.Formed.{all_counted, begun, bodies_counted, counted, like_all, like_bodies, like_rows, none_counted, rows_counted}
+use Rattle.store_carry.proofs.Formed.{all_are, all_counted, begun, bodies_are, bodies_counted, counted, none_counted, rows_are, rows_counted}
 use Rattle.store_carry.proofs.forms.form_of.Goals as goal
 
 pub returns-then-not-is_begun-clause-known : goal.returns-then-not-is_begun-clause-known
@@ -15,30 +12,30 @@ returns-in-9-eq8-clause-known g c form other same =
     bodies_counted form c.len.result c.len-2.result c.in-9-eq8.is-0 other
     (counted form c.schema-schema.result.now c.len.result c.len-2.result (c.schema-schema.ensures.value ∙ same) c.len.ensures c.len-2.ensures)
 
-pub returns-in-9-eq8-clause-like : goal.returns-in-9-eq8-clause-like
-returns-in-9-eq8-clause-like g c _ =
-    subst (λ s. IsLike s (schema_of Bodies)) c.schema-schema.ensures.value
-    (like_bodies c.schema-schema.result.now (c.is_begun.ensures.0 c.if-not-is_begun.false) (sym c.len.ensures ∙ c.in-9-eq8.is-0) (sym c.len-2.ensures ∙ c.in-9-eq8.is-1))
+pub returns-in-9-eq8-clause-exact : goal.returns-in-9-eq8-clause-exact
+returns-in-9-eq8-clause-exact g c _ =
+    sym c.schema-schema.ensures.value
+    ∙ bodies_are c.schema-schema.result.now (c.is_begun.ensures.0 c.if-not-is_begun.false) (sym c.len.ensures ∙ c.in-9-eq8.is-0) (sym c.len-2.ensures ∙ c.in-9-eq8.is-1)
 
 pub returns-in-13-eq14-clause-known : goal.returns-in-13-eq14-clause-known
 returns-in-13-eq14-clause-known g c form other same =
     rows_counted form c.len.result c.len-2.result c.in-13-eq14.is-0 other
     (counted form c.schema-schema.result.now c.len.result c.len-2.result (c.schema-schema.ensures.value ∙ same) c.len.ensures c.len-2.ensures)
 
-pub returns-in-13-eq14-clause-like : goal.returns-in-13-eq14-clause-like
-returns-in-13-eq14-clause-like g c _ =
-    subst (λ s. IsLike s (schema_of Rows)) c.schema-schema.ensures.value
-    (like_rows c.schema-schema.result.now (c.is_begun.ensures.0 c.if-not-is_begun.false) (sym c.len.ensures ∙ c.in-13-eq14.is-0) (sym c.len-2.ensures ∙ c.in-13-eq14.is-1))
+pub returns-in-13-eq14-clause-exact : goal.returns-in-13-eq14-clause-exact
+returns-in-13-eq14-clause-exact g c _ =
+    sym c.schema-schema.ensures.value
+    ∙ rows_are c.schema-schema.result.now (c.is_begun.ensures.0 c.if-not-is_begun.false) (sym c.len.ensures ∙ c.in-13-eq14.is-0) (sym c.len-2.ensures ∙ c.in-13-eq14.is-1)
 
 pub returns-in-14-eq15-clause-known : goal.returns-in-14-eq15-clause-known
 returns-in-14-eq15-clause-known g c form other same =
     all_counted form c.len.result c.len-2.result c.in-14-eq15.is-0 other
     (counted form c.schema-schema.result.now c.len.result c.len-2.result (c.schema-schema.ensures.value ∙ same) c.len.ensures c.len-2.ensures)
 
-pub returns-in-14-eq15-clause-like : goal.returns-in-14-eq15-clause-like
-returns-in-14-eq15-clause-like g c _ =
-    subst (λ s. IsLike s (schema_of All)) c.schema-schema.ensures.value
-    (like_all c.schema-schema.result.now (c.is_begun.ensures.0 c.if-not-is_begun.false) (sym c.len.ensures ∙ c.in-14-eq15.is-0) (sym c.len-2.ensures ∙ c.in-14-eq15.is-1))
+pub returns-in-14-eq15-clause-exact : goal.returns-in-14-eq15-clause-exact
+returns-in-14-eq15-clause-exact g c _ =
+    sym c.schema-schema.ensures.value
+    ∙ all_are c.schema-schema.result.now (c.is_begun.ensures.0 c.if-not-is_begun.false) (sym c.len.ensures ∙ c.in-14-eq15.is-0) (sym c.len-2.ensures ∙ c.in-14-eq15.is-1)
 
 pub returns-in_default-clause-known : goal.returns-in_default-clause-known
 returns-in_default-clause-known g c form other same =

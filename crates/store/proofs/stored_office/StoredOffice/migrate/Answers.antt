@@ -1,7 +1,7 @@
 use Rattle.std.proofs.Common.{[], inl, inr, not, sym, ap, subst, ◌∙◌}
 use Rattle.sqlite.specs.Effect.{Database}
 use Rattle.sqlite.specs.Held.{state}
-use Rattle.office_tables.specs.Schema.{schema_13}
+use Rattle.office_tables.specs.Schema.{schema_13, schema_9}
 use Rattle.office_tables.specs.Tables.{tables_of}
 use Rattle.store_carry.specs.FormSchema.{schema_of}
 use Rattle.store_carry.specs.declared.forms.Form.TheVariants.{Rows}
@@ -43,12 +43,15 @@ returns-in-Ok-clause-grown g c clean tables second =
 
 pub returns-in-Ok-clause-known : goal.returns-in-Ok-clause-known
 returns-in-Ok-clause-known g c clean office =
-    c.in-Ok.ensures.known clean (schema_in_form (state g.S.Store c.args.conn) office (c.knows_tables.ensures office.is_open (schema_of office.form) office.sound))
+    c.in-Ok.ensures.known clean office.form office.known (c.knows_tables.ensures office.is_open (schema_of office.form) office.sound)
+
+pub returns-in-Ok-clause-bodies : goal.returns-in-Ok-clause-bodies
+returns-in-Ok-clause-bodies g c clean tables = c.in-Ok.ensures.bodies clean (c.knows_tables.ensures tables.is_open schema_9 tables.sound)
 
 pub returns-in-Ok-clause-newer_stays : goal.returns-in-Ok-clause-newer_stays
 returns-in-Ok-clause-newer_stays g c office newer clean =
     let old = state g.S.Store c.args.conn in
-    known_or_newer (tables_of old.now.trees) (c.in-Ok.ensures.known clean (schema_in_form old office (c.knows_tables.ensures office.is_open (schema_of office.form) office.sound))) newer
+    known_or_newer office.form (tables_of old.now.trees) (c.in-Ok.ensures.known clean office.form office.known (c.knows_tables.ensures office.is_open (schema_of office.form) office.sound)) newer
 
 pub returns-in-Err-clause-newer_stays : goal.returns-in-Err-clause-newer_stays
 returns-in-Err-clause-newer_stays g c office newer =

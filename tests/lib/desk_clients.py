@@ -11,9 +11,9 @@ signal.alarm(300)
 
 class Serve:
     """`canoffice serve` on a database and a free port, from when it listens. If a file size is given, no file may grow beyond it:
-    a write there fails, as on a disk that is full."""
+    a write there fails, as on a disk that is full. If a count of files is given, no more may be open."""
 
-    def __init__(self, count, file_size=None, database="office.db"):
+    def __init__(self, count, file_size=None, database="office.db", files=None):
         with socket.socket() as free:
             free.bind(("127.0.0.1", 0))
             self.port = free.getsockname()[1]
@@ -22,6 +22,8 @@ class Serve:
             if file_size is not None:
                 signal.signal(signal.SIGXFSZ, signal.SIG_IGN)
                 resource.setrlimit(resource.RLIMIT_FSIZE, (file_size, file_size))
+            if files is not None:
+                resource.setrlimit(resource.RLIMIT_NOFILE, (files, files))
 
         words = [PROGRAM, "serve", "--db", database, "--port", str(self.port), "--count", str(count)]
         self.process = subprocess.Popen(

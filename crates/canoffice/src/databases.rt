@@ -41,7 +41,8 @@ fn closed(conn: Connection<FileStore<File>>) -> Result<(), Lost> {
     }
 }
 
-/// Serves connections of the port by the office. Standard error says when it listens, and when the office fails.
+/// Serves connections of the port by the office. Standard error says when it listens, and when the office fails; or
+/// that too few file descriptors are left for a connection: then none is accepted.
 fn serve_at(
     rt: &HostRuntime,
     routes: &Routes,
@@ -54,6 +55,13 @@ fn serve_at(
         return Err(ServeFault::Listen);
     };
     let mut errors = rt.stderr();
+    if !listener.has_descriptors() {
+        let _reported = writeln!(
+            errors,
+            "too few file descriptors: a connection takes two (ulimit -n)"
+        );
+        return Err(ServeFault::Accept);
+    }
     let _reported = writeln!(errors, "listening on {address}");
     serve(
         rt.alloc(),

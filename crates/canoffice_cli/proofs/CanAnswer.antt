@@ -1,7 +1,7 @@
 -- What the office answers to a task is what can answer it.
 use Rattle.std.proofs.Common.{◌≡◌, ◌+◌, ℕ, List, [], ◌∷◌, ◌++◌, length, Option, Some, None, Bool, true, false, refl, sym, ap, suc, subst}
 use Rattle.std.specs.List.{flat_map}
-use Rattle.std.specs.Prelude.{IfSome, if◌then◌else◌}
+use Rattle.std.specs.Prelude.{IfSome}
 use Rattle.catalogue.specs.Refusing.{Test, first_refusal}
 use Rattle.catalogue.specs.declared.message.Message.{Message}
 use Rattle.bitlayout.specs.Clash.{first_clash_of}
@@ -9,7 +9,6 @@ use Rattle.catalogue.specs.Signals.{places_of}
 use Rattle.office_types.specs.Reply.{part_reply, whole_reply}
 use Rattle.office_types.specs.declared.book.SpnBook.{SpnBook}
 use Rattle.office_types.specs.declared.command.Action.{Action}
-use Rattle.office_types.specs.declared.command.Action.TheVariants as act
 use Rattle.office_types.specs.declared.command.Command.{Command}
 use Rattle.office_types.specs.declared.command.Task.{Task}
 use Rattle.office_types.specs.declared.command.Task.TheVariants.{Act, Import, Bundle}
@@ -17,34 +16,31 @@ use Rattle.office_types.specs.declared.refusal.Refusal.{Refusal}
 use Rattle.office_types.specs.declared.refusal.Refusal.TheVariants as no
 use Rattle.office_types.specs.declared.reply.Reply.{Reply}
 use Rattle.office_types.specs.declared.reply.Reply.TheVariants as reply
-use Rattle.office_types.specs.declared.state.LiveMessage.{LiveMessage}
 use Rattle.office_types.specs.declared.state.Net.{Net}
 use Rattle.office_types.specs.declared.state.Office.{Office}
 use Rattle.office_rules.specs.Bundling.{bundle_outcome}
-use Rattle.office_rules.specs.Commands.{acted, done_task, parts_done}
-use Rattle.office_rules.specs.Facts.{MessageFacts, is_live, message_facts}
+use Rattle.office_rules.specs.Commands.{acted, action_tests, done_task, parts_done}
+use Rattle.office_rules.specs.Facts.{is_live}
 use Rattle.office_rules.specs.Importing.{FileReading, Reading, Unreadable, clear_tests, file_imported, file_tests, import_tests, is_too_large, message_import_tests}
-use Rattle.office_rules.specs.Outcome.{Entries, Outcome, Refusing, Changing, entered, on_net, reply_of, requested_of, when}
+use Rattle.office_rules.specs.Outcome.{Entries, Outcome, Refusing, Changing, entered, reply_of, when}
 use Rattle.office_rules.specs.Profile.{Profile}
-use Rattle.office_rules.specs.Signals.{on_message}
 use Rattle.office_rules.specs.Step.{Step}
-use Rattle.office_law.specs.Deciding.{IsDecidedBy, action_tests}
+use Rattle.office_law.specs.Deciding.{IsDecidedBy}
 use Rattle.office_law.proofs.Decided.{tests_decide}
-use Rattle.office_law.proofs.Left.{left_act, left_net}
+use Rattle.office_law.proofs.EachAction.{laws_of}
+use Rattle.office_law.proofs.Leaving.{left_act}
+use Rattle.office_law.proofs.Left.{left_net}
 use Rattle.office_law.proofs.Parts.{LeavesAll, leaves_all_weaker, leaves_bundle, leaves_then, leaves_with}
 use Rattle.office_law.proofs.Passing.{Leaves}
+use Rattle.office_law.proofs.Singles.{AreSingle, IsSingle, append_single, each_single, either_single, net_single, wanted_single}
 use Rattle.office_history.specs.declared.arrival.Answer.TheVariants as answer
 use Rattle.canoffice_cli.specs.LongestLines.{CanAnswer, CanAnswerBundle, CanAnswerSingle}
 
 -- ---- the refusals of a command alone
 
--- a refusal of a command alone: no bundle's
-abbrev IsSingle : Refusal → Type 0
-IsSingle why = CanAnswerSingle (answer.Reply (reply.Refused why))
-
-abbrev AreSingle : List (Test Refusal) → Type 0
-AreSingle [] = Unit {0}
-AreSingle (t ∷ ts) = IsSingle t.refusal × AreSingle ts
+single_refusal : (why : Refusal) → IsSingle why → CanAnswerSingle (answer.Reply (reply.Refused why))
+single_refusal (no.BundleRefused f) single = absurd single
+single_refusal why single = tt
 
 either_first : (holds : Bool) (here why : Refusal) (later : Option Refusal) → IsSingle here → (later ≡ Some why → IsSingle why)
     → ◌≡◌ {A = Option Refusal} (elim holds [ true ↦ Some here | false ↦ later ]) (Some why) → IsSingle why
@@ -55,50 +51,7 @@ first_is_single : (ts : List (Test Refusal)) (why : Refusal) → AreSingle ts �
 first_is_single [] why are same = cc
 first_is_single (t ∷ ts) why are same = either_first t.holds t.refusal why (first_refusal ts) are.0 (first_is_single ts why are.1) same
 
-append_single : (ts us : List (Test Refusal)) → AreSingle ts → AreSingle us → AreSingle (ts ++ us)
-append_single [] us are more = more
-append_single (t ∷ ts) us are more = (are.0, append_single ts us are.1 more)
-
-each_single : {A : Type 0} (tests : A → List (Test Refusal)) (xs : List A) → ((x : A) → AreSingle (tests x)) → AreSingle (flat_map tests xs)
-each_single tests [] are = tt
-each_single tests (x ∷ xs) are = append_single (tests x) (flat_map tests xs) (are x) (each_single tests xs are)
-
-requested_single : {A : Type 0} (o : Option A) (ts : A → List (Test Refusal)) → ((x : A) → AreSingle (ts x)) → AreSingle (requested_of o ts)
-requested_single None ts are = tt
-requested_single (Some x) ts are = are x
-
-wanted_single : {A : Type 0} (o : Option A) (ts : A → List (Test Refusal)) (us : List (Test Refusal)) → ((x : A) → AreSingle (ts x)) → AreSingle us
-    → AreSingle (elim o [ Some x ↦ ts x | None ↦ us ])
-wanted_single None ts us are more = more
-wanted_single (Some x) ts us are more = are x
-
-either_single : (b : Bool) (ts us : List (Test Refusal)) → AreSingle ts → AreSingle us → AreSingle (if b then ts else us)
-either_single true ts us are more = are
-either_single false ts us are more = more
-
-net_single : (net : Option Net) (ts : Net → List (Test Refusal)) → ((n : Net) → AreSingle (ts n)) → AreSingle (on_net net ts)
-net_single net ts are = (tt, requested_single net ts are)
-
-message_single : (team : List ℕ) (facts : MessageFacts) (ts : LiveMessage → List (Test Refusal)) → ((m : LiveMessage) → AreSingle (ts m)) → AreSingle (on_message team facts ts)
-message_single team facts ts are = (tt, (tt, requested_single facts.found _ (λ m. (tt, are m))))
-
 module _ (team name : List ℕ) (book : SpnBook) where
-  action_single : (net : Option Net) (a : Action) → AreSingle (action_tests team name net book a)
-  action_single net (act.OpenNet c) = (tt, (tt, tt))
-  action_single net (act.Grant c) = (tt, net_single net _ (λ n. (tt, (tt, tt))))
-  action_single net (act.AddNode node) = net_single net _ (λ n. (tt, (tt, (tt, tt))))
-  action_single net (act.TakeIdent c) = net_single net _ (λ n. (tt, (tt, (tt, (tt, (tt, wanted_single c.want _ _ (λ number. (tt, (tt, (tt, tt)))) (tt, tt)))))))
-  action_single net (act.TakePgn c) = net_single net _ (λ n. (tt, (tt, (tt, (tt, (tt, (tt, (tt, tt))))))))
-  action_single net (act.TakeSpn c) = net_single net _ (λ n. message_single team (message_facts n c.path.message) _ (λ m. (tt, wanted_single c.same _ _ (λ number. (tt, tt)) (tt, (tt, tt)))))
-  action_single net (act.TakeBits c) = net_single net _ (λ n. message_single team (message_facts n c.path.message) _ (λ m. (tt, (tt, (tt, (tt, (tt, wanted_single c.start _ _ (λ start. (tt, (tt, tt))) (tt, tt))))))))
-  action_single net (act.SetValues c) = net_single net _ (λ n. message_single team (message_facts n c.path.message) _ (λ m. (tt, (tt, tt))))
-  action_single net (act.RemoveSignal path) = net_single net _ (λ n. message_single team (message_facts n path.message) _ (λ m. (tt, (tt, tt))))
-  action_single net (act.Retire message) = net_single net _ (λ n. message_single team (message_facts n message) _ (λ m. tt))
-  action_single net act.Submit = net_single net _ (λ n. (tt, tt))
-  action_single net act.Approve = net_single net _ (λ n. (tt, (tt, tt)))
-  action_single net act.Reject = net_single net _ (λ n. (tt, (tt, tt)))
-  action_single net act.Release = (tt, net_single net _ (λ n. (tt, (tt, (tt, tt)))))
-
   clear_single : (m : Message) → AreSingle (clear_tests m)
   clear_single m = wanted_single (first_clash_of (places_of m.signals) m.length) _ _ (λ clash. (tt, tt)) tt
 
@@ -131,7 +84,7 @@ part_is_single (reply.Bundle ps) is = cc
 
 single_reply : (ts : List (Test Refusal)) (out : Outcome) → AreSingle ts → IsDecidedBy (first_refusal ts) out
     → Leaves (λ r n e. CanAnswerSingle (answer.Reply r)) out → CanAnswerSingle (answer.Reply (reply_of out))
-single_reply ts (Refusing why) are decided left = first_is_single ts why are decided
+single_reply ts (Refusing why) are decided left = single_refusal why (first_is_single ts why are decided)
 single_reply ts (Changing r n e) are decided left = left
 
 leaves_weaker : (P Q : Reply → Net → Entries → Type 0) → ((r : Reply) (n : Net) (e : Entries) → P r n e → Q r n e) → (out : Outcome) → Leaves P out → Leaves Q out
@@ -171,7 +124,7 @@ bundle_reply count (Changing r n e) left = left
 task_reply : (team name : List ℕ) (book : SpnBook) (reading : FileReading) (net : Option Net) (t : Task)
     → CanAnswer t (answer.Reply (reply_of (done_task team name reading net book t)))
 task_reply team name book reading net (Act a) =
-    single_reply (action_tests team name net book a) (acted team name net book a) (action_single team name book net a)
+    single_reply (action_tests team name net book a) (acted team name net book a) ((laws_of team name a).single book net)
     (tests_decide team reading net book (record { net = name; task = Act a }))
     (leaves_weaker _ _ (λ r n e left. part_is_single r left.part) (acted team name net book a) (left_act team name book net a))
 task_reply team name book reading net (Import file) =

@@ -1,6 +1,7 @@
 -- The outcome of a run of the program: the bytes on its two streams, and its exit status.
 use Rattle.std.specs.Prelude.{◌++◌, ℕ, List, [], codes, decimal, Result, Ok, Err}
 use Rattle.std.specs.declared.alloc.AllocError.{AllocError}
+use Rattle.dbc_advice.specs.ShownPath.{shown_path}
 use Rattle.canoffice_cli.specs.declared.report.Report.{Report}
 use Rattle.canoffice_cli.specs.declared.report.Status.{Status}
 use Rattle.canoffice_cli.specs.declared.report.Status.TheVariants.{Success, FaultFound, WrongInput, Failed}
@@ -39,7 +40,7 @@ failure text = record { output = []; errors = text; status = Failed }
 
 -- the file of this path cannot be read
 abbrev pub unreadable : List ℕ → Outcome
-unreadable path = failure (codes "cannot read " ++ (path ++ codes "\n"))
+unreadable path = failure (codes "cannot read " ++ (shown_path path ++ codes "\n"))
 
 -- the line of this number, from 1, is wrong
 abbrev pub wrong_line : ℕ → Outcome

@@ -1,5 +1,6 @@
 -- The outcome of the program, from its words and from what is known of files, standard input and databases.
 use Rattle.std.specs.Prelude.{◌≡◌, ◌⊎◌, ℕ, false, List, map, option_map, Result, Ok, Err, string_bytes}
+use Rattle.dbc_advice.specs.ShownPath.{shown_path}
 use Rattle.office_script.specs.Files.{Files, Holding, unknown, absent, holding}
 use Rattle.canoffice_cli.specs.CommandLine.{IsLine}
 use Rattle.canoffice_cli.specs.Explaining.{IsStated, MayExplain}
@@ -40,7 +41,7 @@ IsTaskOutcome files before after task.Table bytes o = IsTableOutcome bytes o × 
 -- the same for a job, which may explain
 abbrev pub IsOfBytes : Files → Databases → Databases → FileJob → List ℕ → Outcome → Type 0
 IsOfBytes files before after job bytes o =
-    (plain : Outcome) × IsTaskOutcome files before after job.task bytes plain × MayExplain job.explain (IsStated files job.task job.path.now bytes) plain o
+    (plain : Outcome) × IsTaskOutcome files before after job.task bytes plain × MayExplain job.explain (IsStated files job.task (shown_path job.path.now) bytes) plain o
 
 abbrev pub IsFileOutcome : Files → Holding → Databases → Databases → FileJob → Outcome → Type 0
 IsFileOutcome files input before after job o =

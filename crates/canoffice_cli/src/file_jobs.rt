@@ -14,7 +14,7 @@ use crate::formatting::format_report;
 use crate::progress::Progress;
 use crate::report::{Report, cannot_read};
 use crate::tabling::table_report;
-use dbc_advice::Source;
+use dbc_advice::{Source, shown_path};
 use std::alloc::{AllocError, Global};
 use std::io::Write;
 
@@ -36,7 +36,7 @@ pub(crate) enum FileTask<'a> {
 pub(crate) struct FileJob<'a> {
     /// What is done with its bytes.
     pub task: FileTask<'a>,
-    /// Its path, or `-` for standard input. Messages name it so.
+    /// Its path, or `-` for standard input. Messages name it so, as [`shown_path`] shows it.
     pub path: &'a str,
     /// Whether more is stated of it on standard error.
     pub explain: bool,
@@ -95,8 +95,9 @@ fn bytes_report<F: FileSource, D: Databases, W: Write>(
         (D.known databases.new) job.entry bytes.now (outcome_of report)) }
 {
     if job.explain {
+        let shown = shown_path(alloc, job.path)?;
         let source = Source {
-            name: job.path.as_bytes(),
+            name: shown.as_bytes(),
             text: bytes,
         };
         // First of all, so that memory for this can't run out after a database has answered.

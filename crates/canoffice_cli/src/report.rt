@@ -3,6 +3,7 @@ ghost use Rattle.std.specs.Prelude.{◌≡◌, [], IfOk, codes, string_bytes};
 ghost use Rattle.canoffice_cli.specs.Outcome.{and_errors, code_of, outcome_of, success, wrong_input, unreadable};
 ghost use Rattle.canoffice_cli.specs.Outcome.{wrong_line, wrong_word};
 
+use dbc_advice::shown_path;
 use std::alloc::{AllocError, Global};
 
 /// How the program ends.
@@ -79,11 +80,12 @@ impl Report {
 /// What is written to standard error when memory runs out. It takes no memory itself.
 pub const LOST_MEMORY: &[u8] = b"lost 71\n";
 
-/// The report that the file at the path can't be read.
+/// The report that the file at the path can't be read: with the path as [`shown_path`] shows it.
 pub fn cannot_read(alloc: Global, path: &str) -> Result<Report, AllocError>
     ensures { IfOk result (λ report. outcome_of report ≡ unreadable path.now) }
 {
-    let text = format!(in alloc; "cannot read {path}\n")?;
+    let shown = shown_path(alloc, path)?;
+    let text = format!(in alloc; "cannot read {shown}\n")?;
     Ok(Report::of_errors(alloc, text.into_bytes(), Status::Failed))
 }
 

@@ -8,15 +8,14 @@ use Rattle.bitlayout.specs.declared.place.Place.{Place}
 use Rattle.catalogue.specs.Signals.{places_of}
 use Rattle.catalogue.specs.declared.message.Message.{Message}
 use Rattle.dbc_advice.specs.Clashes.{AreClashLines, AreCutLines, Clashing, IsClashLine, clashes_of, message_clashes}
+use Rattle.dbc_advice.specs.Limits.{clashes_reported, reasons_reported}
 use Rattle.dbc_advice.specs.Reasons.{AreReasons, reasons_at, reasons_from}
 use Rattle.dbc_advice.specs.ReportedLine.{AreLinesOf, more_text}
-use Rattle.dbc_advice.specs.declared.clashes.TheConstants.{CLASHES_REPORTED}
 use Rattle.dbc_advice.specs.declared.reasons.Reason.{Reason}
-use Rattle.dbc_advice.specs.declared.reasons.TheConstants.{REASONS_REPORTED}
 use Rattle.dbc_advice.proofs.ReportedLines.{is_more, lines_append, lines_map, no_more}
 
 -- no more reasons than are reported are all
-all_reasons : (bytes : ℕ) (places : List Place) (reasons : List Reason) → AreReasons bytes places reasons → length reasons ≤ REASONS_REPORTED → reasons ≡ reasons_from bytes places 0
+all_reasons : (bytes : ℕ) (places : List Place) (reasons : List Reason) → AreReasons bytes places reasons → length reasons ≤ reasons_reported → reasons ≡ reasons_from bytes places 0
 all_reasons bytes places reasons are few = elim are.enough [
   | inl le ↦
       let none : reasons_from bytes places are.looked_at ≡ [] = at_drop_all (λ ps. flat_map (reasons_at bytes places) (enumerate_from are.looked_at ps)) places are.looked_at le in
@@ -39,7 +38,7 @@ clashes_split ms i m lt item =
 
 -- how many they are
 pub count_more : (ms : List Message) (i reported : ℕ) (m : Message) (reasons : List Reason) → i < length ms → m ≡ get_or ms i m
-    → AreReasons m.length (places_of m.signals) reasons → length reasons ≤ REASONS_REPORTED
+    → AreReasons m.length (places_of m.signals) reasons → length reasons ≤ reasons_reported
     → length (clashes_of (take i ms)) ≡ reported → length (clashes_of (take (i + 1) ms)) ≡ reported + length reasons
 count_more ms i reported m reasons lt item are few before =
     let here : length (message_clashes m) ≡ length reasons = length-map (reasons_from m.length (places_of m.signals) 0) (λ (r : Reason). (m, r)) ∙ ap length (sym (all_reasons m.length (places_of m.signals) reasons are few)) in
@@ -50,7 +49,7 @@ count_more ms i reported m reasons lt item are few before =
 module _ (file text : List ℕ) where
   -- all reasons of one more message
   pub message_more : (ms : List Message) (i : ℕ) (old lines new : List ℕ) (m : Message) (reasons : List Reason) → i < length ms → m ≡ get_or ms i m
-      → AreReasons m.length (places_of m.signals) reasons → length reasons ≤ REASONS_REPORTED
+      → AreReasons m.length (places_of m.signals) reasons → length reasons ≤ reasons_reported
       → AreLinesOf (IsClashLine file text) (clashes_of (take i ms)) old → AreLinesOf (λ (r : Reason). IsClashLine file text (m, r)) reasons lines → new ≡ old ++ lines
       → AreLinesOf (IsClashLine file text) (clashes_of (take (i + 1) ms)) new
   message_more ms i old lines new m reasons lt item are few before here e =
@@ -62,22 +61,22 @@ module _ (file text : List ℕ) where
 
   -- after all messages
   pub all_reported : (ms : List Message) (i reported : ℕ) (lines : List ℕ) → length ms ≤ i → AreLinesOf (IsClashLine file text) (clashes_of (take i ms)) lines
-      → length (clashes_of (take i ms)) ≡ reported → reported ≤ CLASHES_REPORTED → AreClashLines file text ms lines
+      → length (clashes_of (take i ms)) ≡ reported → reported ≤ clashes_reported → AreClashLines file text ms lines
   all_reported ms i reported lines over are count few =
       let all : take i ms ≡ ms = take_all i ms over in
       let counted : length (clashes_of ms) ≡ reported = ap (λ (xs : List Message). length (clashes_of xs)) (sym all) ∙ count in
-      let enough : length (clashes_of ms) ≤ CLASHES_REPORTED = omega (arith, counted, few) in
-      let same : clashes_of (take i ms) ≡ take CLASHES_REPORTED (clashes_of ms) = ap clashes_of all ∙ sym (take_all CLASHES_REPORTED (clashes_of ms) enough) in
+      let enough : length (clashes_of ms) ≤ clashes_reported = omega (arith, counted, few) in
+      let same : clashes_of (take i ms) ≡ take clashes_reported (clashes_of ms) = ap clashes_of all ∙ sym (take_all clashes_reported (clashes_of ms) enough) in
       record {
         lines = lines;
         are = subst (λ cs. AreLinesOf (IsClashLine file text) cs lines) same are;
-        whole = sym (append-nil lines) ∙ ap (λ v. lines ++ v) (sym (no_more file CLASHES_REPORTED (length (clashes_of ms)) (codes "clashes") enough));
+        whole = sym (append-nil lines) ∙ ap (λ v. lines ++ v) (sym (no_more file clashes_reported (length (clashes_of ms)) (codes "clashes") enough));
       }
 
   -- where there is no room for all reasons of a message
   pub cut_reported : (ms : List Message) (i reported room : ℕ) (old last new : List ℕ) (m : Message) (reasons first : List Reason) → i < length ms → m ≡ get_or ms i m
       → AreReasons m.length (places_of m.signals) reasons → AreLinesOf (IsClashLine file text) (clashes_of (take i ms)) old
-      → length (clashes_of (take i ms)) ≡ reported → reported ≤ CLASHES_REPORTED → room ≡ CLASHES_REPORTED - reported → room < length reasons
+      → length (clashes_of (take i ms)) ≡ reported → reported ≤ clashes_reported → room ≡ clashes_reported - reported → room < length reasons
       → first ≡ take room reasons → AreCutLines file text m first last → new ≡ old ++ last → AreClashLines file text ms new
   cut_reported ms i reported room old last new m reasons first lt item are before count few room_is full first_is cut e =
       let f : Reason → Clashing = λ r. (m, r) in
@@ -96,21 +95,21 @@ module _ (file text : List ℕ) where
       let n1 : length (take room reasons) ≡ room = length-take-le room reasons (omega (arith, full)) in
       let n2 : length here ≡ length (take room reasons) = length-map (take room reasons) f in
       let n3 : length shown ≡ length C + length here = length-append C here in
-      let n : length shown ≡ CLASHES_REPORTED = omega (arith, n1, n2, n3, count, few, room_is) in
+      let n : length shown ≡ clashes_reported = omega (arith, n1, n2, n3, count, few, room_is) in
       let d1 : length (drop room reasons) ≡ length reasons - room = length-drop room reasons in
       let d2 : length left ≡ length (drop room reasons) + length others = length-append (drop room reasons) others in
       let d3 : length (map f left) ≡ length left = length-map left f in
       let d4 : length tail ≡ length (map f left) + length D = length-append (map f left) D in
       let d5 : length (clashes_of ms) ≡ length (shown ++ tail) = ap length all in
       let d6 : length (shown ++ tail) ≡ length shown + length tail = length-append shown tail in
-      let more : CLASHES_REPORTED < length (clashes_of ms) = omega (arith, n, d1, d2, d3, d4, d5, d6, full) in
-      let same : take CLASHES_REPORTED (clashes_of ms) ≡ shown =
-      ap (λ cs. take CLASHES_REPORTED cs) all ∙ take-append-le CLASHES_REPORTED shown tail (omega (arith, n)) ∙ take_all CLASHES_REPORTED shown (omega (arith, n)) in
+      let more : clashes_reported < length (clashes_of ms) = omega (arith, n, d1, d2, d3, d4, d5, d6, full) in
+      let same : take clashes_reported (clashes_of ms) ≡ shown =
+      ap (λ cs. take clashes_reported cs) all ∙ take-append-le clashes_reported shown tail (omega (arith, n)) ∙ take_all clashes_reported shown (omega (arith, n)) in
       let lines : AreLinesOf (IsClashLine file text) here cut.lines =
       lines_map (IsClashLine file text) f (take room reasons) cut.lines (subst (λ rs. AreLinesOf (λ (r : Reason). IsClashLine file text (m, r)) rs cut.lines) first_is cut.are) in
       record {
         lines = old ++ cut.lines;
         are = subst (λ cs. AreLinesOf (IsClashLine file text) cs (old ++ cut.lines)) (sym same) (lines_append (IsClashLine file text) C here old cut.lines before lines);
-        whole = e ∙ ap (λ v. old ++ v) (cut.whole ∙ ap (λ v. cut.lines ++ v) (sym (is_more file CLASHES_REPORTED (length (clashes_of ms)) (codes "clashes") more)))
-            ∙ sym (append_assoc old cut.lines (more_text file CLASHES_REPORTED (length (clashes_of ms)) (codes "clashes")));
+        whole = e ∙ ap (λ v. old ++ v) (cut.whole ∙ ap (λ v. cut.lines ++ v) (sym (is_more file clashes_reported (length (clashes_of ms)) (codes "clashes") more)))
+            ∙ sym (append_assoc old cut.lines (more_text file clashes_reported (length (clashes_of ms)) (codes "clashes")));
       }

@@ -5,4 +5,5 @@ pub mod ClearReasons
 pub mod NamesFound
 pub mod PartedMore
 pub mod PassedKinds
+pub mod ShownPaths
 pub mod Rows

@@ -9,7 +9,7 @@ use Rattle.catalogue.specs.declared.sheet.Sheet.{Sheet}
 use Rattle.dbc_read.specs.declared.passed.Passed.{Passed}
 use Rattle.dbc_advice.specs.Citation.{Cited}
 use Rattle.dbc_advice.specs.LeftOut.{Missing, all_missing, all_others, line_after, missing_at, missing_line, missing_lines, with_missing, without_missing}
-use Rattle.dbc_advice.specs.declared.leaving.TheConstants.{CITATIONS_REPORTED}
+use Rattle.dbc_advice.specs.Limits.{citations_reported}
 
 -- along a list that is made of what a function gives of each: one more
 more_of : {A B : Type 0} (f : A → List B) (xs : List A) (i : ℕ) (d : A) → i < length xs → flat_map f (take (i + 1) xs) ≡ flat_map f (take i xs) ++ f (get_or xs i d)
@@ -19,23 +19,23 @@ more_of f xs i d lt =
 module _ (file text : List ℕ) (s : Sheet) where
   -- one more of those that are reported by themselves
   lines_more : (ms : List Missing) (m : Missing) → missing_lines file text (ms ++ m ∷ []) ≡ missing_lines file text ms ++ line_after (length ms) file text m
-  lines_more ms m = by_room (nat_lt (length ms) CITATIONS_REPORTED) refl
+  lines_more ms m = by_room (nat_lt (length ms) citations_reported) refl
     where
       new : length (ms ++ m ∷ []) ≡ length ms + 1
       new = length-append ms (m ∷ [])
 
-      by_room : (room : Bool) → nat_lt (length ms) CITATIONS_REPORTED ≡ room → missing_lines file text (ms ++ m ∷ []) ≡ missing_lines file text ms ++ line_after (length ms) file text m
+      by_room : (room : Bool) → nat_lt (length ms) citations_reported ≡ room → missing_lines file text (ms ++ m ∷ []) ≡ missing_lines file text ms ++ line_after (length ms) file text m
       by_room true is =
-          let lt : length ms < CITATIONS_REPORTED = grind (arith, nat_tests, is) in
-          let all : take CITATIONS_REPORTED (ms ++ m ∷ []) ≡ ms ++ m ∷ [] = take_all CITATIONS_REPORTED (ms ++ m ∷ []) (omega (arith, lt, new)) in
-          let before : take CITATIONS_REPORTED ms ≡ ms = take_all CITATIONS_REPORTED ms (omega (arith, lt)) in
+          let lt : length ms < citations_reported = grind (arith, nat_tests, is) in
+          let all : take citations_reported (ms ++ m ∷ []) ≡ ms ++ m ∷ [] = take_all citations_reported (ms ++ m ∷ []) (omega (arith, lt, new)) in
+          let before : take citations_reported ms ≡ ms = take_all citations_reported ms (omega (arith, lt)) in
           let line : line_after (length ms) file text m ≡ missing_line file text m = ap (λ (b : Bool). if b then missing_line file text m else []) is in
           ap (λ (xs : List Missing). flat_map (missing_line file text) xs) all ∙ flat_map-append (missing_line file text) ms (m ∷ [])
           ∙ ap (λ (v : List ℕ). flat_map (missing_line file text) ms ++ v) (append-nil (missing_line file text m) ∙ sym line)
           ∙ ap (λ (xs : List Missing). flat_map (missing_line file text) xs ++ line_after (length ms) file text m) (sym before)
       by_room false is =
-          let ge : CITATIONS_REPORTED ≤ length ms = grind (arith, nat_tests, is) in
-          let same : take CITATIONS_REPORTED (ms ++ m ∷ []) ≡ take CITATIONS_REPORTED ms = take-append-le CITATIONS_REPORTED ms (m ∷ []) ge in
+          let ge : citations_reported ≤ length ms = grind (arith, nat_tests, is) in
+          let same : take citations_reported (ms ++ m ∷ []) ≡ take citations_reported ms = take-append-le citations_reported ms (m ∷ []) ge in
           let line : line_after (length ms) file text m ≡ [] = ap (λ (b : Bool). if b then missing_line file text m else []) is in
           ap (λ (xs : List Missing). flat_map (missing_line file text) xs) same ∙ sym (append-nil (missing_lines file text ms))
           ∙ ap (λ (v : List ℕ). missing_lines file text ms ++ v) (sym line)

@@ -1,7 +1,9 @@
 -- Worked examples of the definitions.
-use Rattle.std.proofs.Common.{◌≡◌, [], ◌∷◌, Some, refl}
+use Rattle.std.proofs.Common.{◌≡◌, [], ◌∷◌, ◌++◌, Some, refl}
+use Rattle.std.specs.Char.{encode_utf8}
 use Rattle.std.specs.Fmt.{digits}
 use Rattle.std.specs.Prelude.{codes}
+use Rattle.std.specs.Str.{chars}
 use Rattle.catalogue.specs.declared.keyword.Keyword.TheVariants as key
 use Rattle.dbc_lex.specs.declared.fault.ReadCode.TheVariants as code
 use Rattle.dbc_advice.specs.Blanked.{blanked}
@@ -9,6 +11,7 @@ use Rattle.dbc_advice.specs.Position.{position_at}
 use Rattle.dbc_advice.specs.Sentence.{listed, sentence_of}
 use Rattle.dbc_advice.specs.Explained.{count_line}
 use Rattle.dbc_advice.specs.ReportedLine.{code_label, more_text, reported_line}
+use Rattle.dbc_advice.specs.ShownPath.{shown_path}
 use Rattle.dbc_advice.specs.declared.candidate.Candidate.TheVariants as kind
 use Rattle.dbc_advice.specs.declared.found.Found.TheVariants as found
 use Rattle.dbc_advice.specs.declared.hint.Hint.TheVariants as hint
@@ -75,3 +78,15 @@ hundred_clashes = refl
 one_clash_more : more_text (codes "a.dbc") 100 101 (codes "clashes") ≡ codes "a.dbc: 100 clashes shown; there are more\n"
 unfolding digits
 one_clash_more = refl
+
+-- ---- paths
+
+-- ESC, LF, DEL and U+009B
+control_characters : shown_path (codes "a" ++ 27 ∷ 10 ∷ 127 ∷ 194 ∷ 155 ∷ codes "b.dbc") ≡ codes "a\\x1b\\x0a\\x7f\\x9bb.dbc"
+unfolding chars encode_utf8
+control_characters = refl
+
+-- a blank, a backslash, `à` and `€`
+other_characters : shown_path (codes "a \\x1b" ++ 195 ∷ 160 ∷ 226 ∷ 130 ∷ 172 ∷ []) ≡ codes "a \\x1b" ++ 195 ∷ 160 ∷ 226 ∷ 130 ∷ 172 ∷ []
+unfolding chars encode_utf8
+other_characters = refl

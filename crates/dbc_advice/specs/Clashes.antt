@@ -5,11 +5,11 @@ use Rattle.bitlayout.specs.declared.clash.Clash.{Clash}
 use Rattle.catalogue.specs.Fault.{clash_code, code_name, code_number}
 use Rattle.catalogue.specs.Signals.{places_of}
 use Rattle.catalogue.specs.declared.message.Message.{Message}
+use Rattle.dbc_advice.specs.Limits.{clashes_reported}
 use Rattle.dbc_advice.specs.Position.{position_at}
 use Rattle.dbc_advice.specs.Reasons.{reasons_from}
 use Rattle.dbc_advice.specs.ReportedLine.{AreLinesOf, code_label, more_line, more_text, reported_line}
 use Rattle.dbc_advice.specs.Unclear.{reason_text}
-use Rattle.dbc_advice.specs.declared.clashes.TheConstants.{CLASHES_REPORTED}
 use Rattle.dbc_advice.specs.declared.reasons.Reason.{Reason}
 
 -- a message, and a reason why it isn't clear
@@ -36,11 +36,11 @@ pub record IsClashLine (file text : List ℕ) (c : Clashing) (line : List ℕ) :
 -- the lines of the first reasons, in order, and whether there are more
 pub record AreClashLines (file text : List ℕ) (messages : List Message) (out : List ℕ) : Type 0 where
   pub lines : List ℕ
-  pub are : AreLinesOf (IsClashLine file text) (take CLASHES_REPORTED (clashes_of messages)) lines
-  pub whole : out ≡ lines ++ more_text file CLASHES_REPORTED (length (clashes_of messages)) (codes "clashes")
+  pub are : AreLinesOf (IsClashLine file text) (take clashes_reported (clashes_of messages)) lines
+  pub whole : out ≡ lines ++ more_text file clashes_reported (length (clashes_of messages)) (codes "clashes")
 
 -- the lines of these reasons of a message, and that there are more
 pub record AreCutLines (file text : List ℕ) (m : Message) (reasons : List Reason) (out : List ℕ) : Type 0 where
   pub lines : List ℕ
   pub are : AreLinesOf (λ (r : Reason). IsClashLine file text (m, r)) reasons lines
-  pub whole : out ≡ lines ++ more_line file CLASHES_REPORTED (codes "clashes")
+  pub whole : out ≡ lines ++ more_line file clashes_reported (codes "clashes")

@@ -5,12 +5,12 @@ use Rattle.dbc_read.specs.Passed.{start_and_keyword}
 use Rattle.dbc_read.specs.Reading.{IsReadFault}
 use Rattle.dbc_advice.specs.Blanked.{blanked}
 use Rattle.dbc_advice.specs.FaultyLines.{AreLines}
+use Rattle.dbc_advice.specs.Limits.{bytes_read_again, faults_reported}
 use Rattle.dbc_advice.specs.MayBeThere.{MayBeThere}
 use Rattle.dbc_advice.specs.Pieces.{statement_before}
 use Rattle.dbc_advice.specs.declared.faulty_lines.Lines.{Lines}
 use Rattle.dbc_advice.specs.declared.findings.Ending.{Ending}
 use Rattle.dbc_advice.specs.declared.findings.Ending.TheVariants.{Reads, Many, Long, Unchanged}
-use Rattle.dbc_advice.specs.declared.findings.TheConstants.{BYTES_READ_AGAIN, FAULTS_REPORTED}
 use Rattle.dbc_advice.specs.declared.findings.Next.{Next}
 use Rattle.dbc_advice.specs.declared.findings.Next.TheVariants as next
 use Rattle.dbc_advice.specs.declared.findings.Findings.{Findings}
@@ -54,12 +54,12 @@ pub record IsUnchanged (source : List ℕ) (reported : List Reported) (left : Li
 -- would be read again for more bytes than that; or blanking changes nothing more.
 abbrev pub EndsBy : List ℕ → List Reported → List ℕ → Ending → Type 0
 EndsBy source reported left (Reads reading) = ReadsAs left reading.sheet (map start_and_keyword reading.passed)
-EndsBy source reported left Many = length reported ≡ FAULTS_REPORTED
-EndsBy source reported left Long = BYTES_READ_AGAIN < length reported * length source
+EndsBy source reported left Many = length reported ≡ faults_reported
+EndsBy source reported left Long = bytes_read_again < length reported * length source
 EndsBy source reported left Unchanged = IsUnchanged source reported left
 
 pub record AreFindings (source : List ℕ) (t : Findings) : Type 0 where
   pub left : List ℕ
   pub reported : AreReported source t.reported.items left
-  pub few : length t.reported.items ≤ FAULTS_REPORTED
+  pub few : length t.reported.items ≤ faults_reported
   pub ends : EndsBy source t.reported.items left t.ending

@@ -7,10 +7,10 @@ use Rattle.catalogue.specs.declared.keyword.Keyword.{Keyword}
 use Rattle.catalogue.specs.declared.sheet.Sheet.{Sheet}
 use Rattle.dbc_read.specs.declared.passed.Passed.{Passed}
 use Rattle.dbc_advice.specs.Citation.{Cited, citation_at, citation_text, is_missing}
+use Rattle.dbc_advice.specs.Limits.{citations_reported}
 use Rattle.dbc_advice.specs.Position.{position_at}
 use Rattle.dbc_advice.specs.ReportedLine.{more_text, reported_line}
 use Rattle.dbc_advice.specs.declared.leaving.Parts.{Parts}
-use Rattle.dbc_advice.specs.declared.leaving.TheConstants.{CITATIONS_REPORTED}
 
 -- `passed KEYWORD`
 abbrev pub passed_label : Keyword → List ℕ
@@ -55,11 +55,11 @@ missing_line file text m = passed_line file text m.0 (citation_text m.1)
 
 -- the same after so many reports: nothing, if there are enough
 abbrev pub line_after : ℕ → List ℕ → List ℕ → Missing → List ℕ
-line_after reported file text m = if nat_lt reported CITATIONS_REPORTED then missing_line file text m else []
+line_after reported file text m = if nat_lt reported citations_reported then missing_line file text m else []
 
 -- the lines of the first of them
 abbrev pub missing_lines : List ℕ → List ℕ → List Missing → List ℕ
-missing_lines file text missing = flat_map (missing_line file text) (take CITATIONS_REPORTED missing)
+missing_lines file text missing = flat_map (missing_line file text) (take citations_reported missing)
 
 abbrev pub without_missing : Passed → Option Cited → List Passed
 without_missing p None = p ∷ []
@@ -71,7 +71,7 @@ all_others s text passed = flat_map (λ (p : Passed). without_missing p (missing
 
 -- that there are more than are reported, if so
 abbrev pub more_missing : List ℕ → List Missing → List ℕ
-more_missing file missing = more_text file CITATIONS_REPORTED (length missing) (codes "citations")
+more_missing file missing = more_text file citations_reported (length missing) (codes "citations")
 
 -- the statements that are reported one by one, how many there are, and the others
 pub record ArePartedFrom (file text : List ℕ) (s : Sheet) (passed : List Passed) (p : Parts) : Type 0 where

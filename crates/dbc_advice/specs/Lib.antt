@@ -1,3 +1,4 @@
+pub mod Limits
 pub mod Lines
 pub mod Position
 pub mod Blanked
@@ -16,4 +17,5 @@ pub mod Tokens
 pub mod Names
 pub mod Citation
 pub mod LeftOut
+pub mod ShownPath
 pub mod Explained

@@ -7,8 +7,8 @@ use Rattle.bitlayout.specs.Mux.{is_under}
 use Rattle.bitlayout.specs.declared.clash.Clash.TheVariants.{NoMultiplexor, Outside, Overlap}
 use Rattle.bitlayout.specs.declared.layout.Layout.{Layout}
 use Rattle.bitlayout.specs.declared.place.Place.{Place}
+use Rattle.dbc_advice.specs.Limits.{reasons_reported}
 use Rattle.dbc_advice.specs.declared.reasons.Reason.{Reason}
-use Rattle.dbc_advice.specs.declared.reasons.TheConstants.{REASONS_REPORTED}
 
 -- a position of a bit is less than this: a start is at most 65535, and a walk of 64 bits goes on for 8 bytes and a bit
 abbrev pub positions_end : ℕ
@@ -55,4 +55,4 @@ reasons_from bytes places n = flat_map (reasons_at bytes places) (enumerate_from
 pub record AreReasons (bytes : ℕ) (places : List Place) (reasons : List Reason) : Type 0 where
   pub looked_at : ℕ
   pub are : reasons ++ reasons_from bytes places looked_at ≡ reasons_from bytes places 0
-  pub enough : (length places ≤ looked_at) ⊎ (REASONS_REPORTED < length reasons)
+  pub enough : (length places ≤ looked_at) ⊎ (reasons_reported < length reasons)

@@ -1,6 +1,7 @@
 //! The faults of a text, one after the other.
 ghost use Rattle.std.specs.Prelude.{◌≡◌, ◌<◌, ◌≤◌, ◌*◌, ◌↔◌, All, IfOk, IsTrue, length};
 ghost use Rattle.dbc_advice.specs.FaultyLines.{AreLines};
+ghost use Rattle.dbc_advice.specs.Limits.{bytes_read_again};
 ghost use Rattle.dbc_advice.specs.MayBeThere.{MayBeThere};
 ghost use Rattle.dbc_advice.specs.Pieces.{statement_before};
 ghost use Rattle.dbc_advice.specs.Findings.{IsBlankUpTo, AreFindings, IsNext, IsReported, without};
@@ -159,7 +160,7 @@ fn reported_next(alloc: Global, text: &[u8]) -> Result<Next, AllocError>
 
 /// Whether a text of this size is too long to be read once more after this many faults.
 fn is_long(size: usize, reported: usize) -> bool
-    ensures { IsTrue result ↔ (BYTES_READ_AGAIN < reported * size) }
+    ensures { IsTrue result ↔ (bytes_read_again < reported * size) }
 {
     reported.saturating_mul(size) > BYTES_READ_AGAIN
 }

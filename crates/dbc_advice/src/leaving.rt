@@ -4,6 +4,7 @@ ghost use Rattle.std.specs.Prelude.{◌≡◌, ◌≤◌, IfOk, codes, length, o
 ghost use Rattle.dbc_advice.specs.Citation.{cited_of};
 ghost use Rattle.dbc_advice.specs.LeftOut.{ArePartedFrom, count_text, has_keyword, kind_count, kinds_text};
 ghost use Rattle.dbc_advice.specs.LeftOut.{left_out, line_after, missing_at, missing_line, passed_label, passed_line};
+ghost use Rattle.dbc_advice.specs.Limits.{citations_reported};
 ghost use Rattle.dbc_advice.specs.Names.{AreNamesOf};
 ghost use Rattle.dbc_advice.specs.ReportedLine.{more_text};
 
@@ -156,7 +157,7 @@ fn parted(alloc: Global, source: Source, reading: &Reading) -> Result<Parts, All
 
 /// The last line of those that are reported one by one: there are more, if so.
 fn more_missing(alloc: Global, file: &[u8], missing: usize) -> Result<Vec<u8>, AllocError>
-    ensures { IfOk result (λ line. line.items ≡ more_text file.now CITATIONS_REPORTED missing (codes "citations")) }
+    ensures { IfOk result (λ line. line.items ≡ more_text file.now citations_reported missing (codes "citations")) }
 {
     if missing > CITATIONS_REPORTED {
         more_line(alloc, file, CITATIONS_REPORTED, "citations")

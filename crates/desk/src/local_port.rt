@@ -47,11 +47,18 @@ impl<C: Clock> LocalPort<'_, C> {
     pub fn address(&self) -> io::Result<SocketAddr> {
         self.listener.local_addr()
     }
+
+    /// Whether there are two more file descriptors, which a connection takes.
+    pub fn has_descriptors(&self) -> bool {
+        match self.listener.try_clone() {
+            Ok(_first) => self.listener.try_clone().is_ok(),
+            Err(_) => false,
+        }
+    }
 }
 
-/// Two handles of the connection, one to read and one to write, which have time limits.
-fn timed_handles(stream: TcpStream) -> io::Result<(Timed, Timed)> {
-    let other = stream.try_clone()?;
+/// The two handles of a connection, one to read and one to write, with their time limits.
+fn timed_handles(stream: TcpStream, other: TcpStream) -> io::Result<(Timed, Timed)> {
     let reading = Timed::reading(stream)?;
     let writing = Timed::writing(other)?;
     Ok((reading, writing))
@@ -97,12 +104,16 @@ impl<'r, C: Clock> Listener for LocalPort<'r, C> {
 
     ghost ended = { λ _. None };
 
-    /// A connection that can't be made ready fails at its first read, and so ends alone.
+    /// A connection whose time limits can't be set fails at its first read, and so ends alone. Without a file descriptor
+    /// for its second handle none can be accepted.
     fn accept(&mut self) -> Result<(Line<'r, C>, Line<'r, C>), Failed> {
         let Ok((stream, _)) = self.listener.accept() else {
             return Err(Failed);
         };
-        let (reading, writing) = match timed_handles(stream) {
+        let Ok(other) = stream.try_clone() else {
+            return Err(Failed);
+        };
+        let (reading, writing) = match timed_handles(stream, other) {
             Ok((reading, writing)) => (Some(reading), Some(writing)),
             Err(_) => (None, None),
         };

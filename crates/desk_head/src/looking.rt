@@ -1,5 +1,6 @@
 //! The head at the front of bytes.
 ghost use Rattle.std.specs.Prelude.{◌≡◌, ◌≤◌, length, replicate};
+ghost use Rattle.desk_head.specs.Limits.{head_limit, header_limit};
 ghost use Rattle.desk_head.specs.Sight.{Sees};
 
 use crate::limits::{HEAD_LIMIT, HEADER_LIMIT};
@@ -19,14 +20,14 @@ pub enum Sight {
 
 /// Room for the headers of one head.
 pub fn empty_headers() -> [HeaderSpan; HEADER_LIMIT]
-    ensures { result ≡ replicate HEADER_LIMIT EMPTY_HEADER_SPAN }
+    ensures { result ≡ replicate header_limit EMPTY_HEADER_SPAN }
 {
     [EMPTY_HEADER_SPAN; HEADER_LIMIT]
 }
 
 /// Looks for the head of a request at the front of the bytes. Takes no memory.
 pub fn look(bytes: &[u8], headers: &mut [HeaderSpan; HEADER_LIMIT]) -> Sight
-    requires { length bytes.now ≤ HEAD_LIMIT }
+    requires { length bytes.now ≤ head_limit }
     ensures { Sees bytes.now headers.new result }
 {
     match parse_request(bytes, headers) {

@@ -9,9 +9,9 @@ use Rattle.std.specs.Option.{option_map_or}
 use Rattle.std.specs.List.{after_first, list_any}
 use Rattle.std.specs.Str.{bytes_eq}
 use Rattle.office_fields.specs.Requested.{requested_of, part_of}
-use Rattle.office_fields.specs.Field.{fields_of, part_fields, row_of}
+use Rattle.office_fields.specs.Field.{row_of}
 use Rattle.office_fields.specs.Given.{NamedValue}
-use Rattle.office_fields.specs.Kind.{action_of_word, action_word, kind_of_word, word_of}
+use Rattle.office_fields.specs.Kind.{action_of_word, action_word, fields_of, kind_of_word, part_fields, word_of}
 use Rattle.office_fields.specs.Value.{plain_name_of, value_from}
 use Rattle.office_fields.specs.declared.field.Field.{Field}
 use Rattle.office_fields.specs.declared.field.Field.TheVariants as field

@@ -2,6 +2,7 @@
 use Rattle.std.specs.Prelude.{◌≡◌, ◌⊎◌, ℕ, ◌+◌, List, [], ◌∷◌, codes, Option, Some, None, IsSome}
 use Rattle.std.specs.Option.{option_map_or}
 use Rattle.dbc_advice.specs.ReportedLine.{reported_line}
+use Rattle.dbc_advice.specs.ShownPath.{shown_path}
 use Rattle.dbc_advice.specs.declared.position.Position.{Position}
 use Rattle.office_script.specs.Bundles.{parts_in}
 use Rattle.office_script.specs.Files.{FailsWith, Files, Gives}
@@ -42,14 +43,14 @@ abbrev pub wrong_parts : List ℕ → ℕ → List ℕ → List ℕ → List ℕ
 wrong_parts name number line path bytes = or_else (first_wrong_part path 1 (lines_of bytes)) (wrong_line name number line (wrong_at 2 Count))
 
 -- nothing is stated of what is requested: it is no bundle, or its file has parts, or it can't be read; and this is
--- stated
+-- stated, under the path of its file
 abbrev pub SaysNothing : Files → Option (List ℕ) → Type 0
 SaysNothing files None = Unit {0}
 SaysNothing files (Some path) = ((bytes : List ℕ) × Gives (files path) bytes × IsSome (parts_in bytes)) ⊎ FailsWith (files path) Unreadable
 
 abbrev pub Says : Files → (List ℕ → List ℕ → List ℕ) → Option (List ℕ) → List ℕ → Type 0
 Says files wrong None stated = ⊥
-Says files wrong (Some path) stated = (bytes : List ℕ) × Gives (files path) bytes × (parts_in bytes ≡ None) × (stated ≡ wrong path bytes)
+Says files wrong (Some path) stated = (bytes : List ℕ) × Gives (files path) bytes × (parts_in bytes ≡ None) × (stated ≡ wrong (shown_path path) bytes)
 
 -- ---- lines
 

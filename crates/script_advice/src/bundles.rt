@@ -3,11 +3,13 @@ ghost use Rattle.std.specs.Prelude.{◌≡◌, IfOk, MatchOption, is_some};
 ghost use Rattle.office_script.specs.Bundles.{parts_in};
 ghost use Rattle.office_script.specs.Lines.{lines_of};
 ghost use Rattle.office_script.specs.Requests.{bundle_file};
+ghost use Rattle.dbc_advice.specs.ShownPath.{shown_path};
 ghost use Rattle.script_advice.specs.Explained.{Says, SaysNothing, first_wrong_part, wrong_parts};
 
 use crate::cause::{Cause, Wrong};
 use crate::explaining::wrong_line;
 use crate::finding::part_wrong;
+use dbc_advice::shown_path;
 use office_fields::Unread;
 use office_script::{Dash, FileSource, PathFault, bundle_file, first_line, parts_in};
 use std::alloc::{AllocError, Global};
@@ -61,6 +63,22 @@ fn wrong_parts(
     wrong_line(alloc, name, number, line, wrong)
 }
 
+/// The same under the path as it is shown.
+fn wrong_under(
+    alloc: Global,
+    name: &[u8],
+    number: usize,
+    line: &[u8],
+    path: &str,
+    bytes: &[u8],
+) -> Result<Vec<u8>, AllocError>
+    ensures { IfOk result (λ text. text.items
+        ≡ wrong_parts name.now number line.now (shown_path path.now) bytes.now) }
+{
+    let shown = shown_path(alloc, path)?;
+    wrong_parts(alloc, name, number, line, shown.as_bytes(), bytes)
+}
+
 /// What is stated of what the script's line of this number requests: something if it is a bundle whose file has no
 /// parts.
 pub(crate) fn stated_of_bundle<F: FileSource>(
@@ -84,8 +102,8 @@ pub(crate) fn stated_of_bundle<F: FileSource>(
             if has_parts(alloc, &bytes)? {
                 return Ok(None);
             }
-            let path = path.as_str().as_bytes();
-            Ok(Some(wrong_parts(alloc, name, number, line, path, &bytes)?))
+            let path = path.as_str();
+            Ok(Some(wrong_under(alloc, name, number, line, path, &bytes)?))
         }
         Err(PathFault::Unreadable) => Ok(None),
         Err(PathFault::Memory) => Err(AllocError),

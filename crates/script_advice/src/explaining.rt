@@ -67,9 +67,9 @@ fn first_wrong_line<F: FileSource>(
 
 /// What is stated of a script under its name, beside what is answered: the line `NAME:LINE:COLUMN: bad line: sentence`
 /// of its first wrong line, at the word that is to blame, or nothing if no line is wrong. A line is wrong as well if it
-/// requests a bundle whose file is: then the line is of that file, under its path, or of the script if there is no
-/// command or too many. `dash` is what `-` means as a key. Files that can't be read, and those of imports, aren't
-/// looked at. The error is out of memory.
+/// requests a bundle whose file is: then the line is of that file, under its path as [`dbc_advice::shown_path`] shows
+/// it, or of the script if there is no command or too many. `dash` is what `-` means as a key. Files that can't be
+/// read, and those of imports, aren't looked at. The error is out of memory.
 pub fn explained<F: FileSource>(
     alloc: Global,
     name: &[u8],

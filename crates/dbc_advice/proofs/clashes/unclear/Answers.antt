@@ -1,8 +1,8 @@
 use Rattle.std.proofs.Common.{◌≡◌, ◌<◌, ◌-◌, ℕ, List, ◌++◌, length, take, get_or, refl, ap, subst, ◌∙◌, arith}
 use Rattle.catalogue.specs.declared.message.Message.{Message}
 use Rattle.dbc_advice.specs.Clashes.{IsClashLine}
+use Rattle.dbc_advice.specs.Limits.{clashes_reported}
 use Rattle.dbc_advice.specs.ReportedLine.{AreLinesOf}
-use Rattle.dbc_advice.specs.declared.clashes.TheConstants.{CLASHES_REPORTED}
 use Rattle.dbc_advice.specs.declared.reasons.Reason.{Reason}
 use Rattle.dbc_advice.proofs.ClashLines.{all_reported, count_more, cut_reported, message_more}
 use Rattle.dbc_advice.proofs.clashes.unclear.Goals as goal
@@ -17,9 +17,9 @@ returns-then-len-room c =
     let same = c.messages-message-items.ensures.messages in
     let lt : i < length messages = subst (λ (ms : List Message). i < length ms) same c.loop-message-test.true in
     let item : m ≡ get_or messages i m = c.message-item.is ∙ ap (λ (ms : List Message). get_or ms i m) same in
-    cut_reported source.name.now source.text.now messages i old.reported (CLASHES_REPORTED - old.reported) old.lines.items c.in_ok-last.last.items c.extend_from_slice.new.self.items m c.in_ok-reasons.reasons.items _
+    cut_reported source.name.now source.text.now messages i old.reported (clashes_reported - old.reported) old.lines.items c.in_ok-last.last.items c.extend_from_slice.new.self.items m c.in_ok-reasons.reasons.items _
     lt item c.in_ok-reasons.ensures old.invariant.lines old.invariant.reported old.invariant.few refl (omega (arith, c.if-len-room.true, c.len.ensures))
-    (ap (λ (rs : List Reason). take (CLASHES_REPORTED - old.reported) rs) c.deref-then-len-room.ensures.value) c.in_ok-last.ensures
+    (ap (λ (rs : List Reason). take (clashes_reported - old.reported) rs) c.deref-then-len-room.ensures.value) c.in_ok-last.ensures
     (c.in_ok-extend_from_slice.ensures.items ∙ ap (λ (v : List ℕ). old.lines.items ++ v) c.deref-then-len-room-2.ensures.value)
 
 pub loop-message-preserved : goal.loop-message-preserved

@@ -1,0 +1,6 @@
+use Rattle.std.proofs.Common.{string_bytes, ◌≡◌, encode_utf8_all}
+use Rattle.dbc_advice.specs.ShownPath.{shown_characters}
+use Rattle.dbc_advice.proofs.paths.shown_path.Given as goal
+
+abbrev pub invariant-loop-c : goal.invariant-loop-c
+invariant-loop-c l = string_bytes l.shown ≡ encode_utf8_all (shown_characters l.yielded)

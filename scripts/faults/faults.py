@@ -9,7 +9,7 @@ TOP = os.path.dirname(os.path.dirname(HERE))
 TABLES = ["profile", "net", "message", "block", "held", "spn", "approval", "frozen", "reply", "msg", "sig", "receiver",
           "sigvalue", "part"]
 
-# A database, the log beside it, and the journal that SQLite would have.
+# A database, its log, and the journal that SQLite would have.
 DATABASE_FILES = ["office.db", "office.db-wal", "office.db-journal"]
 
 # What the program says of a lost request: memory ran out, or the database failed.

@@ -1,6 +1,6 @@
 //! What is done with a sheet.
-use catalogue::Sheet;
 use dbc_read::read;
+use dbc_sheet::Sheet;
 use dbc_write::text_of;
 use std::alloc::{AllocError, Global};
 use std::io;

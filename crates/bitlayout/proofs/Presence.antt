@@ -16,7 +16,8 @@ meets_decides Always b = (λ _. let (v, at) = present_somewhere b in (v, tt, at)
 meets_decides Multiplexor b = (λ _. let (v, at) = present_somewhere b in (v, tt, at), λ _. refl)
 meets_decides (Under v) Always = (λ _. (v, refl, tt), λ _. refl)
 meets_decides (Under v) Multiplexor = (λ _. (v, refl, tt), λ _. refl)
-meets_decides (Under v) (Under w) = (λ t. (v, refl, sym (eqb-true v w t)), λ (x, at_v, at_w). eq-eqb v w (at_v ∙ sym at_w))
+meets_decides (Under v) (Under w) =
+    (λ t. (v, refl, sym (eqb-true v w t)), λ (x, at_v, at_w). eq-eqb v w (at_v ∙ sym at_w))
 
 pub is_multiplexor_decides : (mux : Mux) → Decides (is_multiplexor mux) (mux ≡ Multiplexor)
 is_multiplexor_decides Always = (λ t. absurd (false≢true t), λ e. cc)

@@ -17,16 +17,19 @@ longest_payload : 8 * 1785 ≤ mask_end
 longest_payload = omega arith
 
 -- twelve bits of a Motorola signal: the last of byte 2, all of byte 3, the first three of byte 4
-motorola_positions : positions (place_from 12 Motorola Always 16).layout ≡ 16 ∷ 31 ∷ 30 ∷ 29 ∷ 28 ∷ 27 ∷ 26 ∷ 25 ∷ 24 ∷ 39 ∷ 38 ∷ 37 ∷ []
+motorola_positions : positions (place_from 12 Motorola Always 16).layout ≡ 16 ∷ 31 ∷ 30 ∷ 29 ∷ 28 ∷ 27 ∷ 26 ∷ 25 ∷ 24
+    ∷ 39 ∷ 38 ∷ 37 ∷ []
 unfolding walk
 motorola_positions = refl
 
-two_orders_overlap : first_clash_of (place_from 16 Motorola Always 7 ∷ place_from 16 Intel Always 0 ∷ []) 2 ≡ Some (Overlap 0 1)
+two_orders_overlap : first_clash_of (place_from 16 Motorola Always 7 ∷ place_from 16 Intel Always 0 ∷ []) 2
+    ≡ Some (Overlap 0 1)
 unfolding walk shares_bit is_inside clash_after first_answer
 two_orders_overlap = refl
 
 -- by their ranks the second follows the first, and in its own order it has the same four bits
-ranks_of_two_orders : first_clash_of (place_from 4 Intel Always 0 ∷ place_from 4 Motorola Always 3 ∷ []) 1 ≡ Some (Overlap 0 1)
+ranks_of_two_orders : first_clash_of (place_from 4 Intel Always 0 ∷ place_from 4 Motorola Always 3 ∷ []) 1
+    ≡ Some (Overlap 0 1)
 unfolding walk shares_bit is_inside clash_after first_answer
 ranks_of_two_orders = refl
 
@@ -34,11 +37,14 @@ motorola_in_turn : first_clash_of (place_from 12 Motorola Always 7 ∷ place_fro
 unfolding walk shares_bit is_inside clash_after first_answer
 motorola_in_turn = refl
 
-two_values_share : first_clash_of (place_from 4 Intel Multiplexor 0 ∷ place_from 4 Intel (Under 0) 4 ∷ place_from 4 Intel (Under 1) 4 ∷ []) 1 ≡ None
+two_values_share : first_clash_of
+    (place_from 4 Intel Multiplexor 0 ∷ place_from 4 Intel (Under 0) 4 ∷ place_from 4 Intel (Under 1) 4 ∷ []) 1 ≡ None
 unfolding walk shares_bit is_inside clash_after first_answer
 two_values_share = refl
 
-under_overlaps_always : first_clash_of (place_from 4 Intel Multiplexor 0 ∷ place_from 4 Intel (Under 0) 4 ∷ place_from 4 Intel Always 4 ∷ []) 1 ≡ Some (Overlap 1 2)
+under_overlaps_always : first_clash_of
+    (place_from 4 Intel Multiplexor 0 ∷ place_from 4 Intel (Under 0) 4 ∷ place_from 4 Intel Always 4 ∷ []) 1
+    ≡ Some (Overlap 1 2)
 unfolding walk shares_bit is_inside clash_after first_answer
 under_overlaps_always = refl
 
@@ -46,7 +52,8 @@ no_multiplexor : first_clash_of (place_from 4 Intel (Under 0) 0 ∷ []) 1 ≡ So
 unfolding walk shares_bit is_inside clash_after first_answer
 no_multiplexor = refl
 
-two_multiplexors : first_clash_of (place_from 1 Intel Multiplexor 0 ∷ place_from 1 Intel Multiplexor 1 ∷ []) 1 ≡ Some (TwoMultiplexors 1)
+two_multiplexors : first_clash_of (place_from 1 Intel Multiplexor 0 ∷ place_from 1 Intel Multiplexor 1 ∷ []) 1
+    ≡ Some (TwoMultiplexors 1)
 unfolding walk shares_bit is_inside clash_after first_answer
 two_multiplexors = refl
 
@@ -82,6 +89,7 @@ always_lacks_its_multiplexor : least_start_of (place_from 4 Intel (Under 0) 0 �
 unfolding walk shares_bit is_inside clash_after first_answer
 always_lacks_its_multiplexor = refl
 
-multiplexor_beside_what_hangs_on_it : least_start_of (place_from 4 Intel (Under 0) 0 ∷ []) 1 4 Intel Multiplexor ≡ Some 4
+multiplexor_beside_what_hangs_on_it : least_start_of (place_from 4 Intel (Under 0) 0 ∷ []) 1 4 Intel Multiplexor
+    ≡ Some 4
 unfolding walk shares_bit is_inside clash_after first_answer
 multiplexor_beside_what_hangs_on_it = refl

@@ -31,38 +31,46 @@ none_in_turn places order = record {
 }
 
 -- what holds of each of the first places, and of the next one
-each_with_next : (P : Place → Type 0) (places : List Place) (count : ℕ) (place : Place) → ((d : Place) → get_or places count d ≡ place)
-    → ((k : ℕ) (d : Place) → k < count → P (get_or places k d)) → P place → (k : ℕ) (d : Place) → k < count + 1 → P (get_or places k d)
+each_with_next : (P : Place → Type 0) (places : List Place) (count : ℕ) (place : Place)
+    → ((d : Place) → get_or places count d ≡ place)
+    → ((k : ℕ) (d : Place) → k < count → P (get_or places k d)) → P place → (k : ℕ) (d : Place) → k < count + 1
+    → P (get_or places k d)
 each_with_next P places count place at each next k d below = elim (cases_lt k count) [
   | inl earlier ↦ each k d earlier
   | inr last ↦ let here : count ≡ k = omega arith in subst P (sym (at d) ∙ ap (λ n. get_or places n d) here) next
 ]
 
 -- one more place that begins where they end, or later
-pub next_in_turn : (places : List Place) (order : Order) (count end : ℕ) (place : Place) → ((d : Place) → get_or places count d ≡ place)
-    → InTurn places order count end → place.mux ≡ Always → place.layout.order ≡ order → end ≤ first_of place → InTurn places order (count + 1) (end_of place)
+pub next_in_turn : (places : List Place) (order : Order) (count end : ℕ) (place : Place)
+    → ((d : Place) → get_or places count d ≡ place)
+    → InTurn places order count end → place.mux ≡ Always → place.layout.order ≡ order → end ≤ first_of place
+    → InTurn places order (count + 1) (end_of place)
 next_in_turn places order count end place at turn always same later = record {
   always = each_with_next (λ p. p.mux ≡ Always) places count place at turn.always always;
   one_order = each_with_next (λ p. p.layout.order ≡ order) places count place at turn.one_order same;
-  ended = each_with_next (λ p. end_of p ≤ end_of place) places count place at (λ k d below. let e = turn.ended k d below in omega arith) (omega arith);
+  ended = each_with_next (λ p. end_of p ≤ end_of place) places count place at
+      (λ k d below. let e = turn.ended k d below in omega arith) (omega arith);
   apart = λ i j d before below. elim (cases_lt j count) [
     | inl earlier ↦ turn.apart i j d before earlier
     | inr last ↦
         let here : count ≡ j = omega arith in
         let ended = turn.ended i d (omega arith) in
-        subst (λ p. end_of (get_or places i d) ≤ first_of p) (sym (at d) ∙ ap (λ n. get_or places n d) here) (omega arith)
+        subst (λ p. end_of (get_or places i d) ≤ first_of p) (sym (at d) ∙ ap (λ n. get_or places n d) here)
+        (omega arith)
   ];
 }
 
 -- places that follow one another are clear
-pub clear_in_turn : (places : List Place) (order : Order) (end bytes : ℕ) → InTurn places order (length places) end → end ≤ 8 * bytes → IsClear places bytes
+pub clear_in_turn : (places : List Place) (order : Order) (end bytes : ℕ) → InTurn places order (length places) end
+    → end ≤ 8 * bytes → IsClear places bytes
 clear_in_turn places order end bytes turn few = record {
   inside = λ k d below. let e = turn.ended k d below in inside_from_end (get_or places k d).layout bytes (omega arith);
   one_multiplexor = λ i j d before below (first, second). let always = turn.always j d below in cc;
   multiplexor = λ (k, place, below, at, (value, under)). let always = turn.always k place below in cc;
   apart = λ value i j d before below (at_i, at_j, (q, of_i, of_j)).
       let within : i < length places = omega arith in
-      let same : rank (get_or places i d).layout.order q ≡ rank (get_or places j d).layout.order q = ap (λ o. rank o q) (turn.one_order i d within ∙ sym (turn.one_order j d below)) in
+      let same : rank (get_or places i d).layout.order q ≡ rank (get_or places j d).layout.order q =
+      ap (λ o. rank o q) (turn.one_order i d within ∙ sym (turn.one_order j d below)) in
       let later = turn.apart i j d before below in
       let first = bit_within (get_or places i d).layout q of_i in
       let second = bit_within (get_or places j d).layout q of_j in

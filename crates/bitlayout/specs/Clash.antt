@@ -1,5 +1,6 @@
 -- The first clash of a list of places.
-use Rattle.std.specs.Prelude.{◌≡◌, ℕ, ◌<◌, ◌≤◌, ◌⊎◌, ◌&&◌, not, if◌then◌else◌, Bool, List, length, take, Option, Some, Any, slice_get, position, option_map}
+use Rattle.std.specs.Prelude.{◌≡◌, ℕ, ◌<◌, ◌≤◌, ◌⊎◌, ◌&&◌, not, if◌then◌else◌, Bool, List, length, take, Option, Some}
+use Rattle.std.specs.Prelude.{Any, slice_get, position, option_map}
 use Rattle.std.specs.List.{list_any}
 use Rattle.std.specs.Option.{option_and_then}
 use Rattle.bitlayout.specs.declared.place.Place.{Place}
@@ -23,11 +24,13 @@ HasFault places bytes place (Outside i) = ¬ (IsInside place.layout bytes)
 HasFault places bytes place (TwoMultiplexors i) = IsMultiplexor place × Any IsMultiplexor (take i places)
 HasFault places bytes place (NoMultiplexor i) = IsUnder place.mux × (¬ (Any IsMultiplexor places))
 HasFault places bytes place (Overlap j i) =
-    (other : Place) × (j < i) × (slice_get places j ≡ Some other) × Meet other.mux place.mux × SharesBit other.layout place.layout
+    (other : Place) × (j < i) × (slice_get places j ≡ Some other) × Meet other.mux place.mux
+    × SharesBit other.layout place.layout
 
 -- the list has the clash
 abbrev pub HasClash : List Place → ℕ → Clash → Type 0
-HasClash places bytes clash = (place : Place) × (slice_get places (faulty_index clash) ≡ Some place) × HasFault places bytes place clash
+HasClash places bytes clash = (place : Place) × (slice_get places (faulty_index clash) ≡ Some place)
+    × HasFault places bytes place clash
 
 -- the order in which the clashes of one place are reported
 abbrev pub kind_rank : Clash → ℕ
@@ -45,7 +48,8 @@ partner_index clash = 0
 abbrev pub IsNamedFirst : Clash → Clash → Type 0
 IsNamedFirst a b =
     (faulty_index a < faulty_index b)
-    ⊎ ((faulty_index a ≡ faulty_index b) × ((kind_rank a < kind_rank b) ⊎ ((kind_rank a ≡ kind_rank b) × (partner_index a ≤ partner_index b))))
+    ⊎ ((faulty_index a ≡ faulty_index b)
+    × ((kind_rank a < kind_rank b) ⊎ ((kind_rank a ≡ kind_rank b) × (partner_index a ≤ partner_index b))))
 
 -- the list has the clash, and none that is reported before it
 pub record IsFirstClash (places : List Place) (bytes : ℕ) (clash : Clash) : Type 0 where
@@ -72,7 +76,8 @@ clash_after bytes multiplexed earlier place =
 
 -- the first clash of the place at an index
 abbrev pub clash_at : ℕ → Bool → List Place → ℕ → Option Clash
-clash_at bytes multiplexed places i = option_and_then (clash_after bytes multiplexed (take i places)) (slice_get places i)
+clash_at bytes multiplexed places i =
+    option_and_then (clash_after bytes multiplexed (take i places)) (slice_get places i)
 
 -- the first clash of the places, in a list with or without a multiplexor
 abbrev pub first_clash_among : ℕ → Bool → List Place → Option Clash

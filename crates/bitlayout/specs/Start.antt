@@ -19,11 +19,13 @@ CanStartAt places bytes size order mux start = IsClear (places ++ place_from siz
 -- the least start from which the signal leaves the list clear
 abbrev pub IsLeastStart : List Place → ℕ → ℕ → Order → Mux → ℕ → Type 0
 IsLeastStart places bytes size order mux start =
-    CanStartAt places bytes size order mux start × ((other : ℕ) → CanStartAt places bytes size order mux other → start ≤ other)
+    CanStartAt places bytes size order mux start
+    × ((other : ℕ) → CanStartAt places bytes size order mux other → start ≤ other)
 
 -- there is no start from which the signal leaves the list clear
 abbrev pub HasNoStart : List Place → ℕ → ℕ → Order → Mux → Type 0
-HasNoStart places bytes size order mux = (start : ℕ) → start ≤ start_limit → ¬ (CanStartAt places bytes size order mux start)
+HasNoStart places bytes size order mux = (start : ℕ) → start ≤ start_limit
+    → ¬ (CanStartAt places bytes size order mux start)
 
 -- The same computed.
 
@@ -34,4 +36,5 @@ start_if_clear places bytes size order mux start =
 
 -- the least start; past the end of the payload there is none
 abbrev pub least_start_of : List Place → ℕ → ℕ → Order → Mux → Option ℕ
-least_start_of places bytes size order mux = first_answer (start_if_clear places bytes size order mux) (min (8 * bytes) (start_limit + 1))
+least_start_of places bytes size order mux =
+    first_answer (start_if_clear places bytes size order mux) (min (8 * bytes) (start_limit + 1))

@@ -17,7 +17,8 @@ IsStripOf strip layout = (q : ℕ) → StripHas strip q ↔ IsBit layout q
 
 -- the mask has the positions below its end of the places whose marks pass the test
 unfoldable pub Covers : Mask → (Mux → Bool) → List Place → Type 0
-Covers mask test places = (q : ℕ) → Has mask q ↔ ((q < mask_end) × Any (λ place. (test place.mux ≡ true) × IsBit place.layout q) places)
+Covers mask test places = (q : ℕ)
+    → Has mask q ↔ ((q < mask_end) × Any (λ place. (test place.mux ≡ true) × IsBit place.layout q) places)
 
 abbrev pub is_any : Mux → Bool
 is_any mux = true
@@ -34,7 +35,8 @@ UnderAt value q place = (place.mux ≡ Under value) × IsBit place.layout q
 
 -- the mask has what another has, and the positions below its end of the places under the value
 abbrev pub CoversMore : Mask → Mask → ℕ → List Place → Type 0
-CoversMore always mask value places = (q : ℕ) → Has mask q ↔ (Has always q ⊎ ((q < mask_end) × Any (UnderAt value q) places))
+CoversMore always mask value places = (q : ℕ)
+    → Has mask q ↔ (Has always q ⊎ ((q < mask_end) × Any (UnderAt value q) places))
 
 -- the masks are those of the places
 pub record IsTakenBy (taken : Taken) (places : List Place) : Type 0 where

@@ -1,5 +1,6 @@
 -- The words of a mask are those that its set of positions gives back.
-use Rattle.std.proofs.Common.{◌≡◌, ℕ, ◌+◌, ◌-◌, ◌*◌, ◌/◌, ◌%◌, ◌^◌, ◌<◌, ◌↔◌, ◌⊎◌, Bool, true, false, List, length, get_or, refl, sym, ap, ◌∙◌, inl, inr, arith}
+use Rattle.std.proofs.Common.{◌≡◌, ℕ, ◌+◌, ◌-◌, ◌*◌, ◌/◌, ◌%◌, ◌^◌, ◌<◌, ◌↔◌, ◌⊎◌, Bool, true, false, List, length}
+use Rattle.std.proofs.Common.{get_or, refl, sym, ap, ◌∙◌, inl, inr, arith}
 use Rattle.std.specs.Prelude.{◌==◌, ◌||◌, if◌then◌else◌}
 use Rattle.std.specs.Cmp.{nat_cmp_total, unsigned_tied}
 use Rattle.std.specs.FinSet as set
@@ -21,14 +22,21 @@ none_in_empty q h = false≢true (sym (set.contains-empty nat_cmp q) ∙ h)
 in_inserted : (s : Positions) (n q : ℕ) → Has (set.insert s n) q ↔ ((q ≡ n) ⊎ Has s q)
 unfolding Has
 in_inserted s n q =
-    let is : set.contains (set.insert s n) q ≡ ((q == n) || set.contains s q) = set.contains-insert nat_cmp_total s n q ∙ ap (λ b. b || set.contains s q) (unsigned_tied q n) in
+    let is : set.contains (set.insert s n) q ≡ ((q == n) || set.contains s q) = set.contains-insert nat_cmp_total s n q
+    ∙ ap (λ b. b || set.contains s q) (unsigned_tied q n) in
     elim (cases_eq q n) [
       | inl same ↦
           let alike : (q == n) ≡ true = eq-eqb q n same in
           (λ _. inl same, λ _. is ∙ ap (λ b. b || set.contains s q) alike)
       | inr other ↦
-          let differs = ne_eqb q n other in
-          (λ h. inr (sym (is ∙ ap (λ b. b || set.contains s q) differs) ∙ h), λ h. elim h [ inl same ↦ absurd (other same) | inr there ↦ is ∙ ap (λ b. b || set.contains s q) differs ∙ there ])
+          let differs = ne_eqb q n other in (
+            λ h. inr (sym (is ∙ ap (λ b. b || set.contains s q) differs) ∙ h),
+            λ h. elim h [
+              | inl same ↦ absurd (other same)
+              | inr there ↦ is ∙ ap (λ b. b || set.contains s q) differs
+                  ∙ there
+            ],
+          )
     ]
 
 -- the positions below n that pass the test are in the set, and no others
@@ -37,10 +45,20 @@ unfolding positions_where
 has_where test zero q = (λ h. absurd (none_in_empty q h), λ (below, passes). absurd (omega arith))
 has_where test (suc n) q =
     let before = has_where test n q in
-    let more : (b : Bool) → test n ≡ b → Has (if b then set.insert (positions_where test n) n else positions_where test n) q ↔ ((q < suc n) × (test q ≡ true)) = λ b is. elim b as (λ b. test n ≡ b → Has (if b then set.insert (positions_where test n) n else positions_where test n) q ↔ ((q < suc n) × (test q ≡ true))) [
+    let more : (b : Bool) → test n ≡ b
+    → Has (if b then set.insert (positions_where test n) n else positions_where test n) q
+    ↔ ((q < suc n) × (test q ≡ true)) =
+    λ b is. elim b as (λ b. test n ≡ b
+    → Has (if b then set.insert (positions_where test n) n else positions_where test n) q
+    ↔ ((q < suc n) × (test q ≡ true))) [
       | true ↦ λ passing. let inserted = in_inserted (positions_where test n) n q in (
-        λ h. elim (inserted.0 h) [ inl same ↦ (omega arith, ap test same ∙ passing) | inr there ↦ let (below, passes) = before.0 there in (omega arith, passes) ],
-        λ (below, passes). inserted.1 (elim (cases_lt q n) [ inl earlier ↦ inr (before.1 (earlier, passes)) | inr last ↦ inl (omega arith) ]),
+        λ h. elim (inserted.0 h) [
+          | inl same ↦ (omega arith, ap test same ∙ passing)
+          | inr there ↦ let (below, passes) =
+              before.0 there in (omega arith, passes)
+        ],
+        λ (below, passes). inserted.1
+            (elim (cases_lt q n) [ inl earlier ↦ inr (before.1 (earlier, passes)) | inr last ↦ inl (omega arith) ]),
       )
       | false ↦ λ none. (
         λ h. let (below, passes) = before.0 h in (omega arith, passes),
@@ -53,7 +71,8 @@ has_where test (suc n) q =
     more (test n) refl
 
 -- a position is in the set of some words where its bit is 1
-pub has_words : (words : List ℕ) (q : ℕ) → Has (positions_of words) q ↔ ((q < mask_end) × HasBit (get_or words (q / 64) 0) (q % 64))
+pub has_words : (words : List ℕ) (q : ℕ)
+    → Has (positions_of words) q ↔ ((q < mask_end) × HasBit (get_or words (q / 64) 0) (q % 64))
 has_words words q =
     let is = has_where (is_set words) mask_end q in (
       λ h. let (below, passes) = is.0 h in (below, eqb-true (bit_at (get_or words (q / 64) 0) (q % 64)) 1 passes),
@@ -67,7 +86,8 @@ unfolding number_where
 number_below test zero = omega arith
 number_below test (suc n) =
     let before = number_below test n in
-    elim (test n) as (λ (b : Bool). (if b then 1 else 0) * 2 ^ n + number_where test n < 2 ^ suc n) [ true ↦ omega (arith, before) | false ↦ omega (arith, before) ]
+    elim (test n) as (λ (b : Bool). (if b then 1 else 0) * 2 ^ n + number_where test n < 2 ^ suc n)
+    [ true ↦ omega (arith, before) | false ↦ omega (arith, before) ]
 
 bit_where : (test : ℕ → Bool) (n k : ℕ) → k < n → bit_at (number_where test n) k ≡ (if test k then 1 else 0)
 unfolding number_where
@@ -77,7 +97,8 @@ bit_where test (suc n) k below = elim (cases_lt k n) [
   | inr last ↦
       let same : k ≡ n = omega arith in
       let first : k - n ≡ 0 = omega arith in
-      bit_at_cat_high (if test n then 1 else 0) n (number_where test n) k (number_below test n) last ∙ ap (bit_at (if test n then 1 else 0)) first ∙ low (test n) ∙ ap (λ m. if test m then 1 else 0) (sym same)
+      bit_at_cat_high (if test n then 1 else 0) n (number_where test n) k (number_below test n) last
+      ∙ ap (bit_at (if test n then 1 else 0)) first ∙ low (test n) ∙ ap (λ m. if test m then 1 else 0) (sym same)
 ]
   where
     low : (b : Bool) → bit_at (if b then 1 else 0) 0 ≡ (if b then 1 else 0)
@@ -87,7 +108,8 @@ bit_where test (suc n) k below = elim (cases_lt k n) [
 -- the words of the set of some words are these
 pub words_back : (words : List ℕ) → AreWords words → words_of (positions_of words) ≡ words
 unfolding Has words_of
-words_back words are = ext_get_or 0 (words_of positions) words (length-map-range_with_len word 0 224 ∙ sym are.count) each
+words_back words are = ext_get_or 0 (words_of positions) words (length-map-range_with_len word 0 224 ∙ sym are.count)
+    each
   where
     positions : Positions
     positions = positions_of words
@@ -95,7 +117,8 @@ words_back words are = ext_get_or 0 (words_of positions) words (length-map-range
     word : ℕ → ℕ
     word w = number_where (λ i. set.contains positions (64 * w + i)) 64
 
-    bit : (w k : ℕ) → w < 224 → k < 64 → (b : Bool) → set.contains positions (64 * w + k) ≡ b → (if b then 1 else 0) ≡ bit_at (get_or words w 0) k
+    bit : (w k : ℕ) → w < 224 → k < 64 → (b : Bool) → set.contains positions (64 * w + k) ≡ b
+        → (if b then 1 else 0) ≡ bit_at (get_or words w 0) k
     bit w k here small true there =
         let at : (64 * w + k) / 64 ≡ w = omega arith in
         let index : (64 * w + k) % 64 ≡ k = omega arith in
@@ -106,7 +129,8 @@ words_back words are = ext_get_or 0 (words_of positions) words (length-map-range
         let index : (64 * w + k) % 64 ≡ k = omega arith in
         let less = bit_at-lt (get_or words w 0) k in
         elim (cases_eq (bit_at (get_or words w 0) k) 1) [
-          | inl one ↦ absurd (false≢true (sym none ∙ (has_words words (64 * w + k)).1 (omega arith, rw (at, index) one)))
+          | inl one ↦ absurd (false≢true
+              (sym none ∙ (has_words words (64 * w + k)).1 (omega arith, rw (at, index) one)))
           | inr other ↦ omega (arith, other, less)
         ]
 
@@ -115,5 +139,7 @@ words_back words are = ext_get_or 0 (words_of positions) words (length-map-range
         let many = length-map-range_with_len word 0 224 in
         let here : w < 224 = omega (arith, many, below) in
         get_or-map-range_with_len word 0 224 w w 0 here (omega arith)
-        ∙ same_from_bits_below 64 (word w) (get_or words w 0) (number_below _ 64) (All-get_or (λ n. n < 2 ^ 64) words w 0 (omega (arith, here, are.count)) are.small)
-        (λ k small. bit_where (λ i. set.contains positions (64 * w + i)) 64 k small ∙ bit w k here small (set.contains positions (64 * w + k)) refl)
+        ∙ same_from_bits_below 64 (word w) (get_or words w 0) (number_below _ 64)
+        (All-get_or (λ n. n < 2 ^ 64) words w 0 (omega (arith, here, are.count)) are.small)
+        (λ k small. bit_where (λ i. set.contains positions (64 * w + i)) 64 k small
+        ∙ bit w k here small (set.contains positions (64 * w + k)) refl)

@@ -169,7 +169,8 @@ impl Mask {
     /// Adds the positions of a signal's bits that are below [`MASK_END`].
     pub(crate) fn add(&mut self, strip: Strip)
         requires { strip.word < 1024 }
-        ensures { (q : ℕ) → Has self.new q ↔ (Has self.old q ⊎ ((q < mask_end) × StripHas strip q)) }
+        ensures { (q : ℕ) → Has self.new q
+            ↔ (Has self.old q ⊎ ((q < mask_end) × StripHas strip q)) }
     {
         self.put(strip.word, strip.low());
         self.put(strip.word + 1, strip.high());
@@ -178,7 +179,8 @@ impl Mask {
     /// `add`, if `wanted` is true.
     pub(crate) fn add_if(&mut self, strip: Strip, wanted: bool)
         requires { strip.word < 1024 }
-        ensures { (q : ℕ) → Has self.new q ↔ (Has self.old q ⊎ ((q < mask_end) × IsTrue wanted × StripHas strip q)) }
+        ensures { (q : ℕ) → Has self.new q
+            ↔ (Has self.old q ⊎ ((q < mask_end) × IsTrue wanted × StripHas strip q)) }
     {
         if wanted {
             self.add(strip);

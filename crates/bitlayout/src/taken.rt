@@ -85,7 +85,8 @@ impl Taken {
     /// Adds one more place, of this indicator and these bits.
     pub(crate) fn add(&mut self, mux: Mux, strip: Strip)
         requires { strip.word < 1024 }
-        ensures { (places : List Place) (layout : Layout) → IsTakenBy self.old places → IsStripOf strip layout
+        ensures { (places : List Place) (layout : Layout) → IsTakenBy self.old places
+            → IsStripOf strip layout
             → IsTakenBy self.new (places ++ record { layout = layout; mux = mux } ∷ []) }
     {
         self.all.add(strip);

@@ -2,7 +2,8 @@
 use Rattle.std.proofs.Common.{◌≡◌, ℕ, ◌/◌, ◌%◌, ◌<◌, ◌≤◌, Bool, true, false, cond, refl, arith}
 use Rattle.std.specs.Prelude.{◌↔◌, IsTrue, Ok}
 use Rattle.std.proofs.lemmas.Bool.Decides.{nat_tests}
-use Rattle.can_id.specs.J1939.{Fields, IsOfGroup, IsPgn, IsBuilt, page_bit, page_of, is_pdu1, is_pgn, format_of, fields_with, build_result}
+use Rattle.can_id.specs.J1939.{Fields, IsOfGroup, IsPgn, IsBuilt, page_bit, page_of, is_pdu1, is_pgn, format_of}
+use Rattle.can_id.specs.J1939.{fields_with, build_result}
 
 pub page_bit_below : (b : Bool) → page_bit b ≤ 1
 page_bit_below true = omega arith
@@ -28,7 +29,8 @@ is_pgn_of_group n f group =
     let small : n < 262144 = omega arith in
     grind (arith, nat_tests)
 
-pub group_of_fields_with : (priority pgn destination source : ℕ) → priority ≤ 7 → is_pgn pgn ≡ true → destination ≤ 255 → source ≤ 255
+pub group_of_fields_with : (priority pgn destination source : ℕ) → priority ≤ 7 → is_pgn pgn ≡ true → destination ≤ 255
+    → source ≤ 255
     → IsOfGroup pgn (fields_with priority pgn destination source)
 group_of_fields_with priority pgn destination source hp hg hd hs =
     let extended = page_bit-page_of (pgn / 131072) in
@@ -40,10 +42,14 @@ group_of_fields_with priority pgn destination source hp hg hd hs =
 
 pub pgn_decides : (n : ℕ) (answer : Bool) → answer ≡ is_pgn n → IsTrue answer ↔ IsPgn n
 pgn_decides n answer same =
-    rw same ((λ e. (fields_with 0 n 0 0, group_of_fields_with 0 n 0 0 (omega arith) e (omega arith) (omega arith))), (λ (f, group). is_pgn_of_group n f group))
+    rw same (
+      (λ e. (fields_with 0 n 0 0, group_of_fields_with 0 n 0 0 (omega arith) e (omega arith) (omega arith))),
+      (λ (f, group). is_pgn_of_group n f group),
+    )
 
 -- what is built is as it was requested
-pub built_as_requested : (priority pgn destination source : ℕ) → priority ≤ 7 → is_pgn pgn ≡ true → (is_pdu1 (format_of pgn) ≡ false → destination ≡ 255) → destination ≤ 255 → source ≤ 255
+pub built_as_requested : (priority pgn destination source : ℕ) → priority ≤ 7 → is_pgn pgn ≡ true
+    → (is_pdu1 (format_of pgn) ≡ false → destination ≡ 255) → destination ≤ 255 → source ≤ 255
     → IsBuilt priority pgn destination source (fields_with priority pgn destination source)
 built_as_requested priority pgn destination source hp hg global hd hs =
     record {
@@ -54,7 +60,8 @@ built_as_requested priority pgn destination source hp hg global hd hs =
     }
 
 -- and it is the only message with these fields
-pub build_result_only : (wanted pgn address sender : ℕ) (f : Fields) → IsBuilt wanted pgn address sender f → build_result wanted pgn address sender ≡ Ok f
+pub build_result_only : (wanted pgn address sender : ℕ) (f : Fields) → IsBuilt wanted pgn address sender f
+    → build_result wanted pgn address sender ≡ Ok f
 build_result_only wanted pgn address sender f h =
     let extended = page_bit_below f.extended_page in
     let page = page_bit_below f.data_page in

@@ -71,7 +71,14 @@ unfolding address_claimed
 address_claimed_built = refl
 
 -- the two pages are two bits
-pages_apart : fields_of 0x02000000 ≡ record { priority = 0; extended_page = true; data_page = false; pf = 0; ps = 0; source = 0 }
+pages_apart : fields_of 0x02000000 ≡ record {
+  priority = 0;
+  extended_page = true;
+  data_page = false;
+  pf = 0;
+  ps = 0;
+  source = 0;
+}
 pages_apart = refl
 
 no_fields_of_11_bits : ident_fields (Std 2047) ≡ None

@@ -1,5 +1,6 @@
 -- The fields of a 29-bit identifier, and parameter group numbers (SAE J1939-21, the protocol data unit).
-use Rattle.std.specs.Prelude.{◌≡◌, ◌≢◌, ◌≤◌, ◌<◌, ◌+◌, ◌*◌, ◌/◌, ◌%◌, ◌==◌, ◌&&◌, ◌||◌, not, nat_lt, ℕ, Bool, true, false, Option, Some, None, Result, Ok, Err, count_by, if◌then◌else◌}
+use Rattle.std.specs.Prelude.{◌≡◌, ◌≢◌, ◌≤◌, ◌<◌, ◌+◌, ◌*◌, ◌/◌, ◌%◌, ◌==◌, ◌&&◌, ◌||◌, not, nat_lt, ℕ, Bool, true}
+use Rattle.std.specs.Prelude.{false, Option, Some, None, Result, Ok, Err, count_by, if◌then◌else◌}
 use Rattle.std.specs.List.{range_with_len}
 use Rattle.can_id.specs.declared.fault.IdFault.{IdFault}
 use Rattle.can_id.specs.declared.fault.IdFault.TheVariants.{NotIdentifier, Priority, NotPgn, Destination}
@@ -29,7 +30,8 @@ page_bit true = 1
 -- the identifier that has these fields
 abbrev pub number_of : Fields → ℕ
 number_of f =
-    f.priority * 67108864 + page_bit f.extended_page * 33554432 + page_bit f.data_page * 16777216 + f.pf * 65536 + f.ps * 256 + f.source
+    f.priority * 67108864 + page_bit f.extended_page * 33554432 + page_bit f.data_page * 16777216 + f.pf * 65536 + f.ps
+    * 256 + f.source
 
 -- the PDU specific byte is a destination address (PDU1), and no group extension (PDU2)
 abbrev pub is_pdu1 : ℕ → Bool

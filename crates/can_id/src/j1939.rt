@@ -97,7 +97,8 @@ impl J1939 {
     pub fn build(priority: u8, pgn: u32, destination: u8, source: u8) -> Result<J1939, IdFault>
         ensures outcome { MatchResult result (IsBuilt priority pgn destination source)
             (IsBuildFault priority pgn destination) }
-        ensures only { (other : Fields) → IsBuilt priority pgn destination source other → result ≡ Ok other }
+        ensures only { (other : Fields) → IsBuilt priority pgn destination source other
+            → result ≡ Ok other }
         ensures computed { result ≡ build_result priority pgn destination source }
     {
         if priority > 7 {

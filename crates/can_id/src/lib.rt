@@ -9,14 +9,15 @@
 //! fields of a message, and gives its parameter group number. [`is_pgn`] says which numbers are those of groups, and
 //! [`has_destination`] which groups have a destination address.
 //!
-//! Nothing here takes memory. The definitions are in `specs/Form.antt`, `specs/Ident.antt` and
-//! `specs/J1939.antt`.
+//! Lists of identifiers are in the order of their DBC numbers. Nothing here takes memory. The definitions are in
+//! `specs/Form.antt`, `specs/Ident.antt` and `specs/J1939.antt`.
 #![tactic(auto)]
 
 mod fault;
 mod form;
 mod ident;
 mod j1939;
+mod lists;
 
 pub use fault::IdFault;
 pub use form::{EXTENDED_FLAG, GREATEST_EXTENDED, GREATEST_STANDARD, IdentForm};

@@ -22,7 +22,7 @@ pub struct HostDatabases<'r> {
 }
 
 /// A connection to the database file at the path.
-fn opened(rt: &HostRuntime, path: &str) -> Result<Connection<FileStore<File>>, Lost>
+fn open(rt: &HostRuntime, path: &str) -> Result<Connection<FileStore<File>>, Lost>
     ensures { IfOk result (λ conn. (file_state conn).in_transaction ≡ false) }
 {
     let opened = Connection::open(rt, path);
@@ -34,7 +34,7 @@ fn opened(rt: &HostRuntime, path: &str) -> Result<Connection<FileStore<File>>, L
 }
 
 /// Ends the connection.
-fn closed(conn: Connection<FileStore<File>>) -> Result<(), Lost> {
+fn close(conn: Connection<FileStore<File>>) -> Result<(), Lost> {
     match conn.close() {
         Ok(()) => Ok(()),
         Err(error) => Err(Lost::from(error)),
@@ -124,25 +124,20 @@ impl Databases for HostDatabases<'_> {
         arrivals: &[Arrival],
         progress: &mut Progress<W>,
     ) -> Result<Answers, AllocError> {
-        match opened(self.rt, path) {
+        match open(self.rt, path) {
             Ok(conn) => {
                 let (reported, conn) = answer_on(alloc, conn, script, arrivals, progress);
-                let closed = closed(conn);
+                let closed = close(conn);
                 Ok(answers_when_closed(reported?, closed))
             }
             Err(lost) => Ok(nothing_answered(alloc, lost)),
         }
     }
 
-    fn look(
-        &mut self,
-        alloc: Global,
-        path: &str,
-        question: &Look,
-    ) -> Result<Option<Vec<u8>>, Lost> {
-        let conn = opened(self.rt, path)?;
-        let (shown, conn) = look_on(alloc, conn, question);
-        let closed = closed(conn);
+    fn look(&mut self, alloc: Global, path: &str, look: &Look) -> Result<Option<Vec<u8>>, Lost> {
+        let conn = open(self.rt, path)?;
+        let (shown, conn) = look_on(alloc, conn, look);
+        let closed = close(conn);
         let text = shown?;
         closed?;
         Ok(text)
@@ -154,20 +149,20 @@ impl Databases for HostDatabases<'_> {
         path: &str,
         progress: &mut Progress<W>,
     ) -> Result<(), Lost> {
-        let conn = opened(self.rt, path)?;
+        let conn = open(self.rt, path)?;
         let (done, conn) = migrate_on(alloc, conn, progress);
-        let closed = closed(conn);
+        let closed = close(conn);
         done?;
         closed
     }
 
     fn serve(&mut self, _alloc: Global, path: &str, port: u16, count: u32) -> Result<(), ServeEnd> {
-        let conn = match opened(self.rt, path) {
+        let conn = match open(self.rt, path) {
             Ok(conn) => conn,
             Err(lost) => return Err(ServeEnd::IsLost(lost)),
         };
         let (served, conn) = serve_on(self.rt, conn, port, count);
-        let closed = closed(conn);
+        let closed = close(conn);
         served?;
         match closed {
             Ok(()) => Ok(()),

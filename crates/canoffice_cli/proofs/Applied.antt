@@ -17,17 +17,34 @@ use Rattle.canoffice_cli.specs.Applied.{IsScriptOutcome, Reports}
 use Rattle.canoffice_cli.specs.Outcome.{outcome_of}
 use Rattle.canoffice_cli.specs.declared.report.Report.{Report}
 
-module _ (files : Files) (dash : Dash) (GoesOn : List Answered → Option Lost → Type 0) (NothingDone : Type 0) (script : List ℕ) where
+module _ (files : Files) (dash : Dash) (GoesOn : List Answered → Option Lost → Type 0) (NothingDone : Type 0)
+    (script : List ℕ) where
   -- its arrivals were answered
-  pub applied : (arrivals : List Arrival) (answers : List Answer) (lost : Option Lost) (r : Result Report AllocError) → AreArrivalsOf files dash (lines_of script) arrivals
-      → length answers ≤ length arrivals → (lost ≡ None → length answers ≡ length arrivals) → GoesOn (answered_with arrivals answers) lost
-      → IfOk r (λ report. outcome_of report ≡ answers_outcome answers lost) → IfOk r (λ report. IsScriptOutcome files dash GoesOn NothingDone script (outcome_of report))
+  pub applied : (arrivals : List Arrival) (answers : List Answer) (lost : Option Lost) (r : Result Report AllocError)
+      → AreArrivalsOf files dash (lines_of script) arrivals
+      → length answers ≤ length arrivals → (lost ≡ None → length answers ≡ length arrivals)
+      → GoesOn (answered_with arrivals answers) lost
+      → IfOk r (λ report. outcome_of report ≡ answers_outcome answers lost)
+      → IfOk r (λ report. IsScriptOutcome files dash GoesOn NothingDone script (outcome_of report))
   applied arrivals answers lost (Err e) made some all goes_on is = tt
   applied arrivals answers lost (Ok report) made some all goes_on is =
-      inl (arrivals, made, record { answers = answers; lost = lost; some = some; all = all; outcome = is; goes_on = goes_on })
+      inl (
+        arrivals,
+        made,
+        record {
+          answers = answers;
+          lost = lost;
+          some = some;
+          all = all;
+          outcome = is;
+          goes_on =
+              goes_on;
+        },
+      )
 
   -- something is amiss at a line of it
-  pub amiss : (fault : ScriptFault) (r : Result Report AllocError) → IsScriptFault files dash script fault → NothingDone → IfOk r (λ report. Reports fault (outcome_of report))
+  pub amiss : (fault : ScriptFault) (r : Result Report AllocError) → IsScriptFault files dash script fault → NothingDone
+      → IfOk r (λ report. Reports fault (outcome_of report))
       → IfOk r (λ report. IsScriptOutcome files dash GoesOn NothingDone script (outcome_of report))
   amiss fault (Err e) is nothing reports = tt
   amiss (BadLine number) (Ok report) is nothing reports = inr (inl (number, is, reports), nothing)

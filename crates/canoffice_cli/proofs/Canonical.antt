@@ -2,14 +2,15 @@
 use Rattle.std.proofs.Common.{◌≡◌, ◌∙◌, ℕ, List, sym, ap, subst}
 use Rattle.dbc_grammar.specs.Canon.{canonical_text}
 use Rattle.dbc_grammar.specs.Reads.{Reads}
-use Rattle.catalogue.specs.declared.sheet.Sheet.{Sheet}
+use Rattle.dbc_sheet.specs.declared.sheet.Sheet.{Sheet}
 use Rattle.dbc_law.specs.Law.{GrammarLaw}
 use Rattle.dbc_read.specs.Reading.{ReadsAsNothing}
 use Rattle.canoffice_cli.specs.Formatted.{KeepsCanonical}
 use Rattle.canoffice_cli.specs.Outcome.{Outcome, success}
 
 -- the canonical text of what it reads as is that text
-pub printed_again : GrammarLaw → (bytes : List ℕ) (read : Sheet) (o : Outcome) → Reads bytes read → o ≡ success (canonical_text read) → KeepsCanonical bytes o
+pub printed_again : GrammarLaw → (bytes : List ℕ) (read : Sheet) (o : Outcome) → Reads bytes read
+    → o ≡ success (canonical_text read) → KeepsCanonical bytes o
 printed_again law bytes read o reads outcome_is s form same =
     let is : read ≡ s = (law s form).only read (subst (λ b. Reads b read) same reads) in
     outcome_is ∙ ap success (ap canonical_text is ∙ sym same)

@@ -7,4 +7,5 @@ use Rattle.clap.specs.declared.builder.command.Command.{Command}
 pub one_more : (old sub new : Command) (a b : App) → AddsSubcommand old sub new → (out-Command sub).has_globals ≡ false
     → app_of old ≡ a → app_of sub ≡ b → app_of new ≡ with_subcommand a b.top
 one_more old sub new a b adds local is_a is_b =
-    adds.shape local ∙ ap (λ (x : App). with_subcommand x (shape_of sub)) is_a ∙ ap (λ (x : App). with_subcommand a x.top) is_b
+    adds.shape local ∙ ap (λ (x : App). with_subcommand x (shape_of sub)) is_a
+    ∙ ap (λ (x : App). with_subcommand a x.top) is_b

@@ -1,6 +1,7 @@
 -- Where clap finds no fault in the words, one of the program's subcommands was entered, with all the arguments that it
 -- needs.
-use Rattle.std.proofs.Common.{◌≡◌, ◌∙◌, ◌&&◌, ◌||◌, inl, inr, Bool, true, false, refl, sym, ap, subst, codes, List, [], Some, true≢false}
+use Rattle.std.proofs.Common.{◌≡◌, ◌∙◌, ◌&&◌, ◌||◌, inl, inr, Bool, true, false, refl, sym, ap, subst, codes, List, []}
+use Rattle.std.proofs.Common.{Some, true≢false}
 use Rattle.std.specs.Str.{bytes_eq}
 use Rattle.std.proofs.lemmas.Slice.Eq.{bytes_eq-Decides}
 use Rattle.clap.specs.Faults.{fault_of, is_simple_and_free}
@@ -8,7 +9,8 @@ use Rattle.clap.specs.declared.parser.matches.ArgMatches.{ArgMatches}
 use Rattle.clap.specs.Walk.{Text, answers_to, rows_after}
 use Rattle.clap.specs.Words.{Row}
 use Rattle.clap.specs.Simple.{App, HasMatchesOf, Shape, subcommand_rows_of, built, label_of, subcommand_of}
-use Rattle.canoffice_cli.specs.CommandLine.{HasSome, HasWrongNumber, IsEntered, IsJob, IsJobIn, IsWrongNumber, canoffice_app, line_faults}
+use Rattle.canoffice_cli.specs.CommandLine.{HasSome, HasWrongNumber, IsEntered, IsJob, IsJobIn, IsWrongNumber}
+use Rattle.canoffice_cli.specs.CommandLine.{canoffice_app, line_faults}
 use Rattle.canoffice_cli.specs.declared.job.Job.{Job}
 use Rattle.canoffice_cli.proofs.NoFault.{Among}
 use Rattle.canoffice_cli.proofs.FilledWalk.{IsNoHelp}
@@ -16,7 +18,8 @@ use Rattle.canoffice_cli.proofs.GivenValues.{Passes, leaf_required, needs_value}
 use Rattle.canoffice_cli.proofs.EnteredSubcommand.{Entered, subcommand_entered}
 
 -- an argument that a subcommand needs has a value
-needed : (s : Shape) (rest : List Text) (id : Text) → Passes s rest → needs_value s.rules id ≡ true → HasSome (rows_after s.rules [] rest) id
+needed : (s : Shape) (rest : List Text) (id : Text) → Passes s rest → needs_value s.rules id ≡ true
+    → HasSome (rows_after s.rules [] rest) id
 needed s rest id passes needs =
     let filled = leaf_required s rest id passes needs in
     (filled.value, filled.more, filled.first, filled.all)
@@ -29,12 +32,14 @@ help_called called e = go (bytes_eq (codes "help") called) refl e
     go false t e = absurd (true≢false (sym e))
 
 -- the subcommand that was entered is one of the program's, and not the one that answers with help
-own_entered : (s : Shape) (called : Text) (rest : List Text) → Among s (built canoffice_app).subs → answers_to called (label_of s) ≡ true → IsNoHelp (built canoffice_app).top called
+own_entered : (s : Shape) (called : Text) (rest : List Text) → Among s (built canoffice_app).subs
+    → answers_to called (label_of s) ≡ true → IsNoHelp (built canoffice_app).top called
     → Passes s rest → IsEntered (Some (s.name, rows_after s.rules [] rest))
 own_entered s called rest (inl same) answers no_help passes =
     let name : s.name ≡ codes "apply" = ap (λ x. x.name) same in
     let script = needed s rest (codes "SCRIPT") passes (ap (λ x. needs_value x.rules (codes "SCRIPT")) same) in
-    subst (λ n. IsEntered (Some (n, rows_after s.rules [] rest))) (sym name) ((λ never. absurd (true≢false (sym never))), ((λ never. absurd (true≢false (sym never))), ((λ _. script), tt)))
+    subst (λ n. IsEntered (Some (n, rows_after s.rules [] rest))) (sym name)
+    ((λ never. absurd (true≢false (sym never))), ((λ never. absurd (true≢false (sym never))), ((λ _. script), tt)))
 own_entered s called rest (inr (inl same)) answers no_help passes =
     let name : s.name ≡ codes "chart" = ap (λ x. x.name) same in
     let length = needed s rest (codes "LENGTH") passes (ap (λ x. needs_value x.rules (codes "LENGTH")) same) in
@@ -43,17 +48,20 @@ own_entered s called rest (inr (inl same)) answers no_help passes =
 own_entered s called rest (inr (inr (inl same))) answers no_help passes =
     let name : s.name ≡ codes "check" = ap (λ x. x.name) same in
     let file = needed s rest (codes "FILE") passes (ap (λ x. needs_value x.rules (codes "FILE")) same) in
-    subst (λ n. IsEntered (Some (n, rows_after s.rules [] rest))) (sym name) ((λ never. absurd (true≢false (sym never))), ((λ _. file), tt))
+    subst (λ n. IsEntered (Some (n, rows_after s.rules [] rest))) (sym name)
+    ((λ never. absurd (true≢false (sym never))), ((λ _. file), tt))
 own_entered s called rest (inr (inr (inr (inl same)))) answers no_help passes =
     let name : s.name ≡ codes "export" = ap (λ x. x.name) same in
     let database = needed s rest (codes "db") passes (ap (λ x. needs_value x.rules (codes "db")) same) in
     let net = needed s rest (codes "NET") passes (ap (λ x. needs_value x.rules (codes "NET")) same) in
     let number = needed s rest (codes "N") passes (ap (λ x. needs_value x.rules (codes "N")) same) in
-    subst (λ n. IsEntered (Some (n, rows_after s.rules [] rest))) (sym name) ((λ _. database), ((λ _. net), ((λ _. number), tt)))
+    subst (λ n. IsEntered (Some (n, rows_after s.rules [] rest))) (sym name)
+    ((λ _. database), ((λ _. net), ((λ _. number), tt)))
 own_entered s called rest (inr (inr (inr (inr (inl same))))) answers no_help passes =
     let name : s.name ≡ codes "format" = ap (λ x. x.name) same in
     let file = needed s rest (codes "FILE") passes (ap (λ x. needs_value x.rules (codes "FILE")) same) in
-    subst (λ n. IsEntered (Some (n, rows_after s.rules [] rest))) (sym name) ((λ never. absurd (true≢false (sym never))), ((λ _. file), tt))
+    subst (λ n. IsEntered (Some (n, rows_after s.rules [] rest))) (sym name)
+    ((λ never. absurd (true≢false (sym never))), ((λ _. file), tt))
 own_entered s called rest (inr (inr (inr (inr (inr (inl same)))))) answers no_help passes =
     let name : s.name ≡ codes "migrate" = ap (λ x. x.name) same in
     let database = needed s rest (codes "db") passes (ap (λ x. needs_value x.rules (codes "db")) same) in
@@ -61,7 +69,13 @@ own_entered s called rest (inr (inr (inr (inr (inr (inl same)))))) answers no_he
 own_entered s called rest (inr (inr (inr (inr (inr (inr (inl same))))))) answers no_help passes =
     let name : s.name ≡ codes "serve" = ap (λ x. x.name) same in
     let database = needed s rest (codes "db") passes (ap (λ x. needs_value x.rules (codes "db")) same) in
-    subst (λ n. IsEntered (Some (n, rows_after s.rules [] rest))) (sym name) ((λ _. database), ((λ never. absurd (true≢false (sym never))), ((λ never. absurd (true≢false (sym never))), tt)))
+    subst (λ n. IsEntered (Some (n, rows_after s.rules [] rest))) (sym name) (
+      (λ _. database),
+      (
+        (λ never. absurd (true≢false (sym never))),
+        ((λ never. absurd (true≢false (sym never))), tt),
+      ),
+    )
 own_entered s called rest (inr (inr (inr (inr (inr (inr (inr (inl same)))))))) answers no_help passes =
     let name : s.name ≡ codes "table" = ap (λ x. x.name) same in
     let file = needed s rest (codes "FILE") passes (ap (λ x. needs_value x.rules (codes "FILE")) same) in
@@ -73,12 +87,15 @@ own_entered s called rest (inr (inr (inr (inr (inr (inr (inr (inr (inl same)))))
     and_true : (b : Bool) → (b && true) ≡ false → b ≡ false
     and_true true e = e
     and_true false e = refl
-own_entered s called rest (inr (inr (inr (inr (inr (inr (inr (inr (inr none))))))))) answers no_help passes = absurd none
+own_entered s called rest (inr (inr (inr (inr (inr (inr (inr (inr (inr none))))))))) answers no_help passes =
+    absurd none
 
 pub line_is_entered : (words : List Text) → line_faults words ≡ [] → IsEntered (subcommand_of canoffice_app words)
 line_is_entered words e =
     let entered : Entered canoffice_app words = subcommand_entered canoffice_app words e refl in
-    subst IsEntered (sym entered.rows) (own_entered entered.shape entered.called entered.rest entered.own entered.answers entered.no_help entered.passes)
+    subst IsEntered (sym entered.rows)
+    (own_entered entered.shape entered.called entered.rest entered.own entered.answers entered.no_help
+    entered.passes)
 
 -- clap's matches of words in which it finds no fault
 pub record IsLineRead (words : List Text) (m : ArgMatches) : Type 0 where
@@ -86,18 +103,22 @@ pub record IsLineRead (words : List Text) (m : ArgMatches) : Type 0 where
   pub same : subcommand_rows_of m ≡ subcommand_of canoffice_app words
   pub entered : IsEntered (subcommand_rows_of m)
 
-pub line_is_read : (app : App) (words : List Text) (m : ArgMatches) → app ≡ canoffice_app → (is_simple_and_free app ≡ true → fault_of app words ≡ []) → HasMatchesOf app words m → IsLineRead words m
+pub line_is_read : (app : App) (words : List Text) (m : ArgMatches) → app ≡ canoffice_app
+    → (is_simple_and_free app ≡ true → fault_of app words ≡ []) → HasMatchesOf app words m → IsLineRead words m
 line_is_read app words m is passes matches =
-    let none : line_faults words ≡ [] = subst (λ a. is_simple_and_free a ≡ true → fault_of a words ≡ []) is passes refl in
+    let none : line_faults words ≡ [] = subst (λ a. is_simple_and_free a ≡ true → fault_of a words ≡ []) is passes
+    refl in
     let read : HasMatchesOf canoffice_app words m = subst (λ a. HasMatchesOf a words m) is matches in
     let same : subcommand_rows_of m ≡ subcommand_of canoffice_app words = (read refl).1 in
     record { faultless = none; same = same; entered = subst IsEntered (sym same) (line_is_entered words none) }
 
 -- the job that is in such matches is the job of the words
-pub job_of_read : (words : List Text) (m : ArgMatches) (job : Job) → IsLineRead words m → IsJobIn (subcommand_rows_of m) job → IsJob words job
+pub job_of_read : (words : List Text) (m : ArgMatches) (job : Job) → IsLineRead words m
+    → IsJobIn (subcommand_rows_of m) job → IsJob words job
 job_of_read words m job read is = (read.faultless, subst (λ found. IsJobIn found job) read.same is)
 
 -- a wrong number that is in such matches is one that the words have
 pub wrong_number_read : (words : List Text) (m : ArgMatches) (word : Text) → IsLineRead words m
-    → ((name : Text) × (rows : List Row) × (subcommand_rows_of m ≡ Some (name, rows)) × IsWrongNumber name rows word) → HasWrongNumber words word
+    → ((name : Text) × (rows : List Row) × (subcommand_rows_of m ≡ Some (name, rows)) × IsWrongNumber name rows word)
+    → HasWrongNumber words word
 wrong_number_read words m word read w = (read.faultless, w.0, w.1, sym read.same ∙ w.2, w.3)

@@ -21,15 +21,19 @@ pub record Entered (a : App) (words : List Text) : Type 0 where
   pub rows : subcommand_of a words ≡ Some (shape.name, rows_after shape.rules [] rest)
   pub passes : Passes shape rest
 
-pub subcommand_entered : (a : App) (words : List Text) → fault_of a words ≡ [] → (built a).top.subcommand_required ≡ true → Entered a words
+pub subcommand_entered : (a : App) (words : List Text) → fault_of a words ≡ []
+    → (built a).top.subcommand_required ≡ true → Entered a words
 subcommand_entered a words e required =
     let b = built a in
     let stop = (walk b.top.rules (names_of b) nothing_held (argument_words a words)).stopped in
-    at_stop stop refl (has_subcommand b.top (names_of b) (argument_words a words) (is_some (entered b stop)) (entered_fault b stop) e required)
+    at_stop stop refl (has_subcommand b.top (names_of b) (argument_words a words) (is_some (entered b stop))
+    (entered_fault b stop) e required)
     (below_passes b.top (names_of b) (argument_words a words) (is_some (entered b stop)) (entered_fault b stop) e)
   where
-    at_shape : (p : Text × List Text) → (walk (built a).top.rules (names_of (built a)) nothing_held (argument_words a words)).stopped ≡ Some p
-        → (o : Option Shape) → find (λ s. answers_to p.0 (label_of s)) (built a).subs ≡ o → is_some (option_map (λ s. rows_at s p.1) o) ≡ true
+    at_shape : (p : Text × List Text)
+        → (walk (built a).top.rules (names_of (built a)) nothing_held (argument_words a words)).stopped ≡ Some p
+        → (o : Option Shape) → find (λ s. answers_to p.0 (label_of s)) (built a).subs ≡ o
+        → is_some (option_map (λ s. rows_at s p.1) o) ≡ true
         → option_map_or (λ s. level_fault s [] nothing_held p.1 false []) o [] ≡ [] → Entered a words
     at_shape p stops None found has passes = absurd (true≢false (sym has))
     at_shape p stops (Some s) found has passes = record {
@@ -43,7 +47,9 @@ subcommand_entered a words e required =
       passes = passes;
     }
 
-    at_stop : (o : Option (Text × List Text)) → (walk (built a).top.rules (names_of (built a)) nothing_held (argument_words a words)).stopped ≡ o
+    at_stop : (o : Option (Text × List Text))
+        → (walk (built a).top.rules (names_of (built a)) nothing_held (argument_words a words)).stopped ≡ o
         → is_some (entered (built a) o) ≡ true → entered_fault (built a) o ≡ [] → Entered a words
     at_stop None stops has passes = absurd (true≢false (sym has))
-    at_stop (Some p) stops has passes = at_shape p stops (find (λ s. answers_to p.0 (label_of s)) (built a).subs) refl has passes
+    at_stop (Some p) stops has passes = at_shape p stops (find (λ s. answers_to p.0 (label_of s)) (built a).subs) refl
+        has passes

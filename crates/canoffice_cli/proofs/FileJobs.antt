@@ -9,16 +9,22 @@ use Rattle.office_script.specs.declared.files.PathFault.{PathFault}
 use Rattle.office_script.specs.declared.files.PathFault.TheVariants.{Unreadable, Memory}
 use Rattle.canoffice_cli.specs.declared.report.Report.{Report}
 
-pub of_bytes : (NothingDone : Type 0) (IsOf : List ℕ → Outcome → Type 0) (path : List ℕ) (held : Holding) (bytes : List ℕ) (r : Result Report AllocError) → Gives held bytes
-    → IfOk r (λ report. IsOf bytes (outcome_of report)) → IfOk r (λ report. IsOfFile NothingDone IsOf path held (outcome_of report))
+pub of_bytes : (NothingDone : Type 0) (IsOf : List ℕ → Outcome → Type 0) (path : List ℕ) (held : Holding)
+    (bytes : List ℕ) (r : Result Report AllocError) → Gives held bytes
+    → IfOk r (λ report. IsOf bytes (outcome_of report))
+    → IfOk r (λ report. IsOfFile NothingDone IsOf path held (outcome_of report))
 of_bytes NothingDone IsOf path held bytes (Err lost) gives is = tt
 of_bytes NothingDone IsOf path unknown bytes (Ok report) gives is = inr (bytes, is)
 of_bytes NothingDone IsOf path absent bytes (Ok report) gives is = absurd gives
-of_bytes NothingDone IsOf path (holding known) bytes (Ok report) gives is = subst (λ (b : List ℕ). IsOf b (outcome_of report)) gives is
+of_bytes NothingDone IsOf path (holding known) bytes (Ok report) gives is =
+    subst (λ (b : List ℕ). IsOf b (outcome_of report)) gives is
 
-pub unread : (NothingDone : Type 0) (IsOf : List ℕ → Outcome → Type 0) (path : List ℕ) (held : Holding) (fault : PathFault) (r : Result Report AllocError) → NothingDone → FailsWith held fault
-    → IfOk r (λ report. (fault ≡ Unreadable) × (outcome_of report ≡ unreadable path)) → IfOk r (λ report. IsOfFile NothingDone IsOf path held (outcome_of report))
+pub unread : (NothingDone : Type 0) (IsOf : List ℕ → Outcome → Type 0) (path : List ℕ) (held : Holding)
+    (fault : PathFault) (r : Result Report AllocError) → NothingDone → FailsWith held fault
+    → IfOk r (λ report. (fault ≡ Unreadable) × (outcome_of report ≡ unreadable path))
+    → IfOk r (λ report. IsOfFile NothingDone IsOf path held (outcome_of report))
 unread NothingDone IsOf path held fault (Err lost) nothing fails is = tt
 unread NothingDone IsOf path unknown fault (Ok report) nothing fails is = inl (is.1, nothing)
 unread NothingDone IsOf path absent fault (Ok report) nothing fails is = (is.1, nothing)
-unread NothingDone IsOf path (holding known) fault (Ok report) nothing fails is = absurd (let e : Memory ≡ Unreadable = sym fails ∙ is.0 in cc)
+unread NothingDone IsOf path (holding known) fault (Ok report) nothing fails is =
+    absurd (let e : Memory ≡ Unreadable = sym fails ∙ is.0 in cc)

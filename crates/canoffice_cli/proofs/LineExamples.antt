@@ -1,7 +1,11 @@
 -- What the definitions of the command line say of words that are written out.
 use Rattle.std.proofs.Common.{◌≡◌, Bool, true, false, List, [], ◌∷◌, Option, Some, None, codes, option_map, refl}
 use Rattle.clap.specs.Words.{Row, Text, all_of, first_of, subcommand_of}
-use Rattle.clap.specs.declared.error.kind.ErrorKind.TheVariants.{ArgumentConflict, DisplayHelp, DisplayHelpOnMissingArgumentOrSubcommand, DisplayVersion, InvalidSubcommand, InvalidValue, MissingRequiredArgument, TooManyValues, UnknownArgument}
+use Rattle.clap.specs.declared.error.kind.ErrorKind.TheVariants.{ArgumentConflict, DisplayHelp}
+use Rattle.clap.specs.declared.error.kind.ErrorKind.TheVariants.{DisplayHelpOnMissingArgumentOrSubcommand}
+use Rattle.clap.specs.declared.error.kind.ErrorKind.TheVariants.{DisplayVersion, InvalidSubcommand, InvalidValue}
+use Rattle.clap.specs.declared.error.kind.ErrorKind.TheVariants.{MissingRequiredArgument, TooManyValues}
+use Rattle.clap.specs.declared.error.kind.ErrorKind.TheVariants.{UnknownArgument}
 use Rattle.clap.proofs.OnLiterals.{clap_on_literals}
 use Rattle.canoffice_cli.specs.CommandLine.{canoffice_app, is_set, line_faults}
 
@@ -34,7 +38,8 @@ no_script : line_faults (codes "canoffice" ∷ codes "apply" ∷ []) ≡ Missing
 unfolding clap_on_literals
 no_script = refl
 
-two_scripts : line_faults (codes "canoffice" ∷ codes "apply" ∷ codes "a.txt" ∷ codes "b.txt" ∷ []) ≡ UnknownArgument ∷ []
+two_scripts : line_faults (codes "canoffice" ∷ codes "apply" ∷ codes "a.txt" ∷ codes "b.txt" ∷ []) ≡ UnknownArgument
+    ∷ []
 unfolding clap_on_literals
 two_scripts = refl
 
@@ -67,7 +72,8 @@ one_database : line_faults a_database ≡ []
 unfolding clap_on_literals
 one_database = refl
 
-named_database : option_map (λ found. first_of (codes "db") found.1) (subcommand_of canoffice_app a_database) ≡ Some (Some (codes "office.db"))
+named_database : option_map (λ found. first_of (codes "db") found.1) (subcommand_of canoffice_app a_database)
+    ≡ Some (Some (codes "office.db"))
 unfolding clap_on_literals
 named_database = refl
 
@@ -75,11 +81,13 @@ no_value : line_faults (codes "canoffice" ∷ codes "apply" ∷ codes "a.txt" �
 unfolding clap_on_literals
 no_value = refl
 
-no_database : line_faults (codes "canoffice" ∷ codes "export" ∷ codes "truck" ∷ codes "1" ∷ []) ≡ MissingRequiredArgument ∷ []
+no_database : line_faults (codes "canoffice" ∷ codes "export" ∷ codes "truck" ∷ codes "1" ∷ [])
+    ≡ MissingRequiredArgument ∷ []
 unfolding clap_on_literals
 no_database = refl
 
-an_export : line_faults (codes "canoffice" ∷ codes "export" ∷ codes "--db" ∷ codes "office.db" ∷ codes "truck" ∷ codes "1" ∷ []) ≡ []
+an_export : line_faults (codes "canoffice" ∷ codes "export" ∷ codes "--db" ∷ codes "office.db" ∷ codes "truck"
+    ∷ codes "1" ∷ []) ≡ []
 unfolding clap_on_literals
 an_export = refl
 
@@ -91,11 +99,13 @@ a_migrate : line_faults (codes "canoffice" ∷ codes "migrate" ∷ codes "--db" 
 unfolding clap_on_literals
 a_migrate = refl
 
-serve_no_database : line_faults (codes "canoffice" ∷ codes "serve" ∷ codes "--port" ∷ codes "8080" ∷ []) ≡ MissingRequiredArgument ∷ []
+serve_no_database : line_faults (codes "canoffice" ∷ codes "serve" ∷ codes "--port" ∷ codes "8080" ∷ [])
+    ≡ MissingRequiredArgument ∷ []
 unfolding clap_on_literals
 serve_no_database = refl
 
-a_serve : line_faults (codes "canoffice" ∷ codes "serve" ∷ codes "--db" ∷ codes "office.db" ∷ codes "--count" ∷ codes "3" ∷ []) ≡ []
+a_serve : line_faults (codes "canoffice" ∷ codes "serve" ∷ codes "--db" ∷ codes "office.db" ∷ codes "--count"
+    ∷ codes "3" ∷ []) ≡ []
 unfolding clap_on_literals
 a_serve = refl
 
@@ -124,7 +134,8 @@ its_length : length_in (subcommand_of canoffice_app two_signals) ≡ Some (Some 
 unfolding clap_on_literals
 its_length = refl
 
-its_signals : signals_in (subcommand_of canoffice_app two_signals) ≡ Some (Some (codes "A=0|1@1" ∷ codes "B=1|1@1" ∷ []))
+its_signals : signals_in (subcommand_of canoffice_app two_signals)
+    ≡ Some (Some (codes "A=0|1@1" ∷ codes "B=1|1@1" ∷ []))
 unfolding clap_on_literals
 its_signals = refl
 
@@ -168,26 +179,35 @@ unfolding clap_on_literals
 its_file = refl
 
 -- the flag may come after the file
-flag_at_the_end : explain_in (subcommand_of canoffice_app (codes "canoffice" ∷ codes "format" ∷ codes "a.dbc" ∷ codes "--explain" ∷ [])) ≡ Some true
+flag_at_the_end : explain_in
+    (subcommand_of canoffice_app (codes "canoffice" ∷ codes "format" ∷ codes "a.dbc" ∷ codes "--explain" ∷ []))
+    ≡ Some true
 unfolding clap_on_literals
 flag_at_the_end = refl
 
-explained_script : explain_in (subcommand_of canoffice_app (codes "canoffice" ∷ codes "apply" ∷ codes "--explain" ∷ codes "a.txt" ∷ [])) ≡ Some true
+explained_script : explain_in
+    (subcommand_of canoffice_app (codes "canoffice" ∷ codes "apply" ∷ codes "--explain" ∷ codes "a.txt" ∷ []))
+    ≡ Some true
 unfolding clap_on_literals
 explained_script = refl
 
-flag_without_a_file : line_faults (codes "canoffice" ∷ codes "check" ∷ codes "--explain" ∷ []) ≡ MissingRequiredArgument ∷ []
+flag_without_a_file : line_faults (codes "canoffice" ∷ codes "check" ∷ codes "--explain" ∷ []) ≡ MissingRequiredArgument
+    ∷ []
 unfolding clap_on_literals
 flag_without_a_file = refl
 
-flag_twice : line_faults (codes "canoffice" ∷ codes "check" ∷ codes "--explain" ∷ codes "--explain" ∷ codes "a.dbc" ∷ []) ≡ ArgumentConflict ∷ []
+flag_twice : line_faults
+    (codes "canoffice" ∷ codes "check" ∷ codes "--explain" ∷ codes "--explain" ∷ codes "a.dbc" ∷ []) ≡ ArgumentConflict
+    ∷ []
 unfolding clap_on_literals
 flag_twice = refl
 
-flag_with_a_value : line_faults (codes "canoffice" ∷ codes "check" ∷ codes "--explain=yes" ∷ codes "a.dbc" ∷ []) ≡ TooManyValues ∷ []
+flag_with_a_value : line_faults (codes "canoffice" ∷ codes "check" ∷ codes "--explain=yes" ∷ codes "a.dbc" ∷ [])
+    ≡ TooManyValues ∷ []
 unfolding clap_on_literals
 flag_with_a_value = refl
 
-flag_of_a_table : line_faults (codes "canoffice" ∷ codes "table" ∷ codes "--explain" ∷ codes "a.dbc" ∷ []) ≡ UnknownArgument ∷ []
+flag_of_a_table : line_faults (codes "canoffice" ∷ codes "table" ∷ codes "--explain" ∷ codes "a.dbc" ∷ [])
+    ≡ UnknownArgument ∷ []
 unfolding clap_on_literals
 flag_of_a_table = refl

@@ -1,5 +1,6 @@
 -- The lines of answers fit in the room for them.
-use Rattle.std.proofs.Common.{◌≤◌, ◌+◌, ◌*◌, ℕ, List, [], ◌∷◌, ◌++◌, length, take, max, codes, decimal, arith, length-append, subst}
+use Rattle.std.proofs.Common.{◌≤◌, ◌+◌, ◌*◌, ℕ, List, [], ◌∷◌, ◌++◌, length, take, max, codes, decimal, arith}
+use Rattle.std.proofs.Common.{length-append, subst}
 use Rattle.std.specs.List.{All, AllZip}
 use Rattle.std.proofs.Math.Nat.{le-max_left, le-max_right}
 use Rattle.std.proofs.lemmas.Fmt.{length-decimal-le}
@@ -21,7 +22,9 @@ use Rattle.office_history.specs.declared.arrival.Answer.TheVariants.{Reply, KeyR
 use Rattle.office_history.specs.declared.arrival.Arrival.{Arrival}
 use Rattle.canoffice_cli.specs.Answered.{answer_line, answer_lines, answer_text}
 use Rattle.canoffice_cli.proofs.CanAnswer.{step_can_answer}
-use Rattle.canoffice_cli.specs.LongestLines.{AnswersFit, CanAnswer, CanAnswerBundle, CanAnswerSingle, Has32Bits, IsAnswerValue, IsFaultValue, IsPartValue, longest_line, longest_bundle, longest_refused_bundle, longest_single, room_for}
+use Rattle.canoffice_cli.specs.LongestLines.{AnswersFit, CanAnswer, CanAnswerBundle, CanAnswerSingle, Has32Bits}
+use Rattle.canoffice_cli.specs.LongestLines.{IsAnswerValue, IsFaultValue, IsPartValue, longest_line, longest_bundle}
+use Rattle.canoffice_cli.specs.LongestLines.{longest_refused_bundle, longest_single, room_for}
 
 digits_of_32_bits : (n : ℕ) → Has32Bits n → length (decimal n) ≤ 10
 digits_of_32_bits n small = length-decimal-le 10 n (omega arith) (omega (arith, small)) (omega (arith, small))
@@ -33,7 +36,8 @@ digits_of_8_bits : (n : ℕ) → n ≤ 255 → length (decimal n) ≤ 3
 digits_of_8_bits n small = length-decimal-le 3 n (omega arith) (omega (arith, small)) (omega (arith, small))
 
 -- a word and a number after it
-word_and_number : (word : List ℕ) (n digits : ℕ) → length (decimal n) ≤ digits → length (word ++ decimal n) ≤ length word + digits
+word_and_number : (word : List ℕ) (n digits : ℕ) → length (decimal n) ≤ digits
+    → length (word ++ decimal n) ≤ length word + digits
 word_and_number word n digits few = let both = length-append word (decimal n) in omega (arith, both, few)
 
 -- a word, and two numbers with a space in between
@@ -49,7 +53,8 @@ word_and_numbers word n m digits more few fewer =
 
 -- A refusal without a fault has at most 19 bytes, a file's 27, and a bundle's 31.
 abbrev FitsRefusal : Refusal → Type 0
-FitsRefusal why = (length (refusal_text why) ≤ 31) × (CanAnswerSingle (Reply (reply.Refused why)) → length (refusal_text why) ≤ 27)
+FitsRefusal why = (length (refusal_text why) ≤ 31)
+    × (CanAnswerSingle (Reply (reply.Refused why)) → length (refusal_text why) ≤ 27)
 
 plain_refusal : (n : ℕ) (name : List ℕ) → n ≤ 255 → length name ≤ 15
     → (length (decimal n ++ (codes " " ++ name)) ≤ 31) × (Unit {0} → length (decimal n ++ (codes " " ++ name)) ≤ 27)
@@ -59,8 +64,10 @@ plain_refusal n name small short =
     let rest = length-append (codes " ") name in
     (omega (arith, few, whole, rest, short), λ _. omega (arith, few, whole, rest, short))
 
-fault_fits : (word : List ℕ) (f : FileFault) → IsFaultValue f → length (word ++ (decimal f.fault ++ (codes " " ++ decimal f.at))) ≤ length word + 14
-fault_fits word f is = word_and_numbers word f.fault f.at 3 10 (digits_of_8_bits f.fault is.0) (digits_of_32_bits f.at is.1)
+fault_fits : (word : List ℕ) (f : FileFault) → IsFaultValue f
+    → length (word ++ (decimal f.fault ++ (codes " " ++ decimal f.at))) ≤ length word + 14
+fault_fits word f is = word_and_numbers word f.fault f.at 3 10 (digits_of_8_bits f.fault is.0)
+    (digits_of_32_bits f.at is.1)
 
 refusal_fits : (why : Refusal) → IsFaultValue (fault_of why) → FitsRefusal why
 refusal_fits no.OutsidePayload is = plain_refusal 22 (codes "OutsidePayload") (omega arith) (omega arith)
@@ -86,22 +93,28 @@ refusal_fits no.InReview is = plain_refusal 54 (codes "InReview") (omega arith) 
 refusal_fits no.NotInReview is = plain_refusal 55 (codes "NotInReview") (omega arith) (omega arith)
 refusal_fits no.OwnReview is = plain_refusal 56 (codes "OwnReview") (omega arith) (omega arith)
 refusal_fits no.NeedsMore is = plain_refusal 57 (codes "NeedsMore") (omega arith) (omega arith)
-refusal_fits (no.FileFault f) is = let fits = fault_fits (codes "58 FileFault ") f is in (omega (arith, fits), λ _. omega (arith, fits))
+refusal_fits (no.FileFault f) is = let fits = fault_fits (codes "58 FileFault ") f is in
+    (omega (arith, fits), λ _. omega (arith, fits))
 refusal_fits no.NoSpn is = plain_refusal 59 (codes "NoSpn") (omega arith) (omega arith)
 refusal_fits no.NoRoom is = plain_refusal 60 (codes "NoRoom") (omega arith) (omega arith)
 refusal_fits no.NotJ1939 is = plain_refusal 61 (codes "NotJ1939") (omega arith) (omega arith)
-refusal_fits (no.BundleRefused f) is = let fits = fault_fits (codes "62 BundleRefused ") f is in (omega (arith, fits), λ never. absurd never)
+refusal_fits (no.BundleRefused f) is = let fits = fault_fits (codes "62 BundleRefused ") f is in
+    (omega (arith, fits), λ never. absurd never)
 
 -- ---- bundles
 
 part_fits : (p : PartReply) → IsPartValue p → length (part_text p) ≤ 18
 part_fits part.Done is = omega arith
-part_fits (part.Number n) is = let fits = word_and_number (codes "number ") n 10 (digits_of_32_bits n is) in omega (arith, fits)
-part_fits (part.Start n) is = let fits = word_and_number (codes "start ") n 5 (digits_of_16_bits n is) in omega (arith, fits)
-part_fits (part.Release n) is = let fits = word_and_number (codes "release ") n 10 (digits_of_32_bits n is) in omega (arith, fits)
+part_fits (part.Number n) is = let fits = word_and_number (codes "number ") n 10 (digits_of_32_bits n is) in
+    omega (arith, fits)
+part_fits (part.Start n) is = let fits = word_and_number (codes "start ") n 5 (digits_of_16_bits n is) in
+    omega (arith, fits)
+part_fits (part.Release n) is = let fits = word_and_number (codes "release ") n 10 (digits_of_32_bits n is) in
+    omega (arith, fits)
 
 later_part_fits : (p : PartReply) → IsPartValue p → length (codes "; " ++ part_text p) ≤ 20
-later_part_fits p is = let fits = part_fits p is in let both = length-append (codes "; ") (part_text p) in omega (arith, fits, both)
+later_part_fits p is = let fits = part_fits p is in let both = length-append (codes "; ") (part_text p) in
+    omega (arith, fits, both)
 
 later_fit : (ps : List PartReply) → All IsPartValue ps → length (later_text ps) ≤ length ps * 20
 later_fit ps are =
@@ -110,7 +123,8 @@ later_fit ps are =
     let fits = sum_by-le (λ p. length (codes "; " ++ part_text p)) 20 ps each in
     omega (arith, sum, fits)
 
-bundle_fits : (ps : List PartReply) → All IsPartValue ps → length (reply_text (reply.Bundle ps)) + 1 ≤ longest_bundle (length ps)
+bundle_fits : (ps : List PartReply) → All IsPartValue ps
+    → length (reply_text (reply.Bundle ps)) + 1 ≤ longest_bundle (length ps)
 bundle_fits [] are = omega arith
 bundle_fits (p ∷ ps) are =
     let first = part_fits p (All-head IsPartValue p ps are) in
@@ -123,14 +137,19 @@ bundle_fits (p ∷ ps) are =
 -- ---- answers
 
 -- those of a command alone
-single_fits : (answer : Answer) → IsAnswerValue answer → CanAnswerSingle answer → length (answer_text answer) + 1 ≤ longest_single
+single_fits : (answer : Answer) → IsAnswerValue answer → CanAnswerSingle answer
+    → length (answer_text answer) + 1 ≤ longest_single
 single_fits (Reply reply.Done) is can = omega arith
-single_fits (Reply (reply.Number n)) is can = let fits = word_and_number (codes "number ") n 10 (digits_of_32_bits n is) in omega (arith, fits)
-single_fits (Reply (reply.Start n)) is can = let fits = word_and_number (codes "start ") n 5 (digits_of_16_bits n is) in omega (arith, fits)
-single_fits (Reply (reply.Counts new same)) is can =
-    let fits = word_and_numbers (codes "counts ") new same 10 10 (digits_of_32_bits new is.0) (digits_of_32_bits same is.1) in
+single_fits (Reply (reply.Number n)) is can = let fits =
+    word_and_number (codes "number ") n 10 (digits_of_32_bits n is) in omega (arith, fits)
+single_fits (Reply (reply.Start n)) is can = let fits = word_and_number (codes "start ") n 5 (digits_of_16_bits n is) in
     omega (arith, fits)
-single_fits (Reply (reply.Release n)) is can = let fits = word_and_number (codes "release ") n 10 (digits_of_32_bits n is) in omega (arith, fits)
+single_fits (Reply (reply.Counts new same)) is can =
+    let fits = word_and_numbers (codes "counts ") new same 10 10 (digits_of_32_bits new is.0)
+    (digits_of_32_bits same is.1) in
+    omega (arith, fits)
+single_fits (Reply (reply.Release n)) is can = let fits =
+    word_and_number (codes "release ") n 10 (digits_of_32_bits n is) in omega (arith, fits)
 single_fits (Reply (reply.Refused why)) is can =
     let fits = (refusal_fits why is).1 can in let both = length-append (codes "refused ") (refusal_text why) in
     omega (arith, fits, both)
@@ -142,9 +161,11 @@ longest_of_bundle count = max (longest_bundle count) longest_refused_bundle
 
 -- those that are no longer than the refusal of a bundle
 short_fits : (count bytes : ℕ) → bytes ≤ longest_refused_bundle → bytes ≤ longest_of_bundle count
-short_fits count bytes short = let fits = le-max_right (longest_bundle count) longest_refused_bundle in omega (arith, short, fits)
+short_fits count bytes short = let fits = le-max_right (longest_bundle count) longest_refused_bundle in
+    omega (arith, short, fits)
 
-bundle_line_fits : (count : ℕ) (answer : Answer) → IsAnswerValue answer → CanAnswerBundle count answer → length (answer_text answer) + 1 ≤ longest_of_bundle count
+bundle_line_fits : (count : ℕ) (answer : Answer) → IsAnswerValue answer → CanAnswerBundle count answer
+    → length (answer_text answer) + 1 ≤ longest_of_bundle count
 bundle_line_fits count (Reply (reply.Bundle ps)) is can =
     let fits = bundle_fits ps is in let longest = le-max_left (longest_bundle (length ps)) longest_refused_bundle in
     subst (λ k. length (reply_text (reply.Bundle ps)) + 1 ≤ longest_of_bundle k) can (omega (arith, fits, longest))
@@ -152,16 +173,21 @@ bundle_line_fits count (Reply (reply.Refused why)) is can =
     let fits = (refusal_fits why is).0 in let both = length-append (codes "refused ") (refusal_text why) in
     short_fits count _ (omega (arith, fits, both))
 bundle_line_fits count (Reply reply.Done) is can = short_fits count _ (omega arith)
-bundle_line_fits count (Reply (reply.Number n)) is can = let fits = single_fits (Reply (reply.Number n)) is tt in short_fits count _ (omega (arith, fits))
-bundle_line_fits count (Reply (reply.Start n)) is can = let fits = single_fits (Reply (reply.Start n)) is tt in short_fits count _ (omega (arith, fits))
-bundle_line_fits count (Reply (reply.Counts new same)) is can = let fits = single_fits (Reply (reply.Counts new same)) is tt in short_fits count _ (omega (arith, fits))
-bundle_line_fits count (Reply (reply.Release n)) is can = let fits = single_fits (Reply (reply.Release n)) is tt in short_fits count _ (omega (arith, fits))
+bundle_line_fits count (Reply (reply.Number n)) is can = let fits = single_fits (Reply (reply.Number n)) is tt in
+    short_fits count _ (omega (arith, fits))
+bundle_line_fits count (Reply (reply.Start n)) is can = let fits = single_fits (Reply (reply.Start n)) is tt in
+    short_fits count _ (omega (arith, fits))
+bundle_line_fits count (Reply (reply.Counts new same)) is can = let fits =
+    single_fits (Reply (reply.Counts new same)) is tt in short_fits count _ (omega (arith, fits))
+bundle_line_fits count (Reply (reply.Release n)) is can = let fits = single_fits (Reply (reply.Release n)) is tt in
+    short_fits count _ (omega (arith, fits))
 bundle_line_fits count KeyReused is can = short_fits count _ (omega arith)
 
 with_newline : (text : List ℕ) (bytes : ℕ) → length text + 1 ≤ bytes → length (text ++ codes "\n") ≤ bytes
 with_newline text bytes fits = let both = length-append text (codes "\n") in omega (arith, both, fits)
 
-line_fits : (task : Task) (answer : Answer) → IsAnswerValue answer → CanAnswer task answer → length (answer_line answer) ≤ longest_line task
+line_fits : (task : Task) (answer : Answer) → IsAnswerValue answer → CanAnswer task answer
+    → length (answer_line answer) ≤ longest_line task
 line_fits (Act a) answer is can = with_newline _ _ (single_fits answer is can)
 line_fits (Import file) answer is can = with_newline _ _ (single_fits answer is can)
 line_fits (Bundle parts) answer is can = with_newline _ _ (bundle_line_fits (length parts) answer is can)

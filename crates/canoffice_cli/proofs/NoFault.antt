@@ -1,5 +1,6 @@
 -- Steps that report no fault, and the elements of a list.
-use Rattle.std.proofs.Common.{◌≡◌, ◌⊎◌, ◌∙◌, ◌&&◌, ◌||◌, Bool, cond, true, false, refl, sym, ap, inl, inr, List, [], ◌∷◌, Some, true≢false}
+use Rattle.std.proofs.Common.{◌≡◌, ◌⊎◌, ◌∙◌, ◌&&◌, ◌||◌, Bool, cond, true, false, refl, sym, ap, inl, inr, List, []}
+use Rattle.std.proofs.Common.{◌∷◌, Some, true≢false}
 use Rattle.std.specs.Prelude.{find, unwrap_or}
 use Rattle.std.specs.List.{list_all, list_any}
 use Rattle.clap.specs.Kinds.{Kinds, or_else}

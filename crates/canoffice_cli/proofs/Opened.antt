@@ -1,5 +1,6 @@
 -- A database that was opened, used and closed.
-use Rattle.std.proofs.Common.{◌≡◌, ◌⊎◌, ◌≤◌, inl, inr, List, ℕ, [], ◌++◌, Option, Result, Ok, Err, refl, sym, ap, subst, ◌∙◌, arith, append-nil}
+use Rattle.std.proofs.Common.{◌≡◌, ◌⊎◌, ◌≤◌, inl, inr, List, ℕ, [], ◌++◌, Option, Result, Ok, Err, refl, sym, ap, subst}
+use Rattle.std.proofs.Common.{◌∙◌, arith, append-nil}
 use Rattle.std.specs.Prelude.{IfOk, IsSome, IsTrue, OnErr, OnOk, ⊤}
 use Rattle.std.specs.Result.{result_map_both}
 use Rattle.std.proofs.lemmas.Result.{on_err_weaker, on_ok_weaker}
@@ -19,7 +20,12 @@ use Rattle.canoffice_cli.specs.Migrated.{IsMigrated}
 
 -- what is known stays known where nothing is done
 pub kept_same : (known : Databases) → AreKept known known
-kept_same known = record { holds = λ path h holds. holds; holds_in_form = λ path h holds. holds; is_new = λ path new. new }
+kept_same known = record {
+  holds = λ path h holds. holds;
+  holds_in_form = λ path h holds. holds;
+  is_new =
+      λ path new. new;
+}
 
 pub ok_of : {A E : Type 0} (P : A → Type 0) (r : Result A E) (x : A) → r ≡ Ok x → IfOk r P → P x
 ok_of P r x is h = subst (λ q. IfOk q P) is h
@@ -43,74 +49,102 @@ held_or_none P Q (Ok x) h = inl h
 held_or_none P Q (Err e) h = tt
 
 -- nothing was answered, since the database was not opened
-pub none_reported : (known : Databases) (path : List ℕ) (reported : List Answered) (lost : Option Lost) → reported ≡ [] → IsSome lost → InDatabase known known path reported lost
+pub none_reported : (known : Databases) (path : List ℕ) (reported : List Answered) (lost : Option Lost) → reported ≡ []
+    → IsSome lost → InDatabase known known path reported lost
 none_reported known path reported lost none some = record {
   held = λ h holds sound. subst (known.holds path) (sym (ap (λ t. h ++ t) none ∙ append-nil h)) holds;
   made = λ new sound. inr (some, none);
 }
 
 -- the connection as it was opened and as it was closed
-module _ (before after : Databases) (path : List ℕ) (begin end : State) (opened_held : HasCleanDisk begin → (h : List Answered) → before.holds path h → Holding h begin)
-    (opened_none : HasCleanDisk begin → before.is_new path → HasNone begin) (doubts : doubt begin.is_clean ≤ doubt end.is_clean)
-    (closed_sound : after.is_sound → HasCleanDisk end × IsTrue end.is_open) (closed_held : after.is_sound → (h : List Answered) → Holding h end → after.holds path h) where
+module _ (before after : Databases) (path : List ℕ) (begin end : State)
+    (opened_held : HasCleanDisk begin → (h : List Answered) → before.holds path h → Holding h begin)
+    (opened_none : HasCleanDisk begin → before.is_new path → HasNone begin)
+    (doubts : doubt begin.is_clean ≤ doubt end.is_clean)
+    (closed_sound : after.is_sound → HasCleanDisk end × IsTrue end.is_open)
+    (closed_held : after.is_sound → (h : List Answered) → Holding h end → after.holds path h) where
   early : after.is_sound → HasCleanDisk begin
   early sound = let clean = (closed_sound sound).0 in omega (arith, doubts, clean)
 
   -- the history that was held goes on
-  pub reported_in : (reported : List Answered) (lost : Option Lost) → (HasCleanDisk end → IsTrue end.is_open → (h : List Answered) → Holding h begin → Holding (h ++ reported) end)
-      → (HasCleanDisk end → IsTrue end.is_open → (h : List Answered) → Begins h begin → Holding (h ++ reported) end ⊎ (IsSome lost × (reported ≡ []))) → InDatabase before after path reported lost
+  pub reported_in : (reported : List Answered) (lost : Option Lost)
+      → (HasCleanDisk end → (h : List Answered) → Holding h begin → IsTrue end.is_open → Holding (h ++ reported) end)
+      → (HasCleanDisk end → (h : List Answered) → Begins h begin → IsTrue end.is_open → Holding (h ++ reported) end
+      ⊎ (IsSome lost × (reported ≡ []))) → InDatabase before after path reported lost
   reported_in reported lost held begun = record {
-    held = λ h holds sound. let s = closed_sound sound in closed_held sound (h ++ reported) (held s.0 s.1 h (opened_held (early sound) h holds));
-    made = λ new sound. let s = closed_sound sound in elim (begun s.0 s.1 [] (inr (refl, opened_none (early sound) new))) [
-      | inl holding ↦ inl (closed_held sound reported holding)
-      | inr none ↦ inr none
-    ];
+    held = λ h holds sound. let s = closed_sound sound in
+        closed_held sound (h ++ reported) (held s.0 h (opened_held (early sound) h holds) s.1);
+    made = λ new sound. let s = closed_sound sound in
+        elim (begun s.0 [] (inr (refl, opened_none (early sound) new)) s.1) [
+          | inl holding ↦ inl (closed_held sound reported holding)
+          | inr none ↦ inr none
+        ];
   }
 
   -- nothing was shown, and what was held is
-  pub looked_lost : (question : Look) (lost : Lost) → (HasCleanDisk end → IsTrue end.is_open → (h : List Answered) → Holding h begin → Holding h end) → IsLookedUp before after path question (Err lost)
-  looked_lost question lost held = record {
+  pub looked_lost : (look : Look) (lost : Lost)
+      → (HasCleanDisk end → (h : List Answered) → Holding h begin → IsTrue end.is_open → Holding h end)
+      → IsLookedUp before after path look (Err lost)
+  looked_lost look lost held = record {
     of_held = λ h office holds legal sound. tt;
     of_new = λ office new legal sound. tt;
-    held = λ h holds sound. let s = closed_sound sound in closed_held sound h (held s.0 s.1 h (opened_held (early sound) h holds));
+    held = λ h holds sound. let s = closed_sound sound in
+        closed_held sound h (held s.0 h (opened_held (early sound) h holds) s.1);
     made = λ new sound. tt;
   }
 
   -- this was shown
-  pub looked_up : (question : Look) (shown : Option (List ℕ)) → (HasCleanDisk end → (h : List Answered) (office : Office) → Begins h begin → IsLegal h office → IsShown office question shown)
-      → (HasCleanDisk end → (h : List Answered) → Begins h begin → Holding h end) → IsLookedUp before after path question (Ok shown)
-  looked_up question shown shows begun = record {
-    of_held = λ h office holds legal sound. shows (closed_sound sound).0 h office (inl (opened_held (early sound) h holds)) legal;
-    of_new = λ office new legal sound. shows (closed_sound sound).0 [] office (inr (refl, opened_none (early sound) new)) legal;
-    held = λ h holds sound. closed_held sound h (begun (closed_sound sound).0 h (inl (opened_held (early sound) h holds)));
-    made = λ new sound. closed_held sound [] (begun (closed_sound sound).0 [] (inr (refl, opened_none (early sound) new)));
+  pub looked_up : (look : Look) (shown : Option (List ℕ))
+      → (HasCleanDisk end → (h : List Answered) → Begins h begin → (office : Office) → IsLegal h office
+      → IsShown office look shown)
+      → (HasCleanDisk end → (h : List Answered) → Begins h begin → Holding h end)
+      → IsLookedUp before after path look (Ok shown)
+  looked_up look shown shows begun = record {
+    of_held = λ h office holds legal sound. shows (closed_sound sound).0 h (inl (opened_held (early sound) h holds))
+        office legal;
+    of_new = λ office new legal sound. shows (closed_sound sound).0 [] (inr (refl, opened_none (early sound) new))
+        office legal;
+    held = λ h holds sound. closed_held sound h
+        (begun (closed_sound sound).0 h (inl (opened_held (early sound) h holds)));
+    made = λ new sound. closed_held sound []
+        (begun (closed_sound sound).0 [] (inr (refl, opened_none (early sound) new)));
   }
 
   -- this was shown, or the call was lost
-  pub looked : {A : Type 0} (text_of : A → Option (List ℕ)) (question : Look) (shown : Result A Lost)
-      → (HasCleanDisk end → (h : List Answered) (office : Office) → Begins h begin → IsLegal h office → IfOk shown (λ x. IsShown office question (text_of x)))
-      → (HasCleanDisk end → IsTrue end.is_open → (h : List Answered) → Holding h begin → Holding h end) → (HasCleanDisk end → (h : List Answered) → Begins h begin → OnOk shown (Holding h end))
-      → IsLookedUp before after path question (result_map_both text_of (λ lost. lost) shown)
-  looked text_of question (Ok x) shows held begun = looked_up question (text_of x) shows begun
-  looked text_of question (Err lost) shows held begun = looked_lost question lost held
+  pub looked : {A : Type 0} (text_of : A → Option (List ℕ)) (look : Look) (shown : Result A Lost)
+      → (HasCleanDisk end → (h : List Answered) → Begins h begin → (office : Office) → IsLegal h office
+      → IfOk shown (λ x. IsShown office look (text_of x)))
+      → (HasCleanDisk end → (h : List Answered) → Holding h begin → IsTrue end.is_open → Holding h end)
+      → (HasCleanDisk end → (h : List Answered) → Begins h begin → OnOk shown (Holding h end))
+      → IsLookedUp before after path look (result_map_both text_of (λ lost. lost) shown)
+  looked text_of look (Ok x) shows held begun = looked_up look (text_of x) shows begun
+  looked text_of look (Err lost) shows held begun = looked_lost look lost held
 
   -- the tables were made those of this version, or were left
   pub migrated_at : (HasCleanDisk begin → (h : List Answered) → before.holds_in_form path h → HoldingInSomeForm h begin)
-      → (after.is_sound → (h : List Answered) → HoldingInSomeForm h end → after.holds_in_form path h) → (done : Result ⊤ Lost)
+      → (after.is_sound → (h : List Answered) → HoldingInSomeForm h end → after.holds_in_form path h)
+      → (done : Result ⊤ Lost)
       → (HasCleanDisk end → (h : List Answered) → HoldingInSomeForm h begin → OnOk done (Holding h end))
-      → (HasCleanDisk end → IsTrue end.is_open → (h : List Answered) → HoldingInSomeForm h begin → OnErr done (HoldingInSomeForm h end))
-      → (HasCleanDisk end → IsTrue end.is_open → (h : List Answered) → Holding h begin → Holding h end) → (HasCleanDisk end → HasNone begin → OnOk done (Holding [] end))
+      → (HasCleanDisk end → (h : List Answered) → HoldingInSomeForm h begin → IsTrue end.is_open
+      → OnErr done (HoldingInSomeForm h end))
+      → (HasCleanDisk end → (h : List Answered) → Holding h begin → IsTrue end.is_open → Holding h end)
+      → (HasCleanDisk end → HasNone begin → OnOk done (Holding [] end))
       → IsMigrated before after path done
   migrated_at opened_form closed_form done carried left held made = record {
-    carried = λ h holds sound. on_ok_weaker done (closed_held sound h) (carried (closed_sound sound).0 h (opened_form (early sound) h holds));
-    left = λ h holds sound. let s = closed_sound sound in on_err_weaker done (closed_form sound h) (left s.0 s.1 h (opened_form (early sound) h holds));
-    held = λ h holds sound. let s = closed_sound sound in closed_held sound h (held s.0 s.1 h (opened_held (early sound) h holds));
-    made = λ new sound. on_ok_weaker done (closed_held sound []) (made (closed_sound sound).0 (opened_none (early sound) new));
+    carried = λ h holds sound. on_ok_weaker done (closed_held sound h)
+        (carried (closed_sound sound).0 h (opened_form (early sound) h holds));
+    left = λ h holds sound. let s = closed_sound sound in
+        on_err_weaker done (closed_form sound h) (left s.0 h (opened_form (early sound) h holds) s.1);
+    held = λ h holds sound. let s = closed_sound sound in
+        closed_held sound h (held s.0 h (opened_held (early sound) h holds) s.1);
+    made = λ new sound. on_ok_weaker done (closed_held sound [])
+        (made (closed_sound sound).0 (opened_none (early sound) new));
   }
 
 -- a database that was not opened
-pub not_opened : (known : Databases) (path : List ℕ) (question : Look) (lost : Lost) → IsLookedUp known known path question (Err lost)
-not_opened known path question lost = record {
+pub not_opened : (known : Databases) (path : List ℕ) (look : Look) (lost : Lost)
+    → IsLookedUp known known path look (Err lost)
+not_opened known path look lost = record {
   of_held = λ h office holds legal sound. tt;
   of_new = λ office new legal sound. tt;
   held = λ h holds sound. holds;
@@ -119,11 +153,13 @@ not_opened known path question lost = record {
 
 -- databases of which nothing is known
 
-pub nothing_reported : (path : List ℕ) (reported : List Answered) (lost : Option Lost) → InDatabase nothing_known nothing_known path reported lost
+pub nothing_reported : (path : List ℕ) (reported : List Answered) (lost : Option Lost)
+    → InDatabase nothing_known nothing_known path reported lost
 nothing_reported path reported lost = record { held = λ h holds sound. absurd holds; made = λ new sound. absurd new }
 
-pub nothing_looked_up : (path : List ℕ) (question : Look) (shown : Result (Option (List ℕ)) Lost) → IsLookedUp nothing_known nothing_known path question shown
-nothing_looked_up path question shown = record {
+pub nothing_looked_up : (path : List ℕ) (look : Look) (shown : Result (Option (List ℕ)) Lost)
+    → IsLookedUp nothing_known nothing_known path look shown
+nothing_looked_up path look shown = record {
   of_held = λ h office holds legal sound. absurd holds;
   of_new = λ office new legal sound. absurd new;
   held = λ h holds sound. absurd holds;

@@ -7,5 +7,6 @@ use Rattle.dbc_read.specs.Passed.{start_and_keyword}
 use Rattle.dbc_read.specs.declared.passed.Passed.{Passed}
 
 -- the line of each, by its offset and its keyword
-pub each_passed : (passed : List Passed) → passed_lines (map start_and_keyword passed) ≡ flat_map (λ p. passed_line (start_and_keyword p)) passed
+pub each_passed : (passed : List Passed)
+    → passed_lines (map start_and_keyword passed) ≡ flat_map (λ p. passed_line (start_and_keyword p)) passed
 each_passed passed = flat_map-map passed_line start_and_keyword passed

@@ -10,8 +10,12 @@ use Rattle.office_script.specs.Files.{Files, Holding}
 use Rattle.canoffice_cli.specs.Databases.{Databases}
 use Rattle.canoffice_cli.specs.Performance.{IsAnswered, IsPerformed}
 
-pub performed : (words : List (List ℕ)) (files : Files) (input : Holding) (before after : Databases) (output errors : Writing) (status : Status) (answer : Result Report AllocError)
-    → IfOk answer (λ report. IsAnswered words files input before after (outcome_of report)) → IsDelivered (final_outcome answer) output errors status
+pub performed : (words : List (List ℕ)) (files : Files) (input : Holding) (before after : Databases)
+    (output errors : Writing) (status : Status) (answer : Result Report AllocError)
+    → IfOk answer (λ report. IsAnswered words files input before after (outcome_of report))
+    → IsDelivered (final_outcome answer) output errors status
     → IsPerformed words files input before after output errors status
-performed words files input before after output errors status (Ok report) answered delivered = (outcome_of report, inr answered, delivered)
-performed words files input before after output errors status (Err lost) answered delivered = (memory_lost, inl refl, delivered)
+performed words files input before after output errors status (Ok report) answered delivered =
+    (outcome_of report, inr answered, delivered)
+performed words files input before after output errors status (Err lost) answered delivered =
+    (memory_lost, inl refl, delivered)

@@ -1,5 +1,6 @@
 -- Arrivals with their answers, and the histories that go on with them.
-use Rattle.std.proofs.Common.{◌≡◌, ◌+◌, ◌≤◌, ◌<◌, ℕ, zero, suc, inl, inr, List, [], ◌∷◌, ◌++◌, length, take, refl, sym, ap, subst, ◌∙◌, arith, append_assoc, append-nil}
+use Rattle.std.proofs.Common.{◌≡◌, ◌+◌, ◌≤◌, ◌<◌, ℕ, zero, suc, inl, inr, List, [], ◌∷◌, ◌++◌, length, take, refl, sym}
+use Rattle.std.proofs.Common.{ap, subst, ◌∙◌, arith, append_assoc, append-nil}
 use Rattle.std.specs.Prelude.{IsTrue}
 use Rattle.sqlite.specs.State.{State}
 use Rattle.office_history.specs.Answering.{reported}
@@ -9,16 +10,18 @@ use Rattle.office_history.specs.History.{Answered, IsLegalHistory}
 use Rattle.office_history.specs.Laws.{HistoriesGrow}
 use Rattle.store.specs.Holding.{Holding, Keeps}
 use Rattle.store.specs.Opening.{HasNone, HasOffice, HoldingInSomeForm, KeepsInSomeForm}
-use Rattle.store.proofs.InForm.{has_office, office_in_form}
+use Rattle.store.proofs.TablesInForm.{has_office, office_in_form}
 use Rattle.canoffice_cli.specs.Answered.{answered_with}
 use Rattle.canoffice_cli.specs.Databases.{Begins}
 
 -- one more arrival, with its answer
-reported_more : (xs : List Arrival) (ys : List Answer) (a : Arrival) (answer : Answer) → length ys ≡ length xs → answered_with (xs ++ a ∷ []) (ys ++ answer ∷ []) ≡ answered_with xs ys ++ reported a answer ∷ []
+reported_more : (xs : List Arrival) (ys : List Answer) (a : Arrival) (answer : Answer) → length ys ≡ length xs
+    → answered_with (xs ++ a ∷ []) (ys ++ answer ∷ []) ≡ answered_with xs ys ++ reported a answer ∷ []
 reported_more [] [] a answer each = refl
 reported_more [] (y ∷ ys) a answer each = absurd (omega (arith, each))
 reported_more (x ∷ xs) [] a answer each = absurd (omega (arith, each))
-reported_more (x ∷ xs) (y ∷ ys) a answer each = ap (◌∷◌ (reported x y)) (reported_more xs ys a answer (omega (arith, each)))
+reported_more (x ∷ xs) (y ∷ ys) a answer each =
+    ap (◌∷◌ (reported x y)) (reported_more xs ys a answer (omega (arith, each)))
 
 -- only as many arrivals count as there are answers
 reported_first : (xs : List Arrival) (ys : List Answer) → answered_with (take (length ys) xs) ys ≡ answered_with xs ys
@@ -33,16 +36,21 @@ reported_none [] = refl
 reported_none (x ∷ xs) = refl
 
 -- the history, with the answers so far, and one more
-pub history_more : (h : List Answered) (xs : List Arrival) (ys : List Answer) (a : Arrival) (answer : Answer) → length ys ≡ length xs
+pub history_more : (h : List Answered) (xs : List Arrival) (ys : List Answer) (a : Arrival) (answer : Answer)
+    → length ys ≡ length xs
     → (h ++ answered_with xs ys) ++ reported a answer ∷ [] ≡ h ++ answered_with (xs ++ a ∷ []) (ys ++ answer ∷ [])
-history_more h xs ys a answer each = append_assoc h (answered_with xs ys) (reported a answer ∷ []) ∙ ap (λ l. h ++ l) (sym (reported_more xs ys a answer each))
+history_more h xs ys a answer each = append_assoc h (answered_with xs ys) (reported a answer ∷ [])
+    ∙ ap (λ l. h ++ l) (sym (reported_more xs ys a answer each))
 
 -- as many answers as arrivals that came
-pub history_so_far : (h : List Answered) (xs : List Arrival) (ys : List Answer) (at : ℕ) → length ys ≡ at → h ++ answered_with (take at xs) ys ≡ h ++ answered_with xs ys
-history_so_far h xs ys at each = ap (λ l. h ++ l) (ap (λ n. answered_with (take n xs) ys) (sym each) ∙ reported_first xs ys)
+pub history_so_far : (h : List Answered) (xs : List Arrival) (ys : List Answer) (at : ℕ) → length ys ≡ at
+    → h ++ answered_with (take at xs) ys ≡ h ++ answered_with xs ys
+history_so_far h xs ys at each =
+    ap (λ l. h ++ l) (ap (λ n. answered_with (take n xs) ys) (sym each) ∙ reported_first xs ys)
 
 -- nothing was answered yet
-pub history_at_first : (h : List Answered) (xs : List Arrival) (ys : List Answer) → ys ≡ [] → h ≡ h ++ answered_with xs ys
+pub history_at_first : (h : List Answered) (xs : List Arrival) (ys : List Answer) → ys ≡ []
+    → h ≡ h ++ answered_with xs ys
 history_at_first h xs ys none = sym (ap (λ l. h ++ l) (ap (answered_with xs) none ∙ reported_none xs) ∙ append-nil h)
 
 -- what tables hold is a legal history
@@ -55,22 +63,28 @@ begun_is_legal grow h s (inl holding) = held_is_legal h s holding
 begun_is_legal grow h s (inr new) = subst IsLegalHistory (sym new.0) (_, grow.begins)
 
 -- an office that was opened holds the history with which it begins
-pub begins_held : (old new : State) → (HasNone old → Holding [] new) → ((h : List Answered) → Holding h old → Holding h new) → (h : List Answered) → Begins h old → Holding h new
+pub begins_held : (old new : State) → (HasNone old → Holding [] new)
+    → ((h : List Answered) → Holding h old → Holding h new) → (h : List Answered) → Begins h old → Holding h new
 begins_held old new made held h (inl holding) = held h holding
 begins_held old new made held h (inr none) = subst (λ k. Holding k new) (sym none.0) (made none.1)
 
 -- where opening is lost, what was last committed is shown still
-pub still_held : (old new : State) → (IsTrue old.is_open → old.now ≡ old.committed) → (IsTrue new.is_open → new.now ≡ new.committed)
-    → (HasOffice old → IsTrue new.is_open → new.committed ≡ old.committed) → IsTrue new.is_open → (h : List Answered) → Holding h old → Holding h new
+pub still_held : (old new : State) → (IsTrue old.is_open → old.now ≡ old.committed)
+    → (IsTrue new.is_open → new.now ≡ new.committed)
+    → (HasOffice old → IsTrue new.is_open → new.committed ≡ old.committed) → IsTrue new.is_open → (h : List Answered)
+    → Holding h old → Holding h new
 still_held old new settled_old settled_new back opened h holding =
     let office : HasOffice old = has_office old (record { is_open = holding.is_open; office = holding.keeps.office }) in
     let same : new.now ≡ old.now = settled_new opened ∙ back office opened ∙ sym (settled_old holding.is_open) in
     record { is_open = opened; keeps = subst (λ db. Keeps h db.trees) (sym same) holding.keeps }
 
-pub still_in_form : (old new : State) → (IsTrue old.is_open → old.now ≡ old.committed) → (IsTrue new.is_open → new.now ≡ new.committed)
-    → (HasOffice old → IsTrue new.is_open → new.committed ≡ old.committed) → IsTrue new.is_open → (h : List Answered) → HoldingInSomeForm h old → HoldingInSomeForm h new
+pub still_in_form : (old new : State) → (IsTrue old.is_open → old.now ≡ old.committed)
+    → (IsTrue new.is_open → new.now ≡ new.committed)
+    → (HasOffice old → IsTrue new.is_open → new.committed ≡ old.committed) → IsTrue new.is_open → (h : List Answered)
+    → HoldingInSomeForm h old → HoldingInSomeForm h new
 still_in_form old new settled_old settled_new back opened h holding =
-    let same : new.now ≡ old.now = settled_new opened ∙ back (office_in_form h old holding) opened ∙ sym (settled_old holding.is_open) in
+    let same : new.now ≡ old.now = settled_new opened ∙ back (office_in_form h old holding) opened
+    ∙ sym (settled_old holding.is_open) in
     record { is_open = opened; keeps = subst (λ db. KeepsInSomeForm h db.trees) (sym same) holding.keeps }
 
 length_first : (k : ℕ) (xs : List Arrival) → k ≤ length xs → length (take k xs) ≡ k
@@ -79,8 +93,10 @@ length_first (suc k) [] within = absurd (omega (arith, within))
 length_first (suc k) (x ∷ xs) within = ap suc (length_first k xs (omega (arith, within)))
 
 -- one arrival more was answered
-pub reported_next : (P : List Answered → Type 0) (h : List Answered) (arrivals : List Arrival) (at : ℕ) (ys ys2 : List Answer) (item : Arrival) (answer : Answer) → at < length arrivals
-    → take (at + 1) arrivals ≡ take at arrivals ++ item ∷ [] → length ys ≡ at → ys2 ≡ ys ++ answer ∷ [] → P ((h ++ answered_with (take at arrivals) ys) ++ reported item answer ∷ [])
+pub reported_next : (P : List Answered → Type 0) (h : List Answered) (arrivals : List Arrival) (at : ℕ)
+    (ys ys2 : List Answer) (item : Arrival) (answer : Answer) → at < length arrivals
+    → take (at + 1) arrivals ≡ take at arrivals ++ item ∷ [] → length ys ≡ at → ys2 ≡ ys ++ answer ∷ []
+    → P ((h ++ answered_with (take at arrivals) ys) ++ reported item answer ∷ [])
     → P (h ++ answered_with (take (at + 1) arrivals) ys2)
 reported_next P h arrivals at ys ys2 item answer within next each more holds =
     let first : length ys ≡ length (take at arrivals) = each ∙ sym (length_first at arrivals (omega (arith, within))) in

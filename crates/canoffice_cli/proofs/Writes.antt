@@ -9,10 +9,16 @@ use Rattle.canoffice_cli.specs.Delivery.{IsCut}
 module _ (old mid new : Option (List ℕ)) (text : List ℕ) (at : ℕ) (before : Appends old mid (take at text)) where
   -- after the prefix, the next bytes of the text
   pub written_on : (count : ℕ) → Appends mid new (take count (drop at text)) → Appends old new (take (at + count) text)
-  written_on count more = subst (Appends old new) (sym (take-add at count text)) (Appends-trans old mid new _ _ before more)
+  written_on count more = subst (Appends old new) (sym (take-add at count text))
+      (Appends-trans old mid new _ _ before more)
 
   pub cut_on : (count : ℕ) → Appends mid new (take count (drop at text)) → IsCut (old, new) text
-  cut_on count more = (take (at + count) text, drop (at + count) text, sym (take-append-drop (at + count) text), written_on count more)
+  cut_on count more = (
+    take (at + count) text,
+    drop (at + count) text,
+    sym (take-append-drop (at + count) text),
+    written_on count more,
+  )
 
   -- after the prefix, nothing more
   pub cut_here : Keeps mid new → IsCut (old, new) text

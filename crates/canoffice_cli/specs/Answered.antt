@@ -38,13 +38,14 @@ answered_with arrivals answers = answered_of arrivals (map Ok answers)
 
 -- The arrivals were answered in turn, up to the first that was lost, and the answers are printed, a line each, and then
 -- why it was lost. What was answered goes on with the history as `GoesOn` says.
-pub record AreAnswered (GoesOn : List Answered → Option Lost → Type 0) (arrivals : List Arrival) (o : Outcome) : Type 0 where
-  pub answers : List Answer
-  pub lost : Option Lost
-  pub some : length answers ≤ length arrivals
-  pub all : lost ≡ None → length answers ≡ length arrivals
-  pub outcome : o ≡ answers_outcome answers lost
-  pub goes_on : GoesOn (answered_with arrivals answers) lost
+pub record AreAnswered (GoesOn : List Answered → Option Lost → Type 0) (arrivals : List Arrival) (o : Outcome) : Type 0
+  where
+    pub answers : List Answer
+    pub lost : Option Lost
+    pub some : length answers ≤ length arrivals
+    pub all : lost ≡ None → length answers ≡ length arrivals
+    pub outcome : o ≡ answers_outcome answers lost
+    pub goes_on : GoesOn (answered_with arrivals answers) lost
 
 -- in memory: what was answered is a legal history
 abbrev pub InMemory : List Answered → Option Lost → Type 0
@@ -52,6 +53,7 @@ InMemory reported lost = IsLegalHistory reported
 
 -- In the database of the path: the tables hold the history that they held, followed by what was answered. New tables
 -- hold what was answered, or nothing was.
-pub record InDatabase (before after : Databases) (path : List ℕ) (reported : List Answered) (lost : Option Lost) : Type 0 where
+pub record InDatabase (before after : Databases) (path : List ℕ) (reported : List Answered) (lost : Option Lost) : Type
+    0 where
   pub held : (h : List Answered) → before.holds path h → after.is_sound → after.holds path (h ++ reported)
   pub made : before.is_new path → after.is_sound → after.holds path reported ⊎ (IsSome lost × (reported ≡ []))

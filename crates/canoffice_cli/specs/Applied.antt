@@ -19,7 +19,8 @@ use Rattle.canoffice_cli.specs.Outcome.{Outcome, unreadable, wrong_line}
 abbrev pub IsAmiss : Files → Dash → List ℕ → Outcome → Type 0
 IsAmiss files dash script o =
     ((number : ℕ) × IsFirstAmiss files dash (IsWrong files dash) (lines_of script) number × (o ≡ wrong_line number))
-    ⊎ ((path : List ℕ) × (number : ℕ) × IsFirstAmiss files dash (NamesUnreadable files dash path) (lines_of script) number × (o ≡ unreadable path))
+    ⊎ ((path : List ℕ) × (number : ℕ) × IsFirstAmiss files dash (NamesUnreadable files dash path) (lines_of script)
+    number × (o ≡ unreadable path))
 
 -- what is reported of a fault; out of memory has a report of its own
 abbrev pub Reports : ScriptFault → Outcome → Type 0
@@ -36,5 +37,7 @@ IsScriptOutcome files dash GoesOn NothingDone script o =
 -- The script is applied to a new office in memory, and nothing else is done. Or it is applied to the office in the
 -- database of the path; then `-` is no key.
 abbrev pub IsApplyOutcome : Files → Option (List ℕ) → Databases → Databases → List ℕ → Outcome → Type 0
-IsApplyOutcome files None before after script o = IsScriptOutcome files LineNumber InMemory ⊤ script o × AreKept before after
-IsApplyOutcome files (Some path) before after script o = IsScriptOutcome files Wrong (InDatabase before after path) (AreKept before after) script o
+IsApplyOutcome files None before after script o = IsScriptOutcome files LineNumber InMemory ⊤ script o
+    × AreKept before after
+IsApplyOutcome files (Some path) before after script o =
+    IsScriptOutcome files Wrong (InDatabase before after path) (AreKept before after) script o

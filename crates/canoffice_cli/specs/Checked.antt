@@ -1,15 +1,15 @@
 -- The outcome of checking a DBC text.
 use Rattle.std.specs.Prelude.{◌≡◌, ◌⊎◌, ◌++◌, ℕ, List, [], Some, codes, decimal, length}
 use Rattle.std.specs.List.{flat_map}
-use Rattle.catalogue.specs.Fault.{code_name, code_number, message_about}
-use Rattle.catalogue.specs.Keyword.{keyword_text}
+use Rattle.dbc_words.specs.Fault.{code_name, code_number, message_about}
+use Rattle.dbc_words.specs.Keyword.{keyword_text}
+use Rattle.dbc_words.specs.declared.fault.SheetCode.{SheetCode}
+use Rattle.dbc_words.specs.declared.fault.SheetFault.{SheetFault}
+use Rattle.dbc_words.specs.declared.keyword.Keyword.{Keyword}
 use Rattle.dbc_grammar.specs.Reads.{ReadsAs}
-use Rattle.catalogue.specs.Sheet.{IsClearSheet, IsFirstFault}
-use Rattle.catalogue.specs.declared.fault.SheetCode.{SheetCode}
-use Rattle.catalogue.specs.declared.fault.SheetFault.{SheetFault}
-use Rattle.catalogue.specs.declared.keyword.Keyword.{Keyword}
-use Rattle.catalogue.specs.declared.sheet.Sheet.{Sheet}
-use Rattle.views.specs.Table.{signal_count}
+use Rattle.dbc_sheet.specs.Sheet.{IsClearSheet, IsFirstFault}
+use Rattle.dbc_sheet.specs.declared.sheet.Sheet.{Sheet}
+use Rattle.office_views.specs.Table.{signal_count}
 use Rattle.dbc_lex.specs.Fault as reading
 use Rattle.dbc_lex.specs.declared.fault.ReadFault.{ReadFault}
 use Rattle.dbc_read.specs.Reading.{IsReadFault}
@@ -29,17 +29,20 @@ passed_lines passed = flat_map passed_line passed
 
 -- `ok MESSAGES SIGNALS`: how many there are
 abbrev pub clear_line : Sheet → List ℕ
-clear_line s = codes "ok " ++ (decimal (length s.messages) ++ (codes " " ++ (decimal (signal_count s.messages) ++ codes "\n")))
+clear_line s = codes "ok "
+    ++ (decimal (length s.messages) ++ (codes " " ++ (decimal (signal_count s.messages) ++ codes "\n")))
 
 -- `unclear CODE NAME NUMBER`: the code of the fault, and the DBC number of the message
 abbrev pub unclear_line : SheetCode → ℕ → List ℕ
 unclear_line code number =
-    codes "unclear " ++ (decimal (code_number code) ++ (codes " " ++ (code_name code ++ (codes " " ++ (decimal number ++ codes "\n")))))
+    codes "unclear " ++ (decimal (code_number code)
+    ++ (codes " " ++ (code_name code ++ (codes " " ++ (decimal number ++ codes "\n")))))
 
 -- `fault CODE NAME AT`: the fault, and its offset
 abbrev pub fault_line : ReadFault → List ℕ
 fault_line fault =
-    codes "fault " ++ (decimal (reading.code_number fault.code) ++ (codes " " ++ (reading.code_name fault.code ++ (codes " " ++ (decimal fault.at ++ codes "\n")))))
+    codes "fault " ++ (decimal (reading.code_number fault.code)
+    ++ (codes " " ++ (reading.code_name fault.code ++ (codes " " ++ (decimal fault.at ++ codes "\n")))))
 
 -- ---- the outcome
 

@@ -1,14 +1,16 @@
 -- The command line of the program, which job its words request, and which fault they have.
-use Rattle.std.specs.Prelude.{◌≡◌, ◌≢◌, ◌⊎◌, ℕ, Bool, List, [], ◌∷◌, find, map, codes, Option, Some, None, option_map, true, false, Result, Ok, Err}
+use Rattle.std.specs.Prelude.{◌≡◌, ◌≢◌, ◌⊎◌, ℕ, Bool, List, [], ◌∷◌, find, map, codes, Option, Some, None, option_map}
+use Rattle.std.specs.Prelude.{true, false, Result, Ok, Err}
 use Rattle.std.specs.Option.{option_and_then, option_map_or}
 use Rattle.std.specs.Str.{bytes_eq}
 use Rattle.clap.specs.Lexer.{usize_max}
-use Rattle.clap.specs.Words.{App, Shape, IsAmong, Kinds, Row, Rule, Text, all_of, fault_of, first_of, new_app, new_rule, subcommand_of, with_rule, with_subcommand}
+use Rattle.clap.specs.Words.{App, Shape, IsAmong, Kinds, Row, Rule, Text, all_of, fault_of, first_of, new_app, new_rule}
+use Rattle.clap.specs.Words.{subcommand_of, with_rule, with_subcommand}
 use Rattle.clap.specs.Simple.{on_top}
 use Rattle.clap.specs.declared.builder.action.ArgAction.TheVariants.{SetTrue}
 use Rattle.clap.specs.declared.error.kind.ErrorKind.{ErrorKind}
 use Rattle.clap.specs.declared.error.kind.ErrorKind.TheVariants.{DisplayHelp, DisplayVersion, OutOfMemory}
-use Rattle.views.specs.Word.{length_of}
+use Rattle.office_views.specs.Word.{length_of}
 use Rattle.canoffice_cli.specs.declared.job.Job.{Job}
 use Rattle.canoffice_cli.specs.declared.job.Job.TheVariants.{Apply, Chart, Check, Export, Format, Migrate, Serve, Table}
 use Rattle.canoffice_cli.specs.declared.job.JobFault.{JobFault}
@@ -25,7 +27,8 @@ required_word id = record (new_rule id) { required = true }
 
 -- a required positional argument that takes all further words, at least one
 abbrev pub required_words : Text → Rule
-required_words id = record (required_word id) { range = Some (record { start_inclusive = 1; end_inclusive = usize_max }) }
+required_words id = record (required_word id)
+    { range = Some (record { start_inclusive = 1; end_inclusive = usize_max }) }
 
 -- an option `--id VALUE`
 abbrev pub option_word : Text → Rule
@@ -41,11 +44,13 @@ explain_flag = record (new_rule (codes "explain")) { long = Some (codes "explain
 
 -- apply [--db FILE] [--explain] SCRIPT
 abbrev pub apply_app : App
-apply_app = with_rule (with_rule (with_rule (new_app (codes "apply")) (option_word (codes "db"))) explain_flag) (required_word (codes "SCRIPT"))
+apply_app = with_rule (with_rule (with_rule (new_app (codes "apply")) (option_word (codes "db"))) explain_flag)
+    (required_word (codes "SCRIPT"))
 
 -- chart LENGTH SIGNAL..
 abbrev pub chart_app : App
-chart_app = with_rule (with_rule (new_app (codes "chart")) (required_word (codes "LENGTH"))) (required_words (codes "SIGNAL"))
+chart_app = with_rule (with_rule (new_app (codes "chart")) (required_word (codes "LENGTH")))
+    (required_words (codes "SIGNAL"))
 
 -- check [--explain] FILE
 abbrev pub check_app : App
@@ -53,7 +58,8 @@ check_app = with_rule (with_rule (new_app (codes "check")) explain_flag) (requir
 
 -- export --db FILE NET N
 abbrev pub export_app : App
-export_app = with_rule (with_rule (with_rule (new_app (codes "export")) (required_option (codes "db"))) (required_word (codes "NET"))) (required_word (codes "N"))
+export_app = with_rule (with_rule (with_rule (new_app (codes "export")) (required_option (codes "db")))
+    (required_word (codes "NET"))) (required_word (codes "N"))
 
 -- format [--explain] FILE
 abbrev pub format_app : App
@@ -65,7 +71,8 @@ migrate_app = with_rule (new_app (codes "migrate")) (required_option (codes "db"
 
 -- serve --db FILE [--port N] [--count N]
 abbrev pub serve_app : App
-serve_app = with_rule (with_rule (with_rule (new_app (codes "serve")) (required_option (codes "db"))) (option_word (codes "port"))) (option_word (codes "count"))
+serve_app = with_rule (with_rule (with_rule (new_app (codes "serve")) (required_option (codes "db")))
+    (option_word (codes "port"))) (option_word (codes "count"))
 
 -- table FILE
 abbrev pub table_app : App
@@ -112,19 +119,24 @@ is_set rows id = option_map_or (λ value. bytes_eq value (codes "true")) (first_
 -- the job is the subcommand, with the values of its arguments, and the numbers that they give
 abbrev pub IsJobOf : Job → Text → List Row → Type 0
 IsJobOf (Apply database script explain) name rows =
-    (name ≡ codes "apply") × (first_of (codes "db") rows ≡ option_map (λ path. path.now) database) × HasValue rows (codes "SCRIPT") script.now
+    (name ≡ codes "apply") × (first_of (codes "db") rows ≡ option_map (λ path. path.now) database)
+    × HasValue rows (codes "SCRIPT") script.now
     × (explain ≡ is_set rows (codes "explain"))
 IsJobOf (Chart length signals) name rows =
-    (name ≡ codes "chart") × (option_and_then length_of (first_of (codes "LENGTH") rows) ≡ Some length) × HasValues rows (codes "SIGNAL") (map (λ s. s.now) signals.items)
-IsJobOf (Check file explain) name rows = (name ≡ codes "check") × HasValue rows (codes "FILE") file.now × (explain ≡ is_set rows (codes "explain"))
+    (name ≡ codes "chart") × (option_and_then length_of (first_of (codes "LENGTH") rows) ≡ Some length)
+    × HasValues rows (codes "SIGNAL") (map (λ s. s.now) signals.items)
+IsJobOf (Check file explain) name rows = (name ≡ codes "check") × HasValue rows (codes "FILE") file.now
+    × (explain ≡ is_set rows (codes "explain"))
 IsJobOf (Export database net number) name rows =
     (name ≡ codes "export") × HasValue rows (codes "db") database.now × HasValue rows (codes "NET") net.now
     × (option_and_then release_number (first_of (codes "N") rows) ≡ Some number)
-IsJobOf (Format file explain) name rows = (name ≡ codes "format") × HasValue rows (codes "FILE") file.now × (explain ≡ is_set rows (codes "explain"))
+IsJobOf (Format file explain) name rows = (name ≡ codes "format") × HasValue rows (codes "FILE") file.now
+    × (explain ≡ is_set rows (codes "explain"))
 IsJobOf (Migrate database) name rows = (name ≡ codes "migrate") × HasValue rows (codes "db") database.now
 IsJobOf (Serve database port count) name rows =
     (name ≡ codes "serve") × HasValue rows (codes "db") database.now
-    × (port_given (first_of (codes "port") rows) ≡ Some port) × (count_given (first_of (codes "count") rows) ≡ Some count)
+    × (port_given (first_of (codes "port") rows) ≡ Some port)
+    × (count_given (first_of (codes "count") rows) ≡ Some count)
 IsJobOf (Table file) name rows = (name ≡ codes "table") × HasValue rows (codes "FILE") file.now
 
 -- the job of the subcommand that was found, with its values
@@ -181,12 +193,14 @@ IsValueFault name rows (value.WrongNumber number word) = IsWrongNumber name rows
 IsValueFault name rows value.Memory = name ≡ codes "chart"
 
 abbrev pub IsValueFaultIn : Option (Text × List Row) → ValueFault → Type 0
-IsValueFaultIn found fault = (name : Text) × (rows : List Row) × (found ≡ Some (name, rows)) × IsValueFault name rows fault
+IsValueFaultIn found fault = (name : Text) × (rows : List Row) × (found ≡ Some (name, rows))
+    × IsValueFault name rows fault
 
 -- clap finds no fault in the words, but this word of them is a wrong number
 abbrev pub HasWrongNumber : List Text → Text → Type 0
 HasWrongNumber words word =
-    (line_faults words ≡ []) × (name : Text) × (rows : List Row) × (subcommand_of canoffice_app words ≡ Some (name, rows)) × IsWrongNumber name rows word
+    (line_faults words ≡ []) × (name : Text) × (rows : List Row)
+    × (subcommand_of canoffice_app words ≡ Some (name, rows)) × IsWrongNumber name rows word
 
 -- the words request help, or the version; or they have a fault of another kind, or a wrong number; or memory ran
 -- out

@@ -1,10 +1,12 @@
 -- What is known of databases, by their paths, and of the history with which an office begins.
-use Rattle.std.specs.Prelude.{◌≡◌, ◌⊎◌, ℕ, List, [], Option, Some, None, ⊤}
+use Rattle.std.specs.Prelude.{◌≡◌, ◌⊎◌, ℕ, List, [], IsTrue, Option, Some, None, ⊤}
 use Rattle.sqlite.specs.Held.{Held, state}
-use Rattle.sqlite.specs.State.{State}
+use Rattle.sqlite.specs.State.{HasCleanDisk, State}
 use Rattle.sqlite.specs.Steps.{over_memory}
 use Rattle.sqlite_trees.specs.declared.memory.MemStore.{MemStore}
+use Rattle.sqlite_trees.specs.declared.store.Store.{Ghosts}
 use Rattle.office_history.specs.History.{Answered}
+use Rattle.store.specs.Calls.{OnHistory}
 use Rattle.store.specs.Holding.{Holding}
 use Rattle.store.specs.Opening.{HasNone, HoldingInSomeForm}
 
@@ -19,6 +21,14 @@ pub record Databases : Type 1 where
 -- an office is opened with the history: the connection shows tables that hold it, or none, and then it is empty
 abbrev pub Begins : List Answered → State → Type 0
 Begins h s = Holding h s ⊎ ((h ≡ []) × HasNone s)
+
+-- when a promise is made: no disk is in doubt, and an office is opened with the history on the connection `old`
+abbrev pub OnBeginning : {S : Type 0} → Ghosts S → Held S → Held S → (List Answered → Type 0) → Type 0
+OnBeginning g old new Promise = HasCleanDisk (state g new) → (h : List Answered) → Begins h (state g old) → Promise h
+
+-- the connection that is given back, if it is open, holds the history that the other held
+abbrev pub HoldsIfOpen : {S : Type 0} → Ghosts S → Held S → Held S → Type 0
+HoldsIfOpen g old new = OnHistory g old new (λ h. IsTrue (state g new).is_open → Holding h (state g new))
 
 -- what was known is known still
 pub record AreKept (before after : Databases) : Type 0 where

@@ -29,7 +29,8 @@ IsWhole o output errors status = IsWritten output o.output × IsWritten errors o
 -- errors
 abbrev pub IsFailed : Outcome → Writing → Writing → Status → Type 0
 IsFailed o output errors status =
-    ((IsCut output o.output × IsUntouched errors) ⊎ (IsWritten output o.output × IsCut errors o.errors)) × (status ≡ Failed)
+    ((IsCut output o.output × IsUntouched errors) ⊎ (IsWritten output o.output × IsCut errors o.errors))
+    × (status ≡ Failed)
 
 -- the outcome was delivered, as far as the writers took it
 abbrev pub IsDelivered : Outcome → Writing → Writing → Status → Type 0

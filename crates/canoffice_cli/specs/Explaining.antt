@@ -2,7 +2,7 @@
 use Rattle.std.specs.Prelude.{◌≡◌, ◌⊎◌, ℕ, Bool, true, false, List, [], Option, Some, None, map}
 use Rattle.std.specs.Borrow.{Bor}
 use Rattle.dbc_grammar.specs.Reads.{ReadsAs}
-use Rattle.catalogue.specs.declared.sheet.Sheet.{Sheet}
+use Rattle.dbc_sheet.specs.declared.sheet.Sheet.{Sheet}
 use Rattle.dbc_advice.specs.Explained.{IsExplained}
 use Rattle.dbc_advice.specs.LeftOut.{left_out}
 use Rattle.dbc_read.specs.Passed.{start_and_keyword}
@@ -12,7 +12,7 @@ use Rattle.office_script.specs.Files.{Files}
 use Rattle.office_script.specs.Lines.{lines_of}
 use Rattle.office_script.specs.declared.keys.Dash.{Dash}
 use Rattle.office_script.specs.declared.keys.Dash.TheVariants.{LineNumber, Wrong}
-use Rattle.script_advice.specs.Explained.{IsStatedOf}
+use Rattle.office_advice.specs.Explained.{IsStatedOf}
 use Rattle.canoffice_cli.specs.Outcome.{Outcome, and_errors}
 use Rattle.canoffice_cli.specs.declared.file_jobs.FileTask.{FileTask}
 use Rattle.canoffice_cli.specs.declared.file_jobs.FileTask.TheVariants as task
@@ -22,7 +22,8 @@ use Rattle.canoffice_cli.specs.declared.file_jobs.FileTask.TheVariants as task
 abbrev pub IsStatedOfFormat : List ℕ → List ℕ → List ℕ → Type 0
 IsStatedOfFormat name bytes stated =
     (ReadsAsNothing bytes × IsExplained name bytes stated)
-    ⊎ ((s : Sheet) × (passed : List Passed) × ReadsAs bytes s (map start_and_keyword passed) × (stated ≡ left_out name bytes s passed))
+    ⊎ ((s : Sheet) × (passed : List Passed) × ReadsAs bytes s (map start_and_keyword passed)
+    × (stated ≡ left_out name bytes s passed))
 
 -- what `-` means as a key in a script for the office in this database, or for one in memory
 abbrev pub dash_of : Option (Bor (List ℕ)) → Dash
@@ -32,7 +33,8 @@ dash_of (Some path) = Wrong
 -- What is stated of the file of this name with these bytes. Of a script that is its first wrong line, whatever can't be
 -- read before it, or the first wrong line of a bundle's file.
 abbrev pub IsStated : Files → FileTask → List ℕ → List ℕ → List ℕ → Type 0
-IsStated files (task.Apply database) name bytes stated = IsStatedOf files name (dash_of database) 1 (lines_of bytes) stated
+IsStated files (task.Apply database) name bytes stated =
+    IsStatedOf files name (dash_of database) 1 (lines_of bytes) stated
 IsStated files task.Check name bytes stated = IsExplained name bytes stated
 IsStated files task.Format name bytes stated = IsStatedOfFormat name bytes stated
 IsStated files task.Table name bytes stated = stated ≡ []

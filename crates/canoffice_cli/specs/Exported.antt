@@ -1,5 +1,6 @@
 -- The outcome of an export.
-use Rattle.std.specs.Prelude.{◌≡◌, ◌⊎◌, ◌==◌, ℕ, List, [], codes, Option, Some, None, Result, Ok, Err, IfOk, OnOk, if◌then◌else◌}
+use Rattle.std.specs.Prelude.{◌≡◌, ◌⊎◌, ◌==◌, ℕ, List, [], codes, Option, Some, None, Result, Ok, Err, IfOk, OnOk}
+use Rattle.std.specs.Prelude.{if◌then◌else◌}
 use Rattle.office_types.specs.PlainName.{IsPlainName}
 use Rattle.office_types.specs.declared.state.Office.{Office}
 use Rattle.office_history.specs.History.{Answered, IsLegal}
@@ -25,11 +26,14 @@ shown_outcome (Ok (Some text)) = success text
 shown_outcome (Ok None) = not_found
 shown_outcome (Err lost) = answers_outcome [] (Some lost)
 
--- The office in the database of the path looked the question up, and this is what it showed, unless that was lost. The
+-- The office in the database of the path looked the look up, and this is what it showed, unless that was lost. The
 -- tables hold what they held.
-pub record IsLookedUp (before after : Databases) (path : List ℕ) (question : Look) (shown : Result (Option (List ℕ)) Lost) : Type 0 where
-  pub of_held : (h : List Answered) (office : Office) → before.holds path h → IsLegal h office → after.is_sound → IfOk shown (IsShown office question)
-  pub of_new : (office : Office) → before.is_new path → IsLegal [] office → after.is_sound → IfOk shown (IsShown office question)
+pub record IsLookedUp (before after : Databases) (path : List ℕ) (look : Look)
+    (shown : Result (Option (List ℕ)) Lost) : Type 0 where
+  pub of_held : (h : List Answered) (office : Office) → before.holds path h → IsLegal h office → after.is_sound
+      → IfOk shown (IsShown office look)
+  pub of_new : (office : Office) → before.is_new path → IsLegal [] office → after.is_sound
+      → IfOk shown (IsShown office look)
   pub held : (h : List Answered) → before.holds path h → after.is_sound → after.holds path h
   pub made : before.is_new path → after.is_sound → OnOk shown (after.holds path [])
 
@@ -37,4 +41,5 @@ pub record IsLookedUp (before after : Databases) (path : List ℕ) (question : L
 abbrev pub IsExportOutcome : Databases → Databases → List ℕ → List ℕ → ℕ → Outcome → Type 0
 IsExportOutcome before after path net number o =
     ((¬ IsPlainName net) × (o ≡ not_found) × AreKept before after)
-    ⊎ (IsPlainName net × (shown : Result (Option (List ℕ)) Lost) × IsLookedUp before after path (sheet_requested net number) shown × (o ≡ shown_outcome shown))
+    ⊎ (IsPlainName net × (shown : Result (Option (List ℕ)) Lost)
+    × IsLookedUp before after path (sheet_requested net number) shown × (o ≡ shown_outcome shown))

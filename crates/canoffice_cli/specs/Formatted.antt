@@ -1,9 +1,9 @@
 -- The outcome of formatting a DBC text.
 use Rattle.std.specs.Prelude.{◌≡◌, ◌⊎◌, ℕ, List, []}
 use Rattle.dbc_grammar.specs.Canon.{canonical_text}
-use Rattle.catalogue.specs.Form.{IsSheet}
+use Rattle.dbc_sheet.specs.Form.{IsSheet}
 use Rattle.dbc_grammar.specs.Reads.{Reads}
-use Rattle.catalogue.specs.declared.sheet.Sheet.{Sheet}
+use Rattle.dbc_sheet.specs.declared.sheet.Sheet.{Sheet}
 use Rattle.dbc_lex.specs.declared.fault.ReadFault.{ReadFault}
 use Rattle.dbc_read.specs.Reading.{IsReadFault}
 use Rattle.canoffice_cli.specs.Checked.{fault_line}

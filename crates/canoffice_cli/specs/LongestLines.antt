@@ -29,9 +29,11 @@ longest_single = length (codes "refused 58 FileFault 255 4294967295\n")
 abbrev pub longest_refused_bundle : ℕ
 longest_refused_bundle = length (codes "refused 62 BundleRefused 255 4294967295\n")
 
--- of a bundle of so many parts that is carried out: that of one part, and for each later part a semicolon and its answer
+-- of a bundle of so many parts that is carried out: that of one part, and for each later part a semicolon and its
+-- answer
 abbrev pub longest_bundle : ℕ → ℕ
-longest_bundle count = length (codes "bundle release 4294967295\n") + (count - 1) * length (codes "; release 4294967295")
+longest_bundle count = length (codes "bundle release 4294967295\n") + (count - 1) * length
+    (codes "; release 4294967295")
 
 -- of what can answer a task
 abbrev pub longest_line : Task → ℕ
@@ -87,12 +89,14 @@ IsAnswerValue (answer.Reply (reply.Refused r)) = IsFaultValue (fault_of r)
 IsAnswerValue (answer.Reply (reply.Bundle parts)) = All IsPartValue parts
 IsAnswerValue answer.KeyReused = ⊤
 
--- Whatever the office answers to a command can answer its task, and the lines of such answers to the first arrivals are no
--- longer than the room for all of them.
+-- Whatever the office answers to a command can answer its task, and the lines of such answers to the first arrivals are
+-- no longer than the room for all of them.
 pub record AnswersFit : Type 0 where
-  pub can : (profile : Profile) (before after : Office) (team : List ℕ) (c : Command) (r : Reply) → Step profile before team c r after
+  pub can : (profile : Profile) (before after : Office) (team : List ℕ) (c : Command) (r : Reply)
+      → Step profile before team c r after
       → CanAnswer c.task (answer.Reply r)
-  pub line : (task : Task) (answer : Answer) → IsAnswerValue answer → CanAnswer task answer → length (answer_line answer) ≤ longest_line task
+  pub line : (task : Task) (answer : Answer) → IsAnswerValue answer → CanAnswer task answer
+      → length (answer_line answer) ≤ longest_line task
   pub lines : (arrivals : List Arrival) (answers : List Answer) → All IsAnswerValue answers
       → AllZip (λ a answer. CanAnswer a.request.command.task answer) (take (length answers) arrivals) answers
       → length (answer_lines answers) ≤ room_for arrivals

@@ -15,9 +15,11 @@ migrated_outcome (Err lost) = answers_outcome [] (Some lost)
 -- was lost: then they hold it as before. New tables are made where there are none.
 pub record IsMigrated (before after : Databases) (path : List ℕ) (done : Result ⊤ Lost) : Type 0 where
   pub carried : (h : List Answered) → before.holds_in_form path h → after.is_sound → OnOk done (after.holds path h)
-  pub left : (h : List Answered) → before.holds_in_form path h → after.is_sound → OnErr done (after.holds_in_form path h)
+  pub left : (h : List Answered) → before.holds_in_form path h → after.is_sound
+      → OnErr done (after.holds_in_form path h)
   pub held : (h : List Answered) → before.holds path h → after.is_sound → after.holds path h
   pub made : before.is_new path → after.is_sound → OnOk done (after.holds path [])
 
 abbrev pub IsMigrateOutcome : Databases → Databases → List ℕ → Outcome → Type 0
-IsMigrateOutcome before after path o = (done : Result ⊤ Lost) × IsMigrated before after path done × (o ≡ migrated_outcome done)
+IsMigrateOutcome before after path o = (done : Result ⊤ Lost) × IsMigrated before after path done
+    × (o ≡ migrated_outcome done)

@@ -1,8 +1,8 @@
 -- The numbers that words of the command line give: digits, in a range.
 use Rattle.std.specs.Prelude.{◌≡◌, ℕ, List, Option, Some, None, codes}
 use Rattle.std.specs.Option.{option_and_then}
-use Rattle.catalogue.specs.WholeNumber.{whole_of}
-use Rattle.views.specs.Word.{between}
+use Rattle.base.specs.WholeNumber.{whole_of}
+use Rattle.office_views.specs.Word.{between}
 use Rattle.std.proofs.Common.{refl}
 
 -- the number of a release, or 0 for the live sheet

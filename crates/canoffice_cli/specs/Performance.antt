@@ -33,7 +33,8 @@ IsOfFile NothingDone IsOf path (holding bytes) o = IsOf bytes o
 
 -- the outcome of the bytes of a file, by what is done with them; a script may name further files
 abbrev pub IsTaskOutcome : Files → Databases → Databases → FileTask → List ℕ → Outcome → Type 0
-IsTaskOutcome files before after (task.Apply database) bytes o = IsApplyOutcome files (option_map (λ path. path.now) database) before after bytes o
+IsTaskOutcome files before after (task.Apply database) bytes o =
+    IsApplyOutcome files (option_map (λ path. path.now) database) before after bytes o
 IsTaskOutcome files before after task.Check bytes o = IsCheckOutcome bytes o × AreKept before after
 IsTaskOutcome files before after task.Format bytes o = IsFormatOutcome bytes o × AreKept before after
 IsTaskOutcome files before after task.Table bytes o = IsTableOutcome bytes o × AreKept before after
@@ -41,23 +42,30 @@ IsTaskOutcome files before after task.Table bytes o = IsTableOutcome bytes o × 
 -- the same for a job, which may explain
 abbrev pub IsOfBytes : Files → Databases → Databases → FileJob → List ℕ → Outcome → Type 0
 IsOfBytes files before after job bytes o =
-    (plain : Outcome) × IsTaskOutcome files before after job.task bytes plain × MayExplain job.explain (IsStated files job.task (shown_path job.path.now) bytes) plain o
+    (plain : Outcome) × IsTaskOutcome files before after job.task bytes plain
+    × MayExplain job.explain (IsStated files job.task (shown_path job.path.now) bytes) plain o
 
 abbrev pub IsFileOutcome : Files → Holding → Databases → Databases → FileJob → Outcome → Type 0
 IsFileOutcome files input before after job o =
-    IsOfFile (AreKept before after) (IsOfBytes files before after job) job.path.now (source_at files input job.path.now) o
+    IsOfFile (AreKept before after) (IsOfBytes files before after job) job.path.now (source_at files input job.path.now)
+    o
 
 -- the outcome of the job, and what is known of databases before and after
 abbrev pub IsDone : Files → Holding → Databases → Databases → Job → Outcome → Type 0
 IsDone files input before after (Apply database script explain) o =
     IsFileOutcome files input before after (record { task = task.Apply database; path = script; explain = explain }) o
-IsDone files input before after (Chart length signals) o = IsChartOutcome length (map (λ s. s.now) signals.items) o × AreKept before after
-IsDone files input before after (Check file explain) o = IsFileOutcome files input before after (record { task = task.Check; path = file; explain = explain }) o
-IsDone files input before after (Export database net number) o = IsExportOutcome before after database.now net.now number o
-IsDone files input before after (Format file explain) o = IsFileOutcome files input before after (record { task = task.Format; path = file; explain = explain }) o
+IsDone files input before after (Chart length signals) o = IsChartOutcome length (map (λ s. s.now) signals.items) o
+    × AreKept before after
+IsDone files input before after (Check file explain) o =
+    IsFileOutcome files input before after (record { task = task.Check; path = file; explain = explain }) o
+IsDone files input before after (Export database net number) o =
+    IsExportOutcome before after database.now net.now number o
+IsDone files input before after (Format file explain) o =
+    IsFileOutcome files input before after (record { task = task.Format; path = file; explain = explain }) o
 IsDone files input before after (Migrate database) o = IsMigrateOutcome before after database.now o
 IsDone files input before after (Serve database port count) o = IsServeOutcome before after database.now count o
-IsDone files input before after (Table file) o = IsFileOutcome files input before after (record { task = task.Table; path = file; explain = false }) o
+IsDone files input before after (Table file) o =
+    IsFileOutcome files input before after (record { task = task.Table; path = file; explain = false }) o
 
 -- the outcome of words that request no job: the text of their fault
 abbrev pub IsFaultAnswer : JobFault → Outcome → Type 0
@@ -72,9 +80,11 @@ IsAnswer files input before after (Err fault) o = IsFaultAnswer fault o × AreKe
 
 -- the outcome of the program's words, unless memory runs out before there is one
 abbrev pub IsAnswered : List (List ℕ) → Files → Holding → Databases → Databases → Outcome → Type 0
-IsAnswered words files input before after o = (line : Result Job JobFault) × IsLine words line × IsAnswer files input before after line o
+IsAnswered words files input before after o = (line : Result Job JobFault) × IsLine words line
+    × IsAnswer files input before after line o
 
 -- a run of the program: the outcome of its words is delivered, or that memory ran out
 abbrev pub IsPerformed : List (List ℕ) → Files → Holding → Databases → Databases → Writing → Writing → Status → Type 0
 IsPerformed words files input before after output errors status =
-    (o : Outcome) × ((o ≡ memory_lost) ⊎ IsAnswered words files input before after o) × IsDelivered o output errors status
+    (o : Outcome) × ((o ≡ memory_lost) ⊎ IsAnswered words files input before after o)
+    × IsDelivered o output errors status

@@ -17,10 +17,13 @@ end_outcome (Err (IsLost lost)) = answers_outcome [] (Some lost)
 -- Each connection adds at most one answer to the history that the database of the path holds; new tables hold those
 -- answers alone, unless none were made. Where nothing can be listened on, nothing is added.
 pub record IsServed (before after : Databases) (path : List ℕ) (count : ℕ) (end : Result ⊤ ServeEnd) : Type 0 where
-  pub goes_on : (h : List Answered) → before.holds path h → after.is_sound → (more : List Answered) × (length more ≤ count) × after.holds path (h ++ more)
-  pub made : before.is_new path → after.is_sound → ((more : List Answered) × (length more ≤ count) × after.holds path more) ⊎ after.is_new path
+  pub goes_on : (h : List Answered) → before.holds path h → after.is_sound → (more : List Answered)
+      × (length more ≤ count) × after.holds path (h ++ more)
+  pub made : before.is_new path → after.is_sound
+      → ((more : List Answered) × (length more ≤ count) × after.holds path more) ⊎ after.is_new path
   pub unheard : end ≡ Err CannotListen → (h : List Answered) → before.holds path h → after.is_sound → after.holds path h
 
 -- the office is served so, and how that ended is printed
 abbrev pub IsServeOutcome : Databases → Databases → List ℕ → ℕ → Outcome → Type 0
-IsServeOutcome before after path count o = (end : Result ⊤ ServeEnd) × IsServed before after path count end × (o ≡ end_outcome end)
+IsServeOutcome before after path count o = (end : Result ⊤ ServeEnd) × IsServed before after path count end
+    × (o ≡ end_outcome end)

@@ -1,16 +1,16 @@
 //! Answering arrivals, up to the first that is lost.
-ghost use Rattle.std.specs.Prelude.{◌≡◌, ◌⊎◌, ◌≤◌, ◌++◌, [], List, length, None, Some, false, IsTrue, IsSome, IfOk};
-ghost use Rattle.std.specs.Prelude.{IfErr, IsOkAnd, MatchResult, OnErr};
+ghost use Rattle.std.specs.Prelude.{◌≡◌, ◌⊎◌, ◌≤◌, ◌++◌, [], length, None, Some, IsTrue, IsSome, IfOk};
+ghost use Rattle.std.specs.Prelude.{IfErr, OnErr};
 ghost use Rattle.sqlite.specs.Held.{state};
-ghost use Rattle.sqlite.specs.State.{HasCleanDisk};
-ghost use Rattle.sqlite_trees.specs.View.{doubt};
-ghost use Rattle.office_history.specs.History.{Answered, IsLegalHistory};
+ghost use Rattle.office_history.specs.History.{IsLegalHistory};
+ghost use Rattle.store.specs.Calls.{HoldsOnErr, IsSettled, KeepsDoubt, OnHistory};
 ghost use Rattle.store.specs.Holding.{Holding};
+ghost use Rattle.store.specs.OpensAs.{conn_of};
 ghost use Rattle.canoffice_cli.specs.Answered.{InMemory, answered_with, answers_outcome, lost_line};
-ghost use Rattle.canoffice_cli.specs.Databases.{Begins};
+ghost use Rattle.canoffice_cli.specs.Databases.{OnBeginning};
 ghost use Rattle.canoffice_cli.specs.Outcome.{failure, outcome_of};
 
-use crate::lines::{Line, add_lines};
+use crate::lines::{PrintedLine, add_lines};
 use crate::progress::{Progress, RequestLines};
 use crate::report::{Report, Status};
 use crate::room::Room;
@@ -43,14 +43,11 @@ pub fn nothing_answered(alloc: Global, lost: Lost) -> Answers
 pub(crate) fn office_on<S: Alter>(
     conn: Connection<S>,
 ) -> Result<StoredOffice<S>, (Lost, Connection<S>)>
-    requires { (state S.Store conn).in_transaction ≡ false }
-    ensures clean { MatchResult result (λ office. doubt (state S.Store conn).is_clean ≤ doubt
-        (state S.Store office.conn).is_clean) (λ lost. doubt (state S.Store conn).is_clean ≤ doubt
-        (state S.Store lost.1).is_clean) }
-    ensures begun { IfOk result (λ office. HasCleanDisk (state S.Store office.conn) → (h : List Answered)
-        → Begins h (state S.Store conn) → Holding h (state S.Store office.conn)) }
-    ensures held { IfErr result (λ lost. HasCleanDisk (state S.Store lost.1) → IsTrue (state S.Store lost.1).is_open
-        → (h : List Answered) → Holding h (state S.Store conn) → Holding h (state S.Store lost.1)) }
+    requires { IsSettled S.Store conn }
+    ensures clean { KeepsDoubt S.Store conn (conn_of result) }
+    ensures begun { OnBeginning S.Store conn (conn_of result) (λ h.
+        IfOk result (λ office. Holding h (state S.Store office.conn))) }
+    ensures held { HoldsOnErr S.Store conn (conn_of result) result }
 {
     let _settled_before = conn.is_autocommit();
     match StoredOffice::open(conn) {
@@ -71,16 +68,18 @@ fn answer_all<S: Alter, W: Write>(
     arrivals: &[Arrival],
     progress: &mut Progress<W>,
 ) -> Result<Answers, AllocError>
-    ensures clean { doubt (state S.Store office.old.conn).is_clean ≤ doubt (state S.Store office.new.conn).is_clean }
+    ensures clean { KeepsDoubt S.Store office.old.conn office.new.conn }
     ensures some { IfOk result (λ reported. length reported.answers.items ≤ length arrivals.now) }
-    ensures all { IfOk result (λ reported. reported.lost ≡ None → length reported.answers.items ≡ length arrivals.now) }
-    ensures held { HasCleanDisk (state S.Store office.new.conn) → IsTrue (state S.Store office.new.conn).is_open
-        → (h : List Answered) → Holding h (state S.Store office.old.conn)
-        → IfOk result (λ reported. Holding (h ++ answered_with arrivals.now reported.answers.items)
-        (state S.Store office.new.conn)) }
-    ensures legal { HasCleanDisk (state S.Store office.new.conn) → (h : List Answered)
-        → Holding h (state S.Store office.old.conn)
-        → IfOk result (λ reported. IsLegalHistory (h ++ answered_with arrivals.now reported.answers.items)) }
+    ensures all { IfOk result
+        (λ reported. reported.lost ≡ None → length reported.answers.items ≡ length arrivals.now) }
+    ensures held { OnHistory S.Store office.old.conn office.new.conn
+        (λ h. IsTrue (state S.Store office.new.conn).is_open
+        → IfOk result (λ reported.
+        Holding (h ++ answered_with arrivals.now reported.answers.items)
+        (state S.Store office.new.conn))) }
+    ensures legal { OnHistory S.Store office.old.conn office.new.conn (λ h.
+        IfOk result (λ reported. IsLegalHistory
+        (h ++ answered_with arrivals.now reported.answers.items))) }
     ensures err { OnErr result (office.new ≡ office.old) }
 {
     let mut answers = Vec::with_capacity(alloc, arrivals.len())?;
@@ -113,21 +112,22 @@ pub fn answer_on<S: Alter + Drop, W: Write>(
     arrivals: &[Arrival],
     progress: &mut Progress<W>,
 ) -> (Result<Answers, AllocError>, Connection<S>)
-    requires { (state S.Store conn).in_transaction ≡ false }
-    ensures clean { doubt (state S.Store conn).is_clean ≤ doubt (state S.Store result.1).is_clean }
+    requires { IsSettled S.Store conn }
+    ensures clean { KeepsDoubt S.Store conn result.1 }
     ensures some { IfOk result.0 (λ reported. length reported.answers.items ≤ length arrivals.now) }
     ensures all { IfOk result.0 (λ reported. reported.lost ≡ None
         → length reported.answers.items ≡ length arrivals.now) }
-    ensures held { HasCleanDisk (state S.Store result.1) → IsTrue (state S.Store result.1).is_open
-        → (h : List Answered) → Holding h (state S.Store conn)
-        → IfOk result.0 (λ reported. Holding (h ++ answered_with arrivals.now reported.answers.items)
-        (state S.Store result.1)) }
-    ensures begun { HasCleanDisk (state S.Store result.1) → IsTrue (state S.Store result.1).is_open
-        → (h : List Answered) → Begins h (state S.Store conn)
-        → IfOk result.0 (λ reported. Holding (h ++ answered_with arrivals.now reported.answers.items)
-        (state S.Store result.1) ⊎ (IsSome reported.lost × (reported.answers.items ≡ []))) }
-    ensures legal { HasCleanDisk (state S.Store result.1) → (h : List Answered) → Begins h (state S.Store conn)
-        → IfOk result.0 (λ reported. IsLegalHistory (h ++ answered_with arrivals.now reported.answers.items)) }
+    ensures held { OnHistory S.Store conn result.1 (λ h. IsTrue (state S.Store result.1).is_open
+        → IfOk result.0 (λ reported.
+        Holding (h ++ answered_with arrivals.now reported.answers.items)
+        (state S.Store result.1))) }
+    ensures begun { OnBeginning S.Store conn result.1 (λ h. IsTrue (state S.Store result.1).is_open
+        → IfOk result.0 (λ reported.
+        Holding (h ++ answered_with arrivals.now reported.answers.items) (state S.Store result.1)
+        ⊎ (IsSome reported.lost × (reported.answers.items ≡ [])))) }
+    ensures legal { OnBeginning S.Store conn result.1 (λ h.
+        IfOk result.0 (λ reported. IsLegalHistory
+        (h ++ answered_with arrivals.now reported.answers.items))) }
 {
     histories_grow();
     match office_on(conn) {
@@ -148,7 +148,8 @@ pub(crate) fn answer_in_memory<W: Write>(
     progress: &mut Progress<W>,
 ) -> Result<Answers, AllocError>
     ensures some { IfOk result (λ reported. length reported.answers.items ≤ length arrivals.now) }
-    ensures all { IfOk result (λ reported. reported.lost ≡ None → length reported.answers.items ≡ length arrivals.now) }
+    ensures all { IfOk result
+        (λ reported. reported.lost ≡ None → length reported.answers.items ≡ length arrivals.now) }
     ensures goes_on { IfOk result (λ reported. InMemory
         (answered_with arrivals.now reported.answers.items) reported.lost) }
 {
@@ -190,7 +191,7 @@ pub fn answers_when_closed(reported: Answers, closed: Result<(), Lost>) -> Answe
     }
 }
 
-impl Line for Answer {
+impl PrintedLine for Answer {
     ghost use Rattle.canoffice_cli.specs.Answered.{answer_line};
 
     ghost line = { answer_line };
@@ -215,7 +216,8 @@ impl Answers {
     /// The line of each answer, and then why the next arrival was lost, if it was. They are put into the room, in the
     /// place of what it has. The error is out of memory, which can be only if there is too little room.
     pub(crate) fn report(&self, alloc: Global, room: Room) -> Result<Report, AllocError>
-        ensures { IfOk result (λ report. outcome_of report ≡ answers_outcome self.now.answers.items self.now.lost) }
+        ensures { IfOk result (λ report. outcome_of report ≡ answers_outcome self.now.answers.items
+            self.now.lost) }
     {
         let Room { answers, loss } = room;
         let mut output = answers;

@@ -33,7 +33,8 @@ fn apply_in_memory<F: FileSource, W: Write>(
     files: &F,
     progress: &mut Progress<W>,
 ) -> Result<Report, AllocError>
-    ensures { IfOk result (λ report. IsScriptOutcome (F.held files.now) Dash.LineNumber InMemory ⊤ script.now
+    ensures { IfOk result (λ report. IsScriptOutcome (F.held files.now) Dash.LineNumber InMemory ⊤
+        script.now
         (outcome_of report)) }
 {
     match arrivals_of(alloc, script, Dash::LineNumber, files) {
@@ -88,7 +89,8 @@ pub fn apply_script<F: FileSource, D: Databases, W: Write>(
     databases: &mut D,
     progress: &mut Progress<W>,
 ) -> Result<Report, AllocError>
-    ensures { IfOk result (λ report. IsApplyOutcome (F.held files.now) (option_map (λ path. path.now) database.entry)
+    ensures { IfOk result (λ report. IsApplyOutcome (F.held files.now)
+        (option_map (λ path. path.now) database.entry)
         (D.known databases.old) (D.known databases.new) script.now (outcome_of report)) }
 {
     match database {

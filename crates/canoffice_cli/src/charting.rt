@@ -5,8 +5,8 @@ ghost use Rattle.canoffice_cli.specs.Charted.{chart_outcome, AreSignals, IsChart
 ghost use Rattle.canoffice_cli.specs.WordFault.{IsWordFault};
 
 use crate::report::{Report, Status, bad_word};
+use office_views::{ChartSignal, chart_text, first_clash_of, signal_of};
 use std::alloc::{AllocError, AllocFailed, Global};
-use views::{ChartSignal, chart_text, first_clash_of, signal_of};
 
 /// Why the words describe no signals.
 #[derive(Debug, Drop)]
@@ -41,7 +41,8 @@ impl<T: Drop> From<AllocFailed<T>> for WordFault<'_> {
 
 /// The signals that the words describe, or the first malformed word.
 fn signals_of<'a>(alloc: Global, words: &[&'a str]) -> Result<Vec<ChartSignal>, WordFault<'a>>
-    ensures signals { IfOk result (λ signals. AreSignals (map (λ s. s.now) words.now) signals.items) }
+    ensures signals { IfOk result
+        (λ signals. AreSignals (map (λ s. s.now) words.now) signals.items) }
     ensures fault { IfErr result (IsWordFault (map (λ s. s.now) words.now)) }
 {
     let mut signals = Vec::new(alloc);
@@ -71,10 +72,11 @@ fn signals_report(alloc: Global, length: u16, signals: &[ChartSignal]) -> Result
 /// The chart of the signals that the words describe, in a message of so many bytes: `Success` if they are clear,
 /// `FaultFound` if they clash.
 ///
-/// If a word is malformed, the first one is reported and nothing is charted. `signal_of` of the crate `views` has their
-/// form.
+/// If a word is malformed, the first one is reported and nothing is charted. `signal_of` of the crate `office_views`
+/// has their form.
 pub fn chart_report(alloc: Global, length: u16, words: &[&str]) -> Result<Report, AllocError>
-    ensures { IfOk result (λ report. IsChartOutcome length (map (λ s. s.now) words.now) (outcome_of report)) }
+    ensures { IfOk result (λ report. IsChartOutcome length (map (λ s. s.now) words.now)
+        (outcome_of report)) }
 {
     match signals_of(alloc, words) {
         Ok(signals) => signals_report(alloc, length, &signals),

@@ -5,15 +5,16 @@ ghost use Rattle.canoffice_cli.specs.Checked.{clear_line, fault_line, fault_outp
 ghost use Rattle.canoffice_cli.specs.Checked.{IsCheckOutcome, IsVerdict};
 ghost use Rattle.dbc_read.specs.Passed.{start_and_keyword};
 
-use crate::lines::{Line, lines_of};
+use crate::lines::{PrintedLine, lines_of};
 use crate::report::{Report, Status};
-use catalogue::{Sheet, SheetCode, SheetFault};
 use dbc_read::{Passed, ReadCode, ReadFault, Reading, read};
+use dbc_sheet::Sheet;
+use dbc_words::{SheetCode, SheetFault};
+use office_views::signal_count;
 use std::alloc::{AllocError, Global};
 use std::mem::forget;
-use views::signal_count;
 
-impl Line for Passed {
+impl PrintedLine for Passed {
     ghost use Rattle.canoffice_cli.specs.Checked.{passed_line};
     ghost use Rattle.dbc_read.specs.Passed.{start_and_keyword};
 
@@ -57,7 +58,8 @@ pub(crate) fn fault_line(alloc: Global, fault: ReadFault) -> Result<Vec<u8>, All
 
 /// The verdict on the sheet: what was skipped, and whether the sheet is clear.
 fn verdict(alloc: Global, reading: &Reading) -> Result<Report, AllocError>
-    ensures { IfOk result (λ report. IsVerdict reading.now.sheet (map start_and_keyword reading.now.passed)
+    ensures { IfOk result (λ report. IsVerdict reading.now.sheet
+        (map start_and_keyword reading.now.passed)
         (outcome_of report)) }
 {
     let mut output = passed_lines(alloc, reading.passed.as_slice())?;

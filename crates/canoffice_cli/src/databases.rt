@@ -36,15 +36,17 @@ pub trait Databases {
         arrivals: &[Arrival],
         progress: &mut Progress<W>,
     ) -> Result<Answers, AllocError>
-        ensures some { IfOk result (λ reported. length reported.answers.items ≤ length arrivals.now) }
+        ensures some { IfOk result
+            (λ reported. length reported.answers.items ≤ length arrivals.now) }
         ensures all { IfOk result (λ reported. reported.lost ≡ None
             → length reported.answers.items ≡ length arrivals.now) }
-        ensures goes_on { IfOk result (λ reported. InDatabase (known self.old) (known self.new) path.now
+        ensures goes_on { IfOk result
+            (λ reported. InDatabase (known self.old) (known self.new) path.now
             (answered_with arrivals.now reported.answers.items) reported.lost) };
 
-    /// What the office in the database at the path shows for the question. The error is why that was lost.
-    fn look(&mut self, alloc: Global, path: &str, question: &Look) -> Result<Option<Vec<u8>>, Lost>
-        ensures { IsLookedUp (known self.old) (known self.new) path.now question.now
+    /// What the office in the database at the path shows for the look. The error is why that was lost.
+    fn look(&mut self, alloc: Global, path: &str, look: &Look) -> Result<Option<Vec<u8>>, Lost>
+        ensures { IsLookedUp (known self.old) (known self.new) path.now look.now
             (result_map_both (option_map (λ text. text.items)) (λ lost. lost) result) };
 
     /// Makes the database at the path one of this version, with the history that it holds. It is shown which message is

@@ -45,7 +45,8 @@ fn write_both<O: Write, E: Write>(
     errors: &mut E,
 ) -> Status
     ensures { IsDelivered (record { output = output.now; errors = text.now; status = status })
-        (O.contents out.old, O.contents out.new) (E.contents errors.old, E.contents errors.new) result }
+        (O.contents out.old, O.contents out.new) (E.contents errors.old, E.contents errors.new)
+        result }
 {
     if write_whole(out, output).is_err() {
         return Status::Failed;
@@ -58,7 +59,8 @@ fn write_both<O: Write, E: Write>(
 
 /// Writes the whole text and flushes.
 fn write_whole<W: Write>(writer: &mut W, text: &[u8]) -> Result<(), Unwritten>
-    ensures whole { OnOk result (IsWritten (W.contents writer.old, W.contents writer.new) text.now) }
+    ensures whole { OnOk result
+        (IsWritten (W.contents writer.old, W.contents writer.new) text.now) }
     ensures cut { OnErr result (IsCut (W.contents writer.old, W.contents writer.new) text.now) }
 {
     let mut at = 0;

@@ -11,7 +11,8 @@ use std::alloc::{AllocError, Global};
 
 /// What is stated of a DBC text whose canonical text is printed: what this leaves out, or why it reads as no sheet.
 fn stated_of_format(alloc: Global, source: Source) -> Result<Vec<u8>, AllocError>
-    ensures { IfOk result (λ stated. IsStatedOfFormat source.entry.name.now source.entry.text.now stated.items) }
+    ensures { IfOk result (λ stated. IsStatedOfFormat source.entry.name.now source.entry.text.now
+        stated.items) }
 {
     match read(alloc, source.text) {
         Ok(reading) => left_out(alloc, source, &reading),
@@ -40,14 +41,15 @@ pub(crate) fn stated<F: FileSource>(
     files: &F,
 ) -> Result<Vec<u8>, AllocError>
     ensures { IfOk result
-        (λ stated. IsStated (F.held files.now) task.entry source.entry.name.now source.entry.text.now stated.items) }
+        (λ stated. IsStated (F.held files.now) task.entry source.entry.name.now
+        source.entry.text.now stated.items) }
 {
     match task {
         FileTask::Check => explained(alloc, source),
         FileTask::Format => stated_of_format(alloc, source),
         FileTask::Apply(database) => {
             let dash = dash_of(database);
-            script_advice::explained(alloc, source.name, source.text, dash, files)
+            office_advice::explained(alloc, source.name, source.text, dash, files)
         }
         FileTask::Table => Ok(Vec::new(alloc)),
     }

@@ -1,15 +1,13 @@
 //! Exporting a sheet.
-ghost use Rattle.std.specs.Prelude.{◌≡◌, ◌≤◌, [], List, false, IsTrue, IfOk, OnOk};
-ghost use Rattle.std.specs.Option.{option_map};
+ghost use Rattle.std.specs.Prelude.{◌≡◌, IfOk, OnOk};
 ghost use Rattle.std.specs.Result.{result_map_both};
 ghost use Rattle.sqlite.specs.Held.{state};
-ghost use Rattle.sqlite.specs.State.{HasCleanDisk};
-ghost use Rattle.sqlite_trees.specs.View.{doubt};
 ghost use Rattle.office_types.specs.declared.state.Office.{Office as Whole};
-ghost use Rattle.office_history.specs.History.{Answered, IsLegal};
+ghost use Rattle.office_history.specs.History.{IsLegal};
+ghost use Rattle.store.specs.Calls.{IsSettled, KeepsDoubt};
 ghost use Rattle.store.specs.Holding.{Holding};
-ghost use Rattle.store.specs.Looking.{IsShown};
-ghost use Rattle.canoffice_cli.specs.Databases.{Begins};
+ghost use Rattle.store.specs.Looking.{IsShown, bytes_of};
+ghost use Rattle.canoffice_cli.specs.Databases.{HoldsIfOpen, OnBeginning};
 ghost use Rattle.canoffice_cli.specs.Exported.{IsExportOutcome, sheet_requested, not_found, shown_outcome};
 ghost use Rattle.canoffice_cli.specs.Outcome.{outcome_of};
 
@@ -41,7 +39,7 @@ fn not_found(alloc: Global) -> Result<Report, AllocError>
 /// The report on what was shown.
 fn shown_report(alloc: Global, shown: Result<Option<Vec<u8>>, Lost>) -> Result<Report, AllocError>
     ensures { IfOk result (λ report. outcome_of report
-        ≡ shown_outcome (result_map_both (option_map (λ text. text.items)) (λ lost. lost) shown)) }
+        ≡ shown_outcome (result_map_both bytes_of (λ lost. lost) shown)) }
 {
     match shown {
         Ok(Some(text)) => Ok(Report::of_output(alloc, text, Status::Success)),
@@ -50,26 +48,24 @@ fn shown_report(alloc: Global, shown: Result<Option<Vec<u8>>, Lost>) -> Result<R
     }
 }
 
-/// What the office on the connection, which is given back, shows for the question. A new office is made where
+/// What the office on the connection, which is given back, shows for the look. A new office is made where
 /// the connection has no table.
 pub fn look_on<S: Alter + Drop>(
     alloc: Global,
     conn: Connection<S>,
-    question: &Look,
+    look: &Look,
 ) -> (Result<Option<Vec<u8>>, Lost>, Connection<S>)
-    requires { (state S.Store conn).in_transaction ≡ false }
-    ensures clean { doubt (state S.Store conn).is_clean ≤ doubt (state S.Store result.1).is_clean }
-    ensures shown { HasCleanDisk (state S.Store result.1) → (h : List Answered) → (office : Whole)
-        → Begins h (state S.Store conn) → IsLegal h office
-        → IfOk result.0 (λ text. IsShown office question.now (option_map (λ bytes. bytes.items) text)) }
-    ensures held { HasCleanDisk (state S.Store result.1) → IsTrue (state S.Store result.1).is_open
-        → (h : List Answered) → Holding h (state S.Store conn) → Holding h (state S.Store result.1) }
-    ensures begun { HasCleanDisk (state S.Store result.1) → (h : List Answered) → Begins h (state S.Store conn)
-        → OnOk result.0 (Holding h (state S.Store result.1)) }
+    requires { IsSettled S.Store conn }
+    ensures clean { KeepsDoubt S.Store conn result.1 }
+    ensures shown { OnBeginning S.Store conn result.1 (λ h. (office : Whole) → IsLegal h office
+        → IfOk result.0 (λ text. IsShown office look.now (bytes_of text))) }
+    ensures held { HoldsIfOpen S.Store conn result.1 }
+    ensures begun { OnBeginning S.Store conn result.1
+        (λ h. OnOk result.0 (Holding h (state S.Store result.1))) }
 {
     match office_on(conn) {
         Ok(mut office) => {
-            let shown = office.look(alloc, question);
+            let shown = office.look(alloc, look);
             (shown, office.close())
         }
         Err((lost, conn)) => (Err(lost), conn),
@@ -92,8 +88,8 @@ pub fn export_report<D: Databases>(
     match NetName::of(alloc, net.as_bytes())? {
         None => not_found(alloc),
         Some(net) => {
-            let question = sheet_requested(net, number);
-            shown_report(alloc, databases.look(alloc, path, &question))
+            let look = sheet_requested(net, number);
+            shown_report(alloc, databases.look(alloc, path, &look))
         }
     }
 }

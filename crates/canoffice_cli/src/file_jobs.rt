@@ -57,7 +57,8 @@ impl<'a> FileJob<'a> {
 
 /// The report that the file can't be read, unless memory ran out.
 fn unreadable_report(alloc: Global, file: &str, fault: PathFault) -> Result<Report, AllocError>
-    ensures { IfOk result (λ report. (fault ≡ Unreadable) × (outcome_of report ≡ unreadable file.now)) }
+    ensures { IfOk result (λ report. (fault ≡ Unreadable)
+        × (outcome_of report ≡ unreadable file.now)) }
 {
     match fault {
         PathFault::Unreadable => cannot_read(alloc, file),
@@ -73,7 +74,8 @@ pub(crate) fn file_report<F: FileSource + StandardInput, D: Databases, W: Write>
     databases: &mut D,
     progress: &mut Progress<W>,
 ) -> Result<Report, AllocError>
-    ensures { IfOk result (λ report. IsFileOutcome (F.held files.now) (F.given files.now) (D.known databases.old)
+    ensures { IfOk result (λ report. IsFileOutcome (F.held files.now) (F.given files.now)
+        (D.known databases.old)
         (D.known databases.new) job.entry (outcome_of report)) }
 {
     match bytes_at(alloc, files, job.path) {

@@ -5,7 +5,7 @@ ghost use Rattle.std.specs.List.{flat_map};
 use std::alloc::{AllocError, Global};
 
 /// A value that is printed as a line.
-pub(crate) trait Line {
+pub(crate) trait PrintedLine {
     /// The bytes of its line.
     ghost line: { Self → List ℕ };
 
@@ -15,8 +15,9 @@ pub(crate) trait Line {
 }
 
 /// Adds the line of each of the values, in order. The error is out of memory.
-pub(crate) fn add_lines<T: Line>(text: &mut String, values: &[T]) -> Result<(), AllocError>
-    ensures { OnOk result (string_bytes text.new ≡ string_bytes text.old ++ flat_map T.line values.now) }
+pub(crate) fn add_lines<T: PrintedLine>(text: &mut String, values: &[T]) -> Result<(), AllocError>
+    ensures { OnOk result (string_bytes text.new ≡ string_bytes text.old
+        ++ flat_map T.line values.now) }
 {
     for value in values {
         value.add_to(text)?;
@@ -25,7 +26,7 @@ pub(crate) fn add_lines<T: Line>(text: &mut String, values: &[T]) -> Result<(), 
 }
 
 /// The line of each of the values, in order. The error is out of memory.
-pub(crate) fn lines_of<T: Line>(alloc: Global, values: &[T]) -> Result<Vec<u8>, AllocError>
+pub(crate) fn lines_of<T: PrintedLine>(alloc: Global, values: &[T]) -> Result<Vec<u8>, AllocError>
     ensures { IfOk result (λ text. text.items ≡ flat_map T.line values.now) }
 {
     let mut text = String::new(alloc);

@@ -1,11 +1,11 @@
 //! Making a database of an earlier version one of this version.
-ghost use Rattle.std.specs.Prelude.{◌≡◌, ◌≤◌, [], List, false, IsTrue, IfOk, OnErr, OnOk};
+ghost use Rattle.std.specs.Prelude.{◌≡◌, [], IsTrue, IfOk, OnErr, OnOk};
 ghost use Rattle.sqlite.specs.Held.{state};
-ghost use Rattle.sqlite.specs.State.{HasCleanDisk};
-ghost use Rattle.sqlite_trees.specs.View.{doubt};
-ghost use Rattle.office_history.specs.History.{Answered};
+ghost use Rattle.store.specs.Calls.{IsSettled, KeepsDoubt};
 ghost use Rattle.store.specs.Holding.{Holding};
-ghost use Rattle.store.specs.Opening.{HasNone, HoldingInSomeForm};
+ghost use Rattle.store.specs.Opening.{HoldingInSomeForm};
+ghost use Rattle.store.specs.OpensAs.{OnNone, OnSomeForm};
+ghost use Rattle.canoffice_cli.specs.Databases.{HoldsIfOpen};
 ghost use Rattle.canoffice_cli.specs.Migrated.{IsMigrateOutcome, migrated_outcome};
 ghost use Rattle.canoffice_cli.specs.Outcome.{outcome_of};
 
@@ -26,17 +26,15 @@ pub fn migrate_on<S: Alter + Drop, W: Write>(
     conn: Connection<S>,
     progress: &mut Progress<W>,
 ) -> (Result<(), Lost>, Connection<S>)
-    requires { (state S.Store conn).in_transaction ≡ false }
-    ensures clean { doubt (state S.Store conn).is_clean ≤ doubt (state S.Store result.1).is_clean }
-    ensures carried { HasCleanDisk (state S.Store result.1) → (h : List Answered)
-        → HoldingInSomeForm h (state S.Store conn) → OnOk result.0 (Holding h (state S.Store result.1)) }
-    ensures left { HasCleanDisk (state S.Store result.1) → IsTrue (state S.Store result.1).is_open
-        → (h : List Answered) → HoldingInSomeForm h (state S.Store conn)
-        → OnErr result.0 (HoldingInSomeForm h (state S.Store result.1)) }
-    ensures held { HasCleanDisk (state S.Store result.1) → IsTrue (state S.Store result.1).is_open
-        → (h : List Answered) → Holding h (state S.Store conn) → Holding h (state S.Store result.1) }
-    ensures made { HasCleanDisk (state S.Store result.1) → HasNone (state S.Store conn)
-        → OnOk result.0 (Holding [] (state S.Store result.1)) }
+    requires { IsSettled S.Store conn }
+    ensures clean { KeepsDoubt S.Store conn result.1 }
+    ensures carried { OnSomeForm S.Store conn result.1
+        (λ h. OnOk result.0 (Holding h (state S.Store result.1))) }
+    ensures left { OnSomeForm S.Store conn result.1 (λ h. IsTrue (state S.Store result.1).is_open
+        → OnErr result.0 (HoldingInSomeForm h (state S.Store result.1))) }
+    ensures held { HoldsIfOpen S.Store conn result.1 }
+    ensures made { OnNone S.Store conn result.1
+        (OnOk result.0 (Holding [] (state S.Store result.1))) }
 {
     let _settled_before = conn.is_autocommit();
     match StoredOffice::migrate(alloc, conn, progress) {
@@ -69,7 +67,8 @@ pub fn migrate_report<D: Databases, W: Write>(
     path: &str,
     progress: &mut Progress<W>,
 ) -> Result<Report, AllocError>
-    ensures { IfOk result (λ report. IsMigrateOutcome (D.known databases.old) (D.known databases.new) path.now
+    ensures { IfOk result (λ report. IsMigrateOutcome (D.known databases.old)
+        (D.known databases.new) path.now
         (outcome_of report)) }
 {
     let done = databases.migrate(alloc, path, progress);

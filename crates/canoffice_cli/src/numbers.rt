@@ -1,13 +1,13 @@
 //! The numbers that words of the command line give.
 ghost use Rattle.std.specs.Prelude.{◌≡◌, ◌≤◌, Some, None, IfOk, IfErr};
 ghost use Rattle.std.specs.Option.{option_map};
-ghost use Rattle.views.specs.Word.{length_of};
+ghost use Rattle.office_views.specs.Word.{length_of};
 ghost use Rattle.canoffice_cli.specs.Numbers.{count_given, number_given, port_given, release_number};
 
 use crate::command_line::{chart_command, export_command, serve_command};
 use clap::Command;
+use office_views::{length_of, whole_between};
 use std::alloc::{AllocError, Global};
-use views::{length_of, whole_between};
 
 /// The port where none is given.
 const PORT: u32 = 8089;
@@ -72,7 +72,7 @@ impl Number {
     }
 }
 
-/// The length of a message that the word gives: 0 to 1785 bytes, as [`length_of`] of the crate `views` reads it.
+/// The length of a message that the word gives: 0 to 1785 bytes, as [`length_of`] of the crate `office_views` reads it.
 pub(crate) fn length_given(word: &str) -> Option<u16>
     ensures { result ≡ length_of word.now }
 {
@@ -91,7 +91,8 @@ pub(crate) fn release_number(word: &str) -> Option<u32>
 fn number_given<'a>(word: Option<&'a str>, absent: u32, limit: u32) -> Result<u32, &'a str>
     requires { absent ≤ limit }
     ensures within { IfOk result (λ number. number ≤ limit) }
-    ensures given { IfOk result (λ number. number_given absent limit (option_map (λ w. w.now) word.entry)
+    ensures given { IfOk result
+        (λ number. number_given absent limit (option_map (λ w. w.now) word.entry)
         ≡ Some number) }
     ensures wrong { IfErr result (λ wrong. (option_map (λ w. w.now) word.entry ≡ Some wrong.now)
         × (number_given absent limit (option_map (λ w. w.now) word.entry) ≡ None)) }
@@ -107,7 +108,8 @@ fn number_given<'a>(word: Option<&'a str>, absent: u32, limit: u32) -> Result<u3
 
 /// The port that the word gives: 1 to 65535, and 8089 where there is no word. The error is a word that gives none.
 pub(crate) fn port_given<'a>(word: Option<&'a str>) -> Result<u16, &'a str>
-    ensures given { IfOk result (λ port. port_given (option_map (λ w. w.now) word.entry) ≡ Some port) }
+    ensures given { IfOk result
+        (λ port. port_given (option_map (λ w. w.now) word.entry) ≡ Some port) }
     ensures wrong { IfErr result (λ wrong. (option_map (λ w. w.now) word.entry ≡ Some wrong.now)
         × (port_given (option_map (λ w. w.now) word.entry) ≡ None)) }
 {
@@ -118,7 +120,8 @@ pub(crate) fn port_given<'a>(word: Option<&'a str>) -> Result<u16, &'a str>
 /// The count of connections that the word gives: 1 to 1000000, and 1000000 where there is no word. The error is a word
 /// that gives none.
 pub(crate) fn count_given<'a>(word: Option<&'a str>) -> Result<u32, &'a str>
-    ensures given { IfOk result (λ count. count_given (option_map (λ w. w.now) word.entry) ≡ Some count) }
+    ensures given { IfOk result
+        (λ count. count_given (option_map (λ w. w.now) word.entry) ≡ Some count) }
     ensures wrong { IfErr result (λ wrong. (option_map (λ w. w.now) word.entry ≡ Some wrong.now)
         × (count_given (option_map (λ w. w.now) word.entry) ≡ None)) }
 {

@@ -47,7 +47,8 @@ fn answer<'a, F: FileSource + StandardInput, D: Databases, W: Write>(
     databases: &mut D,
     progress: &mut Progress<W>,
 ) -> Result<Report, AllocError>
-    ensures { IfOk result (λ report. IsAnswered (map (λ s. s.now) words.entry.now) (F.held files.now)
+    ensures { IfOk result (λ report. IsAnswered (map (λ s. s.now) words.entry.now)
+        (F.held files.now)
         (F.given files.now) (D.known databases.old) (D.known databases.new) (outcome_of report)) }
 {
     match job_of(alloc, words) {
@@ -75,7 +76,8 @@ pub fn report_of<F: FileSource + StandardInput, D: Databases, W: Write>(
     databases: &mut D,
     progress: &mut Progress<W>,
 ) -> Result<Report, AllocError>
-    ensures { IfOk result (λ report. IsDone (F.held files.now) (F.given files.now) (D.known databases.old)
+    ensures { IfOk result (λ report. IsDone (F.held files.now) (F.given files.now)
+        (D.known databases.old)
         (D.known databases.new) job.now (outcome_of report)) }
 {
     match job {

@@ -1,7 +1,7 @@
 //! How far a script is, or a database that is carried over, for whoever waits for it.
 ghost use Rattle.std.specs.Prelude.{◌≤◌, length};
 
-use catalogue::Name;
+use dbc_words::Name;
 use office_script::{first_line, says_nothing};
 use office_types::NetName;
 use std::io::{self, Write};

@@ -47,7 +47,8 @@ pub struct Report {
 impl Report {
     /// The report with these bytes for standard output and none for standard error.
     pub fn of_output(alloc: Global, output: Vec<u8>, status: Status) -> Report
-        ensures { outcome_of result ≡ record { output = output.items; errors = []; status = status } }
+        ensures { outcome_of result
+            ≡ record { output = output.items; errors = []; status = status } }
     {
         Report {
             output,
@@ -58,7 +59,8 @@ impl Report {
 
     /// The report with these bytes for standard error and none for standard output.
     pub fn of_errors(alloc: Global, errors: Vec<u8>, status: Status) -> Report
-        ensures { outcome_of result ≡ record { output = []; errors = errors.items; status = status } }
+        ensures { outcome_of result
+            ≡ record { output = []; errors = errors.items; status = status } }
     {
         Report {
             output: Vec::new(alloc),
@@ -69,7 +71,8 @@ impl Report {
 
     /// The report with these bytes after its own for standard error. The error is out of memory.
     pub fn and_errors(self, more: &[u8]) -> Result<Report, AllocError>
-        ensures { IfOk result (λ report. outcome_of report ≡ and_errors (outcome_of self) more.now) }
+        ensures { IfOk result (λ report. outcome_of report ≡ and_errors (outcome_of self)
+            more.now) }
     {
         let mut report = self;
         report.errors.extend_from_slice(more)?;

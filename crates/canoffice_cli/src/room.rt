@@ -60,7 +60,8 @@ fn room_for(arrivals: &[Arrival]) -> Option<usize>
 impl Room {
     /// Room for the longest lines that can answer the arrivals, and for that of a loss. The error is out of memory.
     pub(crate) fn for_answers(alloc: Global, arrivals: &[Arrival]) -> Result<Room, AllocError>
-        ensures answers { IfOk result (λ room. room_for arrivals.now ≤ string_capacity room.answers) }
+        ensures answers { IfOk result
+            (λ room. room_for arrivals.now ≤ string_capacity room.answers) }
         ensures loss { IfOk result (λ room. longest_loss ≤ string_capacity room.loss) }
     {
         let Some(bytes) = room_for(arrivals) else {

@@ -49,7 +49,8 @@ pub fn serve_report<D: Databases>(
     port: u16,
     count: u32,
 ) -> Result<Report, AllocError>
-    ensures { IfOk result (λ report. IsServeOutcome (D.known databases.old) (D.known databases.new) path.now count
+    ensures { IfOk result (λ report. IsServeOutcome (D.known databases.old) (D.known databases.new)
+        path.now count
         (outcome_of report)) }
 {
     let end = databases.serve(alloc, path, port, count);

@@ -6,8 +6,8 @@ ghost use Rattle.canoffice_cli.specs.Tabled.{IsTableOutcome};
 use crate::checking::fault_line;
 use crate::report::{Report, Status};
 use dbc_read::{ReadCode, read};
+use office_views::table_of;
 use std::alloc::{AllocError, Global};
-use views::table_of;
 
 /// The table of the messages of the sheet that the DBC text reads as, whether it is clear or not; or, if the text reads
 /// as no sheet, the fault's code and offset on standard error, with the status `FaultFound`.

@@ -1,13 +1,14 @@
 -- The lines of the kinds of skipped statements, after one more statement.
-use Rattle.std.proofs.Common.{◌≡◌, ◌+◌, ◌<◌, ◌||◌, ℕ, Bool, true, false, List, [], ◌∷◌, ◌++◌, length, take, get_or, refl, sym, ap, ◌∙◌, append_assoc}
+use Rattle.std.proofs.Common.{◌≡◌, ◌+◌, ◌<◌, ◌||◌, ℕ, Bool, true, false, List, [], ◌∷◌, ◌++◌, length, take, get_or}
+use Rattle.std.proofs.Common.{refl, sym, ap, ◌∙◌, append_assoc}
 use Rattle.std.specs.Prelude.{if◌then◌else◌}
 use Rattle.std.specs.List.{enumerate_from, flat_map, list_any}
 use Rattle.std.specs.Str.{bytes_eq}
 use Rattle.std.proofs.lemmas.List.{at_drop_more}
 use Rattle.std.proofs.lemmas.List.Folds.{list_any-append, list_any_more}
 use Rattle.std.proofs.lemmas.Slice.Eq.{bytes_eq-Decides}
-use Rattle.catalogue.specs.Keyword.{keyword_text}
-use Rattle.catalogue.specs.declared.keyword.Keyword.{Keyword}
+use Rattle.dbc_words.specs.Keyword.{keyword_text}
+use Rattle.dbc_words.specs.declared.keyword.Keyword.{Keyword}
 use Rattle.dbc_read.specs.declared.passed.Passed.{Passed}
 use Rattle.dbc_advice.specs.LeftOut.{count_text, has_keyword, kind_count, kind_text, kinds_text, passed_line}
 
@@ -30,10 +31,12 @@ or_false true = refl
 or_false false = refl
 
 -- one more, whose keyword none of them has, is added
-pub keywords_added : (firsts new passed : List Passed) (i : ℕ) (d : Passed) → i < length passed → HaveKeywords firsts passed i → new ≡ firsts ++ get_or passed i d ∷ [] → HaveKeywords new passed (i + 1)
+pub keywords_added : (firsts new passed : List Passed) (i : ℕ) (d : Passed) → i < length passed
+    → HaveKeywords firsts passed i → new ≡ firsts ++ get_or passed i d ∷ [] → HaveKeywords new passed (i + 1)
 keywords_added firsts new passed i d lt have is = λ k.
     let p = get_or passed i d in
-    ap (has_keyword k) is ∙ list_any-append (is_of k) firsts (p ∷ []) ∙ ap (λ (b : Bool). has_keyword k firsts || b) (or_false (is_of k p))
+    ap (has_keyword k) is ∙ list_any-append (is_of k) firsts (p ∷ [])
+    ∙ ap (λ (b : Bool). has_keyword k firsts || b) (or_false (is_of k p))
     ∙ ap (λ (b : Bool). b || is_of k p) (have k) ∙ sym (list_any_more (is_of k) passed i d lt)
 
 -- whether one of them has the text of a keyword
@@ -41,7 +44,9 @@ abbrev has_text : List Passed → List ℕ → Bool
 has_text firsts t = list_any (λ (q : Passed). bytes_eq (keyword_text q.keyword) t) firsts
 
 -- one of them has the keyword of one more
-pub keywords_kept : (firsts passed : List Passed) (i : ℕ) (d : Passed) → i < length passed → HaveKeywords firsts passed i → has_keyword (get_or passed i d).keyword firsts ≡ true → HaveKeywords firsts passed (i + 1)
+pub keywords_kept : (firsts passed : List Passed) (i : ℕ) (d : Passed) → i < length passed
+    → HaveKeywords firsts passed i → has_keyword (get_or passed i d).keyword firsts ≡ true
+    → HaveKeywords firsts passed (i + 1)
 keywords_kept firsts passed i d lt have there = λ k.
     let p = get_or passed i d in
     or_same (has_keyword k firsts) (is_of k p)
@@ -51,27 +56,39 @@ keywords_kept firsts passed i d lt have there = λ k.
 module _ (file text : List ℕ) where
   -- the text of the kinds from an index on begins with that of the statement at the index
   kinds_step : (passed : List Passed) (i : ℕ) (d : Passed) → i < length passed
-      → kinds_text file text passed i ≡ kind_text file text passed (i, get_or passed i d) ++ kinds_text file text passed (i + 1)
-  kinds_step passed i d lt = at_drop_more (λ (ps : List Passed). flat_map (kind_text file text passed) (enumerate_from i ps)) passed i d lt
+      → kinds_text file text passed i ≡ kind_text file text passed (i, get_or passed i d) ++ kinds_text file text passed
+      (i + 1)
+  kinds_step passed i d lt =
+      at_drop_more (λ (ps : List Passed). flat_map (kind_text file text passed) (enumerate_from i ps)) passed i d lt
 
   -- the text of a statement, by whether one before it has its keyword
   abbrev text_if : List Passed → Passed → Bool → List ℕ
   text_if passed p there = if there then [] else passed_line file text p (count_text (kind_count p.keyword passed))
 
   -- the line of a statement whose keyword none of them has
-  pub line_added : (firsts passed : List Passed) (i : ℕ) (d : Passed) (lines line new : List ℕ) → i < length passed → HaveKeywords firsts passed i
-      → has_keyword (get_or passed i d).keyword firsts ≡ false → line ≡ passed_line file text (get_or passed i d) (count_text (kind_count (get_or passed i d).keyword passed))
-      → new ≡ lines ++ line → lines ++ kinds_text file text passed i ≡ kinds_text file text passed 0 → new ++ kinds_text file text passed (i + 1) ≡ kinds_text file text passed 0
+  pub line_added : (firsts passed : List Passed) (i : ℕ) (d : Passed) (lines line new : List ℕ) → i < length passed
+      → HaveKeywords firsts passed i
+      → has_keyword (get_or passed i d).keyword firsts ≡ false
+      → line ≡ passed_line file text (get_or passed i d) (count_text (kind_count (get_or passed i d).keyword passed))
+      → new ≡ lines ++ line → lines ++ kinds_text file text passed i ≡ kinds_text file text passed 0
+      → new ++ kinds_text file text passed (i + 1) ≡ kinds_text file text passed 0
   line_added firsts passed i d lines line new lt have absent is e before =
       let p = get_or passed i d in
-      let here : kind_text file text passed (i, p) ≡ line = ap (text_if passed p) (sym (have p.keyword) ∙ absent) ∙ sym is in
-      ap (λ (v : List ℕ). v ++ kinds_text file text passed (i + 1)) e ∙ append_assoc lines line (kinds_text file text passed (i + 1))
-      ∙ ap (λ (v : List ℕ). lines ++ (v ++ kinds_text file text passed (i + 1))) (sym here) ∙ ap (λ (v : List ℕ). lines ++ v) (sym (kinds_step passed i d lt)) ∙ before
+      let here : kind_text file text passed (i, p) ≡ line = ap (text_if passed p) (sym (have p.keyword) ∙ absent)
+      ∙ sym is in
+      ap (λ (v : List ℕ). v ++ kinds_text file text passed (i + 1)) e
+      ∙ append_assoc lines line (kinds_text file text passed (i + 1))
+      ∙ ap (λ (v : List ℕ). lines ++ (v ++ kinds_text file text passed (i + 1))) (sym here)
+      ∙ ap (λ (v : List ℕ). lines ++ v) (sym (kinds_step passed i d lt)) ∙ before
 
   -- a statement whose keyword one of them has adds none
-  pub line_kept : (firsts passed : List Passed) (i : ℕ) (d : Passed) (lines : List ℕ) → i < length passed → HaveKeywords firsts passed i
-      → has_keyword (get_or passed i d).keyword firsts ≡ true → lines ++ kinds_text file text passed i ≡ kinds_text file text passed 0 → lines ++ kinds_text file text passed (i + 1) ≡ kinds_text file text passed 0
+  pub line_kept : (firsts passed : List Passed) (i : ℕ) (d : Passed) (lines : List ℕ) → i < length passed
+      → HaveKeywords firsts passed i
+      → has_keyword (get_or passed i d).keyword firsts ≡ true
+      → lines ++ kinds_text file text passed i ≡ kinds_text file text passed 0
+      → lines ++ kinds_text file text passed (i + 1) ≡ kinds_text file text passed 0
   line_kept firsts passed i d lines lt have there before =
       let p = get_or passed i d in
       let here : kind_text file text passed (i, p) ≡ [] = ap (text_if passed p) (sym (have p.keyword) ∙ there) in
-      ap (λ (v : List ℕ). lines ++ (v ++ kinds_text file text passed (i + 1))) (sym here) ∙ ap (λ (v : List ℕ). lines ++ v) (sym (kinds_step passed i d lt)) ∙ before
+      ap (λ (v : List ℕ). lines ++ (v ++ kinds_text file text passed (i + 1))) (sym here)
+      ∙ ap (λ (v : List ℕ). lines ++ v) (sym (kinds_step passed i d lt)) ∙ before

@@ -4,7 +4,7 @@ use Rattle.std.specs.Char.{encode_utf8}
 use Rattle.std.specs.Fmt.{digits}
 use Rattle.std.specs.Prelude.{codes}
 use Rattle.std.specs.Str.{chars}
-use Rattle.catalogue.specs.declared.keyword.Keyword.TheVariants as key
+use Rattle.dbc_words.specs.declared.keyword.Keyword.TheVariants as key
 use Rattle.dbc_lex.specs.declared.fault.ReadCode.TheVariants as code
 use Rattle.dbc_advice.specs.Blanked.{blanked}
 use Rattle.dbc_advice.specs.Position.{position_at}
@@ -57,12 +57,14 @@ line_of_cr_lf = refl
 one_of_three : listed (kind.Number ∷ kind.Name ∷ kind.Semicolon ∷ []) ≡ codes "a number, a name or ';'"
 one_of_three = refl
 
-ends_too_early : sentence_of code.Unexpected found.End (kind.Semicolon ∷ []) (Some key.Comment) (Some (hint.Unfinished 7))
+ends_too_early : sentence_of code.Unexpected found.End (kind.Semicolon ∷ []) (Some key.Comment)
+    (Some (hint.Unfinished 7))
     ≡ codes "found the end of the file, ';' is wanted here (in CM_); the statement of line 7 isn't finished"
 unfolding digits
 ends_too_early = refl
 
-line_of_a_fault : reported_line (codes "a.dbc") (record { line = 5; column = 12 }) (code_label 39 (codes "Size")) (codes "too large") ≡ codes "a.dbc:5:12: 39 Size: too large\n"
+line_of_a_fault : reported_line (codes "a.dbc") (record { line = 5; column = 12 }) (code_label 39 (codes "Size"))
+    (codes "too large") ≡ codes "a.dbc:5:12: 39 Size: too large\n"
 unfolding digits
 line_of_a_fault = refl
 
@@ -75,18 +77,21 @@ hundred_faults = refl
 hundred_clashes : more_text (codes "a.dbc") 100 100 (codes "clashes") ≡ []
 hundred_clashes = refl
 
-one_clash_more : more_text (codes "a.dbc") 100 101 (codes "clashes") ≡ codes "a.dbc: 100 clashes shown; there are more\n"
+one_clash_more : more_text (codes "a.dbc") 100 101 (codes "clashes")
+    ≡ codes "a.dbc: 100 clashes shown; there are more\n"
 unfolding digits
 one_clash_more = refl
 
 -- ---- paths
 
 -- ESC, LF, DEL and U+009B
-control_characters : shown_path (codes "a" ++ 27 ∷ 10 ∷ 127 ∷ 194 ∷ 155 ∷ codes "b.dbc") ≡ codes "a\\x1b\\x0a\\x7f\\x9bb.dbc"
+control_characters : shown_path (codes "a" ++ 27 ∷ 10 ∷ 127 ∷ 194 ∷ 155 ∷ codes "b.dbc")
+    ≡ codes "a\\x1b\\x0a\\x7f\\x9bb.dbc"
 unfolding chars encode_utf8
 control_characters = refl
 
 -- a blank, a backslash, `à` and `€`
-other_characters : shown_path (codes "a \\x1b" ++ 195 ∷ 160 ∷ 226 ∷ 130 ∷ 172 ∷ []) ≡ codes "a \\x1b" ++ 195 ∷ 160 ∷ 226 ∷ 130 ∷ 172 ∷ []
+other_characters : shown_path (codes "a \\x1b" ++ 195 ∷ 160 ∷ 226 ∷ 130 ∷ 172 ∷ []) ≡ codes "a \\x1b" ++ 195 ∷ 160 ∷ 226
+    ∷ 130 ∷ 172 ∷ []
 unfolding chars encode_utf8
 other_characters = refl

@@ -1,5 +1,6 @@
 -- What is shown of a path has no control character, and is the path where that has none.
-use Rattle.std.proofs.Common.{◌≡◌, ◌<◌, ℕ, ◌/◌, ◌%◌, Bool, true, false, List, [], ◌∷◌, ◌++◌, refl, sym, ap, ◌∙◌, arith, chars, encode_utf8_all, if◌then◌else◌}
+use Rattle.std.proofs.Common.{◌≡◌, ◌<◌, ℕ, ◌/◌, ◌%◌, Bool, true, false, List, [], ◌∷◌, ◌++◌, refl, sym, ap, ◌∙◌, arith}
+use Rattle.std.proofs.Common.{chars, encode_utf8_all, if◌then◌else◌}
 use Rattle.std.proofs.lemmas.Bool.Decides.{nat_tests}
 use Rattle.std.proofs.lemmas.Str.{chars_from_encodes}
 use Rattle.std.specs.Char.{digit_char, is_control}
@@ -30,7 +31,8 @@ character_is_plain c = by_kind (is_control c) refl
 
 characters_are_plain : (cs : List ℕ) → NonePass is_control (shown_characters cs)
 characters_are_plain [] = tt
-characters_are_plain (c ∷ cs) = none_append (shown_character c) (shown_characters cs) (character_is_plain c) (characters_are_plain cs)
+characters_are_plain (c ∷ cs) = none_append (shown_character c) (shown_characters cs) (character_is_plain c)
+    (characters_are_plain cs)
 
 pub shown_is_plain : (path : List ℕ) → NoCharPasses is_control (shown_path path)
 shown_is_plain path = (shown_characters (chars path), refl, characters_are_plain (chars path))
@@ -38,9 +40,11 @@ shown_is_plain path = (shown_characters (chars path), refl, characters_are_plain
 same_characters : (cs : List ℕ) → NonePass is_control cs → shown_characters cs ≡ cs
 same_characters [] none = refl
 same_characters (c ∷ cs) none =
-    ap (λ (b : Bool). (if b then escaped c else c ∷ []) ++ shown_characters cs) none.0 ∙ ap (λ rest. c ∷ rest) (same_characters cs none.1)
+    ap (λ (b : Bool). (if b then escaped c else c ∷ []) ++ shown_characters cs) none.0
+    ∙ ap (λ rest. c ∷ rest) (same_characters cs none.1)
 
 pub plain_is_same : (path : List ℕ) → IsUtf8 path → NoCharPasses is_control path → shown_path path ≡ path
 plain_is_same path text plain =
     let all : plain.0 ≡ chars path = chars_from_encodes plain.0 path text plain.1 in
-    ap (λ cs. encode_utf8_all (shown_characters cs)) (sym all) ∙ ap encode_utf8_all (same_characters plain.0 plain.2) ∙ plain.1
+    ap (λ cs. encode_utf8_all (shown_characters cs)) (sym all) ∙ ap encode_utf8_all (same_characters plain.0 plain.2)
+    ∙ plain.1

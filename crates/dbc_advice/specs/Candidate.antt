@@ -1,7 +1,11 @@
 -- What may come in a statement, kind by kind: the table of all that may be wanted.
 use Rattle.std.specs.Prelude.{ℕ, List, [], ◌∷◌, codes}
 use Rattle.dbc_advice.specs.declared.candidate.Candidate.{Candidate}
-use Rattle.dbc_advice.specs.declared.candidate.Candidate.TheVariants.{Number, AnyName, Name, Text, Indicator, Semicolon, Colon, Comma, Bar, At, LeftParenthesis, RightParenthesis, LeftBracket, RightBracket, Plus, Minus, Statement, Signal, Nodes, Message, EnvironmentVariable, BitTiming}
+use Rattle.dbc_advice.specs.declared.candidate.Candidate.TheVariants.{Number, AnyName, Name, Text, Indicator, Semicolon}
+use Rattle.dbc_advice.specs.declared.candidate.Candidate.TheVariants.{Colon, Comma, Bar, At, LeftParenthesis}
+use Rattle.dbc_advice.specs.declared.candidate.Candidate.TheVariants.{RightParenthesis, LeftBracket, RightBracket, Plus}
+use Rattle.dbc_advice.specs.declared.candidate.Candidate.TheVariants.{Minus, Statement, Signal, Nodes, Message}
+use Rattle.dbc_advice.specs.declared.candidate.Candidate.TheVariants.{EnvironmentVariable, BitTiming}
 
 -- a token of the kind
 abbrev pub sample_of : Candidate → List ℕ

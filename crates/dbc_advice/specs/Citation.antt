@@ -1,20 +1,21 @@
 -- What a statement cites, and whether a sheet has it.
-use Rattle.std.specs.Prelude.{ℕ, ◌&&◌, Bool, false, not, is_none, List, [], ◌∷◌, ◌++◌, Option, Some, None, codes, drop, length, min, if◌then◌else◌}
+use Rattle.std.specs.Prelude.{ℕ, ◌&&◌, Bool, false, not, is_none, List, [], ◌∷◌, ◌++◌, Option, Some, None, codes, drop}
+use Rattle.std.specs.Prelude.{length, min, if◌then◌else◌}
 use Rattle.std.specs.Option.{option_and_then, option_map_or}
 use Rattle.std.specs.Str.{bytes_eq}
+use Rattle.base.specs.WholeNumber.{whole_of}
+use Rattle.dbc_words.specs.Keyword.{keyword_of, keyword_text}
+use Rattle.dbc_words.specs.Named.{has_name}
+use Rattle.dbc_words.specs.declared.keyword.Keyword.{Keyword}
+use Rattle.dbc_words.specs.declared.keyword.Keyword.TheVariants as key
 use Rattle.dbc_grammar.specs.Fields.{is_a}
-use Rattle.catalogue.specs.Keyword.{keyword_of, keyword_text}
 use Rattle.dbc_grammar.specs.Lexing.{lexed}
-use Rattle.catalogue.specs.Messages.{message_at}
-use Rattle.catalogue.specs.Named.{has_name}
-use Rattle.catalogue.specs.Sheet.{node_name}
-use Rattle.catalogue.specs.Signals.{signal_name}
+use Rattle.dbc_sheet.specs.Messages.{message_at}
+use Rattle.dbc_sheet.specs.Sheet.{node_name}
+use Rattle.dbc_sheet.specs.Signals.{signal_name}
 use Rattle.dbc_grammar.specs.Token.{Token}
-use Rattle.catalogue.specs.WholeNumber.{whole_of}
-use Rattle.catalogue.specs.declared.keyword.Keyword.{Keyword}
-use Rattle.catalogue.specs.declared.keyword.Keyword.TheVariants as key
-use Rattle.catalogue.specs.declared.message.Message.{Message}
-use Rattle.catalogue.specs.declared.sheet.Sheet.{Sheet}
+use Rattle.dbc_sheet.specs.declared.message.Message.{Message}
+use Rattle.dbc_sheet.specs.declared.sheet.Sheet.{Sheet}
 use Rattle.dbc_grammar.specs.declared.token.TokenKind.TheVariants.{Number}
 use Rattle.dbc_advice.specs.declared.citation.Citation.{Citation}
 use Rattle.dbc_advice.specs.declared.citation.Citation.TheVariants as citing
@@ -63,7 +64,8 @@ abbrev pub cited_by_spn : List Token → Option Cited
 cited_by_spn [] = None
 cited_by_spn (attribute ∷ []) = None
 cited_by_spn (attribute ∷ (kind ∷ rest)) =
-    if bytes_eq attribute.text (codes "\"SPN\"") && bytes_eq kind.text (keyword_text key.Signal) then cited_signal rest else None
+    if bytes_eq attribute.text (codes "\"SPN\"") && bytes_eq kind.text (keyword_text key.Signal) then cited_signal rest
+    else None
 
 abbrev pub cited_by_statement : Option Keyword → List Token → Option Cited
 cited_by_statement (Some key.Comment) rest = cited_by_comment rest
@@ -88,7 +90,8 @@ cited_message s number = option_and_then (message_at s.messages) (whole_of numbe
 
 -- whether that message has a signal of the name
 abbrev pub has_signal : Sheet → List ℕ → List ℕ → Bool
-has_signal s number name = option_map_or (λ (m : Message). has_name signal_name m.signals name) (cited_message s number) false
+has_signal s number name = option_map_or (λ (m : Message). has_name signal_name m.signals name) (cited_message s number)
+    false
 
 abbrev pub is_missing : Sheet → Cited → Bool
 is_missing s (OfNode name) = not (has_name node_name s.nodes name)

@@ -2,9 +2,9 @@
 use Rattle.std.specs.Prelude.{◌≡◌, ◌≤◌, ℕ, List, ◌++◌, map, take, length, codes}
 use Rattle.std.specs.List.{flat_map}
 use Rattle.bitlayout.specs.declared.clash.Clash.{Clash}
-use Rattle.catalogue.specs.Fault.{clash_code, code_name, code_number}
-use Rattle.catalogue.specs.Signals.{places_of}
-use Rattle.catalogue.specs.declared.message.Message.{Message}
+use Rattle.dbc_words.specs.Fault.{clash_code, code_name, code_number}
+use Rattle.dbc_sheet.specs.Signals.{places_of}
+use Rattle.dbc_sheet.specs.declared.message.Message.{Message}
 use Rattle.dbc_advice.specs.Limits.{clashes_reported}
 use Rattle.dbc_advice.specs.Position.{position_at}
 use Rattle.dbc_advice.specs.Reasons.{reasons_from}

@@ -21,7 +21,9 @@ use Rattle.dbc_advice.specs.declared.findings.Reported.{Reported}
 pub record IsFaultLine (file text : List ℕ) (t : Reported) (line : List ℕ) : Type 0 where
   pub found : Found
   pub is_found : IsFound text (lexed (min t.fault.at (length text)) (drop (min t.fault.at (length text)) text)) found
-  pub is : line ≡ reported_line file (position_at text (min t.fault.at (length text))) (code_label (code_number t.fault.code) (code_name t.fault.code)) (sentence_of t.fault.code found t.wanted.items (keyword_at text (min t.lines.first (length text))) t.hint)
+  pub is : line ≡ reported_line file (position_at text (min t.fault.at (length text)))
+      (code_label (code_number t.fault.code) (code_name t.fault.code))
+      (sentence_of t.fault.code found t.wanted.items (keyword_at text (min t.lines.first (length text))) t.hint)
 
 -- the lines of faults, in order
 abbrev pub AreFaultLines : List ℕ → List ℕ → List Reported → List ℕ → Type 0
@@ -40,7 +42,9 @@ fault_word count = if count == 1 then codes "fault" else codes "faults"
 
 -- the last line: how many faults are shown, and why no more
 abbrev pub count_line : List ℕ → ℕ → Ending → List ℕ
-count_line file reported ending = file ++ (codes ": " ++ (decimal reported ++ (codes " " ++ (fault_word reported ++ (codes " shown; " ++ (ending_text ending ++ codes "\n"))))))
+count_line file reported ending =
+    file ++ (codes ": " ++ (decimal reported
+    ++ (codes " " ++ (fault_word reported ++ (codes " shown; " ++ (ending_text ending ++ codes "\n"))))))
 
 -- of a file that reads: why messages aren't clear, and what the sheet leaves out
 pub record IsStatedOfSheet (file text : List ℕ) (reading : Reading) (out : List ℕ) : Type 0 where

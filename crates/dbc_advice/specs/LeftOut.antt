@@ -1,10 +1,11 @@
 -- What is stated of statements that are skipped.
-use Rattle.std.specs.Prelude.{◌≡◌, ℕ, nat_lt, Bool, List, [], ◌∷◌, ◌++◌, Option, Some, None, take, drop, length, min, codes, decimal, if◌then◌else◌}
+use Rattle.std.specs.Prelude.{◌≡◌, ℕ, nat_lt, Bool, List, [], ◌∷◌, ◌++◌, Option, Some, None, take, drop, length, min}
+use Rattle.std.specs.Prelude.{codes, decimal, if◌then◌else◌}
 use Rattle.std.specs.List.{count_by, enumerate_from, flat_map, list_any}
 use Rattle.std.specs.Str.{bytes_eq}
-use Rattle.catalogue.specs.Keyword.{keyword_text}
-use Rattle.catalogue.specs.declared.keyword.Keyword.{Keyword}
-use Rattle.catalogue.specs.declared.sheet.Sheet.{Sheet}
+use Rattle.dbc_words.specs.Keyword.{keyword_text}
+use Rattle.dbc_words.specs.declared.keyword.Keyword.{Keyword}
+use Rattle.dbc_sheet.specs.declared.sheet.Sheet.{Sheet}
 use Rattle.dbc_read.specs.declared.passed.Passed.{Passed}
 use Rattle.dbc_advice.specs.Citation.{Cited, citation_at, citation_text, is_missing}
 use Rattle.dbc_advice.specs.Limits.{citations_reported}
@@ -25,7 +26,8 @@ count_text count = decimal count ++ codes " left out, the first one here"
 
 -- the line of what is stated of a skipped statement: at its keyword, and with this as its label
 abbrev pub passed_line : List ℕ → List ℕ → Passed → List ℕ → List ℕ
-passed_line file text p sentence = reported_line file (position_at text (min p.at (length text))) (passed_label p.keyword) sentence
+passed_line file text p sentence =
+    reported_line file (position_at text (min p.at (length text))) (passed_label p.keyword) sentence
 
 -- ---- one by one
 
@@ -88,7 +90,8 @@ has_keyword keyword passed = list_any (λ (p : Passed). bytes_eq (keyword_text p
 -- a statement whose keyword no earlier one has is reported, with how many have it
 abbrev pub kind_text : List ℕ → List ℕ → List Passed → ℕ × Passed → List ℕ
 kind_text file text passed p =
-    if has_keyword p.1.keyword (take p.0 passed) then [] else passed_line file text p.1 (count_text (kind_count p.1.keyword passed))
+    if has_keyword p.1.keyword (take p.0 passed) then [] else passed_line file text p.1
+    (count_text (kind_count p.1.keyword passed))
 
 -- those of the index and after it
 abbrev pub kinds_text : List ℕ → List ℕ → List Passed → ℕ → List ℕ

@@ -1,9 +1,9 @@
 -- The beginning of a statement by itself.
 use Rattle.std.specs.Prelude.{ℕ, List, ◌++◌, if◌then◌else◌, codes, slice_range}
+use Rattle.dbc_words.specs.declared.keyword.Keyword.TheVariants.{Signal}
 use Rattle.dbc_grammar.specs.Fields.{is_key}
 use Rattle.dbc_grammar.specs.Lexing.{lexed}
 use Rattle.dbc_grammar.specs.Rules.{starts}
-use Rattle.catalogue.specs.declared.keyword.Keyword.TheVariants.{Signal}
 use Rattle.dbc_advice.specs.Lines.{line_start}
 
 -- the heading of a message, after which a signal may come

@@ -1,5 +1,6 @@
 -- Why the signals of a message do not fit together: all reasons, each with a bit.
-use Rattle.std.specs.Prelude.{◌≡◌, ◌<◌, ◌≤◌, ◌⊎◌, ◌&&◌, ℕ, ◌*◌, ◌-◌, Bool, not, List, [], ◌∷◌, ◌++◌, length, take, drop, find, Option, None, if◌then◌else◌}
+use Rattle.std.specs.Prelude.{◌≡◌, ◌<◌, ◌≤◌, ◌⊎◌, ◌&&◌, ℕ, ◌*◌, ◌-◌, Bool, not, List, [], ◌∷◌, ◌++◌, length, take, drop}
+use Rattle.std.specs.Prelude.{find, Option, None, if◌then◌else◌}
 use Rattle.std.specs.List.{enumerate_from, flat_map, range_with_len}
 use Rattle.bitlayout.specs.Bits.{is_bit, is_inside}
 use Rattle.bitlayout.specs.Clash.{collide, has_multiplexor}
@@ -25,7 +26,8 @@ first_outside bytes a = find (λ q. is_bit a q) (range_with_len (8 * bytes) (pos
 -- a bit of the place is outside
 abbrev pub outside_reason : ℕ → ℕ → Place → List Reason
 outside_reason bytes i place =
-    if is_inside place.layout bytes then [] else record { clash = Outside i; bit = first_outside bytes place.layout } ∷ []
+    if is_inside place.layout bytes then [] else record { clash = Outside i; bit = first_outside bytes place.layout }
+    ∷ []
 
 -- the place depends on a value of the multiplexor, and there is none
 abbrev pub unmultiplexed_reason : Bool → ℕ → Place → List Reason
@@ -35,7 +37,8 @@ unmultiplexed_reason multiplexed i place =
 -- two places are both present for some value, and share a bit
 abbrev pub overlap_reason : ℕ → ℕ → Place → ℕ × Place → List Reason
 overlap_reason bytes i place other =
-    if collide other.1 place then record { clash = Overlap other.0 i; bit = first_shared bytes other.1.layout place.layout } ∷ [] else []
+    if collide other.1 place
+    then record { clash = Overlap other.0 i; bit = first_shared bytes other.1.layout place.layout } ∷ [] else []
 
 abbrev pub overlap_reasons : ℕ → List Place → ℕ → Place → List Reason
 overlap_reasons bytes earlier i place = flat_map (overlap_reason bytes i place) (enumerate_from 0 earlier)

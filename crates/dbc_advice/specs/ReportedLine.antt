@@ -17,11 +17,13 @@ reported_line file position label sentence =
 -- one line after the other, each of one of these, in order
 abbrev pub AreLinesOf : {A : Type 0} → (A → List ℕ → Type 0) → List A → List ℕ → Type 0
 AreLinesOf Is [] lines = [] ≡ lines
-AreLinesOf Is (x ∷ xs) lines = (line : List ℕ) × (rest : List ℕ) × Is x line × AreLinesOf Is xs rest × (line ++ rest ≡ lines)
+AreLinesOf Is (x ∷ xs) lines = (line : List ℕ) × (rest : List ℕ) × Is x line × AreLinesOf Is xs rest
+    × (line ++ rest ≡ lines)
 
 -- a last line: only so many are reported, and there are more
 abbrev pub more_line : List ℕ → ℕ → List ℕ → List ℕ
-more_line file limit what = file ++ (codes ": " ++ (decimal limit ++ (codes " " ++ (what ++ codes " shown; there are more\n"))))
+more_line file limit what =
+    file ++ (codes ": " ++ (decimal limit ++ (codes " " ++ (what ++ codes " shown; there are more\n"))))
 
 -- that line, if there are more than the limit
 abbrev pub more_text : List ℕ → ℕ → ℕ → List ℕ → List ℕ

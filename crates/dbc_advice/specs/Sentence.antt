@@ -1,9 +1,13 @@
 -- What is stated of a fault: one sentence.
-use Rattle.std.specs.Prelude.{ℕ, nat_le, nat_lt, ◌&&◌, List, [], ◌∷◌, ◌++◌, length, map, take, Option, Some, None, if◌then◌else◌, codes, decimal}
-use Rattle.catalogue.specs.Keyword.{keyword_text}
-use Rattle.catalogue.specs.declared.keyword.Keyword.{Keyword}
+use Rattle.std.specs.Prelude.{ℕ, nat_le, nat_lt, ◌&&◌, List, [], ◌∷◌, ◌++◌, length, map, take, Option, Some, None}
+use Rattle.std.specs.Prelude.{if◌then◌else◌, codes, decimal}
+use Rattle.dbc_words.specs.Keyword.{keyword_text}
+use Rattle.dbc_words.specs.declared.keyword.Keyword.{Keyword}
 use Rattle.dbc_lex.specs.declared.fault.ReadCode.{ReadCode}
-use Rattle.dbc_lex.specs.declared.fault.ReadCode.TheVariants.{DoubleNumber, DoubleName, TwoMultiplexors, TooMany, UnclosedText, StrayByte, Unexpected, UnknownStatement, ExtendedMultiplexing, Number, Identifier, Name, Length, Size, Memory}
+use Rattle.dbc_lex.specs.declared.fault.ReadCode.TheVariants.{DoubleNumber, DoubleName, TwoMultiplexors, TooMany}
+use Rattle.dbc_lex.specs.declared.fault.ReadCode.TheVariants.{UnclosedText, StrayByte, Unexpected, UnknownStatement}
+use Rattle.dbc_lex.specs.declared.fault.ReadCode.TheVariants.{ExtendedMultiplexing, Number, Identifier, Name, Length}
+use Rattle.dbc_lex.specs.declared.fault.ReadCode.TheVariants.{Size, Memory}
 use Rattle.dbc_advice.specs.Candidate.{phrase_of}
 use Rattle.dbc_advice.specs.declared.candidate.Candidate.{Candidate}
 use Rattle.dbc_advice.specs.declared.found.Found.{Found}
@@ -25,7 +29,8 @@ abbrev pub shown_limit : ℕ
 shown_limit = 40
 
 abbrev pub shown : List ℕ → List ℕ
-shown bytes = if nat_lt shown_limit (length bytes) then map visible (take shown_limit bytes) ++ codes ".." else map visible bytes
+shown bytes = if nat_lt shown_limit (length bytes) then map visible (take shown_limit bytes)
+    ++ codes ".." else map visible bytes
 
 abbrev pub quoted : List ℕ → List ℕ
 quoted bytes = codes "'" ++ (shown bytes ++ codes "'")
@@ -51,13 +56,14 @@ abbrev pub plain_meaning : ReadCode → List ℕ
 plain_meaning DoubleNumber = codes ", the number of an earlier message too: give one of them another number"
 plain_meaning DoubleName = codes ", the name of an earlier one too: rename one of them"
 plain_meaning TwoMultiplexors = codes ", but the message has a multiplexor already: mark only one signal with M"
-plain_meaning TooMany = codes ", one more than a sheet may have (docs/GRAMMAR.md): split the file"
+plain_meaning TooMany = codes ", one more than a sheet may have (README.md): split the file"
 plain_meaning UnclosedText = codes ", and no other quote closes the text that it opens"
 plain_meaning StrayByte = codes ", with which no name, number, text or mark begins"
 plain_meaning Unexpected = codes ", which can't come here"
 plain_meaning UnknownStatement = codes ", but a statement begins with a keyword"
 plain_meaning ExtendedMultiplexing = codes ", but extended multiplexing can't be read: use M and m0, not m0M"
-plain_meaning Number = codes ", out of range: at most 36 digits, powers of ten -400 to 400; a type is 0 to 2, m is m0 to m4294967295"
+plain_meaning Number = codes
+    ", out of range: at most 36 digits, powers of ten -400 to 400; a type is 0 to 2, m is m0 to m4294967295"
 plain_meaning Identifier = codes ", no message's number: 0 to 2047, or 2147483648 more than 29 bits"
 plain_meaning Name = codes ", which can't be a name here: a keyword, Vector__XXX or over 128 bytes"
 plain_meaning Length = codes ", but a length is 0 to 1785 bytes: take out messages that are longer"

@@ -1,11 +1,11 @@
 -- Tokens taken one by one, and what is found where a fault is.
 use Rattle.std.specs.Prelude.{◌≡◌, ℕ, List, [], ◌∷◌, Option, Some, None, slice_get, slice_range}
 use Rattle.std.specs.Option.{unwrap_or}
+use Rattle.dbc_words.specs.declared.keyword.Keyword.{Keyword}
 use Rattle.dbc_grammar.specs.Fields.{key_of}
 use Rattle.dbc_grammar.specs.Lexing.{Lexed, LexFault, StrayByte, UnclosedText, lexed}
 use Rattle.dbc_grammar.specs.Token.{Token}
 use Rattle.dbc_grammar.specs.TokenLaw.{tokens_then_fault, tokens_without_fault}
-use Rattle.catalogue.specs.declared.keyword.Keyword.{Keyword}
 use Rattle.dbc_advice.specs.Lines.{line_end, line_start}
 use Rattle.dbc_advice.specs.declared.found.Found.{Found}
 use Rattle.dbc_advice.specs.declared.found.Found.TheVariants as found
@@ -26,7 +26,8 @@ BeginsWith tokens bytes = (t : Token) × (rest : List Token) × (tokens ≡ t �
 abbrev pub IsFound : List ℕ → Lexed → Found → Type 0
 IsFound text read found.End = read ≡ tokens_without_fault []
 IsFound text read found.Quote = (at : ℕ) × (read ≡ tokens_then_fault [] (UnclosedText at))
-IsFound text read (found.Byte b) = (at : ℕ) × (read ≡ tokens_then_fault [] (StrayByte at)) × (b ≡ unwrap_or (slice_get text at) 0)
+IsFound text read (found.Byte b) = (at : ℕ) × (read ≡ tokens_then_fault [] (StrayByte at))
+    × (b ≡ unwrap_or (slice_get text at) 0)
 IsFound text read (found.Token bytes) = BeginsWith read.tokens bytes.now
 
 -- the keyword with which a line begins, if more comes after it

@@ -5,8 +5,8 @@ use Rattle.std.specs.Option.{option_map_or}
 use Rattle.bitlayout.specs.declared.clash.Clash.TheVariants.{NoMultiplexor, Outside, Overlap, TwoMultiplexors}
 use Rattle.bitlayout.specs.declared.clash.Clash.{Clash}
 use Rattle.can_id.specs.Ident.{ident_number}
-use Rattle.catalogue.specs.declared.message.Message.{Message}
-use Rattle.catalogue.specs.declared.signal.Signal.{Signal}
+use Rattle.dbc_sheet.specs.declared.message.Message.{Message}
+use Rattle.dbc_sheet.specs.declared.signal.Signal.{Signal}
 use Rattle.dbc_advice.specs.declared.reasons.Reason.{Reason}
 
 -- the name of the signal at an index
@@ -35,9 +35,11 @@ share_text bit = codes " share " ++ (bit_text bit ++ codes " in ")
 abbrev pub clash_text : Message → Option ℕ → Clash → List ℕ
 clash_text m bit (Outside i) =
     bit_text bit ++ (codes " of signal " ++ (name_at m.signals i ++ outside_text m))
-clash_text m bit (TwoMultiplexors i) = codes "signal " ++ (name_at m.signals i ++ (codes " is a second multiplexor of " ++ message_text m))
+clash_text m bit (TwoMultiplexors i) =
+    codes "signal " ++ (name_at m.signals i ++ (codes " is a second multiplexor of " ++ message_text m))
 clash_text m bit (NoMultiplexor i) =
-    codes "signal " ++ (name_at m.signals i ++ (codes " depends on a multiplexor, and no signal is marked M in " ++ message_text m))
+    codes "signal " ++ (name_at m.signals i
+    ++ (codes " depends on a multiplexor, and no signal is marked M in " ++ message_text m))
 clash_text m bit (Overlap j i) =
     codes "signals " ++ (pair_text m.signals j i ++ (share_text bit ++ message_text m))
 

@@ -1,6 +1,6 @@
 //! What skipped statements cite.
 ghost use Rattle.std.specs.Prelude.{◌≡◌, IfOk, option_map};
-ghost use Rattle.catalogue.specs.declared.sheet.Sheet as of_sheet;
+ghost use Rattle.dbc_sheet.specs.declared.sheet.Sheet as of_sheet;
 ghost use Rattle.std.specs.Option.{option_copied};
 ghost use Rattle.dbc_advice.specs.Citation.{citation_at, citation_text, cited_by_comment, cited_by_spn};
 ghost use Rattle.dbc_advice.specs.Citation.{cited_message, cited_node, cited_number, cited_of, cited_signal};
@@ -10,9 +10,11 @@ ghost use Rattle.dbc_advice.specs.Tokens.{GivesToken};
 
 use crate::joined::{three, two};
 use crate::names::Names;
-use catalogue::{Keyword, Message, Sheet, whole_number};
+use base::whole_number;
 use dbc_grammar::TokenKind;
 use dbc_lex::{Lexer, Token};
+use dbc_sheet::{Message, Sheet};
+use dbc_words::Keyword;
 use std::alloc::{AllocError, Global};
 
 /// What a statement cites. A number is the bytes of its token.
@@ -114,7 +116,8 @@ fn cited_message<'a>(sheet: &'a Sheet, number: &[u8]) -> Option<&'a Message>
 
 /// Whether the sheet's message of the number has a signal of the name.
 fn has_signal(names: &Names, number: &[u8], name: &[u8]) -> bool
-    ensures { (s : of_sheet.Sheet) → AreNamesOf names.now s → result ≡ has_signal s number.now name.now }
+    ensures { (s : of_sheet.Sheet) → AreNamesOf names.now s
+        → result ≡ has_signal s number.now name.now }
 {
     match whole_number(number) {
         Some(number) => names.has_signal(number, name),
@@ -124,7 +127,8 @@ fn has_signal(names: &Names, number: &[u8], name: &[u8]) -> bool
 
 /// Whether the sheet, whose names these are, has nothing that is cited so.
 pub(crate) fn is_missing(sheet: &Sheet, names: &Names, citation: Citation) -> bool
-    ensures { AreNamesOf names.now sheet.now → result ≡ is_missing sheet.now (cited_of citation.entry) }
+    ensures { AreNamesOf names.now sheet.now
+        → result ≡ is_missing sheet.now (cited_of citation.entry) }
 {
     match citation {
         Citation::Node(name) => !names.has_node(name),

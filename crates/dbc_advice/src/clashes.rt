@@ -1,7 +1,7 @@
 //! What is reported of messages that aren't clear.
 ghost use Rattle.std.specs.Prelude.{◌≡◌, ◌≤◌, IfOk, length};
 ghost use Rattle.bitlayout.specs.Clash.{faulty_index};
-ghost use Rattle.catalogue.specs.Signals.{places_of};
+ghost use Rattle.dbc_sheet.specs.Signals.{places_of};
 ghost use Rattle.dbc_advice.specs.Clashes.{AreClashLines, AreCutLines, IsClashLine, clash_label};
 ghost use Rattle.dbc_advice.specs.Reasons.{AreReasons};
 ghost use Rattle.dbc_advice.specs.ReportedLine.{AreLinesOf};
@@ -13,7 +13,8 @@ use crate::reasons::{Reason, reasons_of};
 use crate::sentences::{code_label, more_line, reported_line};
 use crate::unclear::reason_text;
 use bitlayout::{Clash, first_clash};
-use catalogue::{Message, Sheet, SheetCode};
+use dbc_sheet::{Message, Sheet};
+use dbc_words::SheetCode;
 use std::alloc::{AllocError, Global};
 
 /// How many reasons are reported why messages aren't clear.
@@ -76,7 +77,8 @@ fn clash_lines(
     message: &Message,
     reasons: &[Reason],
 ) -> Result<Vec<u8>, AllocError>
-    ensures { IfOk result (λ lines. AreLinesOf (λ r. IsClashLine source.entry.name.now source.entry.text.now
+    ensures { IfOk result (λ lines. AreLinesOf
+        (λ r. IsClashLine source.entry.name.now source.entry.text.now
         (message.now, r)) reasons.now lines.items) }
 {
     let mut lines = Vec::new(alloc);
@@ -89,7 +91,8 @@ fn clash_lines(
 
 /// Why the message isn't clear: all reasons, or more than are reported.
 fn message_reasons(alloc: Global, message: &Message) -> Result<Vec<Reason>, AllocError>
-    ensures { IfOk result (λ reasons. AreReasons message.now.length (places_of message.now.signals) reasons.items) }
+    ensures { IfOk result (λ reasons. AreReasons message.now.length (places_of message.now.signals)
+        reasons.items) }
 {
     let places = message.signals.places(alloc)?;
     let bytes = message.length.bytes();
@@ -109,7 +112,8 @@ fn cut_lines(
     reasons: &[Reason],
 ) -> Result<Vec<u8>, AllocError>
     ensures { IfOk result
-        (λ out. AreCutLines source.entry.name.now source.entry.text.now message.now reasons.now out.items) }
+        (λ out. AreCutLines source.entry.name.now source.entry.text.now message.now reasons.now
+        out.items) }
 {
     let mut lines = clash_lines(alloc, source, headings, message, reasons)?;
     let more = more_line(alloc, source.name, CLASHES_REPORTED, "clashes")?;
@@ -121,7 +125,8 @@ fn cut_lines(
 /// there are more. The error is out of memory.
 pub(crate) fn unclear(alloc: Global, source: Source, sheet: &Sheet) -> Result<Vec<u8>, AllocError>
     ensures { IfOk result
-        (λ out. AreClashLines source.entry.name.now source.entry.text.now sheet.now.messages out.items) }
+        (λ out. AreClashLines source.entry.name.now source.entry.text.now sheet.now.messages
+        out.items) }
 {
     let mut lines = Vec::new(alloc);
     let headings = headings(alloc, source.text)?;

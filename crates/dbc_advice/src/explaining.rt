@@ -16,7 +16,8 @@ use std::alloc::{AllocError, Global};
 
 /// The line of a fault.
 fn fault_line(alloc: Global, source: Source, reported: &Reported) -> Result<Vec<u8>, AllocError>
-    ensures { IfOk result (λ line. IsFaultLine source.entry.name.now source.entry.text.now reported.now line.items) }
+    ensures { IfOk result (λ line. IsFaultLine source.entry.name.now source.entry.text.now
+        reported.now line.items) }
 {
     let at = reported.fault.at.min(source.text.len());
     let first = reported.lines.first.min(source.text.len());
@@ -44,7 +45,8 @@ fn fault_line(alloc: Global, source: Source, reported: &Reported) -> Result<Vec<
 /// The lines of the faults, in order.
 fn fault_lines(alloc: Global, source: Source, reported: &[Reported]) -> Result<Vec<u8>, AllocError>
     ensures { IfOk result
-        (λ lines. AreFaultLines source.entry.name.now source.entry.text.now reported.now lines.items) }
+        (λ lines. AreFaultLines source.entry.name.now source.entry.text.now reported.now
+        lines.items) }
 {
     let mut lines = Vec::new(alloc);
     for one in reported {
@@ -92,7 +94,8 @@ fn count_line(
 
 /// What is stated of a file that reads: each reason why a message isn't clear, and what the sheet leaves out.
 fn stated_of_sheet(alloc: Global, source: Source, reading: &Reading) -> Result<Vec<u8>, AllocError>
-    ensures { IfOk result (λ out. IsStatedOfSheet source.entry.name.now source.entry.text.now reading.now out.items) }
+    ensures { IfOk result (λ out. IsStatedOfSheet source.entry.name.now source.entry.text.now
+        reading.now out.items) }
 {
     let mut lines = unclear(alloc, source, &reading.sheet)?;
     lines.extend_from_slice(&left_out(alloc, source, reading)?)?;
@@ -103,7 +106,8 @@ fn stated_of_sheet(alloc: Global, source: Source, reading: &Reading) -> Result<V
 /// reported.
 fn rest_of(alloc: Global, source: Source, findings: &Findings) -> Result<Vec<u8>, AllocError>
     ensures { IfOk result
-        (λ rest. IsRest source.entry.name.now source.entry.text.now findings.now.reported.items findings.now.ending
+        (λ rest. IsRest source.entry.name.now source.entry.text.now findings.now.reported.items
+        findings.now.ending
         rest.items) }
 {
     let count = findings.reported.len();
@@ -121,7 +125,8 @@ fn rest_of(alloc: Global, source: Source, findings: &Findings) -> Result<Vec<u8>
 /// reason why a message isn't clear, at most [`CLASHES_REPORTED`](crate::CLASHES_REPORTED) and then that there are
 /// more, and what [`left_out`](crate::left_out) says.
 pub fn explained(alloc: Global, source: Source) -> Result<Vec<u8>, AllocError>
-    ensures { IfOk result (λ out. IsExplained source.entry.name.now source.entry.text.now out.items) }
+    ensures { IfOk result (λ out. IsExplained source.entry.name.now source.entry.text.now
+        out.items) }
 {
     let findings = reported_faults(alloc, source.text)?;
     let mut lines = fault_lines(alloc, source, &findings.reported)?;

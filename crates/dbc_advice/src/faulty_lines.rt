@@ -9,9 +9,9 @@ ghost use Rattle.dbc_advice.specs.Tokens.{keyword_at};
 
 use crate::lines::{line_end, line_start};
 use crate::pieces::{alone, goes_on, is_gap, line_keyword, reads};
-use catalogue::Keyword;
 use dbc_grammar::TokenKind;
 use dbc_lex::{Lexer, ReadCode, ReadFault};
+use dbc_words::Keyword;
 use std::alloc::{AllocError, Global};
 
 /// Lines of a text.

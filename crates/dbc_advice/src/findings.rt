@@ -91,7 +91,8 @@ fn wanted_at(
 ) -> Result<Vec<Candidate>, AllocError>
     requires lines { AreLines text.now fault.at lines }
     requires at { fault.at ≤ length text.now }
-    ensures { IfOk result (λ wanted. All (MayBeThere (statement_before text.now lines.first fault.at)) wanted.items) }
+    ensures { IfOk result (λ wanted. All
+        (MayBeThere (statement_before text.now lines.first fault.at)) wanted.items) }
 {
     match fault.code {
         ReadCode::Unexpected if fault.at - lines.first <= LONG_STATEMENT => {
@@ -116,7 +117,8 @@ fn are_blank(alloc: Global, text: &[u8], lines: Lines) -> Result<bool, AllocErro
 fn lines_to_blank(alloc: Global, text: &[u8], fault: ReadFault) -> Result<Lines, AllocError>
     requires { fault.at ≤ length text.now }
     ensures lines { IfOk result (AreLines text.now fault.at) }
-    ensures blank { IfOk result (λ lines. without lines text.now ≡ text.now → IsBlankUpTo text.now fault.at) }
+    ensures blank { IfOk result
+        (λ lines. without lines text.now ≡ text.now → IsBlankUpTo text.now fault.at) }
 {
     let lines = lines_at_fault(alloc, text, fault)?;
     if are_blank(alloc, text, lines)? {

@@ -22,7 +22,8 @@ pub(crate) fn key_set<K: Ord + Copy>(keys: Vec<K>) -> Result<KeySet<K>, AllocErr
 impl<K: Ord> KeySet<K> {
     /// Whether the key is one of the list's.
     pub(crate) fn has(&self, key: &K) -> bool
-        ensures { (keys : List K) → IsSetOf K.cmp self.now keys → result ≡ list_any (λ k. K.eq k key.now) keys }
+        ensures { (keys : List K) → IsSetOf K.cmp self.now keys
+            → result ≡ list_any (λ k. K.eq k key.now) keys }
     {
         match self.sorted.binary_search(key) {
             Ok(_) => true,

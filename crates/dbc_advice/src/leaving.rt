@@ -13,8 +13,9 @@ use crate::names::{Names, names_of};
 use crate::notes::Source;
 use crate::position::position_of;
 use crate::sentences::{more_line, reported_line};
-use catalogue::{Keyword, Sheet};
 use dbc_read::{Passed, Reading};
+use dbc_sheet::Sheet;
+use dbc_words::Keyword;
 use std::alloc::{AllocError, Global};
 
 /// How many statements that cite what isn't in the file are reported one by one.
@@ -36,7 +37,8 @@ fn passed_line(
     sentence: &[u8],
 ) -> Result<Vec<u8>, AllocError>
     ensures { IfOk result
-        (λ line. line.items ≡ passed_line source.entry.name.now source.entry.text.now passed sentence.now) }
+        (λ line. line.items ≡ passed_line source.entry.name.now source.entry.text.now passed
+        sentence.now) }
 {
     let label = passed_label(alloc, passed.keyword)?;
     let at = passed.at.min(source.text.len());
@@ -51,7 +53,8 @@ fn missing_at<'a>(
     text: &'a [u8],
     passed: Passed,
 ) -> Option<Citation<'a>>
-    ensures { AreNamesOf names.now sheet.now → option_map cited_of result ≡ missing_at sheet.now text.now passed }
+    ensures { AreNamesOf names.now sheet.now
+        → option_map cited_of result ≡ missing_at sheet.now text.now passed }
 {
     let citation = citation_at(text, passed.at)?;
     if is_missing(sheet, names, citation) {
@@ -68,7 +71,8 @@ fn missing_line(
     passed: Passed,
     citation: Citation,
 ) -> Result<Vec<u8>, AllocError>
-    ensures { IfOk result (λ line. line.items ≡ missing_line source.entry.name.now source.entry.text.now
+    ensures { IfOk result (λ line. line.items ≡ missing_line source.entry.name.now
+        source.entry.text.now
         (passed, cited_of citation.entry)) }
 {
     let sentence = citation_text(alloc, citation)?;
@@ -83,7 +87,8 @@ fn line_after(
     passed: Passed,
     citation: Citation,
 ) -> Result<Vec<u8>, AllocError>
-    ensures { IfOk result (λ line. line.items ≡ line_after reported source.entry.name.now source.entry.text.now
+    ensures { IfOk result (λ line. line.items ≡ line_after reported source.entry.name.now
+        source.entry.text.now
         (passed, cited_of citation.entry)) }
 {
     if reported < CITATIONS_REPORTED {
@@ -132,7 +137,8 @@ struct Parts {
 /// Reports each of the statements that cite what isn't in the file, up to [`CITATIONS_REPORTED`].
 fn parted(alloc: Global, source: Source, reading: &Reading) -> Result<Parts, AllocError>
     ensures { IfOk result
-        (ArePartedFrom source.entry.name.now source.entry.text.now reading.now.sheet reading.now.passed) }
+        (ArePartedFrom source.entry.name.now source.entry.text.now reading.now.sheet
+        reading.now.passed) }
 {
     let mut lines = Vec::new(alloc);
     let mut others = Vec::new(alloc);
@@ -157,7 +163,8 @@ fn parted(alloc: Global, source: Source, reading: &Reading) -> Result<Parts, All
 
 /// The last line of those that are reported one by one: there are more, if so.
 fn more_missing(alloc: Global, file: &[u8], missing: usize) -> Result<Vec<u8>, AllocError>
-    ensures { IfOk result (λ line. line.items ≡ more_text file.now citations_reported missing (codes "citations")) }
+    ensures { IfOk result (λ line. line.items ≡ more_text file.now citations_reported missing
+        (codes "citations")) }
 {
     if missing > CITATIONS_REPORTED {
         more_line(alloc, file, CITATIONS_REPORTED, "citations")
@@ -173,7 +180,8 @@ fn kind_line(
     passed: &[Passed],
     first: Passed,
 ) -> Result<Vec<u8>, AllocError>
-    ensures { IfOk result (λ line. line.items ≡ passed_line source.entry.name.now source.entry.text.now first
+    ensures { IfOk result (λ line. line.items ≡ passed_line source.entry.name.now
+        source.entry.text.now first
         (count_text (kind_count first.keyword passed.now))) }
 {
     let sentence = count_text(alloc, kind_count(passed, first.keyword))?;
@@ -182,7 +190,8 @@ fn kind_line(
 
 /// A line for each keyword of these statements, at the first of them.
 fn kind_lines(alloc: Global, source: Source, passed: &[Passed]) -> Result<Vec<u8>, AllocError>
-    ensures { IfOk result (λ lines. lines.items ≡ kinds_text source.entry.name.now source.entry.text.now passed.now 0) }
+    ensures { IfOk result (λ lines. lines.items ≡ kinds_text source.entry.name.now
+        source.entry.text.now passed.now 0) }
 {
     let mut lines = Vec::new(alloc);
     // The first statement of each keyword: few, so that a further one isn't looked for among all before it.
@@ -203,7 +212,8 @@ fn kind_lines(alloc: Global, source: Source, passed: &[Passed]) -> Result<Vec<u8
 /// [`CITATIONS_REPORTED`] and then that there are more, and one for each keyword of the other ones, with their count.
 pub fn left_out(alloc: Global, source: Source, reading: &Reading) -> Result<Vec<u8>, AllocError>
     ensures { IfOk result
-        (λ out. out.items ≡ left_out source.entry.name.now source.entry.text.now reading.now.sheet reading.now.passed) }
+        (λ out. out.items ≡ left_out source.entry.name.now source.entry.text.now reading.now.sheet
+        reading.now.passed) }
 {
     let parted = parted(alloc, source, reading)?;
     let more = more_missing(alloc, source.name, parted.missing)?;

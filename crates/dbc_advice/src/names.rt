@@ -3,17 +3,17 @@
 ghost use Rattle.std.specs.Prelude.{◌≡◌, ◌++◌, IfOk, OnOk, false, map};
 ghost use Rattle.std.specs.List.{flat_map};
 ghost use Rattle.std.specs.Option.{option_map_or};
-ghost use Rattle.catalogue.specs.Messages.{message_at};
-ghost use Rattle.catalogue.specs.Named.{has_name};
-ghost use Rattle.catalogue.specs.Sheet.{node_name};
-ghost use Rattle.catalogue.specs.Signals.{signal_name};
-ghost use Rattle.catalogue.specs.declared.message.Message as of_message;
-ghost use Rattle.catalogue.specs.declared.sheet.Sheet as of_sheet;
+ghost use Rattle.dbc_words.specs.Named.{has_name};
+ghost use Rattle.dbc_sheet.specs.Messages.{message_at};
+ghost use Rattle.dbc_sheet.specs.Sheet.{node_name};
+ghost use Rattle.dbc_sheet.specs.Signals.{signal_name};
+ghost use Rattle.dbc_sheet.specs.declared.message.Message as of_message;
+ghost use Rattle.dbc_sheet.specs.declared.sheet.Sheet as of_sheet;
 ghost use Rattle.dbc_read.specs.Keys.{key_of, text_of};
 ghost use Rattle.dbc_advice.specs.Names.{AreNamesOf, keys_of};
 
 use crate::key_set::{KeySet, key_set};
-use catalogue::{Message, Node, Sheet};
+use dbc_sheet::{Message, Node, Sheet};
 use std::alloc::{AllocError, Global};
 
 /// A signal's key: the number of its message, and its name.
@@ -38,7 +38,8 @@ fn names_of_nodes(alloc: Global, nodes: &[Node]) -> Result<Vec<&[u8]>, AllocErro
 
 /// Adds the keys of the message's signals.
 fn add_keys<'s>(message: &'s Message, keys: &mut Vec<Key<'s>>) -> Result<(), AllocError>
-    ensures { OnOk result (map key_of keys.new.items ≡ map key_of keys.old.items ++ keys_of message.now) }
+    ensures { OnOk result (map key_of keys.new.items ≡ map key_of keys.old.items
+        ++ keys_of message.now) }
 {
     let number = message.number();
     for signal in message.signals.as_slice() {
@@ -73,7 +74,8 @@ pub(crate) fn names_of(alloc: Global, sheet: &Sheet) -> Result<Names<'_>, AllocE
 impl Names<'_> {
     /// Whether the sheet has a node of the name.
     pub(crate) fn has_node(&self, name: &[u8]) -> bool
-        ensures { (s : of_sheet.Sheet) → AreNamesOf self.now s → result ≡ has_name node_name s.nodes name.now }
+        ensures { (s : of_sheet.Sheet) → AreNamesOf self.now s
+            → result ≡ has_name node_name s.nodes name.now }
     {
         self.nodes.has(&name)
     }
@@ -81,7 +83,8 @@ impl Names<'_> {
     /// Whether the sheet's message of the number has a signal of the name.
     pub(crate) fn has_signal(&self, number: u32, name: &[u8]) -> bool
         ensures { (s : of_sheet.Sheet) → AreNamesOf self.now s
-            → result ≡ option_map_or (λ (m : of_message.Message). has_name signal_name m.signals name.now)
+            → result ≡ option_map_or
+            (λ (m : of_message.Message). has_name signal_name m.signals name.now)
             (message_at s.messages number) false }
     {
         self.signals.has(&(number, name))

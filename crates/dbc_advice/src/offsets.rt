@@ -1,9 +1,10 @@
 //! Where messages and signals are in a text that reads.
 ghost use Rattle.std.specs.Prelude.{◌≤◌, length};
 
-use catalogue::{Keyword, whole_number};
+use base::whole_number;
 use dbc_grammar::TokenKind;
 use dbc_lex::{Lexer, Token};
+use dbc_words::Keyword;
 use std::alloc::{AllocError, Global};
 
 /// Where a message is.

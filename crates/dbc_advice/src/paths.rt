@@ -17,7 +17,8 @@ fn hexadecimal(digit: u32) -> char
 /// Adds the code of a control character as `\x` and two hexadecimal digits.
 fn push_escaped(text: &mut String, control: char) -> Result<(), AllocError>
     requires { control < 256 }
-    ensures { OnOk result (string_bytes text.new ≡ string_bytes text.old ++ encode_utf8_all (escaped control)) }
+    ensures { OnOk result (string_bytes text.new ≡ string_bytes text.old
+        ++ encode_utf8_all (escaped control)) }
 {
     let code = control as u32;
     text.push_str("\\x")?;
@@ -27,7 +28,8 @@ fn push_escaped(text: &mut String, control: char) -> Result<(), AllocError>
 
 /// Adds the character as it is shown.
 fn push_shown(text: &mut String, c: char) -> Result<(), AllocError>
-    ensures { OnOk result (string_bytes text.new ≡ string_bytes text.old ++ encode_utf8_all (shown_character c)) }
+    ensures { OnOk result (string_bytes text.new ≡ string_bytes text.old
+        ++ encode_utf8_all (shown_character c)) }
 {
     if c.is_control() {
         push_escaped(text, c)
@@ -41,7 +43,8 @@ fn push_shown(text: &mut String, c: char) -> Result<(), AllocError>
 pub fn shown_path(alloc: Global, path: &str) -> Result<String, AllocError>
     ensures shown { IfOk result (λ shown. string_bytes shown ≡ shown_path path.now) }
     ensures plain { IfOk result (λ shown. NoCharPasses is_control (string_bytes shown)) }
-    ensures same { NoCharPasses is_control path.now → IfOk result (λ shown. string_bytes shown ≡ path.now) }
+    ensures same { NoCharPasses is_control path.now
+        → IfOk result (λ shown. string_bytes shown ≡ path.now) }
 {
     let mut shown = String::new(alloc);
     for c in path.chars() {

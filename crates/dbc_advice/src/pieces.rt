@@ -1,18 +1,18 @@
 //! Pieces of a text, read by themselves.
 ghost use Rattle.std.specs.Prelude.{◌≡◌, ◌≤◌, IfOk, length};
+ghost use Rattle.dbc_words.specs.declared.keyword.Keyword.TheVariants.{Signal};
 ghost use Rattle.dbc_grammar.specs.Fields.{is_key, key_of};
 ghost use Rattle.dbc_grammar.specs.Lexing.{lexed};
 ghost use Rattle.dbc_grammar.specs.Rules.{starts};
-ghost use Rattle.catalogue.specs.declared.keyword.Keyword.TheVariants.{Signal};
 ghost use Rattle.dbc_advice.specs.GoesOn.{IsGoingOn};
 ghost use Rattle.dbc_advice.specs.Pieces.{alone, heading};
 ghost use Rattle.dbc_advice.specs.Tokens.{line_keyword};
 ghost use Rattle.dbc_lex.specs.Token.{token_of};
 
-use catalogue::Keyword;
 use dbc_grammar::TokenKind;
 use dbc_lex::{Lexer, ReadCode, Token};
 use dbc_read::read;
+use dbc_words::Keyword;
 use std::alloc::{AllocError, Global};
 
 /// The heading of a message, which makes a signal's line a text of its own.

@@ -2,7 +2,7 @@
 ghost use Rattle.std.specs.Prelude.{◌≡◌, ◌≤◌, IfOk, length};
 ghost use Rattle.std.specs.Option.{option_to_list};
 ghost use Rattle.bitlayout.specs.Clash.{collide, has_multiplexor};
-ghost use Rattle.catalogue.specs.Limits.{length_limit};
+ghost use Rattle.dbc_words.specs.Limits.{length_limit};
 ghost use Rattle.dbc_advice.specs.Reasons.{first_outside, first_shared, outside_reason, overlap_reasons, reasons_at};
 ghost use Rattle.dbc_advice.specs.Reasons.{unmultiplexed_reason, AreReasons};
 
@@ -59,7 +59,8 @@ fn overlap_reasons(
     place: &Place,
     bytes: u16,
 ) -> Result<Vec<Reason>, AllocError>
-    ensures { IfOk result (λ reasons. reasons.items ≡ overlap_reasons bytes earlier.now index place.now) }
+    ensures { IfOk result (λ reasons. reasons.items ≡ overlap_reasons bytes earlier.now index
+        place.now) }
 {
     let mut reasons = Vec::new(alloc);
     for (partner, other) in earlier.iter().enumerate() {

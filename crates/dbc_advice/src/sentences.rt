@@ -8,8 +8,8 @@ use crate::candidate::Candidate;
 use crate::found::{Found, found_text};
 use crate::hint::{Hint, hint_text};
 use crate::position::Position;
-use catalogue::Keyword;
 use dbc_lex::ReadCode;
+use dbc_words::Keyword;
 use std::alloc::{AllocError, Global};
 
 /// A list in words: `a`, `a or b`, `a, b or c`.
@@ -59,7 +59,7 @@ fn plain_meaning(code: ReadCode) -> &'static str
         ReadCode::TwoMultiplexors => {
             ", but the message has a multiplexor already: mark only one signal with M"
         }
-        ReadCode::TooMany => ", one more than a sheet may have (docs/GRAMMAR.md): split the file",
+        ReadCode::TooMany => ", one more than a sheet may have (README.md): split the file",
         ReadCode::UnclosedText => ", and no other quote closes the text that it opens",
         ReadCode::StrayByte => ", with which no name, number, text or mark begins",
         ReadCode::Unexpected => ", which can't come here",
@@ -126,7 +126,8 @@ pub(crate) fn sentence(
     statement: Option<Keyword>,
     hint: Option<Hint>,
 ) -> Result<Vec<u8>, AllocError>
-    ensures { IfOk result (λ text. text.items ≡ sentence_of code found.entry wanted.now statement hint) }
+    ensures { IfOk result (λ text. text.items ≡ sentence_of code found.entry wanted.now statement
+        hint) }
 {
     let mut text = Vec::from_slice(alloc, b"found ")?;
     text.extend_from_slice(&found_text(alloc, found)?)?;
@@ -152,7 +153,8 @@ pub fn reported_line(
     label: &[u8],
     sentence: &[u8],
 ) -> Result<Vec<u8>, AllocError>
-    ensures { IfOk result (λ line. line.items ≡ reported_line file.now position label.now sentence.now) }
+    ensures { IfOk result (λ line. line.items ≡ reported_line file.now position label.now
+        sentence.now) }
 {
     let Position { line, column } = position;
     let position_text = format!(in alloc; ":{line}:{column}: ")?;

@@ -6,7 +6,7 @@ ghost use Rattle.dbc_advice.specs.Unclear.{reason_text, share_text};
 use crate::joined::{three, two};
 use crate::reasons::Reason;
 use bitlayout::Clash;
-use catalogue::{Message, Signal};
+use dbc_sheet::{Message, Signal};
 use std::alloc::{AllocError, Global};
 
 /// The name of the signal at an index.
@@ -77,7 +77,8 @@ fn signal_text(
 ) -> Result<Vec<u8>, AllocError>
     ensures { IfOk result
         (λ text. text.items
-        ≡ codes "signal " ++ (name_at message.now.signals index ++ (words.now ++ message_text message.now))) }
+        ≡ codes "signal " ++ (name_at message.now.signals index
+        ++ (words.now ++ message_text message.now))) }
 {
     let mut text = Vec::from_slice(alloc, b"signal ")?;
     text.extend_from_slice(name_at(message.signals.as_slice(), index))?;
@@ -119,7 +120,8 @@ fn overlap_text(
     earlier: usize,
     later: usize,
 ) -> Result<Vec<u8>, AllocError>
-    ensures { IfOk result (λ text. text.items ≡ clash_text message.now bit (Clash.Overlap earlier later)) }
+    ensures { IfOk result (λ text. text.items ≡ clash_text message.now bit
+        (Clash.Overlap earlier later)) }
 {
     let pair = pair_text(alloc, message.signals.as_slice(), earlier, later)?;
     let mut text = Vec::from_slice(alloc, b"signals ")?;

@@ -8,14 +8,14 @@ use Rattle.bitlayout.specs.declared.place.Mux.TheVariants.{Always, Multiplexor, 
 use Rattle.can_id.specs.declared.ident.Ident.TheVariants.{Std, Ext}
 use Rattle.decimal.specs.Number.{Number}
 use Rattle.decimal.specs.Printing.{unsigned_text}
+use Rattle.dbc_words.specs.declared.value_type.ValueType.{ValueType}
+use Rattle.dbc_words.specs.declared.value_type.ValueType.TheVariants.{Integer, Float, Double}
 use Rattle.dbc_grammar.specs.Canon.{canonical_text}
-use Rattle.catalogue.specs.Sheet.{empty_sheet}
-use Rattle.catalogue.specs.declared.message.Message.{Message}
-use Rattle.catalogue.specs.declared.sheet.Sheet.{Sheet}
-use Rattle.catalogue.specs.declared.signal.Signal.{Signal}
-use Rattle.catalogue.specs.declared.value_texts.ValueText.{ValueText}
-use Rattle.catalogue.specs.declared.value_type.ValueType.{ValueType}
-use Rattle.catalogue.specs.declared.value_type.ValueType.TheVariants.{Integer, Float, Double}
+use Rattle.dbc_sheet.specs.Sheet.{empty_sheet}
+use Rattle.dbc_sheet.specs.declared.message.Message.{Message}
+use Rattle.dbc_sheet.specs.declared.sheet.Sheet.{Sheet}
+use Rattle.dbc_sheet.specs.declared.signal.Signal.{Signal}
+use Rattle.dbc_sheet.specs.declared.value_texts.ValueText.{ValueText}
 
 abbrev lines : List (List ℕ) → List ℕ
 lines ls = flat_map (λ l. l ++ 10 ∷ []) ls
@@ -67,7 +67,15 @@ val = record {
 }
 
 abbrev message : Message
-message = record { ident = Std 256; name = codes "A"; length = 2; transmitter = None; comment = codes "first"; signals = selector ∷ val ∷ [] }
+message = record {
+  ident = Std 256;
+  name = codes "A";
+  length = 2;
+  transmitter = None;
+  comment = codes "first";
+  signals =
+      selector ∷ val ∷ [];
+}
 
 abbrev sheet : Sheet
 sheet = record {
@@ -114,7 +122,14 @@ engine_sheet = record {
   comment = [];
   nodes = record { name = codes "ECU"; comment = [] } ∷ record { name = codes "Dash"; comment = [] } ∷ [];
   tables = [];
-  messages = record { ident = Ext 217056510; name = codes "Msg1"; length = 8; transmitter = Some (codes "ECU"); comment = []; signals = temperature ∷ [] } ∷ [];
+  messages = record {
+    ident = Ext 217056510;
+    name = codes "Msg1";
+    length = 8;
+    transmitter = Some (codes "ECU");
+    comment = [];
+    signals = temperature ∷ [];
+  } ∷ [];
 }
 
 -- a 29-bit identifier, a comment and a suspect parameter number of a signal, and the byte 176 in a unit
@@ -159,7 +174,8 @@ labelled_sheet = record {
     length = 64;
     transmitter = None;
     comment = [];
-    signals = labelled (codes "F") 0 1 Float ∷ labelled (codes "I") 32 0 Integer ∷ labelled (codes "D") 64 524287 Double ∷ [];
+    signals = labelled (codes "F") 0 1 Float ∷ labelled (codes "I") 32 0 Integer ∷ labelled (codes "D") 64 524287 Double
+        ∷ [];
   } ∷ [];
 }
 
@@ -208,7 +224,15 @@ commented_sheet = record {
   comment = codes "of the " ++ 92 ∷ 34 ∷ codes "file" ++ 92 ∷ 34 ∷ [];
   nodes = record { name = codes "N"; comment = codes "two" ++ 10 ∷ codes "lines" } ∷ [];
   tables = [];
-  messages = record { ident = Std 0; name = codes "M"; length = 64; transmitter = None; comment = []; signals = double ∷ [] } ∷ [];
+  messages = record {
+    ident = Std 0;
+    name = codes "M";
+    length = 64;
+    transmitter = None;
+    comment = [];
+    signals =
+        double ∷ [];
+  } ∷ [];
 }
 
 row_commented : canonical_text commented_sheet ≡ lines (

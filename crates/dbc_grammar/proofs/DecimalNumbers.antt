@@ -4,7 +4,7 @@ use Rattle.std.specs.Prelude.{if◌then◌else◌}
 use Rattle.std.specs.Result.{result_ok}
 use Rattle.std.proofs.lemmas.Bool.{false≢true}
 use Rattle.decimal.specs.Number.{IsDecimal, Number}
-use Rattle.decimal.specs.Reading.{Reads, ReadingsAreComputed, reading}
+use Rattle.decimal.specs.Reading.{ReadsNumber, ReadingsAreComputed, reading}
 use Rattle.decimal.specs.Spelling.{Writes}
 use Rattle.decimal.specs.declared.fault.DecimalFault.{DecimalFault}
 use Rattle.dbc_grammar.specs.Fields.{NumbersAreDecimals, is_a}
@@ -15,8 +15,10 @@ some_ok (Ok m) n e = cc
 some_ok (Err fault) n e = cc
 
 -- a number token or none, and what reading its text gives
-by_kind : (negative : Bool) (text : List ℕ) (n : Number) → (Reads negative text (Ok n) ↔ (reading negative text ≡ Ok n)) → (kind : Bool)
-    → ((if kind then result_ok (reading negative text) else None) ≡ Some n) ↔ ((kind ≡ true) × Writes negative text n × IsDecimal n)
+by_kind : (negative : Bool) (text : List ℕ) (n : Number)
+    → (ReadsNumber negative text (Ok n) ↔ (reading negative text ≡ Ok n)) → (kind : Bool)
+    → ((if kind then result_ok (reading negative text) else None) ≡ Some n)
+    ↔ ((kind ≡ true) × Writes negative text n × IsDecimal n)
 by_kind negative text n law false = (λ e. cc, λ h. absurd (false≢true h.0))
 by_kind negative text n law true = (
   λ e. let reads = law.1 (some_ok (reading negative text) n e) in (refl, reads.0, reads.1),

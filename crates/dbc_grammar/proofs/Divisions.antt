@@ -1,24 +1,27 @@
 -- Tokens have one division into statements.
-use Rattle.std.proofs.Common.{◌≡◌, ℕ, ◌<◌, Bool, true, false, not, List, [], ◌∷◌, ◌++◌, map, length, Option, Some, None, is_some}
+use Rattle.std.proofs.Common.{◌≡◌, ℕ, ◌<◌, Bool, true, false, not, List, [], ◌∷◌, ◌++◌, map, length, Option, Some, None}
+use Rattle.std.proofs.Common.{is_some}
 use Rattle.std.proofs.Common.{option_map, refl, sym, ap, subst, ◌∙◌, arith}
 use Rattle.std.proofs.lemmas.Bool.{and_from}
 use Rattle.std.proofs.lemmas.List.{append_cancel_right}
-use Rattle.dbc_grammar.specs.Division.{IsStatement, OneStatement, StatementsAreRuns, Divides, OneDivision, Part, AreParts, DivisionsAreParts}
+use Rattle.dbc_words.specs.declared.keyword.Keyword.{Keyword}
+use Rattle.dbc_words.specs.declared.keyword.Keyword.TheVariants.{Signal}
+use Rattle.dbc_grammar.specs.Division.{IsStatement, OneStatement, StatementsAreRuns, Divides, OneDivision, Part}
+use Rattle.dbc_grammar.specs.Division.{AreParts, DivisionsAreParts}
 use Rattle.dbc_grammar.specs.Division.{OneParting, ReadingIsExact}
 use Rattle.dbc_grammar.specs.Fields.{is_key, key_of}
 use Rattle.dbc_grammar.specs.Grammar.{next, line, statement}
 use Rattle.dbc_grammar.specs.Parsing.{many_at, statement_at, is_more, all_of, statements_at}
 use Rattle.dbc_grammar.specs.Statement.{Content, Statement}
 use Rattle.dbc_grammar.specs.Token.{Token}
-use Rattle.catalogue.specs.declared.keyword.Keyword.{Keyword}
-use Rattle.catalogue.specs.declared.keyword.Keyword.TheVariants.{Signal}
 use Rattle.dbc_grammar.proofs.Exactness.{bind_takes, exact_many, Repeats}
 use Rattle.dbc_grammar.proofs.ExactLines.{Next}
 use Rattle.dbc_grammar.proofs.ExactStatements.{key_is, exact_line, eats_statement}
 
 -- A statement begins with a keyword other than `SG_`.
 
-no_signal : (k : Keyword) (ts : List Token) (x : Content) (rest : List Token) → line k ts x rest → Some Signal ≡ Some k → ⊥
+no_signal : (k : Keyword) (ts : List Token) (x : Content) (rest : List Token) → line k ts x rest → Some Signal ≡ Some k
+    → ⊥
 unfolding line
 no_signal k ts x rest h e = let same : k ≡ Signal = cc in let gone : ⊥ = subst (λ k. line k ts x rest) same h in gone
 
@@ -46,10 +49,12 @@ statement_next ts s rest h =
 
 -- One statement.
 
-statement_again : (ts : List Token) (s : Statement) (rest : List Token) → statement ts s rest → Next rest → statement_at ts ≡ Some (s, rest)
+statement_again : (ts : List Token) (s : Statement) (rest : List Token) → statement ts s rest → Next rest
+    → statement_at ts ≡ Some (s, rest)
 statement_again ts s rest h n = (eats_statement ts).exact.again s rest h n
 
-one_reading : (ts : List Token) (s t : Statement) (rest more : List Token) → statement ts s rest → statement ts t more → Next rest → Next more
+one_reading : (ts : List Token) (s t : Statement) (rest more : List Token) → statement ts s rest → statement ts t more
+    → Next rest → Next more
     → (s ≡ t) × (rest ≡ more)
 one_reading ts s t rest more h k n m =
     let e : Some (s, rest) ≡ Some (t, more) = sym (statement_again ts s rest h n) ∙ statement_again ts t more k m in
@@ -87,7 +92,8 @@ statements_repeat = record {
 }
 
 none_left : (x : List Statement × List Token) (ss : List Statement) → all_of x ≡ Some ss → x ≡ (ss, [])
-none_left (us, []) ss e = let k : us ≡ ss = cc in ap (λ (l : List Statement). let made : List Statement × List Token = (l, []) in made) k
+none_left (us, []) ss e = let k : us ≡ ss = cc in
+    ap (λ (l : List Statement). let made : List Statement × List Token = (l, []) in made) k
 none_left (us, t ∷ ts) ss e = absurd cc
 
 pub reading_is_exact : ReadingIsExact
@@ -96,7 +102,8 @@ reading_is_exact ts ss = (
   λ h. rw ((exact_many statements_repeat ts).again ss [] h refl) refl,
   λ e.
       let b = bind_takes (many_at is_more statement_at ts) all_of ss e in
-      (exact_many statements_repeat ts).takes (ss, []) (b.1 ∙ ap (λ (x : List Statement × List Token). Some x) (none_left b.0 ss b.2)),
+      (exact_many statements_repeat ts).takes (ss, [])
+      (b.1 ∙ ap (λ (x : List Statement × List Token). Some x) (none_left b.0 ss b.2)),
 )
 
 pub one_division : OneDivision
@@ -137,13 +144,17 @@ parts_divide : (ts : List Token) (ps : List Part) → AreParts ts ps → Divides
 parts_divide ts [] h = sym h
 parts_divide ts (p ∷ ps) h = (h.0, subst (λ l. statement l p.is h.0) (sym h.1) h.2, parts_divide h.0 ps h.3)
 
-has_parts : (ts : List Token) (ss : List Statement) → Divides ts ss → (parts : List Part) × AreParts ts parts × (map (λ p. p.is) parts ≡ ss)
+has_parts : (ts : List Token) (ss : List Statement) → Divides ts ss → (parts : List Part) × AreParts ts parts
+    × (map (λ p. p.is) parts ≡ ss)
 has_parts ts [] h = ([], sym h, refl)
 has_parts ts (s ∷ ss) h =
     let others = has_parts h.0 ss h.2 in
     let run = statements_are_runs ts s h.0 h.1 in
-    let part : Part = record { run = run.0 ∷ run.1; is = s } in
-    (part ∷ others.0, (h.0, run.2, subst (λ l. statement l s h.0) run.2 h.1, others.1), ap (λ (l : List Statement). s ∷ l) others.2)
+    let part : Part = record { run = run.0 ∷ run.1; is = s } in (
+      part ∷ others.0,
+      (h.0, run.2, subst (λ l. statement l s h.0) run.2 h.1, others.1),
+      ap (λ (l : List Statement). s ∷ l) others.2,
+    )
 
 pub divisions_are_parts : DivisionsAreParts
 divisions_are_parts ts ss = (has_parts ts ss, λ h. subst (Divides ts) h.2 (parts_divide ts h.0 h.1))

@@ -1,24 +1,30 @@
 -- The parsers of fields are exact.
-use Rattle.std.proofs.Common.{◌≡◌, ℕ, ◌<◌, ◌&&◌, ◌||◌, Bool, true, false, not, List, [], ◌∷◌, length, Option, Some, None, is_some}
+use Rattle.std.proofs.Common.{◌≡◌, ℕ, ◌<◌, ◌&&◌, ◌||◌, Bool, true, false, not, List, [], ◌∷◌, length, Option, Some}
+use Rattle.std.proofs.Common.{None, is_some}
 use Rattle.std.proofs.Common.{option_map, refl, sym, ap, ◌∙◌, arith}
 use Rattle.std.specs.Prelude.{if◌then◌else◌, codes, unwrap_or}
 use Rattle.std.specs.Str.{bytes_eq}
 use Rattle.std.proofs.lemmas.Bool.{and_parts, and_from}
 use Rattle.std.proofs.lemmas.Slice.Eq.{bytes_eq-Decides}
 use Rattle.decimal.specs.Number.{Number}
-use Rattle.dbc_grammar.specs.Fields.{same_kind, is_a, is_mark, is_key, text_of, cited_name, made_name, node_of, whole, whole_where, start_of}
-use Rattle.dbc_grammar.specs.Fields.{size_of, order_of, sign_of, mux_of, number_of, mark, decimal, pair, entry, goes_on, further, no_names}
+use Rattle.dbc_words.specs.Name.{is_name, no_node}
+use Rattle.dbc_words.specs.declared.keyword.Keyword.TheVariants.{Signal}
+use Rattle.dbc_grammar.specs.Fields.{same_kind, is_a, is_mark, is_key, text_of, cited_name, made_name, node_of, whole}
+use Rattle.dbc_grammar.specs.Fields.{whole_where, start_of}
+use Rattle.dbc_grammar.specs.Fields.{size_of, order_of, sign_of, mux_of, number_of, mark, decimal, pair, entry, goes_on}
+use Rattle.dbc_grammar.specs.Fields.{further, no_names}
 use Rattle.dbc_grammar.specs.Fields.{some_names, nodes, layout, signal}
 use Rattle.dbc_grammar.specs.Grammar.{is_open}
-use Rattle.catalogue.specs.Name.{is_name, no_node}
-use Rattle.dbc_grammar.specs.Parsing.{decimal_at, pair_at, entry_at, further_at, some_names_at, no_names_at, nodes_at, layout_at, signal_at}
+use Rattle.dbc_grammar.specs.Parsing.{decimal_at, pair_at, entry_at, further_at, some_names_at, no_names_at, nodes_at}
+use Rattle.dbc_grammar.specs.Parsing.{layout_at, signal_at}
 use Rattle.dbc_grammar.specs.Rules.{token, only, optional, starts, begins}
 use Rattle.dbc_grammar.specs.Token.{Token}
-use Rattle.catalogue.specs.declared.keyword.Keyword.TheVariants.{Signal}
 use Rattle.dbc_grammar.specs.declared.token.TokenKind.{TokenKind}
 use Rattle.dbc_grammar.specs.declared.token.TokenKind.TheVariants.{Name, Number as NumberKind, Text, Mark}
-use Rattle.dbc_grammar.proofs.Exactness.{Exact, Any, length_within, bind_takes, exact_then, exact_next, exact_token, exact_one, exact_done}
-use Rattle.dbc_grammar.proofs.Exactness.{exact_followed, exact_optional, exact_many, exact_either, token_chance, one_chance, Repeats, Eats}
+use Rattle.dbc_grammar.proofs.Exactness.{Exact, Any, length_within, bind_takes, exact_then, exact_next, exact_token}
+use Rattle.dbc_grammar.proofs.Exactness.{exact_one, exact_done}
+use Rattle.dbc_grammar.proofs.Exactness.{exact_followed, exact_optional, exact_many, exact_either, token_chance}
+use Rattle.dbc_grammar.proofs.Exactness.{one_chance, Repeats, Eats}
 use Rattle.dbc_grammar.proofs.Exactness.{eats, token_passes, one_passes, only_passes, first_answers}
 
 -- What a token is that says something.
@@ -47,7 +53,8 @@ pub name_cited : (t : Token) (x : List ℕ) → cited_name t ≡ Some x → t.ki
 name_cited t x e = kind_is Name t (only_passes (is_a Name t) t.text x e)
 
 pub name_made : (t : Token) (x : List ℕ) → made_name t ≡ Some x → t.kind ≡ Name
-name_made t x e = kind_is Name t (and_parts (is_a Name t) (is_name t.text) (only_passes (is_a Name t && is_name t.text) t.text x e)).0
+name_made t x e = kind_is Name t
+    (and_parts (is_a Name t) (is_name t.text) (only_passes (is_a Name t && is_name t.text) t.text x e)).0
 
 node_by : (t : Token) (x : Option (List ℕ)) (b : Bool) → (is_a Name t && bytes_eq t.text no_node) ≡ b
     → (if b then Some None else option_map Some (made_name t)) ≡ Some x → is_a Name t ≡ true
@@ -86,10 +93,14 @@ sign_open t minus e = rw (sign_by t minus (is_mark (codes "+") t) refl e) refl
 
 -- Fields.
 
-number_no_sign : (negative : Bool) (ts : List Token) (n : Number) (rest : List Token) → token (number_of negative) ts n rest → begins sign_of ts ≡ false
-number_no_sign negative = first_answers (number_of negative) (λ t. is_some (sign_of t)) false (λ t n e. rw (number_number negative t n e) refl)
+number_no_sign : (negative : Bool) (ts : List Token) (n : Number) (rest : List Token)
+    → token (number_of negative) ts n rest → begins sign_of ts ≡ false
+number_no_sign negative =
+    first_answers (number_of negative) (λ t. is_some (sign_of t)) false
+    (λ t n e. rw (number_number negative t n e) refl)
 
-number_open : (negative : Bool) (ts : List Token) (n : Number) (rest : List Token) → token (number_of negative) ts n rest → starts is_open ts ≡ true
+number_open : (negative : Bool) (ts : List Token) (n : Number) (rest : List Token)
+    → token (number_of negative) ts n rest → starts is_open ts ≡ true
 number_open negative = first_answers (number_of negative) is_open true (λ t n e. rw (number_number negative t n e) refl)
 
 pub exact_decimal : (ts : List Token) → Exact Any ts (decimal ts) (decimal_at ts)
@@ -100,7 +111,8 @@ exact_decimal ts =
     exact_done _ _ b refl))
     (λ minus a y rest h _. number_no_sign (unwrap_or minus false) a h.value h.middle h.begins)
 
-pub exact_pair : (left between right : List ℕ) (ts : List Token) → Exact Any ts (pair left between right ts) (pair_at left between right ts)
+pub exact_pair : (left between right : List ℕ) (ts : List Token)
+    → Exact Any ts (pair left between right ts) (pair_at left between right ts)
 unfolding pair pair_at
 exact_pair left between right ts =
     exact_next _ (exact_one (is_mark left) ts) (λ opening a.
@@ -149,7 +161,12 @@ unfolding entry
 entry_shorter ts x rest h =
     let text = h.goes_on.begins in
     let k = h.goes_on.goes_on in
-    omega (arith, length_within ts h.middle ((exact_decimal ts).within h.value h.middle h.begins), ap length text.front, ap length k.all)
+    omega (
+      arith,
+      length_within ts h.middle ((exact_decimal ts).within h.value h.middle h.begins),
+      ap length text.front,
+      ap length k.all,
+    )
 
 pub entries_repeat : Repeats (λ ts. starts is_open ts ≡ false) Any entry (starts is_open) entry_at
 entries_repeat = record {
@@ -169,7 +186,8 @@ exact_further ts =
     exact_then _ (exact_optional (one_chance (is_mark (codes ","))) ts) (λ comma a.
     exact_next _ (exact_token node_of a) (λ node b.
     exact_done _ _ b refl))
-    (λ comma a y rest h _. first_answers node_of (is_mark (codes ",")) false (λ t x e. rw (name_node t x e) refl) a h.value h.middle h.begins)
+    (λ comma a y rest h _. first_answers node_of (is_mark (codes ",")) false (λ t x e. rw (name_node t x e) refl) a
+    h.value h.middle h.begins)
 
 or_right : (a b : Bool) → b ≡ true → (a || b) ≡ true
 or_right true b e = refl
@@ -184,15 +202,19 @@ name_goes_on (t ∷ ts) e = or_left (is_some (node_of t)) _ e
 
 further_goes_on : (ts : List Token) (x : Option (List ℕ)) (rest : List Token) → further ts x rest → goes_on ts ≡ true
 unfolding further
-further_goes_on ts x rest h = by_comma h.value h.middle h.begins (token_passes node_of h.middle h.goes_on.value h.goes_on.middle h.goes_on.begins)
+further_goes_on ts x rest h =
+    by_comma h.value h.middle h.begins (token_passes node_of h.middle h.goes_on.value h.goes_on.middle h.goes_on.begins)
   where
-    by_comma : (comma : Option (Unit {0})) (mid : List Token) → optional (mark (codes ",")) ts comma mid → begins node_of mid ≡ true → goes_on ts ≡ true
+    by_comma : (comma : Option (Unit {0})) (mid : List Token) → optional (mark (codes ",")) ts comma mid
+        → begins node_of mid ≡ true → goes_on ts ≡ true
     by_comma None mid e k = name_goes_on ts (ap (begins node_of) (sym e) ∙ k)
     by_comma (Some u) mid e k =
         let comma = passes (is_mark (codes ",")) e.first u e.value in
-        ap goes_on e.front ∙ or_right (is_some (node_of e.first)) _ (and_from (is_mark (codes ",") e.first) (begins node_of mid) comma k)
+        ap goes_on e.front ∙ or_right (is_some (node_of e.first)) _
+        (and_from (is_mark (codes ",") e.first) (begins node_of mid) comma k)
 
-further_shorter : (ts : List Token) (x : Option (List ℕ)) (rest : List Token) → further ts x rest → length rest < length ts
+further_shorter : (ts : List Token) (x : Option (List ℕ)) (rest : List Token) → further ts x rest
+    → length rest < length ts
 unfolding further
 further_shorter ts x rest h =
     let node = h.goes_on.begins in
@@ -223,11 +245,13 @@ exact_some_names ts =
     exact_done _ _ c refl))
     (λ others b y rest h _. not_true (goes_on b) h.begins.passes))
 
-some_begin : (ts : List Token) (xs : List (List ℕ)) (rest : List Token) → some_names ts xs rest → begins node_of ts ≡ true
+some_begin : (ts : List Token) (xs : List (List ℕ)) (rest : List Token) → some_names ts xs rest
+    → begins node_of ts ≡ true
 unfolding some_names
 some_begin ts xs rest h = token_passes node_of ts h.value h.middle h.begins
 
-none_begin : (ts : List Token) (xs : List (List ℕ)) (rest : List Token) → no_names ts xs rest → begins node_of ts ≡ false
+none_begin : (ts : List Token) (xs : List (List ℕ)) (rest : List Token) → no_names ts xs rest
+    → begins node_of ts ≡ false
 unfolding no_names
 none_begin ts xs rest h = not_true (begins node_of ts) h.begins.passes
 
@@ -239,7 +263,8 @@ exact_no_names ts =
 
 pub exact_nodes : (ts : List Token) → Exact Any ts (nodes ts) (nodes_at ts)
 unfolding nodes nodes_at
-exact_nodes ts = exact_either (begins node_of ts) (exact_some_names ts) (exact_no_names ts) (some_begin ts) (none_begin ts)
+exact_nodes ts = exact_either (begins node_of ts) (exact_some_names ts) (exact_no_names ts) (some_begin ts)
+    (none_begin ts)
 
 -- A signal.
 

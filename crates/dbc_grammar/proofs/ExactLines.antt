@@ -2,27 +2,37 @@
 use Rattle.std.proofs.Common.{◌≡◌, ℕ, Bool, true, false, not, List, [], ◌∷◌, Option, Some, None, is_some, refl, subst}
 use Rattle.std.specs.Prelude.{if◌then◌else◌, codes}
 use Rattle.std.proofs.lemmas.Bool.{and_parts, and_right}
-use Rattle.dbc_grammar.specs.Fields.{is_a, is_mark, is_key, key_of, text_of, cited_name, made_name, node_of, whole, cited_number}
+use Rattle.dbc_words.specs.Keyword.{keyword_of}
+use Rattle.dbc_words.specs.declared.keyword.Keyword.{Keyword}
+use Rattle.dbc_words.specs.declared.keyword.Keyword.TheVariants.{Nodes, Message, Signal, EnvironmentVariable}
+use Rattle.dbc_words.specs.ValueType.{value_type_of}
+use Rattle.dbc_grammar.specs.Fields.{is_a, is_mark, is_key, key_of, text_of, cited_name, made_name, node_of, whole}
+use Rattle.dbc_grammar.specs.Fields.{cited_number}
 use Rattle.dbc_grammar.specs.Fields.{message_ident, independent_number, length_of, type_of, mark, signal}
-use Rattle.dbc_grammar.specs.Grammar.{begins_next, next, is_open, version_line, is_symbol, ends_symbols, symbols_line, registers, timing}
-use Rattle.dbc_grammar.specs.Grammar.{timing_line, nodes_line, table_line, message_line, file_comment, node_comment, message_comment}
-use Rattle.dbc_grammar.specs.Grammar.{signal_comment, value_texts_line, value_type_line, is_spn_name, spn_of, spn_line, skipped}
+use Rattle.dbc_grammar.specs.Grammar.{begins_next, next, is_open, version_line, is_symbol, ends_symbols, symbols_line}
+use Rattle.dbc_grammar.specs.Grammar.{registers, timing}
+use Rattle.dbc_grammar.specs.Grammar.{timing_line, nodes_line, table_line, message_line, file_comment, node_comment}
+use Rattle.dbc_grammar.specs.Grammar.{message_comment}
+use Rattle.dbc_grammar.specs.Grammar.{signal_comment, value_texts_line, value_type_line, is_spn_name, spn_of, spn_line}
+use Rattle.dbc_grammar.specs.Grammar.{skipped}
 use Rattle.dbc_grammar.specs.Grammar.{passed_comment, passed_value_texts, independent_line}
-use Rattle.catalogue.specs.Keyword.{keyword_of}
-use Rattle.dbc_grammar.specs.Parsing.{signal_at, version_at, symbols_at, registers_at, timing_at, timing_line_at, nodes_line_at, entries_at}
-use Rattle.dbc_grammar.specs.Parsing.{table_at, signals_at, message_at, file_comment_at, node_comment_at, message_comment_at}
-use Rattle.dbc_grammar.specs.Parsing.{signal_comment_at, value_texts_at, value_type_at, spn_at, skipped_at, passed_comment_at}
+use Rattle.dbc_grammar.specs.Parsing.{signal_at, version_at, symbols_at, registers_at, timing_at, timing_line_at}
+use Rattle.dbc_grammar.specs.Parsing.{nodes_line_at, entries_at}
+use Rattle.dbc_grammar.specs.Parsing.{table_at, signals_at, message_at, file_comment_at, node_comment_at}
+use Rattle.dbc_grammar.specs.Parsing.{message_comment_at}
+use Rattle.dbc_grammar.specs.Parsing.{signal_comment_at, value_texts_at, value_type_at, spn_at, skipped_at}
+use Rattle.dbc_grammar.specs.Parsing.{passed_comment_at}
 use Rattle.dbc_grammar.specs.Parsing.{passed_value_texts_at, independent_at}
 use Rattle.dbc_grammar.specs.Rules.{only, starts}
 use Rattle.dbc_grammar.specs.Token.{Token}
-use Rattle.catalogue.specs.declared.keyword.Keyword.{Keyword}
-use Rattle.catalogue.specs.declared.keyword.Keyword.TheVariants.{Nodes, Message, Signal, EnvironmentVariable}
 use Rattle.dbc_grammar.specs.declared.token.TokenKind.TheVariants.{Name, Number as NumberKind}
-use Rattle.dbc_grammar.proofs.Exactness.{Exact, Any, bind_takes, exact_then, exact_next, exact_any, exact_token, exact_one, exact_done}
-use Rattle.dbc_grammar.proofs.Exactness.{exact_followed, exact_optional, exact_many, one_chance, Chance, Repeats, tokens_repeat, one_passes}
+use Rattle.dbc_grammar.proofs.Exactness.{Exact, Any, bind_takes, exact_then, exact_next, exact_any, exact_token}
+use Rattle.dbc_grammar.proofs.Exactness.{exact_one, exact_done}
+use Rattle.dbc_grammar.proofs.Exactness.{exact_followed, exact_optional, exact_many, one_chance, Chance, Repeats}
+use Rattle.dbc_grammar.proofs.Exactness.{tokens_repeat, one_passes}
 use Rattle.dbc_grammar.proofs.Exactness.{first_answers}
-use Rattle.catalogue.specs.ValueType.{value_type_of}
-use Rattle.dbc_grammar.proofs.ExactFields.{kind_is, number_whole, passes, exact_nodes, entries_repeat, signal_starts, eats_signal, not_true}
+use Rattle.dbc_grammar.proofs.ExactFields.{kind_is, number_whole, passes, exact_nodes, entries_repeat, signal_starts}
+use Rattle.dbc_grammar.proofs.ExactFields.{eats_signal, not_true}
 
 -- the end follows, or a keyword other than `SG_`
 abbrev pub Next : List Token → Type 0
@@ -73,12 +83,18 @@ exact_registers ts =
     exact_next _ (exact_one (is_a NumberKind) c) (λ second d.
     exact_done _ _ d refl))))
 
-registers_begin : (ts : List Token) (x : Unit {0}) (rest : List Token) → registers ts x rest → starts (is_mark (codes ":")) ts ≡ true
+registers_begin : (ts : List Token) (x : Unit {0}) (rest : List Token) → registers ts x rest
+    → starts (is_mark (codes ":")) ts ≡ true
 unfolding registers
 registers_begin ts x rest h = one_passes (is_mark (codes ":")) ts h.value h.middle h.begins
 
 registers_chance : Chance Next registers (starts (is_mark (codes ":"))) registers_at
-registers_chance = record { each = λ ts. exact_any (exact_registers ts); begins = registers_begin; stops = next_no_mark (codes ":") }
+registers_chance = record {
+  each = λ ts. exact_any (exact_registers ts);
+  begins = registers_begin;
+  stops =
+      next_no_mark (codes ":");
+}
 
 pub exact_timing : (ts : List Token) → Exact Next ts (timing ts) (timing_at ts)
 unfolding timing timing_at
@@ -88,7 +104,8 @@ exact_timing ts =
     exact_any (exact_done _ _ b refl))
     (λ others b y rest h n. subst Next h.all n))
 
-timing_begins : (ts : List Token) (x : Unit {0}) (rest : List Token) → timing ts x rest → starts (is_a NumberKind) ts ≡ true
+timing_begins : (ts : List Token) (x : Unit {0}) (rest : List Token) → timing ts x rest
+    → starts (is_a NumberKind) ts ≡ true
 unfolding timing
 timing_begins ts x rest h = one_passes (is_a NumberKind) ts h.value h.middle h.begins
 
@@ -112,8 +129,10 @@ exact_nodes_line ts =
 
 -- Before the `;` that ends a statement.
 
-end_stops : (ts : List Token) (x : Unit {0}) (rest : List Token) → mark (codes ";") ts x rest → starts is_open ts ≡ false
-end_stops = first_answers (λ t. only (is_mark (codes ";") t) tt) is_open false (λ t x e. rw (passes (is_mark (codes ";")) t x e) refl)
+end_stops : (ts : List Token) (x : Unit {0}) (rest : List Token) → mark (codes ";") ts x rest
+    → starts is_open ts ≡ false
+end_stops = first_answers (λ t. only (is_mark (codes ";") t) tt) is_open false
+    (λ t x e. rw (passes (is_mark (codes ";")) t x e) refl)
 
 pub exact_table : (ts : List Token) → Exact Any ts (table_line ts) (table_at ts)
 unfolding table_line table_at entries_at
@@ -207,7 +226,8 @@ exact_value_type ts =
     exact_next _ (exact_token type_of c) (λ value_type d.
     exact_next _ (exact_one (is_mark (codes ";")) d) (λ end e.
     exact_done _ _ e refl)))
-    (λ colon c y rest h _. first_answers type_of (is_mark (codes ":")) false (type_no_mark (codes ":")) c h.value h.middle h.begins)))
+    (λ colon c y rest h _. first_answers type_of (is_mark (codes ":")) false (type_no_mark (codes ":")) c h.value
+    h.middle h.begins)))
 
 pub exact_spn : (ts : List Token) → Exact Any ts (spn_line ts) (spn_at ts)
 unfolding spn_line spn_at

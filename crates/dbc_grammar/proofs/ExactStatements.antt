@@ -1,30 +1,42 @@
 -- Which statement a keyword begins, and that all of them are read.
-use Rattle.std.proofs.Common.{◌≡◌, ℕ, ◌==◌, Bool, true, false, List, Some, None, is_some, refl, sym, subst, ◌∙◌, inl, inr}
+use Rattle.std.proofs.Common.{◌≡◌, ℕ, ◌==◌, Bool, true, false, List, Some, None, is_some, refl, sym, subst, ◌∙◌, inl}
+use Rattle.std.proofs.Common.{inr}
 use Rattle.std.specs.Str.{bytes_eq}
 use Rattle.std.proofs.lemmas.Bool.{and_parts}
 use Rattle.std.proofs.lemmas.Bool.Decides.{Decides-eqb}
 use Rattle.std.proofs.lemmas.Slice.Eq.{bytes_eq-Decides}
-use Rattle.dbc_grammar.specs.Fields.{is_a, is_key, key_of, key, text_of, cited_name, whole, cited_number, ident_of, message_ident}
+use Rattle.dbc_words.specs.Keyword.{KeywordGroup, Kept, Passed, Refused, keyword_of, keyword_text, keyword_group}
+use Rattle.dbc_words.specs.declared.keyword.Keyword.{Keyword}
+use Rattle.dbc_words.specs.declared.keyword.Keyword.TheVariants.{Version, NewSymbols, BitTiming, Nodes, ValueTable}
+use Rattle.dbc_words.specs.declared.keyword.Keyword.TheVariants.{Message, Signal}
+use Rattle.dbc_words.specs.declared.keyword.Keyword.TheVariants.{Comment, ValueTexts, SignalValueType, AttributeValue}
+use Rattle.dbc_words.specs.declared.keyword.Keyword.TheVariants.{EnvironmentVariable}
+use Rattle.dbc_grammar.specs.Fields.{is_a, is_key, key_of, key, text_of, cited_name, whole, cited_number, ident_of}
+use Rattle.dbc_grammar.specs.Fields.{message_ident}
 use Rattle.dbc_grammar.specs.Fields.{independent_number}
-use Rattle.dbc_grammar.specs.Grammar.{message_line, file_comment, node_comment, message_comment, signal_comment, value_texts_line}
-use Rattle.dbc_grammar.specs.Grammar.{passed_line, passed_comment, passed_value_texts, passed_attribute, independent_line, comment_line}
+use Rattle.dbc_grammar.specs.Grammar.{message_line, file_comment, node_comment, message_comment, signal_comment}
+use Rattle.dbc_grammar.specs.Grammar.{value_texts_line}
+use Rattle.dbc_grammar.specs.Grammar.{passed_line, passed_comment, passed_value_texts, passed_attribute}
+use Rattle.dbc_grammar.specs.Grammar.{independent_line, comment_line}
 use Rattle.dbc_grammar.specs.Grammar.{other_line, line, first_word, statement}
-use Rattle.catalogue.specs.Keyword.{KeywordGroup, Kept, Passed, Refused, keyword_of, keyword_text, keyword_group}
-use Rattle.dbc_grammar.specs.Parsing.{signal_or_passed_at, message_or_signal_at, named_comment_at, comment_at, either_at, message_at}
-use Rattle.dbc_grammar.specs.Parsing.{independent_at, value_texts_at, passed_value_texts_at, other_line_at, line_at, statement_at}
+use Rattle.dbc_grammar.specs.Parsing.{signal_or_passed_at, message_or_signal_at, named_comment_at, comment_at}
+use Rattle.dbc_grammar.specs.Parsing.{either_at, message_at}
+use Rattle.dbc_grammar.specs.Parsing.{independent_at, value_texts_at, passed_value_texts_at, other_line_at, line_at}
+use Rattle.dbc_grammar.specs.Parsing.{statement_at}
 use Rattle.dbc_grammar.specs.Rules.{Rule, Then, only, either, starts, begins}
 use Rattle.dbc_grammar.specs.Statement.{Content}
 use Rattle.dbc_grammar.specs.Token.{Token}
-use Rattle.catalogue.specs.declared.keyword.Keyword.{Keyword}
-use Rattle.catalogue.specs.declared.keyword.Keyword.TheVariants.{Version, NewSymbols, BitTiming, Nodes, ValueTable, Message, Signal}
-use Rattle.catalogue.specs.declared.keyword.Keyword.TheVariants.{Comment, ValueTexts, SignalValueType, AttributeValue, EnvironmentVariable}
 use Rattle.dbc_grammar.specs.declared.token.TokenKind.TheVariants.{Name}
-use Rattle.dbc_grammar.proofs.Exactness.{Exact, Any, bind_takes, exact_then, exact_any, exact_done, exact_either, exact_unless, Eats, eats}
+use Rattle.dbc_grammar.proofs.Exactness.{Exact, Any, bind_takes, exact_then, exact_any, exact_done, exact_either}
+use Rattle.dbc_grammar.proofs.Exactness.{exact_unless, Eats, eats}
 use Rattle.dbc_grammar.proofs.Exactness.{token_passes, only_passes, first_answers}
 use Rattle.dbc_grammar.proofs.ExactFields.{kind_is, name_cited, passes}
-use Rattle.dbc_grammar.proofs.ExactLines.{Next, exact_version, exact_symbols, exact_timing_line, exact_nodes_line, exact_table, exact_message}
-use Rattle.dbc_grammar.proofs.ExactLines.{exact_file_comment, exact_node_comment, exact_message_comment, exact_signal_comment}
-use Rattle.dbc_grammar.proofs.ExactLines.{exact_value_texts, exact_value_type, exact_spn, exact_skipped, exact_passed_comment}
+use Rattle.dbc_grammar.proofs.ExactLines.{Next, exact_version, exact_symbols, exact_timing_line, exact_nodes_line}
+use Rattle.dbc_grammar.proofs.ExactLines.{exact_table, exact_message}
+use Rattle.dbc_grammar.proofs.ExactLines.{exact_file_comment, exact_node_comment, exact_message_comment}
+use Rattle.dbc_grammar.proofs.ExactLines.{exact_signal_comment}
+use Rattle.dbc_grammar.proofs.ExactLines.{exact_value_texts, exact_value_type, exact_spn, exact_skipped}
+use Rattle.dbc_grammar.proofs.ExactLines.{exact_passed_comment}
 use Rattle.dbc_grammar.proofs.ExactLines.{exact_passed_value_texts, exact_independent}
 
 -- A keyword is spelled in one way, and each spelling is one keyword.
@@ -55,9 +67,11 @@ other_key k j apart t e = by_answer (is_key j t) refl
 -- Comments.
 
 -- what comes first in a rule that begins with a keyword
-key_first : {B : Type 0} {q : Unit {0} → Rule B} {ts rest : List Token} {x : B} (k : Keyword) (test : Token → Bool) (b : Bool)
+key_first : {B : Type 0} {q : Unit {0} → Rule B} {ts rest : List Token} {x : B} (k : Keyword) (test : Token → Bool)
+    (b : Bool)
     → ((t : Token) → is_key k t ≡ true → test t ≡ b) → Then (key k) q ts x rest → starts test ts ≡ b
-key_first {ts} k test b f h = first_answers (λ t. only (is_key k t) tt) test b (λ t u e. f t (passes (is_key k) t u e)) ts h.value h.middle h.begins
+key_first {ts} k test b f h = first_answers (λ t. only (is_key k t) tt) test b (λ t u e. f t (passes (is_key k) t u e))
+    ts h.value h.middle h.begins
 
 no_key : {B : Type 0} {q : Unit {0} → Rule B} {ts rest : List Token} {x : B} (k j : Keyword) → (Some k ≡ Some j → ⊥)
     → Then (key k) q ts x rest → starts (is_key j) ts ≡ false
@@ -67,22 +81,29 @@ no_text : {B : Type 0} {q : Unit {0} → Rule B} {ts rest : List Token} {x : B} 
     → Then (key k) q ts x rest → begins text_of ts ≡ false
 no_text k h = key_first k (λ t. is_some (text_of t)) false (λ t e. rw (key_name k t e) refl) h
 
-exact_signal_or_passed : (ts : List Token) → Exact Any ts (either signal_comment passed_comment ts) (signal_or_passed_at ts)
+exact_signal_or_passed : (ts : List Token)
+    → Exact Any ts (either signal_comment passed_comment ts) (signal_or_passed_at ts)
 unfolding signal_comment passed_comment
 exact_signal_or_passed ts =
     exact_either (starts (is_key Signal) ts) (exact_signal_comment ts) (exact_passed_comment ts)
     (λ x rest h. key_first Signal (is_key Signal) true (λ t e. e) h)
     (λ x rest h. no_key EnvironmentVariable Signal (λ e. cc) h)
 
-exact_message_or_signal : (ts : List Token) → Exact Any ts (either message_comment (either signal_comment passed_comment) ts) (message_or_signal_at ts)
+exact_message_or_signal : (ts : List Token)
+    → Exact Any ts (either message_comment (either signal_comment passed_comment) ts) (message_or_signal_at ts)
 unfolding message_comment signal_comment passed_comment
 exact_message_or_signal ts =
     exact_either (starts (is_key Message) ts) (exact_message_comment ts) (exact_signal_or_passed ts)
     (λ x rest h. key_first Message (is_key Message) true (λ t e. e) h)
-    (λ x rest h. elim h [ inl h ↦ no_key Signal Message (λ e. cc) h | inr h ↦ no_key EnvironmentVariable Message (λ e. cc) h ])
+    (λ x rest h. elim h [
+      | inl h ↦ no_key Signal Message (λ e. cc) h
+      | inr h ↦ no_key EnvironmentVariable Message
+          (λ e. cc) h
+    ])
 
 exact_named_comment : (ts : List Token)
-    → Exact Any ts (either node_comment (either message_comment (either signal_comment passed_comment)) ts) (named_comment_at ts)
+    → Exact Any ts (either node_comment (either message_comment (either signal_comment passed_comment)) ts)
+    (named_comment_at ts)
 unfolding node_comment message_comment signal_comment passed_comment
 exact_named_comment ts =
     exact_either (starts (is_key Nodes) ts) (exact_node_comment ts) (exact_message_or_signal ts)
@@ -115,34 +136,45 @@ independent_no_message t x e =
     let b = bind_takes (whole t) (λ n. only (n == 3221225472) n) x e in
     rw (b.1, is_independent b.0 x b.2) refl
 
-message_begins : (ts : List Token) (x : Content) (rest : List Token) → message_line ts x rest → begins message_ident ts ≡ true
+message_begins : (ts : List Token) (x : Content) (rest : List Token) → message_line ts x rest
+    → begins message_ident ts ≡ true
 unfolding message_line
 message_begins ts x rest h = token_passes message_ident ts h.value h.middle h.begins
 
-independent_begins : (ts : List Token) (x : Content) (rest : List Token) → independent_line ts x rest → begins message_ident ts ≡ false
+independent_begins : (ts : List Token) (x : Content) (rest : List Token) → independent_line ts x rest
+    → begins message_ident ts ≡ false
 unfolding independent_line
 independent_begins ts x rest h =
-    first_answers independent_number (λ t. is_some (message_ident t)) false independent_no_message ts h.value h.middle h.begins
+    first_answers independent_number (λ t. is_some (message_ident t)) false independent_no_message ts h.value h.middle
+    h.begins
 
-exact_numbered : (ts : List Token) → Exact Next ts (either message_line independent_line ts) (either_at (begins message_ident) message_at independent_at ts)
+exact_numbered : (ts : List Token)
+    → Exact Next ts (either message_line independent_line ts)
+    (either_at (begins message_ident) message_at independent_at ts)
 exact_numbered ts =
-    exact_either (begins message_ident ts) (exact_message ts) (exact_any (exact_independent ts)) (message_begins ts) (independent_begins ts)
+    exact_either (begins message_ident ts) (exact_message ts) (exact_any (exact_independent ts)) (message_begins ts)
+    (independent_begins ts)
 
 -- Value texts.
 
-texts_begin : (ts : List Token) (x : Content) (rest : List Token) → value_texts_line ts x rest → begins cited_number ts ≡ true
+texts_begin : (ts : List Token) (x : Content) (rest : List Token) → value_texts_line ts x rest
+    → begins cited_number ts ≡ true
 unfolding value_texts_line
 texts_begin ts x rest h = token_passes cited_number ts h.value h.middle h.begins
 
-passed_texts_begin : (ts : List Token) (x : Content) (rest : List Token) → passed_value_texts ts x rest → begins cited_number ts ≡ false
+passed_texts_begin : (ts : List Token) (x : Content) (rest : List Token) → passed_value_texts ts x rest
+    → begins cited_number ts ≡ false
 unfolding passed_value_texts
 passed_texts_begin ts x rest h =
-    first_answers cited_name (λ t. is_some (cited_number t)) false (λ t n e. rw (name_cited t n e) refl) ts h.value h.middle h.begins
+    first_answers cited_name (λ t. is_some (cited_number t)) false (λ t n e. rw (name_cited t n e) refl) ts h.value
+    h.middle h.begins
 
 exact_texts : (ts : List Token)
-    → Exact Any ts (either value_texts_line passed_value_texts ts) (either_at (begins cited_number) value_texts_at passed_value_texts_at ts)
+    → Exact Any ts (either value_texts_line passed_value_texts ts)
+    (either_at (begins cited_number) value_texts_at passed_value_texts_at ts)
 exact_texts ts =
-    exact_either (begins cited_number ts) (exact_value_texts ts) (exact_passed_value_texts ts) (texts_begin ts) (passed_texts_begin ts)
+    exact_either (begins cited_number ts) (exact_value_texts ts) (exact_passed_value_texts ts) (texts_begin ts)
+    (passed_texts_begin ts)
 
 -- All of them.
 

@@ -11,7 +11,8 @@ use Rattle.dbc_grammar.specs.Rules.{only}
 abbrev Writes : ℕ → Ident → Type 0
 Writes n ident = IsIdentifier ident × (dbc_number ident ≡ n)
 
-extended : (n : ℕ) (in_range : Bool) → (nat_le 2147483648 n && nat_le n 2684354559) ≡ in_range → (ident : Ident) → only in_range (Ext (n - 2147483648)) ≡ Some ident → Writes n ident
+extended : (n : ℕ) (in_range : Bool) → (nat_le 2147483648 n && nat_le n 2684354559) ≡ in_range → (ident : Ident)
+    → only in_range (Ext (n - 2147483648)) ≡ Some ident → Writes n ident
 extended n false test ident e = absurd cc
 extended n true test (Std k) e = absurd cc
 extended n true test (Ext k) e =
@@ -21,7 +22,8 @@ extended n true test (Ext k) e =
     (omega (arith, same, low, high), omega (arith, same, low, high))
 
 writes_ident : (n : ℕ) (standard : Bool) → nat_le n 2047 ≡ standard → (ident : Ident)
-    → (if standard then Some (Std n) else only (nat_le 2147483648 n && nat_le n 2684354559) (Ext (n - 2147483648))) ≡ Some ident → Writes n ident
+    → (if standard then Some (Std n) else only (nat_le 2147483648 n && nat_le n 2684354559) (Ext (n - 2147483648)))
+    ≡ Some ident → Writes n ident
 writes_ident n true test (Std k) e =
     let same : n ≡ k = cc in
     let low : n ≤ 2047 = grind (arith, nat_tests) in

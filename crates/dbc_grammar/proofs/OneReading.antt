@@ -4,12 +4,13 @@ use Rattle.dbc_grammar.specs.Division.{Divides, OneDivision}
 use Rattle.dbc_grammar.specs.Reads.{Reads, ReadsAsOneAtMost, ReadsOnlyAs}
 use Rattle.dbc_grammar.specs.Saying.{Says, SaysOneAtMost, passed_by}
 use Rattle.dbc_grammar.specs.TokenLaw.{TokensAreOne}
-use Rattle.catalogue.specs.declared.sheet.Sheet.{Sheet}
+use Rattle.dbc_sheet.specs.declared.sheet.Sheet.{Sheet}
 
 pub one_reading : TokensAreOne → OneDivision → SaysOneAtMost → ReadsAsOneAtMost
 one_reading tokens division says bytes s t p q r u =
     let same_tokens = tokens bytes r.tokens u.tokens r.has_tokens u.has_tokens in
-    let same = division u.tokens r.statements u.statements (subst (λ ts. Divides ts r.statements) same_tokens r.divides) u.divides in
+    let same = division u.tokens r.statements u.statements (subst (λ ts. Divides ts r.statements) same_tokens r.divides)
+    u.divides in
     (says u.statements s t (subst (λ ss. Says ss s) same r.says) u.says, r.passes ∙ ap passed_by same ∙ sym u.passes)
 
 -- so a sheet that it reads as is the only one

@@ -1,10 +1,10 @@
 -- Statements say one sheet at most.
 use Rattle.std.proofs.Common.{◌≡◌, List, map, sym, ◌∙◌}
 use Rattle.std.proofs.lemmas.List.Sorted.{IsPermutation-sym, IsPermutation-trans}
-use Rattle.catalogue.specs.Messages.{number_of}
+use Rattle.dbc_sheet.specs.Messages.{number_of}
 use Rattle.dbc_grammar.specs.Saying.{Says, messages_of, whole_message}
 use Rattle.dbc_grammar.specs.Statement.{Statement}
-use Rattle.catalogue.specs.declared.sheet.Sheet.{Sheet}
+use Rattle.dbc_sheet.specs.declared.sheet.Sheet.{Sheet}
 use Rattle.dbc_grammar.proofs.AscendingUnique.{one_ascending}
 
 pub one_sheet : (statements : List Statement) (s t : Sheet) → Says statements s → Says statements t → s ≡ t
@@ -14,6 +14,8 @@ one_sheet statements s t a b =
     let nodes : s.nodes ≡ t.nodes = a.nodes ∙ sym b.nodes in
     let tables : s.tables ≡ t.tables = a.tables ∙ sym b.tables in
     let messages : s.messages ≡ t.messages =
-    one_ascending number_of s.messages t.messages a.is_sheet.well_formed.together.ascending b.is_sheet.well_formed.together.ascending
-    (IsPermutation-trans s.messages (map (whole_message statements) (messages_of statements)) t.messages (IsPermutation-sym _ _ a.messages) b.messages) in
+    one_ascending number_of s.messages t.messages a.is_sheet.well_formed.together.ascending
+    b.is_sheet.well_formed.together.ascending
+    (IsPermutation-trans s.messages (map (whole_message statements) (messages_of statements)) t.messages
+    (IsPermutation-sym _ _ a.messages) b.messages) in
     λ i. record { version = version i; comment = comment i; nodes = nodes i; tables = tables i; messages = messages i }

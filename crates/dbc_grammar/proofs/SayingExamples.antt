@@ -1,5 +1,6 @@
 -- What some statements say: examples that compute, each the answer that the rules of DBC text give by hand.
-use Rattle.std.proofs.Common.{◌≡◌, ◌<◌, ◌≤◌, ◌%◌, ◌^◌, ℕ, ap, false, List, [], ◌∷◌, map, Some, None, codes, refl, arith, true≢false}
+use Rattle.std.proofs.Common.{◌≡◌, ◌<◌, ◌≤◌, ◌%◌, ◌^◌, ℕ, ap, false, List, [], ◌∷◌, map, Some, None, codes, refl, arith}
+use Rattle.std.proofs.Common.{true≢false}
 use Rattle.std.specs.List.{AllByRecursion, IsDistinct, flat_map}
 use Rattle.std.proofs.lemmas.List.Elements.{All-from_recursion}
 use Rattle.std.specs.List.Sorted.{IsStrictlySortedBy}
@@ -11,12 +12,13 @@ use Rattle.bitlayout.specs.declared.layout.Order.TheVariants.{Intel}
 use Rattle.bitlayout.specs.declared.place.Mux.TheVariants.{Always}
 use Rattle.can_id.specs.declared.ident.Ident.TheVariants.{Std}
 use Rattle.decimal.specs.Number.{Number, IsDecimal}
+use Rattle.dbc_words.specs.Name.{IsName, is_name}
+use Rattle.dbc_words.specs.Named.{AreNamedApart}
 use Rattle.std.specs.Prelude.{pos}
-use Rattle.catalogue.specs.Form.{IsMessage, IsNode, IsSheet, IsSignal, IsTable, IsValueText}
-use Rattle.catalogue.specs.Messages.{message_name}
-use Rattle.catalogue.specs.Name.{IsName, is_name}
-use Rattle.catalogue.specs.Named.{AreNamedApart}
-use Rattle.dbc_grammar.specs.Saying.{Says, last_in, messages_of, passed_by, version_in, comment_in, whole_message, whole_node, node_names_of}
+use Rattle.dbc_sheet.specs.Form.{IsMessage, IsNode, IsSheet, IsSignal, IsTable, IsValueText}
+use Rattle.dbc_sheet.specs.Messages.{message_name}
+use Rattle.dbc_grammar.specs.Saying.{Says, last_in, messages_of, passed_by, version_in, comment_in, whole_message}
+use Rattle.dbc_grammar.specs.Saying.{whole_node, node_names_of}
 use Rattle.dbc_grammar.specs.Statement.{
   Content,
   VersionIs,
@@ -34,8 +36,8 @@ use Rattle.dbc_grammar.specs.Statement.{
   SignalLine,
   Statement,
 }
-use Rattle.catalogue.specs.declared.keyword.Keyword.{Keyword}
-use Rattle.catalogue.specs.declared.keyword.Keyword.TheVariants.{
+use Rattle.dbc_words.specs.declared.keyword.Keyword.{Keyword}
+use Rattle.dbc_words.specs.declared.keyword.Keyword.TheVariants.{
   Version,
   NewSymbols,
   Nodes,
@@ -46,13 +48,13 @@ use Rattle.catalogue.specs.declared.keyword.Keyword.TheVariants.{
   AttributeValue,
   AttributeDefinition,
 }
-use Rattle.catalogue.specs.declared.message.Message.{Message as WholeMessage}
-use Rattle.catalogue.specs.declared.sheet.Sheet.{Sheet}
-use Rattle.catalogue.specs.declared.signal.Signal.{Signal}
-use Rattle.catalogue.specs.declared.value_type.ValueType.TheVariants.{Integer, Double}
-use Rattle.catalogue.specs.Text.{IsText}
-use Rattle.catalogue.proofs.Naming.{bytes_eq-flip}
-use Rattle.catalogue.proofs.Texts.{text-Decides}
+use Rattle.dbc_words.specs.declared.value_type.ValueType.TheVariants.{Integer, Double}
+use Rattle.dbc_words.specs.Text.{IsText}
+use Rattle.dbc_words.proofs.Naming.{bytes_eq-flip}
+use Rattle.dbc_words.proofs.Texts.{text-Decides}
+use Rattle.dbc_sheet.specs.declared.message.Message.{Message as WholeMessage}
+use Rattle.dbc_sheet.specs.declared.sheet.Sheet.{Sheet}
+use Rattle.dbc_sheet.specs.declared.signal.Signal.{Signal}
 
 -- The statements of a file with two messages: 500 with the signals Speed and Torque, and 100 with Speed alone.
 
@@ -77,7 +79,8 @@ signal name start = record {
 }
 
 abbrev message : ℕ → List ℕ → List SignalLine → Content
-message n name signals = MessageIs (record { ident = Std n; name = name; length = 8; transmitter = None; signals = signals })
+message n name signals =
+    MessageIs (record { ident = Std n; name = name; length = 8; transmitter = None; signals = signals })
 
 abbrev engine : Content
 engine = message 500 (codes "Engine") (signal (codes "Speed") 0 ∷ signal (codes "Torque") 8 ∷ [])
@@ -90,7 +93,8 @@ at start keyword content = record { start = start; keyword = keyword; content = 
 
 -- all signals, with what is stated of them
 abbrev signals_stated : List Statement → List Signal
-signals_stated statements = flat_map (λ (m : WholeMessage). m.signals) (map (whole_message statements) (messages_of statements))
+signals_stated statements =
+    flat_map (λ (m : WholeMessage). m.signals) (map (whole_message statements) (messages_of statements))
 
 abbrev comments_stated : List Statement → List (List ℕ)
 comments_stated statements = map (λ (s : Signal). s.comment) (signals_stated statements)
@@ -128,7 +132,8 @@ abbrev attached_before : List Statement
 attached_before =
     at 0 AttributeValue (SpnIs (Some 500) (codes "Torque") 513)
     ∷ at 30 SignalValueType (ValueTypeIs (Some 500) (codes "Torque") Double)
-    ∷ at 60 ValueTexts (ValueTextsAre (Some 500) (codes "Torque") (record { value = number 0; text = codes "off" } ∷ []))
+    ∷ at 60 ValueTexts (ValueTextsAre (Some 500) (codes "Torque")
+    (record { value = number 0; text = codes "off" } ∷ []))
     ∷ at 90 Comment (MessageCommentIs (Some 500) (codes "of the engine")) ∷ at 120 Message engine ∷ []
 
 spns_before : map (λ (s : Signal). s.spn) (signals_stated attached_before) ≡ 0 ∷ 513 ∷ []
@@ -137,10 +142,12 @@ spns_before = refl
 value_types_before : map (λ (s : Signal). s.value_type) (signals_stated attached_before) ≡ Integer ∷ Double ∷ []
 value_types_before = refl
 
-value_texts_before : map (λ (s : Signal). s.values) (signals_stated attached_before) ≡ [] ∷ (record { value = number 0; text = codes "off" } ∷ []) ∷ []
+value_texts_before : map (λ (s : Signal). s.values) (signals_stated attached_before) ≡ []
+    ∷ (record { value = number 0; text = codes "off" } ∷ []) ∷ []
 value_texts_before = refl
 
-message_comment_before : map (λ (m : WholeMessage). m.comment) (map (whole_message attached_before) (messages_of attached_before)) ≡ codes "of the engine" ∷ []
+message_comment_before : map (λ (m : WholeMessage). m.comment)
+    (map (whole_message attached_before) (messages_of attached_before)) ≡ codes "of the engine" ∷ []
 message_comment_before = refl
 
 none_before_is_passed : passed_by attached_before ≡ []
@@ -162,7 +169,8 @@ absent =
     ∷ at 100 ValueTexts (ValueTextsAre None (codes "Speed") []) ∷ []
 
 absent_are_passed : passed_by absent
-    ≡ (40, Comment) ∷ (50, Comment) ∷ (60, Comment) ∷ (80, AttributeValue) ∷ (85, Comment) ∷ (87, SignalValueType) ∷ (90, AttributeDefinition) ∷ (100, ValueTexts) ∷ []
+    ≡ (40, Comment) ∷ (50, Comment) ∷ (60, Comment) ∷ (80, AttributeValue) ∷ (85, Comment) ∷ (87, SignalValueType)
+    ∷ (90, AttributeDefinition) ∷ (100, ValueTexts) ∷ []
 absent_are_passed = refl
 
 absent_say_nothing : map (λ (s : Signal). s.spn) (signals_stated absent) ≡ 84 ∷ []
@@ -171,11 +179,13 @@ absent_say_nothing = refl
 -- Several lists of nodes add up.
 abbrev nodes : List Statement
 nodes =
-    at 0 Nodes (NodesAre (codes "Dash" ∷ codes "ECU" ∷ [])) ∷ at 20 Comment (NodeCommentIs (codes "Dash") (codes "there"))
+    at 0 Nodes (NodesAre (codes "Dash" ∷ codes "ECU" ∷ []))
+    ∷ at 20 Comment (NodeCommentIs (codes "Dash") (codes "there"))
     ∷ at 50 Nodes (NodesAre (codes "Gate" ∷ [])) ∷ []
 
 nodes_add_up : map (whole_node nodes) (node_names_of nodes)
-    ≡ record { name = codes "Dash"; comment = codes "there" } ∷ record { name = codes "ECU"; comment = [] } ∷ record { name = codes "Gate"; comment = [] } ∷ []
+    ≡ record { name = codes "Dash"; comment = codes "there" } ∷ record { name = codes "ECU"; comment = [] }
+    ∷ record { name = codes "Gate"; comment = [] } ∷ []
 nodes_add_up = refl
 
 -- A whole sheet: its messages are in ascending order, though the file has them in descending order.
@@ -198,7 +208,8 @@ signal_with name start comment = record {
 }
 
 abbrev message_with : ℕ → List ℕ → List Signal → WholeMessage
-message_with n name signals = record { ident = Std n; name = name; length = 8; transmitter = None; comment = []; signals = signals }
+message_with n name signals =
+    record { ident = Std n; name = name; length = 8; transmitter = None; comment = []; signals = signals }
 
 abbrev sheet : Sheet
 sheet = record {
@@ -207,14 +218,21 @@ sheet = record {
   nodes = [];
   tables = [];
   messages = message_with 100 (codes "Wheel") (signal_with (codes "Speed") 0 [] ∷ [])
-      ∷ message_with 500 (codes "Engine") (signal_with (codes "Speed") 0 (codes "last") ∷ signal_with (codes "Torque") 8 [] ∷ []) ∷ [];
+      ∷ message_with 500 (codes "Engine")
+      (signal_with (codes "Speed") 0 (codes "last") ∷ signal_with (codes "Torque") 8 [] ∷ []) ∷ [];
 }
 
 -- that it is a sheet: the forms of its parts, and what they keep together
 whole_decimal : (n : ℕ) → n < 10 ^ 36 → (n % 10 ≡ 0 → n ≡ 0) → IsDecimal (number n)
-whole_decimal n few h = record { digits = few; range = record { low = omega arith; high = omega arith }; stripped = λ e. (ap pos (h e), refl) }
+whole_decimal n few h = record {
+  digits = few;
+  range = record { low = omega arith; high = omega arith };
+  stripped =
+      λ e. (ap pos (h e), refl);
+}
 
-plain_signal : (name : List ℕ) (start : ℕ) (comment : List ℕ) → IsName name → start ≤ 65535 → IsText comment → IsSignal (signal_with name start comment)
+plain_signal : (name : List ℕ) (start : ℕ) (comment : List ℕ) → IsName name → start ≤ 65535 → IsText comment
+    → IsSignal (signal_with name start comment)
 plain_signal name start comment named within text = record {
   named = named;
   layout = record { start = within; least = omega arith; most = omega arith };
@@ -230,7 +248,8 @@ plain_signal name start comment named within text = record {
   values = All-from_recursion IsValueText [] tt;
 }
 
-plain_message : (n : ℕ) (name : List ℕ) (signals : List Signal) → n ≤ 2047 → IsName name → AllByRecursion IsSignal signals → IsMessage (message_with n name signals)
+plain_message : (n : ℕ) (name : List ℕ) (signals : List Signal) → n ≤ 2047 → IsName name
+    → AllByRecursion IsSignal signals → IsMessage (message_with n name signals)
 plain_message n name signals low named each = record {
   ident = low;
   named = named;
@@ -249,10 +268,19 @@ is_a_sheet = record {
     entries = tt;
     together = record { ascending = ((refl, tt), (tt, tt)); apart = ((refl, tt), (tt, tt)); few = omega arith };
     messages = (
-      record { signals = record { apart = (tt, tt); one_multiplexor = (tt, tt); few = omega arith }; values = (omega arith, tt) },
+      record {
+        signals = record { apart = (tt, tt); one_multiplexor = (tt, tt); few = omega arith };
+        values =
+            (omega arith, tt);
+      },
       (
         record {
-          signals = record { apart = ((refl, tt), (tt, tt)); one_multiplexor = ((refl, tt), (tt, tt)); few = omega arith };
+          signals = record {
+            apart = ((refl, tt), (tt, tt));
+            one_multiplexor = ((refl, tt), (tt, tt));
+            few =
+                omega arith;
+          };
           values = (omega arith, (omega arith, tt));
         },
         tt,
@@ -264,12 +292,14 @@ is_a_sheet = record {
   nodes = All-from_recursion IsNode [] tt;
   tables = All-from_recursion IsTable [] tt;
   messages = All-from_recursion IsMessage sheet.messages (
-    plain_message 100 (codes "Wheel") (signal_with (codes "Speed") 0 [] ∷ []) (omega arith) refl (plain_signal (codes "Speed") 0 [] refl (omega arith) ((text-Decides []).0 refl), tt),
+    plain_message 100 (codes "Wheel") (signal_with (codes "Speed") 0 [] ∷ []) (omega arith) refl
+        (plain_signal (codes "Speed") 0 [] refl (omega arith) ((text-Decides []).0 refl), tt),
     (
-      plain_message 500 (codes "Engine") (signal_with (codes "Speed") 0 (codes "last") ∷ signal_with (codes "Torque") 8 [] ∷ []) (omega arith) refl (
-        plain_signal (codes "Speed") 0 (codes "last") refl (omega arith) ((text-Decides (codes "last")).0 refl),
-        (plain_signal (codes "Torque") 8 [] refl (omega arith) ((text-Decides []).0 refl), tt),
-      ),
+      plain_message 500 (codes "Engine")
+          (signal_with (codes "Speed") 0 (codes "last") ∷ signal_with (codes "Torque") 8 [] ∷ []) (omega arith) refl (
+            plain_signal (codes "Speed") 0 (codes "last") refl (omega arith) ((text-Decides (codes "last")).0 refl),
+            (plain_signal (codes "Torque") 8 [] refl (omega arith) ((text-Decides []).0 refl), tt),
+          ),
       tt,
     ),
   );
@@ -293,6 +323,7 @@ twice_says_none : (s : Sheet) → Says twice s → ⊥
 unfolding twice IsDistinct
 twice_says_none s says =
     let apart : AreNamedApart message_name (map (whole_message twice) (messages_of twice)) =
-    IsDistinct-IsPermutation (λ a b. bytes_eq (message_name a) (message_name b)) (λ a b. bytes_eq-flip a.name b.name) s.messages _
+    IsDistinct-IsPermutation (λ a b. bytes_eq (message_name a) (message_name b)) (λ a b. bytes_eq-flip a.name b.name)
+    s.messages _
     (IsPermutation-sym _ _ says.messages) says.is_sheet.well_formed.together.apart in
     true≢false apart.0.0

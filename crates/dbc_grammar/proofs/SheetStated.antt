@@ -1,20 +1,21 @@
 -- Entries, one for each node, each message or each signal of a well-formed sheet, in order and without empty ones, say
 -- of each its own value.
-use Rattle.std.proofs.Common.{◌≡◌, ◌&&◌, ◌++◌, ◌∙◌, ℕ, Bool, true, false, nat_eq, List, [], ◌∷◌, map, refl, sym, ap, subst, arith}
+use Rattle.std.proofs.Common.{◌≡◌, ◌&&◌, ◌++◌, ◌∙◌, ℕ, Bool, true, false, nat_eq, List, [], ◌∷◌, map, refl, sym, ap}
+use Rattle.std.proofs.Common.{subst, arith}
 use Rattle.std.specs.List.{AllByRecursion, IsDistinct, flat_map}
 use Rattle.std.specs.Str.{bytes_eq}
 use Rattle.std.proofs.lemmas.Bool.Decides.{nat_tests}
 use Rattle.std.proofs.lemmas.Slice.Eq.{bytes_eq-Decides}
-use Rattle.catalogue.specs.Messages.{number_of}
+use Rattle.dbc_words.proofs.Naming.{bytes_eq-flip}
+use Rattle.dbc_sheet.specs.Messages.{number_of}
 use Rattle.dbc_grammar.specs.Saying.{SignalKey, same_signal}
-use Rattle.catalogue.specs.Sheet.{node_name}
-use Rattle.catalogue.specs.WellFormed.{IsWellFormed}
-use Rattle.catalogue.specs.declared.message.Message.{Message}
-use Rattle.catalogue.specs.declared.node.Node.{Node}
-use Rattle.catalogue.specs.declared.sheet.Sheet.{Sheet}
-use Rattle.catalogue.specs.declared.signal.Signal.{Signal}
+use Rattle.dbc_sheet.specs.Sheet.{node_name}
+use Rattle.dbc_sheet.specs.WellFormed.{IsWellFormed}
+use Rattle.dbc_sheet.specs.declared.message.Message.{Message}
+use Rattle.dbc_sheet.specs.declared.node.Node.{Node}
+use Rattle.dbc_sheet.specs.declared.sheet.Sheet.{Sheet}
+use Rattle.dbc_sheet.specs.declared.signal.Signal.{Signal}
 use Rattle.dbc_grammar.proofs.EachStated.{each_stated, kept_entries, keys, last_value}
-use Rattle.catalogue.proofs.Naming.{bytes_eq-flip}
 use Rattle.dbc_grammar.proofs.AscendingUnique.{distinct_if_ascending}
 use Rattle.dbc_grammar.proofs.SignalKeys.{sheet_keys_distinct}
 
@@ -38,7 +39,8 @@ module _ {A K V : Type 0} (key : A → K) (value : A → V) where
   abbrev pub entries : List A → List (K × V)
   entries xs = map (λ x. (key x, value x)) xs
 
-  keys_before : (xs : List A) (rest : List (K × V)) (ks : List K) → keys rest ≡ ks → keys (entries xs ++ rest) ≡ map key xs ++ ks
+  keys_before : (xs : List A) (rest : List (K × V)) (ks : List K) → keys rest ≡ ks
+      → keys (entries xs ++ rest) ≡ map key xs ++ ks
   keys_before [] rest ks e = e
   keys_before (x ∷ xs) rest ks e = ap (λ js. key x ∷ js) (keys_before xs rest ks e)
 
@@ -51,17 +53,20 @@ module _ {A K V : Type 0} (key : A → K) (value : A → V) where
   keys-entries [] = refl
   keys-entries (x ∷ xs) = ap (λ js. key x ∷ js) (keys-entries xs)
 
-  each_entry : (P : K × V → Type 0) (xs : List A) → AllByRecursion P (entries xs) → AllByRecursion (λ x. P (key x, value x)) xs
+  each_entry : (P : K × V → Type 0) (xs : List A) → AllByRecursion P (entries xs)
+      → AllByRecursion (λ x. P (key x, value x)) xs
   each_entry P [] all = tt
   each_entry P (x ∷ xs) all = (all.0, each_entry P xs all.1)
 
   -- what distinguishes things by their keys distinguishes the keys
-  distinct_keys : (same : K → K → Bool) (xs : List A) → IsDistinct (λ x y. same (key x) (key y)) xs → IsDistinct same (map key xs)
+  distinct_keys : (same : K → K → Bool) (xs : List A) → IsDistinct (λ x y. same (key x) (key y)) xs
+      → IsDistinct same (map key xs)
   unfolding IsDistinct
   distinct_keys same [] apart = tt
   distinct_keys same (x ∷ xs) apart = (by xs apart.0, distinct_keys same xs apart.1)
     where
-      by : (ys : List A) → AllByRecursion (λ y. same (key x) (key y) ≡ false) ys → AllByRecursion (λ k. same (key x) k ≡ false) (map key ys)
+      by : (ys : List A) → AllByRecursion (λ y. same (key x) (key y) ≡ false) ys
+          → AllByRecursion (λ k. same (key x) k ≡ false) (map key ys)
       by [] all = tt
       by (y ∷ ys) all = (all.0, by ys all.1)
 
@@ -85,23 +90,34 @@ signal_key m x = (number_of m, x.name)
 abbrev pub message_signals : Message → List Signal
 message_signals m = m.signals
 
-module _ {V : Type 0} (keep : V → Bool) (d : V) (empty : (v : V) → keep v ≡ false → v ≡ d) (s : Sheet) (well : IsWellFormed s) where
-  pub nodes_stated : (value : Node → V) → AllByRecursion (λ n. last_value bytes_eq d n.name (kept_entries keep (entries node_name value s.nodes)) ≡ value n) s.nodes
+module _ {V : Type 0} (keep : V → Bool) (d : V) (empty : (v : V) → keep v ≡ false → v ≡ d) (s : Sheet)
+    (well : IsWellFormed s) where
+  pub nodes_stated : (value : Node → V)
+      → AllByRecursion (λ n. last_value bytes_eq d n.name (kept_entries keep (entries node_name value s.nodes))
+      ≡ value n) s.nodes
   nodes_stated value =
       each_entry node_name value _ s.nodes
       (each_stated bytes_eq bytes_itself bytes_eq-flip keep d empty (entries node_name value s.nodes)
-      (subst (IsDistinct bytes_eq) (sym (keys-entries node_name value s.nodes)) (distinct_keys node_name value bytes_eq s.nodes well.nodes.apart)))
+      (subst (IsDistinct bytes_eq) (sym (keys-entries node_name value s.nodes))
+      (distinct_keys node_name value bytes_eq s.nodes well.nodes.apart)))
 
-  pub messages_stated : (value : Message → V) → AllByRecursion (λ m. last_value nat_eq d (number_of m) (kept_entries keep (entries number_of value s.messages)) ≡ value m) s.messages
+  pub messages_stated : (value : Message → V)
+      → AllByRecursion (λ m. last_value nat_eq d (number_of m) (kept_entries keep (entries number_of value s.messages))
+      ≡ value m) s.messages
   messages_stated value =
-      let numbers = distinct_keys number_of value nat_eq s.messages (distinct_if_ascending number_of s.messages well.together.ascending) in
+      let numbers = distinct_keys number_of value nat_eq s.messages
+      (distinct_if_ascending number_of s.messages well.together.ascending) in
       each_entry number_of value _ s.messages
       (each_stated nat_eq nat_itself nat_flip keep d empty (entries number_of value s.messages)
       (subst (IsDistinct nat_eq) (sym (keys-entries number_of value s.messages)) numbers))
 
   pub signals_stated : (value : Signal → V) → AllByRecursion (λ m. AllByRecursion (λ x.
-      last_value same_signal d (signal_key m x) (kept_entries keep (part_entries message_signals signal_key value s.messages)) ≡ value x) m.signals) s.messages
+      last_value same_signal d (signal_key m x)
+      (kept_entries keep (part_entries message_signals signal_key value s.messages)) ≡ value x) m.signals)
+      s.messages
   signals_stated value =
       each_part message_signals signal_key value _ s.messages
-      (each_stated same_signal signal_itself signal_flip keep d empty (part_entries message_signals signal_key value s.messages)
-      (subst (IsDistinct same_signal) (sym (keys-part_entries message_signals signal_key value s.messages)) (sheet_keys_distinct s well)))
+      (each_stated same_signal signal_itself signal_flip keep d empty
+      (part_entries message_signals signal_key value s.messages)
+      (subst (IsDistinct same_signal) (sym (keys-part_entries message_signals signal_key value s.messages))
+      (sheet_keys_distinct s well)))

@@ -1,5 +1,6 @@
 -- Examples of what is a statement, and of what is none.
-use Rattle.std.proofs.Common.{◌≡◌, ℕ, ◌+◌, Bool, true, false, List, [], ◌∷◌, ◌++◌, map, replicate, Option, Some, None, is_none, refl}
+use Rattle.std.proofs.Common.{◌≡◌, ℕ, ◌+◌, Bool, true, false, List, [], ◌∷◌, ◌++◌, map, replicate, Option, Some, None}
+use Rattle.std.proofs.Common.{is_none, refl}
 use Rattle.std.specs.Prelude.{ℤ, pos, negsuc, neg_ℤ, nat_le, ◌==◌, ◌&&◌, if◌then◌else◌, codes}
 use Rattle.std.specs.List.{AllByRecursion, list_all}
 use Rattle.std.proofs.lemmas.Bool.{and_parts}
@@ -12,29 +13,37 @@ use Rattle.can_id.specs.declared.ident.Ident.TheVariants.{Std, Ext}
 use Rattle.decimal.specs.Cutting.{cut}
 use Rattle.decimal.specs.Number.{Number}
 use Rattle.decimal.specs.Reading.{reading}
+use Rattle.dbc_words.specs.Name.{starts_identifier, is_name}
+use Rattle.dbc_words.specs.declared.keyword.Keyword.{Keyword}
+use Rattle.dbc_words.specs.declared.keyword.Keyword.TheVariants.{Version, NewSymbols, BitTiming, Nodes, ValueTable}
+use Rattle.dbc_words.specs.declared.keyword.Keyword.TheVariants.{Message, Comment, ValueTexts, SignalValueType}
+use Rattle.dbc_words.specs.declared.keyword.Keyword.TheVariants.{AttributeValue, AttributeDefinition, SignalGroup}
+use Rattle.dbc_words.specs.declared.keyword.Keyword.TheVariants.{Filter}
+use Rattle.dbc_words.specs.declared.value_type.ValueType.TheVariants.{Float, Double}
 use Rattle.dbc_grammar.specs.Division.{Divides}
 use Rattle.dbc_grammar.specs.Fields.{ident_of}
-use Rattle.catalogue.specs.Name.{starts_identifier, is_name}
-use Rattle.dbc_grammar.specs.Parsing.{decimal_at, pair_at, entry_at, entries_at, further_at, some_names_at, no_names_at, nodes_at, layout_at, signal_at}
-use Rattle.dbc_grammar.specs.Parsing.{version_at, symbols_at, registers_at, timing_at, timing_line_at, nodes_line_at, table_at, signals_at, message_at}
-use Rattle.dbc_grammar.specs.Parsing.{file_comment_at, node_comment_at, message_comment_at, signal_comment_at, passed_comment_at, comment_at}
-use Rattle.dbc_grammar.specs.Parsing.{value_texts_at, passed_value_texts_at, value_type_at, spn_at, skipped_at, independent_at, line_at, statement_at, statements_at}
+use Rattle.dbc_grammar.specs.Parsing.{decimal_at, pair_at, entry_at, entries_at, further_at, some_names_at, no_names_at}
+use Rattle.dbc_grammar.specs.Parsing.{nodes_at, layout_at, signal_at}
+use Rattle.dbc_grammar.specs.Parsing.{version_at, symbols_at, registers_at, timing_at, timing_line_at, nodes_line_at}
+use Rattle.dbc_grammar.specs.Parsing.{table_at, signals_at, message_at}
+use Rattle.dbc_grammar.specs.Parsing.{file_comment_at, node_comment_at, message_comment_at, signal_comment_at}
+use Rattle.dbc_grammar.specs.Parsing.{passed_comment_at, comment_at}
+use Rattle.dbc_grammar.specs.Parsing.{value_texts_at, passed_value_texts_at, value_type_at, spn_at, skipped_at}
+use Rattle.dbc_grammar.specs.Parsing.{independent_at, line_at, statement_at, statements_at}
 use Rattle.dbc_grammar.specs.Statement.{SignalLine, MessageLine, Statement, Content, Dropped, PassedOver}
-use Rattle.dbc_grammar.specs.Statement.{VersionIs, NodesAre, TableIs, MessageIs, CommentIs, NodeCommentIs, MessageCommentIs, SignalCommentIs, ValueTextsAre, ValueTypeIs, SpnIs}
+use Rattle.dbc_grammar.specs.Statement.{VersionIs, NodesAre, TableIs, MessageIs, CommentIs, NodeCommentIs}
+use Rattle.dbc_grammar.specs.Statement.{MessageCommentIs, SignalCommentIs, ValueTextsAre, ValueTypeIs, SpnIs}
 use Rattle.dbc_grammar.specs.Token.{Token}
-use Rattle.catalogue.specs.declared.keyword.Keyword.{Keyword}
-use Rattle.catalogue.specs.declared.keyword.Keyword.TheVariants.{Version, NewSymbols, BitTiming, Nodes, ValueTable, Message, Comment, ValueTexts, SignalValueType}
-use Rattle.catalogue.specs.declared.keyword.Keyword.TheVariants.{AttributeValue, AttributeDefinition, SignalGroup, Filter}
 use Rattle.dbc_grammar.specs.declared.token.TokenKind.{TokenKind}
 use Rattle.dbc_grammar.specs.declared.token.TokenKind.TheVariants.{Name, Number as NumberKind, Text, Mark}
-use Rattle.catalogue.specs.declared.value_texts.ValueText.{ValueText}
-use Rattle.catalogue.specs.declared.value_type.ValueType.TheVariants.{Float, Double}
+use Rattle.dbc_sheet.specs.declared.value_texts.ValueText.{ValueText}
 use Rattle.dbc_grammar.proofs.Divisions.{statements_are_runs, reading_is_exact}
 
 -- The tokens of an example are its words, with a blank between two; the n-th of them has the offset n.
 
 abbrev kind_by : ℕ → TokenKind
-kind_by b = if nat_le 48 b && nat_le b 57 then NumberKind else (if b == 34 then Text else (if starts_identifier b then Name else Mark))
+kind_by b = if nat_le 48 b && nat_le b 57 then NumberKind
+    else (if b == 34 then Text else (if starts_identifier b then Name else Mark))
 
 abbrev kind_of : List ℕ → TokenKind
 kind_of [] = Mark
@@ -46,7 +55,8 @@ words word (b ∷ bs) = if b == 32 then word ∷ words [] bs else words (word ++
 
 abbrev tokens_from : ℕ → List (List ℕ) → List Token
 tokens_from offset [] = []
-tokens_from offset (w ∷ ws) = record { kind = kind_of w; start = offset; end = offset + 1; text = w } ∷ tokens_from (offset + 1) ws
+tokens_from offset (w ∷ ws) = record { kind = kind_of w; start = offset; end = offset + 1; text = w }
+    ∷ tokens_from (offset + 1) ws
 
 abbrev tokens : List ℕ → List Token
 tokens text = tokens_from 0 (words [] text)
@@ -72,10 +82,12 @@ each_is : (examples : List Example) → AllByRecursion (λ e. statements_at (tok
 each_is [] h = tt
 each_is (e ∷ es) h = ((reading_is_exact (tokens e.text) e.statements).1 h.0, each_is es h.1)
 
-are : {examples : List Example} → AllByRecursion (λ e. statements_at (tokens e.text) ≡ Some e.statements) examples → AreAll examples
+are : {examples : List Example} → AllByRecursion (λ e. statements_at (tokens e.text) ≡ Some e.statements) examples
+    → AreAll examples
 are {examples} h = record { each = each_is examples h }
 
-undivided : (ts : List Token) (ss : List Statement) (o : Option (List Statement)) → statements_at ts ≡ o → is_none o ≡ true → Divides ts ss → ⊥
+undivided : (ts : List Token) (ss : List Statement) (o : Option (List Statement)) → statements_at ts ≡ o
+    → is_none o ≡ true → Divides ts ss → ⊥
 undivided ts ss None e h d = let f = (reading_is_exact ts ss).0 d in absurd cc
 undivided ts ss (Some us) e h d = absurd cc
 
@@ -83,7 +95,8 @@ none_is : (texts : List (List ℕ)) → list_all (λ text. is_none (statements_a
     → AllByRecursion (λ text. (ss : List Statement) → ¬ (Divides (tokens text) ss)) texts
 none_is [] h = tt
 none_is (text ∷ texts) h =
-    let parts = and_parts (is_none (statements_at (tokens text))) (list_all (λ text. is_none (statements_at (tokens text))) texts) h in
+    let parts = and_parts (is_none (statements_at (tokens text)))
+    (list_all (λ text. is_none (statements_at (tokens text))) texts) h in
     (λ ss d. undivided (tokens text) ss (statements_at (tokens text)) refl parts.0 d, none_is texts parts.1)
 
 isnt : {texts : List (List ℕ)} → list_all (λ text. is_none (statements_at (tokens text))) texts ≡ true → IsntAny texts
@@ -210,7 +223,8 @@ no_timings = isnt refl
 nodes : AreAll (
     is (codes "BU_ :") (one Nodes (NodesAre [])) ∷
     is (codes "BU_ : Vector__XXX") (one Nodes (NodesAre [])) ∷
-    is (codes "BU_ : A , B C Vector__XXX A") (one Nodes (NodesAre (codes "A" ∷ codes "B" ∷ codes "C" ∷ codes "A" ∷ []))) ∷
+    is (codes "BU_ : A , B C Vector__XXX A") (one Nodes (NodesAre (codes "A" ∷ codes "B" ∷ codes "C" ∷ codes "A" ∷ [])))
+    ∷
     is (codes "BU_ : A VERSION \"\"")
     (starting 0 Nodes (NodesAre (codes "A" ∷ []))
     ∷ starting 3 Version (VersionIs []) ∷ []) ∷ [])
@@ -241,7 +255,8 @@ no_longer_node = isnt refl
 tables : AreAll (
     is (codes "VAL_TABLE_ T ;") (one ValueTable (TableIs (codes "T") [])) ∷
     is (codes "VAL_TABLE_ T 1 \"on\" - 2.50 \"\" ;")
-    (one ValueTable (TableIs (codes "T") (says (decimal 1 (pos 0)) (codes "on") ∷ says (negative 25 (negsuc 0)) [] ∷ []))) ∷
+    (one ValueTable (TableIs (codes "T")
+    (says (decimal 1 (pos 0)) (codes "on") ∷ says (negative 25 (negsuc 0)) [] ∷ []))) ∷
     is (codes "VAL_TABLE_ T 1.0 \"on\" ;")
     (one ValueTable (TableIs (codes "T") (says (decimal 1 (pos 0)) (codes "on") ∷ []))) ∷
     is (codes "VAL_TABLE_ T + 10E-1 \"on\" ;")
@@ -264,7 +279,8 @@ no_tables = isnt refl
 -- `BO_` with its signals
 
 idents : map ident_of (0 ∷ 2047 ∷ 2048 ∷ 2147483647 ∷ 2147483648 ∷ 2364540158 ∷ 2684354559 ∷ 2684354560 ∷ [])
-    ≡ Some (Std 0) ∷ Some (Std 2047) ∷ None ∷ None ∷ Some (Ext 0) ∷ Some (Ext 217056510) ∷ Some (Ext 536870911) ∷ None ∷ []
+    ≡ Some (Std 0) ∷ Some (Std 2047) ∷ None ∷ None ∷ Some (Ext 0) ∷ Some (Ext 217056510) ∷ Some (Ext 536870911) ∷ None
+    ∷ []
 idents = refl
 
 messages : AreAll (
@@ -276,10 +292,13 @@ messages : AreAll (
     bare (codes "S") 0 8 Intel false Multiplexor
     ∷ bare (codes "m1") 0 64 Motorola true (Under 7) ∷ [])))) ∷
     is (codes "BO_ 1 A : 8 Vector__XXX SG_ M m4294967295 : 65535 | 8 @ 1 + ( 1 , 0 ) [ 0 | 0 ] \"\" VERSION \"\"")
-    (starting 0 Message (MessageIs (message (Std 1) (codes "A") 8 None (bare (codes "M") 65535 8 Intel false (Under 4294967295) ∷ [])))
+    (starting 0 Message (MessageIs
+    (message (Std 1) (codes "A") 8 None (bare (codes "M") 65535 8 Intel false (Under 4294967295) ∷ [])))
     ∷ starting 27 Version (VersionIs []) ∷ []) ∷
-    is (codes "BO_ 1 A : 8 Vector__XXX SG_ B m" ++ replicate 128 48 ++ codes "7 : 63 | 1 @ 1 + ( 1 , 0 ) [ 0 | 0 ] \"\"")
-    (one Message (MessageIs (message (Std 1) (codes "A") 8 None (bare (codes "B") 63 1 Intel false (Under 7) ∷ [])))) ∷ [])
+    is (codes "BO_ 1 A : 8 Vector__XXX SG_ B m" ++ replicate 128 48
+    ++ codes "7 : 63 | 1 @ 1 + ( 1 , 0 ) [ 0 | 0 ] \"\"")
+    (one Message (MessageIs (message (Std 1) (codes "A") 8 None (bare (codes "B") 63 1 Intel false (Under 7) ∷ []))))
+    ∷ [])
 unfolding statements_at statement_at line_at message_at signals_at signal_at layout_at pair_at decimal_at nodes_at some_names_at
     no_names_at further_at reading cut is_name version_at
 messages = are (refl, (refl, (refl, (refl, (refl, tt)))))
@@ -338,7 +357,8 @@ comments : AreAll (
     is (codes "CM_ BO_ 4294967296 \"a\" ;") (one Comment (MessageCommentIs None (codes "a"))) ∷
     is (codes "CM_ SG_ 7 S \"a\" ;") (one Comment (SignalCommentIs (Some 7) (codes "S") (codes "a"))) ∷
     is (codes "CM_ SG_ 7 BO_ \"a\" ;") (one Comment (SignalCommentIs (Some 7) (codes "BO_") (codes "a"))) ∷
-    is (codes "CM_ BU_ " ++ replicate 129 65 ++ codes " \"a\" ;") (one Comment (NodeCommentIs (replicate 129 65) (codes "a"))) ∷
+    is (codes "CM_ BU_ " ++ replicate 129 65 ++ codes " \"a\" ;")
+    (one Comment (NodeCommentIs (replicate 129 65) (codes "a"))) ∷
     is (codes "CM_ EV_ E \"a\" ;") (one Comment PassedOver) ∷ [])
 unfolding statements_at statement_at line_at comment_at file_comment_at node_comment_at message_comment_at signal_comment_at
     passed_comment_at skipped_at
@@ -360,7 +380,8 @@ no_comments = isnt refl
 value_texts : AreAll (
     is (codes "VAL_ 7 S ;") (one ValueTexts (ValueTextsAre (Some 7) (codes "S") [])) ∷
     is (codes "VAL_ 7 S 0 \"off\" 1 \"on\" ;")
-    (one ValueTexts (ValueTextsAre (Some 7) (codes "S") (says (decimal 0 (pos 0)) (codes "off") ∷ says (decimal 1 (pos 0)) (codes "on") ∷ []))) ∷
+    (one ValueTexts (ValueTextsAre (Some 7) (codes "S")
+    (says (decimal 0 (pos 0)) (codes "off") ∷ says (decimal 1 (pos 0)) (codes "on") ∷ []))) ∷
     is (codes "VAL_ 7 VERSION ;") (one ValueTexts (ValueTextsAre (Some 7) (codes "VERSION") [])) ∷
     is (codes "VAL_ CM_ 0 0 ;") (one ValueTexts PassedOver) ∷ [])
 unfolding statements_at statement_at line_at value_texts_at passed_value_texts_at skipped_at entries_at entry_at decimal_at reading

@@ -4,10 +4,10 @@ use Rattle.std.specs.Char.{is_ascii_digit}
 use Rattle.std.proofs.lemmas.Bool.{and_parts}
 use Rattle.std.proofs.lemmas.Bool.Decides.{nat_tests}
 use Rattle.decimal.specs.Spelling.{are_digits, is_numeral}
+use Rattle.dbc_words.specs.Name.{starts_identifier}
 use Rattle.dbc_grammar.specs.declared.token.TokenKind.{TokenKind}
 use Rattle.dbc_grammar.specs.declared.token.TokenKind.TheVariants.{Name, Number, Text, Mark}
 use Rattle.dbc_grammar.specs.Lexing.{kind_of}
-use Rattle.catalogue.specs.Name.{starts_identifier}
 use Rattle.dbc_grammar.specs.Spelling.{Spells, is_gap, is_mark, is_quote}
 
 digit_letter : (b : ℕ) → is_ascii_digit b ≡ true → starts_identifier b ≡ false
@@ -59,7 +59,8 @@ pub record Begins (kind : TokenKind) (bytes : List ℕ) : Type 0 where
 
 name_begins : (word : List ℕ) → Spells Name word → Begins Name word
 name_begins [] h = absurd cc
-name_begins (b ∷ bytes) h = record { first = b; after = bytes; parts = refl; kind_begins = rw (and_parts (starts_identifier b) _ h).0 refl }
+name_begins (b ∷ bytes) h =
+    record { first = b; after = bytes; parts = refl; kind_begins = rw (and_parts (starts_identifier b) _ h).0 refl }
 
 number_begins : (word whole tail : List ℕ) → word ≡ whole ++ tail → is_numeral whole ≡ true → Begins Number word
 number_begins word [] tail e h = absurd cc
@@ -71,13 +72,21 @@ number_begins word (b ∷ whole) tail e h =
 pub spelling_begins : (kind : TokenKind) (word : List ℕ) → Spells kind word → Begins kind word
 spelling_begins Name word h = name_begins word h
 spelling_begins Number word (s, token) = number_begins word s.whole (s.fraction ++ s.exponent) token.parts token.whole
-spelling_begins Text word (inside, text, e) = record { first = 34; after = inside ++ 34 ∷ []; parts = e; kind_begins = refl }
-spelling_begins Mark word (mark, h, e) = record { first = mark; after = []; parts = e; kind_begins = kind_of_mark mark h }
+spelling_begins Text word (inside, text, e) =
+    record { first = 34; after = inside ++ 34 ∷ []; parts = e; kind_begins = refl }
+spelling_begins Mark word (mark, h, e) =
+    record { first = mark; after = []; parts = e; kind_begins = kind_of_mark mark h }
 
 pub begins_further : (kind : TokenKind) (word rest : List ℕ) → Spells kind word → Begins kind (word ++ rest)
 begins_further kind word rest h =
     let b = spelling_begins kind word h in
-    record { first = b.first; after = b.after ++ rest; parts = ap (λ v. v ++ rest) b.parts; kind_begins = b.kind_begins }
+    record {
+      first = b.first;
+      after = b.after ++ rest;
+      parts = ap (λ v. v ++ rest) b.parts;
+      kind_begins =
+          b.kind_begins;
+    }
 
 -- the same bytes begin with one kind alone
 pub one_kind : (k l : TokenKind) (xs ys : List ℕ) → Begins k xs → Begins l ys → xs ≡ ys → k ≡ l

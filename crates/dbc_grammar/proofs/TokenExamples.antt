@@ -3,7 +3,8 @@ use Rattle.std.proofs.Common.{◌≡◌, ℕ, ◌+◌, List, [], ◌∷◌, leng
 use Rattle.std.specs.Prelude.{codes, drop, min}
 use Rattle.dbc_grammar.specs.declared.token.TokenKind.{TokenKind}
 use Rattle.dbc_grammar.specs.declared.token.TokenKind.TheVariants.{Name, Number, Text, Mark}
-use Rattle.dbc_grammar.specs.Lexing.{LexFault, StrayByte, UnclosedText, Lexed, exponent_len, first_token, inside_len, lexed, lexed_in, number_len, power_len, tail_len, token_at, word_len}
+use Rattle.dbc_grammar.specs.Lexing.{LexFault, StrayByte, UnclosedText, Lexed, exponent_len, first_token, inside_len}
+use Rattle.dbc_grammar.specs.Lexing.{lexed, lexed_in, number_len, power_len, tail_len, token_at, word_len}
 use Rattle.dbc_grammar.specs.Token.{Token}
 use Rattle.dbc_grammar.specs.TokenLaw.{tokens_then_fault, tokens_without_fault}
 use Rattle.dbc_grammar.specs.Tokens.{HasTokens}
@@ -22,7 +23,8 @@ point_and_exponent : lexed 0 (codes "1.E5") ≡ tokens_without_fault (token Numb
 unfolding lexed lexed_in first_token token_at word_len number_len tail_len exponent_len power_len
 point_and_exponent = refl
 
-signed_exponent : lexed 0 (codes " 0.5e-07;") ≡ tokens_without_fault (token Number 1 (codes "0.5e-07") ∷ token Mark 8 (codes ";") ∷ [])
+signed_exponent : lexed 0 (codes " 0.5e-07;")
+    ≡ tokens_without_fault (token Number 1 (codes "0.5e-07") ∷ token Mark 8 (codes ";") ∷ [])
 unfolding lexed lexed_in first_token token_at word_len number_len tail_len exponent_len power_len
 signed_exponent = refl
 
@@ -30,28 +32,34 @@ signed_power : lexed 0 (codes "1.7E+308") ≡ tokens_without_fault (token Number
 unfolding lexed lexed_in first_token token_at word_len number_len tail_len exponent_len power_len
 signed_power = refl
 
-power_without_point : lexed 0 (codes "2e-07;") ≡ tokens_without_fault (token Number 0 (codes "2e-07") ∷ token Mark 5 (codes ";") ∷ [])
+power_without_point : lexed 0 (codes "2e-07;")
+    ≡ tokens_without_fault (token Number 0 (codes "2e-07") ∷ token Mark 5 (codes ";") ∷ [])
 unfolding lexed lexed_in first_token token_at word_len number_len tail_len exponent_len power_len
 power_without_point = refl
 
-letter_without_power : lexed 0 (codes "1E") ≡ tokens_without_fault (token Number 0 (codes "1") ∷ token Name 1 (codes "E") ∷ [])
+letter_without_power : lexed 0 (codes "1E")
+    ≡ tokens_without_fault (token Number 0 (codes "1") ∷ token Name 1 (codes "E") ∷ [])
 unfolding lexed lexed_in first_token token_at word_len number_len tail_len exponent_len power_len
 letter_without_power = refl
 
-sign_without_power : lexed 0 (codes "1E+") ≡ tokens_without_fault (token Number 0 (codes "1") ∷ token Name 1 (codes "E") ∷ token Mark 2 (codes "+") ∷ [])
+sign_without_power : lexed 0 (codes "1E+")
+    ≡ tokens_without_fault (token Number 0 (codes "1") ∷ token Name 1 (codes "E") ∷ token Mark 2 (codes "+") ∷ [])
 unfolding lexed lexed_in first_token token_at word_len number_len tail_len exponent_len power_len
 sign_without_power = refl
 
-number_then_name : lexed 0 (codes "12abc") ≡ tokens_without_fault (token Number 0 (codes "12") ∷ token Name 2 (codes "abc") ∷ [])
+number_then_name : lexed 0 (codes "12abc")
+    ≡ tokens_without_fault (token Number 0 (codes "12") ∷ token Name 2 (codes "abc") ∷ [])
 unfolding lexed lexed_in first_token token_at word_len number_len tail_len exponent_len
 number_then_name = refl
 
 -- the DBC format has no hexadecimal numbers
-no_hexadecimal : lexed 0 (codes "0x10") ≡ tokens_without_fault (token Number 0 (codes "0") ∷ token Name 1 (codes "x10") ∷ [])
+no_hexadecimal : lexed 0 (codes "0x10")
+    ≡ tokens_without_fault (token Number 0 (codes "0") ∷ token Name 1 (codes "x10") ∷ [])
 unfolding lexed lexed_in first_token token_at word_len number_len tail_len exponent_len
 no_hexadecimal = refl
 
-sign_is_a_mark : lexed 0 (codes "-40") ≡ tokens_without_fault (token Mark 0 (codes "-") ∷ token Number 1 (codes "40") ∷ [])
+sign_is_a_mark : lexed 0 (codes "-40")
+    ≡ tokens_without_fault (token Mark 0 (codes "-") ∷ token Number 1 (codes "40") ∷ [])
 unfolding lexed lexed_in first_token token_at word_len number_len tail_len exponent_len
 sign_is_a_mark = refl
 
@@ -67,22 +75,26 @@ point_first = refl
 -- ---- texts
 
 -- `"a\"b"`: a quote that a backslash takes doesn't end the text
-taken_quote : lexed 0 (34 ∷ 97 ∷ 92 ∷ 34 ∷ 98 ∷ 34 ∷ []) ≡ tokens_without_fault (token Text 0 (34 ∷ 97 ∷ 92 ∷ 34 ∷ 98 ∷ 34 ∷ []) ∷ [])
+taken_quote : lexed 0 (34 ∷ 97 ∷ 92 ∷ 34 ∷ 98 ∷ 34 ∷ [])
+    ≡ tokens_without_fault (token Text 0 (34 ∷ 97 ∷ 92 ∷ 34 ∷ 98 ∷ 34 ∷ []) ∷ [])
 unfolding lexed lexed_in first_token token_at word_len inside_len
 taken_quote = refl
 
 -- `"\\"a`: a backslash that a backslash takes takes no quote
-taken_backslash : lexed 0 (34 ∷ 92 ∷ 92 ∷ 34 ∷ 97 ∷ []) ≡ tokens_without_fault (token Text 0 (34 ∷ 92 ∷ 92 ∷ 34 ∷ []) ∷ token Name 4 (codes "a") ∷ [])
+taken_backslash : lexed 0 (34 ∷ 92 ∷ 92 ∷ 34 ∷ 97 ∷ [])
+    ≡ tokens_without_fault (token Text 0 (34 ∷ 92 ∷ 92 ∷ 34 ∷ []) ∷ token Name 4 (codes "a") ∷ [])
 unfolding lexed lexed_in first_token token_at word_len inside_len
 taken_backslash = refl
 
 -- `"a\\"b`
-backslash_before_the_last_quote : lexed 0 (34 ∷ 97 ∷ 92 ∷ 92 ∷ 34 ∷ 98 ∷ []) ≡ tokens_without_fault (token Text 0 (34 ∷ 97 ∷ 92 ∷ 92 ∷ 34 ∷ []) ∷ token Name 5 (codes "b") ∷ [])
+backslash_before_the_last_quote : lexed 0 (34 ∷ 97 ∷ 92 ∷ 92 ∷ 34 ∷ 98 ∷ [])
+    ≡ tokens_without_fault (token Text 0 (34 ∷ 97 ∷ 92 ∷ 92 ∷ 34 ∷ []) ∷ token Name 5 (codes "b") ∷ [])
 unfolding lexed lexed_in first_token token_at word_len inside_len
 backslash_before_the_last_quote = refl
 
 -- `"a""b"`: two texts, since a quote doesn't escape a quote
-two_texts : lexed 0 (codes "\"a\"\"b\"") ≡ tokens_without_fault (token Text 0 (codes "\"a\"") ∷ token Text 3 (codes "\"b\"") ∷ [])
+two_texts : lexed 0 (codes "\"a\"\"b\"")
+    ≡ tokens_without_fault (token Text 0 (codes "\"a\"") ∷ token Text 3 (codes "\"b\"") ∷ [])
 unfolding lexed lexed_in first_token token_at word_len inside_len
 two_texts = refl
 
@@ -102,12 +114,14 @@ unfolding lexed lexed_in first_token token_at word_len inside_len
 backslash_at_the_end = refl
 
 -- a degree sign of ISO 8859-1 and `C`, a line feed, and the byte 255
-any_bytes : lexed 0 (34 ∷ 176 ∷ 67 ∷ 10 ∷ 255 ∷ 34 ∷ []) ≡ tokens_without_fault (token Text 0 (34 ∷ 176 ∷ 67 ∷ 10 ∷ 255 ∷ 34 ∷ []) ∷ [])
+any_bytes : lexed 0 (34 ∷ 176 ∷ 67 ∷ 10 ∷ 255 ∷ 34 ∷ [])
+    ≡ tokens_without_fault (token Text 0 (34 ∷ 176 ∷ 67 ∷ 10 ∷ 255 ∷ 34 ∷ []) ∷ [])
 unfolding lexed lexed_in first_token token_at word_len inside_len
 any_bytes = refl
 
 -- a degree sign, `C` and the byte 255 in a text, and a name after it
-text_then_name : lexed 0 (34 ∷ 176 ∷ 67 ∷ 255 ∷ 34 ∷ 32 ∷ 67 ∷ []) ≡ tokens_without_fault (token Text 0 (34 ∷ 176 ∷ 67 ∷ 255 ∷ 34 ∷ []) ∷ token Name 6 (codes "C") ∷ [])
+text_then_name : lexed 0 (34 ∷ 176 ∷ 67 ∷ 255 ∷ 34 ∷ 32 ∷ 67 ∷ [])
+    ≡ tokens_without_fault (token Text 0 (34 ∷ 176 ∷ 67 ∷ 255 ∷ 34 ∷ []) ∷ token Name 6 (codes "C") ∷ [])
 unfolding lexed lexed_in first_token token_at word_len inside_len
 text_then_name = refl
 
@@ -116,7 +130,8 @@ unfolding lexed lexed_in first_token token_at word_len inside_len
 empty_text = refl
 
 -- `VERSION "a`
-unclosed_version : lexed 0 (codes "VERSION \"a") ≡ tokens_then_fault (token Name 0 (codes "VERSION") ∷ []) (UnclosedText 8)
+unclosed_version : lexed 0 (codes "VERSION \"a") ≡ tokens_then_fault (token Name 0 (codes "VERSION") ∷ [])
+    (UnclosedText 8)
 unfolding lexed lexed_in first_token token_at word_len inside_len
 unclosed_version = refl
 
@@ -145,15 +160,19 @@ stray_zero : lexed 0 (0 ∷ []) ≡ tokens_then_fault [] (StrayByte 0)
 unfolding lexed lexed_in first_token token_at
 stray_zero = refl
 
-stray_byte : lexed 0 (codes "BS_: #") ≡ tokens_then_fault (token Name 0 (codes "BS_") ∷ token Mark 3 (codes ":") ∷ []) (StrayByte 5)
+stray_byte : lexed 0 (codes "BS_: #") ≡ tokens_then_fault (token Name 0 (codes "BS_") ∷ token Mark 3 (codes ":") ∷ [])
+    (StrayByte 5)
 unfolding lexed lexed_in first_token token_at word_len
 stray_byte = refl
 
 signal_start : lexed 0 (codes "SG_ T m0:16|8@1+(1,-40)")
     ≡ tokens_without_fault (
-    token Name 0 (codes "SG_") ∷ token Name 4 (codes "T") ∷ token Name 6 (codes "m0") ∷ token Mark 8 (codes ":") ∷ token Number 9 (codes "16")
-    ∷ token Mark 11 (codes "|") ∷ token Number 12 (codes "8") ∷ token Mark 13 (codes "@") ∷ token Number 14 (codes "1") ∷ token Mark 15 (codes "+")
-    ∷ token Mark 16 (codes "(") ∷ token Number 17 (codes "1") ∷ token Mark 18 (codes ",") ∷ token Mark 19 (codes "-") ∷ token Number 20 (codes "40")
+    token Name 0 (codes "SG_") ∷ token Name 4 (codes "T") ∷ token Name 6 (codes "m0") ∷ token Mark 8 (codes ":")
+    ∷ token Number 9 (codes "16")
+    ∷ token Mark 11 (codes "|") ∷ token Number 12 (codes "8") ∷ token Mark 13 (codes "@") ∷ token Number 14 (codes "1")
+    ∷ token Mark 15 (codes "+")
+    ∷ token Mark 16 (codes "(") ∷ token Number 17 (codes "1") ∷ token Mark 18 (codes ",") ∷ token Mark 19 (codes "-")
+    ∷ token Number 20 (codes "40")
     ∷ token Mark 22 (codes ")") ∷ []
     )
 unfolding lexed lexed_in first_token token_at word_len number_len tail_len exponent_len
@@ -161,7 +180,8 @@ signal_start = refl
 
 -- ---- names and marks
 
-gap_at_the_end : lexed 0 (codes "BS_: ") ≡ tokens_without_fault (token Name 0 (codes "BS_") ∷ token Mark 3 (codes ":") ∷ [])
+gap_at_the_end : lexed 0 (codes "BS_: ")
+    ≡ tokens_without_fault (token Name 0 (codes "BS_") ∷ token Mark 3 (codes ":") ∷ [])
 unfolding lexed lexed_in first_token token_at word_len
 gap_at_the_end = refl
 
@@ -171,8 +191,10 @@ two_names = refl
 
 every_mark : lexed 0 (codes ":;,|@()[]+-")
     ≡ tokens_without_fault (
-    token Mark 0 (codes ":") ∷ token Mark 1 (codes ";") ∷ token Mark 2 (codes ",") ∷ token Mark 3 (codes "|") ∷ token Mark 4 (codes "@")
-    ∷ token Mark 5 (codes "(") ∷ token Mark 6 (codes ")") ∷ token Mark 7 (codes "[") ∷ token Mark 8 (codes "]") ∷ token Mark 9 (codes "+")
+    token Mark 0 (codes ":") ∷ token Mark 1 (codes ";") ∷ token Mark 2 (codes ",") ∷ token Mark 3 (codes "|")
+    ∷ token Mark 4 (codes "@")
+    ∷ token Mark 5 (codes "(") ∷ token Mark 6 (codes ")") ∷ token Mark 7 (codes "[") ∷ token Mark 8 (codes "]")
+    ∷ token Mark 9 (codes "+")
     ∷ token Mark 10 (codes "-") ∷ []
     )
 unfolding lexed lexed_in first_token token_at word_len
@@ -200,11 +222,14 @@ number_and_name : HasTokens 0 (codes "1E") (token Number 0 (codes "1") ∷ token
 number_and_name = (exact 0 _ _).1 letter_without_power
 
 -- the number isn't cut short to 1, with another number after it
-only_longest : (ts : List Token) → HasTokens 0 (codes "12abc") ts → ts ≡ token Number 0 (codes "12") ∷ token Name 2 (codes "abc") ∷ []
+only_longest : (ts : List Token) → HasTokens 0 (codes "12abc") ts
+    → ts ≡ token Number 0 (codes "12") ∷ token Name 2 (codes "abc") ∷ []
 only_longest ts h = ap (λ (l : Lexed). l.tokens) (sym ((exact 0 _ ts).0 h) ∙ number_then_name)
 
-no_tokens : (bytes : List ℕ) (tokens : List Token) (fault : LexFault) → lexed 0 bytes ≡ tokens_then_fault tokens fault → (ts : List Token) → HasTokens 0 bytes ts → ⊥
-no_tokens bytes tokens fault e ts h = let no : Some fault ≡ None = ap (λ (l : Lexed). l.fault) (sym e ∙ (exact 0 bytes ts).0 h) in absurd cc
+no_tokens : (bytes : List ℕ) (tokens : List Token) (fault : LexFault) → lexed 0 bytes ≡ tokens_then_fault tokens fault
+    → (ts : List Token) → HasTokens 0 bytes ts → ⊥
+no_tokens bytes tokens fault e ts h = let no : Some fault ≡ None =
+    ap (λ (l : Lexed). l.fault) (sym e ∙ (exact 0 bytes ts).0 h) in absurd cc
 
 two_points_have_none : (ts : List Token) → HasTokens 0 (codes "1.5.2") ts → ⊥
 two_points_have_none = no_tokens _ _ _ second_point

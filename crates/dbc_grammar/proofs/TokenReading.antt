@@ -1,5 +1,7 @@
 -- What is read first is the first token, and where none is read none is there.
-use Rattle.std.proofs.Common.{◌≡◌, ℕ, ◌+◌, Bool, true, false, List, [], ◌∷◌, ◌++◌, length, take, drop, Option, Some, None, Result, Ok, Err, refl, sym, ap, subst, ◌∙◌, arith, append_assoc, add-zero, if◌then◌else◌}
+use Rattle.std.proofs.Common.{◌≡◌, ℕ, ◌+◌, Bool, true, false, List, [], ◌∷◌, ◌++◌, length, take, drop, Option, Some}
+use Rattle.std.proofs.Common.{None, Result, Ok, Err, refl, sym, ap, subst, ◌∙◌, arith, append_assoc, add-zero}
+use Rattle.std.proofs.Common.{if◌then◌else◌}
 use Rattle.std.specs.List.{prefix_len}
 use Rattle.std.proofs.lemmas.Bool.{and_from, eqb-true}
 use Rattle.std.proofs.lemmas.List.{append-nil, length-append, length-take-le, take-append-drop, drop_at}
@@ -7,7 +9,8 @@ use Rattle.std.proofs.lemmas.List.Folds.{length-prefix_len, list_all-append}
 use Rattle.decimal.proofs.Tokens.{Stops, prefix_all, prefix_exact}
 use Rattle.dbc_grammar.specs.declared.token.TokenKind.{TokenKind}
 use Rattle.dbc_grammar.specs.declared.token.TokenKind.TheVariants.{Text}
-use Rattle.dbc_grammar.specs.Lexing.{LexFault, StrayByte, UnclosedText, first_token, kind_of, of_kind, token_at, token_or_fault, word_len}
+use Rattle.dbc_grammar.specs.Lexing.{LexFault, StrayByte, UnclosedText, first_token, kind_of, of_kind, token_at}
+use Rattle.dbc_grammar.specs.Lexing.{token_or_fault, word_len}
 use Rattle.dbc_grammar.specs.Spelling.{is_gap, is_quote}
 use Rattle.dbc_grammar.specs.Token.{Token}
 use Rattle.dbc_grammar.specs.TokenLaw.{NoToken}
@@ -25,7 +28,8 @@ Means offset bytes (Ok (Some token)) = (rest : List ℕ) × IsFirst offset bytes
 
 -- ---- where a token begins
 
-word_means : (offset b : ℕ) (bytes : List ℕ) (kind : TokenKind) (o : Option ℕ) → kind_of b ≡ Some kind → IsFound kind b bytes o
+word_means : (offset b : ℕ) (bytes : List ℕ) (kind : TokenKind) (o : Option ℕ) → kind_of b ≡ Some kind
+    → IsFound kind b bytes o
     → Means offset (b ∷ bytes) (token_or_fault offset (b ∷ bytes) kind o)
 word_means offset b bytes kind (Some n) h found =
     let long : length (take n (b ∷ bytes)) ≡ n = length-take-le n (b ∷ bytes) found.within in
@@ -39,7 +43,8 @@ word_means offset b bytes kind (Some n) h found =
         start = omega arith;
         end = omega (arith, long);
         spelled = found.spelled;
-        longest = subst (λ k. IsLongest k (take n (b ∷ bytes) ++ drop n (b ∷ bytes))) (sym long) (subst (IsLongest n) (sym whole) longest);
+        longest = subst (λ k. IsLongest k (take n (b ∷ bytes) ++ drop n (b ∷ bytes))) (sym long)
+            (subst (IsLongest n) (sym whole) longest);
       },
     )
 word_means offset b bytes kind None h found = record {
@@ -53,8 +58,10 @@ word_means offset b bytes kind None h found = record {
   fault_is = rw (found.0, add-zero) refl;
 }
 
-kind_means : (offset b : ℕ) (bytes : List ℕ) (o : Option TokenKind) → is_gap b ≡ false → kind_of b ≡ o → Means offset (b ∷ bytes) (of_kind offset (b ∷ bytes) o)
-kind_means offset b bytes (Some kind) g h = word_means offset b bytes kind (word_len kind (b ∷ bytes)) h (word_found b bytes kind h)
+kind_means : (offset b : ℕ) (bytes : List ℕ) (o : Option TokenKind) → is_gap b ≡ false → kind_of b ≡ o
+    → Means offset (b ∷ bytes) (of_kind offset (b ∷ bytes) o)
+kind_means offset b bytes (Some kind) g h =
+    word_means offset b bytes kind (word_len kind (b ∷ bytes)) h (word_found b bytes kind h)
 kind_means offset b bytes None g h = record {
   gap = [];
   first = b;
@@ -73,9 +80,11 @@ kind_means offset b bytes None g h = record {
         let no : None ≡ Some kind = sym h ∙ ap kind_of same ∙ x.kind_begins in
         absurd cc
 
-    by_quote : (quote : Bool) → is_quote b ≡ quote → StrayByte offset ≡ (if quote then UnclosedText offset else StrayByte offset)
+    by_quote : (quote : Bool) → is_quote b ≡ quote
+        → StrayByte offset ≡ (if quote then UnclosedText offset else StrayByte offset)
     by_quote false q = refl
-    by_quote true q = let no : kind_of b ≡ Some Text = rw (eqb-true b 34 q) refl in let not : None ≡ Some Text = sym h ∙ no in absurd cc
+    by_quote true q = let no : kind_of b ≡ Some Text = rw (eqb-true b 34 q) refl in let not : None ≡ Some Text =
+        sym h ∙ no in absurd cc
 
 token_at_means : (offset : ℕ) (bytes : List ℕ) → Stops is_gap bytes → Means offset bytes (token_at offset bytes)
 unfolding token_at
@@ -87,9 +96,11 @@ token_at_means offset (b ∷ bytes) stops = kind_means offset b bytes (kind_of b
 gaps_join : (xs ys : List ℕ) → IsGap xs → IsGap ys → IsGap (xs ++ ys)
 gaps_join xs ys h k = rw list_all-append (and_from _ _ h k)
 
-after_gap : (offset : ℕ) (gap bytes : List ℕ) (r : Result (Option Token) LexFault) → IsGap gap → Means (offset + length gap) bytes r → Means offset (gap ++ bytes) r
+after_gap : (offset : ℕ) (gap bytes : List ℕ) (r : Result (Option Token) LexFault) → IsGap gap
+    → Means (offset + length gap) bytes r → Means offset (gap ++ bytes) r
 after_gap offset gap bytes (Err fault) h m =
-    let at : offset + length gap + length m.gap ≡ offset + length (gap ++ m.gap) = omega (arith, length-append gap m.gap) in
+    let at : offset + length gap + length m.gap ≡ offset + length (gap ++ m.gap) =
+    omega (arith, length-append gap m.gap) in
     record {
       gap = gap ++ m.gap;
       first = m.first;
@@ -121,8 +132,10 @@ first_token_means offset bytes =
     let here = token_at_means (offset + n) (drop n bytes) (prefix_stops is_gap bytes) in
     let long : n ≡ length (take n bytes) = sym (length-prefix_len is_gap bytes) in
     let r = token_at (offset + n) (drop n bytes) in
-    let there : Means (offset + length (take n bytes)) (drop n bytes) r = subst (λ k. Means (offset + k) (drop n bytes) r) long here in
-    subst (λ v. Means offset v r) (take-append-drop n bytes) (after_gap offset (take n bytes) (drop n bytes) r (prefix_all is_gap bytes) there)
+    let there : Means (offset + length (take n bytes)) (drop n bytes) r =
+    subst (λ k. Means (offset + k) (drop n bytes) r) long here in
+    subst (λ v. Means offset v r) (take-append-drop n bytes)
+    (after_gap offset (take n bytes) (drop n bytes) r (prefix_all is_gap bytes) there)
 
 -- ---- what is there is read
 
@@ -132,24 +145,30 @@ module _ (offset : ℕ) (bytes : List ℕ) (fault : LexFault) (m : NoToken offse
   stop_len = ap (prefix_len is_gap) m.parts ∙ prefix_exact is_gap m.gap (m.first ∷ m.after) m.gap_is m.no_gap
 
   after_stop_gap : drop (prefix_len is_gap bytes) bytes ≡ m.first ∷ m.after
-  after_stop_gap = ap (drop (prefix_len is_gap bytes)) m.parts ∙ drop_at m.gap (m.first ∷ m.after) (prefix_len is_gap bytes) (sym stop_len)
+  after_stop_gap = ap (drop (prefix_len is_gap bytes)) m.parts
+      ∙ drop_at m.gap (m.first ∷ m.after) (prefix_len is_gap bytes) (sym stop_len)
 
   stop_is_no_gap : IsGap bytes → ⊥
   stop_is_no_gap h =
-      let all : prefix_len is_gap bytes ≡ length bytes = ap (prefix_len is_gap) (sym (append-nil bytes)) ∙ prefix_exact is_gap bytes [] h tt in
+      let all : prefix_len is_gap bytes ≡ length bytes = ap (prefix_len is_gap) (sym (append-nil bytes))
+      ∙ prefix_exact is_gap bytes [] h tt in
       omega (arith, all, stop_len, ap length m.parts, length-append m.gap (m.first ∷ m.after))
 
   stop_is_no_token : (t : Token) (rest : List ℕ) → IsFirst offset bytes t rest → ⊥
-  stop_is_no_token t rest f = m.none t.kind t.text rest f.spelled (sym after_stop_gap ∙ after_first_gap offset bytes t rest f)
+  stop_is_no_token t rest f =
+      m.none t.kind t.text rest f.spelled (sym after_stop_gap ∙ after_first_gap offset bytes t rest f)
 
-one_fault : (offset : ℕ) (bytes : List ℕ) (fault other : LexFault) → NoToken offset bytes fault → NoToken offset bytes other → fault ≡ other
+one_fault : (offset : ℕ) (bytes : List ℕ) (fault other : LexFault) → NoToken offset bytes fault
+    → NoToken offset bytes other → fault ≡ other
 one_fault offset bytes fault other m n =
     let gaps : length m.gap ≡ length n.gap = sym (stop_len offset bytes fault m) ∙ stop_len offset bytes other n in
-    let here : m.first ∷ m.after ≡ n.first ∷ n.after = sym (after_stop_gap offset bytes fault m) ∙ after_stop_gap offset bytes other n in
+    let here : m.first ∷ m.after ≡ n.first ∷ n.after = sym (after_stop_gap offset bytes fault m)
+    ∙ after_stop_gap offset bytes other n in
     let same : m.first ≡ n.first = cc in
     m.fault_is ∙ rw (gaps, same) (sym n.fault_is)
 
-pub stop_is_read : (offset : ℕ) (bytes : List ℕ) (fault : LexFault) → NoToken offset bytes fault → first_token offset bytes ≡ Err fault
+pub stop_is_read : (offset : ℕ) (bytes : List ℕ) (fault : LexFault) → NoToken offset bytes fault
+    → first_token offset bytes ≡ Err fault
 stop_is_read offset bytes fault n = go (first_token offset bytes) (first_token_means offset bytes)
   where
     go : (r : Result (Option Token) LexFault) → Means offset bytes r → r ≡ Err fault
@@ -157,7 +176,8 @@ stop_is_read offset bytes fault n = go (first_token offset bytes) (first_token_m
     go (Ok None) h = absurd (stop_is_no_gap offset bytes fault n h)
     go (Ok (Some t)) (rest, f) = absurd (stop_is_no_token offset bytes fault n t rest f)
 
-pub first_is_read : (offset : ℕ) (bytes : List ℕ) (t : Token) (rest : List ℕ) → IsFirst offset bytes t rest → first_token offset bytes ≡ Ok (Some t)
+pub first_is_read : (offset : ℕ) (bytes : List ℕ) (t : Token) (rest : List ℕ) → IsFirst offset bytes t rest
+    → first_token offset bytes ≡ Ok (Some t)
 first_is_read offset bytes t rest f = go (first_token offset bytes) (first_token_means offset bytes)
   where
     go : (r : Result (Option Token) LexFault) → Means offset bytes r → r ≡ Ok (Some t)

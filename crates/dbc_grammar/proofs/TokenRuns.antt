@@ -1,5 +1,6 @@
 -- Runs of bytes that pass a test.
-use Rattle.std.proofs.Common.{◌≡◌, ◌+◌, ◌≤◌, ℕ, suc, Bool, true, false, cond, List, [], ◌∷◌, ◌++◌, length, drop, refl, arith}
+use Rattle.std.proofs.Common.{◌≡◌, ◌+◌, ◌≤◌, ℕ, suc, Bool, true, false, cond, List, [], ◌∷◌, ◌++◌, length, drop, refl}
+use Rattle.std.proofs.Common.{arith}
 use Rattle.std.specs.List.{prefix_len, list_all}
 use Rattle.std.proofs.lemmas.Bool.{and_parts}
 use Rattle.decimal.proofs.Tokens.{Stops}
@@ -11,7 +12,8 @@ prefix_le p (d ∷ ds) more h =
     let a = and_parts (p d) (list_all p ds) h in
     rw a.0 (omega (arith, prefix_le p ds more a.1))
 
-prefix_stops_at : (p : ℕ → Bool) (b : ℕ) (bytes : List ℕ) (passes : Bool) → p b ≡ passes → Stops p (drop (prefix_len p bytes) bytes)
+prefix_stops_at : (p : ℕ → Bool) (b : ℕ) (bytes : List ℕ) (passes : Bool) → p b ≡ passes
+    → Stops p (drop (prefix_len p bytes) bytes)
     → Stops p (drop (cond passes (1 + prefix_len p bytes) 0) (b ∷ bytes))
 prefix_stops_at p b bytes true e h =
     let next : 1 + prefix_len p bytes ≡ suc (prefix_len p bytes) = omega arith in

@@ -1,12 +1,13 @@
 -- The quote that ends a text is the first that no backslash takes.
-use Rattle.std.proofs.Common.{◌≡◌, ℕ, suc, ◌<◌, ◌-◌, Bool, true, false, eqb, List, [], ◌∷◌, ◌++◌, length, take, Option, Some, None, refl, ap, subst, arith}
+use Rattle.std.proofs.Common.{◌≡◌, ℕ, suc, ◌<◌, ◌-◌, Bool, true, false, eqb, List, [], ◌∷◌, ◌++◌, length, take, Option}
+use Rattle.std.proofs.Common.{Some, None, refl, ap, subst, arith}
 use Rattle.std.specs.Option.{option_map}
 use Rattle.std.proofs.lemmas.Bool.{eqb-true}
 use Rattle.std.proofs.lemmas.List.{length-append, take_at}
+use Rattle.dbc_words.specs.Text.{is_text_after}
 use Rattle.dbc_grammar.specs.Lexing.{inside_len}
 use Rattle.dbc_grammar.specs.Inside.{inside_of}
 use Rattle.dbc_grammar.specs.Spelling.{is_quote, quoted}
-use Rattle.catalogue.specs.Text.{is_text_after}
 
 -- ---- the length of what is inside
 
@@ -17,7 +18,8 @@ unfolding inside_len
 past_one b bytes rest true q h after = let no : false ≡ true = rw q at h in absurd cc
 past_one b bytes rest false q h after = rw (q, after (rw q at h)) refl
 
-pub inside_exact : (escaped : Bool) (inside rest : List ℕ) → is_text_after escaped inside ≡ true → inside_len escaped (inside ++ 34 ∷ rest) ≡ Some (length inside)
+pub inside_exact : (escaped : Bool) (inside rest : List ℕ) → is_text_after escaped inside ≡ true
+    → inside_len escaped (inside ++ 34 ∷ rest) ≡ Some (length inside)
 unfolding inside_len
 inside_exact true [] rest h = absurd cc
 inside_exact false [] rest h = refl
@@ -37,8 +39,10 @@ map_some None n e = absurd cc
 map_some (Some k) n e = (k, refl, cc)
 
 after_one : (escaped next : Bool) (b : ℕ) (bytes : List ℕ) (n : ℕ)
-    → (is_text_after next (take n bytes) ≡ true → is_text_after escaped (b ∷ take n bytes) ≡ true) → Closes next bytes n → Closes escaped (b ∷ bytes) (suc n)
-after_one escaped next b bytes n step c = record { within = omega (arith, c.within); inside = step c.inside; quote = ap (λ v. b ∷ v) c.quote }
+    → (is_text_after next (take n bytes) ≡ true → is_text_after escaped (b ∷ take n bytes) ≡ true) → Closes next bytes n
+    → Closes escaped (b ∷ bytes) (suc n)
+after_one escaped next b bytes n step c =
+    record { within = omega (arith, c.within); inside = step c.inside; quote = ap (λ v. b ∷ v) c.quote }
 
 closes_plain : (b : ℕ) (bytes : List ℕ) (n : ℕ) (quote : Bool) → is_quote b ≡ quote
     → ((k : ℕ) → inside_len (eqb b 92) bytes ≡ Some k → Closes (eqb b 92) bytes k)
@@ -47,7 +51,8 @@ unfolding inside_len
 closes_plain b bytes n true q after h =
     let none : (let x : Option ℕ = Some 0 in x) ≡ Some n = rw q at h in
     let here : 0 ≡ n = cc in
-    subst (Closes false (b ∷ bytes)) here (record { within = omega arith; inside = refl; quote = ap (λ c. c ∷ []) (eqb-true b 34 q) })
+    subst (Closes false (b ∷ bytes)) here
+    (record { within = omega arith; inside = refl; quote = ap (λ c. c ∷ []) (eqb-true b 34 q) })
 closes_plain b bytes n false q after h =
     let (k, e, next) = map_some (inside_len (eqb b 92) bytes) n (rw q at h) in
     subst (Closes false (b ∷ bytes)) next (after_one false (eqb b 92) b bytes k (λ t. rw q t) (after k e))
@@ -63,4 +68,5 @@ closes false (b ∷ bytes) n h = closes_plain b bytes n (is_quote b) refl (close
 -- ---- the value
 
 pub inside_kept : (inside : List ℕ) → inside_of (quoted inside) ≡ inside
-inside_kept inside = take_at inside (34 ∷ []) (length (quoted inside) - 2) (omega (arith, length-append inside (34 ∷ [])))
+inside_kept inside = take_at inside (34 ∷ []) (length (quoted inside) - 2)
+    (omega (arith, length-append inside (34 ∷ [])))

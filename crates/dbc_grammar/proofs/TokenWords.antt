@@ -1,5 +1,6 @@
 -- The longest spelling with which the bytes begin is found from their first byte.
-use Rattle.std.proofs.Common.{◌≡◌, ℕ, suc, ◌+◌, ◌≤◌, Bool, true, false, cond, List, [], ◌∷◌, ◌++◌, length, take, Option, Some, None, refl, sym, ap, subst, ◌∙◌, arith, append_assoc}
+use Rattle.std.proofs.Common.{◌≡◌, ℕ, suc, ◌+◌, ◌≤◌, Bool, true, false, cond, List, [], ◌∷◌, ◌++◌, length, take, Option}
+use Rattle.std.proofs.Common.{Some, None, refl, sym, ap, subst, ◌∙◌, arith, append_assoc}
 use Rattle.std.specs.Char.{is_ascii_digit}
 use Rattle.std.specs.List.{prefix_len, list_all}
 use Rattle.std.specs.Option.{option_map}
@@ -7,13 +8,13 @@ use Rattle.std.proofs.lemmas.Bool.{and_parts, and_from, eqb-true}
 use Rattle.std.proofs.lemmas.List.{length-append}
 use Rattle.std.proofs.lemmas.List.Sums.{prefix_len-le-length}
 use Rattle.decimal.proofs.Tokens.{prefix_all}
+use Rattle.dbc_words.specs.Name.{starts_identifier, continues_identifier, is_c_identifier}
+use Rattle.dbc_words.proofs.Texts.{text-Decides}
 use Rattle.dbc_grammar.specs.declared.token.TokenKind.{TokenKind}
 use Rattle.dbc_grammar.specs.declared.token.TokenKind.TheVariants.{Name, Number, Text, Mark}
 use Rattle.dbc_grammar.specs.Lexing.{inside_len, kind_of, number_len, word_len}
-use Rattle.catalogue.specs.Name.{starts_identifier, continues_identifier, is_c_identifier}
 use Rattle.dbc_grammar.specs.Spelling.{Spells, is_mark, is_quote}
 use Rattle.dbc_grammar.specs.Tokens.{IsLongest}
-use Rattle.catalogue.proofs.Texts.{text-Decides}
 use Rattle.dbc_grammar.proofs.TokenBytes.{Begins, begins_further, one_kind}
 use Rattle.dbc_grammar.proofs.TokenNumbers.{number_found, number_le, number_within}
 use Rattle.dbc_grammar.proofs.TokenRuns.{prefix_le}
@@ -45,7 +46,8 @@ name_continues (b ∷ bytes) h =
     let parts = and_parts (starts_identifier b) (list_all continues_identifier bytes) h in
     and_from _ _ (continues b parts.0) parts.1
 
-name_found : (b : ℕ) (bytes : List ℕ) → starts_identifier b ≡ true → IsWord Name (b ∷ bytes) (prefix_len continues_identifier (b ∷ bytes))
+name_found : (b : ℕ) (bytes : List ℕ) → starts_identifier b ≡ true
+    → IsWord Name (b ∷ bytes) (prefix_len continues_identifier (b ∷ bytes))
 name_found b bytes h = record {
   within = prefix_len-le-length continues_identifier (b ∷ bytes);
   spelled = rw (continues b h, one_more) (and_from _ _ h (prefix_all continues_identifier bytes));
@@ -57,7 +59,8 @@ name_found b bytes h = record {
     one_more : 1 + prefix_len continues_identifier bytes ≡ suc (prefix_len continues_identifier bytes)
     one_more = omega arith
 
-number_is_found : (b : ℕ) (bytes : List ℕ) → is_ascii_digit b ≡ true → IsWord Number (b ∷ bytes) (number_len (b ∷ bytes))
+number_is_found : (b : ℕ) (bytes : List ℕ) → is_ascii_digit b ≡ true
+    → IsWord Number (b ∷ bytes) (number_len (b ∷ bytes))
 number_is_found b bytes h = record {
   within = number_within (b ∷ bytes);
   spelled = number_found (b ∷ bytes) (rw h (omega arith));
@@ -65,7 +68,8 @@ number_is_found b bytes h = record {
 }
 
 -- what is inside a text that the bytes begin with
-text_inside : (b : ℕ) (bytes word rest : List ℕ) → (s : Spells Text word) → b ∷ bytes ≡ word ++ rest → inside_len false bytes ≡ Some (length s.0)
+text_inside : (b : ℕ) (bytes word rest : List ℕ) → (s : Spells Text word) → b ∷ bytes ≡ word ++ rest
+    → inside_len false bytes ≡ Some (length s.0)
 text_inside b bytes word rest (inside, text, q) e =
     let all : b ∷ bytes ≡ 34 ∷ (inside ++ 34 ∷ rest) = e ∙ ap (λ v. v ++ rest) q ∙ simp append_assoc in
     let after : bytes ≡ inside ++ 34 ∷ rest = cc in
@@ -84,9 +88,11 @@ text_found bytes n h =
           omega (arith, long, ap length s.2, length-append s.0 (34 ∷ []));
     }
 
-text_is_found : (bytes : List ℕ) (o : Option ℕ) → inside_len false bytes ≡ o → IsFound Text 34 bytes (option_map (λ n. n + 2) o)
+text_is_found : (bytes : List ℕ) (o : Option ℕ) → inside_len false bytes ≡ o
+    → IsFound Text 34 bytes (option_map (λ n. n + 2) o)
 text_is_found bytes (Some n) h = text_found bytes n h
-text_is_found bytes None h = (refl, λ word rest s e. let no : None ≡ Some (length s.0) = sym h ∙ text_inside 34 bytes word rest s e in absurd cc)
+text_is_found bytes None h =
+    (refl, λ word rest s e. let no : None ≡ Some (length s.0) = sym h ∙ text_inside 34 bytes word rest s e in absurd cc)
 
 mark_found : (b : ℕ) (bytes : List ℕ) → is_mark b ≡ true → IsWord Mark (b ∷ bytes) 1
 mark_found b bytes h = record {
@@ -99,7 +105,8 @@ mark_found b bytes h = record {
 
 by_first : (b : ℕ) (bytes : List ℕ) (kind : TokenKind) (letter digit quote mark : Bool)
     → starts_identifier b ≡ letter → is_ascii_digit b ≡ digit → is_quote b ≡ quote → is_mark b ≡ mark
-    → cond letter (Some Name) (cond digit (Some Number) (cond quote (Some Text) (cond mark (Some Mark) None))) ≡ Some kind
+    → cond letter (Some Name) (cond digit (Some Number) (cond quote (Some Text) (cond mark (Some Mark) None)))
+    ≡ Some kind
     → IsFound kind b bytes (word_len kind (b ∷ bytes))
 unfolding word_len
 by_first b bytes kind true digit quote mark l d q m h =
@@ -111,15 +118,18 @@ by_first b bytes kind false true quote mark l d q m h =
 by_first b bytes kind false false true mark l d q m h =
     let same : Text ≡ kind = cc in
     let found = text_is_found bytes (inside_len false bytes) refl in
-    let here = subst (λ c. IsFound Text c bytes (option_map (λ n. n + 2) (inside_len false bytes))) (sym (eqb-true b 34 q)) found in
+    let here = subst (λ c. IsFound Text c bytes (option_map (λ n. n + 2) (inside_len false bytes)))
+    (sym (eqb-true b 34 q)) found in
     subst (λ k. IsFound k b bytes (word_len k (b ∷ bytes))) same here
 by_first b bytes kind false false false true l d q m h =
     let same : Mark ≡ kind = cc in
     subst (λ k. IsFound k b bytes (word_len k (b ∷ bytes))) same (mark_found b bytes m)
 by_first b bytes kind false false false false l d q m h = absurd cc
 
-pub word_found : (b : ℕ) (bytes : List ℕ) (kind : TokenKind) → kind_of b ≡ Some kind → IsFound kind b bytes (word_len kind (b ∷ bytes))
-word_found b bytes kind h = by_first b bytes kind (starts_identifier b) (is_ascii_digit b) (is_quote b) (is_mark b) refl refl refl refl h
+pub word_found : (b : ℕ) (bytes : List ℕ) (kind : TokenKind) → kind_of b ≡ Some kind
+    → IsFound kind b bytes (word_len kind (b ∷ bytes))
+word_found b bytes kind h = by_first b bytes kind (starts_identifier b) (is_ascii_digit b) (is_quote b) (is_mark b) refl
+    refl refl refl h
 
 -- ---- a spelling of any kind is one of that kind
 
@@ -130,5 +140,7 @@ of_that_kind b bytes kind h k word rest s e =
     let same : k ≡ kind = one_kind k kind (word ++ rest) (b ∷ bytes) (begins_further k word rest s) here (sym e) in
     subst (λ l. Spells l word) same s
 
-pub longest_of_all : (b : ℕ) (bytes : List ℕ) (kind : TokenKind) (n : ℕ) → kind_of b ≡ Some kind → IsWord kind (b ∷ bytes) n → IsLongest n (b ∷ bytes)
-longest_of_all b bytes kind n h found = λ k word rest s e. found.longest word rest (of_that_kind b bytes kind h k word rest s e) e
+pub longest_of_all : (b : ℕ) (bytes : List ℕ) (kind : TokenKind) (n : ℕ) → kind_of b ≡ Some kind
+    → IsWord kind (b ∷ bytes) n → IsLongest n (b ∷ bytes)
+longest_of_all b bytes kind n h found =
+    λ k word rest s e. found.longest word rest (of_that_kind b bytes kind h k word rest s e) e

@@ -10,18 +10,18 @@ use Rattle.bitlayout.specs.declared.place.Mux.{Mux}
 use Rattle.bitlayout.specs.declared.place.Mux.TheVariants.{Always}
 use Rattle.decimal.specs.Number.{Number}
 use Rattle.decimal.specs.Printing.{unsigned_text}
-use Rattle.catalogue.specs.Limits.{spn_limit}
-use Rattle.catalogue.specs.Messages.{number_of}
-use Rattle.catalogue.specs.Name.{no_node}
-use Rattle.catalogue.specs.ValueType.{value_type_number}
-use Rattle.catalogue.specs.declared.message.Message.{Message}
-use Rattle.catalogue.specs.declared.node.Node.{Node}
-use Rattle.catalogue.specs.declared.sheet.Sheet.{Sheet}
-use Rattle.catalogue.specs.declared.signal.Signal.{Signal}
+use Rattle.dbc_words.specs.Limits.{spn_limit}
+use Rattle.dbc_words.specs.Name.{no_node}
+use Rattle.dbc_words.specs.ValueType.{value_type_number}
+use Rattle.dbc_sheet.specs.Messages.{number_of}
+use Rattle.dbc_sheet.specs.declared.message.Message.{Message}
+use Rattle.dbc_sheet.specs.declared.node.Node.{Node}
+use Rattle.dbc_sheet.specs.declared.sheet.Sheet.{Sheet}
+use Rattle.dbc_sheet.specs.declared.signal.Signal.{Signal}
 use Rattle.dbc_grammar.specs.declared.token.TokenKind.{TokenKind}
 use Rattle.dbc_grammar.specs.declared.token.TokenKind.TheVariants as kind
-use Rattle.catalogue.specs.declared.value_table.ValueTable.{ValueTable}
-use Rattle.catalogue.specs.declared.value_texts.ValueText.{ValueText}
+use Rattle.dbc_sheet.specs.declared.value_table.ValueTable.{ValueTable}
+use Rattle.dbc_sheet.specs.declared.value_texts.ValueText.{ValueText}
 
 -- a token of the text, and the gap before it in its line
 pub record Piece : Type 0 where
@@ -83,7 +83,8 @@ table_line t = word tight (codes "VAL_TABLE_") ∷ word space t.name ∷ entries
 
 -- BO_ number name: length transmitter
 abbrev pub message_line : Message → Line
-message_line m = word tight (codes "BO_") ∷ number space (number_of m) ∷ word space m.name ∷ mark tight (codes ":") ∷ number space m.length
+message_line m = word tight (codes "BO_") ∷ number space (number_of m) ∷ word space m.name ∷ mark tight (codes ":")
+    ∷ number space m.length
     ∷ word space (unwrap_or m.transmitter no_node) ∷ []
 
 abbrev pub mux_pieces : Mux → List Piece
@@ -96,16 +97,20 @@ receiver_pieces (r ∷ rs) = word space r ∷ flat_map (λ n. mark tight (codes 
 
 -- two decimals between brackets
 abbrev pub pair : List ℕ → List ℕ → List ℕ → Number → Number → List Piece
-pair left between right a b = mark space left ∷ value tight a ++ mark tight between ∷ value tight b ++ mark tight right ∷ []
+pair left between right a b = mark space left ∷ value tight a ++ mark tight between ∷ value tight b ++ mark tight right
+    ∷ []
 
 -- ` SG_ name indicator : start|size@order+ (factor,offset) [minimum|maximum] "unit" receivers`
 abbrev pub layout_pieces : Signal → List Piece
-layout_pieces s = number space s.layout.start ∷ mark tight (codes "|") ∷ number tight s.layout.size ∷ mark tight (codes "@") ∷ number tight (order_number s.layout.order)
+layout_pieces s = number space s.layout.start ∷ mark tight (codes "|") ∷ number tight s.layout.size
+    ∷ mark tight (codes "@") ∷ number tight (order_number s.layout.order)
     ∷ mark tight (if s.signed then codes "-" else codes "+") ∷ []
 
 abbrev pub signal_line : Signal → Line
-signal_line s = word space (codes "SG_") ∷ word space s.name ∷ mux_pieces s.mux ++ mark space (codes ":") ∷ layout_pieces s
-    ++ pair (codes "(") (codes ",") (codes ")") s.factor s.offset ++ pair (codes "[") (codes "|") (codes "]") s.minimum s.maximum ++ quoted space s.unit ∷ receiver_pieces s.receivers
+signal_line s = word space (codes "SG_") ∷ word space s.name ∷ mux_pieces s.mux ++ mark space (codes ":")
+    ∷ layout_pieces s
+    ++ pair (codes "(") (codes ",") (codes ")") s.factor s.offset ++ pair (codes "[") (codes "|") (codes "]") s.minimum
+    s.maximum ++ quoted space s.unit ∷ receiver_pieces s.receivers
 
 abbrev pub message_lines : Message → List Line
 message_lines m = message_line m ∷ map signal_line m.signals
@@ -113,7 +118,8 @@ message_lines m = message_line m ∷ map signal_line m.signals
 -- CM_, what it is about, and the comment; nothing if it is empty
 abbrev pub comment_lines : List Piece → List ℕ → List Line
 comment_lines of_what [] = []
-comment_lines of_what (b ∷ bs) = (word tight (codes "CM_") ∷ of_what ++ quoted space (b ∷ bs) ∷ mark tight (codes ";") ∷ []) ∷ []
+comment_lines of_what (b ∷ bs) =
+    (word tight (codes "CM_") ∷ of_what ++ quoted space (b ∷ bs) ∷ mark tight (codes ";") ∷ []) ∷ []
 
 abbrev pub node_comment : Node → List Line
 node_comment n = comment_lines (word space (codes "BU_") ∷ word space n.name ∷ []) n.comment
@@ -136,16 +142,19 @@ each_signal f s = flat_map (λ (m : Message). flat_map (f m) m.signals) s.messag
 -- BA_ "SPN" SG_ number name spn;
 abbrev pub spn_lines : Message → Signal → List Line
 spn_lines m s = if s.spn == 0 then [] else
-    ((word tight (codes "BA_") ∷ quoted space (codes "SPN") ∷ signal_pieces m s ++ number space s.spn ∷ mark tight (codes ";") ∷ []) ∷ [])
+    ((word tight (codes "BA_") ∷ quoted space (codes "SPN") ∷ signal_pieces m s ++ number space s.spn
+    ∷ mark tight (codes ";") ∷ []) ∷ [])
 
 -- BA_DEF_ SG_ "SPN" INT 0 spn_limit;
 abbrev pub spn_definition : Line
-spn_definition = word tight (codes "BA_DEF_") ∷ word space (codes "SG_") ∷ quoted space (codes "SPN") ∷ word space (codes "INT")
+spn_definition = word tight (codes "BA_DEF_") ∷ word space (codes "SG_") ∷ quoted space (codes "SPN")
+    ∷ word space (codes "INT")
     ∷ number space 0 ∷ number space spn_limit ∷ mark tight (codes ";") ∷ []
 
 -- BA_DEF_DEF_ "SPN" 0;
 abbrev pub spn_default : Line
-spn_default = word tight (codes "BA_DEF_DEF_") ∷ quoted space (codes "SPN") ∷ number space 0 ∷ mark tight (codes ";") ∷ []
+spn_default = word tight (codes "BA_DEF_DEF_") ∷ quoted space (codes "SPN") ∷ number space 0 ∷ mark tight (codes ";")
+    ∷ []
 
 -- both, which come before the first of the numbers
 abbrev pub spn_definitions : List Line
@@ -166,7 +175,8 @@ value_lines m s = texts_of s.values
 -- SIG_VALTYPE_ number name : type;
 abbrev pub type_lines : Message → Signal → List Line
 type_lines m s = if value_type_number s.value_type == 0 then [] else
-    ((word tight (codes "SIG_VALTYPE_") ∷ citation_pieces m s ++ mark space (codes ":") ∷ number space (value_type_number s.value_type) ∷ mark tight (codes ";") ∷ []) ∷ [])
+    ((word tight (codes "SIG_VALTYPE_") ∷ citation_pieces m s ++ mark space (codes ":")
+    ∷ number space (value_type_number s.value_type) ∷ mark tight (codes ";") ∷ []) ∷ [])
 
 abbrev pub canonical_lines : Sheet → List Line
 canonical_lines s = version_line s ∷ symbols_line ∷ timing_line ∷ nodes_line s

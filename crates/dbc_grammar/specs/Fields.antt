@@ -1,10 +1,12 @@
 -- The fields of the statements of a DBC file: what single tokens mean, and rules for what several mean together. They
 -- are those of Vector's DBC File Format Documentation; this project's dialect sets the ranges of numbers and the length
 -- of names, and lets the comma between two names of a list be written or left out.
-use Rattle.std.specs.Prelude.{◌≡◌, ◌↔◌, ℕ, ◌+◌, ◌-◌, Bool, true, false, ◌&&◌, ◌||◌, ◌==◌, not, nat_le, List, [], ◌∷◌, filter_map, Option, Some, None}
+use Rattle.std.specs.Prelude.{◌≡◌, ◌↔◌, ℕ, ◌+◌, ◌-◌, Bool, true, false, ◌&&◌, ◌||◌, ◌==◌, not, nat_le, List, [], ◌∷◌}
+use Rattle.std.specs.Prelude.{filter_map, Option, Some, None}
 use Rattle.std.specs.Prelude.{is_some, option_map, option_and_then, unwrap_or, if◌then◌else◌, codes}
 use Rattle.std.specs.Result.{result_ok}
 use Rattle.std.specs.Str.{bytes_eq}
+use Rattle.base.specs.WholeNumber.{is_numeral, whole_of}
 use Rattle.can_id.specs.Form.{greatest_number}
 use Rattle.can_id.specs.Ident.{IsIdentifier, dbc_number, extended_flag}
 use Rattle.can_id.specs.declared.form.IdentForm.TheVariants.{Standard, Extended}
@@ -18,22 +20,21 @@ use Rattle.bitlayout.specs.Order.{order_numbered}
 use Rattle.decimal.specs.Number.{IsDecimal, Number}
 use Rattle.decimal.specs.Reading.{reading}
 use Rattle.decimal.specs.Spelling.{Writes}
-use Rattle.catalogue.specs.Indicator.{mux_of_indicator}
+use Rattle.dbc_words.specs.Indicator.{mux_of_indicator}
+use Rattle.dbc_words.specs.Keyword.{keyword_of, keyword_text}
+use Rattle.dbc_words.specs.Limits.{length_limit, size_limit, start_limit}
+use Rattle.dbc_words.specs.Name.{is_name, no_node}
+use Rattle.dbc_words.specs.ValueType.{value_type_of}
+use Rattle.dbc_words.specs.declared.keyword.Keyword.{Keyword}
+use Rattle.dbc_words.specs.declared.keyword.Keyword.TheVariants.{Signal}
+use Rattle.dbc_words.specs.declared.value_type.ValueType.{ValueType}
 use Rattle.dbc_grammar.specs.Inside.{inside_of}
-use Rattle.catalogue.specs.Keyword.{keyword_of, keyword_text}
-use Rattle.catalogue.specs.Limits.{length_limit, size_limit, start_limit}
-use Rattle.catalogue.specs.Name.{is_name, no_node}
 use Rattle.dbc_grammar.specs.Rules.{Rule, token, one, only, ◌>>=◌, done, followed, optional, many, either, begins}
 use Rattle.dbc_grammar.specs.Statement.{SignalLine, Cited}
 use Rattle.dbc_grammar.specs.Token.{Token}
-use Rattle.catalogue.specs.ValueType.{value_type_of}
-use Rattle.catalogue.specs.WholeNumber.{is_numeral, whole_of}
-use Rattle.catalogue.specs.declared.keyword.Keyword.{Keyword}
-use Rattle.catalogue.specs.declared.keyword.Keyword.TheVariants.{Signal}
 use Rattle.dbc_grammar.specs.declared.token.TokenKind.{TokenKind}
 use Rattle.dbc_grammar.specs.declared.token.TokenKind.TheVariants.{Name, Number as NumberKind, Text, Mark}
-use Rattle.catalogue.specs.declared.value_texts.ValueText.{ValueText}
-use Rattle.catalogue.specs.declared.value_type.ValueType.{ValueType}
+use Rattle.dbc_sheet.specs.declared.value_texts.ValueText.{ValueText}
 
 -- Tests of one token.
 
@@ -97,7 +98,8 @@ ident_of n =
 
 -- it is the one identifier with this DBC number, and if it is None, no identifier has the number
 abbrev pub NumbersAreIdentifiers : Type 0
-NumbersAreIdentifiers = (n : ℕ) (ident : Ident) → (ident_of n ≡ Some ident) ↔ (IsIdentifier ident × (dbc_number ident ≡ n))
+NumbersAreIdentifiers = (n : ℕ) (ident : Ident)
+    → (ident_of n ≡ Some ident) ↔ (IsIdentifier ident × (dbc_number ident ≡ n))
 
 -- the identifier of a message
 abbrev pub message_ident : Token → Option Ident

@@ -3,18 +3,24 @@
 -- dialect: what it accepts beyond them, the ranges of numbers, and which statements it skips.
 use Rattle.std.specs.Prelude.{ℕ, Bool, true, ◌&&◌, ◌||◌, not, nat_le, List, [], ◌∷◌, Option, is_some, option_map, codes}
 use Rattle.std.specs.Str.{bytes_eq}
-use Rattle.dbc_grammar.specs.Fields.{is_a, is_mark, is_key, key_of, text_of, cited_name, made_name, node_of, whole_where, cited_number}
-use Rattle.dbc_grammar.specs.Fields.{message_ident, independent_number, length_of, type_of, key, mark, entry, nodes, signal}
+use Rattle.dbc_words.specs.Keyword.{KeywordGroup, Kept, Passed, Refused, keyword_group}
+use Rattle.dbc_words.specs.Limits.{spn_limit}
+use Rattle.dbc_words.specs.declared.keyword.Keyword.{Keyword}
+use Rattle.dbc_words.specs.declared.keyword.Keyword.TheVariants.{Version, NewSymbols, BitTiming, Nodes, ValueTable}
+use Rattle.dbc_words.specs.declared.keyword.Keyword.TheVariants.{Message, Signal}
+use Rattle.dbc_words.specs.declared.keyword.Keyword.TheVariants.{Comment, ValueTexts, SignalValueType, AttributeValue}
+use Rattle.dbc_words.specs.declared.keyword.Keyword.TheVariants.{EnvironmentVariable}
+use Rattle.dbc_grammar.specs.Fields.{is_a, is_mark, is_key, key_of, text_of, cited_name, made_name, node_of}
+use Rattle.dbc_grammar.specs.Fields.{whole_where, cited_number}
+use Rattle.dbc_grammar.specs.Fields.{message_ident, independent_number, length_of, type_of, key, mark, entry, nodes}
+use Rattle.dbc_grammar.specs.Fields.{signal}
 use Rattle.dbc_grammar.specs.Inside.{inside_of}
-use Rattle.catalogue.specs.Keyword.{KeywordGroup, Kept, Passed, Refused, keyword_group}
-use Rattle.catalogue.specs.Limits.{spn_limit}
 use Rattle.dbc_grammar.specs.Rules.{Rule, token, one, ◌>>=◌, done, followed, optional, many, either, unless, nothing}
-use Rattle.dbc_grammar.specs.Statement.{Statement, Content, VersionIs, NodesAre, TableIs, MessageIs, CommentIs, NodeCommentIs}
-use Rattle.dbc_grammar.specs.Statement.{MessageCommentIs, SignalCommentIs, ValueTextsAre, ValueTypeIs, SpnIs, Dropped, PassedOver}
+use Rattle.dbc_grammar.specs.Statement.{Statement, Content, VersionIs, NodesAre, TableIs, MessageIs, CommentIs}
+use Rattle.dbc_grammar.specs.Statement.{NodeCommentIs}
+use Rattle.dbc_grammar.specs.Statement.{MessageCommentIs, SignalCommentIs, ValueTextsAre, ValueTypeIs, SpnIs, Dropped}
+use Rattle.dbc_grammar.specs.Statement.{PassedOver}
 use Rattle.dbc_grammar.specs.Token.{Token}
-use Rattle.catalogue.specs.declared.keyword.Keyword.{Keyword}
-use Rattle.catalogue.specs.declared.keyword.Keyword.TheVariants.{Version, NewSymbols, BitTiming, Nodes, ValueTable, Message, Signal}
-use Rattle.catalogue.specs.declared.keyword.Keyword.TheVariants.{Comment, ValueTexts, SignalValueType, AttributeValue, EnvironmentVariable}
 use Rattle.dbc_grammar.specs.declared.token.TokenKind.TheVariants.{Name, Number, Text}
 
 -- What may follow a statement.
@@ -103,7 +109,14 @@ message_line = do
   length ← token length_of
   transmitter ← token node_of
   signals ← many signal
-  done (MessageIs (record { ident = ident; name = name; length = length; transmitter = transmitter; signals = signals }))
+  done (MessageIs (record {
+    ident = ident;
+    name = name;
+    length = length;
+    transmitter = transmitter;
+    signals =
+        signals;
+  }))
 
 -- `CM_ text ;`
 unfoldable pub file_comment : Rule Content

@@ -1,16 +1,17 @@
 -- The tokens of a DBC text, computed from its first byte on: the first byte of a token determines its kind, and the
 -- token is as long as its kind allows. `TokenLaw.antt` relates this to the tokens that a text has.
-use Rattle.std.specs.Prelude.{◌==◌, ℕ, zero, suc, ◌+◌, ◌-◌, Bool, true, false, List, [], ◌∷◌, length, take, drop, Option, Some, None, Result, Ok, Err, if◌then◌else◌}
+use Rattle.std.specs.Prelude.{◌==◌, ℕ, zero, suc, ◌+◌, ◌-◌, Bool, true, false, List, [], ◌∷◌, length, take, drop}
+use Rattle.std.specs.Prelude.{Option, Some, None, Result, Ok, Err, if◌then◌else◌}
 use Rattle.std.specs.Char.{is_ascii_digit}
 use Rattle.std.specs.List.{prefix_len}
 use Rattle.std.specs.Option.{option_map}
 use Rattle.decimal.specs.Cutting.{fraction_len}
 use Rattle.decimal.specs.Spelling.{is_letter_e, is_sign}
+use Rattle.dbc_words.specs.Name.{starts_identifier, continues_identifier}
+use Rattle.dbc_words.specs.Text.{backslash}
 use Rattle.dbc_grammar.specs.declared.token.TokenKind.{TokenKind}
 use Rattle.dbc_grammar.specs.declared.token.TokenKind.TheVariants.{Name, Number, Text, Mark}
-use Rattle.catalogue.specs.Name.{starts_identifier, continues_identifier}
 use Rattle.dbc_grammar.specs.Spelling.{is_gap, is_quote, is_mark}
-use Rattle.catalogue.specs.Text.{backslash}
 use Rattle.dbc_grammar.specs.Token.{Token}
 
 -- why reading ends before the end of the bytes, and the offset
@@ -33,7 +34,8 @@ with_front (suc n) = suc (suc n)
 -- how many bytes the digits after `E` or `e` take with their sign, 0 if there are no digits
 unfoldable pub power_len : List ℕ → ℕ
 power_len [] = 0
-power_len (b ∷ bytes) = if is_sign b then with_front (prefix_len is_ascii_digit bytes) else prefix_len is_ascii_digit (b ∷ bytes)
+power_len (b ∷ bytes) = if is_sign b then with_front (prefix_len is_ascii_digit bytes) else prefix_len is_ascii_digit
+    (b ∷ bytes)
 
 -- how many bytes an exponent takes, 0 if there is none
 unfoldable pub exponent_len : List ℕ → ℕ
@@ -101,7 +103,8 @@ with_first (Ok (Some token)) after = record { tokens = token ∷ (after token).t
 -- what is read in at most this many steps
 unfoldable pub lexed_in : ℕ → ℕ → List ℕ → Lexed
 lexed_in zero offset bytes = record { tokens = []; fault = None }
-lexed_in (suc steps) offset bytes = with_first (first_token offset bytes) (λ token. lexed_in steps token.end (drop (token.end - offset) bytes))
+lexed_in (suc steps) offset bytes =
+    with_first (first_token offset bytes) (λ token. lexed_in steps token.end (drop (token.end - offset) bytes))
 
 -- What is read of bytes at the offset. Each token takes a byte, so one step more than there are bytes is
 -- always enough.

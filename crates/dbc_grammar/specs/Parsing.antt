@@ -1,24 +1,32 @@
 -- Statements computed: each rule of the fields and the statements as a function from tokens to what they begin with and
 -- the tokens after it. Code is proved against these functions. That they find the division of a file, if it has one, is
 -- a law.
-use Rattle.std.specs.Prelude.{ℕ, zero, suc, Bool, true, false, not, List, [], ◌∷◌, ◌++◌, length, filter_map, Option, Some, None, option_and_then}
+use Rattle.std.specs.Prelude.{ℕ, zero, suc, Bool, true, false, not, List, [], ◌∷◌, ◌++◌, length, filter_map, Option}
+use Rattle.std.specs.Prelude.{Some, None, option_and_then}
 use Rattle.std.specs.Prelude.{unwrap_or, if◌then◌else◌, codes}
 use Rattle.bitlayout.specs.declared.layout.Layout.{Layout}
 use Rattle.bitlayout.specs.declared.place.Mux.TheVariants.{Always}
 use Rattle.decimal.specs.Number.{Number}
-use Rattle.dbc_grammar.specs.Fields.{is_a, is_mark, is_key, text_of, cited_name, made_name, node_of, cited_number, message_ident}
-use Rattle.dbc_grammar.specs.Fields.{independent_number, length_of, start_of, size_of, order_of, type_of, sign_of, mux_of, number_of, goes_on}
-use Rattle.dbc_grammar.specs.Grammar.{begins_next, next, is_open, is_symbol, ends_symbols, is_spn_name, spn_of, first_word}
-use Rattle.catalogue.specs.Keyword.{KeywordGroup, Kept, Passed, Refused, keyword_group}
+use Rattle.dbc_words.specs.Keyword.{KeywordGroup, Kept, Passed, Refused, keyword_group}
+use Rattle.dbc_words.specs.declared.keyword.Keyword.{Keyword}
+use Rattle.dbc_words.specs.declared.keyword.Keyword.TheVariants.{Version, NewSymbols, BitTiming, Nodes, ValueTable}
+use Rattle.dbc_words.specs.declared.keyword.Keyword.TheVariants.{Message, Signal}
+use Rattle.dbc_words.specs.declared.keyword.Keyword.TheVariants.{Comment, ValueTexts, SignalValueType, AttributeValue}
+use Rattle.dbc_words.specs.declared.keyword.Keyword.TheVariants.{EnvironmentVariable}
+use Rattle.dbc_grammar.specs.Fields.{is_a, is_mark, is_key, text_of, cited_name, made_name, node_of, cited_number}
+use Rattle.dbc_grammar.specs.Fields.{message_ident}
+use Rattle.dbc_grammar.specs.Fields.{independent_number, length_of, start_of, size_of, order_of, type_of, sign_of}
+use Rattle.dbc_grammar.specs.Fields.{mux_of, number_of, goes_on}
+use Rattle.dbc_grammar.specs.Grammar.{begins_next, next, is_open, is_symbol, ends_symbols, is_spn_name, spn_of}
+use Rattle.dbc_grammar.specs.Grammar.{first_word}
 use Rattle.dbc_grammar.specs.Rules.{only, starts, begins}
-use Rattle.dbc_grammar.specs.Statement.{SignalLine, Statement, Content, VersionIs, NodesAre, TableIs, MessageIs, CommentIs, NodeCommentIs}
-use Rattle.dbc_grammar.specs.Statement.{MessageCommentIs, SignalCommentIs, ValueTextsAre, ValueTypeIs, SpnIs, Dropped, PassedOver}
+use Rattle.dbc_grammar.specs.Statement.{SignalLine, Statement, Content, VersionIs, NodesAre, TableIs, MessageIs}
+use Rattle.dbc_grammar.specs.Statement.{CommentIs, NodeCommentIs}
+use Rattle.dbc_grammar.specs.Statement.{MessageCommentIs, SignalCommentIs, ValueTextsAre, ValueTypeIs, SpnIs, Dropped}
+use Rattle.dbc_grammar.specs.Statement.{PassedOver}
 use Rattle.dbc_grammar.specs.Token.{Token}
-use Rattle.catalogue.specs.declared.keyword.Keyword.{Keyword}
-use Rattle.catalogue.specs.declared.keyword.Keyword.TheVariants.{Version, NewSymbols, BitTiming, Nodes, ValueTable, Message, Signal}
-use Rattle.catalogue.specs.declared.keyword.Keyword.TheVariants.{Comment, ValueTexts, SignalValueType, AttributeValue, EnvironmentVariable}
 use Rattle.dbc_grammar.specs.declared.token.TokenKind.TheVariants.{Number as NumberKind}
-use Rattle.catalogue.specs.declared.value_texts.ValueText.{ValueText}
+use Rattle.dbc_sheet.specs.declared.value_texts.ValueText.{ValueText}
 
 -- what the tokens begin with, and those after it; or that they don't begin so
 abbrev pub Parsed : Type 0 → Type 0
@@ -64,7 +72,8 @@ abbrev pub with_front : {A : Type 0} → List A → Parsed (List A) → Parsed (
 with_front front o = option_and_then (λ b. Some (front ++ b.0, b.1)) o
 
 -- the first of two if the test holds, and else the second
-abbrev pub either_at : {A : Type 0} → (List Token → Bool) → (List Token → Parsed A) → (List Token → Parsed A) → List Token → Parsed A
+abbrev pub either_at : {A : Type 0} → (List Token → Bool) → (List Token → Parsed A) → (List Token → Parsed A)
+    → List Token → Parsed A
 either_at test parse other ts = if test ts then parse ts else other ts
 
 -- the first, or the second if the first reads nothing

@@ -1,12 +1,12 @@
 -- What a DBC text reads as.
 use Rattle.std.specs.Prelude.{◌≡◌, ℕ, List}
+use Rattle.dbc_words.specs.declared.keyword.Keyword.{Keyword}
 use Rattle.dbc_grammar.specs.Division.{Divides}
 use Rattle.dbc_grammar.specs.Saying.{Says, passed_by}
 use Rattle.dbc_grammar.specs.Statement.{Statement}
 use Rattle.dbc_grammar.specs.Token.{Token}
 use Rattle.dbc_grammar.specs.Tokens.{HasTokens}
-use Rattle.catalogue.specs.declared.keyword.Keyword.{Keyword}
-use Rattle.catalogue.specs.declared.sheet.Sheet.{Sheet}
+use Rattle.dbc_sheet.specs.declared.sheet.Sheet.{Sheet}
 
 -- The bytes have tokens, these divide into statements, the statements say the sheet, and those that are skipped begin
 -- at these offsets with these keywords.
@@ -29,4 +29,5 @@ pub record ReadsOnlyAs (bytes : List ℕ) (s : Sheet) : Type 0 where
 
 -- a text reads as one sheet at most, with one list of skipped statements
 abbrev pub ReadsAsOneAtMost : Type 0
-ReadsAsOneAtMost = (bytes : List ℕ) (s t : Sheet) (p q : List (ℕ × Keyword)) → ReadsAs bytes s p → ReadsAs bytes t q → (s ≡ t) × (p ≡ q)
+ReadsAsOneAtMost = (bytes : List ℕ) (s t : Sheet) (p q : List (ℕ × Keyword)) → ReadsAs bytes s p → ReadsAs bytes t q
+    → (s ≡ t) × (p ≡ q)

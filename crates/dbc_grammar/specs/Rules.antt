@@ -25,7 +25,8 @@ abbrev pub one : (Token → Bool) → Rule (Unit {0})
 one test = token (λ t. only (test t) tt)
 
 -- first one rule, then another that may depend on the value of the first
-pub record Then {A B : Type 0} (rule : Rule A) (others : A → Rule B) (ts : List Token) (y : B) (rest : List Token) : Type 0 where
+pub record Then {A B : Type 0} (rule : Rule A) (others : A → Rule B) (ts : List Token) (y : B)
+    (rest : List Token) : Type 0 where
   pub value : A
   pub middle : List Token
   pub begins : rule ts value middle
@@ -66,9 +67,10 @@ abbrev pub either : {A : Type 0} → Rule A → Rule A → Rule A
 either rule other = λ ts x rest. rule ts x rest ⊎ other ts x rest
 
 -- the second rule, if the first one reads nothing
-pub record Unless {A B : Type 0} (rule : Rule A) (other : Rule B) (ts : List Token) (x : B) (rest : List Token) : Type 0 where
-  pub unread : (y : A) (more : List Token) → ¬ (rule ts y more)
-  pub reads : other ts x rest
+pub record Unless {A B : Type 0} (rule : Rule A) (other : Rule B) (ts : List Token) (x : B) (rest : List Token) : Type 0
+  where
+    pub unread : (y : A) (more : List Token) → ¬ (rule ts y more)
+    pub reads : other ts x rest
 
 abbrev pub unless : {A B : Type 0} → Rule A → Rule B → Rule B
 unless rule other = λ ts x rest. Unless rule other ts x rest

@@ -28,7 +28,7 @@ use Rattle.std.specs.List.{filter_map, flat_map, last_or, list_any}
 use Rattle.std.specs.Option.{option_map}
 use Rattle.std.specs.Str.{bytes_eq}
 use Rattle.can_id.specs.Ident.{dbc_number}
-use Rattle.catalogue.specs.Form.{IsSheet}
+use Rattle.dbc_sheet.specs.Form.{IsSheet}
 use Rattle.dbc_grammar.specs.Statement.{
   Cited,
   Content,
@@ -48,15 +48,15 @@ use Rattle.dbc_grammar.specs.Statement.{
   SignalLine,
   Statement,
 }
-use Rattle.catalogue.specs.declared.keyword.Keyword.{Keyword}
-use Rattle.catalogue.specs.declared.message.Message.{Message}
-use Rattle.catalogue.specs.declared.node.Node.{Node}
-use Rattle.catalogue.specs.declared.sheet.Sheet.{Sheet}
-use Rattle.catalogue.specs.declared.signal.Signal.{Signal}
-use Rattle.catalogue.specs.declared.value_table.ValueTable.{ValueTable}
-use Rattle.catalogue.specs.declared.value_texts.ValueText.{ValueText}
-use Rattle.catalogue.specs.declared.value_type.ValueType.{ValueType}
-use Rattle.catalogue.specs.declared.value_type.ValueType.TheVariants.{Integer}
+use Rattle.dbc_words.specs.declared.keyword.Keyword.{Keyword}
+use Rattle.dbc_words.specs.declared.value_type.ValueType.{ValueType}
+use Rattle.dbc_words.specs.declared.value_type.ValueType.TheVariants.{Integer}
+use Rattle.dbc_sheet.specs.declared.message.Message.{Message}
+use Rattle.dbc_sheet.specs.declared.node.Node.{Node}
+use Rattle.dbc_sheet.specs.declared.sheet.Sheet.{Sheet}
+use Rattle.dbc_sheet.specs.declared.signal.Signal.{Signal}
+use Rattle.dbc_sheet.specs.declared.value_table.ValueTable.{ValueTable}
+use Rattle.dbc_sheet.specs.declared.value_texts.ValueText.{ValueText}
 
 -- The value of the last pair with the key k, or else o.
 abbrev pub last_at : {K V : Type 0} → (K → K → Bool) → K → Option V → List (K × V) → Option V
@@ -212,7 +212,8 @@ is_passed statements content = false
 
 -- where each skipped statement begins, and its first keyword, in their order
 abbrev pub passed_by : List Statement → List (ℕ × Keyword)
-passed_by statements = map (λ (s : Statement). (s.start, s.keyword)) (filter (λ (s : Statement). is_passed statements s.content) statements)
+passed_by statements = map (λ (s : Statement). (s.start, s.keyword))
+    (filter (λ (s : Statement). is_passed statements s.content) statements)
 
 -- The statements say the sheet: it is well formed, with each part in its form; its version and comment are the last
 -- ones; its nodes and tables are theirs, in their order; and its messages are theirs, each once, in any order.

@@ -5,8 +5,8 @@
 use Rattle.std.specs.Prelude.{◌≡◌, ℕ, ◌==◌, nat_le, Bool, ◌&&◌, ◌||◌, List, [], ◌∷◌, ◌++◌, IsTrue, codes}
 use Rattle.std.specs.List.{list_any}
 use Rattle.decimal.specs.Spelling.{Spelling, IsNumberToken}
-use Rattle.catalogue.specs.Name.{is_c_identifier}
-use Rattle.catalogue.specs.Text.{IsText, quote_mark}
+use Rattle.dbc_words.specs.Name.{is_c_identifier}
+use Rattle.dbc_words.specs.Text.{IsText, quote_mark}
 use Rattle.dbc_grammar.specs.declared.token.TokenKind.{TokenKind}
 use Rattle.dbc_grammar.specs.declared.token.TokenKind.TheVariants.{Name, Number, Text, Mark}
 

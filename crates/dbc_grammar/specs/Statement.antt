@@ -4,9 +4,9 @@ use Rattle.bitlayout.specs.declared.layout.Layout.{Layout}
 use Rattle.bitlayout.specs.declared.place.Mux.{Mux}
 use Rattle.can_id.specs.declared.ident.Ident.{Ident}
 use Rattle.decimal.specs.Number.{Number}
-use Rattle.catalogue.specs.declared.keyword.Keyword.{Keyword}
-use Rattle.catalogue.specs.declared.value_texts.ValueText.{ValueText}
-use Rattle.catalogue.specs.declared.value_type.ValueType.{ValueType}
+use Rattle.dbc_words.specs.declared.keyword.Keyword.{Keyword}
+use Rattle.dbc_words.specs.declared.value_type.ValueType.{ValueType}
+use Rattle.dbc_sheet.specs.declared.value_texts.ValueText.{ValueText}
 
 -- a signal as the statement of its message describes it: without comment, suspect parameter number and the like
 pub record SignalLine : Type 0 where

@@ -30,4 +30,5 @@ pub record IsFirst (offset : ℕ) (bytes : List ℕ) (token : Token) (rest : Lis
 -- the first and after the last.
 abbrev pub HasTokens : ℕ → List ℕ → List Token → Type 0
 HasTokens offset bytes [] = IsGap bytes
-HasTokens offset bytes (token ∷ tokens) = (rest : List ℕ) × IsFirst offset bytes token rest × HasTokens token.end rest tokens
+HasTokens offset bytes (token ∷ tokens) = (rest : List ℕ) × IsFirst offset bytes token rest
+    × HasTokens token.end rest tokens

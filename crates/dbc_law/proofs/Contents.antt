@@ -2,7 +2,7 @@
 -- the lines of a message and of its signals are one statement.
 use Rattle.std.proofs.Common.{◌==◌, ℕ, List, [], ◌∷◌, ◌++◌, map, Some, if◌then◌else◌}
 use Rattle.std.specs.List.{flat_map}
-use Rattle.catalogue.specs.Messages.{number_of}
+use Rattle.dbc_sheet.specs.Messages.{number_of}
 use Rattle.dbc_grammar.specs.Statement.{
   Content,
   VersionIs,
@@ -22,13 +22,13 @@ use Rattle.dbc_grammar.specs.Statement.{
   SignalLine,
   Statement,
 }
-use Rattle.catalogue.specs.ValueType.{value_type_number}
-use Rattle.catalogue.specs.declared.message.Message.{Message}
-use Rattle.catalogue.specs.declared.node.Node.{Node}
-use Rattle.catalogue.specs.declared.sheet.Sheet.{Sheet}
-use Rattle.catalogue.specs.declared.signal.Signal.{Signal}
-use Rattle.catalogue.specs.declared.value_table.ValueTable.{ValueTable}
-use Rattle.catalogue.specs.declared.value_texts.ValueText.{ValueText}
+use Rattle.dbc_words.specs.ValueType.{value_type_number}
+use Rattle.dbc_sheet.specs.declared.message.Message.{Message}
+use Rattle.dbc_sheet.specs.declared.node.Node.{Node}
+use Rattle.dbc_sheet.specs.declared.sheet.Sheet.{Sheet}
+use Rattle.dbc_sheet.specs.declared.signal.Signal.{Signal}
+use Rattle.dbc_sheet.specs.declared.value_table.ValueTable.{ValueTable}
+use Rattle.dbc_sheet.specs.declared.value_texts.ValueText.{ValueText}
 
 abbrev pub contents_of : List Statement → List Content
 contents_of statements = map (λ (s : Statement). s.content) statements
@@ -49,7 +49,14 @@ signal_line s = record {
 }
 
 abbrev pub message_line : Message → MessageLine
-message_line m = record { ident = m.ident; name = m.name; length = m.length; transmitter = m.transmitter; signals = map signal_line m.signals }
+message_line m = record {
+  ident = m.ident;
+  name = m.name;
+  length = m.length;
+  transmitter = m.transmitter;
+  signals =
+      map signal_line m.signals;
+}
 
 abbrev pub node_names : Sheet → List (List ℕ)
 node_names s = map (λ (n : Node). n.name) s.nodes
@@ -72,7 +79,8 @@ abbrev pub signal_comments : Message → Signal → List Content
 signal_comments m s = comments (SignalCommentIs (Some (number_of m)) s.name) s.comment
 
 abbrev pub message_comments : Message → List Content
-message_comments m = comments (MessageCommentIs (Some (number_of m))) m.comment ++ flat_map (signal_comments m) m.signals
+message_comments m = comments (MessageCommentIs (Some (number_of m))) m.comment ++ flat_map (signal_comments m)
+    m.signals
 
 -- the contents for each signal of each message
 abbrev pub each_signal : (Message → Signal → List Content) → Sheet → List Content
@@ -94,7 +102,8 @@ abbrev pub value_texts : Message → Signal → List Content
 value_texts m s = texts (number_of m) s.name s.values
 
 abbrev pub value_types : Message → Signal → List Content
-value_types m s = if value_type_number s.value_type == 0 then [] else (ValueTypeIs (Some (number_of m)) s.name s.value_type ∷ [])
+value_types m s = if value_type_number s.value_type == 0 then []
+    else (ValueTypeIs (Some (number_of m)) s.name s.value_type ∷ [])
 
 -- all but the lines before the first table, section after section
 abbrev pub sections : Sheet → List Content

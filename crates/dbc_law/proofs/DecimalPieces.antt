@@ -13,4 +13,5 @@ digits_piece gap n = record { gap = gap; kind = kind.Number; text = digits n }
 
 -- as `value` of `dbc_grammar`'s `Canon`, where the sign is `is_negative n.mantissa`
 abbrev pub signed_pieces : Bool → List ℕ → Number → List Piece
-signed_pieces negative gap n = if negative then mark gap (codes "-") ∷ digits_piece tight n ∷ [] else (digits_piece gap n ∷ [])
+signed_pieces negative gap n = if negative then mark gap (codes "-") ∷ digits_piece tight n
+    ∷ [] else (digits_piece gap n ∷ [])

@@ -1,10 +1,10 @@
 -- The canonical text of a sheet has tokens, these divide into statements, and the statements say the sheet.
 use Rattle.std.proofs.Common.{refl}
 use Rattle.dbc_grammar.specs.Canon.{canonical_text}
-use Rattle.catalogue.specs.Form.{IsSheet}
+use Rattle.dbc_sheet.specs.Form.{IsSheet}
 use Rattle.dbc_grammar.specs.Reads.{Reads, ReadsAsOneAtMost}
 use Rattle.dbc_grammar.specs.Saying.{passed_by}
-use Rattle.catalogue.specs.declared.sheet.Sheet.{Sheet}
+use Rattle.dbc_sheet.specs.declared.sheet.Sheet.{Sheet}
 use Rattle.dbc_grammar.proofs.OneReading.{reads_only}
 use Rattle.dbc_law.specs.Law.{GrammarLaw}
 use Rattle.dbc_law.proofs.Saying.{contents_say}
@@ -16,7 +16,15 @@ canonical_reads s h =
     let (tokens, has_tokens, are_lines) = text_has_tokens s h in
     let (statements, divides, contents) = lines_divide s h tokens are_lines in (
       passed_by statements,
-      record { tokens = tokens; statements = statements; has_tokens = has_tokens; divides = divides; says = contents_say s h statements contents; passes = refl },
+      record {
+        tokens = tokens;
+        statements = statements;
+        has_tokens = has_tokens;
+        divides = divides;
+        says =
+            contents_say s h statements contents;
+        passes = refl;
+      },
     )
 
 pub grammar_law : ReadsAsOneAtMost → GrammarLaw

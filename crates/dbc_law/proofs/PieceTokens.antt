@@ -27,10 +27,12 @@ lines = λ ts ls rest. many line ts ls rest
 
 module _ {A : Type 0} (rule : Rule A) where
   -- one piece after the other
-  pub many_append : (ts : List Token) (xs ys : List A) (middle rest : List Token) → many rule ts xs middle → many rule middle ys rest
+  pub many_append : (ts : List Token) (xs ys : List A) (middle rest : List Token) → many rule ts xs middle
+      → many rule middle ys rest
       → many rule ts (xs ++ ys) rest
   many_append ts [] ys middle rest e more = rw e at more
-  many_append ts (x ∷ xs) ys middle rest (next, first, others) more = (next, first, many_append next xs ys middle rest others more)
+  many_append ts (x ∷ xs) ys middle rest (next, first, others) more =
+      (next, first, many_append next xs ys middle rest others more)
 
   pub many_parts : (ts : List Token) (xs ys : List A) (rest : List Token) → many rule ts (xs ++ ys) rest
       → (middle : List Token) × many rule ts xs middle × many rule middle ys rest

@@ -15,20 +15,26 @@ module _ {X : Type 0} {kind : Content → Option X} where
   no_contents = record { contents_are = refl }
 
   -- a content that says nothing of the kind, or x, before others
-  pub silent : {c : Content} {cs : List Content} {xs : List X} → kind c ≡ None → States kind cs xs → States kind (c ∷ cs) xs
+  pub silent : {c : Content} {cs : List Content} {xs : List X} → kind c ≡ None → States kind cs xs
+      → States kind (c ∷ cs) xs
   silent {cs} e more = record { contents_are = ap (λ o. cons_option o (filter_map kind cs)) e ∙ more.contents_are }
 
-  pub speaks : {c : Content} {cs : List Content} {x : X} {xs : List X} → kind c ≡ Some x → States kind cs xs → States kind (c ∷ cs) (x ∷ xs)
-  speaks {cs} {x} e more = record { contents_are = ap (λ o. cons_option o (filter_map kind cs)) e ∙ ap (λ rest. x ∷ rest) more.contents_are }
+  pub speaks : {c : Content} {cs : List Content} {x : X} {xs : List X} → kind c ≡ Some x → States kind cs xs
+      → States kind (c ∷ cs) (x ∷ xs)
+  speaks {cs} {x} e more =
+      record { contents_are = ap (λ o. cons_option o (filter_map kind cs)) e ∙ ap (λ rest. x ∷ rest) more.contents_are }
 
   infixl 10 ◌also◌
-  pub ◌also◌ : {cs ds : List Content} {xs ys : List X} → States kind cs xs → States kind ds ys → States kind (cs ++ ds) (xs ++ ys)
-  ◌also◌ {cs} {ds} first second = record { contents_are = filter_map-append kind cs ds ∙ (λ i. first.contents_are i ++ second.contents_are i) }
+  pub ◌also◌ : {cs ds : List Content} {xs ys : List X} → States kind cs xs → States kind ds ys
+      → States kind (cs ++ ds) (xs ++ ys)
+  ◌also◌ {cs} {ds} first second =
+      record { contents_are = filter_map-append kind cs ds ∙ (λ i. first.contents_are i ++ second.contents_are i) }
 
   pub states_same : {cs : List Content} {xs ys : List X} → xs ≡ ys → States kind cs xs → States kind cs ys
   states_same e states = record { contents_are = states.contents_are ∙ e }
 
 -- statements say what their contents say
-pub each_in-contents : {X : Type 0} (kind : Content → Option X) (statements : List Statement) → each_in kind statements ≡ filter_map kind (contents_of statements)
+pub each_in-contents : {X : Type 0} (kind : Content → Option X) (statements : List Statement)
+    → each_in kind statements ≡ filter_map kind (contents_of statements)
 each_in-contents kind [] = refl
 each_in-contents kind (x ∷ xs) = ap (λ r. cons_option (kind x.content) r) (each_in-contents kind xs)

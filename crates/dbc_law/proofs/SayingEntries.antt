@@ -1,13 +1,14 @@
 -- What sections say that have one statement for each thing that is not empty: the entries that are kept.
-use Rattle.std.proofs.Common.{◌≡◌, ◌==◌, ◌++◌, ℕ, Bool, true, false, not, cond, List, [], ◌∷◌, Option, Some, if◌then◌else◌, true≢false, refl, sym, arith}
+use Rattle.std.proofs.Common.{◌≡◌, ◌==◌, ◌++◌, ℕ, Bool, true, false, not, cond, List, [], ◌∷◌, Option, Some}
+use Rattle.std.proofs.Common.{if◌then◌else◌, true≢false, refl, sym, arith}
 use Rattle.std.specs.List.{flat_map}
 use Rattle.std.proofs.lemmas.Bool.Decides.{nat_tests}
 use Rattle.std.proofs.lemmas.List.Elements.{filter-append}
+use Rattle.dbc_words.specs.ValueType.{value_type_number}
+use Rattle.dbc_words.specs.declared.value_type.ValueType.{ValueType}
+use Rattle.dbc_words.specs.declared.value_type.ValueType.TheVariants.{Integer, Float, Double}
 use Rattle.dbc_grammar.specs.Statement.{Content, ValueTextsAre}
-use Rattle.catalogue.specs.ValueType.{value_type_number}
-use Rattle.catalogue.specs.declared.value_texts.ValueText.{ValueText}
-use Rattle.catalogue.specs.declared.value_type.ValueType.{ValueType}
-use Rattle.catalogue.specs.declared.value_type.ValueType.TheVariants.{Integer, Float, Double}
+use Rattle.dbc_sheet.specs.declared.value_texts.ValueText.{ValueText}
 use Rattle.dbc_grammar.proofs.EachStated.{kept_entries}
 use Rattle.dbc_grammar.proofs.SheetStated.{entries, part_entries}
 use Rattle.dbc_law.proofs.Contents.{comments, texts}
@@ -45,12 +46,14 @@ entry keep k v = cond keep ((k, v) ∷ []) []
 
 module _ {K : Type 0} where
   -- what is left out where a test holds
-  pub chosen_states : {V : Type 0} {kind : Content → Option (K × V)} (test : Bool) (c : Content) (k : K) (v : V) → kind c ≡ Some (k, v)
+  pub chosen_states : {V : Type 0} {kind : Content → Option (K × V)} (test : Bool) (c : Content) (k : K) (v : V)
+      → kind c ≡ Some (k, v)
       → States kind (if test then [] else (c ∷ [])) (entry (not test) k v)
   chosen_states true c k v e = no_contents
   chosen_states false c k v e = speaks e no_contents
 
-  pub comment_states : {kind : Content → Option (K × List ℕ)} (says : List ℕ → Content) (k : K) → ((t : List ℕ) → kind (says t) ≡ Some (k, t))
+  pub comment_states : {kind : Content → Option (K × List ℕ)} (says : List ℕ → Content) (k : K)
+      → ((t : List ℕ) → kind (says t) ≡ Some (k, t))
       → (t : List ℕ) → States kind (comments says t) (entry (some_of t) k t)
   comment_states says k e [] = no_contents
   comment_states says k e (b ∷ bs) = speaks (e (b ∷ bs)) no_contents
@@ -65,19 +68,24 @@ module _ {K : Type 0} where
 
 module _ {K V : Type 0} {kind : Content → Option (K × V)} (keep : V → Bool) where
   pub each_states : {A : Type 0} (key : A → K) (value : A → V) (says : A → List Content)
-      → ((x : A) → States kind (says x) (entry (keep (value x)) (key x) (value x))) → (xs : List A) → States kind (flat_map says xs) (kept_entries keep (entries key value xs))
+      → ((x : A) → States kind (says x) (entry (keep (value x)) (key x) (value x))) → (xs : List A)
+      → States kind (flat_map says xs) (kept_entries keep (entries key value xs))
   each_states key value says each [] = no_contents
-  each_states key value says each (x ∷ xs) = states_same (by (keep (value x))) (each x also each_states key value says each xs)
+  each_states key value says each (x ∷ xs) =
+      states_same (by (keep (value x))) (each x also each_states key value says each xs)
     where
       by : (b : Bool) → entry b (key x) (value x) ++ kept_entries keep (entries key value xs)
-          ≡ cond b ((key x, value x) ∷ kept_entries keep (entries key value xs)) (kept_entries keep (entries key value xs))
+          ≡ cond b ((key x, value x) ∷ kept_entries keep (entries key value xs))
+          (kept_entries keep (entries key value xs))
       by true = refl
       by false = refl
 
   -- and those of the parts of each thing in a list
   pub parts_state : {M S : Type 0} (parts : M → List S) (key : M → S → K) (value : S → V) (says : M → List Content)
-      → ((m : M) → States kind (says m) (kept_entries keep (entries (key m) value (parts m)))) → (ms : List M) → States kind (flat_map says ms) (kept_entries keep (part_entries parts key value ms))
+      → ((m : M) → States kind (says m) (kept_entries keep (entries (key m) value (parts m)))) → (ms : List M)
+      → States kind (flat_map says ms) (kept_entries keep (part_entries parts key value ms))
   parts_state parts key value says each [] = no_contents
   parts_state parts key value says each (m ∷ ms) =
-      states_same (sym (filter-append (λ (e : K × V). keep e.1) (entries (key m) value (parts m)) (part_entries parts key value ms)))
+      states_same (sym (filter-append (λ (e : K × V). keep e.1) (entries (key m) value (parts m))
+      (part_entries parts key value ms)))
       (each m also parts_state parts key value says each ms)

@@ -1,17 +1,18 @@
 -- What follows a statement or a signal is a keyword, at which no list of nodes goes on.
-use Rattle.std.proofs.Common.{◌≡◌, ◌&&◌, ◌∙◌, ℕ, true, false, not, List, [], ◌∷◌, length, is_some, nat_le, refl, sym, ap}
+use Rattle.std.proofs.Common.{◌≡◌, ◌&&◌, ◌∙◌, ℕ, true, false, not, List, [], ◌∷◌, length, is_some, nat_le, refl, sym}
+use Rattle.std.proofs.Common.{ap}
 use Rattle.std.specs.Prelude.{codes}
 use Rattle.std.specs.Str.{bytes_eq}
 use Rattle.std.proofs.lemmas.Bool.{and_left, and_parts, and_right, false_from_ne_true, false≢true, not_from_true}
 use Rattle.std.proofs.lemmas.Slice.Eq.{bytes_eq-Decides}
+use Rattle.dbc_words.specs.Keyword.{is_keyword}
+use Rattle.dbc_words.specs.Limits.{name_limit}
+use Rattle.dbc_words.specs.Name.{is_c_identifier, is_name, no_node}
+use Rattle.dbc_words.specs.declared.keyword.Keyword.TheVariants.{Signal}
 use Rattle.dbc_grammar.specs.Canon.{space, word}
 use Rattle.dbc_grammar.specs.Fields.{is_key, key_of}
 use Rattle.dbc_grammar.specs.Grammar.{next}
-use Rattle.catalogue.specs.Keyword.{is_keyword}
-use Rattle.catalogue.specs.Limits.{name_limit}
-use Rattle.catalogue.specs.Name.{is_c_identifier, is_name, no_node}
 use Rattle.dbc_grammar.specs.Token.{Token}
-use Rattle.catalogue.specs.declared.keyword.Keyword.TheVariants.{Signal}
 use Rattle.dbc_grammar.specs.declared.token.TokenKind.TheVariants.{Name}
 use Rattle.dbc_grammar.proofs.ExactFields.{kind_is}
 use Rattle.dbc_grammar.proofs.ExactLines.{next_name}
@@ -22,7 +23,8 @@ keyword_is_no_name : (w : List ℕ) → is_keyword w ≡ true → is_name w ≡ 
 unfolding is_name
 keyword_is_no_name w h =
     let known = is_c_identifier w && nat_le (length w) name_limit in
-    and_left (known && not (is_keyword w)) (not (bytes_eq w no_node)) (and_right known (not (is_keyword w)) (not_from_true (is_keyword w) h))
+    and_left (known && not (is_keyword w)) (not (bytes_eq w no_node))
+    (and_right known (not (is_keyword w)) (not_from_true (is_keyword w) h))
 
 keyword_is_some_node : (w : List ℕ) → is_keyword w ≡ true → bytes_eq w no_node ≡ false
 keyword_is_some_node w h =

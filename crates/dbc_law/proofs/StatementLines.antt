@@ -3,13 +3,13 @@ use Rattle.std.proofs.Common.{◌≡◌, ◌++◌, ◌∙◌, Bool, true, false,
 use Rattle.std.specs.List.{All, flat_map}
 use Rattle.std.specs.Option.{option_map}
 use Rattle.std.proofs.lemmas.List.Elements.{All-head, All-tail}
+use Rattle.dbc_words.specs.Keyword.{keyword_text}
+use Rattle.dbc_words.specs.declared.keyword.Keyword.{Keyword}
 use Rattle.dbc_grammar.specs.Canon.{Line, Piece, tight, word}
 use Rattle.dbc_grammar.specs.Grammar as grammar
-use Rattle.catalogue.specs.Keyword.{keyword_text}
 use Rattle.dbc_grammar.specs.Rules.{Rule, many}
 use Rattle.dbc_grammar.specs.Statement.{Content, Statement}
 use Rattle.dbc_grammar.specs.Token.{Token}
-use Rattle.catalogue.specs.declared.keyword.Keyword.{Keyword}
 use Rattle.dbc_grammar.proofs.ExactStatements.{keyword_back}
 use Rattle.dbc_law.proofs.PieceTokens.{Front, line, lines, many_append, many_parts, token_of}
 use Rattle.dbc_law.proofs.StatementRules.{chain, finish}
@@ -26,7 +26,8 @@ means = λ ts c rest. Means ts c rest
 -- If the tokens of these lines come before the end or a keyword other than `SG_`, they form statements of these
 -- contents, and begin with such a keyword.
 pub record Writes (ls : List Line) (cs : List Content) : Type 0 where
-  pub written : (ts rest : List Token) → lines ts ls rest → grammar.next rest ≡ true → many means ts cs rest × (grammar.next ts ≡ true)
+  pub written : (ts rest : List Token) → lines ts ls rest → grammar.next rest ≡ true → many means ts cs rest
+      × (grammar.next ts ≡ true)
 
 -- ---- lines after others
 
@@ -43,13 +44,15 @@ pub ◌also◌ : {ls ms : List Line} {cs ds : List Content} → Writes ls cs →
       (many_append means ts cs ds middle rest here others, start);
 }
 
-module _ {A : Type 0} (P : A → Type 0) (ls : A → List Line) (cs : A → List Content) (each : (x : A) → P x → Writes (ls x) (cs x)) where
+module _ {A : Type 0} (P : A → Type 0) (ls : A → List Line) (cs : A → List Content)
+    (each : (x : A) → P x → Writes (ls x) (cs x)) where
   pub writes_each : (xs : List A) → All P xs → Writes (flat_map ls xs) (flat_map cs xs)
   writes_each [] h = writes_none
   writes_each (x ∷ xs) h = each x (All-head P x xs h) also writes_each xs (All-tail P x xs h)
 
 -- a line that is left out where the test holds, with its statement
-pub writes_unless : (test : Bool) (l : Line) (c : Content) → Writes (l ∷ []) (c ∷ []) → Writes (if test then [] else (l ∷ [])) (if test then [] else (c ∷ []))
+pub writes_unless : (test : Bool) (l : Line) (c : Content) → Writes (l ∷ []) (c ∷ [])
+    → Writes (if test then [] else (l ∷ [])) (if test then [] else (c ∷ []))
 writes_unless true l c h = writes_none
 writes_unless false l c h = h
 
@@ -59,12 +62,18 @@ abbrev pub keyword_piece : Keyword → Piece
 keyword_piece k = word tight (keyword_text k)
 
 -- if the tokens of its keyword and of its line come there
-pub statement_is_read : (k : Keyword) (c : Content) (ts middle rest : List Token) → Front ts (keyword_piece k) middle → grammar.line k middle c rest → Means ts c rest
+pub statement_is_read : (k : Keyword) (c : Content) (ts middle rest : List Token) → Front ts (keyword_piece k) middle
+    → grammar.line k middle c rest → Means ts c rest
 unfolding grammar.statement
 statement_is_read k c ts middle rest f after = record {
   is = record { start = f.start; keyword = k; content = c };
   there = chain (f.start, k) middle
-      (record { first = token_of (keyword_piece k) f.start f.end; front = f.front; value = ap (option_map (λ (j : Keyword). (f.start, j))) (keyword_back k) })
+      (record {
+        first = token_of (keyword_piece k) f.start f.end;
+        front = f.front;
+        value =
+            ap (option_map (λ (j : Keyword). (f.start, j))) (keyword_back k);
+      })
       (chain c rest after (finish refl));
   content = refl;
 }
@@ -73,12 +82,14 @@ statement_is_read k c ts middle rest f after = record {
 abbrev pub BeginsNext : Keyword → Type 0
 BeginsNext k = grammar.begins_next (token_of (keyword_piece k) 0 0) ≡ true
 
-pub begins_next : (k : Keyword) (ts middle : List Token) → BeginsNext k → Front ts (keyword_piece k) middle → grammar.next ts ≡ true
+pub begins_next : (k : Keyword) (ts middle : List Token) → BeginsNext k → Front ts (keyword_piece k) middle
+    → grammar.next ts ≡ true
 begins_next k ts middle e f = ap grammar.next f.front ∙ e
 
 -- one line that is one statement
 pub writes_line : (k : Keyword) (ps : List Piece) (c : Content) → BeginsNext k
-    → ((ts rest : List Token) → line ts ps rest → grammar.next rest ≡ true → grammar.line k ts c rest) → Writes ((keyword_piece k ∷ ps) ∷ []) (c ∷ [])
+    → ((ts rest : List Token) → line ts ps rest → grammar.next rest ≡ true → grammar.line k ts c rest)
+    → Writes ((keyword_piece k ∷ ps) ∷ []) (c ∷ [])
 writes_line k ps c begins reads = record {
   written = λ ts rest (end, (middle, word, after), same) next.
       let there = reads middle end after (ap grammar.next (sym same) ∙ next) in

@@ -1,19 +1,20 @@
 -- Messages with their signals are statements.
-use Rattle.std.proofs.Common.{◌≡◌, ◌∙◌, ℕ, true, List, [], ◌∷◌, map, Option, Some, None, IfSome, unwrap_or, refl, sym, ap, inl, arith}
+use Rattle.std.proofs.Common.{◌≡◌, ◌∙◌, ℕ, true, List, [], ◌∷◌, map, Option, Some, None, IfSome, unwrap_or, refl, sym}
+use Rattle.std.proofs.Common.{ap, inl, arith}
 use Rattle.std.specs.List.{All, flat_map}
 use Rattle.std.proofs.lemmas.List.Elements.{All-head, All-tail}
+use Rattle.dbc_words.specs.Limits.{length_limit}
+use Rattle.dbc_words.specs.Name.{IsName, no_node}
+use Rattle.dbc_words.specs.declared.keyword.Keyword.TheVariants as keyword
 use Rattle.dbc_grammar.specs.Canon as canon
 use Rattle.dbc_grammar.specs.Fields.{goes_on, message_ident, node_of, signal}
-use Rattle.catalogue.specs.Form.{IsMessage, IsSignal}
+use Rattle.dbc_sheet.specs.Form.{IsMessage, IsSignal}
 use Rattle.dbc_grammar.specs.Grammar as grammar
-use Rattle.catalogue.specs.Limits.{length_limit}
-use Rattle.catalogue.specs.Messages.{number_of}
-use Rattle.catalogue.specs.Name.{IsName, no_node}
+use Rattle.dbc_sheet.specs.Messages.{number_of}
 use Rattle.dbc_grammar.specs.Rules.{many}
 use Rattle.dbc_grammar.specs.Token.{Token}
-use Rattle.catalogue.specs.declared.keyword.Keyword.TheVariants as keyword
-use Rattle.catalogue.specs.declared.message.Message.{Message}
-use Rattle.catalogue.specs.declared.signal.Signal.{Signal}
+use Rattle.dbc_sheet.specs.declared.message.Message.{Message}
+use Rattle.dbc_sheet.specs.declared.signal.Signal.{Signal}
 use Rattle.dbc_law.proofs.Contents.{message, signal_line}
 use Rattle.dbc_law.proofs.MessageNumbers.{number_ident, number_small}
 use Rattle.dbc_law.proofs.PieceTokens.{line, lines, token_of}
@@ -26,10 +27,12 @@ use Rattle.dbc_law.proofs.StatementWords.{says_at_most, says_made, says_node, wh
 
 -- ---- what the words of the message's own line say
 
-says_message_ident : (m : Message) → IsMessage m → (start end : ℕ) → message_ident (token_of (canon.number canon.space (number_of m)) start end) ≡ Some m.ident
+says_message_ident : (m : Message) → IsMessage m → (start end : ℕ)
+    → message_ident (token_of (canon.number canon.space (number_of m)) start end) ≡ Some m.ident
 says_message_ident m h start end = rw (whole_decimal (number_of m) (number_small m h), number_ident m h) refl
 
-says_transmitter : (t : Option (List ℕ)) → IfSome t IsName → (start end : ℕ) → node_of (token_of (canon.word canon.space (unwrap_or t no_node)) start end) ≡ Some t
+says_transmitter : (t : Option (List ℕ)) → IfSome t IsName → (start end : ℕ)
+    → node_of (token_of (canon.word canon.space (unwrap_or t no_node)) start end) ≡ Some t
 says_transmitter None h start end = refl
 says_transmitter (Some n) h start end = says_node canon.space n h start end
 
@@ -39,19 +42,23 @@ signal_starts : (s : Signal) (ts middle : List Token) → line ts (canon.signal_
 signal_starts s ts middle (after, word, others) = ap goes_on word.front ∙ signal_ends word.start word.end after
 
 -- each ends where no list of receivers goes on: at the next one, or at what follows the last
-signals_read : (signals : List Signal) (ts rest : List Token) → All IsSignal signals → lines ts (map canon.signal_line signals) rest → EndsList rest
+signals_read : (signals : List Signal) (ts rest : List Token) → All IsSignal signals
+    → lines ts (map canon.signal_line signals) rest → EndsList rest
     → many signal ts (map signal_line signals) rest × EndsList ts
 signals_read [] ts rest h same end = (same, ap goes_on (sym same) ∙ end)
 signals_read (s ∷ signals) ts rest h (middle, first, others) end =
-    let (after, ends_here) = signals_read signals middle rest (All-tail IsSignal s signals h) others end in
-    ((middle, signal_reads s ts middle (All-head IsSignal s signals h) first ends_here, after), signal_starts s ts middle first)
+    let (after, ends_here) = signals_read signals middle rest (All-tail IsSignal s signals h) others end in (
+      (middle, signal_reads s ts middle (All-head IsSignal s signals h) first ends_here, after),
+      signal_starts s ts middle first,
+    )
 
 -- ---- the statement
 
 message_is_read : (m : Message) → IsMessage m → (ts middle rest : List Token) → line ts (canon.message_line m) middle
     → many signal middle (map signal_line m.signals) rest → Means ts (message m) rest
 unfolding grammar.line grammar.message_line
-message_is_read m h ts middle rest (a, word, (b, number, (c, name, (d, colon, (e, length, (f, transmitter, same)))))) signals =
+message_is_read m h ts middle rest (a, word, (b, number, (c, name, (d, colon, (e, length, (f, transmitter, same))))))
+    signals =
     statement_is_read keyword.Message (message m) ts a rest word
     (inl (past number (says_message_ident m h)
     (past name (says_made canon.space m.name h.named)
@@ -70,6 +77,8 @@ message_writes m h = record {
       ((rest, message_is_read m h ts middle rest head there, refl), message_starts m ts middle head);
 }
 
-pub messages_write : (messages : List Message) → All IsMessage messages → Writes (flat_map canon.message_lines messages) (map message messages)
+pub messages_write : (messages : List Message) → All IsMessage messages
+    → Writes (flat_map canon.message_lines messages) (map message messages)
 messages_write [] h = writes_none
-messages_write (m ∷ messages) h = message_writes m (All-head IsMessage m messages h) also messages_write messages (All-tail IsMessage m messages h)
+messages_write (m ∷ messages) h = message_writes m (All-head IsMessage m messages h) also messages_write messages
+    (All-tail IsMessage m messages h)

@@ -11,17 +11,21 @@ pub read : {A : Type 0} {says : Token → Option A} {x : A} {p : Piece} {ts rest
 read {p} f e = record { first = token_of p f.start f.end; front = f.front; value = e f.start f.end }
 
 -- first one rule, then the others
-pub chain : {A B : Type 0} {rule : Rule A} {others : A → Rule B} {ts rest : List Token} {y : B} (x : A) (middle : List Token) → rule ts x middle
+pub chain : {A B : Type 0} {rule : Rule A} {others : A → Rule B} {ts rest : List Token} {y : B} (x : A)
+    (middle : List Token) → rule ts x middle
     → others x middle y rest → (rule >>= others) ts y rest
 chain x middle first more = record { value = x; middle = middle; begins = first; goes_on = more }
 
 -- first the token of the piece
-pub past : {A B : Type 0} {says : Token → Option A} {others : A → Rule B} {x : A} {p : Piece} {ts middle rest : List Token} {y : B} → Front ts p middle
-    → ((start end : ℕ) → says (token_of p start end) ≡ Some x) → others x middle y rest → (token says >>= others) ts y rest
+pub past : {A B : Type 0} {says : Token → Option A} {others : A → Rule B} {x : A} {p : Piece}
+    {ts middle rest : List Token} {y : B} → Front ts p middle
+    → ((start end : ℕ) → says (token_of p start end) ≡ Some x) → others x middle y rest
+    → (token says >>= others) ts y rest
 past {x} {middle} f e more = chain x middle (read f e) more
 
 -- first a look at what follows, which passes the test
-pub then_followed : {B : Type 0} {test : List Token → Bool} {others : Unit {0} → Rule B} {ts rest : List Token} {y : B} → test ts ≡ true
+pub then_followed : {B : Type 0} {test : List Token → Bool} {others : Unit {0} → Rule B} {ts rest : List Token} {y : B}
+    → test ts ≡ true
     → others tt ts y rest → (followed test >>= others) ts y rest
 then_followed {ts} e more = chain tt ts (record { passes = e; all = refl }) more
 

@@ -1,5 +1,6 @@
 -- What the tokens of pieces say.
-use Rattle.std.proofs.Common.{◌≡◌, ◌^◌, ◌<◌, ◌≤◌, ◌&&◌, ℕ, Bool, true, false, not, List, [], ◌∷◌, length, Some, Ok, refl, sym, ap, ◌∙◌, arith}
+use Rattle.std.proofs.Common.{◌≡◌, ◌^◌, ◌<◌, ◌≤◌, ◌&&◌, ℕ, Bool, true, false, not, List, [], ◌∷◌, length, Some, Ok}
+use Rattle.std.proofs.Common.{refl, sym, ap, ◌∙◌, arith}
 use Rattle.std.specs.Prelude.{nat_le}
 use Rattle.std.specs.Fmt.{decimal}
 use Rattle.std.specs.Int.{is_negative}
@@ -9,23 +10,24 @@ use Rattle.std.specs.Str.Parse.{IsNumeral, digits_value}
 use Rattle.std.proofs.lemmas.Bool.{and_parts, not-true}
 use Rattle.std.proofs.lemmas.Bool.Decides.{nat_tests}
 use Rattle.std.proofs.lemmas.Fmt.{decimal_is_IsNumeral}
+use Rattle.base.specs.WholeNumber.{is_numeral, whole_of}
+use Rattle.base.proofs.WholeNumbers.{numeral, whole_of-is}
 use Rattle.decimal.specs.Number.{IsDecimal, Number}
 use Rattle.decimal.specs.Reading.{reading}
 use Rattle.decimal.proofs.ReadsBack.{text_reads}
 use Rattle.decimal.proofs.Computed.{read_is_reading}
+use Rattle.dbc_words.specs.Keyword.{is_keyword}
+use Rattle.dbc_words.specs.Limits.{name_limit}
+use Rattle.dbc_words.specs.Name.{IsName, is_c_identifier, is_name, no_node}
 use Rattle.dbc_grammar.specs.Canon.{mark, number, quoted, space, word}
-use Rattle.dbc_grammar.specs.Fields.{cited_number, is_mark, made_name, node_of, number_of as decimal_of, text_of, whole_where}
-use Rattle.catalogue.specs.Form.{IsMessage}
-use Rattle.catalogue.specs.Keyword.{is_keyword}
-use Rattle.catalogue.specs.Messages.{number_of}
-use Rattle.catalogue.specs.Limits.{name_limit}
-use Rattle.catalogue.specs.Name.{IsName, is_c_identifier, is_name, no_node}
+use Rattle.dbc_grammar.specs.Fields.{cited_number, is_mark, made_name, node_of, number_of as decimal_of, text_of}
+use Rattle.dbc_grammar.specs.Fields.{whole_where}
+use Rattle.dbc_sheet.specs.Form.{IsMessage}
+use Rattle.dbc_sheet.specs.Messages.{number_of}
 use Rattle.dbc_grammar.specs.Rules.{only}
-use Rattle.catalogue.specs.WholeNumber.{is_numeral, whole_of}
-use Rattle.catalogue.specs.declared.message.Message.{Message}
+use Rattle.dbc_sheet.specs.declared.message.Message.{Message}
 use Rattle.dbc_grammar.proofs.SheetStated.{bytes_itself}
 use Rattle.dbc_grammar.proofs.TokenTexts.{inside_kept}
-use Rattle.catalogue.proofs.WholeNumbers.{numeral, whole_of-is}
 use Rattle.dbc_law.proofs.DecimalPieces.{digits, digits_piece}
 use Rattle.dbc_law.proofs.MessageNumbers.{number_small}
 use Rattle.dbc_law.proofs.PieceTokens.{token_of}
@@ -33,12 +35,14 @@ use Rattle.dbc_law.proofs.PieceTokens.{token_of}
 pub says_text : (gap text : List ℕ) (start end : ℕ) → text_of (token_of (quoted gap text) start end) ≡ Some text
 says_text gap text start end = ap Some (inside_kept text)
 
-pub says_mark : (gap : List ℕ) (m : ℕ) (start end : ℕ) → only (is_mark (m ∷ []) (token_of (mark gap (m ∷ [])) start end)) (tt {0}) ≡ Some (tt {0})
+pub says_mark : (gap : List ℕ) (m : ℕ) (start end : ℕ)
+    → only (is_mark (m ∷ []) (token_of (mark gap (m ∷ [])) start end)) (tt {0}) ≡ Some (tt {0})
 says_mark gap m start end = ap (λ b. only b tt) (bytes_itself (m ∷ []))
 
 -- ---- names
 
-pub says_made : (gap name : List ℕ) → IsName name → (start end : ℕ) → made_name (token_of (word gap name) start end) ≡ Some name
+pub says_made : (gap name : List ℕ) → IsName name → (start end : ℕ) → made_name (token_of (word gap name) start end)
+    ≡ Some name
 says_made gap name h start end = rw h refl
 
 is_some_node : (name : List ℕ) → IsName name → bytes_eq name no_node ≡ false
@@ -47,7 +51,8 @@ is_some_node name h =
     let known = is_c_identifier name && nat_le (length name) name_limit && not (is_keyword name) in
     not-true (bytes_eq name no_node) (and_parts known (not (bytes_eq name no_node)) h).1
 
-pub says_node : (gap name : List ℕ) → IsName name → (start end : ℕ) → node_of (token_of (word gap name) start end) ≡ Some (Some name)
+pub says_node : (gap name : List ℕ) → IsName name → (start end : ℕ)
+    → node_of (token_of (word gap name) start end) ≡ Some (Some name)
 says_node gap name h start end = rw (is_some_node name h, h) refl
 
 -- ---- whole numbers
@@ -56,7 +61,8 @@ digits_back : (n : ℕ) → n < 2 ^ 32 → IsNumeral 10 (decimal n) × (digits_v
 digits_back n h = decimal_is_IsNumeral n (omega (arith, h))
 
 pub whole_decimal : (n : ℕ) → n < 2 ^ 32 → whole_of (decimal n) ≡ Some n
-whole_decimal n h = let back = digits_back n h in sym (whole_of-is (decimal n) (Some n) ((back.0, rw back.1 h), sym back.1))
+whole_decimal n h = let back = digits_back n h in
+    sym (whole_of-is (decimal n) (Some n) ((back.0, rw back.1 h), sym back.1))
 
 pub says_where : (test : ℕ → Bool) (gap : List ℕ) (n : ℕ) → n < 2 ^ 32 → test n ≡ true
     → (start end : ℕ) → whole_where test (token_of (number gap n) start end) ≡ Some n
@@ -69,7 +75,8 @@ says_at_most limit gap n small h =
     says_where (λ m. nat_le m limit) gap n (omega (arith, small, h)) within
 
 -- the number of a message that another statement cites
-pub says_cited : (m : Message) → IsMessage m → (start end : ℕ) → cited_number (token_of (number space (number_of m)) start end) ≡ Some (Some (number_of m))
+pub says_cited : (m : Message) → IsMessage m → (start end : ℕ)
+    → cited_number (token_of (number space (number_of m)) start end) ≡ Some (Some (number_of m))
 says_cited m h start end =
     let text = decimal (number_of m) in
     let digits : is_numeral text ≡ true = (numeral text).1 (digits_back (number_of m) (number_small m h)).0 in
@@ -77,8 +84,10 @@ says_cited m h start end =
 
 -- ---- decimals
 
-pub says_number : (gap : List ℕ) (n : Number) (negative : Bool) → IsDecimal n → is_negative n.mantissa ≡ negative → (start end : ℕ)
+pub says_number : (gap : List ℕ) (n : Number) (negative : Bool) → IsDecimal n → is_negative n.mantissa ≡ negative
+    → (start end : ℕ)
     → decimal_of negative (token_of (digits_piece gap n) start end) ≡ Some n
 says_number gap n negative h e start end =
-    let read : Ok n ≡ reading (is_negative n.mantissa) (digits n) = read_is_reading (is_negative n.mantissa) (digits n) (Ok n) (text_reads n h) in
+    let read : Ok n ≡ reading (is_negative n.mantissa) (digits n) =
+    read_is_reading (is_negative n.mantissa) (digits n) (Ok n) (text_reads n h) in
     ap result_ok (sym (rw e at read))

@@ -2,12 +2,12 @@
 use Rattle.std.proofs.Common.{◌≡◌, List, [], ◌∷◌, refl}
 use Rattle.dbc_grammar.specs.Canon as canon
 use Rattle.dbc_grammar.specs.Division.{Divides}
-use Rattle.catalogue.specs.Form.{IsMessage, IsNode, IsSheet}
+use Rattle.dbc_sheet.specs.Form.{IsMessage, IsNode, IsSheet}
 use Rattle.dbc_grammar.specs.Grammar as grammar
 use Rattle.dbc_grammar.specs.Rules.{many}
 use Rattle.dbc_grammar.specs.Statement.{Content, Statement}
 use Rattle.dbc_grammar.specs.Token.{Token}
-use Rattle.catalogue.specs.declared.sheet.Sheet.{Sheet}
+use Rattle.dbc_sheet.specs.declared.sheet.Sheet.{Sheet}
 use Rattle.dbc_law.proofs.Contents as sheet_contents
 use Rattle.dbc_law.proofs.PieceTokens.{lines}
 use Rattle.dbc_law.proofs.StatementAttached.{spns_write, value_texts_write, value_types_write}
@@ -22,8 +22,10 @@ contents_write s h =
     also tables_write s.tables h.tables
     also messages_write s.messages h.messages
     also file_comment_writes s.comment
-    also writes_each IsNode canon.node_comment sheet_contents.node_comments (λ n _. node_comment_writes n) s.nodes h.nodes
-    also writes_each IsMessage canon.message_comments sheet_contents.message_comments message_comments_write s.messages h.messages
+    also writes_each IsNode canon.node_comment sheet_contents.node_comments (λ n _. node_comment_writes n) s.nodes
+    h.nodes
+    also writes_each IsMessage canon.message_comments sheet_contents.message_comments message_comments_write s.messages
+    h.messages
     also spns_write s h
     also value_texts_write s h
     also value_types_write s h
@@ -37,4 +39,5 @@ are_statements ts (c ∷ cs) rest (middle, first, others) =
 
 pub lines_divide : (s : Sheet) → IsSheet s → (ts : List Token) → lines ts (canon.canonical_lines s) []
     → (ss : List Statement) × Divides ts ss × (sheet_contents.contents_of ss ≡ sheet_contents.contents s)
-lines_divide s h ts are_lines = are_statements ts (sheet_contents.contents s) [] ((contents_write s h).written ts [] are_lines refl).0
+lines_divide s h ts are_lines =
+    are_statements ts (sheet_contents.contents s) [] ((contents_write s h).written ts [] are_lines refl).0

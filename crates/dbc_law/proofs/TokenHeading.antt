@@ -2,16 +2,18 @@
 use Rattle.std.proofs.Common.{List, [], ◌∷◌, map, refl}
 use Rattle.std.specs.List.{All}
 use Rattle.std.proofs.lemmas.List.Elements.{All-head, All-tail}
-use Rattle.dbc_grammar.specs.Canon.{entries, entry, nodes_line, space, symbols_line, table_line, timing_line, version_line, word}
-use Rattle.catalogue.specs.Form.{IsNode, IsSheet, IsTable, IsValueText}
-use Rattle.catalogue.specs.declared.keyword.Keyword.TheVariants as keyword
-use Rattle.catalogue.specs.declared.node.Node.{Node}
-use Rattle.catalogue.specs.declared.sheet.Sheet.{Sheet}
-use Rattle.catalogue.specs.declared.value_table.ValueTable.{ValueTable}
-use Rattle.catalogue.specs.declared.value_texts.ValueText.{ValueText}
+use Rattle.dbc_words.specs.declared.keyword.Keyword.TheVariants as keyword
+use Rattle.dbc_grammar.specs.Canon.{entries, entry, nodes_line, space, symbols_line, table_line, timing_line}
+use Rattle.dbc_grammar.specs.Canon.{version_line, word}
+use Rattle.dbc_sheet.specs.Form.{IsNode, IsSheet, IsTable, IsValueText}
+use Rattle.dbc_sheet.specs.declared.node.Node.{Node}
+use Rattle.dbc_sheet.specs.declared.sheet.Sheet.{Sheet}
+use Rattle.dbc_sheet.specs.declared.value_table.ValueTable.{ValueTable}
+use Rattle.dbc_sheet.specs.declared.value_texts.ValueText.{ValueText}
 use Rattle.dbc_law.proofs.TokenLegible.{AreLegible, CanFollow, each_follows, follow_append, no_pieces}
 use Rattle.dbc_law.proofs.TokenLines.{AreLegibleLines, line_of_each}
-use Rattle.dbc_law.proofs.TokenPieces.{keyword_line, mark_follows, name_follows, spaced_mark_follows, text_follows, value_follows}
+use Rattle.dbc_law.proofs.TokenPieces.{keyword_line, mark_follows, name_follows, spaced_mark_follows, text_follows}
+use Rattle.dbc_law.proofs.TokenPieces.{value_follows}
 
 -- ---- value tables
 
@@ -19,10 +21,12 @@ entry_follows : (v : ValueText) → IsValueText v → CanFollow (entry v)
 entry_follows v h = follow_append (value_follows v.value h.value) (text_follows v.text [] h.text tt)
 
 pub entries_follow : (vs : List ValueText) → All IsValueText vs → CanFollow (entries vs)
-entries_follow vs h = follow_append (each_follows IsValueText entry entry_follows vs h) (spaced_mark_follows 59 [] refl tt)
+entries_follow vs h = follow_append (each_follows IsValueText entry entry_follows vs h)
+    (spaced_mark_follows 59 [] refl tt)
 
 table_legible : (t : ValueTable) → IsTable t → AreLegible (table_line t)
-table_legible t h = keyword_line keyword.ValueTable _ (name_follows t.name _ h.named (entries_follow t.entries h.entries))
+table_legible t h = keyword_line keyword.ValueTable _
+    (name_follows t.name _ h.named (entries_follow t.entries h.entries))
 
 pub tables_legible : (tables : List ValueTable) → All IsTable tables → AreLegibleLines (map table_line tables)
 tables_legible tables h = line_of_each IsTable table_line table_legible tables h
@@ -31,9 +35,11 @@ tables_legible tables h = line_of_each IsTable table_line table_legible tables h
 
 names_follow : (nodes : List Node) → All IsNode nodes → CanFollow (map (λ (n : Node). word space n.name) nodes)
 names_follow [] h = no_pieces
-names_follow (n ∷ nodes) h = name_follows n.name _ (All-head IsNode n nodes h).named (names_follow nodes (All-tail IsNode n nodes h))
+names_follow (n ∷ nodes) h =
+    name_follows n.name _ (All-head IsNode n nodes h).named (names_follow nodes (All-tail IsNode n nodes h))
 
-pub heading_legible : (s : Sheet) → IsSheet s → AreLegibleLines (version_line s ∷ symbols_line ∷ timing_line ∷ nodes_line s ∷ [])
+pub heading_legible : (s : Sheet) → IsSheet s
+    → AreLegibleLines (version_line s ∷ symbols_line ∷ timing_line ∷ nodes_line s ∷ [])
 heading_legible s h =
     let version = keyword_line keyword.Version _ (text_follows s.version [] h.version tt) in
     let symbols = keyword_line keyword.NewSymbols _ (spaced_mark_follows 58 [] refl tt) in

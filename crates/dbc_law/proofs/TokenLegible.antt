@@ -40,7 +40,8 @@ breaks_before : (bytes more : List ℕ) → Breaks (bytes ++ 10 ∷ []) → Brea
 breaks_before [] more h k = k
 breaks_before (b ∷ bytes) more h k = h
 
-pub ends_before : (kind : TokenKind) (bytes more : List ℕ) → Ends kind (bytes ++ 10 ∷ []) → Breaks more → Ends kind (bytes ++ more)
+pub ends_before : (kind : TokenKind) (bytes more : List ℕ) → Ends kind (bytes ++ 10 ∷ []) → Breaks more
+    → Ends kind (bytes ++ more)
 ends_before Name bytes more h k = breaks_before bytes more h k
 ends_before Number bytes more h k = breaks_before bytes more h k
 ends_before Text bytes more h k = tt
@@ -52,13 +53,16 @@ line_text-append ps qs = simp (flat_map-append, append_assoc)
 legible_append : (ps qs : List Piece) → AreLegible ps → CanFollow qs → AreLegible (ps ++ qs)
 legible_append [] qs h more = more.legible
 legible_append (p ∷ ps) qs h more =
-    let ends = ends_before p.kind (pieces_text ps) (line_text qs) h.0.ends more.breaks in
-    (record { gap = h.0.gap; spelled = h.0.spelled; ends = subst (Ends p.kind) (sym (line_text-append ps qs)) ends }, legible_append ps qs h.1 more)
+    let ends = ends_before p.kind (pieces_text ps) (line_text qs) h.0.ends more.breaks in (
+      record { gap = h.0.gap; spelled = h.0.spelled; ends = subst (Ends p.kind) (sym (line_text-append ps qs)) ends },
+      legible_append ps qs h.1 more,
+    )
 
 pub follow_append : {ps qs : List Piece} → CanFollow ps → CanFollow qs → CanFollow (ps ++ qs)
 follow_append {ps} {qs} h more = record {
   legible = legible_append ps qs h.legible more;
-  breaks = subst Breaks (sym (line_text-append ps qs)) (breaks_before (pieces_text ps) (line_text qs) h.breaks more.breaks);
+  breaks = subst Breaks (sym (line_text-append ps qs))
+      (breaks_before (pieces_text ps) (line_text qs) h.breaks more.breaks);
 }
 
 module _ {A : Type 0} (P : A → Type 0) (pieces : A → List Piece) (each : (x : A) → P x → CanFollow (pieces x)) where

@@ -31,10 +31,13 @@ pub ◌also◌ : {ls ks : List Line} → AreLegibleLines ls → AreLegibleLines 
 ◌also◌ {ls} {ks} h k = lines_append ls ks h k
 
 module _ {A : Type 0} (P : A → Type 0) where
-  pub line_of_each : (line : A → Line) → ((x : A) → P x → AreLegible (line x)) → (xs : List A) → All P xs → AreLegibleLines (map line xs)
+  pub line_of_each : (line : A → Line) → ((x : A) → P x → AreLegible (line x)) → (xs : List A) → All P xs
+      → AreLegibleLines (map line xs)
   line_of_each line each [] h = no_lines
-  line_of_each line each (x ∷ xs) h = with_line (line x) (map line xs) (each x (All-head P x xs h)) (line_of_each line each xs (All-tail P x xs h))
+  line_of_each line each (x ∷ xs) h =
+      with_line (line x) (map line xs) (each x (All-head P x xs h)) (line_of_each line each xs (All-tail P x xs h))
 
-  pub lines_of_each : (lines : A → List Line) → ((x : A) → P x → AreLegibleLines (lines x)) → (xs : List A) → All P xs → AreLegibleLines (flat_map lines xs)
+  pub lines_of_each : (lines : A → List Line) → ((x : A) → P x → AreLegibleLines (lines x)) → (xs : List A) → All P xs
+      → AreLegibleLines (flat_map lines xs)
   lines_of_each lines each [] h = no_lines
   lines_of_each lines each (x ∷ xs) h = each x (All-head P x xs h) also lines_of_each lines each xs (All-tail P x xs h)

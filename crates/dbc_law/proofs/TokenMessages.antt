@@ -1,5 +1,6 @@
 -- The lines of messages and of their signals are legible.
-use Rattle.std.proofs.Common.{◌≡◌, ◌<◌, ◌^◌, ℕ, Bool, true, false, List, [], ◌∷◌, Option, Some, None, IfSome, unwrap_or, if◌then◌else◌, refl, arith}
+use Rattle.std.proofs.Common.{◌≡◌, ◌<◌, ◌^◌, ℕ, Bool, true, false, List, [], ◌∷◌, Option, Some, None, IfSome, unwrap_or}
+use Rattle.std.proofs.Common.{if◌then◌else◌, refl, arith}
 use Rattle.std.specs.List.{All}
 use Rattle.std.specs.Prelude.{codes}
 use Rattle.std.proofs.lemmas.List.Elements.{All-head, All-tail}
@@ -24,13 +25,13 @@ use Rattle.dbc_grammar.specs.Canon.{
   tight,
   word,
 }
-use Rattle.catalogue.specs.Form.{IsMessage, IsMux, IsSignal}
-use Rattle.catalogue.specs.Messages.{number_of}
-use Rattle.catalogue.specs.Name.{IsName, no_node}
+use Rattle.dbc_words.specs.Name.{IsName, no_node}
+use Rattle.dbc_words.specs.declared.keyword.Keyword.TheVariants as keyword
+use Rattle.dbc_sheet.specs.Form.{IsMessage, IsMux, IsSignal}
+use Rattle.dbc_sheet.specs.Messages.{number_of}
 use Rattle.dbc_grammar.specs.Spelling.{is_mark}
-use Rattle.catalogue.specs.declared.keyword.Keyword.TheVariants as keyword
-use Rattle.catalogue.specs.declared.message.Message.{Message}
-use Rattle.catalogue.specs.declared.signal.Signal.{Signal}
+use Rattle.dbc_sheet.specs.declared.message.Message.{Message}
+use Rattle.dbc_sheet.specs.declared.signal.Signal.{Signal}
 use Rattle.dbc_law.proofs.MessageNumbers.{number_small}
 use Rattle.dbc_law.proofs.TokenLegible.{AreLegible, CanFollow, each_follows, follow_append, no_pieces}
 use Rattle.dbc_law.proofs.TokenLines.{AreLegibleLines, line_of_each, with_line}
@@ -60,7 +61,9 @@ message_legible : (m : Message) → IsMessage m → AreLegible (message_line m)
 message_legible m h =
     let length_small : m.length < 2 ^ 32 = omega (arith, h.length) in
     let length = number_follows m.length _ length_small (transmitter_follows m.transmitter h.transmitter) in
-    keyword_line keyword.Message _ (number_follows (number_of m) _ (number_small m h) (name_follows m.name _ h.named (mark_follows 58 _ refl length.legible)))
+    keyword_line keyword.Message _
+    (number_follows (number_of m) _ (number_small m h)
+    (name_follows m.name _ h.named (mark_follows 58 _ refl length.legible)))
 
 -- ---- signals
 
@@ -82,10 +85,13 @@ layout_follows s h =
     let start_small : s.layout.start < 2 ^ 32 = omega (arith, h.layout.start) in
     let size_small : s.layout.size < 2 ^ 32 = omega (arith, h.layout.most) in
     let sign = sign_follows s.signed in
-    let order = mark_follows 64 _ refl (number_legible tight (order_number s.layout.order) _ refl (order_small s.layout.order) sign) in
-    number_follows s.layout.start _ start_small (mark_follows 124 _ refl (number_legible tight s.layout.size _ refl size_small order))
+    let order = mark_follows 64 _ refl
+    (number_legible tight (order_number s.layout.order) _ refl (order_small s.layout.order) sign) in
+    number_follows s.layout.start _ start_small
+    (mark_follows 124 _ refl (number_legible tight s.layout.size _ refl size_small order))
 
-pair_follows : (left between right : ℕ) (a b : Number) → is_mark left ≡ true → is_mark between ≡ true → is_mark right ≡ true → IsDecimal a → IsDecimal b
+pair_follows : (left between right : ℕ) (a b : Number) → is_mark left ≡ true → is_mark between ≡ true
+    → is_mark right ≡ true → IsDecimal a → IsDecimal b
     → CanFollow (pair (left ∷ []) (between ∷ []) (right ∷ []) a b)
 pair_follows left between right a b l m r ha hb =
     let first = spaced_mark_follows left _ l (value_legible tight a refl ha) in
@@ -98,7 +104,9 @@ further_follows name h = mark_follows 44 _ refl (word_legible tight name [] refl
 receivers_follow : (names : List (List ℕ)) → All IsName names → CanFollow (receiver_pieces names)
 receivers_follow [] h = word_follows no_node [] refl no_pieces
 receivers_follow (n ∷ names) h =
-    name_follows n _ (All-head IsName n names h) (each_follows IsName (λ r. mark tight (codes ",") ∷ word tight r ∷ []) further_follows names (All-tail IsName n names h))
+    name_follows n _ (All-head IsName n names h)
+    (each_follows IsName (λ r. mark tight (codes ",") ∷ word tight r ∷ []) further_follows names
+    (All-tail IsName n names h))
 
 signal_legible : (s : Signal) → IsSignal s → AreLegible (signal_line s)
 signal_legible s h =
@@ -109,7 +117,9 @@ signal_legible s h =
     (follow_append range (text_follows s.unit _ h.unit (receivers_follow s.receivers h.receivers).legible)).legible
 
 pub message_lines_legible : (m : Message) → IsMessage m → AreLegibleLines (message_lines m)
-message_lines_legible m h = with_line (message_line m) _ (message_legible m h) (line_of_each IsSignal signal_line signal_legible m.signals h.signals)
+message_lines_legible m h =
+    with_line (message_line m) _ (message_legible m h)
+    (line_of_each IsSignal signal_line signal_legible m.signals h.signals)
 
 -- ---- a signal as other lines cite it
 

@@ -11,14 +11,14 @@ use Rattle.std.proofs.lemmas.List.{append-nil}
 use Rattle.decimal.specs.Number.{IsDecimal, Number}
 use Rattle.decimal.specs.Spelling.{are_digits}
 use Rattle.decimal.proofs.ReadsBack.{IsSmall, decimal_digits, decimal_numeral, text_reads}
+use Rattle.dbc_words.specs.Keyword.{keyword_text}
+use Rattle.dbc_words.specs.Name.{IsName, continues_identifier, is_c_identifier, is_name}
+use Rattle.dbc_words.specs.Text.{IsText}
+use Rattle.dbc_words.specs.declared.keyword.Keyword.{Keyword}
+use Rattle.dbc_words.specs.declared.keyword.Keyword.TheVariants.{Version}
 use Rattle.dbc_grammar.specs.Canon.{Piece, line_text, mark, number, quoted, space, tight, value, word}
-use Rattle.catalogue.specs.Keyword.{keyword_text}
-use Rattle.catalogue.specs.Name.{IsName, continues_identifier, is_c_identifier, is_name}
 use Rattle.dbc_grammar.specs.Spelling.{Spells, is_mark}
-use Rattle.catalogue.specs.Text.{IsText}
 use Rattle.dbc_grammar.specs.Tokens.{IsGap}
-use Rattle.catalogue.specs.declared.keyword.Keyword.{Keyword}
-use Rattle.catalogue.specs.declared.keyword.Keyword.TheVariants.{Version}
 use Rattle.dbc_grammar.specs.declared.token.TokenKind.TheVariants.{Number as NumberKind}
 use Rattle.dbc_law.proofs.DecimalPieces.{digits, signed_pieces}
 use Rattle.dbc_law.proofs.TokenLegible.{AreLegible, CanFollow}
@@ -30,10 +30,12 @@ pub identifier : (name : List ℕ) → IsName name → is_c_identifier name ≡ 
 unfolding is_name
 identifier name h = grind arith
 
-pub word_legible : (gap name : List ℕ) (ps : List Piece) → IsGap gap → is_c_identifier name ≡ true → CanFollow ps → AreLegible (word gap name ∷ ps)
+pub word_legible : (gap name : List ℕ) (ps : List Piece) → IsGap gap → is_c_identifier name ≡ true → CanFollow ps
+    → AreLegible (word gap name ∷ ps)
 word_legible gap name ps gap_is h more = (record { gap = gap_is; spelled = h; ends = more.breaks }, more.legible)
 
-pub word_follows : (name : List ℕ) (ps : List Piece) → is_c_identifier name ≡ true → CanFollow ps → CanFollow (word space name ∷ ps)
+pub word_follows : (name : List ℕ) (ps : List Piece) → is_c_identifier name ≡ true → CanFollow ps
+    → CanFollow (word space name ∷ ps)
 word_follows name ps h more = record { legible = word_legible space name ps refl h more; breaks = refl }
 
 pub name_follows : (name : List ℕ) (ps : List Piece) → IsName name → CanFollow ps → CanFollow (word space name ∷ ps)
@@ -58,11 +60,19 @@ is_small n h = omega (arith, h)
 number_spelled : (n : ℕ) → n < 2 ^ 32 → Spells NumberKind (decimal n)
 number_spelled n h = (
   record { whole = decimal n; fraction = []; exponent = [] },
-  record { parts = sym (append-nil (decimal n)); whole = decimal_numeral n (is_small n h); fraction = refl; exponent = refl },
+  record {
+    parts = sym (append-nil (decimal n));
+    whole = decimal_numeral n (is_small n h);
+    fraction = refl;
+    exponent =
+        refl;
+  },
 )
 
-pub number_legible : (gap : List ℕ) (n : ℕ) (ps : List Piece) → IsGap gap → n < 2 ^ 32 → CanFollow ps → AreLegible (number gap n ∷ ps)
-number_legible gap n ps gap_is h more = (record { gap = gap_is; spelled = number_spelled n h; ends = more.breaks }, more.legible)
+pub number_legible : (gap : List ℕ) (n : ℕ) (ps : List Piece) → IsGap gap → n < 2 ^ 32 → CanFollow ps
+    → AreLegible (number gap n ∷ ps)
+number_legible gap n ps gap_is h more =
+    (record { gap = gap_is; spelled = number_spelled n h; ends = more.breaks }, more.legible)
 
 pub number_follows : (n : ℕ) (ps : List Piece) → n < 2 ^ 32 → CanFollow ps → CanFollow (number space n ∷ ps)
 number_follows n ps h more = record { legible = number_legible space n ps refl h more; breaks = refl }
@@ -76,7 +86,8 @@ multiplexed_identifier n h = digits_continue (decimal n) (decimal_digits n (is_s
 
     digits_continue : (ds : List ℕ) → are_digits ds ≡ true → list_all continues_identifier ds ≡ true
     digits_continue [] h = refl
-    digits_continue (d ∷ ds) h = let parts = and_parts (is_ascii_digit d) (are_digits ds) h in and_from _ _ (digit_continues d parts.0) (digits_continue ds parts.1)
+    digits_continue (d ∷ ds) h = let parts = and_parts (is_ascii_digit d) (are_digits ds) h in
+        and_from _ _ (digit_continues d parts.0) (digits_continue ds parts.1)
 
 -- ---- decimals
 
@@ -84,9 +95,12 @@ multiplexed_identifier n h = digits_continue (decimal n) (decimal_digits n (is_s
 digits_spelled : (n : Number) → IsDecimal n → Spells NumberKind (digits n)
 digits_spelled n h = let written = (text_reads n h).0 in (written.spelling, written.token)
 
-signed_legible : (negative : Bool) (gap : List ℕ) (n : Number) → IsGap gap → IsDecimal n → AreLegible (signed_pieces negative gap n)
-signed_legible true gap n gap_is h =
-    (record { gap = gap_is; spelled = (45, refl, refl); ends = tt }, (record { gap = refl; spelled = digits_spelled n h; ends = refl }, tt))
+signed_legible : (negative : Bool) (gap : List ℕ) (n : Number) → IsGap gap → IsDecimal n
+    → AreLegible (signed_pieces negative gap n)
+signed_legible true gap n gap_is h = (
+  record { gap = gap_is; spelled = (45, refl, refl); ends = tt },
+  (record { gap = refl; spelled = digits_spelled n h; ends = refl }, tt),
+)
 signed_legible false gap n gap_is h = (record { gap = gap_is; spelled = digits_spelled n h; ends = refl }, tt)
 
 spaced_breaks : (negative : Bool) (n : Number) → Breaks (line_text (signed_pieces negative space n))
@@ -102,16 +116,20 @@ value_follows n h = record { legible = value_legible space n refl h; breaks = sp
 -- ---- texts and marks, which end by themselves
 
 pub text_follows : (text : List ℕ) (ps : List Piece) → IsText text → AreLegible ps → CanFollow (quoted space text ∷ ps)
-text_follows text ps h more = record { legible = (record { gap = refl; spelled = (text, h, refl); ends = tt }, more); breaks = refl }
+text_follows text ps h more =
+    record { legible = (record { gap = refl; spelled = (text, h, refl); ends = tt }, more); breaks = refl }
 
 mark_breaks : (m : ℕ) → is_mark m ≡ true → continues_word m ≡ false
 mark_breaks m h = grind (arith, nat_tests)
 
 pub mark_follows : (m : ℕ) (ps : List Piece) → is_mark m ≡ true → AreLegible ps → CanFollow (mark tight (m ∷ []) ∷ ps)
-mark_follows m ps h more = record { legible = (record { gap = refl; spelled = (m, h, refl); ends = tt }, more); breaks = mark_breaks m h }
+mark_follows m ps h more =
+    record { legible = (record { gap = refl; spelled = (m, h, refl); ends = tt }, more); breaks = mark_breaks m h }
 
-pub spaced_mark_follows : (m : ℕ) (ps : List Piece) → is_mark m ≡ true → AreLegible ps → CanFollow (mark space (m ∷ []) ∷ ps)
-spaced_mark_follows m ps h more = record { legible = (record { gap = refl; spelled = (m, h, refl); ends = tt }, more); breaks = refl }
+pub spaced_mark_follows : (m : ℕ) (ps : List Piece) → is_mark m ≡ true → AreLegible ps
+    → CanFollow (mark space (m ∷ []) ∷ ps)
+spaced_mark_follows m ps h more =
+    record { legible = (record { gap = refl; spelled = (m, h, refl); ends = tt }, more); breaks = refl }
 
 -- the `;` that ends many lines
 pub end_follows : CanFollow (mark tight (codes ";") ∷ [])

@@ -1,10 +1,10 @@
 -- The canonical text of a sheet has the tokens that its lines list.
 use Rattle.std.proofs.Common.{List, []}
 use Rattle.dbc_grammar.specs.Canon.{canonical_lines, canonical_text, message_comments, message_lines, node_comment}
-use Rattle.catalogue.specs.Form.{IsMessage, IsNode, IsSheet}
+use Rattle.dbc_sheet.specs.Form.{IsMessage, IsNode, IsSheet}
 use Rattle.dbc_grammar.specs.Token.{Token}
 use Rattle.dbc_grammar.specs.Tokens.{HasTokens}
-use Rattle.catalogue.specs.declared.sheet.Sheet.{Sheet}
+use Rattle.dbc_sheet.specs.declared.sheet.Sheet.{Sheet}
 use Rattle.dbc_law.proofs.PieceTokens.{lines}
 use Rattle.dbc_law.proofs.TokenAttached.{spns_legible, value_texts_legible, value_types_legible}
 use Rattle.dbc_law.proofs.TokenComments.{comment_legible, message_comments_legible, node_comment_legible}
@@ -26,5 +26,6 @@ canonical_lines_legible s h =
     also value_texts_legible s h
     also value_types_legible s h
 
-pub text_has_tokens : (s : Sheet) → IsSheet s → (tokens : List Token) × HasTokens 0 (canonical_text s) tokens × lines tokens (canonical_lines s) []
+pub text_has_tokens : (s : Sheet) → IsSheet s → (tokens : List Token) × HasTokens 0 (canonical_text s) tokens
+    × lines tokens (canonical_lines s) []
 text_has_tokens s h = lines_have 0 (canonical_lines s) (canonical_lines_legible s h).each

@@ -1,5 +1,6 @@
 -- Where an exponent ends.
-use Rattle.std.proofs.Common.{◌≡◌, ◌≢◌, ℕ, zero, suc, ◌+◌, ◌-◌, ◌<◌, ◌≤◌, ◌⊎◌, Bool, true, false, true≢false, if◌then◌else◌, List, length, get_or, drop, inl, inr, refl, sym, ap, ◌∙◌, arith}
+use Rattle.std.proofs.Common.{◌≡◌, ◌≢◌, ℕ, zero, suc, ◌+◌, ◌-◌, ◌<◌, ◌≤◌, ◌⊎◌, Bool, true, false, true≢false}
+use Rattle.std.proofs.Common.{if◌then◌else◌, List, length, get_or, drop, inl, inr, refl, sym, ap, ◌∙◌, arith}
 use Rattle.std.specs.Char.{is_ascii_digit}
 use Rattle.std.specs.List.{prefix_len}
 use Rattle.std.proofs.lemmas.List.{drop_more, get_or_past}
@@ -44,7 +45,8 @@ some_if false len h = absurd (true≢false (sym h))
 -- an exponent, and its digits after its letter and its sign
 module _ (source : List ℕ) where
   power_by : (sign : Bool) (at digits : ℕ) → digits ≡ (if sign then at + 1 else at)
-      → (if sign then with_front (prefix_len is_ascii_digit (drop (at + 1) source)) else prefix_len is_ascii_digit (drop at source))
+      → (if sign then with_front (prefix_len is_ascii_digit (drop (at + 1) source)) else prefix_len is_ascii_digit
+      (drop at source))
       ≡ after_front (digits - at) (prefix_len is_ascii_digit (drop digits source))
   power_by true at digits is =
       let one : digits - at ≡ 1 = omega (arith, is) in
@@ -55,7 +57,8 @@ module _ (source : List ℕ) where
 
   power_here : (at : ℕ) → (at < length source) ⊎ (length source ≤ at)
       → power_len (drop at source)
-      ≡ (if is_sign (get_or source at 0) then with_front (prefix_len is_ascii_digit (drop (at + 1) source)) else prefix_len is_ascii_digit (drop at source))
+      ≡ (if is_sign (get_or source at 0) then with_front (prefix_len is_ascii_digit (drop (at + 1) source))
+      else prefix_len is_ascii_digit (drop at source))
   unfolding power_len
   power_here at (inl there) =
       let sign = is_sign (get_or source at 0) in
@@ -66,13 +69,16 @@ module _ (source : List ℕ) where
 
   power_is : (at digits : ℕ) → digits ≡ (if is_sign (get_or source at 0) then at + 1 else at)
       → power_len (drop at source) ≡ after_front (digits - at) (prefix_len is_ascii_digit (drop digits source))
-  power_is at digits is = power_here at (cases_lt at (length source)) ∙ power_by (is_sign (get_or source at 0)) at digits is
+  power_is at digits is = power_here at (cases_lt at (length source))
+      ∙ power_by (is_sign (get_or source at 0)) at digits is
 
   -- no exponent
-  pub no_exponent : (at : ℕ) → at < length source → is_letter_e (get_or source at 0) ≡ false → at ≡ at + exponent_len (drop at source)
+  pub no_exponent : (at : ℕ) → at < length source → is_letter_e (get_or source at 0) ≡ false
+      → at ≡ at + exponent_len (drop at source)
   unfolding exponent_len
   no_exponent at there other =
-      let none : exponent_len (drop at source) ≡ 0 = ap exponent_len (drop_more source at 0 there) ∙ none_if (is_letter_e (get_or source at 0)) (with_front (power_len (drop (at + 1) source))) other in
+      let none : exponent_len (drop at source) ≡ 0 = ap exponent_len (drop_more source at 0 there)
+      ∙ none_if (is_letter_e (get_or source at 0)) (with_front (power_len (drop (at + 1) source))) other in
       omega (arith, none)
 
   pub no_exponent_at_end : (at : ℕ) → at ≡ length source → at ≡ at + exponent_len (drop at source)
@@ -84,17 +90,22 @@ module _ (source : List ℕ) where
   module _ (at digits end : ℕ) (there : at < length source) (letter : is_letter_e (get_or source at 0) ≡ true)
       (is : digits ≡ (if is_sign (get_or source (at + 1) 0) then at + 1 + 1 else at + 1)) (after : at + 1 ≤ digits)
       (ends : end ≡ digits + prefix_len is_ascii_digit (drop digits source)) where
-    exponent_is : exponent_len (drop at source) ≡ with_front (after_front (digits - (at + 1)) (prefix_len is_ascii_digit (drop digits source)))
+    exponent_is : exponent_len (drop at source)
+        ≡ with_front (after_front (digits - (at + 1)) (prefix_len is_ascii_digit (drop digits source)))
     unfolding exponent_len
-    exponent_is = ap exponent_len (drop_more source at 0 there) ∙ some_if (is_letter_e (get_or source at 0)) (with_front (power_len (drop (at + 1) source))) letter ∙ ap with_front (power_is (at + 1) digits is)
+    exponent_is = ap exponent_len (drop_more source at 0 there)
+        ∙ some_if (is_letter_e (get_or source at 0)) (with_front (power_len (drop (at + 1) source))) letter
+        ∙ ap with_front (power_is (at + 1) digits is)
 
     -- without digits it's none
     pub exponent_without_digits : end ≡ digits → at ≡ at + exponent_len (drop at source)
     exponent_without_digits h =
-        let none = exponent_is ∙ nothing (digits - (at + 1)) (prefix_len is_ascii_digit (drop digits source)) (omega (arith, ends, h)) in
+        let none = exponent_is ∙ nothing (digits - (at + 1)) (prefix_len is_ascii_digit (drop digits source))
+        (omega (arith, ends, h)) in
         omega (arith, none)
 
     pub exponent_with_digits : end ≢ digits → end ≡ at + exponent_len (drop at source)
     exponent_with_digits h =
-        let some = exponent_is ∙ something (digits - (at + 1)) (prefix_len is_ascii_digit (drop digits source)) (λ e. h (omega (arith, ends, e))) in
+        let some = exponent_is ∙ something (digits - (at + 1)) (prefix_len is_ascii_digit (drop digits source))
+        (λ e. h (omega (arith, ends, e))) in
         omega (arith, ends, some, after)

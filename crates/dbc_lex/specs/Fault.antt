@@ -2,7 +2,10 @@
 use Rattle.std.specs.Prelude.{◌≡◌, ℕ, List, codes}
 use Rattle.dbc_grammar.specs.Lexing as lexing
 use Rattle.dbc_lex.specs.declared.fault.ReadCode.{ReadCode}
-use Rattle.dbc_lex.specs.declared.fault.ReadCode.TheVariants.{DoubleNumber, DoubleName, TwoMultiplexors, TooMany, UnclosedText, StrayByte, Unexpected, UnknownStatement, ExtendedMultiplexing, Number, Identifier, Name, Length, Size, Memory}
+use Rattle.dbc_lex.specs.declared.fault.ReadCode.TheVariants.{DoubleNumber, DoubleName, TwoMultiplexors, TooMany}
+use Rattle.dbc_lex.specs.declared.fault.ReadCode.TheVariants.{UnclosedText, StrayByte, Unexpected, UnknownStatement}
+use Rattle.dbc_lex.specs.declared.fault.ReadCode.TheVariants.{ExtendedMultiplexing, Number, Identifier, Name, Length}
+use Rattle.dbc_lex.specs.declared.fault.ReadCode.TheVariants.{Size, Memory}
 use Rattle.dbc_lex.specs.declared.fault.ReadFault.{ReadFault}
 
 abbrev pub code_number : ReadCode → ℕ

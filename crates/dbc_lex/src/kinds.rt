@@ -1,6 +1,6 @@
 //! Which bytes begin a token of each kind, and which go on in a name.
 ghost use Rattle.std.specs.Prelude.{◌≡◌, false, slice_get, unwrap_or};
-ghost use Rattle.catalogue.specs.Name.{continues_identifier};
+ghost use Rattle.dbc_words.specs.Name.{continues_identifier};
 ghost use Rattle.dbc_lex.specs.Class.{class_of};
 ghost use Rattle.dbc_lex.specs.declared.kinds.Class.TheVariants.{Stray};
 

@@ -5,9 +5,9 @@ ghost use Rattle.std.specs.Prelude.{◌≡◌, ◌==◌, ◌||◌, ◌≤◌, �
 ghost use Rattle.std.specs.Bool.{if◌then◌else◌};
 ghost use Rattle.std.specs.Char.{is_ascii_digit};
 ghost use Rattle.std.specs.List.{prefix_len};
-ghost use Rattle.catalogue.specs.Name.{continues_identifier};
 ghost use Rattle.decimal.specs.Cutting.{fraction_len};
 ghost use Rattle.decimal.specs.Spelling.{is_letter_e, is_sign};
+ghost use Rattle.dbc_words.specs.Name.{continues_identifier};
 ghost use Rattle.dbc_grammar.specs.Spelling.{is_gap};
 ghost use Rattle.dbc_grammar.specs.Lexing.{kind_of, exponent_len, number_len, inside_len, tail_len, word_len};
 ghost use Rattle.dbc_grammar.specs.declared.token.TokenKind.TheVariants.{Mark, Number};

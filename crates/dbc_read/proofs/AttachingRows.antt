@@ -2,7 +2,7 @@
 use Rattle.std.proofs.Common.{◌≡◌, ◌+◌, ℕ, List, [], ◌∷◌, None, Some, refl, arith}
 use Rattle.std.specs.Prelude.{codes}
 use Rattle.can_id.specs.declared.ident.Ident.TheVariants.{Std}
-use Rattle.catalogue.specs.declared.signal.Signal.{Signal}
+use Rattle.dbc_sheet.specs.declared.signal.Signal.{Signal}
 use Rattle.dbc_read.specs.Attaching.{CitesSignalAt, at_index, changed_at, index_after}
 use Rattle.dbc_statements.specs.declared.statement.CitedSignal.{CitedSignal}
 use Rattle.dbc_statements.specs.declared.statement.Content.TheVariants as content
@@ -23,10 +23,14 @@ second_after_two : index_after {A = ℕ} (7 ∷ 8 ∷ []) 1 ≡ 3
 second_after_two = refl
 
 -- the only signal of message 7 is the first of the first message
-first_indices : (line : MessageLine) (s : Signal) (cited : CitedSignal) (text : List ℕ) → line.signals.items ≡ record s { name = codes "S" } ∷ []
-    → CitesSignalAt (record line { ident = Std 7 } ∷ []) (content.SignalComment (record cited { number = Some 7; name = record cited.name { now = codes "S" } }) text) (Some (record { message = 0; signal = 0 }))
+first_indices : (line : MessageLine) (s : Signal) (cited : CitedSignal) (text : List ℕ)
+    → line.signals.items ≡ record s { name = codes "S" } ∷ []
+    → CitesSignalAt (record line { ident = Std 7 } ∷ [])
+    (content.SignalComment (record cited { number = Some 7; name = record cited.name { now = codes "S" } }) text)
+    (Some (record { message = 0; signal = 0 }))
 first_indices line s cited text e = record { within = rw e (omega arith); index = rw e refl }
 
 -- and it has none where there are no messages
-no_indices : (cited : CitedSignal) (text : List ℕ) → CitesSignalAt [] (content.SignalComment (record cited { number = Some 7 }) text) None
+no_indices : (cited : CitedSignal) (text : List ℕ)
+    → CitesSignalAt [] (content.SignalComment (record cited { number = Some 7 }) text) None
 no_indices cited text = record { within = tt; index = refl }

@@ -3,6 +3,7 @@ use Rattle.std.proofs.Common.{◌≡◌, ◌∙◌, ℕ, List, Option, None, Som
 use Rattle.std.specs.Prelude.{IfOk, IfSome}
 use Rattle.std.proofs.lemmas.Option.{IfSome_then}
 use Rattle.std.proofs.lemmas.Result.{IfOk-at_ok}
+use Rattle.dbc_words.specs.declared.keyword.Keyword.{Keyword}
 use Rattle.dbc_grammar.specs.Division.{Divides}
 use Rattle.dbc_grammar.specs.Lexing.{Lexed, lexed}
 use Rattle.dbc_grammar.specs.Parsing.{statements_at}
@@ -11,8 +12,7 @@ use Rattle.dbc_grammar.specs.Saying.{Says, passed_by}
 use Rattle.dbc_grammar.specs.Statement.{Statement}
 use Rattle.dbc_grammar.specs.Token.{Token}
 use Rattle.dbc_grammar.specs.TokenLaw.{tokens_without_fault}
-use Rattle.catalogue.specs.declared.keyword.Keyword.{Keyword}
-use Rattle.catalogue.specs.declared.sheet.Sheet.{Sheet}
+use Rattle.dbc_sheet.specs.declared.sheet.Sheet.{Sheet}
 use Rattle.dbc_grammar.proofs.Divisions.{one_division, reading_is_exact}
 use Rattle.dbc_grammar.proofs.OneReading.{reads_only}
 use Rattle.dbc_grammar.proofs.TokenExact.{exact}
@@ -33,21 +33,28 @@ use Rattle.dbc_read.specs.declared.refusal.Refusal.{Refusal}
 use Rattle.dbc_read.proofs.FaultsRefuse.{refused_fault}
 use Rattle.dbc_read.proofs.SheetsStated.{says_built, says_nothing}
 
-pub no_tokens_left : (bytes source : List ℕ) (fault : ReadFault) → source ≡ bytes → EndsWith (lexed 0 source) fault → HasNoDivision bytes
-no_tokens_left bytes source fault same ends = no_tokens bytes fault (subst (λ (x : List ℕ). EndsWith (lexed 0 x) fault) same ends)
+pub no_tokens_left : (bytes source : List ℕ) (fault : ReadFault) → source ≡ bytes → EndsWith (lexed 0 source) fault
+    → HasNoDivision bytes
+no_tokens_left bytes source fault same ends =
+    no_tokens bytes fault (subst (λ (x : List ℕ). EndsWith (lexed 0 x) fault) same ends)
 
 module _ (bytes : List ℕ) where
   pub undivided : HasNoDivision bytes → ReadsAsNothing bytes
-  undivided none s (passed, r) = none r.statements (record { tokens = r.tokens; has_tokens = r.has_tokens; divides = r.divides })
+  undivided none s (passed, r) =
+      none r.statements (record { tokens = r.tokens; has_tokens = r.has_tokens; divides = r.divides })
 
   -- the tokens of a reader of this text, if it has no fault of tokens
-  pub all_tokens : (source : List ℕ) (tokens : List Token) → tokens ≡ (lexed 0 bytes).tokens → source ≡ bytes → (lexed 0 source).fault ≡ None → lexed 0 bytes ≡ tokens_without_fault tokens
-  all_tokens source tokens are same none = whole bytes tokens are (subst (λ (x : List ℕ). (lexed 0 x).fault ≡ None) same none)
+  pub all_tokens : (source : List ℕ) (tokens : List Token) → tokens ≡ (lexed 0 bytes).tokens → source ≡ bytes
+      → (lexed 0 source).fault ≡ None → lexed 0 bytes ≡ tokens_without_fault tokens
+  all_tokens source tokens are same none =
+      whole bytes tokens are (subst (λ (x : List ℕ). (lexed 0 x).fault ≡ None) same none)
 
   -- what the text is divided into is what its tokens are read as
-  pub stated_at : (tokens : List Token) → lexed 0 bytes ≡ tokens_without_fault tokens → (ss : List Statement) → IsDivided bytes ss → statements_at tokens ≡ Some ss
+  pub stated_at : (tokens : List Token) → lexed 0 bytes ≡ tokens_without_fault tokens → (ss : List Statement)
+      → IsDivided bytes ss → statements_at tokens ≡ Some ss
   stated_at tokens read ss d =
-      let same : d.tokens ≡ tokens = ap (λ (l : Lexed). l.tokens) (sym ((exact 0 bytes d.tokens).0 d.has_tokens) ∙ read) in
+      let same : d.tokens ≡ tokens =
+      ap (λ (l : Lexed). l.tokens) (sym ((exact 0 bytes d.tokens).0 d.has_tokens) ∙ read) in
       ap statements_at (sym same) ∙ (reading_is_exact d.tokens ss).0 d.divides
 
   module _ (ss : List Statement) (d : IsDivided bytes ss) where
@@ -72,7 +79,8 @@ module _ (bytes : List ℕ) where
 
     unstated : SaysNothing ss → ReadsAsNothing bytes
     unstated none s (passed, r) =
-        let same = same_statements r.statements (record { tokens = r.tokens; has_tokens = r.has_tokens; divides = r.divides }) in
+        let same = same_statements r.statements
+        (record { tokens = r.tokens; has_tokens = r.has_tokens; divides = r.divides }) in
         none s (subst (λ (us : List Statement). Says us s) same r.says)
 
     module _ (g : Gathered) (a : AreGathered ss g) where
@@ -85,16 +93,25 @@ module _ (bytes : List ℕ) where
       reads_none_at fault is = reads_none (refused_fault ss g a fault is)
 
       -- the sheet that is built of what is gathered
-      pub reads_built : (r : Reading) → IsBuilt g r.sheet → r.passed ≡ g.passed → ReadsAs bytes r.sheet (map start_and_keyword r.passed)
-      reads_built r built same = reads_as r.sheet _ (says_built ss g a r.sheet built) (ap (map start_and_keyword) same ∙ a.passed)
+      pub reads_built : (r : Reading) → IsBuilt g r.sheet → r.passed ≡ g.passed
+          → ReadsAs bytes r.sheet (map start_and_keyword r.passed)
+      reads_built r built same =
+          reads_as r.sheet _ (says_built ss g a r.sheet built) (ap (map start_and_keyword) same ∙ a.passed)
 
       pub reads_only_built : ReadsAsOneAtMost → (r : Reading) → IsBuilt g r.sheet → ReadsOnlyAs bytes r.sheet
       reads_only_built one r built = reads_one one r.sheet (says_built ss g a r.sheet built)
 
       -- Where the reading is what was built, if anything was.
       module _ (built : Result Reading Refusal) (found : Option Reading) where
-        pub found_reads : IfOk built (λ r. IsBuilt g r.sheet) → IfOk built (λ r. r.passed ≡ g.passed) → IfSome found (λ r. built ≡ Ok r) → IfSome found (λ r. ReadsAs bytes r.sheet (map start_and_keyword r.passed))
-        found_reads is passed some = IfSome_then found some (λ r e. reads_built r (IfOk-at_ok (λ (x : Reading). IsBuilt g x.sheet) e is) (IfOk-at_ok (λ (x : Reading). x.passed ≡ g.passed) e passed))
+        pub found_reads : IfOk built (λ r. IsBuilt g r.sheet) → IfOk built (λ r. r.passed ≡ g.passed)
+            → IfSome found (λ r. built ≡ Ok r)
+            → IfSome found (λ r. ReadsAs bytes r.sheet (map start_and_keyword r.passed))
+        found_reads is passed some =
+            IfSome_then found some (λ r e. reads_built r (IfOk-at_ok (λ (x : Reading). IsBuilt g x.sheet) e is)
+            (IfOk-at_ok (λ (x : Reading). x.passed ≡ g.passed) e passed))
 
-        pub found_only : ReadsAsOneAtMost → IfOk built (λ r. IsBuilt g r.sheet) → IfSome found (λ r. built ≡ Ok r) → IfSome found (λ r. ReadsOnlyAs bytes r.sheet)
-        found_only one is some = IfSome_then found some (λ r e. reads_only_built one r (IfOk-at_ok (λ (x : Reading). IsBuilt g x.sheet) e is))
+        pub found_only : ReadsAsOneAtMost → IfOk built (λ r. IsBuilt g r.sheet) → IfSome found (λ r. built ≡ Ok r)
+            → IfSome found (λ r. ReadsOnlyAs bytes r.sheet)
+        found_only one is some =
+            IfSome_then found some (λ r e. reads_only_built one r
+            (IfOk-at_ok (λ (x : Reading). IsBuilt g x.sheet) e is))

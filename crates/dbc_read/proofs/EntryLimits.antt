@@ -1,11 +1,12 @@
 -- Lists of entries, of which some may be too many, as a loop goes through them.
-use Rattle.std.proofs.Common.{◌≡◌, ◌∙◌, ◌⊎◌, ◌<◌, ◌++◌, ◌∷◌, true, false, List, [], Option, Some, None, is_some, length, nat_lt, inl, inr, refl, sym, ap, append_assoc, arith}
+use Rattle.std.proofs.Common.{◌≡◌, ◌∙◌, ◌⊎◌, ◌<◌, ◌++◌, ◌∷◌, true, false, List, [], Option, Some, None, is_some, length}
+use Rattle.std.proofs.Common.{nat_lt, inl, inr, refl, sym, ap, append_assoc, arith}
 use Rattle.std.specs.Prelude.{IfNone, IfSome}
 use Rattle.std.specs.List.{AllByRecursion}
 use Rattle.std.proofs.lemmas.Bool.Decides.{nat_tests}
-use Rattle.catalogue.specs.Limits.{value_text_limit}
-use Rattle.catalogue.specs.WellFormed.{AreFewTexts}
-use Rattle.catalogue.specs.declared.value_texts.ValueText.{ValueText}
+use Rattle.dbc_words.specs.Limits.{value_text_limit}
+use Rattle.dbc_sheet.specs.WellFormed.{AreFewTexts}
+use Rattle.dbc_sheet.specs.declared.value_texts.ValueText.{ValueText}
 use Rattle.dbc_lex.specs.declared.fault.ReadCode.TheVariants.{TooMany}
 use Rattle.dbc_lex.specs.declared.fault.ReadFault.{ReadFault}
 use Rattle.dbc_read.specs.Faults.{IsEntriesFault}
@@ -22,14 +23,17 @@ few : (entries : List ValueText) → false ≡ nat_lt value_text_limit (length e
 few entries e = let f : nat_lt value_text_limit (length entries) ≡ false = sym e in grind (arith, nat_tests)
 
 many : (entries : List ValueText) → true ≡ nat_lt value_text_limit (length entries) → ¬ AreFewTexts entries
-many entries e = λ h. let f : nat_lt value_text_limit (length entries) ≡ true = sym e in let more : value_text_limit < length entries = grind (arith, nat_tests) in omega (arith, h, more)
+many entries e = λ h. let f : nat_lt value_text_limit (length entries) ≡ true = sym e in
+    let more : value_text_limit < length entries = grind (arith, nat_tests) in omega (arith, h, more)
 
-all_and_last : (lists : List (List ValueText)) (entries : List ValueText) → AllByRecursion AreFewTexts lists → AreFewTexts entries → AllByRecursion AreFewTexts (lists ++ entries ∷ [])
+all_and_last : (lists : List (List ValueText)) (entries : List ValueText) → AllByRecursion AreFewTexts lists
+    → AreFewTexts entries → AllByRecursion AreFewTexts (lists ++ entries ∷ [])
 all_and_last [] entries h last = (last, tt)
 all_and_last (l ∷ lists) entries h last = (h.0, all_and_last lists entries h.1 last)
 
 -- the fault of the first lists is one of all of them, and that of the last one is too
-before_last : (lists : List (List ValueText)) (entries : List ValueText) (fault : ReadFault) → IsEntriesFault lists fault → IsEntriesFault (lists ++ entries ∷ []) fault
+before_last : (lists : List (List ValueText)) (entries : List ValueText) (fault : ReadFault)
+    → IsEntriesFault lists fault → IsEntriesFault (lists ++ entries ∷ []) fault
 before_last lists entries fault h = record {
   before = h.before;
   entries = h.entries;
@@ -39,27 +43,37 @@ before_last lists entries fault h = record {
   code = h.code;
 }
 
-at_last : (lists : List (List ValueText)) (entries : List ValueText) (fault : ReadFault) → true ≡ nat_lt value_text_limit (length entries) → fault.code ≡ TooMany
+at_last : (lists : List (List ValueText)) (entries : List ValueText) (fault : ReadFault)
+    → true ≡ nat_lt value_text_limit (length entries) → fault.code ≡ TooMany
     → IsEntriesFault (lists ++ entries ∷ []) fault
-at_last lists entries fault more code = record { before = lists; entries = entries; after = []; parts = refl; many = many entries more; code = code }
+at_last lists entries fault more code =
+    record { before = lists; entries = entries; after = []; parts = refl; many = many entries more; code = code }
 
 module _ (lists : List (List ValueText)) (entries : List ValueText) where
   -- one list more, of which this is the fault where it is too long
-  pub one_more : (first last both : Option ReadFault) → IsFirstExcess lists first → is_some last ≡ nat_lt value_text_limit (length entries) → IfSome last (λ fault. fault.code ≡ TooMany)
-      → (both ≡ first) ⊎ (both ≡ last) → IfNone both ((first ≡ None) × (last ≡ None)) → IsFirstExcess (lists ++ entries ∷ []) both
-  one_more first last both h is code one none = record { none = no_fault first last both h is none; fault = some_fault first last both h is code one }
+  pub one_more : (first last both : Option ReadFault) → IsFirstExcess lists first
+      → is_some last ≡ nat_lt value_text_limit (length entries) → IfSome last (λ fault. fault.code ≡ TooMany)
+      → (both ≡ first) ⊎ (both ≡ last) → IfNone both ((first ≡ None) × (last ≡ None))
+      → IsFirstExcess (lists ++ entries ∷ []) both
+  one_more first last both h is code one none =
+      record { none = no_fault first last both h is none; fault = some_fault first last both h is code one }
     where
-      no_fault : (first last both : Option ReadFault) → IsFirstExcess lists first → is_some last ≡ nat_lt value_text_limit (length entries)
-          → IfNone both ((first ≡ None) × (last ≡ None)) → IfNone both (AllByRecursion AreFewTexts (lists ++ entries ∷ []))
+      no_fault : (first last both : Option ReadFault) → IsFirstExcess lists first
+          → is_some last ≡ nat_lt value_text_limit (length entries)
+          → IfNone both ((first ≡ None) × (last ≡ None))
+          → IfNone both (AllByRecursion AreFewTexts (lists ++ entries ∷ []))
       no_fault None None None h is none = all_and_last lists entries h.none (few entries is)
       no_fault (Some x) last None h is none = absurd (let e = none.0 in cc)
       no_fault None (Some x) None h is none = absurd (let e = none.1 in cc)
       no_fault first last (Some x) h is none = tt
 
-      some_fault : (first last both : Option ReadFault) → IsFirstExcess lists first → is_some last ≡ nat_lt value_text_limit (length entries) → IfSome last (λ fault. fault.code ≡ TooMany)
+      some_fault : (first last both : Option ReadFault) → IsFirstExcess lists first
+          → is_some last ≡ nat_lt value_text_limit (length entries) → IfSome last (λ fault. fault.code ≡ TooMany)
           → (both ≡ first) ⊎ (both ≡ last) → IfSome both (IsEntriesFault (lists ++ entries ∷ []))
       some_fault first last None h is code one = tt
-      some_fault (Some x) last (Some y) h is code (inl e) = let same : y ≡ x = cc in rw same (before_last lists entries x h.fault)
+      some_fault (Some x) last (Some y) h is code (inl e) = let same : y ≡ x = cc in
+          rw same (before_last lists entries x h.fault)
       some_fault None last (Some y) h is code (inl e) = absurd cc
-      some_fault first (Some x) (Some y) h is code (inr e) = let same : y ≡ x = cc in rw same (at_last lists entries x is code)
+      some_fault first (Some x) (Some y) h is code (inr e) = let same : y ≡ x = cc in
+          rw same (at_last lists entries x is code)
       some_fault first None (Some y) h is code (inr e) = absurd cc

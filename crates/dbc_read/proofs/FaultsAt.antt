@@ -10,7 +10,8 @@ use Rattle.dbc_read.proofs.IteratorItems.{item_parts}
 
 module _ {A : Type 0} (offset : A → ℕ) (IsRefused : List A → A → ReadCode → Type 0) (items : List A) where
   -- at the item at i, which is refused after those before it
-  pub fault_at : (i : ℕ) (item : A) (fault : ReadFault) → i < length items → item ≡ get_or items i item → fault.at ≡ offset item
+  pub fault_at : (i : ℕ) (item : A) (fault : ReadFault) → i < length items → item ≡ get_or items i item
+      → fault.at ≡ offset item
       → IsRefused (take i items) item fault.code → IsFaultAt offset IsRefused items fault
   fault_at i item fault lt is at refused = record {
     before = take i items;
@@ -22,8 +23,10 @@ module _ {A : Type 0} (offset : A → ℕ) (IsRefused : List A → A → ReadCod
   }
 
 -- the fault of the signals of the message at i
-pub signals_fault_at : (messages : List MessageLine) (i : ℕ) (line : MessageLine) (found : Option ReadFault) → i < length messages → line ≡ get_or messages i line
-    → HaveSignalLines (take i messages) → IfSome found (IsFaultOfSignals (described line)) → IfSome found (IsSignalsFault messages)
+pub signals_fault_at : (messages : List MessageLine) (i : ℕ) (line : MessageLine) (found : Option ReadFault)
+    → i < length messages → line ≡ get_or messages i line
+    → HaveSignalLines (take i messages) → IfSome found (IsFaultOfSignals (described line))
+    → IfSome found (IsSignalsFault messages)
 signals_fault_at messages i line None lt is first h = tt
 signals_fault_at messages i line (Some fault) lt is first h = record {
   before = take i messages;

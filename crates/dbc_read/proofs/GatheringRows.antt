@@ -1,9 +1,9 @@
 -- Computed rows of what is gathered.
 use Rattle.std.proofs.Common.{◌≡◌, ℕ, [], ◌∷◌, None, Some, nat_eq, refl}
 use Rattle.std.specs.Prelude.{codes}
+use Rattle.dbc_words.specs.declared.keyword.Keyword.TheVariants.{Nodes}
 use Rattle.dbc_grammar.specs.Parsing.{statements_at}
 use Rattle.dbc_grammar.specs.Statement as dbc
-use Rattle.catalogue.specs.declared.keyword.Keyword.TheVariants.{Nodes}
 use Rattle.dbc_read.specs.Attaching.{commented}
 use Rattle.dbc_read.specs.Gathering.{BeginWith, IsGathered, finished, with_nothing_attached}
 use Rattle.dbc_read.specs.Settling.{ReadUpTo}
@@ -50,10 +50,19 @@ unfolding statements_at
 none_settled = refl
 
 -- where one node is all that is defined, it alone has nothing attached
-node_has_nothing : (g : Gathered) → with_nothing_attached (record { start = 0; keyword = Nodes; content = dbc.NodesAre (codes "A" ∷ []) } ∷ []) g
-    ≡ record g { node_comments = [] ∷ []; message_comments = []; signal_comments = []; signal_values = []; signal_types = []; signal_spns = [] }
+node_has_nothing : (g : Gathered)
+    → with_nothing_attached (record { start = 0; keyword = Nodes; content = dbc.NodesAre (codes "A" ∷ []) } ∷ []) g
+    ≡ record g {
+      node_comments = [] ∷ [];
+      message_comments = [];
+      signal_comments = [];
+      signal_values = [];
+      signal_types = [];
+      signal_spns = [];
+    }
 node_has_nothing g = refl
 
 -- a version is gathered, and cites nothing
-version_is_gathered : (f : Finders) (p : Passed) (g : Gathered) → IsGathered f p (content.Version (codes "1.0")) g (record g { version = Some (codes "1.0") })
+version_is_gathered : (f : Finders) (p : Passed) (g : Gathered)
+    → IsGathered f p (content.Version (codes "1.0")) g (record g { version = Some (codes "1.0") })
 version_is_gathered f p g = record { none = refl; index = None; is = λ lines statements finds. tt; gathered = refl }

@@ -1,9 +1,9 @@
 -- Computed rows of definitions that come after something was cited.
 use Rattle.std.proofs.Common.{◌≡◌, ◌++◌, true, List, [], ◌∷◌, None, refl, sym, append-nil, subst}
 use Rattle.std.specs.Prelude.{codes}
+use Rattle.dbc_words.specs.declared.keyword.Keyword.TheVariants.{Nodes}
 use Rattle.dbc_grammar.specs.Parsing.{statements_at}
 use Rattle.dbc_grammar.specs.Statement as dbc
-use Rattle.catalogue.specs.declared.keyword.Keyword.TheVariants.{Nodes}
 use Rattle.dbc_read.specs.Definitions.{AreDefinitions}
 use Rattle.dbc_read.specs.Gathered.{AreGathered, gathered_after, passed_of}
 use Rattle.dbc_read.specs.Gathering.{defines}
@@ -35,12 +35,14 @@ nothing_is_stated = record {
 }
 
 -- where no tokens come after a late statement, what it defines is gathered, and no more
-late_alone : (late : Statement) (g : Gathered) → DefineLate late [] g (gathered_after None (passed_of late) late.content g)
+late_alone : (late : Statement) (g : Gathered)
+    → DefineLate late [] g (gathered_after None (passed_of late) late.content g)
 unfolding statements_at
 late_alone late g = record {
   stated = [];
   read = refl;
-  are = λ before are. subst (λ ss. AreDefinitions ss (gathered_after None (passed_of late) late.content g)) (sym (append-nil (before ++ statement_of late ∷ []))) (one_gathered late g _ refl before are);
+  are = λ before are. subst (λ ss. AreDefinitions ss (gathered_after None (passed_of late) late.content g))
+      (sym (append-nil (before ++ statement_of late ∷ []))) (one_gathered late g _ refl before are);
 }
 
 -- no tokens define nothing
@@ -57,7 +59,8 @@ definitions_are_found : IsFound [] (found.Definitions nothing)
 definitions_are_found = none_define
 
 -- of `BU_: A` all but the node itself is gathered: nothing is attached to it
-node_is_apart : GathersApart (record { start = 0; keyword = Nodes; content = dbc.NodesAre (codes "A" ∷ []) } ∷ []) (record nothing { node_comments = [] ∷ [] }) []
+node_is_apart : GathersApart (record { start = 0; keyword = Nodes; content = dbc.NodesAre (codes "A" ∷ []) } ∷ [])
+    (record nothing { node_comments = [] ∷ [] }) []
 node_is_apart = record {
   nodes = record { at = 5; name = codes "A" } ∷ [];
   messages = [];
@@ -78,7 +81,8 @@ node_is_apart = record {
 }
 
 -- a definition changes nothing of what is gathered apart
-definition_changes_nothing : (f : Finders) (s : Statement) (lines : List MessageLine) (g : Gathered) → defines (content_of s.content) ≡ true → SettlesApart f (statement_of s ∷ []) lines g lines g
+definition_changes_nothing : (f : Finders) (s : Statement) (lines : List MessageLine) (g : Gathered)
+    → defines (content_of s.content) ≡ true → SettlesApart f (statement_of s ∷ []) lines g lines g
 definition_changes_nothing f s lines g does = skipped_apart f [] s lines lines g g does (none_apart f lines g)
 
 -- nothing changes where no tokens are left

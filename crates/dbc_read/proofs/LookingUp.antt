@@ -1,5 +1,6 @@
 -- What a binary search finds in a look-up.
-use Rattle.std.proofs.Common.{◌≡◌, ◌<◌, ◌∙◌, ◌||◌, ◌++◌, ℕ, zero, suc, Bool, true, false, List, [], ◌∷◌, length, get_or, map, Option, Some, None, refl, sym, ap, subst, inl, inr, append_assoc, arith}
+use Rattle.std.proofs.Common.{◌≡◌, ◌<◌, ◌∙◌, ◌||◌, ◌++◌, ℕ, zero, suc, Bool, true, false, List, [], ◌∷◌, length, get_or}
+use Rattle.std.proofs.Common.{map, Option, Some, None, refl, sym, ap, subst, inl, inr, append_assoc, arith}
 use Rattle.std.specs.Prelude.{slice_get}
 use Rattle.std.specs.Cmp.{IsTotalOrder}
 use Rattle.std.specs.List.{All, AllByRecursion, HoldsAt, list_any}
@@ -30,12 +31,15 @@ module _ {K : Type 0} where
   are_at front [] = tt
   are_at front (k ∷ ks) = (
     last_of front k ks,
-    subst (λ (all : List K). AllByRecursion (IsAt all) (with_indices (suc (length front)) ks)) (append_assoc front (k ∷ []) ks)
-        (subst (λ n. AllByRecursion (IsAt ((front ++ k ∷ []) ++ ks)) (with_indices n ks)) (one_longer front k) (are_at (front ++ k ∷ []) ks)),
+    subst (λ (all : List K). AllByRecursion (IsAt all) (with_indices (suc (length front)) ks))
+        (append_assoc front (k ∷ []) ks)
+        (subst (λ n. AllByRecursion (IsAt ((front ++ k ∷ []) ++ ks)) (with_indices n ks)) (one_longer front k)
+        (are_at (front ++ k ∷ []) ks)),
   )
 
   module _ (test : K → Bool) where
-    seen_at : (keys : List K) (i : ℕ) (k : K) → slice_get keys i ≡ Some k → test k ≡ true → slice_get (map test keys) i ≡ Some true
+    seen_at : (keys : List K) (i : ℕ) (k : K) → slice_get keys i ≡ Some k → test k ≡ true
+        → slice_get (map test keys) i ≡ Some true
     seen_at keys i k is_entry passes = mapped keys i ∙ ap (option_map_test) is_entry ∙ ap (λ b. Some b) passes
       where
         option_map_test : Option K → Option Bool
@@ -47,24 +51,30 @@ module _ {K : Type 0} where
         mapped (x ∷ xs) zero = refl
         mapped (x ∷ xs) (suc j) = mapped xs j
 
-    none_seen : (n : ℕ) (keys : List K) → AllByRecursion (λ (e : K × ℕ). test e.0 ≡ false) (with_indices n keys) → list_any test keys ≡ false
+    none_seen : (n : ℕ) (keys : List K) → AllByRecursion (λ (e : K × ℕ). test e.0 ≡ false) (with_indices n keys)
+        → list_any test keys ≡ false
     none_seen n [] h = refl
     none_seen n (k ∷ keys) h = ap (λ b. b || list_any test keys) h.0 ∙ none_seen (suc n) keys h.1
 
-  module _ (cmp : K → K → Ordering) (order : IsTotalOrder cmp) (eq : K → K → Bool) (tied : (x y : K) → eq x y ≡ eq_by_cmp cmp x y) (lookup : Lookup K) (keys : List K)
+  module _ (cmp : K → K → Ordering) (order : IsTotalOrder cmp) (eq : K → K → Bool)
+      (tied : (x y : K) → eq x y ≡ eq_by_cmp cmp x y) (lookup : Lookup K) (keys : List K)
       (is : IsLookupOf cmp lookup keys) where
     -- where an entry was found
     pub found : (key : K) (at : ℕ) (e : K × ℕ) → at < length lookup.sorted.items → e ≡ get_or lookup.sorted.items at e
-        → HoldsAt (λ (y : K × ℕ). cmp y.0 key ≡ Equal) lookup.sorted.items at → slice_get (map (λ k. eq k key) keys) e.1 ≡ Some true
+        → HoldsAt (λ (y : K × ℕ). cmp y.0 key ≡ Equal) lookup.sorted.items at
+        → slice_get (map (λ k. eq k key) keys) e.1 ≡ Some true
     found key at e within here equal =
-        let is_entry = All-permutation (IsAt keys) _ _ is.entries (All-from_recursion (IsAt keys) _ (are_at [] keys)) at e within in
+        let is_entry = All-permutation (IsAt keys) _ _ is.entries (All-from_recursion (IsAt keys) _ (are_at [] keys)) at
+        e within in
         let same : cmp e.0 key ≡ Equal = subst (λ (y : K × ℕ). cmp y.0 key ≡ Equal) (sym here) (equal e) in
-        seen_at (λ k. eq k key) keys e.1 e.0 (subst (λ (y : K × ℕ). IsAt keys y) (sym here) is_entry) (tied e.0 key ∙ ap is_eq same)
+        seen_at (λ k. eq k key) keys e.1 e.0 (subst (λ (y : K × ℕ). IsAt keys y) (sym here) is_entry)
+        (tied e.0 key ∙ ap is_eq same)
 
     -- where a gap was found
     pub absent : (key : K) (at : ℕ)
         → (IsNonDecreasingBy (λ (y : K × ℕ). ordering_index (cmp y.0 key)) lookup.sorted.items
-        → IsPartitionPoint (λ (y : K × ℕ). cmp y.0 key ≡ Less) (λ (y : K × ℕ). cmp y.0 key ≡ Greater) lookup.sorted.items at)
+        → IsPartitionPoint (λ (y : K × ℕ). cmp y.0 key ≡ Less) (λ (y : K × ℕ). cmp y.0 key ≡ Greater)
+        lookup.sorted.items at)
         → list_any (λ k. eq k key) keys ≡ false
     absent key at splits =
         let parts = splits (searchable_from_sorted order (λ (e : K × ℕ). e.0) lookup.sorted.items key is.sorted) in

@@ -31,8 +31,10 @@ module _ {A : Type 0} (test : A → Bool) where
   none_yet = record { known = refl; apart = tt }
 
   -- one item more
-  pub once_more : (items : List A) (item : A) (any more : Bool) → PassOnce items any → more ≡ (test item || any) → (test item && any) ≡ false → PassOnce (items ++ item ∷ []) more
+  pub once_more : (items : List A) (item : A) (any more : Bool) → PassOnce items any → more ≡ (test item || any)
+      → (test item && any) ≡ false → PassOnce (items ++ item ∷ []) more
   once_more items item any more h is once = record {
     known = is ∙ ap (λ b. test item || b) h.known ∙ sym (any_and_last test items item);
-    apart = apart_and_last (λ a b. test a && test b) items item h.apart (no_other items (test item) (ap (λ b. test item && b) (sym h.known) ∙ once));
+    apart = apart_and_last (λ a b. test a && test b) items item h.apart
+        (no_other items (test item) (ap (λ b. test item && b) (sym h.known) ∙ once));
   }

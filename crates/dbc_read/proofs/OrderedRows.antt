@@ -1,20 +1,27 @@
 -- Computed rows of the definitions of orders.
-use Rattle.std.proofs.Common.{◌≡◌, ◌<◌, ◌≤◌, ◌+◌, ℕ, zero, suc, false, List, [], ◌∷◌, Global, None, get_or, refl, true≢false, arith}
+use Rattle.std.proofs.Common.{◌≡◌, ◌<◌, ◌≤◌, ◌+◌, ℕ, zero, suc, false, List, [], ◌∷◌, Global, None, get_or, refl}
+use Rattle.std.proofs.Common.{true≢false, arith}
 use Rattle.std.specs.Ordering.{is_lt}
-use Rattle.catalogue.specs.Keyed.{text_cmp}
+use Rattle.base.specs.Keyed.{text_cmp}
 use Rattle.dbc_read.specs.Orders.{IsAscending, IsOrderOf}
 
 -- the names b and a
 abbrev b_and_a : List (List ℕ)
 b_and_a = (98 ∷ []) ∷ (97 ∷ []) ∷ []
 
-a_is_first : (k d : ℕ) → 0 ≤ k → k + 1 < 2 → is_lt (text_cmp (get_or b_and_a (get_or (1 ∷ 0 ∷ []) (k + 1) d) []) (get_or b_and_a (get_or (1 ∷ 0 ∷ []) k d) [])) ≡ false
+a_is_first : (k d : ℕ) → 0 ≤ k → k + 1 < 2
+    → is_lt (text_cmp (get_or b_and_a (get_or (1 ∷ 0 ∷ []) (k + 1) d) []) (get_or b_and_a (get_or (1 ∷ 0 ∷ []) k d) []))
+    ≡ false
 a_is_first zero d low high = refl
 a_is_first (suc k) d low high = absurd (omega arith)
 
 -- they ascend if the second comes first
 ascend : IsAscending b_and_a (1 ∷ 0 ∷ [])
-ascend = record { indices = record { moves = (0, 1) ∷ []; below = (omega arith, omega arith, tt); is = refl }; sorted = a_is_first }
+ascend = record {
+  indices = record { moves = (0, 1) ∷ []; below = (omega arith, omega arith, tt); is = refl };
+  sorted =
+      a_is_first;
+}
 
 -- and not as they are
 unordered : ¬ IsAscending b_and_a (0 ∷ 1 ∷ [])

@@ -1,5 +1,6 @@
 -- The first position at which a test passes is an index.
-use Rattle.std.proofs.Common.{◌≡◌, ◌<◌, ◌≤◌, ◌+◌, ◌∙◌, ◌||◌, ◌++◌, ℕ, zero, suc, Bool, true, false, not, cond, List, [], ◌∷◌, length, map, nat_lt, position, Option, Some, None, refl, sym, ap, subst, arith}
+use Rattle.std.proofs.Common.{◌≡◌, ◌<◌, ◌≤◌, ◌+◌, ◌∙◌, ◌||◌, ◌++◌, ℕ, zero, suc, Bool, true, false, not, cond, List, []}
+use Rattle.std.proofs.Common.{◌∷◌, length, map, nat_lt, position, Option, Some, None, refl, sym, ap, subst, arith}
 use Rattle.std.specs.Prelude.{slice_get}
 use Rattle.std.specs.List.{list_any, position_or_len}
 use Rattle.std.proofs.lemmas.Bool.{ltb-false, ltb-true}
@@ -12,7 +13,9 @@ module _ {K : Type 0} (p : K → Bool) where
   passes_at [] k e h = absurd (omega arith)
   passes_at (x ∷ xs) k e h = by (p x) refl (passes_at xs (position_or_len p xs) refl)
     where
-      by : (b : Bool) → p x ≡ b → (position_or_len p xs < length xs → slice_get (map p xs) (position_or_len p xs) ≡ Some true) → slice_get (map p (x ∷ xs)) k ≡ Some true
+      by : (b : Bool) → p x ≡ b
+          → (position_or_len p xs < length xs → slice_get (map p xs) (position_or_len p xs) ≡ Some true)
+          → slice_get (map p (x ∷ xs)) k ≡ Some true
       by true t rest =
           let z : 0 ≡ k = ap (λ b. cond (not b) (1 + position_or_len p xs) 0) (sym t) ∙ e in
           subst (λ n. slice_get (map p (x ∷ xs)) n ≡ Some true) z (ap (λ b. Some b) t)
@@ -25,28 +28,33 @@ module _ {K : Type 0} (p : K → Bool) where
   passes_nowhere [] h = refl
   passes_nowhere (x ∷ xs) h = by (p x) refl (passes_nowhere xs)
     where
-      by : (b : Bool) → p x ≡ b → (length xs ≤ position_or_len p xs → list_any p xs ≡ false) → list_any p (x ∷ xs) ≡ false
+      by : (b : Bool) → p x ≡ b → (length xs ≤ position_or_len p xs → list_any p xs ≡ false)
+          → list_any p (x ∷ xs) ≡ false
       by true t rest =
           let z : position_or_len p (x ∷ xs) ≡ 0 = ap (λ b. cond (not b) (1 + position_or_len p xs) 0) t in
           absurd (omega arith)
       by false t rest =
-          let z : position_or_len p (x ∷ xs) ≡ 1 + position_or_len p xs = ap (λ b. cond (not b) (1 + position_or_len p xs) 0) t in
+          let z : position_or_len p (x ∷ xs) ≡ 1 + position_or_len p xs =
+          ap (λ b. cond (not b) (1 + position_or_len p xs) 0) t in
           ap (λ b. b || list_any p xs) t ∙ rest (omega arith)
 
   pub index_from_position : (xs : List K) → IsIndexIn p xs (position p xs)
   index_from_position xs = by (nat_lt (position_or_len p xs) (length xs)) refl
     where
-      by : (b : Bool) → nat_lt (position_or_len p xs) (length xs) ≡ b → IsIndexIn p xs (cond b (Some (position_or_len p xs)) None)
+      by : (b : Bool) → nat_lt (position_or_len p xs) (length xs) ≡ b
+          → IsIndexIn p xs (cond b (Some (position_or_len p xs)) None)
       by true t = passes_at xs (position_or_len p xs) refl (ltb-true (position_or_len p xs) (length xs) t)
       by false t = passes_nowhere xs (ltb-false (position_or_len p xs) (length xs) t)
 
   -- an index in the front of a list, and one after it
-  pub front_stays : (xs ys : List K) (i : ℕ) → slice_get (map p xs) i ≡ Some true → slice_get (map p (xs ++ ys)) i ≡ Some true
+  pub front_stays : (xs ys : List K) (i : ℕ) → slice_get (map p xs) i ≡ Some true
+      → slice_get (map p (xs ++ ys)) i ≡ Some true
   front_stays [] ys i h = none_true h
   front_stays (x ∷ xs) ys zero h = h
   front_stays (x ∷ xs) ys (suc i) h = front_stays xs ys i h
 
-  pub after_front : (xs ys : List K) (i : ℕ) → slice_get (map p ys) i ≡ Some true → slice_get (map p (xs ++ ys)) (length xs + i) ≡ Some true
+  pub after_front : (xs ys : List K) (i : ℕ) → slice_get (map p ys) i ≡ Some true
+      → slice_get (map p (xs ++ ys)) (length xs + i) ≡ Some true
   after_front [] ys i h = let e : i ≡ 0 + i = omega arith in subst (λ n. slice_get (map p ys) n ≡ Some true) e h
   after_front (x ∷ xs) ys i h =
       let e : suc (length xs + i) ≡ suc (length xs) + i = omega arith in

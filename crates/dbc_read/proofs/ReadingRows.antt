@@ -2,13 +2,14 @@
 use Rattle.std.proofs.Common.{◌≡◌, ℕ, List, [], ◌∷◌, Some, inl, inr, refl, arith}
 use Rattle.std.specs.Prelude.{codes}
 use Rattle.std.specs.List.{IsDistinct}
+use Rattle.dbc_words.specs.Name.{is_name}
+use Rattle.dbc_words.specs.declared.keyword.Keyword.TheVariants.{Nodes}
 use Rattle.dbc_grammar.specs.Lexing.{StrayByte, first_token, lexed, lexed_in, token_at, word_len}
-use Rattle.catalogue.specs.Name.{is_name}
-use Rattle.dbc_grammar.specs.Parsing.{further_at, line_at, nodes_at, nodes_line_at, no_names_at, some_names_at, statement_at, statements_at}
+use Rattle.dbc_grammar.specs.Parsing.{further_at, line_at, nodes_at, nodes_line_at, no_names_at, some_names_at}
+use Rattle.dbc_grammar.specs.Parsing.{statement_at, statements_at}
 use Rattle.dbc_grammar.specs.Statement as dbc
 use Rattle.dbc_grammar.specs.Token.{Token}
 use Rattle.dbc_grammar.specs.TokenLaw.{tokens_without_fault}
-use Rattle.catalogue.specs.declared.keyword.Keyword.TheVariants.{Nodes}
 use Rattle.dbc_grammar.specs.declared.token.TokenKind.TheVariants.{Mark, Name}
 use Rattle.dbc_lex.specs.declared.fault.ReadCode.TheVariants as code
 use Rattle.dbc_lex.specs.declared.fault.ReadFault.{ReadFault}
@@ -32,8 +33,10 @@ text = codes "BU_:A A"
 
 abbrev tokens : List Token
 tokens =
-    record { kind = Name; start = 0; end = 3; text = codes "BU_" } ∷ record { kind = Mark; start = 3; end = 4; text = codes ":" }
-    ∷ record { kind = Name; start = 4; end = 5; text = codes "A" } ∷ record { kind = Name; start = 6; end = 7; text = codes "A" } ∷ []
+    record { kind = Name; start = 0; end = 3; text = codes "BU_" }
+    ∷ record { kind = Mark; start = 3; end = 4; text = codes ":" }
+    ∷ record { kind = Name; start = 4; end = 5; text = codes "A" }
+    ∷ record { kind = Name; start = 6; end = 7; text = codes "A" } ∷ []
 
 abbrev stated : List dbc.Statement
 stated = record { start = 0; keyword = Nodes; content = dbc.NodesAre (codes "A" ∷ codes "A" ∷ []) } ∷ []
@@ -73,12 +76,26 @@ double_name = record { code = code.DoubleName; at = 6 }
 
 second_node_refused : IsFault gathered double_name
 unfolding IsDistinct
-second_node_refused = definition (node (record { before = node_at 4 ∷ []; item = node_at 6; after = []; parts = refl; at = refl; refused = ((tt, tt), omega arith, refl) }))
+second_node_refused = definition
+    (node (record {
+      before = node_at 4 ∷ [];
+      item = node_at 6;
+      after = [];
+      parts = refl;
+      at = refl;
+      refused =
+          ((tt, tt), omega arith, refl);
+    }))
 
 double_node : IsFaultOfText text double_name
 double_node = record {
   gathered = gathered;
-  of = record { stated = stated; divided = is_divided text tokens text_has_tokens stated tokens_are_stated; gathered = nodes_are_gathered };
+  of = record {
+    stated = stated;
+    divided = is_divided text tokens text_has_tokens stated tokens_are_stated;
+    gathered =
+        nodes_are_gathered;
+  };
   is = second_node_refused;
 }
 

@@ -15,7 +15,8 @@ use Rattle.dbc_statements.specs.declared.statement.MessageLine.{MessageLine}
 use Rattle.dbc_statements.specs.declared.statement.Statement.{Statement}
 
 -- where a late statement is the first of the tokens, none comes before it
-late_is_first : (late : Statement) (tokens rest : List Token) → BeginWith (statement_of late ∷ []) tokens rest → ReadUpTo (settled.UpTo late) [] tokens rest
+late_is_first : (late : Statement) (tokens rest : List Token) → BeginWith (statement_of late ∷ []) tokens rest
+    → ReadUpTo (settled.UpTo late) [] tokens rest
 late_is_first late tokens rest begin = begin
 
 -- no statements settle nothing
@@ -23,7 +24,8 @@ none_settle : (f : Finders) (lines : List MessageLine) (g : Gathered) → Settle
 none_settle f lines g = none_settled f lines g
 
 -- nor do no tokens, which are read to the end
-no_tokens_settle : (f : Finders) (lines : List MessageLine) (g : Gathered) → SettlesTo f settled.All [] [] lines g lines g
+no_tokens_settle : (f : Finders) (lines : List MessageLine) (g : Gathered)
+    → SettlesTo f settled.All [] [] lines g lines g
 unfolding statements_at
 no_tokens_settle f lines g = record { stated = []; read = refl; none = tt; gathered = none_settled f lines g }
 

@@ -1,19 +1,20 @@
 -- Nodes, value tables and messages that can't be in one sheet.
-use Rattle.std.proofs.Common.{◌≡◌, ◌≤◌, ◌==◌, ℕ, List, [], ◌∷◌, ◌++◌, length-append, arith, Bool, false, sym, subst, IsPermutation}
+use Rattle.std.proofs.Common.{◌≡◌, ◌≤◌, ◌==◌, ℕ, List, [], ◌∷◌, ◌++◌, length-append, arith, Bool, false, sym, subst}
+use Rattle.std.proofs.Common.{IsPermutation}
 use Rattle.std.specs.List.{AllByRecursion, IsDistinct}
 use Rattle.std.specs.Str.{bytes_eq}
 use Rattle.std.proofs.lemmas.List.Sorted.{IsPermutation-append_right, length_permutation}
 use Rattle.std.proofs.lemmas.Map.Keys.{IsDistinct-IsPermutation}
-use Rattle.catalogue.specs.Fault.{IsRefusal}
-use Rattle.catalogue.specs.Limits.{message_limit, roster_limit}
-use Rattle.catalogue.specs.Messages.{message_name, message_tests, number_of}
-use Rattle.catalogue.specs.Named.{roster_tests}
-use Rattle.catalogue.specs.Refusing.{first_refusal}
-use Rattle.catalogue.specs.Sheet.{table_name}
-use Rattle.catalogue.specs.WellFormed.{AreFewTexts, AreRostered}
-use Rattle.catalogue.specs.declared.fault.SheetCode.{SheetCode}
-use Rattle.catalogue.specs.declared.message.Message.{Message}
-use Rattle.catalogue.specs.declared.value_table.ValueTable.{ValueTable}
+use Rattle.base.specs.Refusing.{first_refusal}
+use Rattle.dbc_words.specs.Fault.{IsRefusal}
+use Rattle.dbc_words.specs.Limits.{message_limit, roster_limit}
+use Rattle.dbc_words.specs.Named.{roster_tests}
+use Rattle.dbc_words.specs.declared.fault.SheetCode.{SheetCode}
+use Rattle.dbc_sheet.specs.Messages.{message_name, message_tests, number_of}
+use Rattle.dbc_sheet.specs.Sheet.{table_name}
+use Rattle.dbc_sheet.specs.WellFormed.{AreFewTexts, AreRostered}
+use Rattle.dbc_sheet.specs.declared.message.Message.{Message}
+use Rattle.dbc_sheet.specs.declared.value_table.ValueTable.{ValueTable}
 use Rattle.dbc_grammar.proofs.AscendingUnique.{all_permutation}
 use Rattle.dbc_grammar.proofs.SheetStated.{nat_flip}
 use Rattle.dbc_read.specs.Built.{AreAddable}
@@ -23,7 +24,8 @@ use Rattle.dbc_read.specs.declared.refusal.Refusal.{Refusal}
 use Rattle.dbc_read.proofs.Refused.{each_middle, none_before, refused, room, unless}
 use Rattle.dbc_read.proofs.Bytes.{bytes_flip}
 
-rostered : {A : Type 0} (name : A → List ℕ) (before : List A) (x : A) (after : List A) → AreRostered name (before ++ x ∷ after)
+rostered : {A : Type 0} (name : A → List ℕ) (before : List A) (x : A) (after : List A)
+    → AreRostered name (before ++ x ∷ after)
     → AllByRecursion (λ t. t.holds ≡ false) (roster_tests name before (name x))
 rostered name before x after h = (
   room roster_limit before x after h.few,
@@ -31,10 +33,13 @@ rostered name before x after h = (
 )
 
 -- one that is refused after others
-pub node_refused : {A : Type 0} (name : A → List ℕ) (before : List A) (x : A) (after whole : List A) (code : SheetCode) → before ++ x ∷ after ≡ whole
-    → IsRefusal (first_refusal (roster_tests name before (name x))) code → Unless (refusal_of code) (AreRostered name whole → ⊥)
+pub node_refused : {A : Type 0} (name : A → List ℕ) (before : List A) (x : A) (after whole : List A) (code : SheetCode)
+    → before ++ x ∷ after ≡ whole
+    → IsRefusal (first_refusal (roster_tests name before (name x))) code
+    → Unless (refusal_of code) (AreRostered name whole → ⊥)
 node_refused name before x after whole code e is =
-    refused (roster_tests name before (name x)) code (AreRostered name whole) (λ h. rostered name before x after (subst (AreRostered name) (sym e) h)) is
+    refused (roster_tests name before (name x)) code (AreRostered name whole)
+    (λ h. rostered name before x after (subst (AreRostered name) (sym e) h)) is
 
 distinct_front : {A : Type 0} (e : A → A → Bool) (xs ys : List A) → IsDistinct e (xs ++ ys) → IsDistinct e xs
 unfolding IsDistinct
@@ -52,20 +57,27 @@ rostered_front name xs ys h = record {
 }
 
 -- some that are refused before others
-pub nodes_refused : {A : Type 0} (name : A → List ℕ) (some after whole : List A) (refusal : Refusal) → some ++ after ≡ whole
+pub nodes_refused : {A : Type 0} (name : A → List ℕ) (some after whole : List A) (refusal : Refusal)
+    → some ++ after ≡ whole
     → Unless refusal (AreRostered name some → ⊥) → Unless refusal (AreRostered name whole → ⊥)
-nodes_refused name some after whole refusal e h = unless refusal _ _ (λ all. rostered_front name some after (subst (AreRostered name) (sym e) all)) h
+nodes_refused name some after whole refusal e h =
+    unless refusal _ _ (λ all. rostered_front name some after (subst (AreRostered name) (sym e) all)) h
 
-pub table_refused : (before : List ValueTable) (x : ValueTable) (after whole : List ValueTable) (code : SheetCode) → before ++ x ∷ after ≡ whole
-    → IsRefusal (first_refusal (roster_tests table_name before x.name)) code → Unless (refusal_of code) (TablesFit whole → ⊥)
+pub table_refused : (before : List ValueTable) (x : ValueTable) (after whole : List ValueTable) (code : SheetCode)
+    → before ++ x ∷ after ≡ whole
+    → IsRefusal (first_refusal (roster_tests table_name before x.name)) code
+    → Unless (refusal_of code) (TablesFit whole → ⊥)
 table_refused before x after whole code e is =
-    refused (roster_tests table_name before x.name) code (TablesFit whole) (λ h. rostered table_name before x after (subst (AreRostered table_name) (sym e) h.together)) is
+    refused (roster_tests table_name before x.name) code (TablesFit whole)
+    (λ h. rostered table_name before x after (subst (AreRostered table_name) (sym e) h.together)) is
 
 -- a value table with too many entries
-pub entries_refused : (before : List ValueTable) (x : ValueTable) (after whole : List ValueTable) (refusal : Refusal) → before ++ x ∷ after ≡ whole
+pub entries_refused : (before : List ValueTable) (x : ValueTable) (after whole : List ValueTable) (refusal : Refusal)
+    → before ++ x ∷ after ≡ whole
     → Unless refusal (AreFewTexts x.entries → ⊥) → Unless refusal (TablesFit whole → ⊥)
 entries_refused before x after whole refusal e h =
-    unless refusal _ _ (λ fit. each_middle (λ (t : ValueTable). AreFewTexts t.entries) before x after (subst (AllByRecursion (λ (t : ValueTable). AreFewTexts t.entries)) (sym e) fit.entries)) h
+    unless refusal _ _ (λ fit. each_middle (λ (t : ValueTable). AreFewTexts t.entries) before x after
+    (subst (AllByRecursion (λ (t : ValueTable). AreFewTexts t.entries)) (sym e) fit.entries)) h
 
 pub number_flip : (a b : Message) → number_of a == number_of b ≡ (number_of b == number_of a)
 number_flip a b = nat_flip (number_of a) (number_of b)
@@ -81,13 +93,15 @@ share_in_any_order xs ys p h = record {
   few = subst (λ n. n ≤ message_limit) (sym (length_permutation xs ys p)) h.few;
 }
 
-pub addable_in_any_order : (before xs ys : List Message) → IsPermutation xs ys → AreAddable before xs → AreAddable before ys
+pub addable_in_any_order : (before xs ys : List Message) → IsPermutation xs ys → AreAddable before xs
+    → AreAddable before ys
 addable_in_any_order before xs ys p h = record {
   fit = all_permutation IsFit xs ys p h.fit;
   together = share_in_any_order (before ++ xs) (before ++ ys) (IsPermutation-append_right before xs ys p) h.together;
 }
 
-sharing : (before : List Message) (m : Message) (after : List Message) → CanShareSheet (before ++ m ∷ after) → AllByRecursion (λ t. t.holds ≡ false) (message_tests before m)
+sharing : (before : List Message) (m : Message) (after : List Message) → CanShareSheet (before ++ m ∷ after)
+    → AllByRecursion (λ t. t.holds ≡ false) (message_tests before m)
 sharing before m after h = (
   room message_limit before m after h.few,
   (
@@ -97,12 +111,16 @@ sharing before m after h = (
 )
 
 -- a message that is refused beside others
-pub message_refused : (before : List Message) (m : Message) (after whole : List Message) (code : SheetCode) → IsPermutation whole (before ++ m ∷ after)
+pub message_refused : (before : List Message) (m : Message) (after whole : List Message) (code : SheetCode)
+    → IsPermutation whole (before ++ m ∷ after)
     → IsRefusal (first_refusal (message_tests before m)) code → Unless (refusal_of code) (CanShareSheet whole → ⊥)
 message_refused before m after whole code p is =
-    refused (message_tests before m) code (CanShareSheet whole) (λ h. sharing before m after (share_in_any_order whole (before ++ m ∷ after) p h)) is
+    refused (message_tests before m) code (CanShareSheet whole)
+    (λ h. sharing before m after (share_in_any_order whole (before ++ m ∷ after) p h)) is
 
 -- a message that isn't fit
-pub message_unfit : (before : List Message) (m : Message) (after whole : List Message) (refusal : Refusal) → before ++ m ∷ after ≡ whole
+pub message_unfit : (before : List Message) (m : Message) (after whole : List Message) (refusal : Refusal)
+    → before ++ m ∷ after ≡ whole
     → Unless refusal (IsFit m → ⊥) → Unless refusal (AllByRecursion IsFit whole → ⊥)
-message_unfit before m after whole refusal e h = unless refusal _ _ (λ all. each_middle IsFit before m after (subst (AllByRecursion IsFit) (sym e) all)) h
+message_unfit before m after whole refusal e h =
+    unless refusal _ _ (λ all. each_middle IsFit before m after (subst (AllByRecursion IsFit) (sym e) all)) h

@@ -3,10 +3,12 @@ use Rattle.std.proofs.Common.{◌≡◌, ◌∙◌, ◌++◌, ℕ, nat_eq, List,
 use Rattle.std.specs.List.{flat_map}
 use Rattle.std.specs.Str.{bytes_eq}
 use Rattle.can_id.specs.Ident.{dbc_number}
-use Rattle.dbc_grammar.specs.Saying.{SignalKey, keys_of, last_value_of, message_comment_in, node_comment_in, same_signal, signal_comment_in, spn_in, value_texts_in, value_type_in, whole_message, whole_node, whole_signal}
+use Rattle.dbc_words.specs.declared.value_type.ValueType.TheVariants.{Integer}
+use Rattle.dbc_grammar.specs.Saying.{SignalKey, keys_of, last_value_of, message_comment_in, node_comment_in}
+use Rattle.dbc_grammar.specs.Saying.{same_signal, signal_comment_in, spn_in, value_texts_in, value_type_in}
+use Rattle.dbc_grammar.specs.Saying.{whole_message, whole_node, whole_signal}
 use Rattle.dbc_grammar.specs.Statement.{MessageLine, SignalLine, Statement}
-use Rattle.catalogue.specs.declared.message.Message.{Message}
-use Rattle.catalogue.specs.declared.value_type.ValueType.TheVariants.{Integer}
+use Rattle.dbc_sheet.specs.declared.message.Message.{Message}
 use Rattle.dbc_read.specs.Built.{feeds_after, messages_from, nodes_from, signals_from}
 use Rattle.dbc_read.specs.declared.feed.Feeds.{Feeds}
 
@@ -33,19 +35,25 @@ module _ (ss : List Statement) where
   abbrev keys_in : ℕ → List SignalLine → List SignalKey
   keys_in number lines = map (λ (s : SignalLine). (number, s.name)) lines
 
-  signals_whole : (number : ℕ) (lines : List SignalLine) (more : List SignalKey) → signals_from lines (feeds_stated (keys_in number lines ++ more)) ≡ map (whole_signal ss number) lines
+  signals_whole : (number : ℕ) (lines : List SignalLine) (more : List SignalKey)
+      → signals_from lines (feeds_stated (keys_in number lines ++ more)) ≡ map (whole_signal ss number) lines
   signals_whole number [] more = refl
   signals_whole number (line ∷ lines) more = ap (λ l. whole_signal ss number line ∷ l) (signals_whole number lines more)
 
-  after_whole : (number : ℕ) (lines : List SignalLine) (more : List SignalKey) → feeds_after lines (feeds_stated (keys_in number lines ++ more)) ≡ feeds_stated more
+  after_whole : (number : ℕ) (lines : List SignalLine) (more : List SignalKey)
+      → feeds_after lines (feeds_stated (keys_in number lines ++ more)) ≡ feeds_stated more
   after_whole number [] more = refl
   after_whole number (line ∷ lines) more = after_whole number lines more
 
-  pub messages_whole : (lines : List MessageLine) → messages_from lines (map message_comment (map (λ (m : MessageLine). dbc_number m.ident) lines)) (feeds_stated (flat_map keys_of lines)) ≡ map (whole_message ss) lines
+  pub messages_whole : (lines : List MessageLine)
+      → messages_from lines (map message_comment (map (λ (m : MessageLine). dbc_number m.ident) lines))
+      (feeds_stated (flat_map keys_of lines)) ≡ map (whole_message ss) lines
   messages_whole [] = refl
   messages_whole (line ∷ lines) =
       let more = flat_map keys_of lines in
       let comments = map message_comment (map (λ (m : MessageLine). dbc_number m.ident) lines) in
-      ap (λ (l : List Message). record (whole_message ss line) { signals = signals_from line.signals (feeds_stated (keys_of line ++ more)) } ∷ l)
+      ap (λ (l : List Message). record (whole_message ss line)
+      { signals = signals_from line.signals (feeds_stated (keys_of line ++ more)) } ∷ l)
       (ap (messages_from lines comments) (after_whole (dbc_number line.ident) line.signals more) ∙ messages_whole lines)
-      ∙ ap (λ signals. record (whole_message ss line) { signals = signals } ∷ map (whole_message ss) lines) (signals_whole (dbc_number line.ident) line.signals more)
+      ∙ ap (λ signals. record (whole_message ss line) { signals = signals } ∷ map (whole_message ss) lines)
+      (signals_whole (dbc_number line.ident) line.signals more)

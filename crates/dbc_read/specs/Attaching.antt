@@ -1,10 +1,11 @@
 -- Signals with what statements attach to them, in the lines of their messages.
-use Rattle.std.specs.Prelude.{◌≡◌, ◌<◌, ⊤, ℕ, zero, suc, Bool, true, false, List, [], ◌∷◌, drop, length, map, Option, Some, None}
+use Rattle.std.specs.Prelude.{◌≡◌, ◌<◌, ⊤, ℕ, zero, suc, Bool, true, false, List, [], ◌∷◌, drop, length, map, Option}
+use Rattle.std.specs.Prelude.{Some, None}
 use Rattle.std.specs.List.{flat_map}
 use Rattle.dbc_grammar.specs.Statement as dbc
 use Rattle.dbc_grammar.specs.Statement.{Cited}
-use Rattle.catalogue.specs.declared.message.Message.{Message}
-use Rattle.catalogue.specs.declared.signal.Signal.{Signal}
+use Rattle.dbc_sheet.specs.declared.message.Message.{Message}
+use Rattle.dbc_sheet.specs.declared.signal.Signal.{Signal}
 use Rattle.dbc_read.specs.Built.{feeds_after, first_or, signals_from}
 use Rattle.dbc_read.specs.Gathered.{passed_after}
 use Rattle.dbc_read.specs.Lookups.{IsSignalIn}
@@ -81,7 +82,8 @@ HasSignalIfAny lines None = ⊤
 HasSignalIfAny lines (Some p) = HasSignal lines p.message p.signal
 
 -- the indices of the signal that is cited, or none if there is no such signal
-pub record AreIndicesOf (lines : List MessageLine) (number : Cited) (name : List ℕ) (indices : Option SignalIndices) : Type 0 where
+pub record AreIndicesOf (lines : List MessageLine) (number : Cited) (name : List ℕ)
+    (indices : Option SignalIndices) : Type 0 where
   pub within : HasSignalIfAny lines indices
   pub index : IsSignalIn (map message_of lines) number name (flat_index_of lines indices)
 
@@ -89,12 +91,14 @@ pub record AreIndicesOf (lines : List MessageLine) (number : Cited) (name : List
 abbrev pub CitesSignalAt : List MessageLine → Content → Option SignalIndices → Type 0
 CitesSignalAt lines (content.SignalComment cited text) indices = AreIndicesOf lines cited.number cited.name.now indices
 CitesSignalAt lines (content.ValueTexts cited texts) indices = AreIndicesOf lines cited.number cited.name.now indices
-CitesSignalAt lines (content.ValueType cited value_type) indices = AreIndicesOf lines cited.number cited.name.now indices
+CitesSignalAt lines (content.ValueType cited value_type) indices =
+    AreIndicesOf lines cited.number cited.name.now indices
 CitesSignalAt lines (content.Spn cited spn) indices = AreIndicesOf lines cited.number cited.name.now indices
 CitesSignalAt lines c indices = ⊤
 
 -- this is attached to the signal that is cited, or the statement is skipped if there is no such signal
-pub record IsAttached (number : Cited) (name : List ℕ) (a : Attachment) (p : Passed) (old new : List MessageLine) (before after : List Passed) : Type 0 where
+pub record IsAttached (number : Cited) (name : List ℕ) (a : Attachment) (p : Passed) (old new : List MessageLine)
+    (before after : List Passed) : Type 0 where
   pub index : Option ℕ
   pub is : IsSignalIn (map message_of old) number name index
   pub signals : all_signals new ≡ changed_at (with_attachment a) index (all_signals old)
@@ -132,7 +136,8 @@ each_fed (m ∷ ms) f = signals_from m.signals f ∷ each_fed ms (feeds_after m.
 
 abbrev pub messages_with : List dbc.MessageLine → List (List ℕ) → List (List Signal) → List Message
 messages_with [] comments lists = []
-messages_with (m ∷ ms) comments lists = message_with m (first_or [] comments) (first_or [] lists) ∷ messages_with ms (drop 1 comments) (drop 1 lists)
+messages_with (m ∷ ms) comments lists = message_with m (first_or [] comments) (first_or [] lists)
+    ∷ messages_with ms (drop 1 comments) (drop 1 lists)
 
 -- the messages of the lines, with what is attached to their signals there
 abbrev pub messages_of_lines : List MessageLine → List (List ℕ) → List Message

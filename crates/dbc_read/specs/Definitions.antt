@@ -1,12 +1,12 @@
 -- The definitions of a text: the nodes, value tables and messages of its statements, without what others say.
 use Rattle.std.specs.Prelude.{◌≡◌, ◌++◌, ℕ, Bool, true, false, nat_lt, List, Some, length, map}
 use Rattle.std.specs.List.{AllByRecursion}
-use Rattle.catalogue.specs.Limits.{value_text_limit}
+use Rattle.dbc_words.specs.Limits.{value_text_limit}
 use Rattle.dbc_grammar.specs.Parsing.{statements_at}
 use Rattle.dbc_grammar.specs.Saying.{each_in, messages_of, node_names_of, table_in}
 use Rattle.dbc_grammar.specs.Statement as dbc
 use Rattle.dbc_grammar.specs.Token.{Token}
-use Rattle.catalogue.specs.WellFormed.{AreFewTexts}
+use Rattle.dbc_sheet.specs.WellFormed.{AreFewTexts}
 use Rattle.dbc_lex.specs.declared.fault.ReadFault.{ReadFault}
 use Rattle.dbc_read.specs.Faults.{IsFaultOfDefinitions}
 use Rattle.dbc_read.specs.Gathering.{IsOfText}

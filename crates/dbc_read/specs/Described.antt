@@ -1,6 +1,6 @@
 -- The signals of a message with the offsets of where they are described.
 use Rattle.std.specs.Prelude.{List, [], ◌∷◌, drop}
-use Rattle.catalogue.specs.declared.signal.Signal.{Signal}
+use Rattle.dbc_sheet.specs.declared.signal.Signal.{Signal}
 use Rattle.dbc_statements.specs.declared.statement.MessageLine.{MessageLine}
 use Rattle.dbc_statements.specs.declared.statement.SignalOffsets.{SignalOffsets}
 use Rattle.dbc_read.specs.Built.{first_or}
@@ -12,7 +12,8 @@ pub record Described : Type 0 where
 -- each of the signals with its offsets, or with others where there are none
 abbrev pub described_with : SignalOffsets → List Signal → List SignalOffsets → List Described
 described_with other [] offsets = []
-described_with other (s ∷ signals) offsets = record { signal = s; offsets = first_or other offsets } ∷ described_with other signals (drop 1 offsets)
+described_with other (s ∷ signals) offsets = record { signal = s; offsets = first_or other offsets }
+    ∷ described_with other signals (drop 1 offsets)
 
 -- the message's own offset, for a signal that has none
 abbrev pub own_offsets : MessageLine → SignalOffsets

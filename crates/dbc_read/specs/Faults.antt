@@ -4,10 +4,10 @@ use Rattle.std.specs.Prelude.{◌≡◌, ◌==◌, ◌&&◌, ◌<◌, ◌≤◌,
 use Rattle.std.specs.List.{AllByRecursion, IsDistinct, list_any}
 use Rattle.bitlayout.specs.Mux.{is_multiplexor}
 use Rattle.can_id.specs.Ident.{dbc_number}
-use Rattle.catalogue.specs.Limits.{message_limit, roster_limit}
-use Rattle.catalogue.specs.Named.{AreNamedApart, has_name}
-use Rattle.catalogue.specs.WellFormed.{AreFewTexts}
-use Rattle.catalogue.specs.declared.value_texts.ValueText.{ValueText}
+use Rattle.dbc_words.specs.Limits.{message_limit, node_limit, signal_limit, table_limit}
+use Rattle.dbc_words.specs.Named.{AreNamedApart, has_name}
+use Rattle.dbc_sheet.specs.WellFormed.{AreFewTexts}
+use Rattle.dbc_sheet.specs.declared.value_texts.ValueText.{ValueText}
 use Rattle.dbc_lex.specs.declared.fault.ReadCode.{ReadCode}
 use Rattle.dbc_lex.specs.declared.fault.ReadCode.TheVariants.{DoubleName, DoubleNumber, TooMany, TwoMultiplexors}
 use Rattle.dbc_lex.specs.declared.fault.ReadFault.{ReadFault}
@@ -35,10 +35,11 @@ pub record AreNumbered (messages : List MessageLine) : Type 0 where
 
 -- no two of the signals are the multiplexor
 abbrev pub HaveOneMultiplexor : List Described → Type 0
-HaveOneMultiplexor signals = IsDistinct (λ (a b : Described). is_multiplexor a.signal.mux && is_multiplexor b.signal.mux) signals
+HaveOneMultiplexor signals =
+    IsDistinct (λ (a b : Described). is_multiplexor a.signal.mux && is_multiplexor b.signal.mux) signals
 
 pub record AreSignalLines (signals : List Described) : Type 0 where
-  pub names : AreNamedWithin (λ (s : Described). s.signal.name) roster_limit signals
+  pub names : AreNamedWithin (λ (s : Described). s.signal.name) signal_limit signals
   pub one_multiplexor : HaveOneMultiplexor signals
 
 -- the signals of each message
@@ -55,8 +56,8 @@ entries_of tables = map (λ (t : TableLine). t.entries) tables
 
 -- the nodes, value tables and messages
 pub record AreDefined (g : Gathered) : Type 0 where
-  pub nodes : AreNamedWithin (λ (n : NodeName). n.name) roster_limit g.nodes
-  pub tables : AreNamedWithin (λ (t : TableLine). t.name) roster_limit g.tables
+  pub nodes : AreNamedWithin (λ (n : NodeName). n.name) node_limit g.nodes
+  pub tables : AreNamedWithin (λ (t : TableLine). t.name) table_limit g.tables
   pub messages : AreMessageLines g.messages
   pub entries : AllByRecursion AreFewTexts (entries_of g.tables)
 
@@ -64,20 +65,24 @@ pub record AreDefined (g : Gathered) : Type 0 where
 
 abbrev pub IsNameRefused : {A : Type 0} → (A → List ℕ) → ℕ → List A → A → ReadCode → Type 0
 IsNameRefused name limit before item TooMany = AreNamedApart name before × (length before ≡ limit)
-IsNameRefused name limit before item DoubleName = AreNamedApart name before × (length before < limit) × (has_name name before (name item) ≡ true)
+IsNameRefused name limit before item DoubleName = AreNamedApart name before × (length before < limit)
+    × (has_name name before (name item) ≡ true)
 IsNameRefused name limit before item code = ⊥
 
 abbrev pub IsNumberRefused : List MessageLine → MessageLine → ReadCode → Type 0
 IsNumberRefused before line TooMany = AreNumberedApart before × (length before ≡ message_limit)
-IsNumberRefused before line DoubleNumber = AreNumberedApart before × (length before < message_limit) × (list_any (λ l. line_number l == line_number line) before ≡ true)
+IsNumberRefused before line DoubleNumber = AreNumberedApart before × (length before < message_limit)
+    × (list_any (λ l. line_number l == line_number line) before ≡ true)
 IsNumberRefused before line code = ⊥
 
 abbrev pub IsMultiplexorRefused : List Described → Described → ReadCode → Type 0
-IsMultiplexorRefused before s TwoMultiplexors = HaveOneMultiplexor before × (is_multiplexor s.signal.mux ≡ true) × (list_any (λ t. is_multiplexor t.signal.mux) before ≡ true)
+IsMultiplexorRefused before s TwoMultiplexors = HaveOneMultiplexor before × (is_multiplexor s.signal.mux ≡ true)
+    × (list_any (λ t. is_multiplexor t.signal.mux) before ≡ true)
 IsMultiplexorRefused before s code = ⊥
 
 -- the fault is that of an item, at its offset, which is refused after those before it
-pub record IsFaultAt {A : Type 0} (offset : A → ℕ) (IsRefused : List A → A → ReadCode → Type 0) (items : List A) (fault : ReadFault) : Type 0 where
+pub record IsFaultAt {A : Type 0} (offset : A → ℕ) (IsRefused : List A → A → ReadCode → Type 0) (items : List A)
+    (fault : ReadFault) : Type 0 where
   pub before : List A
   pub item : A
   pub after : List A
@@ -97,19 +102,25 @@ pub record IsEntriesFault (lists : List (List ValueText)) (fault : ReadFault) : 
 -- The faults of each kind.
 
 abbrev pub IsNodeFault : List NodeName → ReadFault → Type 0
-IsNodeFault nodes fault = IsFaultAt (λ (n : NodeName). n.at) (IsNameRefused (λ (n : NodeName). n.name) roster_limit) nodes fault
+IsNodeFault nodes fault = IsFaultAt (λ (n : NodeName). n.at) (IsNameRefused (λ (n : NodeName). n.name) node_limit) nodes
+    fault
 
 abbrev pub IsTableFault : List TableLine → ReadFault → Type 0
-IsTableFault tables fault = IsFaultAt (λ (t : TableLine). t.at) (IsNameRefused (λ (t : TableLine). t.name) roster_limit) tables fault
+IsTableFault tables fault = IsFaultAt (λ (t : TableLine). t.at) (IsNameRefused (λ (t : TableLine). t.name) table_limit)
+    tables fault
 
 abbrev pub IsNumberFault : List MessageLine → ReadFault → Type 0
 IsNumberFault messages fault = IsFaultAt (λ (m : MessageLine). m.at) IsNumberRefused messages fault
 
 abbrev pub IsMessageFault : List MessageLine → ReadFault → Type 0
-IsMessageFault messages fault = IsFaultAt (λ (m : MessageLine). m.name_at) (IsNameRefused (λ (m : MessageLine). m.name) message_limit) messages fault
+IsMessageFault messages fault =
+    IsFaultAt (λ (m : MessageLine). m.name_at) (IsNameRefused (λ (m : MessageLine). m.name) message_limit) messages
+    fault
 
 abbrev pub IsSignalFault : List Described → ReadFault → Type 0
-IsSignalFault signals fault = IsFaultAt (λ (s : Described). s.offsets.at) (IsNameRefused (λ (s : Described). s.signal.name) roster_limit) signals fault
+IsSignalFault signals fault =
+    IsFaultAt (λ (s : Described). s.offsets.at) (IsNameRefused (λ (s : Described). s.signal.name) signal_limit) signals
+    fault
 
 abbrev pub IsMultiplexorFault : List Described → ReadFault → Type 0
 IsMultiplexorFault signals fault = IsFaultAt (λ (s : Described). s.offsets.mux_at) IsMultiplexorRefused signals fault

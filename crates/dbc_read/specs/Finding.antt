@@ -1,7 +1,7 @@
 -- What finds the nodes, the messages and the signals that statements cite.
 use Rattle.std.specs.Prelude.{◌≡◌, ℕ, List, map}
 use Rattle.std.specs.Borrow.{Bor}
-use Rattle.catalogue.specs.Keyed.{text_cmp}
+use Rattle.base.specs.Keyed.{text_cmp}
 use Rattle.dbc_grammar.specs.Saying.{messages_of, node_names_of}
 use Rattle.dbc_grammar.specs.Statement.{Statement}
 use Rattle.dbc_read.specs.Keys.{text_of}
@@ -23,7 +23,8 @@ pub record Finds (f : Finders) (lines : List MessageLine) (statements : List Sta
 
 -- it finds these nodes and messages, whichever statements define them
 abbrev pub FindsAll : Finders → List NodeName → List MessageLine → Type 0
-FindsAll f nodes lines = (statements : List Statement) → names_of nodes ≡ node_names_of statements → map message_of lines ≡ messages_of statements → Finds f lines statements
+FindsAll f nodes lines = (statements : List Statement) → names_of nodes ≡ node_names_of statements
+    → map message_of lines ≡ messages_of statements → Finds f lines statements
 
 -- it finds the messages of these lines by number, and their signals by name
 pub record FindsSignals (f : Finders) (lines : List MessageLine) : Type 0 where

@@ -1,15 +1,15 @@
 -- What can be in one sheet.
 use Rattle.std.specs.Prelude.{◌≤◌, ◌==◌, List, length}
 use Rattle.std.specs.List.{AllByRecursion, IsDistinct}
-use Rattle.catalogue.specs.Limits.{message_limit}
-use Rattle.catalogue.specs.Messages.{message_name, number_of}
-use Rattle.catalogue.specs.Named.{AreNamedApart}
-use Rattle.catalogue.specs.Signals.{AreSignals}
-use Rattle.catalogue.specs.Sheet.{table_name}
-use Rattle.catalogue.specs.WellFormed.{AreFewTexts, AreRostered}
-use Rattle.catalogue.specs.declared.message.Message.{Message}
-use Rattle.catalogue.specs.declared.signal.Signal.{Signal}
-use Rattle.catalogue.specs.declared.value_table.ValueTable.{ValueTable}
+use Rattle.dbc_words.specs.Limits.{message_limit}
+use Rattle.dbc_words.specs.Named.{AreNamedApart}
+use Rattle.dbc_sheet.specs.Messages.{message_name, number_of}
+use Rattle.dbc_sheet.specs.Signals.{AreSignals}
+use Rattle.dbc_sheet.specs.Sheet.{table_name}
+use Rattle.dbc_sheet.specs.WellFormed.{AreFewTexts, AreRostered}
+use Rattle.dbc_sheet.specs.declared.message.Message.{Message}
+use Rattle.dbc_sheet.specs.declared.signal.Signal.{Signal}
+use Rattle.dbc_sheet.specs.declared.value_table.ValueTable.{ValueTable}
 
 abbrev pub HaveFewTexts : Signal → Type 0
 HaveFewTexts s = AreFewTexts s.values

@@ -1,15 +1,19 @@
 -- Gathering what one statement after the other says: what is gathered so far and what is left to say is all that the
 -- statements say.
-use Rattle.std.specs.Prelude.{◌≡◌, ℕ, nat_eq, Bool, true, false, List, [], ◌∷◌, ◌++◌, map, filter, Option, Some, None, length, replicate, unwrap_or, IfSome}
+use Rattle.std.specs.Prelude.{◌≡◌, ℕ, nat_eq, Bool, true, false, List, [], ◌∷◌, ◌++◌, map, filter, Option, Some, None}
+use Rattle.std.specs.Prelude.{length, replicate, unwrap_or, IfSome}
 use Rattle.std.specs.List.{AllByRecursion, IsDistinct, last_or}
 use Rattle.std.specs.Option.{option_map}
 use Rattle.std.specs.Str.{bytes_eq}
+use Rattle.dbc_words.specs.declared.keyword.Keyword.{Keyword}
+use Rattle.dbc_words.specs.declared.value_type.ValueType.TheVariants.{Integer}
 use Rattle.dbc_grammar.specs.Parsing.{statements_at}
-use Rattle.dbc_grammar.specs.Saying.{comment_in, each_in, is_passed, last_at, last_value_of, message_comment_in, messages_of, node_comment_in, node_names_of, numbers_of, passed_by, same_signal, signal_comment_in, signal_keys_of, spn_in, table_in, value_texts_in, value_type_in, version_in}
+use Rattle.dbc_grammar.specs.Saying.{comment_in, each_in, is_passed, last_at, last_value_of, message_comment_in}
+use Rattle.dbc_grammar.specs.Saying.{messages_of, node_comment_in, node_names_of, numbers_of, passed_by, same_signal}
+use Rattle.dbc_grammar.specs.Saying.{signal_comment_in, signal_keys_of, spn_in, table_in, value_texts_in, value_type_in}
+use Rattle.dbc_grammar.specs.Saying.{version_in}
 use Rattle.dbc_grammar.specs.Statement as dbc
 use Rattle.dbc_grammar.specs.Token.{Token}
-use Rattle.catalogue.specs.declared.keyword.Keyword.{Keyword}
-use Rattle.catalogue.specs.declared.value_type.ValueType.TheVariants.{Integer}
 use Rattle.dbc_read.specs.Attaching.{all_signals, cites_signal, with_attached}
 use Rattle.dbc_read.specs.Finding.{Finds}
 use Rattle.dbc_read.specs.Gathered.{AreGathered, gathered_after}
@@ -47,17 +51,23 @@ pub record Gathers (all : List dbc.Statement) (g : Gathered) (rest : List dbc.St
   pub nodes : names_of g.nodes ++ node_names_of rest ≡ node_names_of all
   pub tables : map table_of g.tables ++ each_in table_in rest ≡ each_in table_in all
   pub messages : map message_of g.messages ++ messages_of rest ≡ messages_of all
-  pub node_comments : IsDistinct bytes_eq (node_names_of all) → finished bytes_eq [] (each_in node_comment_in rest) (node_names_of all) g.node_comments
+  pub node_comments : IsDistinct bytes_eq (node_names_of all)
+      → finished bytes_eq [] (each_in node_comment_in rest) (node_names_of all) g.node_comments
       ≡ map (λ name. last_value_of bytes_eq name [] node_comment_in all) (node_names_of all)
-  pub message_comments : IsDistinct nat_eq (numbers_of all) → finished nat_eq [] (each_in message_comment_in rest) (numbers_of all) g.message_comments
+  pub message_comments : IsDistinct nat_eq (numbers_of all)
+      → finished nat_eq [] (each_in message_comment_in rest) (numbers_of all) g.message_comments
       ≡ map (λ number. last_value_of nat_eq number [] message_comment_in all) (numbers_of all)
-  pub signal_comments : IsDistinct same_signal (signal_keys_of all) → finished same_signal [] (each_in signal_comment_in rest) (signal_keys_of all) g.signal_comments
+  pub signal_comments : IsDistinct same_signal (signal_keys_of all)
+      → finished same_signal [] (each_in signal_comment_in rest) (signal_keys_of all) g.signal_comments
       ≡ map (λ key. last_value_of same_signal key [] signal_comment_in all) (signal_keys_of all)
-  pub signal_values : IsDistinct same_signal (signal_keys_of all) → finished same_signal [] (each_in value_texts_in rest) (signal_keys_of all) g.signal_values
+  pub signal_values : IsDistinct same_signal (signal_keys_of all)
+      → finished same_signal [] (each_in value_texts_in rest) (signal_keys_of all) g.signal_values
       ≡ map (λ key. last_value_of same_signal key [] value_texts_in all) (signal_keys_of all)
-  pub signal_types : IsDistinct same_signal (signal_keys_of all) → finished same_signal Integer (each_in value_type_in rest) (signal_keys_of all) g.signal_types
+  pub signal_types : IsDistinct same_signal (signal_keys_of all)
+      → finished same_signal Integer (each_in value_type_in rest) (signal_keys_of all) g.signal_types
       ≡ map (λ key. last_value_of same_signal key Integer value_type_in all) (signal_keys_of all)
-  pub signal_spns : IsDistinct same_signal (signal_keys_of all) → finished same_signal 0 (each_in spn_in rest) (signal_keys_of all) g.signal_spns
+  pub signal_spns : IsDistinct same_signal (signal_keys_of all)
+      → finished same_signal 0 (each_in spn_in rest) (signal_keys_of all) g.signal_spns
       ≡ map (λ key. last_value_of same_signal key 0 spn_in all) (signal_keys_of all)
   pub passed : map start_and_keyword g.passed ++ passed_in all rest ≡ passed_by all
 
@@ -102,7 +112,8 @@ with_empty nodes messages signals g = record g {
 
 -- those that the statements define
 abbrev pub with_nothing_attached : List dbc.Statement → Gathered → Gathered
-with_nothing_attached statements g = with_empty (length (node_names_of statements)) (length (numbers_of statements)) (length (signal_keys_of statements)) g
+with_nothing_attached statements g = with_empty (length (node_names_of statements)) (length (numbers_of statements))
+    (length (signal_keys_of statements)) g
 
 -- these nodes and messages are gathered too
 abbrev pub with_definitions : List NodeName → List MessageLine → Gathered → Gathered
@@ -110,7 +121,8 @@ with_definitions nodes messages g = record g { nodes = nodes; messages = message
 
 -- the statements so far are gathered, whatever the rest is; they cite nothing
 abbrev pub IsDefining : List dbc.Statement → Gathered → Type 0
-IsDefining stated g = (rest : List dbc.Statement) → Gathers (stated ++ rest) (with_nothing_attached (stated ++ rest) g) rest
+IsDefining stated g = (rest : List dbc.Statement)
+    → Gathers (stated ++ rest) (with_nothing_attached (stated ++ rest) g) rest
 
 -- nothing is attached to the signals of each of the lines
 abbrev pub AreBare : List MessageLine → Type 0
@@ -128,14 +140,17 @@ HaveNothing lines = (g : Gathered) → with_attached lines g ≡ record g {
 -- these statements, which define nothing, are gathered where what they cite is found; what is attached to signals is in
 -- the lines
 abbrev pub Settles : Finders → List dbc.Statement → List MessageLine → Gathered → List MessageLine → Gathered → Type 0
-Settles f more lines old new_lines new = (all rest : List dbc.Statement) (nodes : List NodeName) (messages : List MessageLine) → Finds f lines all
-    → Gathers all (with_definitions nodes messages (with_attached lines old)) (more ++ rest) → Gathers all (with_definitions nodes messages (with_attached new_lines new)) rest
+Settles f more lines old new_lines new =
+    (all rest : List dbc.Statement) (nodes : List NodeName) (messages : List MessageLine) → Finds f lines all
+    → Gathers all (with_definitions nodes messages (with_attached lines old)) (more ++ rest)
+    → Gathers all (with_definitions nodes messages (with_attached new_lines new)) rest
 
 -- one statement is gathered, with the index of what its content cites, which is no signal
 pub record IsGathered (f : Finders) (p : Passed) (c : Content) (old new : Gathered) : Type 0 where
   pub none : cites_signal c ≡ false
   pub index : Option ℕ
-  pub is : (lines : List MessageLine) (statements : List dbc.Statement) → Finds f lines statements → IsCitedIndex statements (content_of c) index
+  pub is : (lines : List MessageLine) (statements : List dbc.Statement) → Finds f lines statements
+      → IsCitedIndex statements (content_of c) index
   pub gathered : new ≡ gathered_after index p c old
 
 -- Tokens that begin with these statements, and then the rest.

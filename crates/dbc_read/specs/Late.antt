@@ -22,7 +22,8 @@ use Rattle.dbc_statements.specs.declared.statement.Statement.{Statement}
 pub record DefineLate (late : Statement) (tokens : List Token) (old new : Gathered) : Type 0 where
   pub stated : List dbc.Statement
   pub read : statements_at tokens ≡ Some stated
-  pub are : (before : List dbc.Statement) → AreDefinitions before old → AreDefinitions ((before ++ statement_of late ∷ []) ++ stated) new
+  pub are : (before : List dbc.Statement) → AreDefinitions before old
+      → AreDefinitions ((before ++ statement_of late ∷ []) ++ stated) new
 
 -- what all statements of the tokens define
 pub record DefineAll (tokens : List Token) (g : Gathered) : Type 0 where
@@ -41,18 +42,22 @@ pub record GathersApart (all : List dbc.Statement) (g : Gathered) (rest : List d
   pub gathers : Gathers all (with_definitions nodes messages g) rest
 
 -- these statements are gathered so, where what they cite is found
-abbrev pub SettlesApart : Finders → List dbc.Statement → List MessageLine → Gathered → List MessageLine → Gathered → Type 0
+abbrev pub SettlesApart : Finders → List dbc.Statement → List MessageLine → Gathered → List MessageLine → Gathered
+    → Type 0
 SettlesApart f more lines old new_lines new = (all rest : List dbc.Statement) → Finds f lines all
     → GathersApart all (with_attached lines old) (more ++ rest) → GathersApart all (with_attached new_lines new) rest
 
 -- all statements that are left are
-pub record SettlesOthers (f : Finders) (tokens : List Token) (lines : List MessageLine) (old : Gathered) (new_lines : List MessageLine) (new : Gathered) : Type 0 where
+pub record SettlesOthers (f : Finders) (tokens : List Token) (lines : List MessageLine) (old : Gathered)
+    (new_lines : List MessageLine) (new : Gathered) : Type 0 where
   pub stated : List dbc.Statement
   pub read : statements_at tokens ≡ Some stated
   pub gathered : SettlesApart f stated lines old new_lines new
 
 -- it is what all statements of the tokens say, if they define these nodes and messages
-pub record FollowAll (nodes : List NodeName) (lines : List MessageLine) (tokens : List Token) (new_lines : List MessageLine) (new : Gathered) : Type 0 where
+pub record FollowAll (nodes : List NodeName) (lines : List MessageLine) (tokens : List Token)
+    (new_lines : List MessageLine) (new : Gathered) : Type 0 where
   pub stated : List dbc.Statement
   pub read : statements_at tokens ≡ Some stated
-  pub gathered : names_of nodes ≡ node_names_of stated → map message_of lines ≡ messages_of stated → AreGathered stated (with_definitions nodes new_lines (with_attached new_lines new))
+  pub gathered : names_of nodes ≡ node_names_of stated → map message_of lines ≡ messages_of stated
+      → AreGathered stated (with_definitions nodes new_lines (with_attached new_lines new))

@@ -1,10 +1,11 @@
 -- The signals of a message in ascending order of their names.
-use Rattle.std.specs.Prelude.{◌≤◌, ⊤, ℕ, List, [], ◌∷◌, Option, None, Some, Box, get_or, length, map, IsPermutation, IsSortedBy}
+use Rattle.std.specs.Prelude.{◌≤◌, ⊤, ℕ, List, [], ◌∷◌, Option, None, Some, Box, get_or, length, map, IsPermutation}
+use Rattle.std.specs.Prelude.{IsSortedBy}
 use Rattle.std.specs.List.{range_with_len}
 use Rattle.std.specs.Ordering.{is_lt}
-use Rattle.catalogue.specs.Keyed.{text_cmp}
+use Rattle.base.specs.Keyed.{text_cmp}
 use Rattle.dbc_grammar.specs.Statement as dbc
-use Rattle.catalogue.specs.declared.signal.Signal.{Signal}
+use Rattle.dbc_sheet.specs.declared.signal.Signal.{Signal}
 use Rattle.dbc_read.specs.declared.orders.Order.{Order}
 use Rattle.dbc_read.specs.declared.orders.TheConstants.{FEW_SIGNALS}
 

@@ -1,6 +1,6 @@
 -- How a skipped statement is reported.
 use Rattle.std.specs.Prelude.{ℕ}
-use Rattle.catalogue.specs.declared.keyword.Keyword.{Keyword}
+use Rattle.dbc_words.specs.declared.keyword.Keyword.{Keyword}
 use Rattle.dbc_read.specs.declared.passed.Passed.{Passed}
 
 abbrev pub start_and_keyword : Passed → ℕ × Keyword

@@ -3,7 +3,7 @@ use Rattle.std.specs.Prelude.{◌≡◌, ◌≢◌, ◌≤◌, ◌⊎◌, ℕ, L
 use Rattle.dbc_grammar.specs.Lexing.{LexFault, lexed}
 use Rattle.dbc_grammar.specs.Reads.{Reads}
 use Rattle.dbc_grammar.specs.Statement.{Statement}
-use Rattle.catalogue.specs.declared.sheet.Sheet.{Sheet}
+use Rattle.dbc_sheet.specs.declared.sheet.Sheet.{Sheet}
 use Rattle.dbc_lex.specs.Fault.{fault_of}
 use Rattle.dbc_lex.specs.declared.fault.ReadCode.TheVariants.{Memory}
 use Rattle.dbc_lex.specs.declared.fault.ReadFault.{ReadFault}
@@ -37,4 +37,5 @@ HasFault bytes fault = HasNoDivision bytes ⊎ IsFaultOfText bytes fault
 
 -- What the statements of the text say can't be in one sheet.
 abbrev pub CanNeverBeSheet : List ℕ → Type 0
-CanNeverBeSheet bytes = (stated : List Statement) → IsDivided bytes stated → (g : Gathered) → AreGathered stated g → ¬ CanBeSheet g
+CanNeverBeSheet bytes = (stated : List Statement) → IsDivided bytes stated → (g : Gathered) → AreGathered stated g
+    → ¬ CanBeSheet g

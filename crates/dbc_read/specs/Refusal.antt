@@ -1,7 +1,7 @@
 -- Why a part of a sheet isn't built.
 use Rattle.std.specs.Prelude.{⊤}
-use Rattle.catalogue.specs.declared.fault.SheetCode.{SheetCode}
-use Rattle.catalogue.specs.declared.fault.SheetCode.TheVariants as sheets
+use Rattle.dbc_words.specs.declared.fault.SheetCode.{SheetCode}
+use Rattle.dbc_words.specs.declared.fault.SheetCode.TheVariants as sheets
 use Rattle.dbc_read.specs.declared.refusal.Refusal.{Refusal}
 use Rattle.dbc_read.specs.declared.refusal.Refusal.TheVariants.{Memory, NoSheet}
 

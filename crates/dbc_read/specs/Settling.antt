@@ -21,18 +21,21 @@ ReadUpTo settled.All stated tokens rest = statements_at tokens ≡ Some stated
 ReadUpTo (settled.UpTo late) stated tokens rest = BeginWith (stated ++ statement_of late ∷ []) tokens rest
 
 -- statements are gathered up to the first that defines something
-pub record SettlesTo (f : Finders) (end : Settled) (tokens rest : List Token) (lines : List MessageLine) (old : Gathered) (new_lines : List MessageLine) (new : Gathered) : Type 0 where
+pub record SettlesTo (f : Finders) (end : Settled) (tokens rest : List Token) (lines : List MessageLine)
+    (old : Gathered) (new_lines : List MessageLine) (new : Gathered) : Type 0 where
   pub stated : List dbc.Statement
   pub read : ReadUpTo end stated tokens rest
   pub none : DefineNothing stated
   pub gathered : Settles f stated lines old new_lines new
 
 -- they are gathered after those that define these nodes and messages, and after the first that cites something
-pub record Follow (nodes : List NodeName) (lines : List MessageLine) (first : Option Statement) (end : Settled) (tokens rest : List Token) (old : Gathered) (new_lines : List MessageLine) (new : Gathered) : Type 0 where
+pub record Follow (nodes : List NodeName) (lines : List MessageLine) (first : Option Statement) (end : Settled)
+    (tokens rest : List Token) (old : Gathered) (new_lines : List MessageLine) (new : Gathered) : Type 0 where
   pub stated : List dbc.Statement
   pub read : ReadUpTo end stated tokens rest
   pub gathered : (before : List dbc.Statement) → IsDefining before (with_definitions nodes lines old)
-      → AreGathered ((before ++ one_or_none first) ++ stated) (with_definitions nodes new_lines (with_attached new_lines new))
+      → AreGathered ((before ++ one_or_none first) ++ stated)
+      (with_definitions nodes new_lines (with_attached new_lines new))
 
 -- all statements up to the late one are gathered
 pub record AreSettled (end : Settled) (tokens rest : List Token) (g : Gathered) : Type 0 where

@@ -3,8 +3,9 @@ ghost use Rattle.std.specs.Prelude.{◌≡◌, ◌<◌, length, map};
 ghost use Rattle.dbc_read.specs.Attaching.{HasSignal, all_signals, at_index, flat_index, with_attachment};
 ghost use Rattle.dbc_statements.specs.Statement.{message_of};
 
-use catalogue::{Signal, Spn, Text, ValueTexts, ValueType};
+use dbc_sheet::{Signal, ValueTexts};
 use dbc_statements::MessageLine;
+use dbc_words::{Spn, Text, ValueType};
 
 /// What a statement attaches to a signal.
 #[derive(Drop)]
@@ -56,7 +57,8 @@ fn attach_in(signals: &mut [Signal], at: usize, attachment: Attachment)
 pub(crate) fn attach_at(lines: &mut [MessageLine], indices: SignalIndices, attachment: Attachment)
     requires { HasSignal lines.old indices.message indices.signal }
     ensures messages { map message_of lines.new ≡ map message_of lines.old }
-    ensures signals { all_signals lines.new ≡ at_index (with_attachment attachment) (all_signals lines.old)
+    ensures signals { all_signals lines.new ≡ at_index (with_attachment attachment)
+        (all_signals lines.old)
         (flat_index lines.old indices.message indices.signal) }
 {
     attach_in(

@@ -65,9 +65,11 @@ pub(crate) fn further_definitions(
     statements: &mut Statements,
 ) -> Result<Option<Gathered>, ReadFault>
     ensures source { statements.new.source ≡ statements.old.source }
-    ensures ok { IfOk result (λ found. IfSome found (DefineFurther statements.old.tokens gathered)) }
+    ensures ok { IfOk result
+        (λ found. IfSome found (DefineFurther statements.old.tokens gathered)) }
     ensures many { IfOk result (λ found. IfNone found (TokensHaveManyTexts statements.old.tokens)) }
-    ensures err { IfErr result (λ fault. UnlessMemory fault.code (statements_at statements.old.tokens ≡ None)) }
+    ensures err { IfErr result
+        (λ fault. UnlessMemory fault.code (statements_at statements.old.tokens ≡ None)) }
 {
     let mut definitions = gathered;
     'statements: while let Some(next) = statements.read_next(alloc)? {
@@ -82,9 +84,11 @@ pub(crate) fn further_definitions(
 /// The definitions of the statements that are left, as [`further_definitions`].
 fn definitions_of(alloc: Global, statements: &mut Statements) -> Result<Option<Gathered>, ReadFault>
     ensures source { statements.new.source ≡ statements.old.source }
-    ensures ok { IfOk result (λ found. IfSome found (AreDefinitionsOfTokens statements.old.tokens)) }
+    ensures ok { IfOk result
+        (λ found. IfSome found (AreDefinitionsOfTokens statements.old.tokens)) }
     ensures many { IfOk result (λ found. IfNone found (TokensHaveManyTexts statements.old.tokens)) }
-    ensures err { IfErr result (λ fault. UnlessMemory fault.code (statements_at statements.old.tokens ≡ None)) }
+    ensures err { IfErr result
+        (λ fault. UnlessMemory fault.code (statements_at statements.old.tokens ≡ None)) }
 {
     let nothing = Gathered::empty(alloc);
     further_definitions(alloc, nothing, statements)
@@ -97,7 +101,8 @@ pub(crate) fn fault_of_definitions(
     source: &[u8],
 ) -> Result<Option<ReadFault>, ReadFault>
     ensures fault { IfOk result (λ found. IfSome found (IsDefinitionFault source.now)) }
-    ensures many { IfOk result (λ found. IfNone found (CanNeverBeSheet source.now → HasManyTexts source.now)) }
+    ensures many { IfOk result
+        (λ found. IfNone found (CanNeverBeSheet source.now → HasManyTexts source.now)) }
     ensures err { IfErr result (λ fault. UnlessMemory fault.code (HasNoDivision source.now)) }
     ensures tokens { TokensComeFirst source.now result }
 {

@@ -4,8 +4,9 @@ ghost use Rattle.bitlayout.specs.Mux.{is_multiplexor};
 ghost use Rattle.dbc_read.specs.Described.{described, own_offsets};
 
 use crate::items::NamedItem;
-use catalogue::{Name, Signal};
+use dbc_sheet::Signal;
 use dbc_statements::{MessageLine, SignalOffsets};
+use dbc_words::Name;
 use std::alloc::{AllocError, Global};
 use std::marker::Model;
 

@@ -2,8 +2,9 @@
 ghost use Rattle.std.specs.Prelude.{◌≡◌, [], drop};
 ghost use Rattle.dbc_read.specs.Built.{first_or};
 
-use catalogue::{Items, Spn, Text, ValueType};
+use base::Items;
 use dbc_statements::Entries;
+use dbc_words::{Spn, Text, ValueType};
 use std::marker::Model;
 use std::vec::IntoIter;
 

@@ -9,8 +9,9 @@ ghost use Rattle.dbc_statements.specs.Statement.{message_of, signal_of, signals_
 
 use crate::feed::Feeds;
 use crate::refusal::Refusal;
-use catalogue::{Signal, Spn, Text, ValueType};
+use dbc_sheet::Signal;
 use dbc_statements::{Entries, MessageLine};
+use dbc_words::{Spn, Text, ValueType};
 use std::alloc::Global;
 
 /// The signal takes the next of what is attached to signals, in place of what it has.
@@ -47,10 +48,13 @@ fn feed_signals(alloc: Global, signals: &mut [Signal], feeds: &mut Feeds) -> Res
 /// The signals of the message take the next of what is attached.
 fn feed_line(alloc: Global, line: &mut MessageLine, feeds: &mut Feeds) -> Result<(), Refusal>
     ensures stays { message_of line.new ≡ message_of line.old }
-    ensures fed { OnOk result (line_signals line.new ≡ signals_from (signals_of line.old.signals.items) feeds.old) }
-    ensures rest { OnOk result (feeds.new ≡ feeds_after (signals_of line.old.signals.items) feeds.old) }
+    ensures fed { OnOk result
+        (line_signals line.new ≡ signals_from (signals_of line.old.signals.items) feeds.old) }
+    ensures rest { OnOk result
+        (feeds.new ≡ feeds_after (signals_of line.old.signals.items) feeds.old) }
     ensures refused { IfErr result (λ refusal. Unless refusal
-        (¬ AllByRecursion HaveFewTexts (signals_from (signals_of line.old.signals.items) feeds.old))) }
+        (¬ AllByRecursion HaveFewTexts
+        (signals_from (signals_of line.old.signals.items) feeds.old))) }
 {
     feed_signals(alloc, &mut line.signals, feeds)
 }
@@ -62,9 +66,11 @@ pub(crate) fn feed_lines(
     feeds: Feeds,
 ) -> Result<(), Refusal>
     ensures stays { map message_of lines.new ≡ map message_of lines.old }
-    ensures fed { OnOk result (map line_signals lines.new ≡ each_fed (map message_of lines.old) feeds) }
+    ensures fed { OnOk result
+        (map line_signals lines.new ≡ each_fed (map message_of lines.old) feeds) }
     ensures refused { IfErr result (λ refusal. Unless refusal
-        (¬ AllByRecursion (AllByRecursion HaveFewTexts) (each_fed (map message_of lines.old) feeds))) }
+        (¬ AllByRecursion (AllByRecursion HaveFewTexts)
+        (each_fed (map message_of lines.old) feeds))) }
 {
     let mut feeds = feeds;
     for at in 0..lines.len() {

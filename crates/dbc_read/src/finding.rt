@@ -8,7 +8,7 @@ ghost use Rattle.std.specs.Prelude.{◌≡◌, ◌==◌, List, IfOk, IfSome, Som
 ghost use Rattle.std.specs.List.{IsDistinct};
 ghost use Rattle.std.specs.Str.{bytes_eq};
 ghost use Rattle.dbc_grammar.specs.Statement as dbc;
-ghost use Rattle.catalogue.specs.declared.signal.Signal.{Signal};
+ghost use Rattle.dbc_sheet.specs.declared.signal.Signal.{Signal};
 ghost use Rattle.dbc_read.specs.Attaching.{AreIndicesOf, CitesSignalAt, cites_signal};
 ghost use Rattle.dbc_read.specs.Finding.{Finds, FindsAll, FindsSignals};
 ghost use Rattle.dbc_read.specs.Lookup.{IsIndexIn};
@@ -22,7 +22,7 @@ use crate::keys::add_names;
 use crate::lookup::{Lookup, lookup_of};
 use crate::numbers::{Numbers, numbers_of};
 use crate::orders::{OrderOfMany, orders_of, search};
-use catalogue::Signal;
+use dbc_sheet::Signal;
 use dbc_statements::{CitedSignal, Content, MessageLine, NodeName};
 use std::alloc::{AllocError, Global};
 
@@ -42,8 +42,10 @@ pub(crate) fn finders_of<'s>(
     nodes: &'s [NodeName],
     lines: &[MessageLine],
 ) -> Result<Option<Finders<'s>>, AllocError>
-    ensures signals { IfOk result (λ found. IfSome found (λ finders. FindsSignals finders lines.now)) }
-    ensures all { IfOk result (λ found. IfSome found (λ finders. FindsAll finders nodes.now lines.now)) }
+    ensures signals { IfOk result
+        (λ found. IfSome found (λ finders. FindsSignals finders lines.now)) }
+    ensures all { IfOk result
+        (λ found. IfSome found (λ finders. FindsAll finders nodes.now lines.now)) }
 {
     let numbers = match numbers_of(alloc, lines)? {
         Some(numbers) => numbers,
@@ -65,7 +67,7 @@ pub(crate) fn finders_of<'s>(
 
 /// The node and the message that were found last, and the index after that of the signal that was.
 #[derive(Clone, Copy)]
-pub(crate) struct Track {
+pub(crate) struct LastFound {
     node: usize,
     message: usize,
     next: usize,
@@ -73,7 +75,8 @@ pub(crate) struct Track {
 
 /// Whether the signal at the index has that name.
 fn has_at(signals: &[Signal], index: usize, name: &[u8]) -> bool
-    ensures { result ≡ true → slice_get (map (λ (s : Signal). bytes_eq s.name name.now) signals.now) index ≡ Some true }
+    ensures { result ≡ true → slice_get (map (λ (s : Signal). bytes_eq s.name name.now) signals.now)
+        index ≡ Some true }
 {
     match signals.get(index) {
         Some(signal) => signal.name.as_bytes() == name,
@@ -124,10 +127,10 @@ fn anywhere(signals: &[Signal], order: &OrderOfMany, name: &[u8], next: usize) -
     }
 }
 
-impl Track {
+impl LastFound {
     /// Nothing was found yet.
-    pub(crate) fn new() -> Track {
-        Track {
+    pub(crate) fn new() -> LastFound {
+        LastFound {
             node: 0,
             message: 0,
             next: 0,
@@ -240,7 +243,8 @@ impl Track {
     /// The index of the node or the message that is cited, if one is and the file has it.
     pub(crate) fn index(&mut self, finders: &Finders, content: &Content) -> Option<usize>
         requires { cites_signal content.now ≡ false }
-        ensures { (lines : List MessageLine) (statements : List dbc.Statement) → Finds finders.now lines statements
+        ensures { (lines : List MessageLine) (statements : List dbc.Statement)
+            → Finds finders.now lines statements
             → IsCitedIndex statements (content_of content.now) result }
     {
         match content {

@@ -5,9 +5,9 @@
 //! (`definitions`).
 ghost use Rattle.std.specs.Prelude.{◌≡◌, ◌⊎◌, ◌≤◌, IfNone, IfOk, IfSome, None, is_some, length, nat_lt};
 ghost use Rattle.std.specs.List.{AllByRecursion};
-ghost use Rattle.catalogue.specs.Limits.{value_text_limit};
-ghost use Rattle.catalogue.specs.Named.{has_name};
-ghost use Rattle.catalogue.specs.WellFormed.{AreFewTexts};
+ghost use Rattle.dbc_words.specs.Limits.{value_text_limit};
+ghost use Rattle.dbc_words.specs.Named.{has_name};
+ghost use Rattle.dbc_sheet.specs.WellFormed.{AreFewTexts};
 ghost use Rattle.dbc_lex.specs.declared.fault.ReadCode.TheVariants.{TooMany};
 ghost use Rattle.dbc_read.specs.Built.{CanBeSheet};
 ghost use Rattle.dbc_read.specs.Described.{described};
@@ -35,9 +35,10 @@ ghost use Rattle.dbc_read.specs.Faults.{
 use crate::described::{DescribedSignal, described_signals};
 use crate::gathered::Gathered;
 use crate::items::NamedItem;
-use catalogue::{Copying, MESSAGE_LIMIT, ROSTER_LIMIT};
+use base::Copying;
 use dbc_lex::{ReadCode, ReadFault};
 use dbc_statements::{Entries, MessageLine, TableLine};
+use dbc_words::{MESSAGE_LIMIT, NODE_LIMIT, SIGNAL_LIMIT, TABLE_LIMIT};
 use std::alloc::{AllocError, Global};
 use std::collections::BTreeSet;
 
@@ -73,7 +74,8 @@ const FEW_ITEMS: usize = 16;
 /// The fault at the first of few items that is above the limit, or has the name of an earlier one.
 fn few_names_fault<T: NamedItem>(items: &[T], limit: usize) -> Option<ReadFault>
     ensures none { IfNone result (AreNamedWithin T.name_of limit items.now) }
-    ensures fault { IfSome result (IsFaultAt T.offset_of (IsNameRefused T.name_of limit) items.now) }
+    ensures fault { IfSome result
+        (IsFaultAt T.offset_of (IsNameRefused T.name_of limit) items.now) }
 {
     let mut before = 0;
     for item in items {
@@ -177,7 +179,7 @@ fn signal_fault(alloc: Global, message: &MessageLine) -> Result<Option<ReadFault
     ensures fault { IfOk result (λ found. IfSome found (IsFaultOfSignals (described message.now))) }
 {
     let signals = described_signals(alloc, message)?;
-    let name = name_fault(alloc, &signals, ROSTER_LIMIT)?;
+    let name = name_fault(alloc, &signals, SIGNAL_LIMIT)?;
     Ok(earlier(name, multiplexor_fault(&signals)))
 }
 
@@ -250,8 +252,8 @@ pub(crate) fn definition_fault(
     ensures none { IfOk result (λ found. IfNone found (AreDefined gathered.now)) }
     ensures fault { IfOk result (λ found. IfSome found (IsFaultOfDefinitions gathered.now)) }
 {
-    let node = name_fault(alloc, gathered.nodes.as_slice(), ROSTER_LIMIT)?;
-    let table = name_fault(alloc, gathered.tables.as_slice(), ROSTER_LIMIT)?;
+    let node = name_fault(alloc, gathered.nodes.as_slice(), NODE_LIMIT)?;
+    let table = name_fault(alloc, gathered.tables.as_slice(), TABLE_LIMIT)?;
     let message = messages_fault(alloc, gathered.messages.as_slice())?;
     let named = earlier(node, earlier(table, message));
     let entry = tables_fault(gathered.tables.as_slice());

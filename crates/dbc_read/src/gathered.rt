@@ -3,7 +3,7 @@
 //! What is attached to signals is listed by their indices, until all messages are there; or, if they are there before
 //! anything is attached, it is set in the signals at once (`attaching`), and the lists stay empty.
 ghost use Rattle.std.specs.Prelude.{◌≡◌, ◌++◌, IfErr, IfOk, OnOk, [], replicate};
-ghost use Rattle.catalogue.specs.declared.value_type.ValueType.TheVariants.{Integer};
+ghost use Rattle.dbc_words.specs.declared.value_type.ValueType.TheVariants.{Integer};
 ghost use Rattle.dbc_read.specs.Attaching.{in_signals};
 ghost use Rattle.dbc_read.specs.Built.{CanBeSheet, IsBuilt, feeds_in};
 ghost use Rattle.dbc_read.specs.Gathering.{IsEmpty};
@@ -19,8 +19,10 @@ use crate::passed::Passed;
 use crate::reading::Reading;
 use crate::refusal::Refusal;
 use crate::sheets::{add_lines, add_nodes, add_tables, bare_sheet};
-use catalogue::{Items, Spn, Text, ValueType, sheets_are_well_formed};
+use base::Items;
+use dbc_sheet::sheets_are_well_formed;
 use dbc_statements::{Content, Entries, MessageLine, NodeName, Statement, TableLine};
+use dbc_words::{Spn, Text, ValueType};
 use std::alloc::{AllocError, Global};
 
 /// The contents of the statements by kind, in their order. What they attach to nodes, messages and signals is at the
@@ -94,7 +96,11 @@ pub(crate) fn attach_nothing(
 ) -> Result<(), AllocError>
     ensures { OnOk result
         (gathered.new
-        ≡ record gathered.old { node_comments = replicate nodes []; message_comments = replicate messages [] }) }
+        ≡ record gathered.old {
+          node_comments = replicate nodes [];
+          message_comments =
+              replicate messages [];
+        }) }
 {
     gathered.node_comments = no_texts(alloc, nodes)?;
     gathered.message_comments = no_texts(alloc, messages)?;
@@ -168,7 +174,8 @@ fn gather_nodes(nodes: Vec<NodeName>, found: &mut Items<NodeName>) -> Result<(),
 
 /// Adds the content of a statement to what is gathered.
 pub(crate) fn gather(from: Citing, content: Content, all: &mut Gathered) -> Result<(), AllocError>
-    ensures { OnOk result (all.new ≡ gathered_after from.index from.statement content.entry all.old) }
+    ensures { OnOk result (all.new ≡ gathered_after from.index from.statement content.entry
+        all.old) }
 {
     match content {
         Content::Version(text) => {
@@ -222,7 +229,8 @@ fn start_gathering(
     alloc: Global,
     statements: &[Statement],
 ) -> Result<(Gathered, Vec<Option<usize>>), AllocError>
-    ensures { IfOk result (λ begun. IsBeginning (statements_of statements.now) begun.0 begun.1.items) }
+    ensures { IfOk result (λ begun. IsBeginning (statements_of statements.now) begun.0
+        begun.1.items) }
 {
     let keys = keys_of(alloc, statements)?;
     let lookups = lookups_of(alloc, keys)?;
@@ -240,7 +248,8 @@ fn start_gathering(
 
 /// The contents of all the statements.
 pub(crate) fn gathered_of(alloc: Global, statements: Vec<Statement>) -> Result<Gathered, AllocError>
-    ensures { IfOk result (λ gathered. AreGathered (statements_of statements.entry.items) gathered) }
+    ensures { IfOk result (λ gathered. AreGathered (statements_of statements.entry.items)
+        gathered) }
 {
     let (mut gathered, cited) = start_gathering(alloc, &statements)?;
     let mut indices = Feed::of(Items::from_vec(cited));
@@ -277,7 +286,8 @@ impl Gathered {
     pub(crate) fn into_reading(self, alloc: Global) -> Result<Reading, Refusal>
         ensures built { IfOk result (λ reading. IsBuilt (in_signals self) reading.sheet) }
         ensures passed { IfOk result (λ reading. reading.passed ≡ self.passed) }
-        ensures refused { IfErr result (λ refusal. Unless refusal (¬ CanBeSheet (in_signals self))) }
+        ensures refused { IfErr result
+            (λ refusal. Unless refusal (¬ CanBeSheet (in_signals self))) }
     {
         let Gathered {
             version,
@@ -305,7 +315,12 @@ impl Gathered {
     fn take_feeds(&mut self) -> Feeds
         ensures feeds { result ≡ feeds_in self.old }
         ensures rest { self.new
-            ≡ record self.old { signal_comments = []; signal_values = []; signal_types = []; signal_spns = [] } }
+            ≡ record self.old {
+              signal_comments = [];
+              signal_values = [];
+              signal_types = [];
+              signal_spns = [];
+            } }
     {
         Feeds {
             comments: Feed::of(self.signal_comments.take()),

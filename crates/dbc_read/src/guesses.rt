@@ -4,7 +4,7 @@
 //! slot, so a guess may be wrong: whoever takes one looks whether the signal has the name, and otherwise searches
 //! (`orders`). A file chooses its names, so each is hashed after all names of its message: which of them share a slot
 //! depends on all of them. No contract speaks of guesses: they decide how long a search takes.
-use catalogue::Signal;
+use dbc_sheet::Signal;
 use std::alloc::{AllocError, Global};
 use std::hash::{FoldHasher, Hasher};
 

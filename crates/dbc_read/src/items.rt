@@ -1,8 +1,8 @@
 //! Items of a file with names. No two items of a kind may have the same name.
 ghost use Rattle.std.specs.Prelude.{◌≡◌, ℕ, List};
 
-use catalogue::Name;
 use dbc_statements::{MessageLine, NodeName, TableLine};
+use dbc_words::Name;
 
 /// An item of a file with a name that no other of its kind may have.
 pub(crate) trait NamedItem {

@@ -27,7 +27,8 @@ pub(crate) fn add_names<'s>(
     nodes: &'s [NodeName],
     found: &mut Vec<&'s [u8]>,
 ) -> Result<(), AllocError>
-    ensures { OnOk result (map text_of found.new.items ≡ map text_of found.old.items ++ names_of nodes.now) }
+    ensures { OnOk result (map text_of found.new.items ≡ map text_of found.old.items
+        ++ names_of nodes.now) }
 {
     for node in nodes {
         found.push(node.name.as_bytes())?;
@@ -37,7 +38,8 @@ pub(crate) fn add_names<'s>(
 
 /// Adds the keys of the message's signals.
 fn add_keys<'s>(line: &'s MessageLine, found: &mut Vec<Key<'s>>) -> Result<(), AllocError>
-    ensures { OnOk result (map key_of found.new.items ≡ map key_of found.old.items ++ keys_of (message_of line.now)) }
+    ensures { OnOk result (map key_of found.new.items ≡ map key_of found.old.items
+        ++ keys_of (message_of line.now)) }
 {
     let number = line.ident.to_dbc();
     for signal in &line.signals {

@@ -13,12 +13,14 @@ ghost use Rattle.dbc_statements.specs.Statement.{HasNothingAttached, HaveNothing
 ghost use Rattle.dbc_statements.specs.Statement.{signals_of};
 
 use crate::definitions::{further_definitions, gather_definition};
-use crate::finding::{Track, finders_of};
+use crate::finding::{LastFound, finders_of};
 use crate::gathered::{Gathered, attach_nothing};
 use crate::settling::settle_others;
-use catalogue::{Items, Signal, Spn, Text, ValueTexts, ValueType};
+use base::Items;
 use dbc_lex::ReadFault;
+use dbc_sheet::{Signal, ValueTexts};
 use dbc_statements::{MessageLine, NodeName, Statement, Statements};
+use dbc_words::{Spn, Text, ValueType};
 use std::alloc::Global;
 
 /// Takes away what is attached to the signal.
@@ -70,8 +72,10 @@ pub(crate) fn all_definitions(
     statements: &mut Statements,
 ) -> Result<Option<Gathered>, ReadFault>
     ensures source { statements.new.source ≡ statements.old.source }
-    ensures ok { IfOk result (λ found. IfSome found (DefineLate late.entry statements.old.tokens gathered)) }
-    ensures err { IfErr result (λ fault. UnlessMemory fault.code (statements_at statements.old.tokens ≡ None)) }
+    ensures ok { IfOk result
+        (λ found. IfSome found (DefineLate late.entry statements.old.tokens gathered)) }
+    ensures err { IfErr result
+        (λ fault. UnlessMemory fault.code (statements_at statements.old.tokens ≡ None)) }
 {
     let mut definitions = gathered;
     gather_definition(late, &mut definitions)?;
@@ -104,14 +108,23 @@ fn gather_again(
     requires empty { IsEmpty gathered.old }
     ensures source { statements.new.source ≡ statements.old.source }
     ensures ok { IfOk result
-        (λ all. IsTrue all → FollowAll nodes.now lines.old statements.old.tokens lines.new gathered.new) }
-    ensures err { IfErr result (λ fault. UnlessMemory fault.code (statements_at statements.old.tokens ≡ None)) }
+        (λ all. IsTrue all → FollowAll nodes.now lines.old statements.old.tokens lines.new
+        gathered.new) }
+    ensures err { IfErr result
+        (λ fault. UnlessMemory fault.code (statements_at statements.old.tokens ≡ None)) }
 {
     match finders_of(alloc, nodes, lines)? {
         Some(finders) => {
             attach_nothing(alloc, nodes.len(), lines.len(), gathered)?;
-            let mut track = Track::new();
-            settle_others(alloc, &finders, statements, &mut track, lines, gathered)
+            let mut last_found = LastFound::new();
+            settle_others(
+                alloc,
+                &finders,
+                statements,
+                &mut last_found,
+                lines,
+                gathered,
+            )
         }
         None => Ok(false),
     }
@@ -128,7 +141,8 @@ pub(crate) fn gather_late(
     ensures source { statements.new.source ≡ statements.old.source }
     ensures ok { IfOk result (λ found. IfSome found
         (λ gathered. IsOfTokens statements.old.tokens (in_signals gathered))) }
-    ensures err { IfErr result (λ fault. UnlessMemory fault.code (statements_at statements.old.tokens ≡ None)) }
+    ensures err { IfErr result
+        (λ fault. UnlessMemory fault.code (statements_at statements.old.tokens ≡ None)) }
 {
     let (nodes, lines) = nodes_and_lines(alloc, definitions);
     let mut lines = lines;

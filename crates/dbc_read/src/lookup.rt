@@ -34,7 +34,8 @@ impl<K: Ord> Lookup<K> {
 
     /// Whether the key is at that index of the list.
     fn has_at(&self, index: usize, key: &K) -> bool
-        ensures { result ≡ true → slice_get (map (λ k. K.eq k key.now) self.now.keys.items) index ≡ Some true }
+        ensures { result ≡ true → slice_get (map (λ k. K.eq k key.now) self.now.keys.items) index
+            ≡ Some true }
     {
         match self.keys.get(index) {
             Some(there) => *there == *key,
@@ -44,7 +45,8 @@ impl<K: Ord> Lookup<K> {
 
     /// An index of the list at which the key is, found by binary search.
     fn search(&self, key: &K) -> Option<usize>
-        ensures { (keys : List K) → IsLookupOf K.cmp self.now keys → IsIndexIn (λ k. K.eq k key.now) keys result }
+        ensures { (keys : List K) → IsLookupOf K.cmp self.now keys
+            → IsIndexIn (λ k. K.eq k key.now) keys result }
     {
         match self.sorted.binary_search_by(|entry| entry.0.cmp(key)) {
             Ok(at) => Some(self.sorted[at].1),
@@ -55,7 +57,8 @@ impl<K: Ord> Lookup<K> {
     /// An index of the list at which the key is. Look-ups mostly go along the list, so the index that was found last
     /// and the next one are tried first.
     pub(crate) fn find(&self, key: &K, last: &mut usize) -> Option<usize>
-        ensures { (keys : List K) → IsLookupOf K.cmp self.now keys → IsIndexIn (λ k. K.eq k key.now) keys result }
+        ensures { (keys : List K) → IsLookupOf K.cmp self.now keys
+            → IsIndexIn (λ k. K.eq k key.now) keys result }
     {
         let here = *last;
         if self.has_at(here, key) {

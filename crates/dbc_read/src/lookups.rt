@@ -22,7 +22,8 @@ pub(crate) struct Lookups<'s> {
 
 /// The nodes, the messages and the signals that have these keys.
 pub(crate) fn lookups_of(alloc: Global, keys: Keys<'_>) -> Result<Lookups<'_>, AllocError>
-    ensures { IfOk result (λ lookups. (statements : List dbc.Statement) → AreKeys keys.entry statements
+    ensures { IfOk result (λ lookups. (statements : List dbc.Statement)
+        → AreKeys keys.entry statements
         → AreLookups lookups statements) }
 {
     let Keys {

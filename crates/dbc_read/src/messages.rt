@@ -9,8 +9,10 @@ ghost use Rattle.dbc_statements.specs.Statement.{message_of};
 use crate::feed::Feed;
 use crate::refusal::Refusal;
 use crate::signals::signals_of;
-use catalogue::{Items, Message, Text};
+use base::Items;
+use dbc_sheet::Message;
 use dbc_statements::MessageLine;
+use dbc_words::Text;
 use std::alloc::{AllocError, Global};
 
 /// The message of a line, with its signals.
@@ -19,7 +21,8 @@ pub(crate) fn message_of(
     line: MessageLine,
     comment: Text,
 ) -> Result<Message, Refusal>
-    ensures ok { IfOk result (λ message. message ≡ message_with (message_of line) comment (line_signals line)) }
+    ensures ok { IfOk result
+        (λ message. message ≡ message_with (message_of line) comment (line_signals line)) }
     ensures refused { IfErr result (λ refusal. Unless refusal
         (¬ IsFit (message_with (message_of line) comment (line_signals line)))) }
 {

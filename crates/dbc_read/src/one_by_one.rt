@@ -13,11 +13,11 @@ ghost use Rattle.dbc_read.specs.Late.{IsFound};
 ghost use Rattle.dbc_read.specs.Settling.{AreSettled, Follow};
 ghost use Rattle.dbc_statements.specs.Statement.{content_of};
 
-use crate::finding::{Finders, Track, finders_of};
+use crate::finding::{Finders, LastFound, finders_of};
 use crate::gathered::{Gathered, attach_nothing, gather_statement};
 use crate::late::all_definitions;
 use crate::settling::{Settled, settle_all, settle_first};
-use catalogue::Items;
+use base::Items;
 use dbc_lex::ReadFault;
 use dbc_statements::{Content, MessageLine, NodeName, Statement, Statements};
 use std::alloc::Global;
@@ -55,9 +55,11 @@ fn gather_definitions<'a>(
     gathered: &mut Gathered,
 ) -> Result<Option<Statement<'a>>, ReadFault>
     ensures source { statements.new.source ≡ statements.old.source }
-    ensures ok { IfOk result (Defines statements.old.tokens statements.new.tokens gathered.old gathered.new) }
+    ensures ok { IfOk result
+        (Defines statements.old.tokens statements.new.tokens gathered.old gathered.new) }
     ensures bare { OnOk result (AreBare gathered.old.messages → AreBare gathered.new.messages) }
-    ensures err { IfErr result (λ fault. UnlessMemory fault.code (statements_at statements.old.tokens ≡ None)) }
+    ensures err { IfErr result
+        (λ fault. UnlessMemory fault.code (statements_at statements.old.tokens ≡ None)) }
 {
     'statements: while let Some(next) = statements.read_next(alloc)? {
         if cites(&next.content) {
@@ -85,16 +87,18 @@ fn gather_found<'a>(
     requires bare { AreBare lines.old }
     ensures source { statements.new.source ≡ statements.old.source }
     ensures ok { IfOk result (λ found. IfSome found
-        (λ settled. Follow nodes.now lines.old first.entry settled statements.old.tokens statements.new.tokens
+        (λ settled. Follow nodes.now lines.old first.entry settled statements.old.tokens
+        statements.new.tokens
         gathered.old lines.new gathered.new)) }
-    ensures err { IfErr result (λ fault. UnlessMemory fault.code (statements_at statements.old.tokens ≡ None)) }
+    ensures err { IfErr result
+        (λ fault. UnlessMemory fault.code (statements_at statements.old.tokens ≡ None)) }
 {
     attach_nothing(alloc, nodes.len(), lines.len(), gathered)?;
-    let mut track = Track::new();
-    if !settle_first(finders, first, &mut track, lines, gathered)? {
+    let mut last_found = LastFound::new();
+    if !settle_first(finders, first, &mut last_found, lines, gathered)? {
         return Ok(None);
     }
-    settle_all(alloc, finders, statements, &mut track, lines, gathered)
+    settle_all(alloc, finders, statements, &mut last_found, lines, gathered)
 }
 
 /// Gathers the statements after those that define these nodes and messages, up to the first that defines another.
@@ -111,9 +115,11 @@ fn gather_others<'a>(
     requires bare { AreBare lines.old }
     ensures source { statements.new.source ≡ statements.old.source }
     ensures ok { IfOk result (λ found. IfSome found
-        (λ settled. Follow nodes.now lines.old first.entry settled statements.old.tokens statements.new.tokens
+        (λ settled. Follow nodes.now lines.old first.entry settled statements.old.tokens
+        statements.new.tokens
         gathered.old lines.new gathered.new)) }
-    ensures err { IfErr result (λ fault. UnlessMemory fault.code (statements_at statements.old.tokens ≡ None)) }
+    ensures err { IfErr result
+        (λ fault. UnlessMemory fault.code (statements_at statements.old.tokens ≡ None)) }
 {
     match finders_of(alloc, nodes, lines)? {
         Some(finders) => gather_found(alloc, &finders, nodes, first, statements, lines, gathered),
@@ -131,8 +137,10 @@ fn gather_up_to<'a>(
     requires { IsEmpty gathered.old }
     ensures source { statements.new.source ≡ statements.old.source }
     ensures ok { IfOk result (λ found. IfSome found
-        (λ settled. AreSettled settled statements.old.tokens statements.new.tokens (in_signals gathered.new))) }
-    ensures err { IfErr result (λ fault. UnlessMemory fault.code (statements_at statements.old.tokens ≡ None)) }
+        (λ settled. AreSettled settled statements.old.tokens statements.new.tokens
+        (in_signals gathered.new))) }
+    ensures err { IfErr result
+        (λ fault. UnlessMemory fault.code (statements_at statements.old.tokens ≡ None)) }
 {
     let first = gather_definitions(alloc, statements, gathered)?;
     let nodes = gathered.nodes.take();
@@ -158,7 +166,8 @@ pub(crate) fn gather_one_by_one(
 ) -> Result<Option<Found>, ReadFault>
     ensures source { statements.new.source ≡ statements.old.source }
     ensures ok { IfOk result (λ found. IfSome found (IsFound statements.old.tokens)) }
-    ensures err { IfErr result (λ fault. UnlessMemory fault.code (statements_at statements.old.tokens ≡ None)) }
+    ensures err { IfErr result
+        (λ fault. UnlessMemory fault.code (statements_at statements.old.tokens ≡ None)) }
 {
     let mut gathered = Gathered::empty(alloc);
     match gather_up_to(alloc, statements, &mut gathered)? {

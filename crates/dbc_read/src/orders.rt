@@ -5,13 +5,13 @@
 //! kept.
 ghost use Rattle.std.specs.Prelude.{◌≡◌, [], get_or, length, map, IfOk, IfSome};
 ghost use Rattle.std.specs.Str.{bytes_eq};
-ghost use Rattle.catalogue.specs.declared.signal.Signal.{Signal};
+ghost use Rattle.dbc_sheet.specs.declared.signal.Signal.{Signal};
 ghost use Rattle.dbc_read.specs.Lookup.{IsIndexIn};
 ghost use Rattle.dbc_read.specs.Orders.{AreOrdersOf, IsAscending, IsOrderOf, signal_names};
 ghost use Rattle.dbc_statements.specs.Statement.{message_of};
 
 use crate::guesses::Guesses;
-use catalogue::Signal;
+use dbc_sheet::Signal;
 use dbc_statements::MessageLine;
 use std::alloc::{AllocError, Global};
 
@@ -74,7 +74,8 @@ pub(crate) fn orders_of(
     alloc: Global,
     lines: &[MessageLine],
 ) -> Result<Option<Vec<OrderOfMany>>, AllocError>
-    ensures { IfOk result (λ found. IfSome found (λ orders. AreOrdersOf (map message_of lines.now) orders.items)) }
+    ensures { IfOk result (λ found. IfSome found
+        (λ orders. AreOrdersOf (map message_of lines.now) orders.items)) }
 {
     let mut orders = Vec::with_capacity(alloc, lines.len())?;
     for line in lines {

@@ -1,5 +1,5 @@
 //! Skipped statements.
-use catalogue::Keyword;
+use dbc_words::Keyword;
 
 /// A statement that is skipped: one of which this project keeps nothing, or one that cites what isn't in the file.
 #[derive(Clone, Copy, Debug, PartialEq, Eq)]

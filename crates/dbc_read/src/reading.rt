@@ -19,9 +19,10 @@ use crate::late::gather_late;
 use crate::one_by_one::{Found, gather_one_by_one};
 use crate::passed::Passed;
 use crate::refusal::Refusal;
-use catalogue::{Items, Sheet};
+use base::Items;
 use dbc_grammar::texts_read_as_one_sheet;
 use dbc_lex::ReadFault;
+use dbc_sheet::Sheet;
 use dbc_statements::{Statements, statements_of};
 use std::alloc::Global;
 
@@ -36,7 +37,8 @@ pub struct Reading {
 /// What the statements of the text say, gathered one by one, or `None` if they can't be gathered so. If something is
 /// defined late, the text is read a second time, but not if its definitions have a fault: then `None` comes at once.
 fn gather_at_once(alloc: Global, source: &[u8]) -> Result<Option<Gathered>, ReadFault>
-    ensures ok { IfOk result (λ found. IfSome found (λ gathered. IsOfText source.now (in_signals gathered))) }
+    ensures ok { IfOk result
+        (λ found. IfSome found (λ gathered. IsOfText source.now (in_signals gathered))) }
     ensures err { IfErr result (λ fault. UnlessMemory fault.code (HasNoDivision source.now)) }
     ensures tokens { TokensComeFirst source.now result }
 {
@@ -83,7 +85,8 @@ fn reading_or_none(built: Result<Reading, Refusal>) -> Result<Option<Reading>, R
 
 /// What the text reads as, or its fault. All statements are read before any is gathered.
 fn read_lists(alloc: Global, source: &[u8]) -> Result<Reading, ReadFault>
-    ensures reads { IfOk result (λ reading. ReadsAs source.now reading.sheet (map start_and_keyword reading.passed)) }
+    ensures reads { IfOk result
+        (λ reading. ReadsAs source.now reading.sheet (map start_and_keyword reading.passed)) }
     ensures only { IfOk result (λ reading. ReadsOnlyAs source.now reading.sheet) }
     ensures none { IfErr result (λ fault. UnlessMemory fault.code (ReadsAsNothing source.now)) }
     ensures faults { IfErr result (λ fault. UnlessMemory fault.code (HasFault source.now fault)) }
@@ -105,7 +108,8 @@ fn read_lists(alloc: Global, source: &[u8]) -> Result<Reading, ReadFault>
 fn read_sheet(alloc: Global, source: &[u8]) -> Result<Option<Reading>, ReadFault>
     ensures reads { IfOk result (λ found. IfSome found
         (λ reading. ReadsAs source.now reading.sheet (map start_and_keyword reading.passed))) }
-    ensures only { IfOk result (λ found. IfSome found (λ reading. ReadsOnlyAs source.now reading.sheet)) }
+    ensures only { IfOk result
+        (λ found. IfSome found (λ reading. ReadsOnlyAs source.now reading.sheet)) }
     ensures err { IfErr result (λ fault. UnlessMemory fault.code (HasNoDivision source.now)) }
     ensures tokens { TokensComeFirst source.now result }
 {
@@ -118,7 +122,8 @@ fn read_sheet(alloc: Global, source: &[u8]) -> Result<Option<Reading>, ReadFault
 
 /// What the text reads as, or its fault.
 fn read_text(alloc: Global, source: &[u8]) -> Result<Reading, ReadFault>
-    ensures reads { IfOk result (λ reading. ReadsAs source.now reading.sheet (map start_and_keyword reading.passed)) }
+    ensures reads { IfOk result
+        (λ reading. ReadsAs source.now reading.sheet (map start_and_keyword reading.passed)) }
     ensures only { IfOk result (λ reading. ReadsOnlyAs source.now reading.sheet) }
     ensures none { IfErr result (λ fault. UnlessMemory fault.code (ReadsAsNothing source.now)) }
     ensures faults { IfErr result (λ fault. UnlessMemory fault.code (HasFault source.now fault)) }
@@ -135,14 +140,15 @@ fn read_text(alloc: Global, source: &[u8]) -> Result<Reading, ReadFault>
 }
 
 /// The one sheet that the text reads as, and the statements that are skipped. The grammar is that of Vector's DBC File
-/// Format Documentation, in this project's dialect (docs/GRAMMAR.md).
+/// Format Documentation, in this project's dialect (docs/use/GRAMMAR.md).
 ///
 /// A fault comes only if the text reads as no sheet, or memory ran out. It is the first fault of the first of these
 /// three kinds that the text has: code 30 or 31 at an offset where no token begins; one of 32 to 39 at a token that
 /// can't continue the statement, or at the text's length if it ends too early; and 20, 21, 25 or 26 at an item that
 /// can't be in one sheet with those before it, or is above a limit.
 pub fn read(alloc: Global, source: &[u8]) -> Result<Reading, ReadFault>
-    ensures reads { IfOk result (λ reading. ReadsAs source.now reading.sheet (map start_and_keyword reading.passed)) }
+    ensures reads { IfOk result
+        (λ reading. ReadsAs source.now reading.sheet (map start_and_keyword reading.passed)) }
     ensures only { IfOk result (λ reading. ReadsOnlyAs source.now reading.sheet) }
     ensures none { IfErr result (λ fault. UnlessMemory fault.code (ReadsAsNothing source.now)) }
     ensures tokens { TokensComeFirst source.now result }

@@ -1,5 +1,5 @@
 //! Why a part of a sheet isn't built.
-use catalogue::{SheetCode, SheetFault};
+use dbc_words::{SheetCode, SheetFault};
 use std::alloc::AllocError;
 
 /// Why a part of a sheet isn't built.

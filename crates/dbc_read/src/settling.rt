@@ -13,10 +13,10 @@ ghost use Rattle.dbc_read.specs.Settling.{SettlesTo};
 ghost use Rattle.dbc_statements.specs.Statement.{content_of, message_of};
 
 use crate::attaching::{Attachment, SignalIndices, attach_at};
-use crate::finding::{Finders, Track};
+use crate::finding::{Finders, LastFound};
 use crate::gathered::{Citing, Gathered, gather};
 use crate::passed::Passed;
-use catalogue::Items;
+use base::Items;
 use dbc_lex::ReadFault;
 use dbc_statements::{Content, MessageLine, Statement, Statements};
 use std::alloc::{AllocError, Global};
@@ -52,7 +52,8 @@ fn attach(
 ) -> Result<(), AllocError>
     requires { HasSignalIfAny lines.old indices }
     ensures messages { map message_of lines.new ≡ map message_of lines.old }
-    ensures attached { OnOk result ((number : Cited) (name : List ℕ) → AreIndicesOf lines.old number name indices
+    ensures attached { OnOk result
+        ((number : Cited) (name : List ℕ) → AreIndicesOf lines.old number name indices
         → IsAttached number name attachment statement lines.old lines.new passed.old passed.new) }
 {
     match indices {
@@ -70,13 +71,14 @@ fn settle_other(
     finders: &Finders,
     statement: Passed,
     content: Content,
-    track: &mut Track,
+    last_found: &mut LastFound,
     gathered: &mut Gathered,
 ) -> Result<(), AllocError>
     requires { cites_signal content ≡ false }
-    ensures { OnOk result (IsGathered finders.now statement content.entry gathered.old gathered.new) }
+    ensures { OnOk result (IsGathered finders.now statement content.entry gathered.old
+        gathered.new) }
 {
-    let index = track.index(finders, &content);
+    let index = last_found.index(finders, &content);
     gather(Citing { statement, index }, content, gathered)
 }
 
@@ -86,7 +88,7 @@ fn settle_other(
 fn settle(
     finders: &Finders,
     statement: Statement,
-    track: &mut Track,
+    last_found: &mut LastFound,
     lines: &mut [MessageLine],
     gathered: &mut Gathered,
 ) -> Result<bool, AllocError>
@@ -94,9 +96,10 @@ fn settle(
     requires signals { FindsSignals finders.now lines.old }
     ensures messages { map message_of lines.new ≡ map message_of lines.old }
     ensures settles { IfOk result (λ all. IsTrue all
-        → Settles finders.now (one_or_none (Some statement.entry)) lines.old gathered.old lines.new gathered.new) }
+        → Settles finders.now (one_or_none (Some statement.entry)) lines.old gathered.old lines.new
+        gathered.new) }
 {
-    let indices = track.indices_cited(finders, lines, &statement.content);
+    let indices = last_found.indices_cited(finders, lines, &statement.content);
     let (at, keyword, content) = statement.into_parts();
     let from = Passed { at, keyword };
     match content {
@@ -124,7 +127,7 @@ fn settle(
             Ok(true)
         }
         other => {
-            settle_other(finders, from, other, track, gathered)?;
+            settle_other(finders, from, other, last_found, gathered)?;
             Ok(true)
         }
     }
@@ -134,7 +137,7 @@ fn settle(
 pub(crate) fn settle_first(
     finders: &Finders,
     first: Option<Statement>,
-    track: &mut Track,
+    last_found: &mut LastFound,
     lines: &mut [MessageLine],
     gathered: &mut Gathered,
 ) -> Result<bool, AllocError>
@@ -142,10 +145,11 @@ pub(crate) fn settle_first(
     requires signals { FindsSignals finders.now lines.old }
     ensures messages { map message_of lines.new ≡ map message_of lines.old }
     ensures settles { IfOk result (λ all. IsTrue all
-        → Settles finders.now (one_or_none first.entry) lines.old gathered.old lines.new gathered.new) }
+        → Settles finders.now (one_or_none first.entry) lines.old gathered.old lines.new
+        gathered.new) }
 {
     match first {
-        Some(first) => settle(finders, first, track, lines, gathered),
+        Some(first) => settle(finders, first, last_found, lines, gathered),
         None => Ok(true),
     }
 }
@@ -157,7 +161,7 @@ pub(crate) fn settle_all<'a>(
     alloc: Global,
     finders: &Finders,
     statements: &mut Statements<'a>,
-    track: &mut Track,
+    last_found: &mut LastFound,
     lines: &mut [MessageLine],
     gathered: &mut Gathered,
 ) -> Result<Option<Settled<'a>>, ReadFault>
@@ -165,15 +169,17 @@ pub(crate) fn settle_all<'a>(
     ensures source { statements.new.source ≡ statements.old.source }
     ensures messages { map message_of lines.new ≡ map message_of lines.old }
     ensures ok { IfOk result (λ found. IfSome found
-        (λ settled. SettlesTo finders.now settled statements.old.tokens statements.new.tokens lines.old gathered.old
+        (λ settled. SettlesTo finders.now settled statements.old.tokens statements.new.tokens
+        lines.old gathered.old
         lines.new gathered.new)) }
-    ensures err { IfErr result (λ fault. UnlessMemory fault.code (statements_at statements.old.tokens ≡ None)) }
+    ensures err { IfErr result
+        (λ fault. UnlessMemory fault.code (statements_at statements.old.tokens ≡ None)) }
 {
     'statements: while let Some(next) = statements.read_next(alloc)? {
         if defines(&next.content) {
             return Ok(Some(Settled::UpTo(next)));
         }
-        if !settle(finders, next, track, lines, gathered)? {
+        if !settle(finders, next, last_found, lines, gathered)? {
             return Ok(None);
         }
     }
@@ -187,7 +193,7 @@ pub(crate) fn settle_others(
     alloc: Global,
     finders: &Finders,
     statements: &mut Statements,
-    track: &mut Track,
+    last_found: &mut LastFound,
     lines: &mut [MessageLine],
     gathered: &mut Gathered,
 ) -> Result<bool, ReadFault>
@@ -196,12 +202,14 @@ pub(crate) fn settle_others(
     ensures messages { map message_of lines.new ≡ map message_of lines.old }
     ensures ok { IfOk result
         (λ all. IsTrue all
-        → SettlesOthers finders.now statements.old.tokens lines.old gathered.old lines.new gathered.new) }
-    ensures err { IfErr result (λ fault. UnlessMemory fault.code (statements_at statements.old.tokens ≡ None)) }
+        → SettlesOthers finders.now statements.old.tokens lines.old gathered.old lines.new
+        gathered.new) }
+    ensures err { IfErr result
+        (λ fault. UnlessMemory fault.code (statements_at statements.old.tokens ≡ None)) }
 {
     'statements: while let Some(next) = statements.read_next(alloc)? {
         if !defines(&next.content) {
-            if !settle(finders, next, track, lines, gathered)? {
+            if !settle(finders, next, last_found, lines, gathered)? {
                 return Ok(false);
             }
         }

@@ -1,7 +1,7 @@
 //! The parts of the sheet, built of what the statements say.
 ghost use Rattle.std.specs.Prelude.{◌≡◌, ◌++◌, [], IfErr, IfOk, IsPermutation, OnOk, map, unwrap_or};
-ghost use Rattle.catalogue.specs.Sheet.{empty_sheet, node_name};
-ghost use Rattle.catalogue.specs.WellFormed.{AreFewTexts, AreRostered};
+ghost use Rattle.dbc_sheet.specs.Sheet.{empty_sheet, node_name};
+ghost use Rattle.dbc_sheet.specs.WellFormed.{AreFewTexts, AreRostered};
 ghost use Rattle.dbc_read.specs.Attaching.{messages_of_lines};
 ghost use Rattle.dbc_read.specs.Built.{AreAddable, nodes_from};
 ghost use Rattle.dbc_read.specs.Fit.{TablesFit};
@@ -12,8 +12,10 @@ ghost use Rattle.dbc_statements.specs.Statement.{names_of};
 use crate::feed::Feed;
 use crate::messages::{by_number, message_of};
 use crate::refusal::Refusal;
-use catalogue::{Items, Node, Sheet, Text, ValueTable};
+use base::Items;
+use dbc_sheet::{Node, Sheet, ValueTable};
 use dbc_statements::{MessageLine, NodeName, TableLine};
+use dbc_words::Text;
 use std::alloc::Global;
 
 /// The text, or an empty one.
@@ -28,7 +30,8 @@ fn text_or_empty(alloc: Global, found: Option<Text>) -> Text
 
 /// The sheet that has only the version and the comment.
 pub(crate) fn bare_sheet(alloc: Global, version: Option<Text>, comment: Option<Text>) -> Sheet
-    ensures { result ≡ record empty_sheet { version = unwrap_or version []; comment = unwrap_or comment [] } }
+    ensures { result ≡ record empty_sheet
+        { version = unwrap_or version []; comment = unwrap_or comment [] } }
 {
     let mut sheet = Sheet::new(alloc);
     sheet.set_version(text_or_empty(alloc, version));
@@ -62,7 +65,8 @@ pub(crate) fn add_nodes(
 /// The value table of a line.
 fn table_of(line: TableLine) -> Result<ValueTable, Refusal>
     ensures ok { IfOk result (λ table. table ≡ table_of line) }
-    ensures refused { IfErr result (λ refusal. Unless refusal (¬ AreFewTexts (table_of line).entries)) }
+    ensures refused { IfErr result
+        (λ refusal. Unless refusal (¬ AreFewTexts (table_of line).entries)) }
 {
     line.into_table().ok_or(Refusal::NoSheet)
 }
@@ -73,8 +77,10 @@ pub(crate) fn add_tables(
     lines: Items<TableLine>,
     sheet: &mut Sheet,
 ) -> Result<(), Refusal>
-    ensures ok { OnOk result (sheet.new ≡ record sheet.old { tables = sheet.old.tables ++ map table_of lines }) }
-    ensures refused { IfErr result (λ refusal. Unless refusal (¬ TablesFit (sheet.old.tables ++ map table_of lines))) }
+    ensures ok { OnOk result
+        (sheet.new ≡ record sheet.old { tables = sheet.old.tables ++ map table_of lines }) }
+    ensures refused { IfErr result
+        (λ refusal. Unless refusal (¬ TablesFit (sheet.old.tables ++ map table_of lines))) }
 {
     for line in lines.into_vec() {
         let table = table_of(line)?;
@@ -91,7 +97,8 @@ fn add_each(
     sheet: &mut Sheet,
 ) -> Result<(), Refusal>
     ensures all { OnOk result
-        (IsPermutation (sheet.old.messages ++ messages_of_lines lines.items comments) sheet.new.messages) }
+        (IsPermutation (sheet.old.messages ++ messages_of_lines lines.items comments)
+        sheet.new.messages) }
     ensures rest { OnOk result (sheet.new ≡ record sheet.old { messages = sheet.new.messages }) }
     ensures refused { IfErr result (λ refusal. Unless refusal
         (¬ AreAddable sheet.old.messages (messages_of_lines lines.items comments))) }
@@ -113,7 +120,8 @@ pub(crate) fn add_lines(
     sheet: &mut Sheet,
 ) -> Result<(), Refusal>
     ensures all { OnOk result
-        (IsPermutation (sheet.old.messages ++ messages_of_lines lines comments) sheet.new.messages) }
+        (IsPermutation (sheet.old.messages ++ messages_of_lines lines comments)
+        sheet.new.messages) }
     ensures rest { OnOk result (sheet.new ≡ record sheet.old { messages = sheet.new.messages }) }
     ensures refused { IfErr result (λ refusal. Unless refusal
         (¬ AreAddable sheet.old.messages (messages_of_lines lines comments))) }

@@ -4,7 +4,7 @@ ghost use Rattle.dbc_read.specs.Fit.{AreFit};
 ghost use Rattle.dbc_read.specs.Refusal.{Unless};
 
 use crate::refusal::Refusal;
-use catalogue::{Signal, Signals};
+use dbc_sheet::{Signal, Signals};
 use std::alloc::Global;
 
 /// These signals as those of one message. None of them is copied.

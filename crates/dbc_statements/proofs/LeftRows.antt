@@ -1,10 +1,10 @@
 -- Computed rows of the tokens that are left, and of offsets that aren't kept.
 use Rattle.std.proofs.Common.{◌≡◌, Box, Global, List, [], ◌∷◌, refl, arith}
 use Rattle.std.specs.Prelude.{codes}
+use Rattle.dbc_words.specs.declared.keyword.Keyword.TheVariants.{Version}
 use Rattle.dbc_grammar.specs.Parsing.{line_at, statement_at, statements_at, version_at}
 use Rattle.dbc_grammar.specs.Statement.{Statement, VersionIs}
 use Rattle.dbc_grammar.specs.Token.{Token}
-use Rattle.catalogue.specs.declared.keyword.Keyword.TheVariants.{Version}
 use Rattle.dbc_grammar.specs.declared.token.TokenKind.TheVariants.{Name, Text}
 use Rattle.dbc_statements.specs.Left.{BeginsWith}
 use Rattle.dbc_statements.specs.Statement.{HasNoOffsets}
@@ -15,7 +15,8 @@ abbrev version : Statement
 version = record { start = 0; keyword = Version; content = VersionIs (codes "1.0") }
 
 abbrev tokens : List Token
-tokens = record { kind = Name; start = 0; end = 7; text = codes "VERSION" } ∷ record { kind = Text; start = 8; end = 13; text = codes "\"1.0\"" } ∷ []
+tokens = record { kind = Name; start = 0; end = 7; text = codes "VERSION" }
+    ∷ record { kind = Text; start = 8; end = 13; text = codes "\"1.0\"" } ∷ []
 
 version_comes_first : BeginsWith version tokens []
 unfolding statements_at statement_at line_at version_at

@@ -11,8 +11,10 @@ at_start None = refl
 at_start (Some x) = refl
 
 -- a round that reads one more thing, and adds it to those that were read before
-module _ {A : Type 0} {test : List Token → Bool} {p : List Token → Parsed A} (takes : Takes test p) (front : List A) (ts : List Token) (all : List A) (rest : List Token) where
-  one_read : (o : Parsed A) → with_one front o ≡ Some (all, rest) → (x : A) × (o ≡ Some (x, rest)) × (front ++ x ∷ [] ≡ all)
+module _ {A : Type 0} {test : List Token → Bool} {p : List Token → Parsed A} (takes : Takes test p) (front : List A)
+    (ts : List Token) (all : List A) (rest : List Token) where
+  one_read : (o : Parsed A) → with_one front o ≡ Some (all, rest) → (x : A) × (o ≡ Some (x, rest))
+      × (front ++ x ∷ [] ≡ all)
   one_read None e = absurd cc
   one_read (Some b) e = (
     b.0,
@@ -25,7 +27,9 @@ module _ {A : Type 0} {test : List Token → Bool} {p : List Token → Parsed A}
       let (x, is, all_is) = one_read (p ts) e in
       takes.shorter ts (x, rest) there is
 
-  pub one_more : (total : Parsed (List A)) → test ts ≡ true → with_one front (p ts) ≡ Some (all, rest) → with_front front (many_at test p ts) ≡ total → with_front all (many_at test p rest) ≡ total
+  pub one_more : (total : Parsed (List A)) → test ts ≡ true → with_one front (p ts) ≡ Some (all, rest)
+      → with_front front (many_at test p ts) ≡ total → with_front all (many_at test p rest) ≡ total
   one_more total there e h =
       let (x, is, all_is) = one_read (p ts) e in
-      subst (λ (l : List A). with_front l (many_at test p rest) ≡ total) all_is (goes_round takes front ts (x, rest) total there is h)
+      subst (λ (l : List A). with_front l (many_at test p rest) ≡ total) all_is
+      (goes_round takes front ts (x, rest) total there is h)

@@ -14,11 +14,17 @@ Names = List (List ℕ)
 abbrev further : List Token → Parsed (List (Option (List ℕ)))
 further ts = many_at goes_on further_at ts
 
-keeps_front : (front : Names) (xs : List (Option (List ℕ))) (o : Parsed (List (Option (List ℕ)))) → with_names front (with_front xs o) ≡ with_names (front ++ names_in xs) o
+keeps_front : (front : Names) (xs : List (Option (List ℕ))) (o : Parsed (List (Option (List ℕ))))
+    → with_names front (with_front xs o) ≡ with_names (front ++ names_in xs) o
 keeps_front front xs None = refl
-keeps_front front xs (Some b) = ap (λ (l : Names). Some (l, b.1)) (ap (λ (l : Names). front ++ l) (filter_map-append (λ name. name) xs b.0) ∙ sym (append_assoc front (names_in xs) (names_in b.0)))
+keeps_front front xs (Some b) =
+    ap (λ (l : Names). Some (l, b.1)) (ap (λ (l : Names). front ++ l) (filter_map-append (λ name. name) xs b.0)
+    ∙ sym (append_assoc front (names_in xs) (names_in b.0)))
 
-pub one_more : (front : Names) (ts : List Token) (x : Option (List ℕ)) (rest : List Token) (total : Parsed Names) → goes_on ts ≡ true → further_at ts ≡ Some (x, rest)
+pub one_more : (front : Names) (ts : List Token) (x : Option (List ℕ)) (rest : List Token) (total : Parsed Names)
+    → goes_on ts ≡ true → further_at ts ≡ Some (x, rest)
     → with_names front (further ts) ≡ total → with_names (front ++ names_in (x ∷ [])) (further rest) ≡ total
 one_more front ts x rest total test e h =
-    sym (keeps_front front (x ∷ []) (further rest)) ∙ ap (with_names front) (goes_round further_take [] ts (x, rest) (further ts) test e (at_start (further ts))) ∙ h
+    sym (keeps_front front (x ∷ []) (further rest))
+    ∙ ap (with_names front) (goes_round further_take [] ts (x, rest) (further ts) test e (at_start (further ts)))
+    ∙ h

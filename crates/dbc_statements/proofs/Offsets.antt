@@ -1,5 +1,6 @@
 -- Offsets that the tokens of a text reach, and what is read after them.
-use Rattle.std.proofs.Common.{◌≡◌, ◌≤◌, ℕ, ◌+◌, List, [], ◌∷◌, ◌++◌, length, min, drop, Option, Some, inl, inr, refl, sym, ap, subst, ◌∙◌, arith, append_assoc}
+use Rattle.std.proofs.Common.{◌≡◌, ◌≤◌, ℕ, ◌+◌, List, [], ◌∷◌, ◌++◌, length, min, drop, Option, Some, inl, inr, refl}
+use Rattle.std.proofs.Common.{sym, ap, subst, ◌∙◌, arith, append_assoc}
 use Rattle.std.proofs.lemmas.List.{length-append, drop_at}
 use Rattle.dbc_grammar.specs.Lexing.{LexFault, Lexed, lexed}
 use Rattle.dbc_grammar.specs.Parsing.{statement_at}
@@ -18,7 +19,8 @@ record After (offset : ℕ) (bytes : List ℕ) (end : ℕ) (tokens : List Token)
   long : offset + length gone ≡ end
   read : IsRead end rest tokens o
 
-after_one : (front : List Token) (t : Token) (rest : List Token) (o : Option LexFault) (offset : ℕ) (bytes : List ℕ) → IsRead offset bytes (front ++ t ∷ rest) o → After offset bytes t.end rest o
+after_one : (front : List Token) (t : Token) (rest : List Token) (o : Option LexFault) (offset : ℕ) (bytes : List ℕ)
+    → IsRead offset bytes (front ++ t ∷ rest) o → After offset bytes t.end rest o
 after_one [] t rest o offset bytes h =
     let (tail, f, more) = first_of offset bytes t rest o h in
     record {
@@ -35,7 +37,8 @@ after_one (u ∷ us) t rest o offset bytes h =
     record {
       gone = (f.gap ++ u.text) ++ b.gone;
       rest = b.rest;
-      parts = f.parts ∙ sym (append_assoc f.gap u.text tail) ∙ ap (λ (l : List ℕ). (f.gap ++ u.text) ++ l) b.parts ∙ sym (append_assoc (f.gap ++ u.text) b.gone b.rest);
+      parts = f.parts ∙ sym (append_assoc f.gap u.text tail) ∙ ap (λ (l : List ℕ). (f.gap ++ u.text) ++ l) b.parts
+          ∙ sym (append_assoc (f.gap ++ u.text) b.gone b.rest);
       long = omega (arith, f.start, f.end, long, length-append f.gap u.text, length-append (f.gap ++ u.text) b.gone);
       read = b.read;
     }
@@ -49,16 +52,19 @@ ends_so : (source : List ℕ) (offset : ℕ) → IsReached (lexed 0 source).toke
 ends_so source offset (inl first) = rw first (record { within = omega arith; fault = refl })
 ends_so source offset (inr (front, t, rest, parts, end)) =
     let o = (lexed 0 source).fault in
-    let read : IsRead 0 source (front ++ t ∷ rest) o = subst (λ (ts : List Token). IsRead 0 source ts o) parts (read_is_there 0 source) in
+    let read : IsRead 0 source (front ++ t ∷ rest) o =
+    subst (λ (ts : List Token). IsRead 0 source ts o) parts (read_is_there 0 source) in
     let b = after_one front t rest o 0 source read in
     let long : length b.gone ≡ t.end = let e = b.long in omega (arith, e) in
     let there : drop t.end source ≡ b.rest = ap (drop t.end) b.parts ∙ drop_at b.gone b.rest t.end long in
     rw (← end) (record {
       within = omega (arith, long, ap length b.parts, length-append b.gone b.rest);
-      fault = ap (λ (l : List ℕ). (lexed t.end l).fault) there ∙ ap (λ (l : Lexed). l.fault) (there_is_read t.end b.rest rest o b.read);
+      fault = ap (λ (l : List ℕ). (lexed t.end l).fault) there
+          ∙ ap (λ (l : Lexed). l.fault) (there_is_read t.end b.rest rest o b.read);
     })
 
-pub same_fault : (source : List ℕ) (offset : ℕ) → IsReached (lexed 0 source).tokens offset → (lexed (min offset (length source)) (drop offset source)).fault ≡ (lexed 0 source).fault
+pub same_fault : (source : List ℕ) (offset : ℕ) → IsReached (lexed 0 source).tokens offset
+    → (lexed (min offset (length source)) (drop offset source)).fault ≡ (lexed 0 source).fault
 same_fault source offset h =
     let e = ends_so source offset h in
     let within = e.within in
@@ -69,10 +75,17 @@ same_fault source offset h =
 pub reached_before : (ts rest : List Token) (offset : ℕ) → Within ts rest → IsReached rest offset → IsReached ts offset
 reached_before ts rest offset w (inl first) = inl first
 reached_before ts rest offset w (inr (front, t, more, parts, end)) =
-    inr (w.0 ++ front, t, more, w.1 ∙ ap (λ (l : List Token). w.0 ++ l) parts ∙ sym (append_assoc w.0 front (t ∷ more)), end)
+    inr (
+      w.0 ++ front,
+      t,
+      more,
+      w.1 ∙ ap (λ (l : List Token). w.0 ++ l) parts ∙ sym (append_assoc w.0 front (t ∷ more)),
+      end,
+    )
 
 -- a statement leaves the last of the tokens that it was read from
-pub statement_within : (ts mid : List Token) (x : Statement × List Token) → Within ts mid → statement_at mid ≡ Some x → Within ts x.1
+pub statement_within : (ts mid : List Token) (x : Statement × List Token) → Within ts mid → statement_at mid ≡ Some x
+    → Within ts x.1
 statement_within ts mid x w e =
     within_trans ts mid x.1 w ((statements_repeat.each mid).within x.0 x.1 ((statements_repeat.each mid).takes x e))
 

@@ -14,17 +14,23 @@ use Rattle.dbc_statements.proofs.WholeText.{are_all, are_none}
 abbrev all_from : List Token → Parsed (List Statement)
 all_from ts = many_at is_more statement_at ts
 
-others_after : (s : Statement) (o : Parsed (List Statement)) → option_and_then all_of (with_front (s ∷ []) o) ≡ option_map (λ others. s ∷ others) (option_and_then all_of o)
+others_after : (s : Statement) (o : Parsed (List Statement)) → option_and_then all_of (with_front (s ∷ []) o)
+    ≡ option_map (λ others. s ∷ others) (option_and_then all_of o)
 others_after s None = refl
 others_after s (Some (ss, [])) = refl
 others_after s (Some (ss, t ∷ ts)) = refl
 
-pub first_and_others : (ts : List Token) (x : Statement × List Token) → is_more ts ≡ true → statement_at ts ≡ Some x → statements_at ts ≡ option_map (λ others. x.0 ∷ others) (statements_at x.1)
+pub first_and_others : (ts : List Token) (x : Statement × List Token) → is_more ts ≡ true → statement_at ts ≡ Some x
+    → statements_at ts ≡ option_map (λ others. x.0 ∷ others) (statements_at x.1)
 unfolding statements_at
-first_and_others ts x more e = ap (option_and_then all_of) (sym (goes_round statements_take [] ts x (all_from ts) more e (at_start (all_from ts)))) ∙ others_after x.0 (all_from x.1)
+first_and_others ts x more e =
+    ap (option_and_then all_of) (sym (goes_round statements_take [] ts x (all_from ts) more e (at_start (all_from ts))))
+    ∙ others_after x.0 (all_from x.1)
 
-pub begins_with : (ts : List Token) (x : Statement × List Token) → is_more ts ≡ true → statement_at ts ≡ Some x → BeginsWith x.0 ts x.1
-begins_with ts x more e = record { statements = first_and_others ts x more e; fewer = statements_take.shorter ts x more e }
+pub begins_with : (ts : List Token) (x : Statement × List Token) → is_more ts ≡ true → statement_at ts ≡ Some x
+    → BeginsWith x.0 ts x.1
+begins_with ts x more e =
+    record { statements = first_and_others ts x more e; fewer = statements_take.shorter ts x more e }
 
 pub none_left : (ts : List Token) → is_more ts ≡ false → statements_at ts ≡ Some []
 none_left ts over = are_all ts ts [] (at_start (all_from ts)) over
@@ -35,7 +41,12 @@ not_there ts more e = are_none ts ts [] (at_start (all_from ts)) more e
 -- what is left of a text, once the first token is looked at, and once a statement is read
 module _ (source : List ℕ) (tokens : List Token) (offset : ℕ) (left : IsLeft source tokens offset) where
   pub left_reached : (t : Token) → tokens ≡ t ∷ drop 1 tokens → IsLeft source tokens t.end
-  left_reached t first = record { read = left.read; whole = left.whole; reached = first_reached (lexed 0 source).tokens tokens t (left.read, left.whole) first }
+  left_reached t first = record {
+    read = left.read;
+    whole = left.whole;
+    reached =
+        first_reached (lexed 0 source).tokens tokens t (left.read, left.whole) first;
+  }
 
   pub left_after : (x : Statement × List Token) → statement_at tokens ≡ Some x → IsLeft source x.1 offset
   left_after x e =

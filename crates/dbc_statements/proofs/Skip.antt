@@ -12,23 +12,27 @@ use Rattle.dbc_statements.proofs.LoopRounds.{at_start}
 tokens_take : (test : Token → Bool) → Takes (starts test) (one_at test)
 tokens_take test = repeats_take (tokens_repeat test) refl
 
-one_there : (test : Token → Bool) (tokens : List Token) → starts test tokens ≡ true → one_at test tokens ≡ Some (tt, drop 1 tokens)
+one_there : (test : Token → Bool) (tokens : List Token) → starts test tokens ≡ true
+    → one_at test tokens ≡ Some (tt, drop 1 tokens)
 one_there test [] h = absurd cc
 one_there test (t ∷ ts) h = rw h refl
 
 pub none_skipped : (test : Token → Bool) (tokens : List Token) → IsSkipping test tokens tokens
 none_skipped test tokens = record { times = []; more = at_start (many_at (starts test) (one_at test) tokens) }
 
-pub one_skipped : (test : Token → Bool) (tokens rest : List Token) → IsSkipping test tokens rest → starts test rest ≡ true → IsSkipping test tokens (drop 1 rest)
+pub one_skipped : (test : Token → Bool) (tokens rest : List Token) → IsSkipping test tokens rest
+    → starts test rest ≡ true → IsSkipping test tokens (drop 1 rest)
 one_skipped test tokens rest h there = record {
   times = h.times ++ tt ∷ [];
-  more = goes_round (tokens_take test) h.times rest (tt, drop 1 rest) (many_at (starts test) (one_at test) tokens) there (one_there test rest there) h.more;
+  more = goes_round (tokens_take test) h.times rest (tt, drop 1 rest) (many_at (starts test) (one_at test) tokens) there
+      (one_there test rest there) h.more;
 }
 
 pub one_fewer : (test : Token → Bool) (rest : List Token) → starts test rest ≡ true → length (drop 1 rest) < length rest
 one_fewer test rest there = (tokens_take test).shorter rest (tt, drop 1 rest) there (one_there test rest there)
 
-pub all_skipped : (test : Token → Bool) (tokens rest : List Token) → IsSkipping test tokens rest → starts test rest ≡ false → Skips test tokens rest
+pub all_skipped : (test : Token → Bool) (tokens rest : List Token) → IsSkipping test tokens rest
+    → starts test rest ≡ false → Skips test tokens rest
 all_skipped test tokens rest h over = record {
   times = h.times;
   all = is_over (tokens_take test) h.times rest (many_at (starts test) (one_at test) tokens) over h.more;

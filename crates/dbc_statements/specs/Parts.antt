@@ -1,11 +1,11 @@
 -- The parts of a sheet, made of the statements' lines and of what other statements attach to them.
 use Rattle.std.specs.Prelude.{ℕ, List}
+use Rattle.dbc_words.specs.declared.value_type.ValueType.{ValueType}
 use Rattle.dbc_grammar.specs.Statement as dbc
-use Rattle.catalogue.specs.declared.message.Message.{Message}
-use Rattle.catalogue.specs.declared.signal.Signal.{Signal}
-use Rattle.catalogue.specs.declared.value_table.ValueTable.{ValueTable}
-use Rattle.catalogue.specs.declared.value_texts.ValueText.{ValueText}
-use Rattle.catalogue.specs.declared.value_type.ValueType.{ValueType}
+use Rattle.dbc_sheet.specs.declared.message.Message.{Message}
+use Rattle.dbc_sheet.specs.declared.signal.Signal.{Signal}
+use Rattle.dbc_sheet.specs.declared.value_table.ValueTable.{ValueTable}
+use Rattle.dbc_sheet.specs.declared.value_texts.ValueText.{ValueText}
 use Rattle.dbc_statements.specs.declared.statement.TableLine.{TableLine}
 
 abbrev pub table_of : TableLine → ValueTable

@@ -7,9 +7,9 @@ use Rattle.dbc_lex.specs.declared.fault.ReadFault.{ReadFault}
 
 -- The result is what the tokens begin with, and the rest is left; or they don't begin with such a thing; or memory ran
 -- out.
-abbrev pub Reads : {X Y : Type 0} → (X → Y) → Result X ReadFault → Parsed Y → List Token → Type 0
-Reads view (Ok x) parsed rest = parsed ≡ Some (view x, rest)
-Reads view (Err fault) parsed rest = UnlessMemory fault.code (parsed ≡ None)
+abbrev pub ReadsTokens : {X Y : Type 0} → (X → Y) → Result X ReadFault → Parsed Y → List Token → Type 0
+ReadsTokens view (Ok x) parsed rest = parsed ≡ Some (view x, rest)
+ReadsTokens view (Err fault) parsed rest = UnlessMemory fault.code (parsed ≡ None)
 
 -- the view of a result that is the value itself
 abbrev pub itself : {X : Type 0} → X → X

@@ -1,12 +1,12 @@
 -- The statements of the code as statements of the grammar: without the offsets of names and entries.
 use Rattle.std.specs.Prelude.{◌≡◌, ⊤, ℕ, List, [], map}
 use Rattle.std.specs.List.{AllByRecursion}
+use Rattle.dbc_words.specs.declared.value_type.ValueType.TheVariants.{Integer}
 use Rattle.dbc_grammar.specs.Statement as dbc
-use Rattle.catalogue.specs.declared.signal.Signal.{Signal}
-use Rattle.catalogue.specs.declared.value_type.ValueType.TheVariants.{Integer}
+use Rattle.dbc_sheet.specs.declared.signal.Signal.{Signal}
 use Rattle.dbc_statements.specs.declared.statement.Content.{Content}
 use Rattle.dbc_statements.specs.declared.statement.Content.TheVariants as content
-use Rattle.dbc_statements.specs.declared.line.Line.{Line}
+use Rattle.dbc_statements.specs.declared.ended_content.EndedContent.{EndedContent}
 use Rattle.dbc_statements.specs.declared.statement.MessageLine.{MessageLine}
 use Rattle.dbc_statements.specs.declared.statement.NodeName.{NodeName}
 use Rattle.dbc_statements.specs.declared.statement.Statement.{Statement}
@@ -55,8 +55,8 @@ content_of (content.Spn cited spn) = dbc.SpnIs cited.number cited.name.now spn
 content_of content.Dropped = dbc.Dropped
 content_of content.PassedOver = dbc.PassedOver
 
-abbrev pub line_content : Line → dbc.Content
-line_content l = content_of l.content
+abbrev pub content_in : EndedContent → dbc.Content
+content_in l = content_of l.content
 
 abbrev pub statement_of : Statement → dbc.Statement
 statement_of s = record { start = s.start; keyword = s.keyword; content = content_of s.content }

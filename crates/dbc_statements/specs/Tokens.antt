@@ -12,7 +12,8 @@ use Rattle.dbc_lex.specs.declared.token.Token.{Token as TextToken}
 
 -- the token of these bytes of the text
 abbrev pub token_between : List ℕ → TokenKind → ℕ → ℕ → Token
-token_between source kind start end = record { kind = kind; start = start; end = end; text = slice_range source start end }
+token_between source kind start end =
+    record { kind = kind; start = start; end = end; text = slice_range source start end }
 
 -- the token between the offsets, and those that are read after it; none without a kind
 abbrev pub tokens_from : List ℕ → Option TokenKind → ℕ → ℕ → List Token
@@ -55,4 +56,5 @@ EndsWith read fault = (cause : LexFault) × (read.fault ≡ Some cause) × (faul
 
 -- an offset where one of the tokens ends, or that of the first byte
 abbrev pub IsReached : List Token → ℕ → Type 0
-IsReached tokens offset = (offset ≡ 0) ⊎ ((front : List Token) × (t : Token) × (rest : List Token) × (tokens ≡ front ++ t ∷ rest) × (t.end ≡ offset))
+IsReached tokens offset = (offset ≡ 0)
+    ⊎ ((front : List Token) × (t : Token) × (rest : List Token) × (tokens ≡ front ++ t ∷ rest) × (t.end ≡ offset))

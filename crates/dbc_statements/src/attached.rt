@@ -4,7 +4,7 @@ ghost use Rattle.dbc_grammar.specs.Fields as fields;
 ghost use Rattle.dbc_grammar.specs.Parsing.{either_at, or_else, passed_value_texts_at, skipped_at, spn_at};
 ghost use Rattle.dbc_grammar.specs.Parsing.{value_texts_at, value_type_at};
 ghost use Rattle.dbc_grammar.specs.Rules.{begins};
-ghost use Rattle.dbc_statements.specs.Reading.{Reads};
+ghost use Rattle.dbc_statements.specs.Reading.{ReadsTokens};
 ghost use Rattle.dbc_statements.specs.Statement.{NothingIsAttached, content_of};
 
 use crate::entries::entry_list;
@@ -13,8 +13,8 @@ use crate::passing::{passed_value_texts, skip_to_end};
 use crate::statement::{CitedSignal, Content};
 use crate::tokens::Tokens;
 use crate::words::cited_number_of;
-use catalogue::Keyword;
 use dbc_lex::{ReadCode, ReadFault};
+use dbc_words::Keyword;
 use std::alloc::Global;
 
 /// The rest of a statement after `VAL_`.
@@ -23,7 +23,7 @@ pub(crate) fn value_texts<'a>(
     alloc: Global,
     tokens: &mut Tokens<'a>,
 ) -> Result<Content<'a>, ReadFault>
-    ensures reads { Reads content_of result (either_at
+    ensures reads { ReadsTokens content_of result (either_at
         (begins fields.cited_number) value_texts_at passed_value_texts_at tokens.old) tokens.new }
     ensures nothing { IfOk result NothingIsAttached }
 {
@@ -43,7 +43,7 @@ pub(crate) fn value_texts<'a>(
 /// The rest of a statement after `SIG_VALTYPE_`.
 #[tactic(auto, unfolding(dbc_grammar::specs::Parsing::value_type_at))]
 pub(crate) fn value_types<'a>(tokens: &mut Tokens<'a>) -> Result<Content<'a>, ReadFault>
-    ensures reads { Reads content_of result (value_type_at tokens.old) tokens.new }
+    ensures reads { ReadsTokens content_of result (value_type_at tokens.old) tokens.new }
     ensures nothing { IfOk result NothingIsAttached }
 {
     let number = cited_number(tokens)?;
@@ -56,7 +56,7 @@ pub(crate) fn value_types<'a>(tokens: &mut Tokens<'a>) -> Result<Content<'a>, Re
 
 #[tactic(auto, unfolding(dbc_grammar::specs::Parsing::spn_at))]
 fn spn_of_signal<'a>(tokens: &mut Tokens<'a>) -> Result<Content<'a>, ReadFault>
-    ensures reads { Reads content_of result (spn_at tokens.old) tokens.new }
+    ensures reads { ReadsTokens content_of result (spn_at tokens.old) tokens.new }
     ensures nothing { IfOk result NothingIsAttached }
 {
     attribute(tokens)?;
@@ -70,7 +70,8 @@ fn spn_of_signal<'a>(tokens: &mut Tokens<'a>) -> Result<Content<'a>, ReadFault>
 
 /// The rest of a statement after `BA_`: a suspect parameter number, or else anything up to `;`.
 pub(crate) fn attribute_value<'a>(tokens: &mut Tokens<'a>) -> Result<Content<'a>, ReadFault>
-    ensures reads { Reads content_of result (or_else (spn_at tokens.old) (skipped_at tokens.old)) tokens.new }
+    ensures reads { ReadsTokens content_of result
+        (or_else (spn_at tokens.old) (skipped_at tokens.old)) tokens.new }
     ensures nothing { IfOk result NothingIsAttached }
 {
     let mut trial = tokens.fork();

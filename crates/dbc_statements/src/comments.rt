@@ -3,7 +3,7 @@ ghost use Rattle.std.specs.Prelude.{◌≡◌, IfOk};
 ghost use Rattle.dbc_grammar.specs.Fields as fields;
 ghost use Rattle.dbc_grammar.specs.Parsing.{comment_at, file_comment_at, message_comment_at, node_comment_at};
 ghost use Rattle.dbc_grammar.specs.Parsing.{signal_comment_at};
-ghost use Rattle.dbc_statements.specs.Reading.{Reads};
+ghost use Rattle.dbc_statements.specs.Reading.{ReadsTokens};
 ghost use Rattle.dbc_statements.specs.Statement.{NothingIsAttached, content_of};
 
 use crate::fields::{any_name, cited_number, key, mark, text};
@@ -11,13 +11,13 @@ use crate::passing::passed_comment;
 use crate::statement::{CitedSignal, Content};
 use crate::tokens::Tokens;
 use crate::words::{is_key, is_text};
-use catalogue::Keyword;
 use dbc_lex::ReadFault;
+use dbc_words::Keyword;
 use std::alloc::Global;
 
 #[tactic(auto, unfolding(dbc_grammar::specs::Parsing::file_comment_at))]
 fn file_comment<'a>(alloc: Global, tokens: &mut Tokens<'a>) -> Result<Content<'a>, ReadFault>
-    ensures reads { Reads content_of result (file_comment_at tokens.old) tokens.new }
+    ensures reads { ReadsTokens content_of result (file_comment_at tokens.old) tokens.new }
     ensures nothing { IfOk result NothingIsAttached }
 {
     let text = text(alloc, tokens)?;
@@ -27,7 +27,7 @@ fn file_comment<'a>(alloc: Global, tokens: &mut Tokens<'a>) -> Result<Content<'a
 
 #[tactic(auto, unfolding(dbc_grammar::specs::Parsing::node_comment_at))]
 fn node_comment<'a>(alloc: Global, tokens: &mut Tokens<'a>) -> Result<Content<'a>, ReadFault>
-    ensures reads { Reads content_of result (node_comment_at tokens.old) tokens.new }
+    ensures reads { ReadsTokens content_of result (node_comment_at tokens.old) tokens.new }
     ensures nothing { IfOk result NothingIsAttached }
 {
     key(tokens, Keyword::Nodes)?;
@@ -39,7 +39,7 @@ fn node_comment<'a>(alloc: Global, tokens: &mut Tokens<'a>) -> Result<Content<'a
 
 #[tactic(auto, unfolding(dbc_grammar::specs::Parsing::message_comment_at))]
 fn message_comment<'a>(alloc: Global, tokens: &mut Tokens<'a>) -> Result<Content<'a>, ReadFault>
-    ensures reads { Reads content_of result (message_comment_at tokens.old) tokens.new }
+    ensures reads { ReadsTokens content_of result (message_comment_at tokens.old) tokens.new }
     ensures nothing { IfOk result NothingIsAttached }
 {
     key(tokens, Keyword::Message)?;
@@ -51,7 +51,7 @@ fn message_comment<'a>(alloc: Global, tokens: &mut Tokens<'a>) -> Result<Content
 
 #[tactic(auto, unfolding(dbc_grammar::specs::Parsing::signal_comment_at))]
 fn signal_comment<'a>(alloc: Global, tokens: &mut Tokens<'a>) -> Result<Content<'a>, ReadFault>
-    ensures reads { Reads content_of result (signal_comment_at tokens.old) tokens.new }
+    ensures reads { ReadsTokens content_of result (signal_comment_at tokens.old) tokens.new }
     ensures nothing { IfOk result NothingIsAttached }
 {
     key(tokens, Keyword::Signal)?;
@@ -65,7 +65,7 @@ fn signal_comment<'a>(alloc: Global, tokens: &mut Tokens<'a>) -> Result<Content<
 /// The rest of a statement after `CM_`.
 #[tactic(auto, unfolding(dbc_grammar::specs::Parsing::comment_at))]
 pub(crate) fn comment<'a>(alloc: Global, tokens: &mut Tokens<'a>) -> Result<Content<'a>, ReadFault>
-    ensures reads { Reads content_of result (comment_at tokens.old) tokens.new }
+    ensures reads { ReadsTokens content_of result (comment_at tokens.old) tokens.new }
     ensures nothing { IfOk result NothingIsAttached }
 {
     match tokens.first() {

@@ -59,8 +59,10 @@ impl<'a> Statements<'a> {
         ensures next { IfOk result (λ found. IfSome found
             (λ s. BeginsWith (statement_of s) self.old.tokens self.new.tokens)) }
         ensures nothing { IfOk result (λ found. IfSome found (λ s. NothingIsAttached s.content)) }
-        ensures end { IfOk result (λ found. IfNone found (statements_at self.old.tokens ≡ Some [])) }
-        ensures err { IfErr result (λ fault. UnlessMemory fault.code (statements_at self.old.tokens ≡ None)) }
+        ensures end { IfOk result
+            (λ found. IfNone found (statements_at self.old.tokens ≡ Some [])) }
+        ensures err { IfErr result
+            (λ fault. UnlessMemory fault.code (statements_at self.old.tokens ≡ None)) }
         ensures last { IfOk result (λ found. IfNone found (self.new ≡ self.old)) }
         ensures unchanged { OnErr result (self.new ≡ self.old) }
     {

@@ -1,18 +1,19 @@
 //! Lists of values with their texts.
 ghost use Rattle.std.specs.Prelude.{◌≡◌, ◌≤◌, [], ◌∷◌, ◌++◌, IfErr, IfOk, None, OnErr, OnOk, Some, SomeIff, is_some};
 ghost use Rattle.std.specs.Prelude.{length, nat_lt};
+ghost use Rattle.dbc_words.specs.Limits.{value_text_limit};
 ghost use Rattle.dbc_grammar.specs.Grammar as grammar;
-ghost use Rattle.catalogue.specs.Limits.{value_text_limit};
 ghost use Rattle.dbc_grammar.specs.Parsing.{entry_at, entries_at};
 ghost use Rattle.dbc_grammar.specs.Rules.{starts};
 ghost use Rattle.dbc_lex.specs.Fault.{UnlessMemory};
-ghost use Rattle.dbc_statements.specs.Reading.{Reads, itself, with_one};
+ghost use Rattle.dbc_statements.specs.Reading.{ReadsTokens, itself, with_one};
 
 use crate::fields::{decimal, text};
 use crate::tokens::Tokens;
 use crate::words::is_mark;
-use catalogue::{VALUE_TEXT_LIMIT, ValueText, ValueTexts};
 use dbc_lex::ReadFault;
+use dbc_sheet::{ValueText, ValueTexts};
+use dbc_words::VALUE_TEXT_LIMIT;
 use decimal::Decimal;
 use std::alloc::{AllocError, Global};
 use std::marker::Model;
@@ -26,8 +27,8 @@ pub struct Entries {
 
 impl Model for Entries {
     ghost use Rattle.std.specs.Prelude.{◌≡◌, List, is_some, length, nat_lt};
-    ghost use Rattle.catalogue.specs.Limits.{value_text_limit};
-    ghost use Rattle.catalogue.specs.declared.value_texts.ValueText.{ValueText};
+    ghost use Rattle.dbc_words.specs.Limits.{value_text_limit};
+    ghost use Rattle.dbc_sheet.specs.declared.value_texts.ValueText.{ValueText};
 
     ghost Value = { List ValueText };
 
@@ -111,7 +112,8 @@ pub(crate) fn is_open(tokens: &Tokens) -> bool
 #[inline(always)]
 #[tactic(auto, unfolding(dbc_grammar::specs::Parsing::entry_at))]
 fn add_entry(alloc: Global, tokens: &mut Tokens, entries: &mut Entries) -> Result<(), ReadFault>
-    ensures ok { OnOk result (with_one entries.old (entry_at tokens.old) ≡ Some (entries.new, tokens.new)) }
+    ensures ok { OnOk result
+        (with_one entries.old (entry_at tokens.old) ≡ Some (entries.new, tokens.new)) }
     ensures err { IfErr result (λ fault. UnlessMemory fault.code (entry_at tokens.old ≡ None)) }
 {
     let offset = tokens.offset();
@@ -124,7 +126,7 @@ fn add_entry(alloc: Global, tokens: &mut Tokens, entries: &mut Entries) -> Resul
 
 /// Values and their texts, up to `;`.
 pub(crate) fn entry_list(alloc: Global, tokens: &mut Tokens) -> Result<Entries, ReadFault>
-    ensures { Reads itself result (entries_at tokens.old) tokens.new }
+    ensures { ReadsTokens itself result (entries_at tokens.old) tokens.new }
 {
     let mut entries = Entries::with_room(alloc)?;
     'entries: while is_open(tokens) {

@@ -8,7 +8,7 @@ ghost use Rattle.dbc_grammar.specs.Parsing.{token_at, one_at, optional_at, key_a
 ghost use Rattle.dbc_grammar.specs.Parsing.{layout_at};
 ghost use Rattle.dbc_grammar.specs.Rules.{begins, starts};
 ghost use Rattle.dbc_grammar.specs.declared.token.TokenKind.TheVariants.{Mark, Number};
-ghost use Rattle.dbc_statements.specs.Reading.{Reads, itself, with_mark};
+ghost use Rattle.dbc_statements.specs.Reading.{ReadsTokens, itself, with_mark};
 
 use crate::tokens::Tokens;
 use crate::words::{
@@ -18,8 +18,8 @@ use crate::words::{
 };
 use bitlayout::{Layout, Order, Size};
 use can_id::Ident;
-use catalogue::{Keyword, Name, PayloadLength, Spn, Text, ValueType};
 use dbc_lex::{ReadCode, ReadFault, Token};
+use dbc_words::{Keyword, Name, PayloadLength, Spn, Text, ValueType};
 use decimal::Decimal;
 use std::alloc::Global;
 
@@ -51,7 +51,7 @@ fn number_fault(token: &Token, code: ReadCode) -> ReadFault {
 /// A mark of this spelling.
 #[inline(always)]
 pub(crate) fn mark(tokens: &mut Tokens, mark: u8) -> Result<(), ReadFault>
-    ensures { Reads itself result (mark_at (mark ∷ []) tokens.old) tokens.new }
+    ensures { ReadsTokens itself result (mark_at (mark ∷ []) tokens.old) tokens.new }
 {
     let token = tokens.front()?;
     tokens.accept(is_mark(&token, mark).then_some(()), unexpected(&token))
@@ -61,7 +61,7 @@ pub(crate) fn mark(tokens: &mut Tokens, mark: u8) -> Result<(), ReadFault>
 #[inline(always)]
 fn skip_with(tokens: &mut Tokens, spelling: u8) -> Result<(), ReadFault>
     requires { kind_of spelling ≡ Some Mark }
-    ensures { Reads itself result (mark_at (spelling ∷ []) (drop 1 tokens.old)) tokens.new }
+    ensures { ReadsTokens itself result (mark_at (spelling ∷ []) (drop 1 tokens.old)) tokens.new }
 {
     if tokens.skip_to(spelling) {
         tokens.skip();
@@ -90,7 +90,7 @@ pub(crate) fn optional_mark(tokens: &mut Tokens, mark: u8) -> Option<()>
 /// This keyword.
 #[inline(always)]
 pub(crate) fn key(tokens: &mut Tokens, keyword: Keyword) -> Result<(), ReadFault>
-    ensures { Reads itself result (key_at keyword tokens.old) tokens.new }
+    ensures { ReadsTokens itself result (key_at keyword tokens.old) tokens.new }
 {
     let token = tokens.front()?;
     tokens.accept(is_key(&token, keyword).then_some(()), unexpected(&token))
@@ -98,7 +98,7 @@ pub(crate) fn key(tokens: &mut Tokens, keyword: Keyword) -> Result<(), ReadFault
 
 /// A number of any spelling.
 pub(crate) fn any_number(tokens: &mut Tokens) -> Result<(), ReadFault>
-    ensures { Reads itself result (one_at (fields.is_a Number) tokens.old) tokens.new }
+    ensures { ReadsTokens itself result (one_at (fields.is_a Number) tokens.old) tokens.new }
 {
     let token = tokens.front()?;
     tokens.accept(is_number(&token).then_some(()), unexpected(&token))
@@ -107,7 +107,8 @@ pub(crate) fn any_number(tokens: &mut Tokens) -> Result<(), ReadFault>
 /// A name of any kind, a keyword too.
 #[inline(always)]
 pub(crate) fn any_name<'a>(tokens: &mut Tokens<'a>) -> Result<&'a [u8], ReadFault>
-    ensures { Reads (λ name. name.now) result (token_at fields.cited_name tokens.old) tokens.new }
+    ensures { ReadsTokens (λ name. name.now) result (token_at fields.cited_name tokens.old)
+        tokens.new }
 {
     let token = tokens.front()?;
     tokens.accept(is_word(&token).then_some(token.text), unexpected(&token))
@@ -116,7 +117,7 @@ pub(crate) fn any_name<'a>(tokens: &mut Tokens<'a>) -> Result<&'a [u8], ReadFaul
 /// The bytes between the quotes of a text.
 #[inline(always)]
 pub(crate) fn text(alloc: Global, tokens: &mut Tokens) -> Result<Text, ReadFault>
-    ensures { Reads itself result (token_at fields.text_of tokens.old) tokens.new }
+    ensures { ReadsTokens itself result (token_at fields.text_of tokens.old) tokens.new }
 {
     let token = tokens.front()?;
     if !is_text(&token) {
@@ -130,7 +131,7 @@ pub(crate) fn text(alloc: Global, tokens: &mut Tokens) -> Result<Text, ReadFault
 /// The name of something that the statement defines. Code 37 at a name that isn't allowed for it.
 #[inline(always)]
 pub(crate) fn made_name(alloc: Global, tokens: &mut Tokens) -> Result<Name, ReadFault>
-    ensures { Reads itself result (token_at fields.made_name tokens.old) tokens.new }
+    ensures { ReadsTokens itself result (token_at fields.made_name tokens.old) tokens.new }
 {
     let token = tokens.front()?;
     if !is_word(&token) {
@@ -147,7 +148,7 @@ pub(crate) fn made_name(alloc: Global, tokens: &mut Tokens) -> Result<Name, Read
 /// A whole number that only cites a message; `None` if it is above 4294967295.
 #[inline(always)]
 pub(crate) fn cited_number(tokens: &mut Tokens) -> Result<Option<u32>, ReadFault>
-    ensures { Reads itself result (token_at fields.cited_number tokens.old) tokens.new }
+    ensures { ReadsTokens itself result (token_at fields.cited_number tokens.old) tokens.new }
 {
     let token = tokens.front()?;
     tokens.accept(cited_number_of(&token), unexpected(&token))
@@ -155,7 +156,7 @@ pub(crate) fn cited_number(tokens: &mut Tokens) -> Result<Option<u32>, ReadFault
 
 /// The identifier of a message. Code 36 at a number that isn't that of an identifier.
 pub(crate) fn message_ident(tokens: &mut Tokens) -> Result<Ident, ReadFault>
-    ensures { Reads itself result (token_at fields.message_ident tokens.old) tokens.new }
+    ensures { ReadsTokens itself result (token_at fields.message_ident tokens.old) tokens.new }
 {
     let token = tokens.front()?;
     tokens.accept(
@@ -176,7 +177,7 @@ pub(crate) fn begins_message(tokens: &Tokens) -> bool
 
 /// The number of the message that holds the signals of no message. Code 36 at another number.
 pub(crate) fn independent_number(tokens: &mut Tokens) -> Result<u32, ReadFault>
-    ensures { Reads itself result (token_at fields.independent_number tokens.old) tokens.new }
+    ensures { ReadsTokens itself result (token_at fields.independent_number tokens.old) tokens.new }
 {
     let token = tokens.front()?;
     tokens.accept(
@@ -187,7 +188,7 @@ pub(crate) fn independent_number(tokens: &mut Tokens) -> Result<u32, ReadFault>
 
 /// The length of a message in bytes. Code 38 at another number.
 pub(crate) fn length(tokens: &mut Tokens) -> Result<PayloadLength, ReadFault>
-    ensures { Reads itself result (token_at fields.length_of tokens.old) tokens.new }
+    ensures { ReadsTokens itself result (token_at fields.length_of tokens.old) tokens.new }
 {
     let token = tokens.front()?;
     let length = whole(&token).and_then(|bytes| PayloadLength::new(bytes));
@@ -197,7 +198,8 @@ pub(crate) fn length(tokens: &mut Tokens) -> Result<PayloadLength, ReadFault>
 /// The start bit of a signal, and the bar after it. Code 39 at another number.
 #[inline(always)]
 fn start(tokens: &mut Tokens) -> Result<u16, ReadFault>
-    ensures { Reads itself result (with_mark (token_at fields.start_of tokens.old) (codes "|")) tokens.new }
+    ensures { ReadsTokens itself result
+        (with_mark (token_at fields.start_of tokens.old) (codes "|")) tokens.new }
 {
     let token = tokens.front()?;
     let start = start_of(&token).ok_or(number_fault(&token, ReadCode::Size))?;
@@ -208,7 +210,8 @@ fn start(tokens: &mut Tokens) -> Result<u16, ReadFault>
 /// The size of a signal, and the `@` after it. Code 39 at another number.
 #[inline(always)]
 fn size(tokens: &mut Tokens) -> Result<Size, ReadFault>
-    ensures { Reads itself result (with_mark (token_at fields.size_of tokens.old) (codes "@")) tokens.new }
+    ensures { ReadsTokens itself result (with_mark (token_at fields.size_of tokens.old) (codes "@"))
+        tokens.new }
 {
     let token = tokens.front()?;
     let size = size_of(&token).ok_or(number_fault(&token, ReadCode::Size))?;
@@ -219,7 +222,7 @@ fn size(tokens: &mut Tokens) -> Result<Size, ReadFault>
 /// The byte order of a signal.
 #[inline(always)]
 fn order(tokens: &mut Tokens) -> Result<Order, ReadFault>
-    ensures { Reads itself result (token_at fields.order_of tokens.old) tokens.new }
+    ensures { ReadsTokens itself result (token_at fields.order_of tokens.old) tokens.new }
 {
     let token = tokens.front()?;
     let order = order_of(&token).ok_or(unexpected(&token))?;
@@ -230,7 +233,7 @@ fn order(tokens: &mut Tokens) -> Result<Order, ReadFault>
 /// Whether values have a sign.
 #[inline(always)]
 fn minus(tokens: &mut Tokens) -> Result<bool, ReadFault>
-    ensures { Reads itself result (token_at fields.sign_of tokens.old) tokens.new }
+    ensures { ReadsTokens itself result (token_at fields.sign_of tokens.old) tokens.new }
 {
     let token = tokens.front()?;
     let minus = sign_of(&token).ok_or(unexpected(&token))?;
@@ -242,7 +245,7 @@ fn minus(tokens: &mut Tokens) -> Result<bool, ReadFault>
 #[inline(always)]
 #[tactic(auto, unfolding(dbc_grammar::specs::Parsing::layout_at))]
 pub(crate) fn layout(tokens: &mut Tokens) -> Result<(Layout, bool), ReadFault>
-    ensures { Reads itself result (layout_at tokens.old) tokens.new }
+    ensures { ReadsTokens itself result (layout_at tokens.old) tokens.new }
 {
     let start = start(tokens)?;
     let size = size(tokens)?;
@@ -255,7 +258,8 @@ pub(crate) fn layout(tokens: &mut Tokens) -> Result<(Layout, bool), ReadFault>
 #[inline(always)]
 #[tactic(auto, unfolding(dbc_grammar::specs::Parsing::optional_at))]
 fn sign(tokens: &mut Tokens) -> Option<bool>
-    ensures { optional_at (begins fields.sign_of) (token_at fields.sign_of) tokens.old ≡ Some (result, tokens.new) }
+    ensures { optional_at (begins fields.sign_of) (token_at fields.sign_of) tokens.old
+        ≡ Some (result, tokens.new) }
 {
     let sign = sign_of(&tokens.first()?)?;
     tokens.skip();
@@ -284,7 +288,7 @@ fn no_decimal(tokens: &Tokens) -> ReadFault {
 // It is given by reference, since a result of a decimal or a fault is moved byte by byte.
 #[inline(always)]
 pub(crate) fn decimal(tokens: &mut Tokens, decimal: &mut Decimal) -> Result<(), ReadFault>
-    ensures { Reads (λ u. decimal.new) result (decimal_at tokens.old) tokens.new }
+    ensures { ReadsTokens (λ u. decimal.new) result (decimal_at tokens.old) tokens.new }
 {
     match decimal_here(tokens) {
         Some(number) => {
@@ -300,7 +304,8 @@ pub(crate) fn decimal(tokens: &mut Tokens, decimal: &mut Decimal) -> Result<(), 
 #[inline(always)]
 fn decimal_with(tokens: &mut Tokens, spelling: u8, decimal: &mut Decimal) -> Result<(), ReadFault>
     requires { kind_of spelling ≡ Some Mark }
-    ensures { Reads (λ u. decimal.new) result (with_mark (decimal_at tokens.old) (spelling ∷ [])) tokens.new }
+    ensures { ReadsTokens (λ u. decimal.new) result
+        (with_mark (decimal_at tokens.old) (spelling ∷ [])) tokens.new }
 {
     match decimal_here(tokens) {
         Some(number) => {
@@ -340,7 +345,7 @@ pub(crate) fn pair(
 ) -> Result<(), ReadFault>
     requires between { kind_of between ≡ Some Mark }
     requires right { kind_of right ≡ Some Mark }
-    ensures { Reads (λ u. (pair.new.first, pair.new.second)) result
+    ensures { ReadsTokens (λ u. (pair.new.first, pair.new.second)) result
         (pair_at (left ∷ []) (between ∷ []) (right ∷ []) tokens.old) tokens.new }
 {
     mark(tokens, left)?;
@@ -351,7 +356,7 @@ pub(crate) fn pair(
 
 /// The type of a signal's values. Code 35 at another number.
 pub(crate) fn value_type(tokens: &mut Tokens) -> Result<ValueType, ReadFault>
-    ensures { Reads itself result (token_at fields.type_of tokens.old) tokens.new }
+    ensures { ReadsTokens itself result (token_at fields.type_of tokens.old) tokens.new }
 {
     let token = tokens.front()?;
     let value_type = whole(&token).and_then(|number| ValueType::of(number));
@@ -360,7 +365,7 @@ pub(crate) fn value_type(tokens: &mut Tokens) -> Result<ValueType, ReadFault>
 
 /// The name of the attribute with suspect parameter numbers.
 pub(crate) fn attribute(tokens: &mut Tokens) -> Result<(), ReadFault>
-    ensures { Reads itself result (one_at grammar.is_spn_name tokens.old) tokens.new }
+    ensures { ReadsTokens itself result (one_at grammar.is_spn_name tokens.old) tokens.new }
 {
     let token = tokens.front()?;
     tokens.accept(is_spn_name(&token).then_some(()), unexpected(&token))
@@ -368,7 +373,7 @@ pub(crate) fn attribute(tokens: &mut Tokens) -> Result<(), ReadFault>
 
 /// A suspect parameter number.
 pub(crate) fn spn(tokens: &mut Tokens) -> Result<Spn, ReadFault>
-    ensures { Reads itself result (token_at grammar.spn_of tokens.old) tokens.new }
+    ensures { ReadsTokens itself result (token_at grammar.spn_of tokens.old) tokens.new }
 {
     let token = tokens.front()?;
     tokens.accept(spn_of(&token), unexpected(&token))

@@ -6,25 +6,25 @@ ghost use Rattle.dbc_grammar.specs.Parsing.{registers_at, symbols_at, table_at, 
 ghost use Rattle.dbc_grammar.specs.Parsing.{nodes_line_at, version_at};
 ghost use Rattle.dbc_grammar.specs.Rules.{starts};
 ghost use Rattle.dbc_grammar.specs.declared.token.TokenKind.TheVariants.{Number};
-ghost use Rattle.dbc_statements.specs.Reading.{Reads, itself};
+ghost use Rattle.dbc_statements.specs.Reading.{ReadsTokens, itself};
 ghost use Rattle.dbc_statements.specs.Skipping.{Skips};
-ghost use Rattle.dbc_statements.specs.Statement.{NothingIsAttached, content_of, line_content};
+ghost use Rattle.dbc_statements.specs.Statement.{NothingIsAttached, content_of, content_in};
 
+use crate::ended_content::EndedContent;
 use crate::entries::entry_list;
 use crate::fields::{any_number, made_name, mark, text};
-use crate::line::Line;
 use crate::names::nodes_with_offsets;
 use crate::statement::{Content, TableLine};
 use crate::tokens::Tokens;
 use crate::words::{is_key, is_mark, is_number, is_word};
-use catalogue::Keyword;
 use dbc_lex::ReadFault;
+use dbc_words::Keyword;
 use std::alloc::Global;
 
 /// The rest of a statement after `VERSION`.
 #[tactic(auto, unfolding(dbc_grammar::specs::Parsing::version_at))]
 pub(crate) fn version<'a>(alloc: Global, tokens: &mut Tokens<'a>) -> Result<Content<'a>, ReadFault>
-    ensures reads { Reads content_of result (version_at tokens.old) tokens.new }
+    ensures reads { ReadsTokens content_of result (version_at tokens.old) tokens.new }
     ensures nothing { IfOk result NothingIsAttached }
 {
     let version = text(alloc, tokens)?;
@@ -66,7 +66,7 @@ fn skip_symbols(tokens: &mut Tokens)
 /// The rest of a statement after `NS_`.
 #[tactic(auto, unfolding(dbc_grammar::specs::Parsing::symbols_at))]
 pub(crate) fn new_symbols<'a>(tokens: &mut Tokens<'a>) -> Result<Content<'a>, ReadFault>
-    ensures reads { Reads content_of result (symbols_at tokens.old) tokens.new }
+    ensures reads { ReadsTokens content_of result (symbols_at tokens.old) tokens.new }
     ensures nothing { IfOk result NothingIsAttached }
 {
     mark(tokens, b':')?;
@@ -81,7 +81,7 @@ pub(crate) fn new_symbols<'a>(tokens: &mut Tokens<'a>) -> Result<Content<'a>, Re
 /// A colon, a number, a comma and a number.
 #[tactic(auto, unfolding(dbc_grammar::specs::Parsing::registers_at))]
 fn registers(tokens: &mut Tokens) -> Result<(), ReadFault>
-    ensures { Reads itself result (registers_at tokens.old) tokens.new }
+    ensures { ReadsTokens itself result (registers_at tokens.old) tokens.new }
 {
     mark(tokens, b':')?;
     any_number(tokens)?;
@@ -103,7 +103,7 @@ fn is_colon(tokens: &Tokens) -> bool
 /// A number, and the numbers of the registers if a colon comes next.
 #[tactic(auto, unfolding(dbc_grammar::specs::Parsing::timing_at))]
 fn timing(tokens: &mut Tokens) -> Result<(), ReadFault>
-    ensures { Reads itself result (timing_at tokens.old) tokens.new }
+    ensures { ReadsTokens itself result (timing_at tokens.old) tokens.new }
 {
     any_number(tokens)?;
     if is_colon(tokens) {
@@ -125,7 +125,7 @@ fn is_timing(tokens: &Tokens) -> bool
 /// The rest of a statement after `BS_`.
 #[tactic(auto, unfolding(dbc_grammar::specs::Parsing::timing_line_at))]
 pub(crate) fn bit_timing<'a>(tokens: &mut Tokens<'a>) -> Result<Content<'a>, ReadFault>
-    ensures reads { Reads content_of result (timing_line_at tokens.old) tokens.new }
+    ensures reads { ReadsTokens content_of result (timing_line_at tokens.old) tokens.new }
     ensures nothing { IfOk result NothingIsAttached }
 {
     mark(tokens, b':')?;
@@ -137,13 +137,16 @@ pub(crate) fn bit_timing<'a>(tokens: &mut Tokens<'a>) -> Result<Content<'a>, Rea
 
 /// The rest of a statement after `BU_`.
 #[tactic(auto, unfolding(dbc_grammar::specs::Parsing::nodes_line_at))]
-pub(crate) fn node_names<'a>(alloc: Global, tokens: &mut Tokens<'a>) -> Result<Line<'a>, ReadFault>
-    ensures reads { Reads line_content result (nodes_line_at tokens.old) tokens.new }
+pub(crate) fn node_names<'a>(
+    alloc: Global,
+    tokens: &mut Tokens<'a>,
+) -> Result<EndedContent<'a>, ReadFault>
+    ensures reads { ReadsTokens content_in result (nodes_line_at tokens.old) tokens.new }
     ensures nothing { IfOk result (λ line. NothingIsAttached line.content) }
 {
     mark(tokens, b':')?;
     let (names, ended) = nodes_with_offsets(alloc, tokens)?;
-    Ok(Line {
+    Ok(EndedContent {
         content: Content::Nodes(names),
         ended,
     })
@@ -155,7 +158,7 @@ pub(crate) fn value_table<'a>(
     alloc: Global,
     tokens: &mut Tokens<'a>,
 ) -> Result<Content<'a>, ReadFault>
-    ensures reads { Reads content_of result (table_at tokens.old) tokens.new }
+    ensures reads { ReadsTokens content_of result (table_at tokens.old) tokens.new }
     ensures nothing { IfOk result NothingIsAttached }
 {
     let at = tokens.offset();

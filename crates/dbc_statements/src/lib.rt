@@ -17,10 +17,10 @@
 mod attached;
 mod comments;
 mod dividing;
+mod ended_content;
 mod entries;
 mod fields;
 mod heading;
-mod line;
 mod messages;
 mod names;
 mod passing;

@@ -5,15 +5,16 @@ ghost use Rattle.dbc_grammar.specs.Parsing.{token_at, many_at, further_at, some_
 ghost use Rattle.dbc_grammar.specs.Rules.{begins};
 ghost use Rattle.dbc_lex.specs.Fault.{UnlessMemory};
 ghost use Rattle.dbc_statements.specs.Names.{names_in, with_names};
-ghost use Rattle.dbc_statements.specs.Reading.{Reads, itself};
+ghost use Rattle.dbc_statements.specs.Reading.{ReadsTokens, itself};
 ghost use Rattle.dbc_statements.specs.Statement.{names_of};
 
 use crate::fields::optional_mark;
 use crate::statement::NodeName;
 use crate::tokens::Tokens;
 use crate::words::{is_made_name, is_mark, is_no_node, is_node, is_word};
-use catalogue::{Name, Receivers};
 use dbc_lex::{ReadCode, ReadFault};
+use dbc_sheet::Receivers;
+use dbc_words::Name;
 use std::alloc::{AllocError, Global};
 
 /// How what was read ends, as far as it matters for a fault at the next token.
@@ -116,7 +117,8 @@ fn goes_on(tokens: &Tokens) -> bool
 /// A node; `None` for the name that means no node.
 #[inline(always)]
 fn node(alloc: Global, tokens: &mut Tokens) -> Result<Option<NameAt>, ReadFault>
-    ensures { Reads (option_map (λ node. node.1)) result (token_at fields.node_of tokens.old) tokens.new }
+    ensures { ReadsTokens (option_map (λ node. node.1)) result (token_at fields.node_of tokens.old)
+        tokens.new }
 {
     let at = tokens.offset();
     match tokens.first() {
@@ -141,7 +143,7 @@ fn node(alloc: Global, tokens: &mut Tokens) -> Result<Option<NameAt>, ReadFault>
 #[inline(always)]
 #[tactic(auto, unfolding(dbc_grammar::specs::Parsing::further_at))]
 fn further(alloc: Global, tokens: &mut Tokens) -> Result<Option<NameAt>, ReadFault>
-    ensures { Reads (option_map (λ node. node.1)) result (further_at tokens.old) tokens.new }
+    ensures { ReadsTokens (option_map (λ node. node.1)) result (further_at tokens.old) tokens.new }
 {
     optional_mark(tokens, b',');
     node(alloc, tokens)
@@ -150,7 +152,8 @@ fn further(alloc: Global, tokens: &mut Tokens) -> Result<Option<NameAt>, ReadFau
 /// Adds the node to the list, if there is one.
 #[inline(always)]
 fn add<L: NodeList>(alloc: Global, nodes: &mut L, node: Option<NameAt>) -> Result<(), AllocError>
-    ensures { OnOk result (L.names nodes.new ≡ L.names nodes.old ++ names_in (option_map (λ node. node.1) node ∷ [])) }
+    ensures { OnOk result (L.names nodes.new ≡ L.names nodes.old
+        ++ names_in (option_map (λ node. node.1) node ∷ [])) }
 {
     match node {
         Some((at, name)) => nodes.add(alloc, at, name),
@@ -164,7 +167,8 @@ fn add_further<L: NodeList>(
     tokens: &mut Tokens,
     nodes: &mut L,
 ) -> Result<(), ReadFault>
-    ensures ok { OnOk result (with_names (L.names nodes.old) (many_at fields.goes_on further_at tokens.old)
+    ensures ok { OnOk result
+        (with_names (L.names nodes.old) (many_at fields.goes_on further_at tokens.old)
         ≡ Some (L.names nodes.new, tokens.new)) }
     ensures end { OnOk result (fields.goes_on tokens.new ≡ false) }
     ensures err { IfErr result (λ fault. UnlessMemory fault.code
@@ -180,7 +184,8 @@ fn add_further<L: NodeList>(
 /// The list of this node alone, if there is one.
 #[inline(always)]
 fn list_of<L: NodeList + Drop>(alloc: Global, first: Option<NameAt>) -> Result<L, AllocError>
-    ensures { IfOk result (λ nodes. L.names nodes ≡ names_in (option_map (λ node. node.1) first ∷ [])) }
+    ensures { IfOk result (λ nodes. L.names nodes
+        ≡ names_in (option_map (λ node. node.1) first ∷ [])) }
 {
     let mut nodes = L::empty(alloc);
     add(alloc, &mut nodes, first)?;
@@ -190,7 +195,7 @@ fn list_of<L: NodeList + Drop>(alloc: Global, first: Option<NameAt>) -> Result<L
 /// A list of at least one name. It takes no more memory than it needs.
 #[tactic(auto, unfolding(dbc_grammar::specs::Parsing::some_names_at))]
 fn some_nodes<L: NodeList + Drop>(alloc: Global, tokens: &mut Tokens) -> Result<L, ReadFault>
-    ensures { Reads (λ nodes. L.names nodes) result (some_names_at tokens.old) tokens.new }
+    ensures { ReadsTokens (λ nodes. L.names nodes) result (some_names_at tokens.old) tokens.new }
 {
     let first = node(alloc, tokens)?;
     let mut nodes: L = list_of(alloc, first)?;
@@ -202,7 +207,7 @@ fn some_nodes<L: NodeList + Drop>(alloc: Global, tokens: &mut Tokens) -> Result<
 /// A list of nodes, without the names that mean no node, and how it ends.
 #[tactic(auto, unfolding(dbc_grammar::specs::Parsing::nodes_at, dbc_grammar::specs::Parsing::no_names_at))]
 fn nodes<L: NodeList + Drop>(alloc: Global, tokens: &mut Tokens) -> Result<(L, ListEnd), ReadFault>
-    ensures { Reads (λ list. L.names list.0) result (nodes_at tokens.old) tokens.new }
+    ensures { ReadsTokens (λ list. L.names list.0) result (nodes_at tokens.old) tokens.new }
 {
     if begins_node(tokens) {
         let names = some_nodes(alloc, tokens)?;
@@ -216,7 +221,7 @@ pub(crate) fn nodes_with_offsets(
     alloc: Global,
     tokens: &mut Tokens,
 ) -> Result<(Vec<NodeName>, ListEnd), ReadFault>
-    ensures { Reads (λ list. names_of list.0.items) result (nodes_at tokens.old) tokens.new }
+    ensures { ReadsTokens (λ list. names_of list.0.items) result (nodes_at tokens.old) tokens.new }
 {
     nodes::<Vec<NodeName>>(alloc, tokens)
 }
@@ -226,14 +231,14 @@ pub(crate) fn receivers(
     alloc: Global,
     tokens: &mut Tokens,
 ) -> Result<(Receivers, ListEnd), ReadFault>
-    ensures { Reads (λ list. list.0) result (nodes_at tokens.old) tokens.new }
+    ensures { ReadsTokens (λ list. list.0) result (nodes_at tokens.old) tokens.new }
 {
     nodes::<Receivers>(alloc, tokens)
 }
 
 /// The node that sends a message; `None` for the name that means no node.
 pub(crate) fn transmitter(alloc: Global, tokens: &mut Tokens) -> Result<Option<Name>, ReadFault>
-    ensures { Reads itself result (token_at fields.node_of tokens.old) tokens.new }
+    ensures { ReadsTokens itself result (token_at fields.node_of tokens.old) tokens.new }
 {
     match node(alloc, tokens)? {
         Some((_at, name)) => Ok(Some(name)),

@@ -4,7 +4,7 @@ ghost use Rattle.dbc_grammar.specs.Grammar as grammar;
 ghost use Rattle.dbc_grammar.specs.Parsing.{independent_at, passed_comment_at, passed_value_texts_at, skipped_at};
 ghost use Rattle.dbc_grammar.specs.Rules.{starts};
 ghost use Rattle.dbc_lex.specs.Token.{token_of};
-ghost use Rattle.dbc_statements.specs.Reading.{Reads};
+ghost use Rattle.dbc_statements.specs.Reading.{ReadsTokens};
 ghost use Rattle.dbc_statements.specs.Statement.{NothingIsAttached, content_of};
 ghost use Rattle.dbc_statements.specs.Skipping.{Skips, begins_no_next};
 
@@ -13,8 +13,8 @@ use crate::fields::{any_name, independent_number, key, mark};
 use crate::statement::Content;
 use crate::tokens::Tokens;
 use crate::words::{is_key, key_of};
-use catalogue::Keyword;
 use dbc_lex::{ReadFault, Token};
+use dbc_words::Keyword;
 
 /// Skips all tokens before the next `;`.
 fn skip_open(tokens: &mut Tokens)
@@ -28,7 +28,7 @@ fn skip_open(tokens: &mut Tokens)
 /// All tokens up to `;`, and that mark.
 #[tactic(auto, unfolding(dbc_grammar::specs::Parsing::skipped_at))]
 pub(crate) fn skip_to_end<'a>(tokens: &mut Tokens<'a>) -> Result<Content<'a>, ReadFault>
-    ensures reads { Reads content_of result (skipped_at tokens.old) tokens.new }
+    ensures reads { ReadsTokens content_of result (skipped_at tokens.old) tokens.new }
     ensures nothing { IfOk result NothingIsAttached }
 {
     skip_open(tokens);
@@ -39,7 +39,7 @@ pub(crate) fn skip_to_end<'a>(tokens: &mut Tokens<'a>) -> Result<Content<'a>, Re
 /// The rest of a statement after `CM_` that is about an environment variable.
 #[tactic(auto, unfolding(dbc_grammar::specs::Parsing::passed_comment_at))]
 pub(crate) fn passed_comment<'a>(tokens: &mut Tokens<'a>) -> Result<Content<'a>, ReadFault>
-    ensures reads { Reads content_of result (passed_comment_at tokens.old) tokens.new }
+    ensures reads { ReadsTokens content_of result (passed_comment_at tokens.old) tokens.new }
     ensures nothing { IfOk result NothingIsAttached }
 {
     key(tokens, Keyword::EnvironmentVariable)?;
@@ -49,7 +49,7 @@ pub(crate) fn passed_comment<'a>(tokens: &mut Tokens<'a>) -> Result<Content<'a>,
 /// The rest of a statement after `VAL_` that is about an environment variable.
 #[tactic(auto, unfolding(dbc_grammar::specs::Parsing::passed_value_texts_at))]
 pub(crate) fn passed_value_texts<'a>(tokens: &mut Tokens<'a>) -> Result<Content<'a>, ReadFault>
-    ensures reads { Reads content_of result (passed_value_texts_at tokens.old) tokens.new }
+    ensures reads { ReadsTokens content_of result (passed_value_texts_at tokens.old) tokens.new }
     ensures nothing { IfOk result NothingIsAttached }
 {
     any_name(tokens)?;
@@ -86,7 +86,7 @@ fn skip_to_next(tokens: &mut Tokens)
 /// The rest of a statement after `BO_` with the number of the message that holds the signals of no message.
 #[tactic(auto, unfolding(dbc_grammar::specs::Parsing::independent_at))]
 pub(crate) fn independent<'a>(tokens: &mut Tokens<'a>) -> Result<Content<'a>, ReadFault>
-    ensures reads { Reads content_of result (independent_at tokens.old) tokens.new }
+    ensures reads { ReadsTokens content_of result (independent_at tokens.old) tokens.new }
     ensures nothing { IfOk result NothingIsAttached }
 {
     independent_number(tokens)?;

@@ -5,22 +5,22 @@ ghost use Rattle.dbc_grammar.specs.Parsing.{line_at, statement_at, statements_at
 ghost use Rattle.dbc_grammar.specs.Spelling.{Spells};
 ghost use Rattle.dbc_lex.specs.Fault.{UnlessMemory};
 ghost use Rattle.dbc_statements.specs.Division.{HasNoDivision, IsDivided, TokensComeFirst};
-ghost use Rattle.dbc_statements.specs.Reading.{Reads, itself};
-ghost use Rattle.dbc_statements.specs.Statement.{NothingIsAttached, line_content, statement_of, statements_of};
+ghost use Rattle.dbc_statements.specs.Reading.{ReadsTokens, itself};
+ghost use Rattle.dbc_statements.specs.Statement.{NothingIsAttached, content_in, statement_of, statements_of};
 ghost use Rattle.dbc_statements.specs.Tokens.{IsReached};
 
 use crate::attached::{attribute_value, value_texts, value_types};
 use crate::comments::comment;
+use crate::ended_content::{EndedContent, content_without_list};
 use crate::heading::{bit_timing, new_symbols, node_names, value_table, version};
-use crate::line::{Line, line_without_list};
 use crate::messages::message_or_independent;
 use crate::names::ListEnd;
 use crate::passing::skip_to_end;
 use crate::statement::Statement;
 use crate::tokens::{Tokens, fault_after};
 use crate::words::{is_mark, is_word, key_of};
-use catalogue::{Keyword, NAME_LIMIT};
 use dbc_lex::{ReadCode, ReadFault, Token};
+use dbc_words::{Keyword, NAME_LIMIT};
 use std::alloc::Global;
 
 /// What is wrong with a word that is no keyword, where a statement or a further name of a list may begin: code 37 if a
@@ -68,7 +68,7 @@ fn fault_at_start(tokens: &Tokens, token: &Token, before: ListEnd) -> ReadFault
 
 /// The first keyword of a statement, and its offset.
 fn first_word(tokens: &mut Tokens, before: ListEnd) -> Result<(usize, Keyword), ReadFault>
-    ensures { Reads itself result (token_at grammar.first_word tokens.old) tokens.new }
+    ensures { ReadsTokens itself result (token_at grammar.first_word tokens.old) tokens.new }
 {
     let token = tokens.front()?;
     match key_of(&token) {
@@ -87,21 +87,21 @@ fn line<'a>(
     start: usize,
     keyword: Keyword,
     tokens: &mut Tokens<'a>,
-) -> Result<Line<'a>, ReadFault>
-    ensures reads { Reads line_content result (line_at keyword tokens.old) tokens.new }
+) -> Result<EndedContent<'a>, ReadFault>
+    ensures reads { ReadsTokens content_in result (line_at keyword tokens.old) tokens.new }
     ensures nothing { IfOk result (λ line. NothingIsAttached line.content) }
 {
     match keyword {
-        Keyword::Version => line_without_list(version(alloc, tokens)),
-        Keyword::NewSymbols => line_without_list(new_symbols(tokens)),
-        Keyword::BitTiming => line_without_list(bit_timing(tokens)),
+        Keyword::Version => content_without_list(version(alloc, tokens)),
+        Keyword::NewSymbols => content_without_list(new_symbols(tokens)),
+        Keyword::BitTiming => content_without_list(bit_timing(tokens)),
         Keyword::Nodes => node_names(alloc, tokens),
-        Keyword::ValueTable => line_without_list(value_table(alloc, tokens)),
+        Keyword::ValueTable => content_without_list(value_table(alloc, tokens)),
         Keyword::Message => message_or_independent(alloc, tokens),
-        Keyword::Comment => line_without_list(comment(alloc, tokens)),
-        Keyword::ValueTexts => line_without_list(value_texts(alloc, tokens)),
-        Keyword::SignalValueType => line_without_list(value_types(tokens)),
-        Keyword::AttributeValue => line_without_list(attribute_value(tokens)),
+        Keyword::Comment => content_without_list(comment(alloc, tokens)),
+        Keyword::ValueTexts => content_without_list(value_texts(alloc, tokens)),
+        Keyword::SignalValueType => content_without_list(value_types(tokens)),
+        Keyword::AttributeValue => content_without_list(attribute_value(tokens)),
         Keyword::Signal => Err(ReadFault {
             code: ReadCode::Unexpected,
             at: start,
@@ -110,7 +110,7 @@ fn line<'a>(
             code: ReadCode::ExtendedMultiplexing,
             at: start,
         }),
-        _ => line_without_list(skip_to_end(tokens)),
+        _ => content_without_list(skip_to_end(tokens)),
     }
 }
 
@@ -121,11 +121,12 @@ pub(crate) fn statement<'a>(
     tokens: &mut Tokens<'a>,
     before: ListEnd,
 ) -> Result<(Statement<'a>, ListEnd), ReadFault>
-    ensures reads { Reads (λ next. statement_of next.0) result (statement_at tokens.old) tokens.new }
+    ensures reads { ReadsTokens (λ next. statement_of next.0) result (statement_at tokens.old)
+        tokens.new }
     ensures nothing { IfOk result (λ next. NothingIsAttached next.0.content) }
 {
     let (start, keyword) = first_word(tokens, before)?;
-    let Line { content, ended } = line(alloc, start, keyword, tokens)?;
+    let EndedContent { content, ended } = line(alloc, start, keyword, tokens)?;
     let statement = Statement {
         start,
         keyword,
@@ -140,8 +141,10 @@ fn all_statements<'a>(
     tokens: &mut Tokens<'a>,
     reached: &mut usize,
 ) -> Result<Vec<Statement<'a>>, ReadFault>
-    ensures ok { IfOk result (λ statements. statements_at tokens.old ≡ Some (statements_of statements.items)) }
-    ensures err { IfErr result (λ fault. UnlessMemory fault.code (statements_at tokens.old ≡ None)) }
+    ensures ok { IfOk result
+        (λ statements. statements_at tokens.old ≡ Some (statements_of statements.items)) }
+    ensures err { IfErr result
+        (λ fault. UnlessMemory fault.code (statements_at tokens.old ≡ None)) }
     ensures reached { IsReached tokens.old reached.new }
 {
     *reached = 0;
@@ -157,7 +160,7 @@ fn all_statements<'a>(
 }
 
 /// The statements of a DBC text, in order. The grammar is that of Vector's DBC File Format Documentation, in this
-/// project's dialect (docs/GRAMMAR.md).
+/// project's dialect (docs/use/GRAMMAR.md).
 ///
 /// A fault comes only if the text isn't a sequence of statements, or memory ran out: code 30 or 31 at the first offset
 /// where no token begins, wherever it is, and else one of 32 to 39 at the first token that can't continue the

@@ -1,11 +1,11 @@
 //! The signals of a message.
 ghost use Rattle.std.specs.Prelude.{◌≡◌, [], ◌∷◌, IfErr, IfOk, None, OnOk, Some, codes};
+ghost use Rattle.dbc_words.specs.declared.keyword.Keyword.TheVariants.{Signal as SignalWord};
 ghost use Rattle.dbc_grammar.specs.Fields as fields;
 ghost use Rattle.dbc_grammar.specs.Parsing.{token_at, optional_at, mark_at, signal_at, signals_at};
 ghost use Rattle.dbc_grammar.specs.Rules.{begins, starts};
-ghost use Rattle.catalogue.specs.declared.keyword.Keyword.TheVariants.{Signal as SignalWord};
 ghost use Rattle.dbc_lex.specs.Fault.{UnlessMemory};
-ghost use Rattle.dbc_statements.specs.Reading.{Reads, itself, with_one};
+ghost use Rattle.dbc_statements.specs.Reading.{ReadsTokens, itself, with_one};
 ghost use Rattle.dbc_statements.specs.Statement.{HaveNothingAttached, signals_of};
 
 use crate::fields::{Decimals, key, layout, made_name, mark, pair, text};
@@ -14,14 +14,16 @@ use crate::statement::SignalOffsets;
 use crate::tokens::Tokens;
 use crate::words::{is_key, is_numeral, is_word, mux_of};
 use bitlayout::Mux;
-use catalogue::{Keyword, Signal, Spn, Text, ValueTexts, ValueType};
 use dbc_lex::{ReadCode, ReadFault};
+use dbc_sheet::{Signal, ValueTexts};
+use dbc_words::{Keyword, Spn, Text, ValueType};
 use std::alloc::Global;
 
 /// A multiplexer indicator, if one comes next.
 #[tactic(auto, unfolding(dbc_grammar::specs::Parsing::optional_at))]
 fn mux(tokens: &mut Tokens) -> Option<Mux>
-    ensures { optional_at (begins fields.mux_of) (token_at fields.mux_of) tokens.old ≡ Some (result, tokens.new) }
+    ensures { optional_at (begins fields.mux_of) (token_at fields.mux_of) tokens.old
+        ≡ Some (result, tokens.new) }
 {
     let mux = mux_of(&tokens.first()?)?;
     tokens.skip();
@@ -41,7 +43,7 @@ fn mux_code(word: &[u8]) -> ReadCode {
 /// The colon after the name, or after the multiplexer indicator if there was one (`is_marked`). If there was none, a
 /// word before the colon has the fault of a wrong indicator.
 fn colon(tokens: &mut Tokens, is_marked: bool) -> Result<(), ReadFault>
-    ensures { Reads itself result (mark_at (codes ":") tokens.old) tokens.new }
+    ensures { ReadsTokens itself result (mark_at (codes ":") tokens.old) tokens.new }
 {
     match tokens.first() {
         Some(token) if !is_marked && is_word(&token) => Err(ReadFault {
@@ -63,7 +65,8 @@ fn add_signal(
 ) -> Result<ListEnd, ReadFault>
     ensures ok { OnOk result (with_one (signals_of signals.old.items) (signal_at tokens.old)
         ≡ Some (signals_of signals.new.items, tokens.new)) }
-    ensures nothing { OnOk result (HaveNothingAttached signals.old.items → HaveNothingAttached signals.new.items) }
+    ensures nothing { OnOk result
+        (HaveNothingAttached signals.old.items → HaveNothingAttached signals.new.items) }
     ensures err { IfErr result (λ fault. UnlessMemory fault.code (signal_at tokens.old ≡ None)) }
 {
     key(tokens, Keyword::Signal)?;
@@ -117,7 +120,8 @@ pub(crate) fn signals(
     alloc: Global,
     tokens: &mut Tokens,
 ) -> Result<(Vec<Signal>, Vec<SignalOffsets>, ListEnd), ReadFault>
-    ensures reads { Reads (λ found. signals_of found.0.items) result (signals_at tokens.old) tokens.new }
+    ensures reads { ReadsTokens (λ found. signals_of found.0.items) result (signals_at tokens.old)
+        tokens.new }
     ensures nothing { IfOk result (λ found. HaveNothingAttached found.0.items) }
 {
     let mut signals = Vec::new(alloc);

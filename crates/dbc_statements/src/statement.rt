@@ -1,15 +1,13 @@
 //! The contents of the statements of a DBC text, with the offsets of what a fault may be about.
 ghost use Rattle.std.specs.Prelude.{◌≡◌, ◌≤◌, [], length, SomeIff};
-ghost use Rattle.catalogue.specs.Limits.{value_text_limit};
+ghost use Rattle.dbc_words.specs.Limits.{value_text_limit};
 ghost use Rattle.dbc_statements.specs.Parts.{message_with, table_of};
 ghost use Rattle.dbc_statements.specs.Statement.{HasNoOffsets, NothingIsAttached, message_of, statement_of};
 
 use crate::entries::Entries;
 use can_id::Ident;
-use catalogue::{
-    Keyword, Message, Name, PayloadLength, Signal, Signals, Spn, Text, ValueTable, ValueTexts,
-    ValueType,
-};
+use dbc_sheet::{Message, Signal, Signals, ValueTable, ValueTexts};
+use dbc_words::{Keyword, Name, PayloadLength, Spn, Text, ValueType};
 use std::alloc::Global;
 
 /// A node of a list, and where its name is.

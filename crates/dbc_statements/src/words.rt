@@ -3,21 +3,22 @@ ghost use Rattle.std.specs.Prelude.{◌≡◌, [], ◌∷◌, ◌&&◌, IfOk, Is
 ghost use Rattle.std.specs.Char.{digit_value};
 ghost use Rattle.std.specs.List.{list_all};
 ghost use Rattle.std.specs.Str.{bytes_eq};
+ghost use Rattle.base.specs.WholeNumber.{is_numeral};
+ghost use Rattle.dbc_words.specs.Keyword.{keyword_text};
+ghost use Rattle.dbc_words.specs.Name.{is_c_identifier, is_name, no_node};
 ghost use Rattle.dbc_grammar.specs.Fields as fields;
 ghost use Rattle.dbc_grammar.specs.Grammar as grammar;
 ghost use Rattle.dbc_grammar.specs.Inside.{inside_of};
-ghost use Rattle.catalogue.specs.Keyword.{keyword_text};
-ghost use Rattle.catalogue.specs.Name.{is_c_identifier, is_name, no_node};
 ghost use Rattle.dbc_grammar.specs.Spelling.{Spells};
-ghost use Rattle.catalogue.specs.WholeNumber.{is_numeral};
 ghost use Rattle.dbc_grammar.specs.declared.token.TokenKind.TheVariants.{Name, Number, Text, Mark};
 ghost use Rattle.dbc_lex.specs.Token.{token_of};
 
+use base::whole_number;
 use bitlayout::{Mux, Order, Size};
 use can_id::Ident;
-use catalogue::{Keyword, NAME_LIMIT, NO_NODE, Spn, mux_of_indicator, whole_number};
 use dbc_grammar::TokenKind;
 use dbc_lex::Token;
+use dbc_words::{Keyword, NAME_LIMIT, NO_NODE, Spn, mux_of_indicator};
 use decimal::Decimal;
 
 /// Whether the token is a text.
@@ -103,14 +104,15 @@ pub(crate) fn inside<'a>(text: &'a [u8]) -> &'a [u8]
 /// Whether the token is the name that means no node.
 #[inline(always)]
 pub(crate) fn is_no_node(token: &Token) -> bool
-    ensures { result ≡ (fields.is_a Name (token_of token.now) && bytes_eq (token_of token.now).text no_node) }
+    ensures { result ≡ (fields.is_a Name (token_of token.now) && bytes_eq (token_of token.now).text
+        no_node) }
 {
     is_word(token) && token.text == NO_NODE
 }
 
 /// Whether the bytes of a name token are a name: they are a C identifier already.
 #[inline(always)]
-#[tactic(auto, unfolding(catalogue::specs::Name::is_name))]
+#[tactic(auto, unfolding(dbc_words::specs::Name::is_name))]
 fn is_name_word(word: &[u8]) -> bool
     requires { IsTrue (is_c_identifier word.now) }
     ensures { result ≡ is_name word.now }

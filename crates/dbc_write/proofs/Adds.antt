@@ -1,5 +1,6 @@
 -- A text that is written piece by piece and line by line.
-use Rattle.std.proofs.Common.{◌≡◌, ◌+◌, ◌<◌, ◌++◌, ℕ, List, [], ◌∷◌, length, take, map, get_or, Bool, true, false, if◌then◌else◌, sym, ap, ◌∙◌, append-nil, append_assoc}
+use Rattle.std.proofs.Common.{◌≡◌, ◌+◌, ◌<◌, ◌++◌, ℕ, List, [], ◌∷◌, length, take, map, get_or, Bool, true, false}
+use Rattle.std.proofs.Common.{if◌then◌else◌, sym, ap, ◌∙◌, append-nil, append_assoc}
 use Rattle.std.specs.List.{flat_map}
 use Rattle.std.proofs.lemmas.List.{take_more, map-append}
 use Rattle.std.proofs.lemmas.List.Concat.{flat_map-append}
@@ -15,12 +16,15 @@ pub none : {X : Type 0} (f : X → List ℕ) (a : List ℕ) → Adds f a a []
 none f a = record { text = sym (append-nil a) }
 
 -- one thing after the other
-join_items : {X : Type 0} (f : X → List ℕ) (a b c : List ℕ) (xs ys : List X) → b ≡ a ++ flat_map f xs → c ≡ b ++ flat_map f ys
+join_items : {X : Type 0} (f : X → List ℕ) (a b c : List ℕ) (xs ys : List X) → b ≡ a ++ flat_map f xs
+    → c ≡ b ++ flat_map f ys
     → c ≡ a ++ flat_map f (xs ++ ys)
 join_items f a b c xs ys x y =
-    y ∙ ap (λ v. v ++ flat_map f ys) x ∙ append_assoc a (flat_map f xs) (flat_map f ys) ∙ ap (λ v. a ++ v) (sym (flat_map-append f xs ys))
+    y ∙ ap (λ v. v ++ flat_map f ys) x ∙ append_assoc a (flat_map f xs) (flat_map f ys)
+    ∙ ap (λ v. a ++ v) (sym (flat_map-append f xs ys))
 
-pub also : {X : Type 0} {f : X → List ℕ} {a b c : List ℕ} {xs ys : List X} → Adds f a b xs → Adds f b c ys → Adds f a c (xs ++ ys)
+pub also : {X : Type 0} {f : X → List ℕ} {a b c : List ℕ} {xs ys : List X} → Adds f a b xs → Adds f b c ys
+    → Adds f a c (xs ++ ys)
 also {X} {f} {a} {b} {c} {xs} {ys} x y = record { text = join_items f a b c xs ys x.text y.text }
 
 -- the pieces of a line, and its LF
@@ -31,14 +35,16 @@ line {a} {b} {c} {ps} written ended = record {
 }
 
 -- one item more, where each gives one thing
-pub one_more : {X Y : Type 0} {f : X → List ℕ} {a b c : List ℕ} (g : Y → X) (ys : List Y) (i : ℕ) (y : Y) → i < length ys → y ≡ get_or ys i y
+pub one_more : {X Y : Type 0} {f : X → List ℕ} {a b c : List ℕ} (g : Y → X) (ys : List Y) (i : ℕ) (y : Y)
+    → i < length ys → y ≡ get_or ys i y
     → Adds f a b (map g (take i ys)) → Adds f b c (g y ∷ []) → Adds f a c (map g (take (i + 1) ys))
 one_more {X} {Y} {f} {a} {b} {c} g ys i y h is before here =
     rw (take_more ys i y h, map-append g (take i ys) (get_or ys i y ∷ []), sym is) (also before here)
 
 -- digits after a minus, where there is one
 signed : (gap digits : List ℕ) (negative : Bool)
-    → flat_map piece_text (if negative then mark gap (codes "-") ∷ record { gap = tight; kind = kind.Number; text = digits } ∷ []
+    → flat_map piece_text (if negative then mark gap (codes "-")
+    ∷ record { gap = tight; kind = kind.Number; text = digits } ∷ []
     else record { gap = gap; kind = kind.Number; text = digits } ∷ [])
     ≡ gap ++ ((if negative then 45 ∷ [] else []) ++ digits)
 signed gap digits true = append_assoc gap (45 ∷ []) (digits ++ []) ∙ ap (λ v. gap ++ 45 ∷ v) (append-nil digits)

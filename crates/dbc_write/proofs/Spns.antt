@@ -2,9 +2,9 @@
 use Rattle.std.proofs.Common.{◌≡◌, ◌==◌, ◌||◌, ◌++◌, Bool, true, false, not, if◌then◌else◌, List, [], ◌∷◌, refl, ◌∙◌}
 use Rattle.std.specs.List.{flat_map, list_any}
 use Rattle.dbc_grammar.specs.Canon.{Line, each_signal, spn_definitions, spn_lines, with_spn_definitions}
-use Rattle.catalogue.specs.declared.message.Message.{Message}
-use Rattle.catalogue.specs.declared.sheet.Sheet.{Sheet}
-use Rattle.catalogue.specs.declared.signal.Signal.{Signal}
+use Rattle.dbc_sheet.specs.declared.message.Message.{Message}
+use Rattle.dbc_sheet.specs.declared.sheet.Sheet.{Sheet}
+use Rattle.dbc_sheet.specs.declared.signal.Signal.{Signal}
 use Rattle.dbc_write.specs.Sections.{has_spn, message_has_spn}
 
 abbrev has_any : {X : Type 0} → List X → Bool
@@ -16,7 +16,8 @@ any_of_both [] ys = refl
 any_of_both (x ∷ xs) ys = refl
 
 -- a part is there exactly where one of its items gives something
-any_of_each : {X Y : Type 0} (g : Y → List X) (p : Y → Bool) → ((y : Y) → has_any (g y) ≡ p y) → (ys : List Y) → has_any (flat_map g ys) ≡ list_any p ys
+any_of_each : {X Y : Type 0} (g : Y → List X) (p : Y → Bool) → ((y : Y) → has_any (g y) ≡ p y) → (ys : List Y)
+    → has_any (flat_map g ys) ≡ list_any p ys
 any_of_each g p same [] = refl
 any_of_each g p same (y ∷ ys) = any_of_both (g y) (flat_map g ys) ∙ rw (same y, any_of_each g p same ys) refl
 
@@ -40,7 +41,8 @@ without_definitions : (ls : List Line) → has_any ls ≡ false → with_spn_def
 without_definitions [] h = refl
 without_definitions (l ∷ ls) h = search h
 
-pub defined_first : (s : Sheet) → has_spn s ≡ true → with_spn_definitions (each_signal spn_lines s) ≡ spn_definitions ++ each_signal spn_lines s
+pub defined_first : (s : Sheet) → has_spn s ≡ true → with_spn_definitions (each_signal spn_lines s) ≡ spn_definitions
+    ++ each_signal spn_lines s
 defined_first s h = with_definitions (each_signal spn_lines s) (spn_there s ∙ h)
 
 pub none_defined : (s : Sheet) → has_spn s ≡ false → with_spn_definitions (each_signal spn_lines s) ≡ []

@@ -2,9 +2,9 @@
 use Rattle.std.specs.Prelude.{Bool, ◌==◌, not, List}
 use Rattle.std.specs.List.{list_any}
 use Rattle.dbc_grammar.specs.Canon.{Line, spn_lines, type_lines, value_lines}
-use Rattle.catalogue.specs.declared.message.Message.{Message}
-use Rattle.catalogue.specs.declared.sheet.Sheet.{Sheet}
-use Rattle.catalogue.specs.declared.signal.Signal.{Signal}
+use Rattle.dbc_sheet.specs.declared.message.Message.{Message}
+use Rattle.dbc_sheet.specs.declared.sheet.Sheet.{Sheet}
+use Rattle.dbc_sheet.specs.declared.signal.Signal.{Signal}
 use Rattle.dbc_write.specs.declared.sections.Section.{Section}
 use Rattle.dbc_write.specs.declared.sections.Section.TheVariants.{Spns, Values, ValueTypes}
 

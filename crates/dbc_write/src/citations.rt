@@ -4,7 +4,7 @@ ghost use Rattle.dbc_grammar.specs.Canon.{citation_pieces, signal_pieces};
 ghost use Rattle.dbc_write.specs.Adding.{Adds, piece_text};
 
 use crate::tokens::{spaced_number, spaced_word};
-use catalogue::{Message, Signal};
+use dbc_sheet::{Message, Signal};
 use std::alloc::AllocError;
 
 /// The number of the message, and the name of its signal.
@@ -13,7 +13,8 @@ pub(crate) fn cited_signal(
     message: &Message,
     signal: &Signal,
 ) -> Result<(), AllocError>
-    ensures { OnOk result (Adds piece_text text.old.items text.new.items (citation_pieces message.now signal.now)) }
+    ensures { OnOk result (Adds piece_text text.old.items text.new.items
+        (citation_pieces message.now signal.now)) }
 {
     spaced_number(text, message.number())?;
     spaced_word(text, signal.name.as_bytes())?;
@@ -26,7 +27,8 @@ pub(crate) fn signal_citation(
     message: &Message,
     signal: &Signal,
 ) -> Result<(), AllocError>
-    ensures { OnOk result (Adds piece_text text.old.items text.new.items (signal_pieces message.now signal.now)) }
+    ensures { OnOk result (Adds piece_text text.old.items text.new.items
+        (signal_pieces message.now signal.now)) }
 {
     spaced_word(text, b"SG_")?;
     cited_signal(text, message, signal)?;

@@ -3,17 +3,19 @@ ghost use Rattle.std.specs.Prelude.{◌∷◌, [], OnOk, codes};
 ghost use Rattle.std.specs.List.{flat_map};
 ghost use Rattle.dbc_grammar.specs.Canon.{comment_lines, line_text, message_comments, node_comment, number};
 ghost use Rattle.dbc_grammar.specs.Canon.{signal_pieces, space, word};
-ghost use Rattle.catalogue.specs.Messages.{number_of};
+ghost use Rattle.dbc_sheet.specs.Messages.{number_of};
 ghost use Rattle.dbc_write.specs.Adding.{Adds};
 
 use crate::citations;
 use crate::tokens::{quoted, spaced_number, spaced_word, tight_mark, tight_word};
-use catalogue::{Message, Node, Signal, Text};
+use dbc_sheet::{Message, Node, Signal};
+use dbc_words::Text;
 use std::alloc::AllocError;
 
 /// The comment of the whole file.
 pub(crate) fn file_comment(text: &mut Vec<u8>, comment: &Text) -> Result<(), AllocError>
-    ensures { OnOk result (Adds line_text text.old.items text.new.items (comment_lines [] comment.now)) }
+    ensures { OnOk result (Adds line_text text.old.items text.new.items
+        (comment_lines [] comment.now)) }
 {
     if comment.is_empty() {
         return Ok(());
@@ -42,7 +44,8 @@ fn node_comment(text: &mut Vec<u8>, node: &Node) -> Result<(), AllocError>
 
 /// The comments of the nodes.
 pub(crate) fn node_comments(text: &mut Vec<u8>, nodes: &[Node]) -> Result<(), AllocError>
-    ensures { OnOk result (Adds line_text text.old.items text.new.items (flat_map node_comment nodes.now)) }
+    ensures { OnOk result (Adds line_text text.old.items text.new.items
+        (flat_map node_comment nodes.now)) }
 {
     for node in nodes {
         node_comment(text, node)?;
@@ -52,7 +55,8 @@ pub(crate) fn node_comments(text: &mut Vec<u8>, nodes: &[Node]) -> Result<(), Al
 
 fn message_comment(text: &mut Vec<u8>, message: &Message) -> Result<(), AllocError>
     ensures { OnOk result (Adds line_text text.old.items text.new.items
-        (comment_lines (word space (codes "BO_") ∷ number space (number_of message.now) ∷ []) message.now.comment)) }
+        (comment_lines (word space (codes "BO_") ∷ number space (number_of message.now) ∷ [])
+        message.now.comment)) }
 {
     if message.comment.is_empty() {
         return Ok(());
@@ -82,7 +86,8 @@ fn signal_comment(text: &mut Vec<u8>, message: &Message, signal: &Signal) -> Res
 }
 
 fn with_signals(text: &mut Vec<u8>, message: &Message) -> Result<(), AllocError>
-    ensures { OnOk result (Adds line_text text.old.items text.new.items (message_comments message.now)) }
+    ensures { OnOk result (Adds line_text text.old.items text.new.items
+        (message_comments message.now)) }
 {
     message_comment(text, message)?;
     for signal in message.signals.as_slice() {
@@ -93,7 +98,8 @@ fn with_signals(text: &mut Vec<u8>, message: &Message) -> Result<(), AllocError>
 
 /// The comments of the messages, each followed by those of its signals.
 pub(crate) fn message_comments(text: &mut Vec<u8>, messages: &[Message]) -> Result<(), AllocError>
-    ensures { OnOk result (Adds line_text text.old.items text.new.items (flat_map message_comments messages.now)) }
+    ensures { OnOk result (Adds line_text text.old.items text.new.items
+        (flat_map message_comments messages.now)) }
 {
     for message in messages {
         with_signals(text, message)?;

@@ -4,7 +4,7 @@ ghost use Rattle.dbc_grammar.specs.Canon.{entries, entry, line_text, table_line}
 ghost use Rattle.dbc_write.specs.Adding.{Adds, piece_text};
 
 use crate::tokens::{quoted, spaced_mark, spaced_value, spaced_word, tight_word};
-use catalogue::{ValueTable, ValueText, ValueTexts};
+use dbc_sheet::{ValueTable, ValueText, ValueTexts};
 use std::alloc::AllocError;
 
 fn entry(text: &mut Vec<u8>, value: &ValueText) -> Result<(), AllocError>
@@ -27,7 +27,8 @@ pub(crate) fn entries(text: &mut Vec<u8>, values: &ValueTexts) -> Result<(), All
 }
 
 fn table_line(text: &mut Vec<u8>, table: &ValueTable) -> Result<(), AllocError>
-    ensures { OnOk result (Adds line_text text.old.items text.new.items (table_line table.now ∷ [])) }
+    ensures { OnOk result (Adds line_text text.old.items text.new.items
+        (table_line table.now ∷ [])) }
 {
     tight_word(text, b"VAL_TABLE_")?;
     spaced_word(text, table.name.as_bytes())?;
@@ -38,7 +39,8 @@ fn table_line(text: &mut Vec<u8>, table: &ValueTable) -> Result<(), AllocError>
 
 /// The lines of the tables.
 pub(crate) fn table_lines(text: &mut Vec<u8>, tables: &[ValueTable]) -> Result<(), AllocError>
-    ensures { OnOk result (Adds line_text text.old.items text.new.items (map table_line tables.now)) }
+    ensures { OnOk result (Adds line_text text.old.items text.new.items
+        (map table_line tables.now)) }
 {
     for table in tables {
         table_line(text, table)?;

@@ -4,11 +4,12 @@ ghost use Rattle.dbc_grammar.specs.Canon.{line_text, nodes_line, symbols_line, t
 ghost use Rattle.dbc_write.specs.Adding.{Adds};
 
 use crate::tokens::{quoted, spaced_mark, spaced_word, tight_mark, tight_word};
-use catalogue::Sheet;
+use dbc_sheet::Sheet;
 use std::alloc::AllocError;
 
 fn version_line(text: &mut Vec<u8>, sheet: &Sheet) -> Result<(), AllocError>
-    ensures { OnOk result (Adds line_text text.old.items text.new.items (version_line sheet.now ∷ [])) }
+    ensures { OnOk result (Adds line_text text.old.items text.new.items
+        (version_line sheet.now ∷ [])) }
 {
     tight_word(text, b"VERSION")?;
     quoted(text, sheet.version().as_bytes())?;
@@ -35,7 +36,8 @@ fn timing_line(text: &mut Vec<u8>) -> Result<(), AllocError>
 }
 
 fn nodes_line(text: &mut Vec<u8>, sheet: &Sheet) -> Result<(), AllocError>
-    ensures { OnOk result (Adds line_text text.old.items text.new.items (nodes_line sheet.now ∷ [])) }
+    ensures { OnOk result (Adds line_text text.old.items text.new.items
+        (nodes_line sheet.now ∷ [])) }
 {
     tight_word(text, b"BU_")?;
     tight_mark(text, b':')?;

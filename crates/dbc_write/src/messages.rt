@@ -1,13 +1,14 @@
 //! Messages with their signals.
 ghost use Rattle.std.specs.Prelude.{◌≡◌, ◌∷◌, [], OnOk, unwrap_or};
 ghost use Rattle.std.specs.List.{flat_map};
+ghost use Rattle.dbc_words.specs.Name.{no_node};
 ghost use Rattle.dbc_grammar.specs.Canon.{line_text, message_line, message_lines};
-ghost use Rattle.catalogue.specs.Name.{no_node};
 ghost use Rattle.dbc_write.specs.Adding.{Adds};
 
 use crate::signals::signal_line;
 use crate::tokens::{spaced_number, spaced_word, tight_mark, tight_word};
-use catalogue::{Message, NO_NODE};
+use dbc_sheet::Message;
+use dbc_words::NO_NODE;
 use std::alloc::AllocError;
 
 fn transmitter(message: &Message) -> &[u8]
@@ -20,7 +21,8 @@ fn transmitter(message: &Message) -> &[u8]
 }
 
 fn message_line(text: &mut Vec<u8>, message: &Message) -> Result<(), AllocError>
-    ensures { OnOk result (Adds line_text text.old.items text.new.items (message_line message.now ∷ [])) }
+    ensures { OnOk result (Adds line_text text.old.items text.new.items
+        (message_line message.now ∷ [])) }
 {
     tight_word(text, b"BO_")?;
     spaced_number(text, message.number())?;
@@ -33,7 +35,8 @@ fn message_line(text: &mut Vec<u8>, message: &Message) -> Result<(), AllocError>
 }
 
 fn with_signals(text: &mut Vec<u8>, message: &Message) -> Result<(), AllocError>
-    ensures { OnOk result (Adds line_text text.old.items text.new.items (message_lines message.now)) }
+    ensures { OnOk result (Adds line_text text.old.items text.new.items
+        (message_lines message.now)) }
 {
     message_line(text, message)?;
     for signal in message.signals.as_slice() {
@@ -44,7 +47,8 @@ fn with_signals(text: &mut Vec<u8>, message: &Message) -> Result<(), AllocError>
 
 /// The lines of the messages, each followed by those of its signals.
 pub(crate) fn messages(text: &mut Vec<u8>, messages: &[Message]) -> Result<(), AllocError>
-    ensures { OnOk result (Adds line_text text.old.items text.new.items (flat_map message_lines messages.now)) }
+    ensures { OnOk result (Adds line_text text.old.items text.new.items
+        (flat_map message_lines messages.now)) }
 {
     for message in messages {
         with_signals(text, message)?;

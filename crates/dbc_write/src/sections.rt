@@ -10,7 +10,8 @@ ghost use Rattle.dbc_write.specs.Sections.{has_spn, message_has_spn, section_lin
 use crate::citations;
 use crate::entries::entries;
 use crate::tokens::{quoted, spaced_mark, spaced_number, spaced_word, tight_mark, tight_word};
-use catalogue::{Message, SPN_LIMIT, Sheet, Signal};
+use dbc_sheet::{Message, Sheet, Signal};
+use dbc_words::SPN_LIMIT;
 use std::alloc::AllocError;
 
 /// What the lines of a section give for a signal.
@@ -25,7 +26,8 @@ pub(crate) enum Section {
 }
 
 fn spn_line(text: &mut Vec<u8>, message: &Message, signal: &Signal) -> Result<(), AllocError>
-    ensures { OnOk result (Adds line_text text.old.items text.new.items (spn_lines message.now signal.now)) }
+    ensures { OnOk result (Adds line_text text.old.items text.new.items
+        (spn_lines message.now signal.now)) }
 {
     let spn = signal.spn.number();
     if spn == 0 {
@@ -41,7 +43,8 @@ fn spn_line(text: &mut Vec<u8>, message: &Message, signal: &Signal) -> Result<()
 }
 
 fn value_line(text: &mut Vec<u8>, message: &Message, signal: &Signal) -> Result<(), AllocError>
-    ensures { OnOk result (Adds line_text text.old.items text.new.items (value_lines message.now signal.now)) }
+    ensures { OnOk result (Adds line_text text.old.items text.new.items
+        (value_lines message.now signal.now)) }
 {
     if signal.values.as_slice().is_empty() {
         return Ok(());
@@ -54,7 +57,8 @@ fn value_line(text: &mut Vec<u8>, message: &Message, signal: &Signal) -> Result<
 }
 
 fn type_line(text: &mut Vec<u8>, message: &Message, signal: &Signal) -> Result<(), AllocError>
-    ensures { OnOk result (Adds line_text text.old.items text.new.items (type_lines message.now signal.now)) }
+    ensures { OnOk result (Adds line_text text.old.items text.new.items
+        (type_lines message.now signal.now)) }
 {
     let number = u32::from(signal.value_type.number());
     if number == 0 {

@@ -6,12 +6,13 @@ ghost use Rattle.dbc_write.specs.Adding.{Adds};
 
 use crate::sections::Section;
 use crate::{comments, entries, heading, messages, sections};
-use catalogue::{Sheet, sheets_are_well_formed};
 use dbc_law::canonical_texts_read_as_their_sheets;
+use dbc_sheet::{Sheet, sheets_are_well_formed};
 use std::alloc::{AllocError, Global};
 
 fn lines(text: &mut Vec<u8>, sheet: &Sheet) -> Result<(), AllocError>
-    ensures { OnOk result (Adds line_text text.old.items text.new.items (canonical_lines sheet.now)) }
+    ensures { OnOk result (Adds line_text text.old.items text.new.items
+        (canonical_lines sheet.now)) }
 {
     heading::heading(text, sheet)?;
     entries::table_lines(text, sheet.tables())?;

@@ -8,7 +8,8 @@ use crate::tokens::{
     tight_word,
 };
 use bitlayout::Mux;
-use catalogue::{NO_NODE, Name, Signal};
+use dbc_sheet::Signal;
+use dbc_words::{NO_NODE, Name};
 use decimal::Decimal;
 use std::alloc::AllocError;
 
@@ -22,7 +23,8 @@ fn mux_mark(text: &mut Vec<u8>, mux: Mux) -> Result<(), AllocError>
 }
 
 fn layout(text: &mut Vec<u8>, signal: &Signal) -> Result<(), AllocError>
-    ensures { OnOk result (Adds piece_text text.old.items text.new.items (layout_pieces signal.now)) }
+    ensures { OnOk result (Adds piece_text text.old.items text.new.items
+        (layout_pieces signal.now)) }
 {
     spaced_number(text, u32::from(signal.layout.start))?;
     tight_mark(text, b'|')?;
@@ -54,7 +56,8 @@ fn pair(
 }
 
 fn receivers(text: &mut Vec<u8>, names: &[Name]) -> Result<(), AllocError>
-    ensures { OnOk result (Adds piece_text text.old.items text.new.items (receiver_pieces names.now)) }
+    ensures { OnOk result (Adds piece_text text.old.items text.new.items
+        (receiver_pieces names.now)) }
 {
     let [first, others @ ..] = names else {
         return spaced_word(text, NO_NODE);
@@ -69,7 +72,8 @@ fn receivers(text: &mut Vec<u8>, names: &[Name]) -> Result<(), AllocError>
 
 /// The line of a signal, after that of its message.
 pub(crate) fn signal_line(text: &mut Vec<u8>, signal: &Signal) -> Result<(), AllocError>
-    ensures { OnOk result (Adds line_text text.old.items text.new.items (signal_line signal.now ∷ [])) }
+    ensures { OnOk result (Adds line_text text.old.items text.new.items
+        (signal_line signal.now ∷ [])) }
 {
     spaced_word(text, b"SG_")?;
     spaced_word(text, signal.name.as_bytes())?;

@@ -9,7 +9,8 @@ use std::alloc::AllocError;
 
 /// A word at the beginning of a line, or directly after a mark.
 pub(crate) fn tight_word(text: &mut Vec<u8>, bytes: &[u8]) -> Result<(), AllocError>
-    ensures { OnOk result (Adds piece_text text.old.items text.new.items (word tight bytes.now ∷ [])) }
+    ensures { OnOk result (Adds piece_text text.old.items text.new.items
+        (word tight bytes.now ∷ [])) }
 {
     text.extend_from_slice(bytes)?;
     Ok(())
@@ -17,7 +18,8 @@ pub(crate) fn tight_word(text: &mut Vec<u8>, bytes: &[u8]) -> Result<(), AllocEr
 
 /// A word after a space.
 pub(crate) fn spaced_word(text: &mut Vec<u8>, bytes: &[u8]) -> Result<(), AllocError>
-    ensures { OnOk result (Adds piece_text text.old.items text.new.items (word space bytes.now ∷ [])) }
+    ensures { OnOk result (Adds piece_text text.old.items text.new.items
+        (word space bytes.now ∷ [])) }
 {
     text.push(b' ')?;
     text.extend_from_slice(bytes)?;
@@ -26,7 +28,8 @@ pub(crate) fn spaced_word(text: &mut Vec<u8>, bytes: &[u8]) -> Result<(), AllocE
 
 /// A whole number directly after a mark.
 pub(crate) fn tight_number(text: &mut Vec<u8>, value: u32) -> Result<(), AllocError>
-    ensures { OnOk result (Adds piece_text text.old.items text.new.items (number tight value ∷ [])) }
+    ensures { OnOk result (Adds piece_text text.old.items text.new.items
+        (number tight value ∷ [])) }
 {
     text.extend_from_slice(Buffer::new().format(value).as_bytes())?;
     Ok(())
@@ -34,7 +37,8 @@ pub(crate) fn tight_number(text: &mut Vec<u8>, value: u32) -> Result<(), AllocEr
 
 /// A whole number after a space.
 pub(crate) fn spaced_number(text: &mut Vec<u8>, value: u32) -> Result<(), AllocError>
-    ensures { OnOk result (Adds piece_text text.old.items text.new.items (number space value ∷ [])) }
+    ensures { OnOk result (Adds piece_text text.old.items text.new.items
+        (number space value ∷ [])) }
 {
     text.push(b' ')?;
     text.extend_from_slice(Buffer::new().format(value).as_bytes())?;
@@ -43,7 +47,8 @@ pub(crate) fn spaced_number(text: &mut Vec<u8>, value: u32) -> Result<(), AllocE
 
 /// A mark directly after what comes before it.
 pub(crate) fn tight_mark(text: &mut Vec<u8>, byte: u8) -> Result<(), AllocError>
-    ensures { OnOk result (Adds piece_text text.old.items text.new.items (mark tight (byte ∷ []) ∷ [])) }
+    ensures { OnOk result (Adds piece_text text.old.items text.new.items
+        (mark tight (byte ∷ []) ∷ [])) }
 {
     text.push(byte)?;
     Ok(())
@@ -51,7 +56,8 @@ pub(crate) fn tight_mark(text: &mut Vec<u8>, byte: u8) -> Result<(), AllocError>
 
 /// A mark after a space.
 pub(crate) fn spaced_mark(text: &mut Vec<u8>, byte: u8) -> Result<(), AllocError>
-    ensures { OnOk result (Adds piece_text text.old.items text.new.items (mark space (byte ∷ []) ∷ [])) }
+    ensures { OnOk result (Adds piece_text text.old.items text.new.items
+        (mark space (byte ∷ []) ∷ [])) }
 {
     text.extend_from_slice(&[b' ', byte])?;
     Ok(())
@@ -59,7 +65,8 @@ pub(crate) fn spaced_mark(text: &mut Vec<u8>, byte: u8) -> Result<(), AllocError
 
 /// A text between quotes, after a space.
 pub(crate) fn quoted(text: &mut Vec<u8>, bytes: &[u8]) -> Result<(), AllocError>
-    ensures { OnOk result (Adds piece_text text.old.items text.new.items (quoted space bytes.now ∷ [])) }
+    ensures { OnOk result (Adds piece_text text.old.items text.new.items
+        (quoted space bytes.now ∷ [])) }
 {
     text.extend_from_slice(b" \"")?;
     text.extend_from_slice(bytes)?;
@@ -69,7 +76,8 @@ pub(crate) fn quoted(text: &mut Vec<u8>, bytes: &[u8]) -> Result<(), AllocError>
 
 /// A decimal directly after a mark.
 pub(crate) fn tight_value(text: &mut Vec<u8>, decimal: &Decimal) -> Result<(), AllocError>
-    ensures { OnOk result (Adds piece_text text.old.items text.new.items (value tight decimal.now)) }
+    ensures { OnOk result (Adds piece_text text.old.items text.new.items
+        (value tight decimal.now)) }
 {
     decimal.print_into(text)?;
     Ok(())
@@ -77,7 +85,8 @@ pub(crate) fn tight_value(text: &mut Vec<u8>, decimal: &Decimal) -> Result<(), A
 
 /// A decimal after a space.
 pub(crate) fn spaced_value(text: &mut Vec<u8>, decimal: &Decimal) -> Result<(), AllocError>
-    ensures { OnOk result (Adds piece_text text.old.items text.new.items (value space decimal.now)) }
+    ensures { OnOk result (Adds piece_text text.old.items text.new.items
+        (value space decimal.now)) }
 {
     text.push(b' ')?;
     decimal.print_into(text)?;

@@ -1,5 +1,6 @@
 -- Lists of digits, and the numbers that they write.
-use Rattle.std.proofs.Common.{◌≡◌, ℕ, zero, suc, ◌+◌, ◌-◌, ◌*◌, ◌^◌, ◌<◌, ◌≤◌, min, true, List, [], ◌∷◌, length, take, drop, get_or, refl, sym, ap, ◌∙◌, arith, add-one, pow-suc}
+use Rattle.std.proofs.Common.{◌≡◌, ℕ, zero, suc, ◌+◌, ◌-◌, ◌*◌, ◌^◌, ◌<◌, ◌≤◌, min, true, List, [], ◌∷◌, length, take}
+use Rattle.std.proofs.Common.{drop, get_or, refl, sym, ap, ◌∙◌, arith, add-one, pow-suc}
 use Rattle.std.specs.Char.{is_ascii_digit, digit_value}
 use Rattle.std.specs.Str.Parse.{digits_value}
 use Rattle.std.proofs.lemmas.List.{get_or-drop, length-drop}
@@ -21,7 +22,9 @@ digit_at (x ∷ xs) zero h lt = (and_parts (is_ascii_digit x) (are_digits xs) h)
 digit_at (x ∷ xs) (suc i) h lt = digit_at xs i (and_parts (is_ascii_digit x) (are_digits xs) h).1 (omega arith)
 
 -- one more digit, to a number that stops at a greatest value
-pub capped_more : (xs : List ℕ) (i v r greatest : ℕ) → are_digits xs ≡ true → i < length xs → v ≡ min (digits_value 10 (take i xs)) greatest → r ≡ min (v * 10 + (get_or xs i 0 - 48)) greatest → r ≡ min (digits_value 10 (take (i + 1) xs)) greatest
+pub capped_more : (xs : List ℕ) (i v r greatest : ℕ) → are_digits xs ≡ true → i < length xs
+    → v ≡ min (digits_value 10 (take i xs)) greatest → r ≡ min (v * 10 + (get_or xs i 0 - 48)) greatest
+    → r ≡ min (digits_value 10 (take (i + 1) xs)) greatest
 capped_more xs i v r greatest digits lt before now =
     let more = digits_value_more 10 xs i lt in
     let value = digit_value_is (get_or xs i 0) (digit_at xs i digits lt) in
@@ -31,10 +34,13 @@ digit_value_between : (c : ℕ) → 48 ≤ c → c ≤ 57 → digit_value c ≡ 
 digit_value_between c low high = grind (arith, nat_tests)
 
 -- one more digit of those from an index on
-pub digits_from_more : (xs : List ℕ) (start i v c : ℕ) → start ≤ i → i < length xs → 48 ≤ c → c ≤ 57 → c ≡ get_or xs i 0 → v ≡ digits_value 10 (take (i - start) (drop start xs)) → v * 10 + (c - 48) ≡ digits_value 10 (take (i + 1 - start) (drop start xs))
+pub digits_from_more : (xs : List ℕ) (start i v c : ℕ) → start ≤ i → i < length xs → 48 ≤ c → c ≤ 57 → c ≡ get_or xs i 0
+    → v ≡ digits_value 10 (take (i - start) (drop start xs))
+    → v * 10 + (c - 48) ≡ digits_value 10 (take (i + 1 - start) (drop start xs))
 digits_from_more xs start i v c from lt low high is before =
     let k = i - start in
-    let at : get_or (drop start xs) (i - start) 0 ≡ get_or xs i 0 = get_or-drop start xs (i - start) 0 ∙ ap (λ n. get_or xs n 0) (omega arith) in
+    let at : get_or (drop start xs) (i - start) 0 ≡ get_or xs i 0 = get_or-drop start xs (i - start) 0
+    ∙ ap (λ n. get_or xs n 0) (omega arith) in
     let inside : i - start < length (drop start xs) = rw length-drop (omega arith) in
     let more = digits_value_more 10 (drop start xs) (i - start) inside in
     let next : i + 1 - start ≡ i - start + 1 = omega arith in

@@ -2,15 +2,18 @@
 use Rattle.std.proofs.Common.{◌≡◌, ℕ, Bool, List, inl, inr, refl, ap, subst, arith, unsigned_abs, Result, Ok, Err}
 use Rattle.decimal.specs.Number.{Number, SameValue, IsInRange, IsDecimal}
 use Rattle.decimal.specs.Spelling.{Writes, number_of}
-use Rattle.decimal.specs.Reading.{IsStripped, Reads}
+use Rattle.decimal.specs.Reading.{IsStripped, ReadsNumber}
 use Rattle.decimal.specs.declared.fault.DecimalFault.{DecimalFault}
 use Rattle.decimal.specs.declared.fault.DecimalFault.TheVariants.{NotNumber, TooManyDigits, ExponentRange}
 use Rattle.decimal.proofs.Tokens.{same_token}
-use Rattle.decimal.proofs.Values.{same_sym, same_trans, same_decimal, same_stripped, same_zero, zero_or_stripped, zero_stripped}
+use Rattle.decimal.proofs.Values.{same_sym, same_trans, same_decimal, same_stripped, same_zero, zero_or_stripped}
+use Rattle.decimal.proofs.Values.{zero_stripped}
 
-pub same_written : (negative : Bool) (bytes : List ℕ) (m n : Number) → Writes negative bytes m → Writes negative bytes n → SameValue m n
+pub same_written : (negative : Bool) (bytes : List ℕ) (m n : Number) → Writes negative bytes m → Writes negative bytes n
+    → SameValue m n
 same_written negative bytes m n p q =
-    let one : number_of negative p.spelling ≡ number_of negative q.spelling = ap (number_of negative) (same_token bytes p.spelling q.spelling p.token q.token) in
+    let one : number_of negative p.spelling ≡ number_of negative q.spelling =
+    ap (number_of negative) (same_token bytes p.spelling q.spelling p.token q.token) in
     let there : SameValue m (number_of negative q.spelling) = subst (λ (x : Number). SameValue m x) one p.value in
     same_trans m (number_of negative q.spelling) n there (same_sym n (number_of negative q.spelling) q.value)
 
@@ -21,24 +24,29 @@ decimal_stripped m n p q same =
       | inr h ↦ same_stripped m n h q same
     ]
 
-not_long : (negative : Bool) (bytes : List ℕ) (m : Number) → Reads negative bytes (Ok m) → Reads negative bytes (Err TooManyDigits) → ⊥
+not_long : (negative : Bool) (bytes : List ℕ) (m : Number) → ReadsNumber negative bytes (Ok m)
+    → ReadsNumber negative bytes (Err TooManyDigits) → ⊥
 not_long negative bytes m p (n, w, h, long) =
     let e = decimal_stripped m n p.1 h (same_written negative bytes m n p.0 w) in
     let short = p.1.digits in
     let size = ap (λ (x : Number). unsigned_abs x.mantissa) e in
     omega (arith, short, size, long)
 
-not_far : (negative : Bool) (bytes : List ℕ) (m : Number) → Reads negative bytes (Ok m) → Reads negative bytes (Err ExponentRange) → ⊥
+not_far : (negative : Bool) (bytes : List ℕ) (m : Number) → ReadsNumber negative bytes (Ok m)
+    → ReadsNumber negative bytes (Err ExponentRange) → ⊥
 not_far negative bytes m p (n, w, h, short, far) =
     let e = decimal_stripped m n p.1 h (same_written negative bytes m n p.0 w) in
     far (subst (λ (x : Number). IsInRange x.exponent) e p.1.range)
 
-not_both : (negative : Bool) (bytes : List ℕ) → Reads negative bytes (Err TooManyDigits) → Reads negative bytes (Err ExponentRange) → ⊥
+not_both : (negative : Bool) (bytes : List ℕ) → ReadsNumber negative bytes (Err TooManyDigits)
+    → ReadsNumber negative bytes (Err ExponentRange) → ⊥
 not_both negative bytes (m, v, g, long) (n, w, h, short, far) =
-    let size = ap (λ (x : Number). unsigned_abs x.mantissa) (same_stripped m n g h (same_written negative bytes m n v w)) in
+    let size = ap (λ (x : Number). unsigned_abs x.mantissa)
+    (same_stripped m n g h (same_written negative bytes m n v w)) in
     omega (arith, short, size, long)
 
-pub reads_once : (negative : Bool) (bytes : List ℕ) (r q : Result Number DecimalFault) → Reads negative bytes r → Reads negative bytes q → r ≡ q
+pub reads_once : (negative : Bool) (bytes : List ℕ) (r q : Result Number DecimalFault) → ReadsNumber negative bytes r
+    → ReadsNumber negative bytes q → r ≡ q
 reads_once negative bytes (Ok m) (Ok n) p q = ap Ok (same_decimal m n p.1 q.1 (same_written negative bytes m n p.0 q.0))
 reads_once negative bytes (Ok m) (Err NotNumber) p q = absurd (q p.0.spelling p.0.token)
 reads_once negative bytes (Ok m) (Err TooManyDigits) p q = absurd (not_long negative bytes m p q)

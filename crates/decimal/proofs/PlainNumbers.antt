@@ -1,5 +1,7 @@
 -- Numbers of few digits, without an exponent.
-use Rattle.std.proofs.Common.{◌≡◌, ◌≢◌, ℕ, suc, ◌+◌, ◌-◌, ◌*◌, ◌/◌, ◌^◌, ◌%◌, ◌<◌, ◌≤◌, Bool, true, List, [], ◌∷◌, ◌++◌, length, take, drop, get_or, refl, sym, ap, subst, ◌∙◌, arith, add-one, pow-suc, mul-one, pos, neg_ℤ, mul-le-mul_right}
+use Rattle.std.proofs.Common.{◌≡◌, ◌≢◌, ℕ, suc, ◌+◌, ◌-◌, ◌*◌, ◌/◌, ◌^◌, ◌%◌, ◌<◌, ◌≤◌, Bool, true, List, [], ◌∷◌, ◌++◌}
+use Rattle.std.proofs.Common.{length, take, drop, get_or, refl, sym, ap, subst, ◌∙◌, arith, add-one, pow-suc, mul-one}
+use Rattle.std.proofs.Common.{pos, neg_ℤ, mul-le-mul_right}
 use Rattle.std.specs.Char.{is_ascii_digit, digit_value}
 use Rattle.std.specs.List.{prefix_len}
 use Rattle.std.specs.Str.Parse.{digits_value, digits_value_after}
@@ -24,9 +26,11 @@ ten_out n left z e last =
     e ∙ ap (λ m. m * 10 ^ z) whole ∙ sym (ten_more (left / 10) z)
 
 -- one digit more
-pub digit_more : (n : ℕ) (bs : List ℕ) (i v b : ℕ) → i < length bs → b ≡ get_or bs i 0 → is_ascii_digit b ≡ true → v ≡ digits_value_after 10 n (take i bs) → v * 10 + (b - 48) ≡ digits_value_after 10 n (take (i + 1) bs)
+pub digit_more : (n : ℕ) (bs : List ℕ) (i v b : ℕ) → i < length bs → b ≡ get_or bs i 0 → is_ascii_digit b ≡ true
+    → v ≡ digits_value_after 10 n (take i bs) → v * 10 + (b - 48) ≡ digits_value_after 10 n (take (i + 1) bs)
 digit_more n bs i v b lt is digit before =
-    let more : digits_value_after 10 n (take (i + 1) bs) ≡ digits_value_after 10 n (take i bs) * 10 + digit_value (get_or bs i 0) =
+    let more : digits_value_after 10 n (take (i + 1) bs) ≡ digits_value_after 10 n (take i bs) * 10 + digit_value
+    (get_or bs i 0) =
     ap (digits_value_after 10 n) (take_more bs i 0 lt) ∙ digits_after_append n (take i bs) (get_or bs i 0 ∷ []) in
     let value : digit_value (get_or bs i 0) ≡ b - 48 = ap digit_value (sym is) ∙ digit_value_is b digit in
     omega (arith, more, value, before)
@@ -39,7 +43,8 @@ pub room_after : (n d k i : ℕ) → i < k → d < 10 → HasRoom n (k - i) → 
 room_after n d k i lt small room =
     let next : k - i ≡ k - (i + 1) + 1 = omega arith in
     let wider = ten_more (n + 1) (k - (i + 1)) in
-    let le : (n * 10 + d + 1) * 10 ^ (k - (i + 1)) ≤ (n + 1) * 10 * 10 ^ (k - (i + 1)) = mul-le-mul_right (10 ^ (k - (i + 1))) (omega arith) in
+    let le : (n * 10 + d + 1) * 10 ^ (k - (i + 1)) ≤ (n + 1) * 10 * 10 ^ (k - (i + 1)) =
+    mul-le-mul_right (10 ^ (k - (i + 1))) (omega arith) in
     let before : (n + 1) * 10 ^ (k - (i + 1) + 1) ≤ 10 ^ 19 = subst (λ (m : ℕ). (n + 1) * 10 ^ m ≤ 10 ^ 19) next room in
     omega (arith, wider, le, before)
 
@@ -50,30 +55,40 @@ room_left n k room =
 
 -- ---- what the bytes write
 
-plain_token : (bs : List ℕ) (n : ℕ) → n ≡ prefix_len is_ascii_digit bs → n ≢ 0 → is_fraction (drop n bs) ≡ true → IsNumberToken bs (record { whole = take n bs; fraction = drop n bs; exponent = [] })
+plain_token : (bs : List ℕ) (n : ℕ) → n ≡ prefix_len is_ascii_digit bs → n ≢ 0 → is_fraction (drop n bs) ≡ true
+    → IsNumberToken bs (record { whole = take n bs; fraction = drop n bs; exponent = [] })
 plain_token bs n is some fraction =
     let within = prefix_len-le-length is_ascii_digit bs in
     let size : length (take n bs) ≡ n = length-take-le n bs (omega (arith, is, within)) in
     record {
       parts = sym (ap (λ xs. take n bs ++ xs) (append-nil (drop n bs)) ∙ take-append-drop n bs);
-      whole = numeral_from (take n bs) (omega (arith, size, some)) (subst (λ (k : ℕ). are_digits (take k bs) ≡ true) (sym is) (prefix_all is_ascii_digit bs));
+      whole = numeral_from (take n bs) (omega (arith, size, some))
+          (subst (λ (k : ℕ). are_digits (take k bs) ≡ true) (sym is) (prefix_all is_ascii_digit bs));
       fraction = fraction;
       exponent = refl;
     }
 
-plain_writes : (bs : List ℕ) (n v k : ℕ) → n ≡ prefix_len is_ascii_digit bs → n ≢ 0 → is_fraction (drop n bs) ≡ true → v ≡ digits_value 10 (take n bs ++ drop 1 (drop n bs)) → k ≡ length (drop 1 (drop n bs)) → (negative : Bool) → Writes negative bs (record { mantissa = signed negative v; exponent = neg_ℤ (pos k) })
+plain_writes : (bs : List ℕ) (n v k : ℕ) → n ≡ prefix_len is_ascii_digit bs → n ≢ 0 → is_fraction (drop n bs) ≡ true
+    → v ≡ digits_value 10 (take n bs ++ drop 1 (drop n bs)) → k ≡ length (drop 1 (drop n bs)) → (negative : Bool)
+    → Writes negative bs (record { mantissa = signed negative v; exponent = neg_ℤ (pos k) })
 plain_writes bs n v k is some fraction value size negative =
-    writes negative bs (record { whole = take n bs; fraction = drop n bs; exponent = [] }) (plain_token bs n is some fraction) v 0 (neg_ℤ (pos k)) (sym value ∙ sym (mul-one v)) (omega (arith, ints, size))
+    writes negative bs (record { whole = take n bs; fraction = drop n bs; exponent = [] })
+    (plain_token bs n is some fraction) v 0 (neg_ℤ (pos k)) (sym value ∙ sym (mul-one v))
+    (omega (arith, ints, size))
 
 nothing : (xs : List ℕ) → length xs < 1 → xs ≡ []
 nothing [] few = refl
 nothing (x ∷ xs) few = absurd (let some : suc (length xs) < 1 = few in omega arith)
 
 -- digits alone
-pub whole_writes : (bs rest : List ℕ) (n v : ℕ) → n ≡ prefix_len is_ascii_digit bs → n ≢ 0 → v ≡ digits_value_after 10 0 (take n bs) → rest ≡ drop n bs → length rest < 1 → (negative : Bool) → Writes negative bs (record { mantissa = signed negative v; exponent = neg_ℤ (pos 0) })
+pub whole_writes : (bs rest : List ℕ) (n v : ℕ) → n ≡ prefix_len is_ascii_digit bs → n ≢ 0
+    → v ≡ digits_value_after 10 0 (take n bs) → rest ≡ drop n bs → length rest < 1 → (negative : Bool)
+    → Writes negative bs (record { mantissa = signed negative v; exponent = neg_ℤ (pos 0) })
 whole_writes bs rest n v is some value back few =
     let end : drop n bs ≡ [] = sym back ∙ nothing rest few in
-    plain_writes bs n v 0 is some (ap is_fraction end) (value ∙ sym (ap (λ xs. digits_value 10 (take n bs ++ drop 1 xs)) end ∙ ap (digits_value 10) (append-nil (take n bs)))) (sym (ap (λ xs. length (drop 1 xs)) end))
+    plain_writes bs n v 0 is some (ap is_fraction end)
+    (value ∙ sym (ap (λ xs. digits_value 10 (take n bs ++ drop 1 xs)) end
+    ∙ ap (digits_value 10) (append-nil (take n bs)))) (sym (ap (λ xs. length (drop 1 xs)) end))
 
 -- what follows the first byte of some
 abbrev after_first : List ℕ → List ℕ
@@ -84,12 +99,21 @@ with_point [] some point = absurd (omega (arith, some))
 with_point (x ∷ xs) some point = λ t. point t ∷ sym (take_all (suc (length xs) - 1) xs (omega arith)) t
 
 -- a point, and digits to the end
-pub point_writes : (bs rest : List ℕ) (n m u v : ℕ) → n ≡ prefix_len is_ascii_digit bs → n ≢ 0 → u ≡ digits_value_after 10 0 (take n bs) → rest ≡ drop n bs → 1 ≤ length rest → get_or rest 0 0 ≡ 46 → m ≡ prefix_len is_ascii_digit (after_first rest) → length (after_first rest) ≤ m → v ≡ digits_value_after 10 u (take m (after_first rest)) → (negative : Bool) → Writes negative bs (record { mantissa = signed negative v; exponent = neg_ℤ (pos m) })
+pub point_writes : (bs rest : List ℕ) (n m u v : ℕ) → n ≡ prefix_len is_ascii_digit bs → n ≢ 0
+    → u ≡ digits_value_after 10 0 (take n bs) → rest ≡ drop n bs → 1 ≤ length rest → get_or rest 0 0 ≡ 46
+    → m ≡ prefix_len is_ascii_digit (after_first rest) → length (after_first rest) ≤ m
+    → v ≡ digits_value_after 10 u (take m (after_first rest)) → (negative : Bool)
+    → Writes negative bs (record { mantissa = signed negative v; exponent = neg_ℤ (pos m) })
 point_writes bs rest n m u v is some first back more byte all long second =
     let digits = after_first rest in
     let point : drop n bs ≡ 46 ∷ after_first rest = sym back ∙ with_point rest more byte in
     let within = prefix_len-le-length is_ascii_digit digits in
     let whole : take m (after_first rest) ≡ after_first rest = take_all m digits long in
-    let passes : are_digits (after_first rest) ≡ true = subst (λ (xs : List ℕ). are_digits xs ≡ true) (ap (λ k. take k digits) (sym all) ∙ whole) (prefix_all is_ascii_digit digits) in
-    let value : v ≡ digits_value 10 (take n bs ++ after_first rest) = second ∙ ap (digits_value_after 10 u) whole ∙ ap (λ k. digits_value_after 10 k digits) first ∙ sym (digits_after_append 0 (take n bs) digits) in
-    plain_writes bs n v m is some (ap is_fraction point ∙ passes) (value ∙ sym (ap (λ xs. digits_value 10 (take n bs ++ drop 1 xs)) point)) (let size = ap (λ xs. length (drop 1 xs)) point in omega (arith, size, all, long, within))
+    let passes : are_digits (after_first rest) ≡ true =
+    subst (λ (xs : List ℕ). are_digits xs ≡ true) (ap (λ k. take k digits) (sym all) ∙ whole)
+    (prefix_all is_ascii_digit digits) in
+    let value : v ≡ digits_value 10 (take n bs ++ after_first rest) = second ∙ ap (digits_value_after 10 u) whole
+    ∙ ap (λ k. digits_value_after 10 k digits) first ∙ sym (digits_after_append 0 (take n bs) digits) in
+    plain_writes bs n v m is some (ap is_fraction point ∙ passes)
+    (value ∙ sym (ap (λ xs. digits_value 10 (take n bs ++ drop 1 xs)) point))
+    (let size = ap (λ xs. length (drop 1 xs)) point in omega (arith, size, all, long, within))

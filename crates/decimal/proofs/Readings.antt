@@ -1,17 +1,21 @@
 -- What each answer of reading says of the bytes.
-use Rattle.std.proofs.Common.{◌≡◌, ◌≢◌, ℕ, zero, suc, ◌+◌, ◌-◌, ◌*◌, ◌^◌, ◌%◌, ◌<◌, ◌≤◌, Bool, true, false, not, eqb, List, [], ◌∷◌, ◌++◌, length, take, drop, refl, sym, ap, subst, ◌∙◌, arith, ℤ, pos, ◌+ℤ◌, ◌-ℤ◌, ◌*ℤ◌, unsigned_abs, mul-one, zero-mul, Ok, Err}
+use Rattle.std.proofs.Common.{◌≡◌, ◌≢◌, ℕ, zero, suc, ◌+◌, ◌-◌, ◌*◌, ◌^◌, ◌%◌, ◌<◌, ◌≤◌, Bool, true, false, not, eqb}
+use Rattle.std.proofs.Common.{List, [], ◌∷◌, ◌++◌, length, take, drop, refl, sym, ap, subst, ◌∙◌, arith, ℤ, pos, ◌+ℤ◌}
+use Rattle.std.proofs.Common.{◌-ℤ◌, ◌*ℤ◌, unsigned_abs, mul-one, zero-mul, Ok, Err}
 use Rattle.std.specs.Char.{is_ascii_digit}
 use Rattle.std.specs.List.{prefix_len, suffix_len}
 use Rattle.std.proofs.lemmas.Bool.{and_parts, and_from}
 use Rattle.std.specs.Str.Parse.{digits_value}
 use Rattle.std.proofs.lemmas.Int.{ints}
 use Rattle.decimal.specs.Number.{Number, IsInRange, IsDecimal}
-use Rattle.decimal.specs.Spelling.{Spelling, IsNumberToken, Writes, are_digits, is_fraction, digits_of, number_of, power_of, signed}
+use Rattle.decimal.specs.Spelling.{Spelling, IsNumberToken, Writes, are_digits, is_fraction, digits_of, number_of}
+use Rattle.decimal.specs.Spelling.{power_of, signed}
 use Rattle.decimal.specs.Cutting.{is_zero}
-use Rattle.decimal.specs.Reading.{IsStripped, Reads, stripped_exponent}
+use Rattle.decimal.specs.Reading.{IsStripped, ReadsNumber, stripped_exponent}
 use Rattle.decimal.specs.declared.fault.DecimalFault.TheVariants.{TooManyDigits, ExponentRange}
 use Rattle.decimal.proofs.Values.{same_from_meet, same_trans, neg-times, zero_same}
-use Rattle.decimal.proofs.Significant.{core_value, core_stripped, core_long, front_before_end, back_zeros, digits_after_zeros}
+use Rattle.decimal.proofs.Significant.{core_value, core_stripped, core_long, front_before_end, back_zeros}
+use Rattle.decimal.proofs.Significant.{digits_after_zeros}
 
 pub size_signed : (b : Bool) (n : ℕ) → unsigned_abs (signed b n) ≡ n
 size_signed true zero = refl
@@ -26,12 +30,16 @@ signed_zero : (b : Bool) → signed b 0 ≡ pos 0
 signed_zero true = refl
 signed_zero false = refl
 
-pub writes : (negative : Bool) (bytes : List ℕ) (s : Spelling) → IsNumberToken bytes s → (v z : ℕ) (e : ℤ) → digits_value 10 (digits_of s) ≡ v * 10 ^ z → e ≡ stripped_exponent s z → Writes negative bytes (record { mantissa = signed negative v; exponent = e })
+pub writes : (negative : Bool) (bytes : List ℕ) (s : Spelling) → IsNumberToken bytes s → (v z : ℕ) (e : ℤ)
+    → digits_value 10 (digits_of s) ≡ v * 10 ^ z → e ≡ stripped_exponent s z
+    → Writes negative bytes (record { mantissa = signed negative v; exponent = e })
 writes negative bytes s token v z e value is = record {
   spelling = s;
   token = token;
   value = same_from_meet (record { mantissa = signed negative v; exponent = e }) (number_of negative s) z 0 (record {
-    mantissas = signed-times negative v (10 ^ z) ∙ ap (signed negative) (sym value ∙ sym (mul-one (digits_value 10 (digits_of s)))) ∙ sym (signed-times negative (digits_value 10 (digits_of s)) 1);
+    mantissas = signed-times negative v (10 ^ z)
+        ∙ ap (signed negative) (sym value ∙ sym (mul-one (digits_value 10 (digits_of s))))
+        ∙ sym (signed-times negative (digits_value 10 (digits_of s)) 1);
     exponents = omega (arith, ints, is);
   });
 }
@@ -43,10 +51,13 @@ pub zero_number : Number
 zero_number = record { mantissa = pos 0; exponent = pos 0 }
 
 -- only zeros
-pub reads_zero : (negative : Bool) (bytes : List ℕ) (s : Spelling) → IsNumberToken bytes s → (end : ℕ) → end ≡ 0 → end + suffix_len is_zero (digits_of s) ≡ length (digits_of s) → Writes negative bytes (record { mantissa = pos 0; exponent = pos 0 })
+pub reads_zero : (negative : Bool) (bytes : List ℕ) (s : Spelling) → IsNumberToken bytes s → (end : ℕ) → end ≡ 0
+    → end + suffix_len is_zero (digits_of s) ≡ length (digits_of s)
+    → Writes negative bytes (record { mantissa = pos 0; exponent = pos 0 })
 reads_zero negative bytes s token end none e =
     let all : 0 + suffix_len is_zero (digits_of s) ≡ length (digits_of s) = omega (arith, e, none) in
-    let value : digits_value 10 (digits_of s) ≡ 0 = digits_after_zeros 0 (digits_of s) (back_zeros (digits_of s) 0 all) ∙ zero-mul (10 ^ length (digits_of s)) in
+    let value : digits_value 10 (digits_of s) ≡ 0 = digits_after_zeros 0 (digits_of s) (back_zeros (digits_of s) 0 all)
+    ∙ zero-mul (10 ^ length (digits_of s)) in
     record {
       spelling = s;
       token = token;
@@ -72,7 +83,9 @@ both_digits (x ∷ xs) ys p q =
 
 pub token_digits : (bytes : List ℕ) (s : Spelling) → IsNumberToken bytes s → are_digits (digits_of s) ≡ true
 token_digits bytes s token =
-    both_digits s.whole (drop 1 s.fraction) (and_parts (not (eqb (length s.whole) 0)) (are_digits s.whole) token.whole).1 (fraction_digits s.fraction token.fraction)
+    both_digits s.whole (drop 1 s.fraction)
+    (and_parts (not (eqb (length s.whole) 0)) (are_digits s.whole) token.whole).1
+    (fraction_digits s.fraction token.fraction)
 
 -- where the digits between the zeros begin and end
 pub record AreEnds (xs : List ℕ) (start end : ℕ) : Type 0 where
@@ -87,26 +100,34 @@ ends_ordered xs start (suc end) ends = let le = front_before_end xs end ends.bac
 abbrev pub between : List ℕ → ℕ → ℕ → ℕ
 between xs start end = digits_value 10 (take (end - start) (drop start xs))
 
-pub between_value : (xs : List ℕ) (start end : ℕ) → AreEnds xs start end → digits_value 10 xs ≡ between xs start end * 10 ^ (length xs - end)
+pub between_value : (xs : List ℕ) (start end : ℕ) → AreEnds xs start end
+    → digits_value 10 xs ≡ between xs start end * 10 ^ (length xs - end)
 between_value xs start end ends =
     let lt = ends_ordered xs start end ends in
     let le : prefix_len is_zero xs ≤ end = omega (arith, ends.front, lt) in
     let zeros : suffix_len is_zero xs ≡ length xs - end = let h = ends.back in omega (arith, h) in
-    core_value xs end le ends.back ∙ ap (λ a. digits_value 10 (take (end - a) (drop a xs)) * 10 ^ suffix_len is_zero xs) (sym ends.front) ∙ ap (λ z. between xs start end * 10 ^ z) zeros
+    core_value xs end le ends.back ∙ ap (λ a. digits_value 10 (take (end - a) (drop a xs)) * 10 ^ suffix_len is_zero xs)
+    (sym ends.front) ∙ ap (λ z. between xs start end * 10 ^ z) zeros
 
-pub between_stripped : (xs : List ℕ) (start end : ℕ) → are_digits xs ≡ true → AreEnds xs start end → between xs start end % 10 ≢ 0
+pub between_stripped : (xs : List ℕ) (start end : ℕ) → are_digits xs ≡ true → AreEnds xs start end
+    → between xs start end % 10 ≢ 0
 between_stripped xs start zero digits ends = absurd (ends.some refl)
 between_stripped xs start (suc end) digits ends =
-    subst (λ (a : ℕ). between xs a (suc end) % 10 ≢ 0) (sym ends.front) (core_stripped xs end digits (front_before_end xs end ends.back) ends.back)
+    subst (λ (a : ℕ). between xs a (suc end) % 10 ≢ 0) (sym ends.front)
+    (core_stripped xs end digits (front_before_end xs end ends.back) ends.back)
 
-pub between_long : (xs : List ℕ) (start end : ℕ) → are_digits xs ≡ true → AreEnds xs start end → 36 < end - start → 10 ^ 36 ≤ between xs start end
+pub between_long : (xs : List ℕ) (start end : ℕ) → are_digits xs ≡ true → AreEnds xs start end → 36 < end - start
+    → 10 ^ 36 ≤ between xs start end
 between_long xs start end digits ends long =
     let lt = ends_ordered xs start end ends in
     let e = ends.back in
     let is = ends.front in
-    subst (λ (a : ℕ). 10 ^ 36 ≤ between xs a end) (sym ends.front) (core_long xs end digits (omega (arith, is, lt)) (omega (arith, e)) (omega (arith, is, long)))
+    subst (λ (a : ℕ). 10 ^ 36 ≤ between xs a end) (sym ends.front)
+    (core_long xs end digits (omega (arith, is, lt)) (omega (arith, e)) (omega (arith, is, long)))
 
-pub reads_long : (negative : Bool) (bytes : List ℕ) (s : Spelling) → IsNumberToken bytes s → (start end : ℕ) → are_digits (digits_of s) ≡ true → AreEnds (digits_of s) start end → 36 < end - start → Reads negative bytes (Err TooManyDigits)
+pub reads_long : (negative : Bool) (bytes : List ℕ) (s : Spelling) → IsNumberToken bytes s → (start end : ℕ)
+    → are_digits (digits_of s) ≡ true → AreEnds (digits_of s) start end → 36 < end - start
+    → ReadsNumber negative bytes (Err TooManyDigits)
 reads_long negative bytes s token start end digits ends long =
     let v = between (digits_of s) start end in
     let z = length (digits_of s) - end in (
@@ -116,7 +137,9 @@ reads_long negative bytes s token start end digits ends long =
       rw size_signed (between_long (digits_of s) start end digits ends long),
     )
 
-pub reads_far : (negative : Bool) (bytes : List ℕ) (s : Spelling) → IsNumberToken bytes s → (start end : ℕ) → are_digits (digits_of s) ≡ true → AreEnds (digits_of s) start end → between (digits_of s) start end < 10 ^ 36 → ¬ (IsInRange (stripped_exponent s (length (digits_of s) - end))) → Reads negative bytes (Err ExponentRange)
+pub reads_far : (negative : Bool) (bytes : List ℕ) (s : Spelling) → IsNumberToken bytes s → (start end : ℕ)
+    → are_digits (digits_of s) ≡ true → AreEnds (digits_of s) start end → between (digits_of s) start end < 10 ^ 36
+    → ¬ (IsInRange (stripped_exponent s (length (digits_of s) - end))) → ReadsNumber negative bytes (Err ExponentRange)
 reads_far negative bytes s token start end digits ends short far =
     let v = between (digits_of s) start end in
     let z = length (digits_of s) - end in (
@@ -127,39 +150,69 @@ reads_far negative bytes s token start end digits ends short far =
       far,
     )
 
-pub decimal_from_stripped : (b : Bool) (v : ℕ) (e : ℤ) → v < 10 ^ 36 → v % 10 ≢ 0 → IsInRange e → IsDecimal (record { mantissa = signed b v; exponent = e })
+pub decimal_from_stripped : (b : Bool) (v : ℕ) (e : ℤ) → v < 10 ^ 36 → v % 10 ≢ 0 → IsInRange e
+    → IsDecimal (record { mantissa = signed b v; exponent = e })
 decimal_from_stripped b v e short some range = record {
   digits = rw size_signed short;
   range = range;
   stripped = λ h. absurd (some (sym (ap (λ n. n % 10) (size_signed b v)) ∙ h));
 }
 
-pub decimal_between : (negative : Bool) (s : Spelling) (start end v : ℕ) (e : ℤ) → are_digits (digits_of s) ≡ true → AreEnds (digits_of s) start end → v ≡ between (digits_of s) start end → v < 10 ^ 36 → IsInRange e → IsDecimal (record { mantissa = signed negative v; exponent = e })
+pub decimal_between : (negative : Bool) (s : Spelling) (start end v : ℕ) (e : ℤ) → are_digits (digits_of s) ≡ true
+    → AreEnds (digits_of s) start end → v ≡ between (digits_of s) start end → v < 10 ^ 36 → IsInRange e
+    → IsDecimal (record { mantissa = signed negative v; exponent = e })
 decimal_between negative s start end v e digits ends is short range =
-    decimal_from_stripped negative v e short (subst (λ (n : ℕ). n % 10 ≢ 0) (sym is) (between_stripped (digits_of s) start end digits ends)) range
+    decimal_from_stripped negative v e short
+    (subst (λ (n : ℕ). n % 10 ≢ 0) (sym is) (between_stripped (digits_of s) start end digits ends)) range
 
-pub reads_decimal : (negative : Bool) (bytes : List ℕ) (s : Spelling) → IsNumberToken bytes s → (start end v : ℕ) (e : ℤ) → are_digits (digits_of s) ≡ true → AreEnds (digits_of s) start end → v ≡ between (digits_of s) start end → v < 10 ^ 36 → e ≡ stripped_exponent s (length (digits_of s) - end) → IsInRange e → Reads negative bytes (Ok (record { mantissa = signed negative v; exponent = e }))
+pub reads_decimal : (negative : Bool) (bytes : List ℕ) (s : Spelling) → IsNumberToken bytes s
+    → (start end v : ℕ) (e : ℤ) → are_digits (digits_of s) ≡ true → AreEnds (digits_of s) start end
+    → v ≡ between (digits_of s) start end → v < 10 ^ 36 → e ≡ stripped_exponent s (length (digits_of s) - end)
+    → IsInRange e → ReadsNumber negative bytes (Ok (record { mantissa = signed negative v; exponent = e }))
 reads_decimal negative bytes s token start end v e digits ends is short at range =
     let z = length (digits_of s) - end in (
-      writes negative bytes s token v z e (between_value (digits_of s) start end ends ∙ ap (λ n. n * 10 ^ z) (sym is)) at,
+      writes negative bytes s token v z e (between_value (digits_of s) start end ends ∙ ap (λ n. n * 10 ^ z) (sym is))
+          at,
       decimal_between negative s start end v e digits ends is short range,
     )
 
-pub stripped_exponent_at : (s : Spelling) (f k end : ℕ) → f ≡ length (drop 1 s.fraction) → k ≡ length (digits_of s) → power_of (drop 1 s.exponent) -ℤ pos f +ℤ pos (k - end) ≡ stripped_exponent s (length (digits_of s) - end)
+pub stripped_exponent_at : (s : Spelling) (f k end : ℕ) → f ≡ length (drop 1 s.fraction) → k ≡ length (digits_of s)
+    → power_of (drop 1 s.exponent) -ℤ pos f +ℤ pos (k - end) ≡ stripped_exponent s (length (digits_of s) - end)
 stripped_exponent_at s f k end p q = rw (p, q) refl
 
 -- a number that the bytes write, once the zeros at its end are taken
-pub reads_stripped : (negative : Bool) (bytes : List ℕ) (n v z : ℕ) (k e : ℤ) → Writes negative bytes (record { mantissa = signed negative n; exponent = k }) → n ≡ v * 10 ^ z → e ≡ k +ℤ pos z → v % 10 ≢ 0 → v < 10 ^ 36 → IsInRange e → Reads negative bytes (Ok (record { mantissa = signed negative v; exponent = e }))
+pub reads_stripped : (negative : Bool) (bytes : List ℕ) (n v z : ℕ) (k e : ℤ)
+    → Writes negative bytes (record { mantissa = signed negative n; exponent = k }) → n ≡ v * 10 ^ z → e ≡ k +ℤ pos z
+    → v % 10 ≢ 0 → v < 10 ^ 36 → IsInRange e
+    → ReadsNumber negative bytes (Ok (record { mantissa = signed negative v; exponent = e }))
 reads_stripped negative bytes n v z k e w is at last short range =
-    let same = same_from_meet (record { mantissa = signed negative v; exponent = e }) (record { mantissa = signed negative n; exponent = k }) z 0 (record {
-      mantissas = signed-times negative v (10 ^ z) ∙ ap (signed negative) (sym is ∙ sym (mul-one n)) ∙ sym (signed-times negative n 1);
+    let same = same_from_meet (record { mantissa = signed negative v; exponent = e })
+    (record { mantissa = signed negative n; exponent = k }) z 0 (record {
+      mantissas = signed-times negative v (10 ^ z) ∙ ap (signed negative) (sym is ∙ sym (mul-one n))
+          ∙ sym (signed-times negative n 1);
       exponents = omega (arith, ints, at);
     }) in (
-      record { spelling = w.spelling; token = w.token; value = same_trans _ _ (number_of negative w.spelling) same w.value },
+      record {
+        spelling = w.spelling;
+        token = w.token;
+        value =
+            same_trans _ _ (number_of negative w.spelling) same w.value;
+      },
       decimal_from_stripped negative v e short last range,
     )
 
-pub reads_nothing : (negative : Bool) (bytes : List ℕ) (n : ℕ) (k : ℤ) → Writes negative bytes (record { mantissa = signed negative n; exponent = k }) → n ≡ 0 → Reads negative bytes (Ok (record { mantissa = pos 0; exponent = pos 0 }))
+pub reads_nothing : (negative : Bool) (bytes : List ℕ) (n : ℕ) (k : ℤ)
+    → Writes negative bytes (record { mantissa = signed negative n; exponent = k }) → n ≡ 0
+    → ReadsNumber negative bytes (Ok (record { mantissa = pos 0; exponent = pos 0 }))
 reads_nothing negative bytes n k w none =
-    let same = zero_same (record { mantissa = pos 0; exponent = pos 0 }) (record { mantissa = signed negative n; exponent = k }) refl (ap (signed negative) none ∙ signed_zero negative) in
-    (record { spelling = w.spelling; token = w.token; value = same_trans _ _ (number_of negative w.spelling) same w.value }, zero_decimal)
+    let same = zero_same (record { mantissa = pos 0; exponent = pos 0 })
+    (record { mantissa = signed negative n; exponent = k }) refl
+    (ap (signed negative) none ∙ signed_zero negative) in (
+      record {
+        spelling = w.spelling;
+        token = w.token;
+        value =
+            same_trans _ _ (number_of negative w.spelling) same w.value;
+      },
+      zero_decimal,
+    )

@@ -1,5 +1,6 @@
 -- Worked rows: what the definitions give for spellings of DBC files.
-use Rattle.std.proofs.Common.{◌≡◌, ℕ, ◌+◌, ◌-◌, ◌^◌, pos, negsuc, Bool, true, false, List, [], ◌∷◌, map, refl, Result, Ok, Err}
+use Rattle.std.proofs.Common.{◌≡◌, ℕ, ◌+◌, ◌-◌, ◌^◌, pos, negsuc, Bool, true, false, List, [], ◌∷◌, map, refl, Result}
+use Rattle.std.proofs.Common.{Ok, Err}
 use Rattle.std.specs.Fmt.{digits}
 use Rattle.std.specs.Prelude.{◌==◌, if◌then◌else◌, codes}
 use Rattle.decimal.specs.Number.{Number}
@@ -46,7 +47,8 @@ past_the_greatest : reading false (codes "1E401") ≡ Err ExponentRange
 unfolding reading cut
 past_the_greatest = refl
 
-nines_36 : printed false (codes "999999999999999999999999999999999999") ≡ Ok (codes "999999999999999999999999999999999999")
+nines_36 : printed false (codes "999999999999999999999999999999999999")
+    ≡ Ok (codes "999999999999999999999999999999999999")
 unfolding reading cut unsigned_text digits
 nines_36 = refl
 
@@ -77,12 +79,14 @@ greatest_of_32_and_64_bits : map spelled (codes "4294967295" ∷ codes "18446744
 unfolding reading cut unsigned_text digits
 greatest_of_32_and_64_bits = refl
 
-points_and_zeros : map spelled (codes "1." ∷ codes "1.E5" ∷ codes "0012.3400" ∷ codes "-0.000E-99999999999999999999" ∷ [])
+points_and_zeros : map spelled
+    (codes "1." ∷ codes "1.E5" ∷ codes "0012.3400" ∷ codes "-0.000E-99999999999999999999" ∷ [])
     ≡ Ok (codes "1") ∷ Ok (codes "100000") ∷ Ok (codes "12.34") ∷ Ok (codes "0") ∷ []
 unfolding reading cut unsigned_text digits
 points_and_zeros = refl
 
-zeros_at_both_ends : map spelled (codes "0.000999999999999999999999999999999999999000" ∷ codes "1000000000000000000000000000000000000" ∷ [])
+zeros_at_both_ends : map spelled
+    (codes "0.000999999999999999999999999999999999999000" ∷ codes "1000000000000000000000000000000000000" ∷ [])
     ≡ Ok (codes "999999999999999999999999999999999999E-39") ∷ Ok (codes "1E36") ∷ []
 unfolding reading cut unsigned_text digits
 zeros_at_both_ends = refl
@@ -94,7 +98,8 @@ least_and_greatest_exponents = refl
 
 -- plain digits for the exponents -20 to 20
 plain_or_not : map spelled (codes "1E-20" ∷ codes "1E-21" ∷ codes "1E20" ∷ codes "1E21" ∷ [])
-    ≡ Ok (codes "0.00000000000000000001") ∷ Ok (codes "1E-21") ∷ Ok (codes "100000000000000000000") ∷ Ok (codes "1E21") ∷ []
+    ≡ Ok (codes "0.00000000000000000001") ∷ Ok (codes "1E-21") ∷ Ok (codes "100000000000000000000") ∷ Ok (codes "1E21")
+    ∷ []
 unfolding reading cut unsigned_text digits
 plain_or_not = refl
 
@@ -108,17 +113,20 @@ digits_37 : spelled (codes "1.000000000000000000000000000000000001E999") ≡ Err
 unfolding reading cut unsigned_text digits
 digits_37 = refl
 
-exponents_out_of_range : map spelled (codes "10E400" ∷ codes "1E-401" ∷ codes "1E99999999999999999999" ∷ codes "1E-99999999999999999999" ∷ [])
+exponents_out_of_range : map spelled
+    (codes "10E400" ∷ codes "1E-401" ∷ codes "1E99999999999999999999" ∷ codes "1E-99999999999999999999" ∷ [])
     ≡ Err ExponentRange ∷ Err ExponentRange ∷ Err ExponentRange ∷ Err ExponentRange ∷ []
 unfolding reading cut unsigned_text digits
 exponents_out_of_range = refl
 
 -- ---- the words of a mantissa
 
-high_words : map high_word (pos 0 ∷ pos (2 ^ 64) ∷ negsuc 0 ∷ negsuc (2 ^ 64) ∷ []) ≡ pos 0 ∷ pos 1 ∷ negsuc 0 ∷ negsuc 1 ∷ []
+high_words : map high_word (pos 0 ∷ pos (2 ^ 64) ∷ negsuc 0 ∷ negsuc (2 ^ 64) ∷ []) ≡ pos 0 ∷ pos 1 ∷ negsuc 0
+    ∷ negsuc 1 ∷ []
 high_words = refl
 
-low_words : map low_word (pos 5 ∷ pos (2 ^ 64) ∷ negsuc 0 ∷ negsuc (2 ^ 64) ∷ []) ≡ 5 ∷ 0 ∷ (2 ^ 64 - 1) ∷ (2 ^ 64 - 1) ∷ []
+low_words : map low_word (pos 5 ∷ pos (2 ^ 64) ∷ negsuc 0 ∷ negsuc (2 ^ 64) ∷ []) ≡ 5 ∷ 0 ∷ (2 ^ 64 - 1) ∷ (2 ^ 64 - 1)
+    ∷ []
 low_words = refl
 
 of_their_words : of_words (pos 1) 5 ≡ pos (2 ^ 64 + 5)
@@ -128,7 +136,10 @@ of_negative_words : of_words (negsuc 0) (2 ^ 64 - 125) ≡ negsuc 124
 of_negative_words = refl
 
 -- a digit or a point more than a word has room for
-longest_plain : map spelled (codes "9999999999999999999" ∷ codes "-10000000000000000000" ∷ codes "99999999999999999.9" ∷ codes "0.00000000000000000010" ∷ [])
-    ≡ Ok (codes "9999999999999999999") ∷ Ok (codes "-10000000000000000000") ∷ Ok (codes "99999999999999999.9") ∷ Ok (codes "0.0000000000000000001") ∷ []
+longest_plain : map spelled
+    (codes "9999999999999999999" ∷ codes "-10000000000000000000" ∷ codes "99999999999999999.9"
+    ∷ codes "0.00000000000000000010" ∷ [])
+    ≡ Ok (codes "9999999999999999999") ∷ Ok (codes "-10000000000000000000") ∷ Ok (codes "99999999999999999.9")
+    ∷ Ok (codes "0.0000000000000000001") ∷ []
 unfolding reading cut unsigned_text digits
 longest_plain = refl

@@ -1,17 +1,21 @@
 -- The digits of a number between the zeros at its ends.
-use Rattle.std.proofs.Common.{◌≡◌, ◌≢◌, ℕ, suc, ◌+◌, ◌-◌, ◌*◌, ◌^◌, ◌%◌, ◌<◌, ◌≤◌, true, List, [], ◌∷◌, ◌++◌, length, take, drop, get_or, reverse, refl, sym, ap, subst, ◌∙◌, arith, pow-suc, mul-le-mul_right, zero-mul, inl, inr}
+use Rattle.std.proofs.Common.{◌≡◌, ◌≢◌, ℕ, suc, ◌+◌, ◌-◌, ◌*◌, ◌^◌, ◌%◌, ◌<◌, ◌≤◌, true, List, [], ◌∷◌, ◌++◌, length}
+use Rattle.std.proofs.Common.{take, drop, get_or, reverse, refl, sym, ap, subst, ◌∙◌, arith, pow-suc, mul-le-mul_right}
+use Rattle.std.proofs.Common.{zero-mul, inl, inr}
 use Rattle.std.specs.Char.{is_ascii_digit, digit_value}
 use Rattle.std.specs.List.{prefix_len, suffix_len}
 use Rattle.std.specs.Str.Parse.{digits_value, digits_value_after}
 use Rattle.std.proofs.lemmas.Bool.{eqb-true, eqb-false, cases_lt}
-use Rattle.std.proofs.lemmas.List.{get_or-drop, get_or-take, get_or-reverse, length-drop, length-take-le, length-reverse, take-append-drop, drop-drop, drop_more}
+use Rattle.std.proofs.lemmas.List.{get_or-drop, get_or-take, get_or-reverse, length-drop, length-take-le}
+use Rattle.std.proofs.lemmas.List.{length-reverse, take-append-drop, drop-drop, drop_more}
 use Rattle.std.proofs.lemmas.List.Sums.{prefix_len_passes, prefix_len_stops, prefix_len-le-length}
 use Rattle.std.proofs.lemmas.Int.Digits.{digits_value_more}
 use Rattle.decimal.specs.Spelling.{are_digits}
 use Rattle.decimal.specs.Cutting.{is_zero}
 use Rattle.decimal.proofs.DigitLists.{digit_at, digit_value_is, digit_range, ten_le}
 
-pub digits_after_append : (n : ℕ) (xs ys : List ℕ) → digits_value_after 10 n (xs ++ ys) ≡ digits_value_after 10 (digits_value_after 10 n xs) ys
+pub digits_after_append : (n : ℕ) (xs ys : List ℕ)
+    → digits_value_after 10 n (xs ++ ys) ≡ digits_value_after 10 (digits_value_after 10 n xs) ys
 digits_after_append n [] ys = refl
 digits_after_append n (x ∷ xs) ys = digits_after_append (n * 10 + digit_value x) xs ys
 
@@ -32,7 +36,8 @@ pub digits_after_ge : (n : ℕ) (ys : List ℕ) → n * 10 ^ length ys ≤ digit
 digits_after_ge n [] = omega arith
 digits_after_ge n (y ∷ ys) =
     let more = digits_after_ge (n * 10 + digit_value y) ys in
-    let wider : n * 10 * 10 ^ length ys ≤ (n * 10 + digit_value y) * 10 ^ length ys = mul-le-mul_right (10 ^ length ys) (omega arith) in
+    let wider : n * 10 * 10 ^ length ys ≤ (n * 10 + digit_value y) * 10 ^ length ys =
+    mul-le-mul_right (10 ^ length ys) (omega arith) in
     let next : n * 10 ^ suc (length ys) ≡ n * 10 * 10 ^ length ys = rw pow-suc (omega arith) in
     omega (arith, more, wider, next)
 
@@ -73,7 +78,8 @@ back_zeros xs end e = λ k lt.
 abbrev pub core : List ℕ → ℕ → List ℕ
 core xs end = take (end - prefix_len is_zero xs) (drop (prefix_len is_zero xs) xs)
 
-pub front_before_end : (xs : List ℕ) (end : ℕ) → suc end + suffix_len is_zero xs ≡ length xs → prefix_len is_zero xs ≤ end
+pub front_before_end : (xs : List ℕ) (end : ℕ) → suc end + suffix_len is_zero xs ≡ length xs
+    → prefix_len is_zero xs ≤ end
 front_before_end xs end e =
     elim (cases_lt end (prefix_len is_zero xs)) [
       | inl early ↦ absurd (back_stops xs end e (eqb-true _ 48 (prefix_len_passes is_zero xs end 0 early)))
@@ -81,18 +87,22 @@ front_before_end xs end e =
     ]
 
 -- the digits are zeros, the core, and zeros
-in_parts : (xs : List ℕ) (end : ℕ) → prefix_len is_zero xs ≤ end → xs ≡ take (prefix_len is_zero xs) xs ++ (core xs end ++ drop end xs)
+in_parts : (xs : List ℕ) (end : ℕ) → prefix_len is_zero xs ≤ end
+    → xs ≡ take (prefix_len is_zero xs) xs ++ (core xs end ++ drop end xs)
 in_parts xs end le =
     let a = prefix_len is_zero xs in
     let there : a + (end - a) ≡ end = omega arith in
     let rest : drop a xs ≡ core xs end ++ drop end xs =
-    sym (take-append-drop (end - a) (drop a xs)) ∙ ap (λ ys. core xs end ++ ys) (drop-drop (end - a) a xs ∙ ap (λ n. drop n xs) there) in
+    sym (take-append-drop (end - a) (drop a xs))
+    ∙ ap (λ ys. core xs end ++ ys) (drop-drop (end - a) a xs ∙ ap (λ n. drop n xs) there) in
     sym (take-append-drop a xs) ∙ ap (λ ys. take a xs ++ ys) rest
 
-pub core_value : (xs : List ℕ) (end : ℕ) → prefix_len is_zero xs ≤ end → end + suffix_len is_zero xs ≡ length xs → digits_value 10 xs ≡ digits_value 10 (core xs end) * 10 ^ suffix_len is_zero xs
+pub core_value : (xs : List ℕ) (end : ℕ) → prefix_len is_zero xs ≤ end → end + suffix_len is_zero xs ≡ length xs
+    → digits_value 10 xs ≡ digits_value 10 (core xs end) * 10 ^ suffix_len is_zero xs
 core_value xs end le e =
     let a = prefix_len is_zero xs in
-    let front : digits_value_after 10 0 (take a xs) ≡ 0 = digits_after_zeros 0 (take a xs) (front_zeros xs) ∙ zero-mul (10 ^ length (take a xs)) in
+    let front : digits_value_after 10 0 (take a xs) ≡ 0 = digits_after_zeros 0 (take a xs) (front_zeros xs)
+    ∙ zero-mul (10 ^ length (take a xs)) in
     let back : length (drop end xs) ≡ suffix_len is_zero xs = omega (arith, length-drop end xs) in
     ap (digits_value 10) (in_parts xs end le)
     ∙ digits_after_append 0 (take a xs) (core xs end ++ drop end xs)
@@ -111,26 +121,35 @@ some_digit c digit ne =
 last_digit : (m d : ℕ) → 0 < d → d < 10 → (m * 10 + d) % 10 ≢ 0
 last_digit m d some small = λ e. omega (arith, e)
 
-pub core_stripped : (xs : List ℕ) (end : ℕ) → are_digits xs ≡ true → prefix_len is_zero xs ≤ end → suc end + suffix_len is_zero xs ≡ length xs → digits_value 10 (core xs (suc end)) % 10 ≢ 0
+pub core_stripped : (xs : List ℕ) (end : ℕ) → are_digits xs ≡ true → prefix_len is_zero xs ≤ end
+    → suc end + suffix_len is_zero xs ≡ length xs → digits_value 10 (core xs (suc end)) % 10 ≢ 0
 core_stripped xs end digits le e =
     let a = prefix_len is_zero xs in
     let next : suc end - a ≡ end - a + 1 = omega arith in
     let more = digits_value_more 10 (drop a xs) (end - a) (rw length-drop (omega arith)) in
     let there : a + (end - a) ≡ end = omega arith in
-    let at : get_or (drop a xs) (end - a) 0 ≡ get_or xs end 0 = get_or-drop a xs (end - a) 0 ∙ ap (λ n. get_or xs n 0) there in
+    let at : get_or (drop a xs) (end - a) 0 ≡ get_or xs end 0 = get_or-drop a xs (end - a) 0
+    ∙ ap (λ n. get_or xs n 0) there in
     let digit = some_digit (get_or xs end 0) (digit_at xs end digits (omega arith)) (back_stops xs end e) in
-    rw (next, more, at) (last_digit (digits_value 10 (take (end - a) (drop a xs))) (digit_value (get_or xs end 0)) digit.0 digit.1)
+    rw (next, more, at) (last_digit (digits_value 10 (take (end - a) (drop a xs))) (digit_value (get_or xs end 0))
+    digit.0 digit.1)
 
-pub core_long : (xs : List ℕ) (end : ℕ) → are_digits xs ≡ true → prefix_len is_zero xs < end → end ≤ length xs → 36 < end - prefix_len is_zero xs → 10 ^ 36 ≤ digits_value 10 (core xs end)
+pub core_long : (xs : List ℕ) (end : ℕ) → are_digits xs ≡ true → prefix_len is_zero xs < end → end ≤ length xs
+    → 36 < end - prefix_len is_zero xs → 10 ^ 36 ≤ digits_value 10 (core xs end)
 core_long xs end digits lt within long =
     let a = prefix_len is_zero xs in
     let first = drop_more xs a 0 (omega arith) in
     let digit = some_digit (get_or xs a 0) (digit_at xs a digits (omega arith)) (front_stops xs (omega arith)) in
     let next : end - a ≡ suc (end - a - 1) = omega arith in
-    let size : length (take (end - a - 1) (drop (a + 1) xs)) ≡ end - a - 1 = length-take-le _ _ (rw length-drop (omega arith)) in
+    let size : length (take (end - a - 1) (drop (a + 1) xs)) ≡ end - a - 1 =
+    length-take-le _ _ (rw length-drop (omega arith)) in
     let more = digits_after_ge (digit_value (get_or xs a 0)) (take (end - a - 1) (drop (a + 1) xs)) in
     let top = ten_le 36 (length (take (end - a - 1) (drop (a + 1) xs))) (omega (arith, size)) in
-    let one : 1 * 10 ^ length (take (end - a - 1) (drop (a + 1) xs)) ≤ digit_value (get_or xs a 0) * 10 ^ length (take (end - a - 1) (drop (a + 1) xs)) = mul-le-mul_right (10 ^ length (take (end - a - 1) (drop (a + 1) xs))) (omega (arith, digit.0)) in
-    let below : 10 ^ 36 ≤ digits_value_after 10 (digit_value (get_or xs a 0)) (take (end - a - 1) (drop (a + 1) xs)) = omega (arith, top, one, more) in
+    let one : 1 * 10 ^ length (take (end - a - 1) (drop (a + 1) xs)) ≤ digit_value (get_or xs a 0) * 10 ^ length
+    (take (end - a - 1) (drop (a + 1) xs)) =
+    mul-le-mul_right (10 ^ length (take (end - a - 1) (drop (a + 1) xs))) (omega (arith, digit.0)) in
+    let below : 10 ^ 36 ≤ digits_value_after 10 (digit_value (get_or xs a 0)) (take (end - a - 1) (drop (a + 1) xs)) =
+    omega (arith, top, one, more) in
     let start : digit_value (get_or xs a 0) ≡ 0 * 10 + digit_value (get_or xs a 0) = omega arith in
-    rw (first, next) (subst (λ (d : ℕ). 10 ^ 36 ≤ digits_value_after 10 d (take (end - a - 1) (drop (a + 1) xs))) start below)
+    rw (first, next) (subst (λ (d : ℕ). 10 ^ 36 ≤ digits_value_after 10 d (take (end - a - 1) (drop (a + 1) xs))) start
+    below)

@@ -1,5 +1,6 @@
 -- The texts of numbers.
-use Rattle.std.proofs.Common.{◌≡◌, ℕ, ◌/◌, ◌%◌, ◌^◌, ◌<◌, ◌≤◌, Bool, true, false, ◌∷◌, ◌++◌, length, replicate, refl, arith, ℤ, pos, negsuc, mod-lt, div-le_self}
+use Rattle.std.proofs.Common.{◌≡◌, ℕ, ◌/◌, ◌%◌, ◌^◌, ◌<◌, ◌≤◌, Bool, true, false, ◌∷◌, ◌++◌, length, replicate, refl}
+use Rattle.std.proofs.Common.{arith, ℤ, pos, negsuc, mod-lt, div-le_self}
 use Rattle.std.proofs.Common.{◌<ℤ◌, ◌≤ℤ◌, ◌⊎◌, inl, inr, unsigned_abs, int_le, ◌&&◌}
 use Rattle.std.proofs.lemmas.Bool.{and_from, and_left, and_right}
 use Rattle.std.proofs.lemmas.Int.{ints}
@@ -37,7 +38,8 @@ pub at_far : (n : ℕ) (e : ℤ) → is_plain e ≡ false → unsigned_text n e 
 unfolding unsigned_text
 at_far n e h = rw h refl
 
-pub text_far : (n : ℕ) (e : ℤ) → (e <ℤ negsuc 19) ⊎ (pos 20 <ℤ e) → unsigned_text n e ≡ decimal n ++ 69 ∷ signed_decimal e
+pub text_far : (n : ℕ) (e : ℤ) → (e <ℤ negsuc 19) ⊎ (pos 20 <ℤ e)
+    → unsigned_text n e ≡ decimal n ++ 69 ∷ signed_decimal e
 text_far n e (inl h) = at_far n e (and_left _ _ (le_false (negsuc 19) e h))
 text_far n e (inr h) = at_far n e (and_right _ _ (le_false e (pos 20) h))
 
@@ -45,6 +47,7 @@ pub text_with_point : (n : ℕ) (e : ℤ) → negsuc 19 ≤ℤ e → e <ℤ pos 
 text_with_point n (pos k) low high = absurd (omega (arith, ints))
 text_with_point n (negsuc k) low high = at_plain n (negsuc k) (and_from _ _ (le_true (negsuc 19) (negsuc k) low) refl)
 
-pub text_zeros : (n : ℕ) (e : ℤ) → pos 0 ≤ℤ e → e ≤ℤ pos 20 → unsigned_text n e ≡ decimal n ++ replicate (unsigned_abs e) 48
+pub text_zeros : (n : ℕ) (e : ℤ) → pos 0 ≤ℤ e → e ≤ℤ pos 20
+    → unsigned_text n e ≡ decimal n ++ replicate (unsigned_abs e) 48
 text_zeros n (pos k) low high = at_plain n (pos k) (and_from _ _ refl (le_true (pos k) (pos 20) high))
 text_zeros n (negsuc k) low high = absurd (omega (arith, ints))

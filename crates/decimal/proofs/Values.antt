@@ -1,5 +1,7 @@
 -- When two numbers are one value.
-use Rattle.std.proofs.Common.{Bool, IsTrue, ◌↔◌, ◌≡◌, ℕ, zero, suc, ◌+◌, ◌-◌, ◌*◌, ◌^◌, ◌%◌, ◌<◌, ◌≤◌, ◌⊎◌, inl, inr, refl, sym, ap, subst, ◌∙◌, arith, ℤ, pos, negsuc, neg_ℤ, ◌+ℤ◌, ◌-ℤ◌, ◌*ℤ◌, ◌≤ℤ◌, unsigned_abs, int_eq, ◌&&◌, mul_assoc, pow-suc}
+use Rattle.std.proofs.Common.{Bool, IsTrue, ◌↔◌, ◌≡◌, ℕ, zero, suc, ◌+◌, ◌-◌, ◌*◌, ◌^◌, ◌%◌, ◌<◌, ◌≤◌, ◌⊎◌, inl, inr}
+use Rattle.std.proofs.Common.{refl, sym, ap, subst, ◌∙◌, arith, ℤ, pos, negsuc, neg_ℤ, ◌+ℤ◌, ◌-ℤ◌, ◌*ℤ◌, ◌≤ℤ◌}
+use Rattle.std.proofs.Common.{unsigned_abs, int_eq, ◌&&◌, mul_assoc, pow-suc}
 use Rattle.std.specs.Int.{int_min}
 use Rattle.std.proofs.lemmas.Int.{ints, clamps, unsigned_abs-mul}
 use Rattle.std.proofs.lemmas.Nat.{pow-add}
@@ -27,7 +29,8 @@ times-times (negsuc n) a b = neg-times (suc n * a) b ∙ ap (λ x. neg_ℤ (pos 
 
 same_size : (k : ℕ) → 0 < k → (y z : ℤ) → y *ℤ pos k ≡ z *ℤ pos k → unsigned_abs y ≡ unsigned_abs z
 same_size k some y z e =
-    eq_of_mul-eq-mul_right k some _ _ (sym (unsigned_abs-mul y (pos k)) ∙ ap unsigned_abs e ∙ unsigned_abs-mul z (pos k))
+    eq_of_mul-eq-mul_right k some _ _
+    (sym (unsigned_abs-mul y (pos k)) ∙ ap unsigned_abs e ∙ unsigned_abs-mul z (pos k))
 
 pub times_cancel : (k : ℕ) → 0 < k → (y z : ℤ) → y *ℤ pos k ≡ z *ℤ pos k → y ≡ z
 times_cancel k some (pos a) (pos b) e = ap pos (same_size k some (pos a) (pos b) e)
@@ -76,20 +79,33 @@ meet_from_same m n same =
     let below_m : k ≤ℤ m.exponent = omega (arith, ints, clamps) in
     let below_n : k ≤ℤ n.exponent = omega (arith, ints, clamps) in
     let p = gap_is m.exponent k below_m in
-    let q = gap_is n.exponent k below_n in
-    (unsigned_abs (m.exponent -ℤ k), unsigned_abs (n.exponent -ℤ k), record { mantissas = same.equal; exponents = omega (arith, ints, p, q) })
+    let q = gap_is n.exponent k below_n in (
+      unsigned_abs (m.exponent -ℤ k),
+      unsigned_abs (n.exponent -ℤ k),
+      record { mantissas = same.equal; exponents = omega (arith, ints, p, q) },
+    )
 
 -- scaled further down, they meet again
 pub meet_lower : (m n : Number) (i j k : ℕ) → MeetAt m n i j → MeetAt m n (i + k) (j + k)
 meet_lower m n i j k meet = record {
-  mantissas = rw (pow-add 10 i k, pow-add 10 j k, ← times-times m.mantissa (10 ^ i) (10 ^ k), ← times-times n.mantissa (10 ^ j) (10 ^ k), meet.mantissas) refl;
+  mantissas = rw (
+    pow-add 10 i k,
+    pow-add 10 j k,
+    ← times-times m.mantissa (10 ^ i) (10 ^ k),
+    ← times-times n.mantissa (10 ^ j) (10 ^ k),
+    meet.mantissas,
+  ) refl;
   exponents = let h = meet.exponents in omega (arith, ints, h);
 }
 
 -- and where they meet, they meet at the lesser exponent
-same_at : (m n : Number) (i j a b k : ℕ) → i ≡ a + k → j ≡ b + k → m.mantissa *ℤ pos (10 ^ i) ≡ n.mantissa *ℤ pos (10 ^ j) → m.mantissa *ℤ pos (10 ^ a) ≡ n.mantissa *ℤ pos (10 ^ b)
+same_at : (m n : Number) (i j a b k : ℕ) → i ≡ a + k → j ≡ b + k
+    → m.mantissa *ℤ pos (10 ^ i) ≡ n.mantissa *ℤ pos (10 ^ j) → m.mantissa *ℤ pos (10 ^ a) ≡ n.mantissa *ℤ pos (10 ^ b)
 same_at m n i j a b k p q e =
-    times_cancel (10 ^ k) (ten_pos k) _ _ (times-times m.mantissa (10 ^ a) (10 ^ k) ∙ ap (λ x. m.mantissa *ℤ pos x) (sym (pow-add 10 a k)) ∙ ap (λ x. m.mantissa *ℤ pos (10 ^ x)) (sym p) ∙ e ∙ ap (λ x. n.mantissa *ℤ pos (10 ^ x)) q ∙ ap (λ x. n.mantissa *ℤ pos x) (pow-add 10 b k) ∙ sym (times-times n.mantissa (10 ^ b) (10 ^ k)))
+    times_cancel (10 ^ k) (ten_pos k) _ _
+    (times-times m.mantissa (10 ^ a) (10 ^ k) ∙ ap (λ x. m.mantissa *ℤ pos x) (sym (pow-add 10 a k))
+    ∙ ap (λ x. m.mantissa *ℤ pos (10 ^ x)) (sym p) ∙ e ∙ ap (λ x. n.mantissa *ℤ pos (10 ^ x)) q
+    ∙ ap (λ x. n.mantissa *ℤ pos x) (pow-add 10 b k) ∙ sym (times-times n.mantissa (10 ^ b) (10 ^ k)))
 
 pub same_from_meet : (m n : Number) (i j : ℕ) → MeetAt m n i j → SameValue m n
 same_from_meet m n i j meet =
@@ -130,14 +146,18 @@ same_trans m n p first second =
 
 -- ---- each value has at most one number in lowest terms, and one decimal
 
-sizes_meet : (m n : Number) (i j : ℕ) → MeetAt m n i j → unsigned_abs m.mantissa * 10 ^ i ≡ unsigned_abs n.mantissa * 10 ^ j
-sizes_meet m n i j meet = sym (unsigned_abs-mul m.mantissa (pos (10 ^ i))) ∙ ap unsigned_abs meet.mantissas ∙ unsigned_abs-mul n.mantissa (pos (10 ^ j))
+sizes_meet : (m n : Number) (i j : ℕ) → MeetAt m n i j
+    → unsigned_abs m.mantissa * 10 ^ i ≡ unsigned_abs n.mantissa * 10 ^ j
+sizes_meet m n i j meet = sym (unsigned_abs-mul m.mantissa (pos (10 ^ i))) ∙ ap unsigned_abs meet.mantissas
+    ∙ unsigned_abs-mul n.mantissa (pos (10 ^ j))
 
 pub same_stripped : (m n : Number) → IsStripped m → IsStripped n → SameValue m n → m ≡ n
 same_stripped m n p q same =
     let (i, j, meet) = meet_from_same m n same in
-    let r = same_lowest i j (unsigned_abs m.mantissa) (unsigned_abs n.mantissa) p.stripped q.stripped (sizes_meet m n i j meet) in
-    let turned : m.mantissa *ℤ pos (10 ^ i) ≡ n.mantissa *ℤ pos (10 ^ i) = meet.mantissas ∙ ap (λ x. n.mantissa *ℤ pos (10 ^ x)) (sym r.1) in
+    let r = same_lowest i j (unsigned_abs m.mantissa) (unsigned_abs n.mantissa) p.stripped q.stripped
+    (sizes_meet m n i j meet) in
+    let turned : m.mantissa *ℤ pos (10 ^ i) ≡ n.mantissa *ℤ pos (10 ^ i) = meet.mantissas
+    ∙ ap (λ x. n.mantissa *ℤ pos (10 ^ x)) (sym r.1) in
     let mantissas = times_cancel (10 ^ i) (ten_pos i) m.mantissa n.mantissa turned in
     let e = meet.exponents in
     let exponents : m.exponent ≡ n.exponent = omega (arith, ints, r.1, e) in
@@ -150,16 +170,23 @@ zero_times z e k = rw e (omega arith)
 pub same_zero : (m n : Number) → m.mantissa ≡ pos 0 → SameValue m n → n.mantissa ≡ pos 0
 same_zero m n zero_m same =
     let (i, j, meet) = meet_from_same m n same in
-    let e : pos 0 *ℤ pos (10 ^ j) ≡ n.mantissa *ℤ pos (10 ^ j) = zero-*ℤ (pos (10 ^ j)) ∙ sym (zero-*ℤ (pos (10 ^ i))) ∙ ap (λ x. x *ℤ pos (10 ^ i)) (sym zero_m) ∙ meet.mantissas in
+    let e : pos 0 *ℤ pos (10 ^ j) ≡ n.mantissa *ℤ pos (10 ^ j) = zero-*ℤ (pos (10 ^ j)) ∙ sym (zero-*ℤ (pos (10 ^ i)))
+    ∙ ap (λ x. x *ℤ pos (10 ^ i)) (sym zero_m) ∙ meet.mantissas in
     sym (times_cancel (10 ^ j) (ten_pos j) (pos 0) n.mantissa e)
 
 pub zero_same : (m n : Number) → m.mantissa ≡ pos 0 → n.mantissa ≡ pos 0 → SameValue m n
 zero_same m n p q =
     let k = int_min m.exponent n.exponent in
-    record { equal = ap (λ x. x *ℤ pos (10 ^ unsigned_abs (m.exponent -ℤ k))) p ∙ zero-*ℤ (pos (10 ^ unsigned_abs (m.exponent -ℤ k))) ∙ sym (zero-*ℤ (pos (10 ^ unsigned_abs (n.exponent -ℤ k)))) ∙ ap (λ x. x *ℤ pos (10 ^ unsigned_abs (n.exponent -ℤ k))) (sym q) }
+    record {
+      equal = ap (λ x. x *ℤ pos (10 ^ unsigned_abs (m.exponent -ℤ k))) p
+          ∙ zero-*ℤ (pos (10 ^ unsigned_abs (m.exponent -ℤ k)))
+          ∙ sym (zero-*ℤ (pos (10 ^ unsigned_abs (n.exponent -ℤ k))))
+          ∙ ap (λ x. x *ℤ pos (10 ^ unsigned_abs (n.exponent -ℤ k))) (sym q);
+    }
 
 pub zero_or_stripped : (m : Number) → IsDecimal m → ((m.mantissa ≡ pos 0) × (m.exponent ≡ pos 0)) ⊎ IsStripped m
-zero_or_stripped m d = elim (cases_eq (unsigned_abs m.mantissa % 10) 0) [ inl h ↦ inl (d.stripped h) | inr h ↦ inr (record { stripped = h }) ]
+zero_or_stripped m d = elim (cases_eq (unsigned_abs m.mantissa % 10) 0)
+    [ inl h ↦ inl (d.stripped h) | inr h ↦ inr (record { stripped = h }) ]
 
 pub zero_stripped : (m : Number) → m.mantissa ≡ pos 0 → IsStripped m → ⊥
 zero_stripped m e h = h.stripped (rw e refl)
@@ -178,11 +205,15 @@ same_decimal m n p q same =
     ]
 
 -- decimals are equal exactly where their values are
-pub equal_by_value : (r : Bool) (m n : Number) → IsDecimal m → IsDecimal n → (IsTrue r ↔ (m ≡ n)) → (IsTrue r ↔ SameValue m n)
-equal_by_value r m n p q (to, from) = (λ t. subst (λ (x : Number). SameValue m x) (to t) (same_refl m), λ same. from (same_decimal m n p q same))
+pub equal_by_value : (r : Bool) (m n : Number) → IsDecimal m → IsDecimal n → (IsTrue r ↔ (m ≡ n))
+    → (IsTrue r ↔ SameValue m n)
+equal_by_value r m n p q (to, from) =
+    (λ t. subst (λ (x : Number). SameValue m x) (to t) (same_refl m), λ same. from (same_decimal m n p q same))
 
 -- and exactly where their mantissas and their exponents are
 pub equal_by_parts : (m n : Number) → Decides (int_eq m.mantissa n.mantissa && int_eq m.exponent n.exponent) (m ≡ n)
 equal_by_parts m n =
-    let parts = Decides-and _ _ (Decides-int_eq m.mantissa n.mantissa) (Decides-int_eq m.exponent n.exponent) in
-    (λ h t. record { mantissa = (parts.0 h).0 t; exponent = (parts.0 h).1 t }, λ e. parts.1 (ap (λ x. x.mantissa) e, ap (λ x. x.exponent) e))
+    let parts = Decides-and _ _ (Decides-int_eq m.mantissa n.mantissa) (Decides-int_eq m.exponent n.exponent) in (
+      λ h t. record { mantissa = (parts.0 h).0 t; exponent = (parts.0 h).1 t },
+      λ e. parts.1 (ap (λ x. x.mantissa) e, ap (λ x. x.exponent) e),
+    )

@@ -1,5 +1,6 @@
 -- How the parts of a number token are found: each is the longest run of its bytes.
-use Rattle.std.specs.Prelude.{ℕ, ◌+◌, ◌==◌, ◌^◌, min, Bool, List, [], ◌∷◌, take, drop, ℤ, pos, negsuc, neg_ℤ, suc, if◌then◌else◌}
+use Rattle.std.specs.Prelude.{ℕ, ◌+◌, ◌==◌, ◌^◌, min, Bool, List, [], ◌∷◌, take, drop, ℤ, pos, negsuc, neg_ℤ, suc}
+use Rattle.std.specs.Prelude.{if◌then◌else◌}
 use Rattle.std.specs.Char.{is_ascii_digit}
 use Rattle.std.specs.List.{prefix_len}
 use Rattle.decimal.specs.Spelling.{Spelling}

@@ -1,9 +1,10 @@
 -- The text of a decimal.
-use Rattle.std.specs.Prelude.{ℕ, suc, ◌-◌, ◌/◌, ◌%◌, ◌^◌, List, [], ◌∷◌, ◌++◌, length, replicate, ℤ, pos, negsuc, unsigned_abs, int_le, ◌&&◌, if◌then◌else◌, Ok}
+use Rattle.std.specs.Prelude.{ℕ, suc, ◌-◌, ◌/◌, ◌%◌, ◌^◌, List, [], ◌∷◌, ◌++◌, length, replicate, ℤ, pos, negsuc}
+use Rattle.std.specs.Prelude.{unsigned_abs, int_le, ◌&&◌, if◌then◌else◌, Ok}
 use Rattle.std.specs.Int.{is_negative}
 use Rattle.std.specs.Fmt.{decimal, signed_decimal}
 use Rattle.decimal.specs.Number.{Number}
-use Rattle.decimal.specs.Reading.{Reads}
+use Rattle.decimal.specs.Reading.{ReadsNumber}
 
 -- the digits of n, with leading zeros up to k digits
 abbrev pub zero_padded : ℕ → ℕ → List ℕ
@@ -33,4 +34,4 @@ text_of n = sign_text n.mantissa ++ unsigned_text (unsigned_abs n.mantissa) n.ex
 
 -- Without its sign, the text of a decimal reads as that decimal again.
 abbrev pub ReadsBack : Number → Type 0
-ReadsBack n = Reads (is_negative n.mantissa) (unsigned_text (unsigned_abs n.mantissa) n.exponent) (Ok n)
+ReadsBack n = ReadsNumber (is_negative n.mantissa) (unsigned_text (unsigned_abs n.mantissa) n.exponent) (Ok n)

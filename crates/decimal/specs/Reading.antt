@@ -1,9 +1,11 @@
 -- What reading bytes as a decimal gives.
-use Rattle.std.specs.Prelude.{◌≡◌, ◌↔◌, ℕ, ◌/◌, ◌^◌, ◌<◌, ◌≤◌, ◌%◌, ◌≢◌, ◌==◌, nat_le, int_le, not, ◌&&◌, Bool, List, length, drop, ℤ, pos, negsuc, ◌+ℤ◌, ◌-ℤ◌, unsigned_abs, Result, Ok, Err, if◌then◌else◌}
+use Rattle.std.specs.Prelude.{◌≡◌, ◌↔◌, ℕ, ◌/◌, ◌^◌, ◌<◌, ◌≤◌, ◌%◌, ◌≢◌, ◌==◌, nat_le, int_le, not, ◌&&◌, Bool, List}
+use Rattle.std.specs.Prelude.{length, drop, ℤ, pos, negsuc, ◌+ℤ◌, ◌-ℤ◌, unsigned_abs, Result, Ok, Err, if◌then◌else◌}
 use Rattle.std.specs.List.{suffix_len}
 use Rattle.std.specs.Str.Parse.{digits_value}
 use Rattle.decimal.specs.Number.{Number, IsInRange, IsDecimal}
-use Rattle.decimal.specs.Spelling.{Spelling, IsNumberToken, Writes, is_numeral, is_exponent, digits_of, power_of, signed}
+use Rattle.decimal.specs.Spelling.{Spelling, IsNumberToken, Writes, is_numeral, is_exponent, digits_of, power_of}
+use Rattle.decimal.specs.Spelling.{signed}
 use Rattle.decimal.specs.Cutting.{cut, is_zero}
 use Rattle.decimal.specs.declared.fault.DecimalFault.{DecimalFault}
 use Rattle.decimal.specs.declared.fault.DecimalFault.TheVariants.{NotNumber, TooManyDigits, ExponentRange}
@@ -14,11 +16,13 @@ pub record IsStripped (n : Number) : Type 0 where
 
 -- The answers: a decimal of the token's value; no number token; a value other than zero with more than 36
 -- digits once zeros at both ends are stripped; and one with at most 36 and an exponent out of range.
-abbrev pub Reads : Bool → List ℕ → Result Number DecimalFault → Type 0
-Reads negative bytes (Ok n) = Writes negative bytes n × IsDecimal n
-Reads negative bytes (Err NotNumber) = (s : Spelling) → ¬ (IsNumberToken bytes s)
-Reads negative bytes (Err TooManyDigits) = (n : Number) × Writes negative bytes n × IsStripped n × (10 ^ 36 ≤ unsigned_abs n.mantissa)
-Reads negative bytes (Err ExponentRange) = (n : Number) × Writes negative bytes n × IsStripped n × (unsigned_abs n.mantissa < 10 ^ 36) × ¬ (IsInRange n.exponent)
+abbrev pub ReadsNumber : Bool → List ℕ → Result Number DecimalFault → Type 0
+ReadsNumber negative bytes (Ok n) = Writes negative bytes n × IsDecimal n
+ReadsNumber negative bytes (Err NotNumber) = (s : Spelling) → ¬ (IsNumberToken bytes s)
+ReadsNumber negative bytes (Err TooManyDigits) = (n : Number) × Writes negative bytes n × IsStripped n
+    × (10 ^ 36 ≤ unsigned_abs n.mantissa)
+ReadsNumber negative bytes (Err ExponentRange) = (n : Number) × Writes negative bytes n × IsStripped n
+    × (unsigned_abs n.mantissa < 10 ^ 36) × ¬ (IsInRange n.exponent)
 
 -- the exponent that a spelling's digits have without the zeros at their end
 abbrev pub stripped_exponent : Spelling → ℕ → ℤ
@@ -50,4 +54,5 @@ reading negative bytes =
 -- The answer by the equation of values is the computed one, and no other.
 abbrev pub ReadingsAreComputed : Type 0
 ReadingsAreComputed =
-    (negative : Bool) (bytes : List ℕ) (answer : Result Number DecimalFault) → Reads negative bytes answer ↔ (reading negative bytes ≡ answer)
+    (negative : Bool) (bytes : List ℕ) (answer : Result Number DecimalFault)
+    → ReadsNumber negative bytes answer ↔ (reading negative bytes ≡ answer)

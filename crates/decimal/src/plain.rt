@@ -5,7 +5,7 @@ ghost use Rattle.std.specs.Char.{is_ascii_digit};
 ghost use Rattle.std.specs.List.{prefix_len};
 ghost use Rattle.std.specs.Str.Parse.{digits_value_after};
 ghost use Rattle.decimal.specs.Spelling.{Writes, signed};
-ghost use Rattle.decimal.specs.Reading.{Reads};
+ghost use Rattle.decimal.specs.Reading.{ReadsNumber};
 
 use crate::Decimal;
 
@@ -52,7 +52,12 @@ struct Plain {
 /// The number that a short number token writes that has no exponent, or `None` for any other bytes.
 fn plain_of(bytes: &[u8]) -> Option<Plain>
     ensures value { IfSome result (λ p. (negative : Bool) →
-        Writes negative bytes.now (record { mantissa = signed negative p.number; exponent = neg_ℤ (pos p.fraction_digits) })) }
+        Writes negative bytes.now
+        (record {
+          mantissa = signed negative p.number;
+          exponent =
+              neg_ℤ (pos p.fraction_digits);
+        })) }
     ensures few { IfSome result (λ p. p.fraction_digits < 20) }
 {
     if bytes.len() > MOST_BYTES {
@@ -117,7 +122,7 @@ fn signed(negative: bool, magnitude: u64) -> i128
 
 /// The decimal that a short number token writes, negated or not, that has no exponent, or `None` for any other bytes.
 pub(crate) fn plain_decimal(negative: bool, bytes: &[u8]) -> Option<Decimal>
-    ensures { IfSome result (λ decimal. Reads negative bytes.now (Ok decimal)) }
+    ensures { IfSome result (λ decimal. ReadsNumber negative bytes.now (Ok decimal)) }
 {
     let plain = plain_of(bytes)?;
     if plain.number == 0 {

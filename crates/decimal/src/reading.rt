@@ -2,7 +2,7 @@
 ghost use Rattle.std.specs.Prelude.{◌≡◌, ◌+◌, ◌^◌, ◌<◌, length, drop, Result};
 ghost use Rattle.decimal.specs.Spelling.{IsNumberToken, bytes_of, signed};
 ghost use Rattle.decimal.specs.Cutting.{spelling};
-ghost use Rattle.decimal.specs.Reading.{Reads};
+ghost use Rattle.decimal.specs.Reading.{ReadsNumber};
 
 use crate::digits::Digits;
 use crate::plain::plain_decimal;
@@ -24,7 +24,7 @@ fn signed(negative: bool, magnitude: u128) -> i128
 fn long_decimal(negative: bool, parts: Parts) -> Result<Decimal, DecimalFault>
     requires token { IsNumberToken (bytes_of (spelling parts)) (spelling parts) }
     requires within { length parts.whole.now + length parts.fraction.now < 2 ^ 64 }
-    ensures { Reads negative (bytes_of (spelling parts.entry)) result }
+    ensures { ReadsNumber negative (bytes_of (spelling parts.entry)) result }
 {
     let fraction = after_point(parts.fraction);
     let digits = Digits::new(parts.whole, fraction);
@@ -46,7 +46,7 @@ fn long_decimal(negative: bool, parts: Parts) -> Result<Decimal, DecimalFault>
 
 impl Decimal {
     ghost use Rattle.decimal.specs.Number.{Number};
-    ghost use Rattle.decimal.specs.Reading.{Reads, reading};
+    ghost use Rattle.decimal.specs.Reading.{ReadsNumber, reading};
     ghost use Rattle.decimal.specs.declared.fault.DecimalFault.{DecimalFault as Fault};
 
     /// The decimal that the bytes spell, negated if `negative` is true.
@@ -59,8 +59,9 @@ impl Decimal {
     /// value has more than 36 digits once zeros at both ends are stripped; `ExponentRange` where the power of
     /// ten of those digits isn't -400 to 400.
     pub fn read(negative: bool, bytes: &[u8]) -> Result<Decimal, DecimalFault>
-        ensures reads { Reads negative bytes.now result }
-        ensures only { (other : Result Number Fault) → Reads negative bytes.now other → other ≡ result }
+        ensures reads { ReadsNumber negative bytes.now result }
+        ensures only { (other : Result Number Fault) → ReadsNumber negative bytes.now other
+            → other ≡ result }
         ensures computed { result ≡ reading negative bytes.now }
     {
         if let Some(decimal) = plain_decimal(negative, bytes) {

@@ -8,10 +8,12 @@ use Rattle.store.specs.Holding.{Keeps}
 use Rattle.desk_types.specs.declared.fault.DeskFault.TheVariants.{Read, Write}
 use Rattle.desk_types.specs.declared.problem.Problem.TheVariants.{NotFound, TryAgain}
 use Rattle.desk_call.specs.Call.{ArrivalSeen, arrives, fails, shows}
+use Rattle.desk_call.specs.Read.{IsRequested}
 use Rattle.office_types.specs.declared.look.Look.TheVariants.{Release}
 use Rattle.desk_reply.specs.Response.{problem_response}
-use Rattle.desk.specs.Responding.{IsRequested, answered_as, failed_response}
-use Rattle.desk.specs.Serving.{AreAccepted, AreClosed, Ending, FailsOnce, Follows, HasCause, KeepsOneMore, SaysFailure, Visit}
+use Rattle.desk.specs.Responding.{answered_as, failed_response}
+use Rattle.desk.specs.Serving.{AreAccepted, AreClosed, Ending, FailsOnce, Follows, HasCause, KeepsOneMore, SaysFailure}
+use Rattle.desk.specs.Serving.{Visit}
 
 -- one read failed, and nothing was written
 abbrev unanswered : Ending

@@ -1,4 +1,6 @@
+pub mod Devices
 pub mod Responding
 pub mod Serving
+pub mod Visits
 mod Examples
-pub mod Waiting
+pub mod MemoryListener

@@ -1,39 +1,45 @@
 -- The responses to requests, on tables that hold a history.
-use Rattle.std.specs.Prelude.{◌≡◌, ◌⊎◌, ℕ, List, [], ◌∷◌, ◌++◌, Option, None, Some, IfSome, IsTrue}
+use Rattle.std.specs.Prelude.{◌≡◌, ◌⊎◌, ℕ, List, [], ◌∷◌, ◌++◌, Option, None, Some, Result, Ok, Err, IsFalse, IsTrue}
 use Rattle.std.specs.Io.KnownBytes.{Appends}
+use Rattle.sqlite.specs.Held.{state}
 use Rattle.sqlite.specs.State.{State}
 use Rattle.sqlite.specs.Tree.{Trees}
+use Rattle.sqlite_trees.specs.declared.store.Store.{Ghosts}
 use Rattle.office_types.specs.declared.state.Office.{Office}
 use Rattle.office_rules.specs.Profile.{Two}
 use Rattle.office_history.specs.History.{Answered, IsLegal}
 use Rattle.office_history.specs.declared.arrival.Answer.{Answer}
 use Rattle.store.specs.Holding.{Holding, Keeps, Leaves}
 use Rattle.store.specs.Looking.{IsShown}
+use Rattle.store.specs.Office.{OfficeView}
 use Rattle.desk_types.specs.Moved.{AppendsFront}
+use Rattle.desk_types.specs.declared.fault.DeskFault.{DeskFault}
+use Rattle.desk_types.specs.declared.fault.DeskFault.TheVariants.{Read, Write, Memory}
 use Rattle.desk_types.specs.declared.problem.Problem.TheVariants.{NotFound, TryAgain}
 use Rattle.desk_call.specs.Call.{Requested, ArrivalSeen, arrives, fails, shows}
-use Rattle.desk_call.specs.Read.{IsRequest}
+use Rattle.desk_call.specs.Read.{IsRequested}
 use Rattle.office_types.specs.declared.look.Look.{Look}
 use Rattle.office_types.specs.declared.look.Look.TheVariants as look
+use Rattle.store.specs.Calls.{OnHistory}
 use Rattle.desk_reply.specs.Response.{answer_response, problem_response, text_response}
-use Rattle.desk_reply.specs.declared.responses.Content.{Content}
-use Rattle.desk_reply.specs.declared.responses.Content.TheVariants.{Bytes, Plain}
+use Rattle.desk_reply.specs.declared.responses.BodyKind.{BodyKind}
+use Rattle.desk_reply.specs.declared.responses.BodyKind.TheVariants.{Bytes, Plain}
 
 -- what its text is: DBC text, or lines
-abbrev pub content_of : Look → Content
-content_of (look.Live net) = Bytes
-content_of (look.Release net number) = Bytes
-content_of l = Plain
+abbrev pub body_kind_of : Look → BodyKind
+body_kind_of (look.Live net) = Bytes
+body_kind_of (look.Release net number) = Bytes
+body_kind_of l = Plain
 
 -- the response that shows a text, or says that there is none
-abbrev pub shown_response : Content → Option (List ℕ) → List ℕ
+abbrev pub shown_response : BodyKind → Option (List ℕ) → List ℕ
 shown_response content None = problem_response NotFound
 shown_response content (Some text) = text_response content text
 
 -- the text is the response that shows this of the office
 abbrev pub IsLookResponse : Office → Look → List ℕ → Type 0
 IsLookResponse office l text =
-    (found : Option (List ℕ)) × IsShown office l found × (text ≡ shown_response (content_of l) found)
+    (found : Option (List ℕ)) × IsShown office l found × (text ≡ shown_response (body_kind_of l) found)
 
 -- the arrival, which comes today, with its answer
 abbrev pub answered_as : ArrivalSeen → Answer → Answered
@@ -71,11 +77,12 @@ MayHaveTaken h requested s =
     ⊎ ((a : ArrivalSeen) × (requested ≡ arrives a) × ((answer : Answer) × Holding (h ++ answered_as a answer ∷ []) s)))
     × Leaves (FollowsRequested h requested) s
 
--- ---- one connection
+-- where the tables held a history, the connection is open, unless the office has failed
+abbrev pub StaysOpen : {S : Type 0} → Ghosts S → OfficeView S → OfficeView S → Type 0
+StaysOpen g old new =
+    OnHistory g old.conn new.conn (λ _. IsFalse new.failed → IsTrue (state g new.conn).is_open)
 
--- this is the first request, if the source states its bytes
-abbrev pub IsRequested : Option (List ℕ) → Requested → Type 0
-IsRequested left requested = IfSome left (λ input. IsRequest input requested)
+-- ---- one connection
 
 -- the whole response was written
 abbrev pub HasServed : List Answered → Option (List ℕ) → Option (List ℕ) → Option (List ℕ) → State → Type 0
@@ -84,8 +91,8 @@ HasServed h left reported_old reported_new s =
     × Appends reported_old reported_new text
 
 -- a beginning of the response was written, and the tables are as if it had all been
-abbrev pub HasBegun : List Answered → Option (List ℕ) → Option (List ℕ) → Option (List ℕ) → State → Type 0
-HasBegun h left reported_old reported_new s =
+abbrev pub HasBegunToRespond : List Answered → Option (List ℕ) → Option (List ℕ) → Option (List ℕ) → State → Type 0
+HasBegunToRespond h left reported_old reported_new s =
     (requested : Requested) × (text : List ℕ) × IsRequested left requested × Responds h requested text s
     × AppendsFront reported_old reported_new text
 
@@ -94,6 +101,14 @@ abbrev pub HasGivenUp : List Answered → Option (List ℕ) → State → Type 0
 HasGivenUp h left s =
     (Holding h s × Leaves (Keeps h) s)
     ⊎ ((requested : Requested) × IsRequested left requested × MayHaveTaken h requested s)
+
+-- what a connection does on a history, by how it ends: as it was, where no request came
+abbrev pub Serves : {T : Type 0} → List Answered → Result T DeskFault
+    → Option (List ℕ) → Option (List ℕ) → Option (List ℕ) → State → Type 0
+Serves h (Ok v) left reported_old reported_new s = HasServed h left reported_old reported_new s
+Serves h (Err Read) left reported_old reported_new s = Holding h s × Leaves (Keeps h) s
+Serves h (Err Write) left reported_old reported_new s = HasBegunToRespond h left reported_old reported_new s
+Serves h (Err Memory) left reported_old reported_new s = HasGivenUp h left s
 
 -- ---- one connection to an office that has failed
 
@@ -112,3 +127,10 @@ abbrev pub HasBegunRefusal : Option (List ℕ) → Option (List ℕ) → Option 
 HasBegunRefusal left reported_old reported_new =
     (requested : Requested) × IsRequested left requested
     × AppendsFront reported_old reported_new (failed_response requested)
+
+-- what a connection to that office does, by how it ends; nothing is written where no request came or memory ran out
+abbrev pub Refuses : {T : Type 0} → Result T DeskFault → Option (List ℕ) → Option (List ℕ) → Option (List ℕ) → Type 0
+Refuses (Ok v) left reported_old reported_new = HasRefused left reported_old reported_new
+Refuses (Err Read) left reported_old reported_new = reported_new ≡ reported_old
+Refuses (Err Write) left reported_old reported_new = HasBegunRefusal left reported_old reported_new
+Refuses (Err Memory) left reported_old reported_new = reported_new ≡ reported_old

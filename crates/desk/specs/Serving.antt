@@ -1,5 +1,6 @@
 -- Connections that are served one after the other.
-use Rattle.std.specs.Prelude.{◌≡◌, ◌⊎◌, ℕ, List, [], ◌∷◌, ◌++◌, All, Contains, map, Bool, true, false, Option, None, Some, option_map, IfSome, IsTrue, IsFalse, Result, Ok, Err, ⊤, codes}
+use Rattle.std.specs.Prelude.{◌≡◌, ◌⊎◌, ℕ, List, [], ◌∷◌, ◌++◌, All, Contains, map, Bool, true, false, Option, None}
+use Rattle.std.specs.Prelude.{Some, option_map, IfSome, IsTrue, IsFalse, Result, Ok, Err, ⊤, codes}
 use Rattle.sqlite.specs.State.{State}
 use Rattle.sqlite.specs.Tree.{Trees}
 use Rattle.office_history.specs.History.{Answered, IsLegalHistory}
@@ -11,9 +12,9 @@ use Rattle.desk_types.specs.declared.fault.DeskFault.{DeskFault}
 use Rattle.desk_types.specs.declared.fault.DeskFault.TheVariants.{Read, Write, Memory}
 use Rattle.desk_types.specs.declared.problem.Problem.TheVariants.{TryAgain}
 use Rattle.desk_call.specs.Call.{Requested, ArrivalSeen, arrives}
-use Rattle.desk_call.specs.Read.{IsNotWhole}
+use Rattle.desk_call.specs.Read.{IsNotWhole, IsRequested}
 use Rattle.desk_reply.specs.Response.{problem_response}
-use Rattle.desk.specs.Responding.{IsRequested, IsResponse, answered_as, failed_response}
+use Rattle.desk.specs.Responding.{IsResponse, answered_as, failed_response}
 
 -- how a connection ended: what was written to its peer, and how many of its reads and of its writes failed
 pub record Ending : Type 0 where
@@ -98,19 +99,24 @@ KeepsOneMore h sent written db =
     × (answer : Answer) × Keeps (h ++ answered_as a answer ∷ []) db
 
 -- the trees keep the history, or it with the arrival of one of the connections, which had no answer
-abbrev pub KeepsWithOne : List Answered → List Visit → Trees → Type 0
-KeepsWithOne h visits db =
+abbrev pub KeepsWithOneVisit : List Answered → List Visit → Trees → Type 0
+KeepsWithOneVisit h visits db =
     Keeps h db ⊎ ((v : Visit) × Contains visits v × KeepsOneMore h v.sent (written_to v) db)
 
 -- A connection that ended so leads to a legal history, whose commands are in range, and which the tables hold as long
 -- as they are open. A crash leaves that history, or it and the arrival, if that had no answer.
-pub record HasGoneOn (h : List Answered) (fault : Option DeskFault) (sent written : Option (List ℕ)) (s : State) : Type 0 where
+pub record HasGoneOn (h : List Answered) (fault : Option DeskFault) (sent written : Option (List ℕ)) (s : State) : Type
+    0 where
   pub after : List Answered
   pub leads : LeadsBy fault h sent written after
   pub legal : IsLegalHistory after
   pub in_range : All IsInRange after
   pub held : IsTrue s.is_open → Holding after s
   pub left : Leaves (λ db. Keeps after db ⊎ KeepsOneMore after sent written db) s
+
+-- the same of a visit
+abbrev pub GoesOn : List Answered → Visit → State → Type 0
+GoesOn h v s = HasGoneOn h v.fault v.sent (written_to v) s
 
 -- The connections lead to a legal history, whose commands are in range, and which the tables hold as long as they are
 -- open. They are, unless the office has failed. A crash leaves that history, or it and one arrival that had no
@@ -122,7 +128,7 @@ pub record HasServedAll (h : List Answered) (visits : List Visit) (failed : Bool
   pub in_range : All IsInRange after
   pub is_open : IsFalse failed → IsTrue s.is_open
   pub held : IsTrue s.is_open → Holding after s
-  pub left : Leaves (KeepsWithOne after visits) s
+  pub left : Leaves (KeepsWithOneVisit after visits) s
 
 -- ---- an office that has failed
 

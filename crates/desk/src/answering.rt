@@ -1,15 +1,12 @@
 //! What the office is to do, and the responses to it.
-ghost use Rattle.std.specs.Prelude.{◌≡◌, ◌≤◌, List, IfOk, IsFalse, IsTrue, OnErr};
+ghost use Rattle.std.specs.Prelude.{◌≡◌, IfOk, IsTrue, OnErr};
 ghost use Rattle.sqlite.specs.Held.{state};
-ghost use Rattle.sqlite.specs.State.{HasCleanDisk};
-ghost use Rattle.sqlite_trees.specs.View.{doubt};
-ghost use Rattle.office_history.specs.History.{Answered};
-ghost use Rattle.store.specs.Holding.{Holding};
 ghost use Rattle.desk_call.specs.Call.{arrives, arrival_seen, seen, shows};
-ghost use Rattle.desk.specs.Responding.{MayHaveTaken, Responds, content_of, failed_response};
+ghost use Rattle.store.specs.Calls.{KeepsDoubt, OnHistory};
+ghost use Rattle.desk.specs.Responding.{MayHaveTaken, Responds, StaysOpen, body_kind_of, failed_response};
 
 use desk_call::Call;
-use desk_reply::{Content, answer_response, problem_response, text_response};
+use desk_reply::{BodyKind, answer_response, problem_response, text_response};
 use desk_types::Problem;
 use office_history::Arrival;
 use office_types::Look;
@@ -18,35 +15,33 @@ use std::alloc::{AllocError, Global};
 use store::StoredOffice;
 
 /// What the text of a look is: DBC text, or lines.
-fn content_of(look: &Look) -> Content
-    ensures { result ≡ content_of look.now }
+fn body_kind_of(look: &Look) -> BodyKind
+    ensures { result ≡ body_kind_of look.now }
 {
     match look {
-        Look::Live(_) | Look::Release(_, _) => Content::Bytes,
-        _ => Content::Plain,
+        Look::Live(_) | Look::Release(_, _) => BodyKind::Bytes,
+        _ => BodyKind::Plain,
     }
 }
 
 /// Looks something up, and gives the response that shows it.
-fn shown<S: Alter>(
+fn show<S: Alter>(
     alloc: Global,
     office: &mut StoredOffice<S>,
     look: Look,
 ) -> Result<Vec<u8>, AllocError>
-    ensures clean { doubt (state S.Store office.old.conn).is_clean ≤ doubt (state S.Store office.new.conn).is_clean }
+    ensures clean { KeepsDoubt S.Store office.old.conn office.new.conn }
     ensures refused { IsTrue office.old.failed → office.new ≡ office.old }
-    ensures failed { IsTrue office.old.failed → IfOk result (λ text. text.items ≡ failed_response (shows look)) }
-    ensures open { HasCleanDisk (state S.Store office.new.conn) → (h : List Answered)
-        → Holding h (state S.Store office.old.conn)
-        → IsFalse office.new.failed → IsTrue (state S.Store office.new.conn).is_open }
-    ensures ok { HasCleanDisk (state S.Store office.new.conn) → (h : List Answered)
-        → Holding h (state S.Store office.old.conn)
-        → IfOk result (λ text. Responds h (shows look) text.items (state S.Store office.new.conn)) }
-    ensures err { HasCleanDisk (state S.Store office.new.conn) → (h : List Answered)
-        → Holding h (state S.Store office.old.conn)
-        → OnErr result (MayHaveTaken h (shows look) (state S.Store office.new.conn)) }
+    ensures failed { IsTrue office.old.failed
+        → IfOk result (λ text. text.items ≡ failed_response (shows look)) }
+    ensures open { StaysOpen S.Store office.old office.new }
+    ensures ok { OnHistory S.Store office.old.conn office.new.conn
+        (λ h. IfOk result (λ text. Responds h (shows look) text.items
+        (state S.Store office.new.conn))) }
+    ensures err { OnHistory S.Store office.old.conn office.new.conn
+        (λ h. OnErr result (MayHaveTaken h (shows look) (state S.Store office.new.conn))) }
 {
-    let content = content_of(&look);
+    let content = body_kind_of(&look);
     match office.look(alloc, &look) {
         Ok(Some(text)) => text_response(alloc, content, &text),
         Ok(None) => problem_response(alloc, Problem::NotFound),
@@ -55,25 +50,22 @@ fn shown<S: Alter>(
 }
 
 /// Has an arrival answered, and gives the response that shows the answer.
-fn arrived<S: Alter>(
+fn answer_arrival<S: Alter>(
     alloc: Global,
     office: &mut StoredOffice<S>,
     arrival: &Arrival,
 ) -> Result<Vec<u8>, AllocError>
-    ensures clean { doubt (state S.Store office.old.conn).is_clean ≤ doubt (state S.Store office.new.conn).is_clean }
+    ensures clean { KeepsDoubt S.Store office.old.conn office.new.conn }
     ensures refused { IsTrue office.old.failed → office.new ≡ office.old }
     ensures failed { IsTrue office.old.failed → IfOk result
         (λ text. text.items ≡ failed_response (arrives (arrival_seen arrival.now))) }
-    ensures open { HasCleanDisk (state S.Store office.new.conn) → (h : List Answered)
-        → Holding h (state S.Store office.old.conn)
-        → IsFalse office.new.failed → IsTrue (state S.Store office.new.conn).is_open }
-    ensures ok { HasCleanDisk (state S.Store office.new.conn) → (h : List Answered)
-        → Holding h (state S.Store office.old.conn)
-        → IfOk result (λ text. Responds h (arrives (arrival_seen arrival.now)) text.items
-        (state S.Store office.new.conn)) }
-    ensures err { HasCleanDisk (state S.Store office.new.conn) → (h : List Answered)
-        → Holding h (state S.Store office.old.conn)
-        → OnErr result (MayHaveTaken h (arrives (arrival_seen arrival.now)) (state S.Store office.new.conn)) }
+    ensures open { StaysOpen S.Store office.old office.new }
+    ensures ok { OnHistory S.Store office.old.conn office.new.conn
+        (λ h. IfOk result (λ text. Responds h (arrives (arrival_seen arrival.now)) text.items
+        (state S.Store office.new.conn))) }
+    ensures err { OnHistory S.Store office.old.conn office.new.conn
+        (λ h. OnErr result (MayHaveTaken h (arrives (arrival_seen arrival.now))
+        (state S.Store office.new.conn))) }
 {
     match office.arrive(alloc, &arrival.team, &arrival.key, &arrival.request) {
         Ok(answer) => answer_response(alloc, &answer),
@@ -88,23 +80,21 @@ pub(crate) fn response_to<S: Alter>(
     office: &mut StoredOffice<S>,
     call: Call,
 ) -> Result<Vec<u8>, AllocError>
-    ensures clean { doubt (state S.Store office.old.conn).is_clean ≤ doubt (state S.Store office.new.conn).is_clean }
+    ensures clean { KeepsDoubt S.Store office.old.conn office.new.conn }
     ensures refused { IsTrue office.old.failed → office.new ≡ office.old }
-    ensures failed { IsTrue office.old.failed → IfOk result (λ text. text.items ≡ failed_response (seen call)) }
-    ensures open { HasCleanDisk (state S.Store office.new.conn) → (h : List Answered)
-        → Holding h (state S.Store office.old.conn)
-        → IsFalse office.new.failed → IsTrue (state S.Store office.new.conn).is_open }
-    ensures ok { HasCleanDisk (state S.Store office.new.conn) → (h : List Answered)
-        → Holding h (state S.Store office.old.conn)
-        → IfOk result (λ text. Responds h (seen call) text.items (state S.Store office.new.conn)) }
-    ensures err { HasCleanDisk (state S.Store office.new.conn) → (h : List Answered)
-        → Holding h (state S.Store office.old.conn)
-        → OnErr result (MayHaveTaken h (seen call) (state S.Store office.new.conn)) }
+    ensures failed { IsTrue office.old.failed
+        → IfOk result (λ text. text.items ≡ failed_response (seen call)) }
+    ensures open { StaysOpen S.Store office.old office.new }
+    ensures ok { OnHistory S.Store office.old.conn office.new.conn
+        (λ h. IfOk result (λ text. Responds h (seen call) text.items
+        (state S.Store office.new.conn))) }
+    ensures err { OnHistory S.Store office.old.conn office.new.conn
+        (λ h. OnErr result (MayHaveTaken h (seen call) (state S.Store office.new.conn))) }
 {
     office.leaves_now();
     match call {
         Call::Fails(problem) => problem_response(alloc, problem),
-        Call::Shows(look) => shown(alloc, office, look),
-        Call::Arrives(arrival) => arrived(alloc, office, &arrival),
+        Call::Shows(look) => show(alloc, office, look),
+        Call::Arrives(arrival) => answer_arrival(alloc, office, &arrival),
     }
 }

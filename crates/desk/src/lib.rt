@@ -4,31 +4,33 @@
 //! office in tables, and writes its response to a sink. Its contract is the desk's theorem: what is written is the
 //! response, on the history that the tables hold, to the request that the source's bytes begin with, and the tables
 //! hold that history after it, or, where the request is an arrival, with that arrival and the answer that is written
-//! (`specs/Responding.antt`). What a request demands is decided below (`desk_call`), and so are the bytes of responses
-//! (`desk_reply`). Here the office is called (`answering.rt`) and the three are put together (`responding.rt`).
+//! (`specs/Responding.antt`). `specs/Devices.antt` says what becomes of its source and its sink, whatever the office
+//! does. What a request demands is decided below (`desk_call`), and so are the bytes of responses (`desk_reply`). Here
+//! the office is called (`answering.rt`) and the three are put together (`responding.rt`).
 //!
 //! [`serve`] takes a count of connections from a [`Listener`], and on each it does what [`serve_one`] does. Its
 //! contract says that each connection in turn leads from the history that the office's tables held before it to the one
-//! that they hold after it (`specs/Serving.antt`). A fault of a connection ends that connection alone. A [`Listener`]
-//! is in memory ([`Waiting`]) or a TCP port of this machine ([`LocalPort`]). No contract states the bytes of a socket:
-//! there the contract of [`serve`] says what becomes of the history, and that alone.
+//! that they hold after it (`specs/Serving.antt`; `Visits.antt` has what came of the listener). A fault of a connection
+//! ends that connection alone. A [`Listener`] is in memory ([`MemoryListener`]) or a TCP port of this machine
+//! ([`LocalPort`]). No contract states the bytes of a socket: there the contract of [`serve`] says what becomes of the
+//! history, and that alone.
 #![tactic(auto)]
 
 mod answering;
 mod fault;
-mod line;
 mod listener;
 mod local_port;
+mod memory_listener;
 mod responding;
 mod serving;
-mod waiting;
+mod tcp_side;
 
 pub use desk_call::Routes;
 pub use desk_types::{Counted, DeskFault, Failed, Problem, Sink, Source};
 pub use fault::ServeFault;
-pub use line::Line;
 pub use listener::Listener;
 pub use local_port::{LocalPort, listen};
+pub use memory_listener::{EndedConnection, MemoryListener};
 pub use responding::serve_one;
 pub use serving::serve;
-pub use waiting::{EndedConnection, Waiting};
+pub use tcp_side::TcpSide;

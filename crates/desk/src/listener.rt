@@ -15,7 +15,7 @@ pub trait Listener {
     /// What the peers of the connections to come send, if it states that.
     ghost coming: { Self → Option (List (List ℕ)) };
 
-    /// How each of the connections ended that have, if it states that. It may cease to.
+    /// How each of the connections ended that have ended, if it states that. It may cease to.
     ghost ended: { Self → Option (List Ending) };
 
     /// The next connection, none of whose calls has failed yet. It may wait for one for ever. The error is that none
@@ -23,10 +23,12 @@ pub trait Listener {
     fn accept(&mut self) -> Result<(Self::Request, Self::Response), Failed>
         ensures sound { IfOk result (λ c. (Self.Request.failure_count c.0 ≡ 0)
             × (Self.Response.failure_count c.1 ≡ 0)) }
-        ensures comes { IfOk result (λ c. IsAccepted (coming self.old) (coming self.new) (Self.Request.left c.0)) }
+        ensures comes { IfOk result
+            (λ c. IsAccepted (coming self.old) (coming self.new) (Self.Request.left c.0)) }
         ensures starts { IfOk result (λ c. Starts (ended self.old) (Self.Response.reported c.1)) }
         ensures kept { ended self.new ≡ ended self.old }
-        ensures failed { OnErr result ((coming self.new ≡ coming self.old) × NoneWaits (coming self.old)) };
+        ensures failed { OnErr result
+            ((coming self.new ≡ coming self.old) × NoneWaits (coming self.old)) };
 
     /// Closes the connection, after its response or its fault.
     fn finish(&mut self, request: Self::Request, response: Self::Response)

@@ -2,8 +2,8 @@
 ghost use Rattle.std.specs.Prelude.{◌≡◌, None, IfErr};
 
 use crate::fault::ServeFault;
-use crate::line::{Line, Timed, is_interrupted};
 use crate::listener::Listener;
+use crate::tcp_side::{TcpSide, Timed, is_interrupted};
 use desk_types::Failed;
 use std::io::{self, Read};
 use std::net::{Ipv4Addr, Net, Shutdown, SocketAddr, TcpListener, TcpStream};
@@ -48,7 +48,8 @@ impl<C: Clock> LocalPort<'_, C> {
         self.listener.local_addr()
     }
 
-    /// Whether there are two more file descriptors, which a connection takes.
+    /// Whether there are two more file descriptors, which a connection takes. No contract says so: what the operating
+    /// system has left is in no clause of `std`.
     pub fn has_descriptors(&self) -> bool {
         match self.listener.try_clone() {
             Ok(_first) => self.listener.try_clone().is_ok(),
@@ -96,17 +97,17 @@ fn drain<C: Clock>(stream: &mut TcpStream, clock: &C) -> io::Result<()> {
 }
 
 impl<'r, C: Clock> Listener for LocalPort<'r, C> {
-    type Request = Line<'r, C>;
+    type Request = TcpSide<'r, C>;
 
-    type Response = Line<'r, C>;
+    type Response = TcpSide<'r, C>;
 
     ghost coming = { λ _. None };
 
     ghost ended = { λ _. None };
 
-    /// A connection whose time limits can't be set fails at its first read, and so ends alone. Without a file descriptor
-    /// for its second handle none can be accepted.
-    fn accept(&mut self) -> Result<(Line<'r, C>, Line<'r, C>), Failed> {
+    /// A connection whose time limits can't be set fails at its first read, and so ends alone. Without a file
+    /// descriptor for its second handle none can be accepted.
+    fn accept(&mut self) -> Result<(TcpSide<'r, C>, TcpSide<'r, C>), Failed> {
         let Ok((stream, _)) = self.listener.accept() else {
             return Err(Failed);
         };
@@ -118,13 +119,13 @@ impl<'r, C: Clock> Listener for LocalPort<'r, C> {
             Err(_) => (None, None),
         };
         Ok((
-            Line::new(reading, self.clock),
-            Line::new(writing, self.clock),
+            TcpSide::new(reading, self.clock),
+            TcpSide::new(writing, self.clock),
         ))
     }
 
     /// Shows the peer that nothing more comes. If it has sent bytes that are unread, what it still sends is read.
-    fn finish(&mut self, mut request: Line<'r, C>, response: Line<'r, C>) {
+    fn finish(&mut self, mut request: TcpSide<'r, C>, response: TcpSide<'r, C>) {
         let (Some(reading), Some(writing)) = (&mut request.timed, &response.timed) else {
             return;
         };

@@ -1,13 +1,10 @@
 //! Serving connections in turn.
-ghost use Rattle.std.specs.Prelude.{◌≡◌, ◌<◌, ◌≤◌, List, [], ◌∷◌, length, IfOk, All, MatchResult, OnErr, IsFalse};
-ghost use Rattle.std.specs.Prelude.{IsTrue};
+ghost use Rattle.std.specs.Prelude.{◌≡◌, ◌<◌, List, [], ◌∷◌, length, IfOk, IsTrue, MatchResult, OnErr};
 ghost use Rattle.sqlite.specs.Held.{state};
-ghost use Rattle.sqlite.specs.State.{HasCleanDisk};
-ghost use Rattle.sqlite_trees.specs.View.{doubt};
-ghost use Rattle.office_history.specs.History.{Answered};
-ghost use Rattle.store.specs.Holding.{Holding};
-ghost use Rattle.desk.specs.Serving.{AreAccepted, AreClosed, FailsOnce, HasCause, IsDeclined, HasGoneOn, NoneWaits, HasServedAll};
-ghost use Rattle.desk.specs.Serving.{SaysFailure, Visit, fault_of, written_to};
+ghost use Rattle.store.specs.Calls.{KeepsDoubt, OnHistory};
+ghost use Rattle.desk.specs.Responding.{StaysOpen};
+ghost use Rattle.desk.specs.Serving.{GoesOn, HasServedAll, NoneWaits, SaysFailure, Visit, fault_of};
+ghost use Rattle.desk.specs.Visits.{HasNoVisit, HasVisits};
 
 use crate::fault::ServeFault;
 use crate::listener::Listener;
@@ -24,28 +21,22 @@ const OFFICE_FAILED: &[u8] = b"lost 72\n";
 
 /// Serves the next connection, and gives whether a fault ended it. The error is that none can be accepted: then nothing
 /// is done.
-fn attend<S: Alter, L: Listener>(
+fn serve_next<S: Alter, L: Listener>(
     alloc: Global,
     routes: &Routes,
     office: &mut StoredOffice<S>,
     listener: &mut L,
 ) -> Result<Result<(), DeskFault>, Failed>
-    ensures clean { doubt (state S.Store office.old.conn).is_clean ≤ doubt (state S.Store office.new.conn).is_clean }
+    ensures clean { KeepsDoubt S.Store office.old.conn office.new.conn }
+    ensures open { StaysOpen S.Store office.old office.new }
     ensures refused { IsTrue office.old.failed → office.new ≡ office.old }
-    ensures opened { HasCleanDisk (state S.Store office.new.conn) → (h : List Answered)
-        → Holding h (state S.Store office.old.conn)
-        → IsFalse office.new.failed → IsTrue (state S.Store office.new.conn).is_open }
     ensures served { IfOk result (λ ended. (v : Visit) × (v.fault ≡ fault_of ended)
-        × (v.office_failed ≡ office.old.failed)
-        × AreAccepted (L.coming listener.old) (L.coming listener.new) (v ∷ [])
-        × AreClosed (L.ended listener.old) (L.ended listener.new) (v ∷ [])
-        × HasCause v × IsDeclined v
-        × (HasCleanDisk (state S.Store office.new.conn) → (h : List Answered)
-        → Holding h (state S.Store office.old.conn)
-        → HasGoneOn h v.fault v.sent (written_to v) (state S.Store office.new.conn))) }
+        × HasVisits L.Listener listener.old listener.new office.old.failed office.new.failed
+        (v ∷ [])
+        × OnHistory S.Store office.old.conn office.new.conn
+        (λ h. GoesOn h v (state S.Store office.new.conn))) }
     ensures kept { OnErr result (office.new ≡ office.old) }
-    ensures none { OnErr result ((L.coming listener.new ≡ L.coming listener.old)
-        × (L.ended listener.new ≡ L.ended listener.old) × NoneWaits (L.coming listener.old)) }
+    ensures none { OnErr result (HasNoVisit L.Listener listener.old listener.new) }
 {
     let (mut request, mut response) = listener.accept()?;
     let ended = serve_one(alloc, routes, office, &mut request, &mut response);
@@ -78,21 +69,21 @@ pub fn serve<S: Alter, L: Listener, E: Write>(
     errors: &mut E,
     count: u32,
 ) -> Result<(), ServeFault>
-    ensures clean { doubt (state S.Store office.old.conn).is_clean ≤ doubt (state S.Store office.new.conn).is_clean }
-    ensures stated { SaysFailure office.old.failed office.new.failed (E.contents errors.old) (E.contents errors.new) }
-    ensures served { (visits : List Visit) × AreAccepted (L.coming listener.old) (L.coming listener.new) visits
-        × AreClosed (L.ended listener.old) (L.ended listener.new) visits
+    ensures clean { KeepsDoubt S.Store office.old.conn office.new.conn }
+    ensures stated { SaysFailure office.old.failed office.new.failed (E.contents errors.old)
+        (E.contents errors.new) }
+    ensures served { (visits : List Visit)
+        × HasVisits L.Listener listener.old listener.new office.old.failed office.new.failed visits
         × MatchResult result (λ done. length visits ≡ count)
-        (λ fault. (fault ≡ ServeFault.Accept) × (length visits < count) × NoneWaits (L.coming listener.new))
-        × All HasCause visits × FailsOnce office.old.failed visits office.new.failed × All IsDeclined visits
-        × (HasCleanDisk (state S.Store office.new.conn) → (h : List Answered)
-        → Holding h (state S.Store office.old.conn)
-        → HasServedAll h visits office.new.failed (state S.Store office.new.conn)) }
+        (λ fault. (fault ≡ ServeFault.Accept) × (length visits < count)
+        × NoneWaits (L.coming listener.new))
+        × OnHistory S.Store office.old.conn office.new.conn
+        (λ h. HasServedAll h visits office.new.failed (state S.Store office.new.conn)) }
 {
     office.leaves_now();
     for _served in 0..count {
         let had_failed = office.is_failed();
-        match attend(alloc, routes, office, listener) {
+        match serve_next(alloc, routes, office, listener) {
             Ok(_ended) => say_failure(errors, had_failed, office.is_failed()),
             Err(Failed) => return Err(ServeFault::Accept),
         }

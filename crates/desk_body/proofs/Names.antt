@@ -18,9 +18,11 @@ all_just fields (m ∷ members) = ap (λ b. is_name_of fields (string_bytes m.0)
 pub all_just_part : (fields : List Field) (members : List (String Global × Value)) →
     has_just_part fields (members_view members) ≡ list_all (λ k. is_part_name fields (string_bytes k)) (keys_of members)
 all_just_part fields [] = refl
-all_just_part fields (m ∷ members) = ap (λ b. is_part_name fields (string_bytes m.0) && b) (all_just_part fields members)
+all_just_part fields (m ∷ members) =
+    ap (λ b. is_part_name fields (string_bytes m.0) && b) (all_just_part fields members)
 
 pub all_commands : (members : List (String Global × Value)) →
-    has_just_commands (members_view members) ≡ list_all (λ k. bytes_eq (string_bytes k) (codes "commands")) (keys_of members)
+    has_just_commands (members_view members) ≡ list_all (λ k. bytes_eq (string_bytes k) (codes "commands"))
+    (keys_of members)
 all_commands [] = refl
 all_commands (m ∷ members) = ap (λ b. bytes_eq (string_bytes m.0) (codes "commands") && b) (all_commands members)

@@ -5,7 +5,7 @@ use Rattle.std.specs.Str.{chars, is_utf8}
 use Rattle.serde_json.proofs.OnLiterals.{serde_json_on_literals}
 use Rattle.serde_json.specs.Data.{boolean, number, object, member, no_members, null, string, unsigned}
 use Rattle.can_id.specs.declared.form.IdentForm.TheVariants.{Standard}
-use Rattle.catalogue.specs.Name.{is_name}
+use Rattle.dbc_words.specs.Name.{is_name}
 use Rattle.office_types.specs.declared.command.Action.TheVariants as action
 use Rattle.office_types.specs.declared.command.Task.TheVariants as task
 use Rattle.office_fields.specs.Given.{NamedValue}

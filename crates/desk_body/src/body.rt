@@ -2,7 +2,7 @@
 ghost use Rattle.std.specs.Prelude.{◌≡◌, IfOk};
 ghost use Rattle.std.specs.Option.{option_map};
 ghost use Rattle.serde_json.specs.View.{view};
-ghost use Rattle.office_fields.specs.Reading.{Reads};
+ghost use Rattle.office_fields.specs.Reading.{ReadsField};
 ghost use Rattle.desk_body.specs.Body.{command_in, json_in};
 
 use crate::members::values_in;
@@ -33,7 +33,7 @@ pub(crate) fn json_in(alloc: Global, bytes: &[u8]) -> Result<Option<Value>, Allo
 /// of two texts.
 #[tactic(auto, unfolding(crate::specs::Body::command_in))]
 pub fn command_in(alloc: Global, kind: ActionKind, body: &[u8]) -> Result<Command, Unread>
-    ensures { Reads (command_in kind body.now) result }
+    ensures { ReadsField (command_in kind body.now) result }
 {
     let Some(value) = json_in(alloc, body)? else {
         return Err(Unread::Wrong);

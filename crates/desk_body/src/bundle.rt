@@ -7,13 +7,13 @@ ghost use Rattle.std.specs.Str.{bytes_eq};
 ghost use Rattle.std.specs.Prelude.{codes};
 ghost use Rattle.serde_json.specs.View.{items_view, members_view, view};
 ghost use Rattle.office_fields.specs.Given.{named_values};
-ghost use Rattle.office_fields.specs.Reading.{Reads};
+ghost use Rattle.office_fields.specs.Reading.{ReadsField};
 ghost use Rattle.desk_body.specs.Bundle.{bundle_in, commands_in, has_just_commands, has_just_part, is_part_name};
 ghost use Rattle.desk_body.specs.Bundle.{kind_in, part_in, part_values, parts_of_items};
 
 use crate::body::json_in;
 use crate::members::{given_in, is_name_of};
-use catalogue::Items;
+use base::Items;
 use office_fields::{ActionKind, Field, GivenValue, Unread, part_of};
 use office_types::{Action, Parts};
 use serde_json::{Map, Value};
@@ -56,7 +56,7 @@ fn part_values(
 
 #[tactic(auto, unfolding(crate::specs::Bundle::part_in))]
 fn part_in(alloc: Global, value: &Value) -> Result<Action, Unread>
-    ensures { Reads (part_in (view value.now)) result }
+    ensures { ReadsField (part_in (view value.now)) result }
 {
     let Some(kind) = kind_in(value) else {
         return Err(Unread::Wrong);
@@ -68,7 +68,7 @@ fn part_in(alloc: Global, value: &Value) -> Result<Action, Unread>
 }
 
 fn parts_of_items(alloc: Global, items: &[Value]) -> Result<Items<Action>, Unread>
-    ensures { Reads (parts_of_items (items_view items.now)) result }
+    ensures { ReadsField (parts_of_items (items_view items.now)) result }
 {
     let mut parts = Items::new(alloc);
     let mut left = items;
@@ -81,7 +81,8 @@ fn parts_of_items(alloc: Global, items: &[Value]) -> Result<Items<Action>, Unrea
 }
 
 fn are_commands(members: &Map<String, Value>) -> bool
-    ensures { result ≡ list_all (λ k. bytes_eq (string_bytes k) (codes "commands")) (keys members.now) }
+    ensures { result ≡ list_all (λ k. bytes_eq (string_bytes k) (codes "commands"))
+        (keys members.now) }
 {
     members.keys().all(|name| name.as_str() == "commands")
 }
@@ -110,7 +111,7 @@ fn commands_in(value: &Value) -> Option<&[Value]>
 /// but the network, as [`command_in`](crate::command_in) reads them.
 #[tactic(auto, unfolding(crate::specs::Bundle::bundle_in))]
 pub fn bundle_in(alloc: Global, body: &[u8]) -> Result<Parts<Action>, Unread>
-    ensures { Reads (bundle_in body.now) result }
+    ensures { ReadsField (bundle_in body.now) result }
 {
     let Some(value) = json_in(alloc, body)? else {
         return Err(Unread::Wrong);

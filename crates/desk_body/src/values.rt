@@ -17,7 +17,8 @@ fn digits_of(alloc: Global, number: u64) -> Result<Vec<u8>, AllocError>
 }
 
 fn whole_bytes(alloc: Global, value: &Value) -> Result<Option<Vec<u8>>, AllocError>
-    ensures { IfOk result (λ found. option_map (λ bytes. bytes.items) found ≡ whole_bytes (view value.now)) }
+    ensures { IfOk result (λ found. option_map (λ bytes. bytes.items) found
+        ≡ whole_bytes (view value.now)) }
 {
     match value.as_u64() {
         Some(number) => Ok(Some(digits_of(alloc, number)?)),
@@ -58,7 +59,8 @@ fn has_colon(bytes: &[u8]) -> bool
 }
 
 fn joined(alloc: Global, value: &[u8], text: &[u8]) -> Result<Option<Vec<u8>>, AllocError>
-    ensures { IfOk result (λ found. option_map (λ bytes. bytes.items) found ≡ joined value.now text.now) }
+    ensures { IfOk result (λ found. option_map (λ bytes. bytes.items) found
+        ≡ joined value.now text.now) }
 {
     if has_colon(value) {
         return Ok(None);
@@ -70,7 +72,8 @@ fn joined(alloc: Global, value: &[u8], text: &[u8]) -> Result<Option<Vec<u8>>, A
 }
 
 fn pair_bytes(alloc: Global, items: &[Value]) -> Result<Option<Vec<u8>>, AllocError>
-    ensures { IfOk result (λ found. option_map (λ bytes. bytes.items) found ≡ pair_bytes (items_view items.now)) }
+    ensures { IfOk result (λ found. option_map (λ bytes. bytes.items) found
+        ≡ pair_bytes (items_view items.now)) }
 {
     match items {
         [value, text] => match (value.as_str(), text.as_str()) {
@@ -99,7 +102,8 @@ pub(crate) fn bytes_of(
     kind: FieldKind,
     value: &Value,
 ) -> Result<Option<Vec<u8>>, AllocError>
-    ensures { IfOk result (λ found. option_map (λ bytes. bytes.items) found ≡ bytes_of kind (view value.now)) }
+    ensures { IfOk result (λ found. option_map (λ bytes. bytes.items) found
+        ≡ bytes_of kind (view value.now)) }
 {
     match kind {
         FieldKind::Number

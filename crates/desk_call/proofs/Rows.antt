@@ -1,6 +1,6 @@
 -- Worked examples, computed from the definitions.
 use Rattle.std.proofs.Common.{◌≡◌, ℕ, List, [], ◌∷◌, ◌++◌, map, Some, None, codes, refl}
-use Rattle.catalogue.specs.Name.{is_name}
+use Rattle.dbc_words.specs.Name.{is_name}
 use Rattle.office_types.specs.declared.command.Task.TheVariants as task
 use Rattle.desk_types.specs.declared.problem.Problem.TheVariants.{BadRequest}
 use Rattle.desk_head.specs.Fields.{Headers, named}

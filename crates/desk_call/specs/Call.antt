@@ -3,7 +3,7 @@ use Rattle.std.specs.Prelude.{ℕ, nat_le, ◌&&◌, List, ◌∷◌, ◌++◌, 
 use Rattle.std.specs.Option.{option_map}
 use Rattle.httparse.specs.Grammar.{RequestHead}
 use Rattle.httparse.specs.Spans.{name_and_value}
-use Rattle.catalogue.specs.WholeNumber.{whole_of}
+use Rattle.base.specs.WholeNumber.{whole_of}
 use Rattle.office_types.specs.declared.command.Command.{Command}
 use Rattle.office_types.specs.declared.command.Task.TheVariants as task
 use Rattle.office_rules.specs.Reviewing.{release_limit}
@@ -87,7 +87,8 @@ abbrev pub import_of : List ℕ → List ℕ → Option Command
 import_of target body = option_map (λ net. record { net = net; task = task.Import body }) (net_in target)
 
 abbrev pub bundle_of : List ℕ → List ℕ → Option Command
-bundle_of target body = net_in target >>= λ net. option_map (λ parts. record { net = net; task = task.Bundle parts }) (bundle_in body)
+bundle_of target body = net_in target >>= λ net. option_map (λ parts. record { net = net; task = task.Bundle parts })
+    (bundle_in body)
 
 abbrev pub command_of : Posting → List ℕ → List ℕ → Option Command
 command_of (Act k) target body = command_in k body

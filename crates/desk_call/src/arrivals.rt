@@ -2,14 +2,14 @@
 ghost use Rattle.std.specs.Prelude.{◌≡◌, ◌≤◌, All, IfOk, codes, length, map};
 ghost use Rattle.httparse.specs.Spans.{IsHeaderWithin, header_bytes};
 ghost use Rattle.office_fields.specs.Given.{read_once};
-ghost use Rattle.office_fields.specs.Reading.{Reads};
+ghost use Rattle.office_fields.specs.Reading.{ReadsField};
 ghost use Rattle.office_fields.specs.Value.{plain_name_of};
 ghost use Rattle.desk_head.specs.Fields.{named};
 ghost use Rattle.desk_call.specs.Call.{arrival_of, bundle_of, command_of, content_of, import_of, key_of};
 ghost use Rattle.desk_call.specs.Read.{ReadsArrival};
 
 use crate::values::{key_of, net_in};
-use catalogue::Items;
+use base::Items;
 use desk_body::{bundle_in, command_in};
 use desk_head::{Header, Posting, header_named};
 use httparse::spans::HeaderSpan;
@@ -22,7 +22,8 @@ use std::alloc::{AllocError, Global};
 fn team_in(alloc: Global, buf: &[u8], headers: &[HeaderSpan], len: usize) -> Result<Team, Unread>
     requires fits { len ≤ length buf.now }
     requires within { All (IsHeaderWithin len) headers.now }
-    ensures { Reads (read_once plain_name_of (named (codes "team") (map (header_bytes buf.now) headers.now))) result }
+    ensures { ReadsField (read_once plain_name_of
+        (named (codes "team") (map (header_bytes buf.now) headers.now))) result }
 {
     match header_named(buf, headers, len, b"team") {
         Header::Absent => Err(Unread::Wrong),
@@ -35,7 +36,8 @@ fn team_in(alloc: Global, buf: &[u8], headers: &[HeaderSpan], len: usize) -> Res
 fn key_in(alloc: Global, buf: &[u8], headers: &[HeaderSpan], len: usize) -> Result<Key, Unread>
     requires fits { len ≤ length buf.now }
     requires within { All (IsHeaderWithin len) headers.now }
-    ensures { Reads (read_once key_of (named (codes "request-key") (map (header_bytes buf.now) headers.now))) result }
+    ensures { ReadsField (read_once key_of
+        (named (codes "request-key") (map (header_bytes buf.now) headers.now))) result }
 {
     match header_named(buf, headers, len, b"request-key") {
         Header::Absent => Err(Unread::Wrong),
@@ -45,7 +47,7 @@ fn key_in(alloc: Global, buf: &[u8], headers: &[HeaderSpan], len: usize) -> Resu
 }
 
 fn import_of(alloc: Global, target: &[u8], body: &[u8]) -> Result<Command, Unread>
-    ensures { Reads (import_of target.now body.now) result }
+    ensures { ReadsField (import_of target.now body.now) result }
 {
     let net = net_in(alloc, target)?;
     let bytes = Vec::from_slice(alloc, body)?;
@@ -56,7 +58,7 @@ fn import_of(alloc: Global, target: &[u8], body: &[u8]) -> Result<Command, Unrea
 }
 
 fn bundle_of(alloc: Global, target: &[u8], body: &[u8]) -> Result<Command, Unread>
-    ensures { Reads (bundle_of target.now body.now) result }
+    ensures { ReadsField (bundle_of target.now body.now) result }
 {
     let net = net_in(alloc, target)?;
     let parts = bundle_in(alloc, body)?;
@@ -72,7 +74,7 @@ fn command_of(
     target: &[u8],
     body: &[u8],
 ) -> Result<Command, Unread>
-    ensures { Reads (command_of posting target.now body.now) result }
+    ensures { ReadsField (command_of posting target.now body.now) result }
 {
     match posting {
         Posting::Act(kind) => command_in(alloc, kind, body),
@@ -104,7 +106,8 @@ pub(crate) fn arrival_of(
 ) -> Result<Arrival, Unread>
     requires fits { len ≤ length buf.now }
     requires within { All (IsHeaderWithin len) headers.now }
-    ensures { ReadsArrival (arrival_of posting target.now (map (header_bytes buf.now) headers.now) body.now) result }
+    ensures { ReadsArrival (arrival_of posting target.now (map (header_bytes buf.now) headers.now)
+        body.now) result }
 {
     let team = team_in(alloc, buf, headers, len)?;
     let key = key_in(alloc, buf, headers, len)?;

@@ -6,10 +6,10 @@ use office_types::Look;
 /// What a request is to the office.
 #[derive(Drop)]
 pub enum Call {
-    /// Nothing: the problem answers it.
+    /// The request asks nothing of the office: the problem answers it.
     Fails(Problem),
-    /// To show something.
+    /// It asks the office to show something.
     Shows(Look),
-    /// To answer an arrival.
+    /// It asks the office to answer an arrival.
     Arrives(Arrival),
 }

@@ -1,5 +1,5 @@
 //! What targets show.
-ghost use Rattle.office_fields.specs.Reading.{Reads};
+ghost use Rattle.office_fields.specs.Reading.{ReadsField};
 ghost use Rattle.desk_call.specs.Call.{chart_in, look_of, release_in};
 
 use crate::values::{name_of, net_in, release_number};
@@ -9,7 +9,7 @@ use office_types::Look;
 use std::alloc::Global;
 
 fn release_in(alloc: Global, target: &[u8]) -> Result<Look, Unread>
-    ensures { Reads (release_in target.now) result }
+    ensures { ReadsField (release_in target.now) result }
 {
     let net = net_in(alloc, target)?;
     let number = release_number(second_parameter(target))?;
@@ -17,7 +17,7 @@ fn release_in(alloc: Global, target: &[u8]) -> Result<Look, Unread>
 }
 
 fn chart_in(alloc: Global, target: &[u8]) -> Result<Look, Unread>
-    ensures { Reads (chart_in target.now) result }
+    ensures { ReadsField (chart_in target.now) result }
 {
     let net = net_in(alloc, target)?;
     let message = name_of(alloc, second_parameter(target))?;
@@ -26,7 +26,7 @@ fn chart_in(alloc: Global, target: &[u8]) -> Result<Look, Unread>
 
 /// What the target shows. `Wrong` where a parameter hasn't its form.
 pub(crate) fn look_of(alloc: Global, showing: Showing, target: &[u8]) -> Result<Look, Unread>
-    ensures { Reads (look_of showing target.now) result }
+    ensures { ReadsField (look_of showing target.now) result }
 {
     match showing {
         Showing::Nets => Ok(Look::Nets),

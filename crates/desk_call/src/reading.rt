@@ -1,36 +1,34 @@
 //! Reading one request.
-ghost use Rattle.std.specs.Prelude.{◌≡◌, ◌+◌, ◌-◌, ◌<◌, ◌≤◌, ◌^◌, ℕ, List, true, false, IfOk, OnOk, IsErrOf, IfSome};
-ghost use Rattle.std.specs.Prelude.{vec_len, drop};
-ghost use Rattle.std.specs.Io.KnownBytes.{Consumes, IsAtEnd};
+ghost use Rattle.std.specs.Prelude.{◌≡◌, ◌-◌, ◌<◌, ◌≤◌, ◌^◌, true, false, IfOk, OnOk, IsErrOf, vec_len};
+ghost use Rattle.std.specs.Io.KnownBytes.{IsAtEnd};
 ghost use Rattle.httparse.specs.Grammar.{RequestHead};
 ghost use Rattle.httparse.specs.Spans.{IsRequestAt};
-ghost use Rattle.desk_types.specs.Moved.{GivesAtMost, Moves};
+ghost use Rattle.desk_types.specs.Moved.{Moves};
+ghost use Rattle.desk_types.specs.Reading.{ReadsAtMost};
 ghost use Rattle.desk_head.specs.Head.{IsHeadAt};
 ghost use Rattle.desk_head.specs.Limits.{request_limit};
 ghost use Rattle.desk_head.specs.Demand.{demand_of};
 ghost use Rattle.desk_call.specs.Call.{call_of, seen};
-ghost use Rattle.desk_call.specs.Read.{IsRequest, IsNotWhole};
+ghost use Rattle.desk_call.specs.Read.{IsRequested, StopsShort};
 
 use crate::call::Call;
 use crate::calling::call_by;
 use desk_head::{Demand, HEADER_LIMIT, Routes, body_size, demand_at, empty_headers, read_head};
-use desk_types::{DeskFault, Problem, Source, take_more};
+use desk_types::{Problem, ReadFault, Source, take_more};
 use httparse::spans::{HeaderSpan, RequestSpans};
 use std::alloc::{AllocError, Global};
 
 /// Reads until so many bytes are there, and says whether they are: else the source is at its end.
-fn read_until<R: Source>(source: &mut R, got: &mut Vec<u8>, until: usize) -> Result<bool, DeskFault>
+fn read_until<R: Source>(source: &mut R, got: &mut Vec<u8>, until: usize) -> Result<bool, ReadFault>
     requires { R.failure_count source.old < 2 ^ 64 - 1 }
-    ensures most { GivesAtMost (R.left source.old) (R.left source.new) (until - vec_len got.old) }
-    ensures moves { OnOk result (Moves (R.left source.old) (R.left source.new) got.old.items got.new.items) }
+    ensures reads { ReadsAtMost R.Source source.old source.new (until - vec_len got.old) result }
+    ensures moves { OnOk result
+        (Moves (R.left source.old) (R.left source.new) got.old.items got.new.items) }
     ensures whole { result ≡ Ok true → until ≤ vec_len got.new }
     ensures end { result ≡ Ok false → IsAtEnd (R.left source.new) × (vec_len got.new < until) }
-    ensures kept { OnOk result (R.failure_count source.new ≡ R.failure_count source.old) }
-    ensures read { IsErrOf result DeskFault.Read
-        → Moves (R.left source.old) (R.left source.new) got.old.items got.new.items × (vec_len got.new < until) }
-    ensures failed { IsErrOf result DeskFault.Read → R.failure_count source.new ≡ R.failure_count source.old + 1 }
-    ensures memory { IsErrOf result DeskFault.Memory → R.failure_count source.new ≡ R.failure_count source.old }
-    ensures never { IsErrOf result DeskFault.Write → ⊥ }
+    ensures failed { IsErrOf result ReadFault.Read
+        → Moves (R.left source.old) (R.left source.new) got.old.items got.new.items
+        × (vec_len got.new < until) }
 {
     while got.len() < until {
         let room = until - got.len();
@@ -54,7 +52,8 @@ fn call_read(
     rest: &[u8],
 ) -> Result<Call, AllocError>
     requires { IsHeadAt got.now headers.now spans }
-    ensures { IfOk result (λ call. (h : RequestHead) → IsRequestAt got.now headers.now spans h → demand ≡ demand_of h
+    ensures { IfOk result (λ call. (h : RequestHead) → IsRequestAt got.now headers.now spans h
+        → demand ≡ demand_of h
         → seen call ≡ call_of h rest.now) }
 {
     let target = spans.path.of(got);
@@ -69,16 +68,12 @@ pub fn read_call<R: Source>(
     alloc: Global,
     routes: &Routes,
     source: &mut R,
-) -> Result<Call, DeskFault>
+) -> Result<Call, ReadFault>
     requires { R.failure_count source.old < 2 ^ 64 - 1 }
-    ensures most { GivesAtMost (R.left source.old) (R.left source.new) request_limit }
-    ensures ok { IfOk result (λ call. IfSome (R.left source.old) (λ input. IsRequest input (seen call))) }
-    ensures kept { OnOk result (R.failure_count source.new ≡ R.failure_count source.old) }
-    ensures read { IsErrOf result DeskFault.Read → (bytes : List ℕ)
-        × Consumes (R.left source.old) (R.left source.new) bytes × IsNotWhole bytes }
-    ensures failed { IsErrOf result DeskFault.Read → R.failure_count source.new ≡ R.failure_count source.old + 1 }
-    ensures memory { IsErrOf result DeskFault.Memory → R.failure_count source.new ≡ R.failure_count source.old }
-    ensures never { IsErrOf result DeskFault.Write → ⊥ }
+    ensures reads { ReadsAtMost R.Source source.old source.new request_limit result }
+    ensures ok { IfOk result (λ call. IsRequested (R.left source.old) (seen call)) }
+    ensures failed { IsErrOf result ReadFault.Read
+        → StopsShort (R.left source.old) (R.left source.new) }
 {
     let mut got = Vec::new(alloc);
     let mut headers = empty_headers();
@@ -89,7 +84,7 @@ pub fn read_call<R: Source>(
     };
     let demand = demand_at(routes, &got, &headers, spans);
     let Ok(mut rest) = Vec::from_slice(alloc, &got[spans.len..]) else {
-        return Err(DeskFault::Memory);
+        return Err(ReadFault::Memory);
     };
     match read_until(source, &mut rest, body_size(demand) as usize) {
         Err(e) => return Err(e),
@@ -97,6 +92,6 @@ pub fn read_call<R: Source>(
     }
     match call_read(alloc, demand, &got, &headers, spans, &rest) {
         Ok(call) => Ok(call),
-        Err(_) => Err(DeskFault::Memory),
+        Err(_) => Err(ReadFault::Memory),
     }
 }

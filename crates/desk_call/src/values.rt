@@ -1,10 +1,11 @@
 //! Names, keys and numbers in a head.
 ghost use Rattle.std.specs.Prelude.{◌≡◌};
-ghost use Rattle.office_fields.specs.Reading.{Reads};
+ghost use Rattle.office_fields.specs.Reading.{ReadsField};
 ghost use Rattle.office_fields.specs.Value.{name_of, plain_name_of};
 ghost use Rattle.desk_call.specs.Call.{key_of, net_in, release_number};
 
-use catalogue::{Name, whole_number};
+use base::whole_number;
+use dbc_words::Name;
 use desk_head::first_parameter;
 use office_fields::Unread;
 use office_history::Key;
@@ -12,35 +13,35 @@ use office_types::{NetName, RELEASE_LIMIT};
 use std::alloc::Global;
 
 fn net_of(alloc: Global, bytes: &[u8]) -> Result<NetName, Unread>
-    ensures { Reads (plain_name_of bytes.now) result }
+    ensures { ReadsField (plain_name_of bytes.now) result }
 {
     NetName::of(alloc, bytes)?.ok_or(Unread::Wrong)
 }
 
 /// The network that the target names.
 pub(crate) fn net_in(alloc: Global, target: &[u8]) -> Result<NetName, Unread>
-    ensures { Reads (net_in target.now) result }
+    ensures { ReadsField (net_in target.now) result }
 {
     net_of(alloc, first_parameter(target))
 }
 
 /// The name of a message.
 pub(crate) fn name_of(alloc: Global, bytes: &[u8]) -> Result<Name, Unread>
-    ensures { Reads (name_of bytes.now) result }
+    ensures { ReadsField (name_of bytes.now) result }
 {
     Name::of(alloc, bytes)?.ok_or(Unread::Wrong)
 }
 
 /// The key of a request.
 pub(crate) fn key_of(alloc: Global, bytes: &[u8]) -> Result<Key, Unread>
-    ensures { Reads (key_of bytes.now) result }
+    ensures { ReadsField (key_of bytes.now) result }
 {
     Key::of(alloc, bytes)?.ok_or(Unread::Wrong)
 }
 
 /// The number of a release.
 pub(crate) fn release_number(bytes: &[u8]) -> Result<u32, Unread>
-    ensures { Reads (release_number bytes.now) result }
+    ensures { ReadsField (release_number bytes.now) result }
 {
     match whole_number(bytes) {
         Some(number) if 1 <= number && number <= RELEASE_LIMIT => Ok(number),

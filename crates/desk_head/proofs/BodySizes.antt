@@ -1,5 +1,6 @@
 -- A body that is read is never longer than the limit, whatever the head.
-use Rattle.std.proofs.Common.{◌≡◌, ℕ, ◌≤◌, List, [], ◌∷◌, map, codes, cond, Bool, true, false, not, ◌==◌, ◌&&◌, length, Option, Some, None, Result, Ok, Err, IfOk, nat_le, arith}
+use Rattle.std.proofs.Common.{◌≡◌, ℕ, ◌≤◌, List, [], ◌∷◌, map, codes, cond, Bool, true, false, not, ◌==◌, ◌&&◌, length}
+use Rattle.std.proofs.Common.{Option, Some, None, Result, Ok, Err, IfOk, nat_le, arith}
 use Rattle.std.proofs.lemmas.Bool.{cond_both}
 use Rattle.std.proofs.lemmas.Bool.Decides.{nat_tests}
 use Rattle.std.specs.Char.{is_ascii_digit}
@@ -7,7 +8,7 @@ use Rattle.std.specs.List.{list_all}
 use Rattle.std.specs.Str.{bytes_eq}
 use Rattle.httparse.specs.Grammar.{RequestHead}
 use Rattle.httparse.specs.Spans.{name_and_value}
-use Rattle.catalogue.specs.WholeNumber.{whole_of}
+use Rattle.base.specs.WholeNumber.{whole_of}
 use Rattle.desk_types.specs.declared.problem.Problem.{Problem}
 use Rattle.desk_types.specs.declared.problem.Problem.TheVariants.{BadRequest, TooLarge, WrongMethod}
 use Rattle.desk_head.specs.Demand.{demand_of, demand_by, body_size, does_by}
@@ -40,7 +41,8 @@ value_is_small (v ∷ []) =
     small_where (not (length v == 0) && nat_le (length v) 19 && list_all is_ascii_digit v) (whole_of v)
 value_is_small (v ∷ w ∷ values) = tt
 
-unless_is_small : (codings : List (List ℕ)) (found : Result ℕ Problem) → IsSmall found → IsSmall (unless_coded codings found)
+unless_is_small : (codings : List (List ℕ)) (found : Result ℕ Problem) → IsSmall found
+    → IsSmall (unless_coded codings found)
 unless_is_small [] found small = small
 unless_is_small (v ∷ values) found small = tt
 

@@ -1,9 +1,10 @@
 -- Header fields by their names (RFC 9110, section 5.1), and the length of a body (section 8.6).
-use Rattle.std.specs.Prelude.{◌≡◌, ◌<◌, ℕ, ◌==◌, nat_le, Bool, ◌&&◌, not, List, [], ◌∷◌, map, length, codes, cond, Option, Some, None, Result, Ok, Err, if◌then◌else◌}
+use Rattle.std.specs.Prelude.{◌≡◌, ◌<◌, ℕ, ◌==◌, nat_le, Bool, ◌&&◌, not, List, [], ◌∷◌, map, length, codes, cond}
+use Rattle.std.specs.Prelude.{Option, Some, None, Result, Ok, Err, if◌then◌else◌}
 use Rattle.std.specs.Char.{is_ascii_digit, to_ascii_lowercase}
 use Rattle.std.specs.List.{list_all}
 use Rattle.std.specs.Str.{bytes_eq}
-use Rattle.catalogue.specs.WholeNumber.{whole_of}
+use Rattle.base.specs.WholeNumber.{whole_of}
 use Rattle.desk_types.specs.declared.problem.Problem.{Problem}
 use Rattle.desk_types.specs.declared.problem.Problem.TheVariants.{BadRequest, NoLength, TooLarge}
 use Rattle.desk_head.specs.Limits.{body_limit}

@@ -1,6 +1,6 @@
 pub mod Limits
 pub mod Head
-pub mod Sight
+pub mod HeadState
 pub mod Fields
 pub mod Target
 pub mod Demand

@@ -7,7 +7,7 @@ use Rattle.matchit.specs.Router.{RouteOf, route_from}
 use Rattle.matchit.specs.Rows.{RowsOf}
 use Rattle.matchit.specs.Seek.{first}
 use Rattle.matchit.specs.declared.error.InsertError.{InsertError}
-use Rattle.catalogue.specs.Split.{split_once}
+use Rattle.base.specs.Split.{split_once}
 use Rattle.office_fields.specs.Kind.{kind_of_word}
 use Rattle.office_fields.specs.declared.kind.CommandKind.{CommandKind}
 use Rattle.office_fields.specs.declared.kind.CommandKind.TheVariants as command

@@ -16,11 +16,11 @@ use httparse::spans::{HeaderSpan, RequestSpans};
 /// What the head of a request demands.
 #[derive(Clone, Copy)]
 pub enum Demand {
-    /// Nothing: a problem answers it.
+    /// The head demands nothing that there is: a problem answers it.
     Fails(Problem),
-    /// To show something.
+    /// It demands to show something.
     Shows(Showing),
-    /// To do something, with a body of so many bytes.
+    /// It demands to do something, with a body of so many bytes.
     Does(Posting, u32),
 }
 

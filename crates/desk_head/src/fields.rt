@@ -8,11 +8,11 @@ use httparse::spans::HeaderSpan;
 /// What a request has under the name of a header.
 #[derive(Clone, Copy, Debug)]
 pub enum Header<'b> {
-    /// No header of this name.
+    /// There is no header of this name.
     Absent,
-    /// One, with this value. Spaces and tabs round it don't count.
+    /// There is one, with this value. Spaces and tabs round it don't count.
     Once(&'b [u8]),
-    /// Two or more.
+    /// There are two or more.
     Double,
 }
 

@@ -7,7 +7,7 @@ ghost use Rattle.desk_head.specs.Fields.{body_length, length_in, taken_length};
 
 use crate::fields::{Header, header_named};
 use crate::limits::BODY_LIMIT;
-use catalogue::whole_number;
+use base::whole_number;
 use desk_types::Problem;
 use httparse::spans::HeaderSpan;
 

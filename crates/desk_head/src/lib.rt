@@ -1,6 +1,6 @@
 //! The head of a request (RFC 9112), and what it demands.
 //!
-//! [`look`] finds the head at the front of bytes, by `httparse`, within the desk's limits, and [`read_head`] reads a
+//! [`parse_head`] finds the head at the front of bytes, by `httparse`, within the desk's limits, and [`read_head`] reads a
 //! source until the head is there or can't come. [`demand_at`] says what the head demands: which [`Endpoint`],
 //! by the target's route in `matchit`'s router ([`Routes`]), and how long the body is; or which problem answers it.
 //! [`header_named`] gives the value of a header field, [`first_parameter`] and [`second_parameter`] the parameters of
@@ -15,7 +15,7 @@ mod endpoint;
 mod fields;
 mod length;
 mod limits;
-mod looking;
+mod parsing;
 mod parts;
 mod reading;
 mod routes;
@@ -24,7 +24,7 @@ pub use demand::{Demand, body_size, demand_at};
 pub use endpoint::{Endpoint, Posting, Showing};
 pub use fields::{Header, header_named};
 pub use limits::{BODY_LIMIT, HEAD_LIMIT, HEADER_LIMIT};
-pub use looking::{Sight, empty_headers, look};
+pub use parsing::{HeadState, empty_headers, parse_head};
 pub use parts::{first_parameter, second_parameter};
 pub use reading::read_head;
 pub use routes::Routes;

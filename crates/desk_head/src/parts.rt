@@ -2,7 +2,7 @@
 ghost use Rattle.std.specs.Prelude.{◌≡◌};
 ghost use Rattle.desk_head.specs.Target.{first_parameter, front_part, later_parts, second_parameter};
 
-use catalogue::split_once;
+use base::split_once;
 
 fn front_part(target: &[u8]) -> &[u8]
     ensures { result.now ≡ front_part target.now }

@@ -6,10 +6,11 @@ use Rattle.serde_json.specs.Written.{compact_text}
 use Rattle.office_types.specs.declared.refusal.Refusal.TheVariants as no
 use Rattle.office_types.specs.declared.reply.Reply.TheVariants.{Done, Number, Start, Counts, Release, Refused}
 use Rattle.office_history.specs.declared.arrival.Answer.TheVariants.{Reply, KeyReused}
-use Rattle.desk_types.specs.declared.problem.Problem.TheVariants.{BadRequest, NotFound, WrongMethod, NoLength, TooLarge, TryAgain}
+use Rattle.desk_types.specs.declared.problem.Problem.TheVariants.{BadRequest, NotFound, WrongMethod, NoLength, TooLarge}
+use Rattle.desk_types.specs.declared.problem.Problem.TheVariants.{TryAgain}
 use Rattle.desk_reply.specs.Reply.{answer_data, answer_status, problem_data}
 use Rattle.desk_reply.specs.Response.{answer_response, header_lines, problem_response, status_line, text_response}
-use Rattle.desk_reply.specs.declared.responses.Content.TheVariants.{Plain, Bytes}
+use Rattle.desk_reply.specs.declared.responses.BodyKind.TheVariants.{Plain, Bytes}
 
 number : answer_response (Reply (Number 256))
     ≡ codes "HTTP/1.1 200 OK\r\nContent-Type: application/json\r\n"

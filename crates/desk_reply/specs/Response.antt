@@ -7,10 +7,10 @@ use Rattle.office_history.specs.declared.arrival.Answer.{Answer}
 use Rattle.desk_types.specs.Problem.{problem_status}
 use Rattle.desk_types.specs.declared.problem.Problem.{Problem}
 use Rattle.desk_reply.specs.Reply.{answer_data, answer_status, problem_data}
-use Rattle.desk_reply.specs.declared.responses.Content.{Content}
-use Rattle.desk_reply.specs.declared.responses.Content.TheVariants.{Json, Plain, Bytes}
+use Rattle.desk_reply.specs.declared.responses.BodyKind.{BodyKind}
+use Rattle.desk_reply.specs.declared.responses.BodyKind.TheVariants.{Json, Plain, Bytes}
 
-abbrev pub content_type : Content → List ℕ
+abbrev pub content_type : BodyKind → List ℕ
 content_type Json = codes "application/json"
 content_type Plain = codes "text/plain"
 content_type Bytes = codes "application/octet-stream"
@@ -32,7 +32,7 @@ header_lines kind size =
     ++ (codes "Connection: close" ++ (line_end ++ line_end)))))))
 
 -- the response of a status with a body
-abbrev pub response : ℕ → Content → List ℕ → List ℕ
+abbrev pub response : ℕ → BodyKind → List ℕ → List ℕ
 response status content body =
     status_line status (phrase_of status) ++ header_lines (content_type content) (length body) ++ body
 
@@ -47,5 +47,5 @@ problem_response p = json_response (problem_status p) (problem_data p)
 unfoldable pub answer_response : Answer → List ℕ
 answer_response a = json_response (answer_status a) (answer_data a)
 
-unfoldable pub text_response : Content → List ℕ → List ℕ
+unfoldable pub text_response : BodyKind → List ℕ → List ℕ
 text_response content body = response 200 content body

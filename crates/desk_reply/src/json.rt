@@ -57,7 +57,8 @@ fn part_values(alloc: Global, parts: &[PartReply]) -> Result<Vec<Value>, AllocEr
 }
 
 fn bundle_value(alloc: Global, parts: &[PartReply]) -> Result<Value, AllocError>
-    ensures { IfOk result (λ v. view v ≡ object (member (codes "bundle") (array (parts_data parts.now)) no_members)) }
+    ensures { IfOk result (λ v. view v
+        ≡ object (member (codes "bundle") (array (parts_data parts.now)) no_members)) }
 {
     let values = part_values(alloc, parts)?;
     json!(in alloc; {"bundle": Value::Array(values)})

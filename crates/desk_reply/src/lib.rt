@@ -12,4 +12,4 @@ mod json;
 mod responses;
 mod text;
 
-pub use responses::{Content, answer_response, problem_response, text_response};
+pub use responses::{BodyKind, answer_response, problem_response, text_response};

@@ -17,7 +17,7 @@ use std::alloc::{AllocError, Global};
 
 /// What a body is.
 #[derive(Clone, Copy, Debug, PartialEq, Eq)]
-pub enum Content {
+pub enum BodyKind {
     /// JSON: replies and problems.
     Json,
     /// Lines of text: networks, tables and charts.
@@ -31,7 +31,7 @@ fn json_response(alloc: Global, status: StatusCode, value: &Value) -> Result<Vec
     ensures { IfOk result (λ text. text.items ≡ json_response status (view value.now)) }
 {
     let body = value.to_string(alloc)?;
-    response(alloc, status, Content::Json, body.as_bytes())
+    response(alloc, status, BodyKind::Json, body.as_bytes())
 }
 
 fn status_of_problem(problem: Problem) -> StatusCode
@@ -87,7 +87,7 @@ pub fn answer_response(alloc: Global, answer: &Answer) -> Result<Vec<u8>, AllocE
 
 /// The response that shows a text: 200.
 #[tactic(auto, unfolding(crate::specs::Response::text_response))]
-pub fn text_response(alloc: Global, content: Content, body: &[u8]) -> Result<Vec<u8>, AllocError>
+pub fn text_response(alloc: Global, content: BodyKind, body: &[u8]) -> Result<Vec<u8>, AllocError>
     ensures { IfOk result (λ text. text.items ≡ text_response content body.now) }
 {
     response(alloc, StatusCode::OK, content, body)

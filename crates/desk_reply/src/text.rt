@@ -2,7 +2,7 @@
 ghost use Rattle.std.specs.Prelude.{◌≡◌, IfOk, string_bytes};
 ghost use Rattle.desk_reply.specs.Response.{content_type, header_lines, phrase_of, response, status_line};
 
-use crate::responses::Content;
+use crate::responses::BodyKind;
 use http::StatusCode;
 use std::alloc::{AllocError, Global};
 
@@ -15,13 +15,13 @@ fn phrase_of(status: StatusCode) -> &'static str
     }
 }
 
-fn content_type(content: Content) -> &'static str
+fn content_type(content: BodyKind) -> &'static str
     ensures { result.now ≡ content_type content }
 {
     match content {
-        Content::Json => "application/json",
-        Content::Plain => "text/plain",
-        Content::Bytes => "application/octet-stream",
+        BodyKind::Json => "application/json",
+        BodyKind::Plain => "text/plain",
+        BodyKind::Bytes => "application/octet-stream",
     }
 }
 
@@ -43,7 +43,7 @@ fn header_lines(alloc: Global, kind: &str, size: usize) -> Result<String, AllocE
 pub(crate) fn response(
     alloc: Global,
     status: StatusCode,
-    content: Content,
+    content: BodyKind,
     body: &[u8],
 ) -> Result<Vec<u8>, AllocError>
     ensures { IfOk result (λ text. text.items ≡ response status content body.now) }

@@ -47,7 +47,7 @@ use devices::try_devices;
 use loopback::{goes_over_port, serve_over_port};
 use pieces::Ending;
 use requests::{Titled, titled_requests};
-use responses::{agree_in_pieces, agree_in_two, opened, response};
+use responses::{agree_in_pieces, agree_in_two, open_office, response};
 use sqlite::{Alter, Connection};
 use std::fs;
 use std::io::{self, Write};
@@ -87,7 +87,7 @@ fn serve<S: Alter>(
 fn serve_all(rt: &HostRuntime) -> io::Result<()> {
     let file = fs::read(rt, "requests")?;
     let requests = titled_requests(rt.alloc(), &file)?;
-    let mut office = opened(Connection::open_in_memory(rt.alloc())?)?;
+    let mut office = open_office(Connection::open_in_memory(rt.alloc())?)?;
     for titled in requests.iter() {
         if !goes_over_port(titled) {
             serve(rt, &mut office, titled)?;

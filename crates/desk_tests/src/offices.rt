@@ -5,7 +5,7 @@
 use crate::disks::{Taking, connected, taken};
 use crate::eleven::{request, response};
 use crate::lists::{List, Step, is_live_after};
-use catalogue::Name;
+use dbc_words::Name;
 use desk::{Counted, Routes, serve_one};
 use office_history::{Answer, Arrival};
 use office_types::{Look, NetName};
@@ -53,7 +53,7 @@ impl Watch for Nobody {
 }
 
 /// An office on the connection.
-fn opened<S: Alter + Drop>(
+fn open_office<S: Alter + Drop>(
     alloc: Global,
     conn: Connection<S>,
     opening: Opening,
@@ -81,7 +81,7 @@ fn try_opened<S: Alter + Drop, T: Trial>(
     opening: Opening,
     trial: &mut T,
 ) -> (Result<bool, Lost>, Connection<S>) {
-    match opened(alloc, conn, opening) {
+    match open_office(alloc, conn, opening) {
         Ok(mut office) => {
             let passed = trial.is_passed(alloc, &mut office);
             (Ok(passed), office.close())
@@ -129,7 +129,7 @@ fn is_reply(alloc: Global, answer: &Answer, words: &str) -> bool {
     }
 }
 
-fn arrived<S: Alter>(
+fn answer_arrival<S: Alter>(
     alloc: Global,
     office: &mut StoredOffice<S>,
     arrival: &Arrival,
@@ -194,7 +194,7 @@ fn send<S: Alter>(
 ) -> Outcome {
     match way {
         Way::Arrive => match (list.arrivals.get(number), list.steps.get(number)) {
-            (Some(arrival), Some(step)) => arrived(alloc, office, arrival, step.reply),
+            (Some(arrival), Some(step)) => answer_arrival(alloc, office, arrival, step.reply),
             _ => Outcome::Wrong,
         },
         Way::Serve => served(alloc, office, number),

@@ -1,5 +1,5 @@
 //! The requests of the file.
-use catalogue::split_once;
+use base::split_once;
 use std::alloc::{AllocError, Global};
 
 /// A request, with its line of title.

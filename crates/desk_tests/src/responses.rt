@@ -7,7 +7,7 @@ use std::io::{self, ErrorKind};
 use store::StoredOffice;
 
 /// A new office on the connection.
-pub(crate) fn opened<S: Alter + Drop>(conn: Connection<S>) -> io::Result<StoredOffice<S>> {
+pub(crate) fn open_office<S: Alter + Drop>(conn: Connection<S>) -> io::Result<StoredOffice<S>> {
     if !conn.is_autocommit() {
         return Err(ErrorKind::InvalidData)?;
     }

@@ -3,7 +3,7 @@ use crate::loopback::goes_over_port;
 use crate::pieces::Ending;
 use crate::requests::Titled;
 use crate::responses::response;
-use desk::{EndedConnection, Routes, ServeFault, Waiting, serve};
+use desk::{EndedConnection, MemoryListener, Routes, ServeFault, serve};
 use sqlite::Alter;
 use std::alloc::Global;
 use std::io::{self, ErrorKind};
@@ -19,7 +19,7 @@ fn ended_in_one_call<S: Alter>(
         return Err(ErrorKind::InvalidData)?;
     };
     let routes = Routes::new(alloc)?;
-    let mut waiting = Waiting::new(alloc, requests);
+    let mut waiting = MemoryListener::new(alloc, requests);
     let mut errors = Vec::new(alloc);
     let served = serve(
         alloc,

@@ -1,7 +1,8 @@
 -- Statuses (RFC 9110, section 15) and texts of problems.
 use Rattle.std.specs.Prelude.{ℕ, List, codes}
 use Rattle.desk_types.specs.declared.problem.Problem.{Problem}
-use Rattle.desk_types.specs.declared.problem.Problem.TheVariants.{BadRequest, NotFound, WrongMethod, NoLength, TooLarge, TryAgain}
+use Rattle.desk_types.specs.declared.problem.Problem.TheVariants.{BadRequest, NotFound, WrongMethod, NoLength, TooLarge}
+use Rattle.desk_types.specs.declared.problem.Problem.TheVariants.{TryAgain}
 
 abbrev pub problem_status : Problem → ℕ
 problem_status BadRequest = 400

@@ -1,6 +1,7 @@
 //! Devices that count their failures.
-ghost use Rattle.std.specs.Prelude.{◌≡◌, ℕ, ◌+◌, ◌<◌, ◌≤◌, ◌^◌, ◌-◌, List, Option, Ok, length, IfOk, OnOk, OnErr};
+ghost use Rattle.std.specs.Prelude.{◌≡◌, ℕ, ◌+◌, ◌<◌, ◌≤◌, ◌^◌, ◌-◌, List, Option, Ok, length, IfOk, OnErr};
 ghost use Rattle.std.specs.Io.KnownBytes.{ReadConsumes, WriteAppends};
+ghost use Rattle.desk_types.specs.Counts.{CountsFailure};
 
 use std::io::{Read, Write};
 
@@ -21,8 +22,7 @@ pub trait Source {
         requires { failure_count self.old < 2 ^ 64 - 1 }
         ensures within { IfOk result (λ n. n ≤ length buf.new) }
         ensures bytes { ReadConsumes (left self.old) (left self.new) result buf.new }
-        ensures taken { OnOk result (failure_count self.new ≡ failure_count self.old) }
-        ensures failed { OnErr result (failure_count self.new ≡ failure_count self.old + 1) };
+        ensures count { CountsFailure result (failure_count self.old) (failure_count self.new) };
 
     /// How many of its calls failed.
     fn failures(&self) -> u64
@@ -43,8 +43,7 @@ pub trait Sink {
         ensures within { IfOk result (λ n. n ≤ length bytes.now) }
         ensures some { 0 < length bytes.now → IfOk result (λ n. 0 < n) }
         ensures bytes { WriteAppends (reported self.old) (reported self.new) result bytes.now }
-        ensures taken { OnOk result (failure_count self.new ≡ failure_count self.old) }
-        ensures failed { OnErr result (failure_count self.new ≡ failure_count self.old + 1) };
+        ensures count { CountsFailure result (failure_count self.old) (failure_count self.new) };
 
     /// How many of its calls failed.
     fn failures(&self) -> u64
@@ -74,7 +73,7 @@ pub struct Counted<T> {
 }
 
 impl<T> Counted<T> {
-    /// The device, none of whose calls failed yet.
+    /// A device over this reader or writer, none of whose calls failed yet.
     pub fn new(device: T) -> Counted<T>
         ensures device { result.device ≡ device }
         ensures count { result.count ≡ 0 }
@@ -82,7 +81,7 @@ impl<T> Counted<T> {
         Counted { device, count: 0 }
     }
 
-    /// The device.
+    /// The reader or writer itself.
     pub fn into_inner(self) -> T
         ensures { result ≡ self.device }
     {

@@ -20,7 +20,7 @@ pub enum Problem {
 }
 
 impl Problem {
-    /// The status of its response.
+    /// The status of the response to this problem.
     pub fn status(self) -> u16
         ensures { result ≡ problem_status self }
     {
@@ -34,7 +34,7 @@ impl Problem {
         }
     }
 
-    /// What its response says.
+    /// What the response to this problem says.
     pub fn text(self) -> &'static str
         ensures { result.now ≡ problem_text self }
     {

@@ -1,8 +1,10 @@
 //! What changes a message, a sheet or a list and can't be refused.
 use crate::lists::put_all;
 use crate::made::{add_value, decimal, message, name, signal};
+use base::Items;
 use bitlayout::Mux;
-use catalogue::{Items, Message, Sheet, Signal, Spn, ValueTexts, same_messages_are_equal};
+use dbc_sheet::{Message, Sheet, Signal, ValueTexts, same_messages_are_equal};
+use dbc_words::Spn;
 use std::alloc::{AllocError, Global};
 
 /// A message with the multiplexor `Sel` and the signal `Val` under 1.

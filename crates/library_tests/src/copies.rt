@@ -1,6 +1,7 @@
 //! A sheet of the greatest size, and its copy.
 use crate::made::message;
-use catalogue::{MESSAGE_LIMIT, Sheet};
+use dbc_sheet::Sheet;
+use dbc_words::MESSAGE_LIMIT;
 use std::alloc::Global;
 
 /// Whether the sheet takes a message of the number, whose name is `M` and the number.

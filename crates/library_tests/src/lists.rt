@@ -1,5 +1,5 @@
-//! Lists in the order of a key, and edits of lists. Lists of identifiers are in `catalogue/proofs/NameRows.antt`.
-use catalogue::{Copying, Items, Slot, put_item, slot_of};
+//! Lists in the order of a key, and edits of lists. Lists of identifiers are in `can_id/proofs/ListRows.antt`.
+use base::{Copying, Items, Slot, put_item, slot_of};
 use std::alloc::{AllocError, Global};
 
 /// The numbers in ascending order, with each number once.

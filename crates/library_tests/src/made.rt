@@ -1,10 +1,8 @@
 //! Parts that the tests build. A part is `None` where memory is refused, or where it can't be built.
 use bitlayout::{Layout, Mux, Order, Size};
 use can_id::Ident;
-use catalogue::{
-    Message, Name, PayloadLength, Receivers, Signal, Signals, Spn, Text, ValueText, ValueTexts,
-    ValueType,
-};
+use dbc_sheet::{Message, Receivers, Signal, Signals, ValueText, ValueTexts};
+use dbc_words::{Name, PayloadLength, Spn, Text, ValueType};
 use decimal::Decimal;
 use std::alloc::Global;
 

@@ -1,4 +1,4 @@
-mod CarriedOut
+mod AppliedToOffice
 mod InPlace
 mod Runs
 mod PutThere

@@ -1,5 +1,6 @@
 -- What a look-up finds among live messages and identifiers, which are in order of their numbers.
-use Rattle.std.proofs.Common.{◌≡◌, ◌∙◌, ◌<◌, ◌≤◌, ◌||◌, Bool, true, false, cond, ℕ, List, [], ◌∷◌, Option, Some, None, length, get_or, find, take, inl, inr, refl, sym, ap, subst, arith}
+use Rattle.std.proofs.Common.{◌≡◌, ◌∙◌, ◌<◌, ◌≤◌, ◌||◌, Bool, true, false, cond, ℕ, List, [], ◌∷◌, Option, Some, None}
+use Rattle.std.proofs.Common.{length, get_or, find, take, inl, inr, refl, sym, ap, subst, arith}
 use Rattle.std.specs.Prelude.{MatchOption, is_some, option_map, slice_get}
 use Rattle.std.specs.List.{All, list_any, position}
 use Rattle.std.specs.List.Sorted.{IsStrictlySortedBy}
@@ -10,13 +11,13 @@ use Rattle.std.proofs.lemmas.List.{drop_more, get_or_default}
 use Rattle.std.proofs.lemmas.List.Folds.{list_any_at}
 use Rattle.std.proofs.lemmas.List.Elements.{All-head, All-tail}
 use Rattle.std.proofs.lemmas.Option.{slice_get_cases}
+use Rattle.base.specs.Ascending.{IsAt, IsGap}
 use Rattle.can_id.specs.Form.{greatest_number}
 use Rattle.can_id.specs.Ident.{IsIdentifier, dbc_number, ident_of}
 use Rattle.can_id.specs.declared.form.IdentForm.{IdentForm}
 use Rattle.can_id.specs.declared.form.IdentForm.TheVariants.{Standard, Extended}
 use Rattle.can_id.specs.declared.ident.Ident.{Ident}
-use Rattle.catalogue.specs.Ascending.{IsAt, IsGap}
-use Rattle.catalogue.specs.Form.{IsMessage}
+use Rattle.dbc_sheet.specs.Form.{IsMessage}
 use Rattle.office_types.proofs.Least.{or_false}
 use Rattle.office_types.specs.State.{by_number, live_messages}
 use Rattle.office_types.specs.declared.state.LiveMessage.{LiveMessage}
@@ -27,7 +28,7 @@ use Rattle.office_rules.proofs.Idents.{same_ident-true}
 use Rattle.office_law.proofs.Idents.{same_ident-from}
 use Rattle.office_facts.proofs.Searched.{gap_passes, passes_at}
 use Rattle.office.specs.Indexed.{IsFoundAt, live_number}
-use Rattle.office.proofs.CarriedOut.{found_at, not_found}
+use Rattle.office.proofs.AppliedToOffice.{found_at, not_found}
 use Rattle.office.proofs.Indexes.{named, nothing_mapped}
 use Rattle.office.proofs.InPlace.{rising_live}
 
@@ -37,10 +38,12 @@ live_rises net is = rising_live net.live is.live.sheet.well_formed.together.asce
 -- Identifiers.
 
 -- what passes has the number, so it is at the number's index
-pub alone : {A : Type 0} (key : A → ℕ) (p : A → Bool) (n : ℕ) → ((x : A) → p x ≡ true → key x ≡ n) → (xs : List A) (i : ℕ) (d : A) → IsAt key xs n i
+pub alone : {A : Type 0} (key : A → ℕ) (p : A → Bool) (n : ℕ) → ((x : A) → p x ≡ true → key x ≡ n)
+    → (xs : List A) (i : ℕ) (d : A) → IsAt key xs n i
     → list_any p xs ≡ p (get_or xs i d)
 alone key p n of_number xs i d at =
-    sym (passes_at key p n of_number xs i at) ∙ ap (λ ys. list_any p (take 1 ys)) (drop_more xs i d at.within) ∙ or_false (p (get_or xs i d))
+    sym (passes_at key p n of_number xs i at) ∙ ap (λ ys. list_any p (take 1 ys)) (drop_more xs i d at.within)
+    ∙ or_false (p (get_or xs i d))
 
 pub of_live : (i : Ident) (m : LiveMessage) → has_ident i m ≡ true → live_number m ≡ dbc_number i
 of_live i m t = ap dbc_number (same_ident-true m.message.ident i t)
@@ -48,29 +51,38 @@ of_live i m t = ap dbc_number (same_ident-true m.message.ident i t)
 pub of_ident : (i j : Ident) → same_ident j i ≡ true → dbc_number j ≡ dbc_number i
 of_ident i j t = ap dbc_number (same_ident-true j i t)
 
-pub ident_found : (live : List LiveMessage) (i : Ident) (at : ℕ) (d : LiveMessage) → IsAt live_number live (dbc_number i) at → has_ident i (get_or live at d) ≡ true → IsFoundAt live i at
+pub ident_found : (live : List LiveMessage) (i : Ident) (at : ℕ) (d : LiveMessage)
+    → IsAt live_number live (dbc_number i) at → has_ident i (get_or live at d) ≡ true → IsFoundAt live i at
 ident_found live i at d there t = record {
   there = there;
-  same = λ e. ap (λ (m : LiveMessage). m.message.ident) (get_or_default live at e d there.within) ∙ same_ident-true (let m : LiveMessage = get_or live at d in m.message.ident) i t;
+  same = λ e. ap (λ (m : LiveMessage). m.message.ident) (get_or_default live at e d there.within)
+      ∙ same_ident-true (let m : LiveMessage = get_or live at d in m.message.ident) i t;
 }
 
-pub other_there : (live : List LiveMessage) (i : Ident) (at : ℕ) (d : LiveMessage) → IsAt live_number live (dbc_number i) at → has_ident i (get_or live at d) ≡ false
+pub other_there : (live : List LiveMessage) (i : Ident) (at : ℕ) (d : LiveMessage)
+    → IsAt live_number live (dbc_number i) at → has_ident i (get_or live at d) ≡ false
     → list_any (has_ident i) live ≡ false
 other_there live i at d there f = alone live_number (has_ident i) (dbc_number i) (of_live i) live at d there ∙ f
 
-pub none_there : (live : List LiveMessage) (i : Ident) (at : ℕ) → IsGap live_number live (dbc_number i) at → list_any (has_ident i) live ≡ false
+pub none_there : (live : List LiveMessage) (i : Ident) (at : ℕ) → IsGap live_number live (dbc_number i) at
+    → list_any (has_ident i) live ≡ false
 none_there live i at gap = gap_passes live_number (has_ident i) (dbc_number i) (of_live i) live at gap
 
-pub live_if_found : (live : List LiveMessage) (i : Ident) (o : Option ℕ) → MatchOption o (list_any (has_ident i) live ≡ false) (IsFoundAt live i) → is_some o ≡ list_any (has_ident i) live
+pub live_if_found : (live : List LiveMessage) (i : Ident) (o : Option ℕ)
+    → MatchOption o (list_any (has_ident i) live ≡ false) (IsFoundAt live i) → is_some o ≡ list_any (has_ident i) live
 live_if_found live i None h = sym h
 live_if_found [] i (Some at) h = absurd (let w : at < 0 = h.there.within in omega (arith, w))
 live_if_found (x ∷ xs) i (Some at) h =
-    sym (list_any_at (has_ident i) (x ∷ xs) at x h.there.within (same_ident-from (let m : LiveMessage = get_or (x ∷ xs) at x in m.message.ident) i (h.same x)))
+    sym (list_any_at (has_ident i) (x ∷ xs) at x h.there.within
+    (same_ident-from (let m : LiveMessage = get_or (x ∷ xs) at x in m.message.ident) i (h.same x)))
 
-pub among_at : (idents : List Ident) (i : Ident) (at : ℕ) (d : Ident) → IsAt dbc_number idents (dbc_number i) at → same_ident (get_or idents at d) i ≡ list_any (λ j. same_ident j i) idents
-among_at idents i at d there = sym (alone dbc_number (λ j. same_ident j i) (dbc_number i) (of_ident i) idents at d there)
+pub among_at : (idents : List Ident) (i : Ident) (at : ℕ) (d : Ident) → IsAt dbc_number idents (dbc_number i) at
+    → same_ident (get_or idents at d) i ≡ list_any (λ j. same_ident j i) idents
+among_at idents i at d there =
+    sym (alone dbc_number (λ j. same_ident j i) (dbc_number i) (of_ident i) idents at d there)
 
-pub among_none : (idents : List Ident) (i : Ident) (at : ℕ) → IsGap dbc_number idents (dbc_number i) at → list_any (λ j. same_ident j i) idents ≡ false
+pub among_none : (idents : List Ident) (i : Ident) (at : ℕ) → IsGap dbc_number idents (dbc_number i) at
+    → list_any (λ j. same_ident j i) idents ≡ false
 among_none idents i at gap = gap_passes dbc_number (λ j. same_ident j i) (dbc_number i) (of_ident i) idents at gap
 
 -- what is no identifier is neither live nor held
@@ -79,13 +91,16 @@ module _ (i : Ident) (none : IsIdentifier i → ⊥) where
   not_live [] h = refl
   not_live (m ∷ live) h =
       ap (λ b. b || list_any (has_ident i) live)
-      (false_from_ne_true (has_ident i m) (λ t. let is = All-head IsMessage m.message (live_messages live) h in none (subst IsIdentifier (same_ident-true m.message.ident i t) is.ident)))
+      (false_from_ne_true (has_ident i m) (λ t. let is = All-head IsMessage m.message (live_messages live) h in
+      none (subst IsIdentifier (same_ident-true m.message.ident i t) is.ident)))
       ∙ not_live live (All-tail IsMessage m.message (live_messages live) h)
 
   pub not_held : (held : List Ident) → All IsIdentifier held → list_any (λ j. same_ident j i) held ≡ false
   not_held [] h = refl
   not_held (j ∷ held) h =
-      ap (λ b. b || list_any (λ k. same_ident k i) held) (false_from_ne_true (same_ident j i) (λ t. none (subst IsIdentifier (same_ident-true j i t) (All-head IsIdentifier j held h))))
+      ap (λ b. b || list_any (λ k. same_ident k i) held)
+      (false_from_ne_true (same_ident j i)
+      (λ t. none (subst IsIdentifier (same_ident-true j i t) (All-head IsIdentifier j held h))))
       ∙ not_held held (All-tail IsIdentifier j held h)
 
 pub no_identifier : (form : IdentForm) (n : ℕ) → (n ≤ greatest_number form → ⊥) → IsIdentifier (ident_of form n) → ⊥
@@ -116,11 +131,13 @@ module _ {A : Type 0} (p : A → Bool) where
   any_found key [] = refl
   any_found key (x ∷ xs) = by_test (p x) (any_found key xs)
     where
-      by_test : (b : Bool) → is_some (option_map key (find p xs)) ≡ list_any p xs → is_some (option_map key (cond b (Some x) (find p xs))) ≡ (b || list_any p xs)
+      by_test : (b : Bool) → is_some (option_map key (find p xs)) ≡ list_any p xs
+          → is_some (option_map key (cond b (Some x) (find p xs))) ≡ (b || list_any p xs)
       by_test true h = refl
       by_test false h = h
 
-pub not_named : (live : List LiveMessage) (name : List ℕ) → None ≡ option_map live_number (live_named live name) → None ≡ position (named name) live
+pub not_named : (live : List LiveMessage) (name : List ℕ) → None ≡ option_map live_number (live_named live name)
+    → None ≡ position (named name) live
 not_named live name h = no_position (named name) live (nothing_mapped (live_named live name) h)
 
 -- the message that a name's number leads to
@@ -132,7 +149,8 @@ pub record IsHolder (live : List LiveMessage) (name : List ℕ) (k : ℕ) : Type
   pub number : live_number m ≡ k
   pub found : Some at ≡ position (named name) live
 
-holder : (live : List LiveMessage) (name : List ℕ) (k : ℕ) → Some k ≡ option_map live_number (live_named live name) → IsHolder live name k
+holder : (live : List LiveMessage) (name : List ℕ) (k : ℕ) → Some k ≡ option_map live_number (live_named live name)
+    → IsHolder live name k
 holder live name k is = by_position (position (named name) live) refl
   where
     none_some : (a : ℕ) → ◌≡◌ {A = Option ℕ} (Some a) None → ⊥
@@ -159,13 +177,16 @@ holder live name k is = by_position (position (named name) live) refl
     ]
 
 -- a look-up of the number of a name ends at the message of the name
-pub leads_there : (live : List LiveMessage) (name : List ℕ) (k i : ℕ) → Some k ≡ option_map live_number (live_named live name) → IsAt live_number live k i → Some i ≡ position (named name) live
+pub leads_there : (live : List LiveMessage) (name : List ℕ) (k i : ℕ)
+    → Some k ≡ option_map live_number (live_named live name) → IsAt live_number live k i
+    → Some i ≡ position (named name) live
 leads_there live name k i is at = let h = holder live name k is in elim (eqb_tells h.at i) [
   | inl e ↦ ap Some (sym e.1) ∙ h.found
   | inr e ↦ absurd (at.others h.at h.m h.within e.1 (ap live_number h.here ∙ h.number))
 ]
 
-pub never_gap : (live : List LiveMessage) (name : List ℕ) (k i : ℕ) → Some k ≡ option_map live_number (live_named live name) → IsGap live_number live k i → ⊥
+pub never_gap : (live : List LiveMessage) (name : List ℕ) (k i : ℕ)
+    → Some k ≡ option_map live_number (live_named live name) → IsGap live_number live k i → ⊥
 never_gap live name k i is gap =
     let h = holder live name k is in
     let same : live_number (get_or live h.at h.m) ≡ k = ap live_number h.here ∙ h.number in
@@ -176,7 +197,13 @@ never_gap live name k i is gap =
 
 -- what a command reads of the message at the index of its name
 pub facts_are_those : (net : Net) (name : List ℕ) (index : Option ℕ) (facts : MessageFacts)
-    → facts ≡ record { phase = net.head.phase; nodes = net.head.frame.nodes; found = option_and_then (slice_get net.live) index }
+    → facts ≡ record {
+      phase = net.head.phase;
+      nodes = net.head.frame.nodes;
+      found =
+          option_and_then (slice_get net.live) index;
+    }
     → index ≡ position (named name) net.live → facts ≡ message_facts net name
 facts_are_those net name index facts is at =
-    is ∙ ap (λ (o : Option LiveMessage). record { phase = net.head.phase; nodes = net.head.frame.nodes; found = o }) (found_there (named name) net.live index at)
+    is ∙ ap (λ (o : Option LiveMessage). record { phase = net.head.phase; nodes = net.head.frame.nodes; found = o })
+    (found_there (named name) net.live index at)

@@ -1,19 +1,21 @@
 -- What an office in memory keeps beside each network, so that names and numbers are looked up without a walk.
-use Rattle.std.specs.Prelude.{◌≡◌, ◌&&◌, ◌==◌, Bool, true, false, ℕ, List, [], ◌∷◌, Option, Some, None, option_map, slice_index_or}
+use Rattle.std.specs.Prelude.{◌≡◌, ◌&&◌, ◌==◌, Bool, true, false, ℕ, List, [], ◌∷◌, Option, Some, None, option_map}
+use Rattle.std.specs.Prelude.{slice_index_or}
 use Rattle.std.proofs.Common.{refl}
 use Rattle.std.specs.BTreeMap.{get}
 use Rattle.std.specs.Str.{bytes_eq}
+use Rattle.base.specs.Ascending.{IsAt}
+use Rattle.base.specs.Keyed.{text_cmp}
 use Rattle.can_id.specs.Ident.{dbc_number}
 use Rattle.can_id.specs.declared.form.IdentForm.{IdentForm}
 use Rattle.can_id.specs.declared.form.IdentForm.TheVariants.{Standard, Extended}
 use Rattle.can_id.specs.declared.ident.Ident.{Ident}
 use Rattle.can_id.specs.declared.ident.Ident.TheVariants as id
-use Rattle.catalogue.specs.Ascending.{IsAt}
-use Rattle.catalogue.specs.Keyed.{text_cmp}
-use Rattle.catalogue.specs.Named.{AreNamedApart}
+use Rattle.dbc_words.specs.Named.{AreNamedApart}
 use Rattle.office_types.specs.Free.{is_taken}
 use Rattle.office_types.specs.declared.change.Change.{Change}
-use Rattle.office_types.specs.declared.change.Change.TheVariants.{SetMessage, RemoveMessage, AddSignal, RemoveSignal, SetSpn, SetValues, Hold, EnterSpn, ClearApprovals}
+use Rattle.office_types.specs.declared.change.Change.TheVariants.{SetMessage, RemoveMessage, AddSignal, RemoveSignal}
+use Rattle.office_types.specs.declared.change.Change.TheVariants.{SetSpn, SetValues, Hold, EnterSpn, ClearApprovals}
 use Rattle.office_types.specs.declared.command.Command.{Command}
 use Rattle.office_types.specs.declared.reply.Reply.{Reply}
 use Rattle.office_types.specs.declared.state.LiveMessage.{LiveMessage}
@@ -40,7 +42,8 @@ indexed_numbers index Extended = index.extended
 -- given out.
 pub record IsIndex (index : NetIndex) (net : Net) : Type 0 where
   pub names : (name : List ℕ) → get text_cmp index.names name ≡ option_map live_number (live_named net.live name)
-  pub numbers : (form : IdentForm) (n : ℕ) → is_taken n (indexed_numbers index form) ≡ is_taken n (taken_numbers net form)
+  pub numbers : (form : IdentForm) (n : ℕ)
+      → is_taken n (indexed_numbers index form) ≡ is_taken n (taken_numbers net form)
 
 -- one of it, or none
 abbrev pub IsIndexIfThere : Option NetIndex → Net → Type 0
@@ -60,7 +63,8 @@ has_form_and_number form n i = elim (number_in form i) [
   | Some m ↦ m == n
 ]
 
-form_and_number_examples : has_form_and_number Standard 5 (id.Std 5) ∷ has_form_and_number Extended 5 (id.Std 5) ∷ has_form_and_number Extended 5 (id.Ext 6) ∷ [] ≡ true ∷ false ∷ false ∷ []
+form_and_number_examples : has_form_and_number Standard 5 (id.Std 5) ∷ has_form_and_number Extended 5 (id.Std 5)
+    ∷ has_form_and_number Extended 5 (id.Ext 6) ∷ [] ≡ true ∷ false ∷ false ∷ []
 form_and_number_examples = refl
 
 -- the live message at the index has the identifier, and no other has its number
@@ -76,7 +80,8 @@ indexed_alike a b = bytes_eq a.message.name b.message.name && same_ident a.messa
 -- and the identifier isn't held.
 pub record IsRemovable (net : Net) (at : ℕ) (name : List ℕ) (i : Ident) : Type 0 where
   pub found : IsFoundAt net.live i at
-  pub named : (d : LiveMessage) → ◌≡◌ {A = List ℕ} (let m : LiveMessage = slice_index_or net.live at d in m.message.name) name
+  pub named : (d : LiveMessage)
+      → ◌≡◌ {A = List ℕ} (let m : LiveMessage = slice_index_or net.live at d in m.message.name) name
   pub apart : AreNamedApart live_name net.live
   pub free : is_held net i ≡ false
 
@@ -91,12 +96,14 @@ is_of_messages (SetValues path values) = true
 is_of_messages (Hold i) = true
 is_of_messages c = false
 
-messages_examples : is_of_messages (Hold (id.Std 5)) ∷ is_of_messages (EnterSpn 5) ∷ is_of_messages ClearApprovals ∷ [] ≡ true ∷ false ∷ false ∷ []
+messages_examples : is_of_messages (Hold (id.Std 5)) ∷ is_of_messages (EnterSpn 5) ∷ is_of_messages ClearApprovals ∷ []
+    ≡ true ∷ false ∷ false ∷ []
 messages_examples = refl
 
 -- The team's command that comes today is answered so, and leaves its network and the book so.
-pub record IsDoneOn (team : List ℕ) (c : Command) (before : NetAndBook) (reply : Reply) (after : NetAndBook) : Type 0 where
-  pub reading : FileReading
-  pub read : IsRead Two (file_wanted before.net c.task) reading
-  pub answered : reply ≡ reply_of (outcome team reading before.net before.book c)
-  pub left : after ≡ left_after before (outcome team reading before.net before.book c)
+pub record IsDoneOn (team : List ℕ) (c : Command) (before : NetAndBook) (reply : Reply) (after : NetAndBook) : Type 0
+  where
+    pub reading : FileReading
+    pub read : IsRead Two (file_wanted before.net c.task) reading
+    pub answered : reply ≡ reply_of (outcome team reading before.net before.book c)
+    pub left : after ≡ left_after before (outcome team reading before.net before.book c)

@@ -1,2 +1,2 @@
-pub mod Carried
+pub mod OfficeApplied
 pub mod Indexed

@@ -15,8 +15,10 @@ ghost use Rattle.office.specs.Indexed.{IsIndexIfThere, IsFoundAt, indexed_alike}
 
 use crate::looking_up::{find_ident, find_named, search_idents, search_live};
 use crate::net_index::{NetIndex, with_inserted, with_moved, with_removed};
+use base::Copying;
 use can_id::Ident;
-use catalogue::{Copying, Name, Signal, ValueTexts};
+use dbc_sheet::{Signal, ValueTexts};
+use dbc_words::Name;
 use office_decide::{add_at, set_spn_at, set_values_at, take_out_at};
 use office_facts::same_ident;
 use office_types::{LiveMessage, Net, SignalPath, UsableSpn};

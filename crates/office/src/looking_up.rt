@@ -5,8 +5,8 @@ ghost use Rattle.std.specs.List.{list_any};
 ghost use Rattle.std.specs.List.Sorted.{IsStrictlySortedBy};
 ghost use Rattle.std.specs.Option.{option_and_then};
 ghost use Rattle.std.specs.Str.{bytes_eq};
+ghost use Rattle.base.specs.Ascending.{IsAt, IsGap};
 ghost use Rattle.can_id.specs.Ident.{dbc_number};
-ghost use Rattle.catalogue.specs.Ascending.{IsAt, IsGap};
 ghost use Rattle.office_facts.specs.FactsOf.{message_facts_of};
 ghost use Rattle.office_types.specs.State.{by_ident, by_number};
 ghost use Rattle.office_rules.specs.Facts.{has_ident, message_facts, same_ident};
@@ -15,7 +15,7 @@ ghost use Rattle.office.specs.Indexed.{IsIndex, IsIndexIfThere, IsFoundAt, live_
 
 use crate::net_index::NetIndex;
 use can_id::Ident;
-use catalogue::Name;
+use dbc_words::Name;
 use office_facts::{MessageFacts, same_ident};
 use office_types::{LiveMessage, Net};
 
@@ -40,7 +40,8 @@ pub(crate) fn search_idents(idents: &[Ident], number: u32) -> Result<usize, usiz
 /// The index of the live message of the identifier, `None` where there is none.
 pub(crate) fn find_ident(live: &[LiveMessage], ident: &Ident) -> Option<usize>
     requires { IsStrictlySortedBy by_number live.now }
-    ensures { MatchOption result (list_any (has_ident ident.now) live.now ≡ false) (IsFoundAt live.now ident.now) }
+    ensures { MatchOption result (list_any (has_ident ident.now) live.now ≡ false)
+        (IsFoundAt live.now ident.now) }
 {
     match search_live(live, ident.to_dbc()) {
         Ok(at) => {

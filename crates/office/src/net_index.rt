@@ -4,17 +4,18 @@
 ghost use Rattle.std.specs.Prelude.{◌≡◌, ◌&&◌, ◌||◌, ℕ, List, IfOk, OnErr, OnOk, insert, is_some, not};
 ghost use Rattle.std.specs.Prelude.{option_map, remove, true};
 ghost use Rattle.std.specs.BTreeMap.{get};
+ghost use Rattle.base.specs.Keyed.{text_cmp};
 ghost use Rattle.can_id.specs.declared.form.IdentForm.{IdentForm as FormModel};
 ghost use Rattle.can_id.specs.declared.ident.Ident.{Ident as IdentModel};
-ghost use Rattle.catalogue.specs.Keyed.{text_cmp};
 ghost use Rattle.office_types.specs.Free.{is_taken};
 ghost use Rattle.office_types.specs.declared.state.LiveMessage.{LiveMessage as MessageModel};
 ghost use Rattle.office_types.specs.declared.state.Net.{Net as NetModel};
 ghost use Rattle.office_rules.specs.Facts.{live_named};
 ghost use Rattle.office.specs.Indexed.{IsIndex, IsIndexIfThere, IsRemovable, indexed_numbers, has_form_and_number, live_number};
 
+use base::Copying;
 use can_id::{Ident, IdentForm};
-use catalogue::{Copying, Name};
+use dbc_words::Name;
 use office_facts::{NumberSet, number_set_of};
 use office_types::{LiveMessage, Net};
 use std::alloc::{AllocError, Global};
@@ -75,7 +76,8 @@ impl NetIndex {
     /// Adds the identifier's number; the names stay. When memory runs out, nothing changes.
     fn add_number(&mut self, ident: Ident) -> Result<(), AllocError>
         ensures names { self.new.names ≡ self.old.names }
-        ensures ok { OnOk result ((form : FormModel) (n : ℕ) → is_taken n (indexed_numbers self.new form)
+        ensures ok { OnOk result
+            ((form : FormModel) (n : ℕ) → is_taken n (indexed_numbers self.new form)
             ≡ (has_form_and_number form n ident || is_taken n (indexed_numbers self.old form))) }
         ensures err { OnErr result (self.new ≡ self.old) }
     {
@@ -88,8 +90,10 @@ impl NetIndex {
     /// Enters a message of this name and identifier, and answers whether that was done: the name is new, and memory was
     /// enough. Else this isn't an index any more.
     fn insert(&mut self, name: Name, ident: &Ident) -> bool
-        ensures { (net : NetModel) (at : ℕ) (m : MessageModel) → m.message.name ≡ name → m.message.ident ≡ ident.now
-            → IsIndex self.old net → result ≡ true → IsIndex self.new (record net { live = insert net.live at m }) }
+        ensures { (net : NetModel) (at : ℕ) (m : MessageModel) → m.message.name ≡ name
+            → m.message.ident ≡ ident.now
+            → IsIndex self.old net → result ≡ true
+            → IsIndex self.new (record net { live = insert net.live at m }) }
     {
         match self.names.insert(name, ident.to_dbc()) {
             Ok(None) => {}
@@ -102,7 +106,8 @@ impl NetIndex {
     fn remove_number(&mut self, ident: Ident)
         ensures names { self.new.names ≡ self.old.names }
         ensures numbers { (form : FormModel) (n : ℕ) → is_taken n (indexed_numbers self.new form)
-            ≡ (not (has_form_and_number form n ident) && is_taken n (indexed_numbers self.old form)) }
+            ≡ (not (has_form_and_number form n ident)
+            && is_taken n (indexed_numbers self.old form)) }
     {
         match ident {
             Ident::Std(id) => self.standard.remove(u32::from(id.number())),
@@ -112,7 +117,8 @@ impl NetIndex {
 
     /// Removes the name and the identifier's number.
     fn remove(&mut self, name: &Name, ident: &Ident)
-        ensures { (net : NetModel) (at : ℕ) → IsRemovable net at name.now ident.now → IsIndex self.old net
+        ensures { (net : NetModel) (at : ℕ) → IsRemovable net at name.now ident.now
+            → IsIndex self.old net
             → IsIndex self.new (record net { live = remove net.live at }) }
     {
         self.names.remove(name);
@@ -121,9 +127,11 @@ impl NetIndex {
 
     /// Removes the name, whose message's number stays taken.
     fn remove_name(&mut self, name: &Name)
-        ensures { (net : NetModel) (at gap : ℕ) (ident : IdentModel) → IsRemovable net at name.now ident
+        ensures { (net : NetModel) (at gap : ℕ) (ident : IdentModel)
+            → IsRemovable net at name.now ident
             → IsIndex self.old net
-            → IsIndex self.new (record net { live = remove net.live at; held = insert net.held gap ident }) }
+            → IsIndex self.new (record net
+            { live = remove net.live at; held = insert net.held gap ident }) }
     {
         self.names.remove(name);
     }
@@ -132,8 +140,10 @@ impl NetIndex {
 /// The index of a network after a message of this name and identifier is inserted among its live ones. None where
 /// memory runs out, or where the name isn't new.
 pub(crate) fn with_inserted(index: Option<NetIndex>, name: Name, ident: &Ident) -> Option<NetIndex>
-    ensures { (net : NetModel) (at : ℕ) (m : MessageModel) → m.message.name ≡ name → m.message.ident ≡ ident.now
-        → IsIndexIfThere index net → IsIndexIfThere result (record net { live = insert net.live at m }) }
+    ensures { (net : NetModel) (at : ℕ) (m : MessageModel) → m.message.name ≡ name
+        → m.message.ident ≡ ident.now
+        → IsIndexIfThere index net
+        → IsIndexIfThere result (record net { live = insert net.live at m }) }
 {
     match index {
         None => None,
@@ -153,7 +163,8 @@ pub(crate) fn with_inserted(index: Option<NetIndex>, name: Name, ident: &Ident) 
 pub(crate) fn with_removed(index: Option<NetIndex>, name: &Name, ident: &Ident) -> Option<NetIndex>
     ensures kept { is_some result ≡ is_some index }
     ensures follows { (net : NetModel) (at : ℕ) → IsRemovable net at name.now ident.now
-        → IsIndexIfThere index net → IsIndexIfThere result (record net { live = remove net.live at }) }
+        → IsIndexIfThere index net
+        → IsIndexIfThere result (record net { live = remove net.live at }) }
 {
     match index {
         None => None,
@@ -169,9 +180,11 @@ pub(crate) fn with_removed(index: Option<NetIndex>, name: &Name, ident: &Ident) 
 /// held from then on: so its number stays taken.
 pub(crate) fn with_moved(index: Option<NetIndex>, name: &Name) -> Option<NetIndex>
     ensures kept { is_some result ≡ is_some index }
-    ensures follows { (net : NetModel) (at gap : ℕ) (ident : IdentModel) → IsRemovable net at name.now ident
+    ensures follows { (net : NetModel) (at gap : ℕ) (ident : IdentModel)
+        → IsRemovable net at name.now ident
         → IsIndexIfThere index net
-        → IsIndexIfThere result (record net { live = remove net.live at; held = insert net.held gap ident }) }
+        → IsIndexIfThere result (record net
+        { live = remove net.live at; held = insert net.held gap ident }) }
 {
     match index {
         None => None,

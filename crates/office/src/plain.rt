@@ -6,7 +6,7 @@ ghost use Rattle.office_rules.specs.Step.{opening, Step, HasRun, HasBegun};
 
 use crate::net_index::NetIndex;
 use crate::stepping::step;
-use catalogue::Items;
+use base::Items;
 use office_types::{Command, Net, Reply, SpnBook, Team, UsedSpns, command_is_in_range};
 use std::alloc::{AllocError, Global};
 use std::marker::Model;
@@ -63,7 +63,8 @@ impl PlainOffice {
         team: &Team,
         command: &Command,
     ) -> Result<Reply, AllocError>
-        ensures step { IfOk result (λ reply. Step Two self.old team.now command.now reply self.new) }
+        ensures step { IfOk result
+            (λ reply. Step Two self.old team.now command.now reply self.new) }
         ensures err { OnErr result (self.new ≡ self.old) }
     {
         let (reply, _copy) = self.step_with_copy(alloc, team, command)?;
@@ -78,7 +79,8 @@ impl PlainOffice {
         team: &Team,
         command: &Command,
     ) -> Result<(Reply, Reply), AllocError>
-        ensures step { IfOk result (λ both. Step Two self.old team.now command.now both.0 self.new) }
+        ensures step { IfOk result
+            (λ both. Step Two self.old team.now command.now both.0 self.new) }
         ensures copy { IfOk result (λ both. both.1 ≡ both.0) }
         ensures err { OnErr result (self.new ≡ self.old) }
     {
@@ -102,8 +104,10 @@ impl PlainOffice {
         requests: &[(Team, Command)],
         replies: &mut Vec<Reply>,
     ) -> Result<(), AllocError>
-        ensures whole { OnOk result (HasRun self.old requests.now replies.old.items replies.new.items self.new) }
-        ensures begun { OnErr result (HasBegun self.old requests.now replies.old.items replies.new.items self.new) }
+        ensures whole { OnOk result
+            (HasRun self.old requests.now replies.old.items replies.new.items self.new) }
+        ensures begun { OnErr result
+            (HasBegun self.old requests.now replies.old.items replies.new.items self.new) }
     {
         for (team, command) in requests {
             replies.reserve(1)?;

@@ -4,14 +4,14 @@ ghost use Rattle.office_rules.specs.Change.{IsDecision};
 ghost use Rattle.office_rules.specs.Kept.{IsNet, IsOffice};
 ghost use Rattle.office_rules.specs.Profile.{Two};
 ghost use Rattle.office_rules.specs.Step.{Step};
-ghost use Rattle.office.specs.Carried.{IsNetFound};
+ghost use Rattle.office.specs.OfficeApplied.{IsNetFound};
 ghost use Rattle.office.specs.Indexed.{AreIndexes, IsDoneOn, IsIndexIfThere};
 
-use crate::carrying::{carry_out, find_net};
-use crate::carrying_there::carry_out_there;
+use crate::applying::{apply_without_net, find_net};
+use crate::applying_in_place::apply_in_place;
 use crate::indexed::facts_for;
 use crate::net_index::NetIndex;
-use catalogue::Copying;
+use base::Copying;
 use office_decide::{decide, decide_by};
 use office_facts::{Scope, scope_of};
 use office_types::{Command, Decision, Net, Reply, SpnBook, Task, Team};
@@ -53,7 +53,8 @@ fn decide_by_index(
 ) -> Result<Decision, AllocError>
     requires net { IsNet net.now }
     requires index { IsIndexIfThere index.now net.now }
-    ensures { IfOk result (IsDecision team.now (record { net = Some net.now; book = book.now }) command.now) }
+    ensures { IfOk result (IsDecision team.now (record { net = Some net.now; book = book.now })
+        command.now) }
 {
     match &command.task {
         Task::Act(action) => {
@@ -66,7 +67,7 @@ fn decide_by_index(
 
 /// One step on a network that is there and the book: the team's command is carried out, or it is refused and nothing
 /// changes. The reply is given twice. If memory runs out, nothing changes. The index follows.
-fn step_there(
+fn step_on_net(
     alloc: Global,
     team: &Team,
     net: &mut Net,
@@ -76,7 +77,8 @@ fn step_there(
 ) -> Result<(Reply, Reply), AllocError>
     requires net { IsNet net.old }
     requires index { IsIndexIfThere index.old net.old }
-    ensures done { IfOk result (λ both. IsDoneOn team.now command.now (record { net = Some net.old; book = book.old })
+    ensures done { IfOk result
+        (λ both. IsDoneOn team.now command.now (record { net = Some net.old; book = book.old })
         both.0 (record { net = Some net.new; book = book.new })) }
     ensures copy { IfOk result (λ both. both.1 ≡ both.0) }
     ensures err { OnErr result ((net.new ≡ net.old) × (book.new ≡ book.old)) }
@@ -87,13 +89,13 @@ fn step_there(
     let decision = decide_by_index(alloc, team, net, index, book, command)?;
     let Decision { changes, reply } = decision;
     let copy = reply.duplicate(alloc)?;
-    carry_out_there(alloc, &command.net, net, book, index, changes)?;
+    apply_in_place(alloc, &command.net, net, book, index, changes)?;
     Ok((reply, copy))
 }
 
 /// One step where the network isn't there. Where the command changes anything, so that it opens the network, all
 /// indexes are dropped, since the network comes among the others.
-fn step_nowhere(
+fn step_without_net(
     alloc: Global,
     team: &Team,
     nets: &mut Vec<Net>,
@@ -102,10 +104,12 @@ fn step_nowhere(
     command: &Command,
 ) -> Result<(Reply, Reply), AllocError>
     requires office { IsOffice (record { nets = nets.old.items; book = book.old }) }
-    requires absent { IsNetFound (record { nets = nets.old.items; book = book.old }) command.now.net None }
+    requires absent { IsNetFound (record { nets = nets.old.items; book = book.old }) command.now.net
+        None }
     requires indexes { AreIndexes indexes.old.items nets.old.items }
     ensures step { IfOk result
-        (λ both. Step Two (record { nets = nets.old.items; book = book.old }) team.now command.now both.0
+        (λ both. Step Two (record { nets = nets.old.items; book = book.old }) team.now command.now
+        both.0
         (record { nets = nets.new.items; book = book.new })) }
     ensures copy { IfOk result (λ both. both.1 ≡ both.0) }
     ensures err { OnErr result ((nets.new.items ≡ nets.old.items) × (book.new ≡ book.old)) }
@@ -118,7 +122,7 @@ fn step_nowhere(
         return Ok((reply, copy));
     }
     indexes.clear();
-    carry_out(alloc, &command.net, nets, book, changes)?;
+    apply_without_net(alloc, &command.net, nets, book, changes)?;
     Ok((reply, copy))
 }
 
@@ -152,20 +156,21 @@ pub(crate) fn step(
     requires office { IsOffice (record { nets = nets.old.items; book = book.old }) }
     requires indexes { AreIndexes indexes.old.items nets.old.items }
     ensures step { IfOk result
-        (λ both. Step Two (record { nets = nets.old.items; book = book.old }) team.now command.now both.0
+        (λ both. Step Two (record { nets = nets.old.items; book = book.old }) team.now command.now
+        both.0
         (record { nets = nets.new.items; book = book.new })) }
     ensures copy { IfOk result (λ both. both.1 ≡ both.0) }
     ensures err { OnErr result ((nets.new.items ≡ nets.old.items) × (book.new ≡ book.old)) }
     ensures indexes { AreIndexes indexes.new.items nets.new.items }
 {
     match find_net(nets.as_slice(), book, &command.net) {
-        None => step_nowhere(alloc, team, nets, indexes, book, command),
+        None => step_without_net(alloc, team, nets, indexes, book, command),
         Some(at) => {
             if make_room(indexes, nets.as_slice(), at) {
-                step_there(alloc, team, &mut nets[at], book, &mut indexes[at], command)
+                step_on_net(alloc, team, &mut nets[at], book, &mut indexes[at], command)
             } else {
                 let mut none = None;
-                step_there(alloc, team, &mut nets[at], book, &mut none, command)
+                step_on_net(alloc, team, &mut nets[at], book, &mut none, command)
             }
         }
     }

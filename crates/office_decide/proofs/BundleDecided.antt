@@ -1,5 +1,6 @@
 -- A bundle is decided part by part.
-use Rattle.std.proofs.Common.{◌≡◌, ◌∙◌, ◌⊎◌, ◌+◌, ℕ, List, [], ◌∷◌, ◌++◌, append-nil, length, drop, Option, Some, None, inl, inr, refl, sym, ap, subst, arith}
+use Rattle.std.proofs.Common.{◌≡◌, ◌∙◌, ◌⊎◌, ◌+◌, ℕ, List, [], ◌∷◌, ◌++◌, append-nil, length, drop, Option, Some, None}
+use Rattle.std.proofs.Common.{inl, inr, refl, sym, ap, subst, arith}
 use Rattle.std.proofs.lemmas.List.{append_assoc, length-append}
 use Rattle.office_types.specs.Parts.{AreParts}
 use Rattle.office_types.specs.Reply.{part_reply}
@@ -15,20 +16,22 @@ use Rattle.office_types.specs.declared.reply.PartReply.{PartReply}
 use Rattle.office_types.specs.declared.reply.Reply.{Reply}
 use Rattle.office_types.specs.declared.reply.Reply.TheVariants.{Bundle, Refused}
 use Rattle.office_types.specs.declared.state.Net.{Net}
-use Rattle.office_rules.specs.Bundling.{PartsOutcome, RefusedAt, AllDone, both_entries, bundle_outcome, part_then, refused_part, with_part}
+use Rattle.office_rules.specs.Bundling.{PartsOutcome, RefusedAt, AllDone, both_entries, bundle_outcome, part_then}
+use Rattle.office_rules.specs.Bundling.{refused_part, with_part}
 use Rattle.office_rules.specs.Change.{AllFit, Decides, HaveOwnBlocks, IsHeadFirst, NetAndBook, all_applied, applied}
 use Rattle.office_rules.specs.Commands.{acted, parts_done}
 use Rattle.office_rules.specs.Outcome.{Entries, Outcome, Refusing, Changing, entered, no_entries}
-use Rattle.office_law.proofs.Leaving.{left_act}
-use Rattle.office_law.proofs.Left.{IsAnswer, IsLeft}
+use Rattle.office_law.proofs.EachLeavesNameAndReleases.{left_act}
+use Rattle.office_law.proofs.NameAndReleasesStay.{IsAnswer, IsLeft}
 use Rattle.office_law.proofs.Parts.{entered_both}
-use Rattle.office_law.proofs.Passing.{Leaves}
-use Rattle.office_decide.specs.Bundled.{IsAdded, IsPartDecided, refusal_in}
+use Rattle.office_law.proofs.NoTestHolds.{Leaves}
+use Rattle.office_decide.specs.Bundled.{IsPartAdded, IsPartDecided, refusal_in}
 use Rattle.office_decide.specs.declared.bundling.Progress.{Progress}
 
 -- ---- changes, and then further ones
 
-applied_more : (name : List ℕ) (cs ds : List Change) (e : NetAndBook) → all_applied name (cs ++ ds) e ≡ all_applied name ds (all_applied name cs e)
+applied_more : (name : List ℕ) (cs ds : List Change) (e : NetAndBook)
+    → all_applied name (cs ++ ds) e ≡ all_applied name ds (all_applied name cs e)
 applied_more name [] ds e = refl
 applied_more name (c ∷ cs) ds e = applied_more name cs ds (applied name c e)
 
@@ -44,7 +47,8 @@ own_more [] ds h k = k
 own_more (SetBlock g ∷ cs) ds h k = (h.0, own_more cs ds h.1 k)
 own_more (c ∷ cs) ds h k = own_more cs ds h k
 
-fit_more : (name : List ℕ) (cs ds : List Change) (e : NetAndBook) → AllFit name cs e → AllFit name ds (all_applied name cs e) → AllFit name (cs ++ ds) e
+fit_more : (name : List ℕ) (cs ds : List Change) (e : NetAndBook) → AllFit name cs e
+    → AllFit name ds (all_applied name cs e) → AllFit name (cs ++ ds) e
 fit_more name [] ds e h k = k
 fit_more name (c ∷ cs) ds e h k = (h.0, fit_more name cs ds (applied name c e) h.1 k)
 
@@ -53,7 +57,8 @@ no_head None = tt
 no_head (Some n) = tt
 
 -- a refusal changes nothing
-pub refused_decides : (name : List ℕ) (before : NetAndBook) (r : Refusal) (d : Decision) → d.changes ≡ [] → d.reply ≡ Refused r → Decides name before (Refusing r) d
+pub refused_decides : (name : List ℕ) (before : NetAndBook) (r : Refusal) (d : Decision) → d.changes ≡ []
+    → d.reply ≡ Refused r → Decides name before (Refusing r) d
 refused_decides name before r d none is = record {
   reply = is;
   changes = ap (λ cs. all_applied name cs before) none;
@@ -76,8 +81,10 @@ after_none (AllDone others net f) = refl
 
 both_assoc : (d e f : Entries) → both_entries d (both_entries e f) ≡ both_entries (both_entries d e) f
 both_assoc d e f =
-    ap (λ blocks. record { blocks = blocks; numbers = d.numbers ++ (e.numbers ++ f.numbers) }) (sym (append_assoc d.blocks e.blocks f.blocks))
-    ∙ ap (λ numbers. record { blocks = (d.blocks ++ e.blocks) ++ f.blocks; numbers = numbers }) (sym (append_assoc d.numbers e.numbers f.numbers))
+    ap (λ blocks. record { blocks = blocks; numbers = d.numbers ++ (e.numbers ++ f.numbers) })
+    (sym (append_assoc d.blocks e.blocks f.blocks))
+    ∙ ap (λ numbers. record { blocks = (d.blocks ++ e.blocks) ++ f.blocks; numbers = numbers })
+    (sym (append_assoc d.numbers e.numbers f.numbers))
 
 both_none : (e : Entries) → both_entries e no_entries ≡ e
 both_none e =
@@ -88,7 +95,8 @@ after_more : (replies : List PartReply) (d : Entries) (r : Reply) (e : Entries) 
     → after_parts replies d (with_part r e out) ≡ after_parts (replies ++ part_reply r ∷ []) (both_entries d e) out
 after_more replies d r e (RefusedAt at q) = refl
 after_more replies d r e (AllDone others net f) =
-    ap (λ rs. AllDone rs net (both_entries d (both_entries e f))) (sym (append_assoc replies (part_reply r ∷ []) others))
+    ap (λ rs. AllDone rs net (both_entries d (both_entries e f)))
+    (sym (append_assoc replies (part_reply r ∷ []) others))
     ∙ ap (λ b. AllDone ((replies ++ part_reply r ∷ []) ++ others) net b) (both_assoc d e f)
 
 module _ (team name : List ℕ) (before : NetAndBook) (parts : List Action) where
@@ -120,7 +128,8 @@ module _ (team name : List ℕ) (before : NetAndBook) (parts : List Action) wher
     there = inl refl;
     entries = no_entries;
     book = ap (λ (d : NetAndBook). d.book) draft;
-    goes_on = after_none whole ∙ ap (λ (d : NetAndBook). after_parts [] no_entries (parts_done team name 1 d.net d.book parts)) (sym draft)
+    goes_on = after_none whole
+        ∙ ap (λ (d : NetAndBook). after_parts [] no_entries (parts_done team name 1 d.net d.book parts)) (sym draft)
         ∙ ap (λ rs. after_parts rs no_entries (rest_of 0 p)) (sym replies);
   }
 
@@ -133,31 +142,40 @@ module _ (team name : List ℕ) (before : NetAndBook) (parts : List Action) wher
     others n e = parts_done team name (i + 1 + 1) (Some n) (entered p.draft.book e) (drop (i + 1) parts)
 
     goes_by : whole ≡ after_parts p.replies h.entries (part_then (i + 1) next others)
-    goes_by = h.goes_on ∙ ap (λ later. after_parts p.replies h.entries (parts_done team name (i + 1) p.draft.net p.draft.book later)) is
+    goes_by = h.goes_on ∙ ap
+        (λ later. after_parts p.replies h.entries (parts_done team name (i + 1) p.draft.net p.draft.book later)) is
 
     refused_none : (Q : Type 0) (r : Refusal) → ◌≡◌ {A = Option Refusal} None (Some r) → Q
     refused_none Q r e = absurd cc
 
-    added : (d : Decision) (out : Outcome) → next ≡ out → Decides name p.draft out d → None ≡ refusal_in d.reply → IsAdded name d p q → IsProgress (i + 1) q
+    added : (d : Decision) (out : Outcome) → next ≡ out → Decides name p.draft out d → None ≡ refusal_in d.reply
+        → IsPartAdded name d p q → IsProgress (i + 1) q
     added d (Refusing r) out decides none add = refused_none _ r (none ∙ ap refusal_in decides.reply)
     added d (Changing r n e) out decides none add =
         let left : q.draft ≡ record { net = Some n; book = entered p.draft.book e } = add.draft ∙ decides.changes in
         record {
-          left = add.draft ∙ ap (all_applied name d.changes) h.left ∙ sym (applied_more name p.changes d.changes before) ∙ ap (λ cs. all_applied name cs before) (sym add.changes);
+          left = add.draft ∙ ap (all_applied name d.changes) h.left ∙ sym (applied_more name p.changes d.changes before)
+              ∙ ap (λ cs. all_applied name cs before) (sym add.changes);
           head_first = subst (IsHeadFirst before.net) (sym add.changes)
-              (head_first_more name before.net before.book p.changes d.changes h.head_first (subst (λ (v : NetAndBook). IsHeadFirst v.net d.changes) h.left decides.head_first));
-          own_blocks = subst HaveOwnBlocks (sym add.changes) (own_more p.changes d.changes h.own_blocks decides.own_blocks);
-          fit = subst (λ cs. AllFit name cs before) (sym add.changes) (fit_more name p.changes d.changes before h.fit (subst (AllFit name d.changes) h.left decides.fit));
+              (head_first_more name before.net before.book p.changes d.changes h.head_first
+              (subst (λ (v : NetAndBook). IsHeadFirst v.net d.changes) h.left decides.head_first));
+          own_blocks = subst HaveOwnBlocks (sym add.changes)
+              (own_more p.changes d.changes h.own_blocks decides.own_blocks);
+          fit = subst (λ cs. AllFit name cs before) (sym add.changes)
+              (fit_more name p.changes d.changes before h.fit (subst (AllFit name d.changes) h.left decides.fit));
           count = ap length add.replies ∙ length-append p.replies (part_reply d.reply ∷ []) ∙ ap (λ k. k + 1) h.count;
           there = inr (n, ap (λ (v : NetAndBook). v.net) left);
           entries = both_entries h.entries e;
-          book = ap (λ (v : NetAndBook). v.book) left ∙ ap (λ b. entered b e) h.book ∙ sym (entered_both before.book h.entries e);
+          book = ap (λ (v : NetAndBook). v.book) left ∙ ap (λ b. entered b e) h.book
+              ∙ sym (entered_both before.book h.entries e);
           goes_on = goes_by
               ∙ ap (λ o. after_parts p.replies h.entries (part_then (i + 1) o others)) out
               ∙ after_more p.replies h.entries r e (others n e)
-              ∙ ap (λ s. after_parts (p.replies ++ part_reply s ∷ []) (both_entries h.entries e) (others n e)) (sym decides.reply)
+              ∙ ap (λ s. after_parts (p.replies ++ part_reply s ∷ []) (both_entries h.entries e) (others n e))
+              (sym decides.reply)
               ∙ ap (λ rs. after_parts rs (both_entries h.entries e) (others n e)) (sym add.replies)
-              ∙ ap (λ (v : NetAndBook). after_parts q.replies (both_entries h.entries e) (parts_done team name (i + 1 + 1) v.net v.book (drop (i + 1) parts))) (sym left);
+              ∙ ap (λ (v : NetAndBook). after_parts q.replies (both_entries h.entries e)
+              (parts_done team name (i + 1 + 1) v.net v.book (drop (i + 1) parts))) (sym left);
         }
 
     pub next_added : IsPartDecided team name a p q None → IsProgress (i + 1) q
@@ -167,15 +185,19 @@ module _ (team name : List ℕ) (before : NetAndBook) (parts : List Action) wher
     is_refused r (Refused q) e = ap Refused (let same : q ≡ r = cc in same)
     is_refused r s e = absurd cc
 
-    refused_by : (d : Decision) (r : Refusal) (out : Outcome) → next ≡ out → Leaves (λ s n e. IsLeft name (task.Act a) p.draft.net s n) out → Decides name p.draft out d
+    refused_by : (d : Decision) (r : Refusal) (out : Outcome) → next ≡ out
+        → Leaves (λ s n e. IsLeft name (task.Act a) p.draft.net s n) out → Decides name p.draft out d
         → Some r ≡ refusal_in d.reply → whole ≡ RefusedAt (i + 1) r
     refused_by d r (Refusing q) out left decides reported =
         goes_by ∙ ap (λ o. after_parts p.replies h.entries (part_then (i + 1) o others)) out
-        ∙ ap (RefusedAt (i + 1)) (let same : Some q ≡ Some r = sym (reported ∙ ap refusal_in decides.reply) in let one : q ≡ r = cc in one)
-    refused_by d r (Changing s n e) out left decides reported = absurd (subst IsAnswer (sym decides.reply ∙ is_refused r d.reply reported) left.answer)
+        ∙ ap (RefusedAt (i + 1)) (let same : Some q ≡ Some r = sym (reported ∙ ap refusal_in decides.reply) in
+        let one : q ≡ r = cc in one)
+    refused_by d r (Changing s n e) out left decides reported =
+        absurd (subst IsAnswer (sym decides.reply ∙ is_refused r d.reply reported) left.answer)
 
     -- the bundle is refused where the part is
-    pub next_refused : (r : Refusal) → IsPartDecided team name a p q (Some r) → (d : Decision) → d.changes ≡ [] → d.reply ≡ Refused (no.BundleRefused (refused_part (i + 1) r))
+    pub next_refused : (r : Refusal) → IsPartDecided team name a p q (Some r) → (d : Decision) → d.changes ≡ []
+        → d.reply ≡ Refused (no.BundleRefused (refused_part (i + 1) r))
         → Decides name before (bundle_outcome whole) d
     next_refused r k d none is =
         subst (λ out. Decides name before (bundle_outcome out) d)
@@ -184,8 +206,10 @@ module _ (team name : List ℕ) (before : NetAndBook) (parts : List Action) wher
 
   -- After all of them.
 
-  all_done : (p : Progress) (n : Net) (e : Entries) (d : Decision) → whole ≡ AllDone p.replies (Some n) e → p.draft.net ≡ Some n → p.draft.book ≡ entered before.book e
-      → p.draft ≡ all_applied name p.changes before → IsHeadFirst before.net p.changes → HaveOwnBlocks p.changes → AllFit name p.changes before
+  all_done : (p : Progress) (n : Net) (e : Entries) (d : Decision) → whole ≡ AllDone p.replies (Some n) e
+      → p.draft.net ≡ Some n → p.draft.book ≡ entered before.book e
+      → p.draft ≡ all_applied name p.changes before → IsHeadFirst before.net p.changes → HaveOwnBlocks p.changes
+      → AllFit name p.changes before
       → d.changes ≡ p.changes → d.reply ≡ Bundle p.replies → Decides name before (bundle_outcome whole) d
   all_done p n e d out net book left head own fit changes reply =
       subst (λ out. Decides name before (bundle_outcome out) d) (sym out) (record {
@@ -198,14 +222,19 @@ module _ (team name : List ℕ) (before : NetAndBook) (parts : List Action) wher
         fit = subst (λ cs. AllFit name cs before) (sym changes) fit;
       })
 
-  pub ends : (p : Progress) (d : Decision) → AreParts parts → IsProgress (length parts) p → drop (length parts) parts ≡ [] → d.changes ≡ p.changes → d.reply ≡ Bundle p.replies
+  pub ends : (p : Progress) (d : Decision) → AreParts parts → IsProgress (length parts) p
+      → drop (length parts) parts ≡ [] → d.changes ≡ p.changes → d.reply ≡ Bundle p.replies
       → Decides name before (bundle_outcome whole) d
   ends p d some h none changes reply = by_there h.there
     where
       out : whole ≡ AllDone p.replies p.draft.net h.entries
-      out = h.goes_on ∙ ap (λ later. after_parts p.replies h.entries (parts_done team name (length parts + 1) p.draft.net p.draft.book later)) none
-          ∙ ap (λ rs. AllDone rs p.draft.net (both_entries h.entries no_entries)) (append-nil p.replies) ∙ ap (AllDone p.replies p.draft.net) (both_none h.entries)
+      out = h.goes_on ∙ ap (λ later. after_parts p.replies h.entries
+          (parts_done team name (length parts + 1) p.draft.net p.draft.book later)) none
+          ∙ ap (λ rs. AllDone rs p.draft.net (both_entries h.entries no_entries)) (append-nil p.replies)
+          ∙ ap (AllDone p.replies p.draft.net) (both_none h.entries)
 
-      by_there : (length parts ≡ 0) ⊎ ((n : Net) × (p.draft.net ≡ Some n)) → Decides name before (bundle_outcome whole) d
+      by_there : (length parts ≡ 0) ⊎ ((n : Net) × (p.draft.net ≡ Some n))
+          → Decides name before (bundle_outcome whole) d
       by_there (inl zero_parts) = absurd (let least = some.some in omega (arith, least, zero_parts))
-      by_there (inr found) = all_done p found.0 h.entries d (out ∙ ap (λ m. AllDone p.replies m h.entries) found.1) found.1 h.book h.left h.head_first h.own_blocks h.fit changes reply
+      by_there (inr found) = all_done p found.0 h.entries d (out ∙ ap (λ m. AllDone p.replies m h.entries) found.1)
+          found.1 h.book h.left h.head_first h.own_blocks h.fit changes reply

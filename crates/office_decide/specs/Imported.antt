@@ -43,13 +43,15 @@ IsWantedReading (Some file) reading = IsReadAs file reading
 pub record IsImportDecision (team : List ℕ) (net : Option Net) (file : List ℕ) (d : Decision) : Type 0 where
   pub reading : FileReading
   pub read : IsWantedReading (file_wanted net (Import file)) reading
-  pub decides : (name : List ℕ) (book : SpnBook) → Decides name (record { net = net; book = book }) (import team net reading) d
+  pub decides : (name : List ℕ) (book : SpnBook)
+      → Decides name (record { net = net; book = book }) (import team net reading) d
 
 -- the same where the network is there, and the file is wanted
 pub record IsReadDecision (team : List ℕ) (net : Net) (file : List ℕ) (d : Decision) : Type 0 where
   pub reading : FileReading
   pub read : IsReadAs file reading
-  pub decides : (name : List ℕ) (book : SpnBook) → Decides name (record { net = Some net; book = book }) (import team (Some net) reading) d
+  pub decides : (name : List ℕ) (book : SpnBook)
+      → Decides name (record { net = Some net; book = book }) (import team (Some net) reading) d
 
 -- What is decided on a command is what it results in, for an import with the reading of `read`: so a file that reads as
 -- no sheet is refused with the fault and the offset that `read` gives.

@@ -5,7 +5,7 @@ ghost use Rattle.office_rules.specs.Change.{AllFit, Fits, net_changed, applied, 
 ghost use Rattle.office_rules.specs.Opening.{bare_net};
 
 use crate::one_signal::{add_signal, remove_signal, set_spn, set_values};
-use catalogue::{Copying, Items, put_item};
+use base::{Copying, Items, put_item};
 use office_facts::same_ident;
 use office_types::{Change, Head, Net, NetName, SpnBook};
 use std::alloc::{AllocError, Global};
@@ -41,7 +41,8 @@ impl Draft {
 
 /// A copy of the network, if it is there, and of the book. The error is out of memory.
 pub fn draft_of(alloc: Global, found: Option<&Net>, book: &SpnBook) -> Result<Draft, AllocError>
-    ensures { IfOk result (λ draft. draft ≡ record { net = option_copied found.entry; book = book.now }) }
+    ensures { IfOk result (λ draft. draft
+        ≡ record { net = option_copied found.entry; book = book.now }) }
 {
     let net = match found {
         None => None,

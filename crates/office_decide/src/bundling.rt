@@ -9,7 +9,7 @@ ghost use Rattle.office_decide.specs.Bundled.{IsPartDecided, refusal_in};
 
 use crate::applying::{Draft, change_all, draft_of};
 use crate::deciding::decide_by_walk;
-use catalogue::{Copying, Items};
+use base::{Copying, Items};
 use office_facts::refusal_decision;
 use office_types::{
     Action, Change, Decision, FileFault, Net, NetName, PartReply, Parts, Refusal, Reply, SpnBook,
@@ -68,7 +68,8 @@ fn add_part(
     progress: &mut Progress,
     part: &Action,
 ) -> Result<Option<Refusal>, AllocError>
-    ensures { IfOk result (λ refused. IsPartDecided team.now name.now part.now progress.old progress.new refused) }
+    ensures { IfOk result (λ refused. IsPartDecided team.now name.now part.now progress.old
+        progress.new refused) }
 {
     let draft = &progress.draft;
     let decision = decide_by_walk(alloc, team, name, draft.net.as_ref(), &draft.book, part)?;
@@ -91,8 +92,10 @@ pub(crate) fn decide_bundle(
     book: &SpnBook,
     parts: &Parts<Action>,
 ) -> Result<Decision, AllocError>
-    ensures { IfOk result (Decides name.now (record { net = option_copied net.entry; book = book.now })
-        (bundle_outcome (parts_done team.now name.now 1 (option_copied net.entry) book.now parts.now))) }
+    ensures { IfOk result (Decides name.now
+        (record { net = option_copied net.entry; book = book.now })
+        (bundle_outcome (parts_done team.now name.now 1 (option_copied net.entry) book.now
+        parts.now))) }
 {
     let mut progress = Progress {
         draft: draft_of(alloc, net, book)?,

@@ -11,12 +11,12 @@ ghost use Rattle.office_facts.specs.Scope.{reads_book, scope_of};
 
 use office_facts::Facts;
 use office_law::numbers_elsewhere_do_not_count;
-use office_signals::{
-    decide_remove_signal, decide_retire, decide_set_values, decide_take_bits, decide_take_spn,
-};
-use office_take::{
+use office_net::{
     decide_add_node, decide_approve, decide_grant, decide_open_again, decide_reject,
     decide_release, decide_submit, decide_take_ident, decide_take_pgn,
+};
+use office_signals::{
+    decide_remove_signal, decide_retire, decide_set_values, decide_take_bits, decide_take_spn,
 };
 use office_types::{Action, Decision, NetName, SpnBook, Team};
 use std::alloc::{AllocError, Global};

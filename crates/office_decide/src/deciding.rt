@@ -1,7 +1,7 @@
 //! What is decided on any command.
 ghost use Rattle.std.specs.Prelude.{◌≡◌, ◌&&◌, ◌∷◌, [], true, not, IfOk, None, Some};
 ghost use Rattle.std.specs.Option.{option_copied};
-ghost use Rattle.catalogue.specs.Refusing.{first_refusal};
+ghost use Rattle.base.specs.Refusing.{first_refusal};
 ghost use Rattle.office_types.specs.PlainName.{is_office};
 ghost use Rattle.office_types.specs.declared.book.SpnBook.{SpnBook as Book};
 ghost use Rattle.office_types.specs.declared.refusal.Refusal.TheVariants as no;
@@ -18,7 +18,7 @@ use crate::by_facts::decide_by;
 use crate::importing::decide_import_of;
 use crate::walking::walk;
 use office_facts::{Excerpt, refusal_decision, scope_of};
-use office_take::decide_open_net;
+use office_net::decide_open_net;
 use office_types::{
     Action, Command, Decision, Net, NetName, Refusal, SpnBook, Task, Team, is_office,
 };
@@ -26,7 +26,7 @@ use std::alloc::{AllocError, Global};
 
 /// Why what needs a network is refused where it isn't there; what the office alone may do is refused to another team
 /// first.
-fn nowhere_refusal(team: &Team, is_of_office: bool) -> Refusal
+fn refusal_without_net(team: &Team, is_of_office: bool) -> Refusal
     ensures { Some result ≡ first_refusal
         (when (is_of_office && not (is_office team.now)) no.NotOffice ∷ when true no.NoNet ∷ []) }
 {
@@ -38,21 +38,22 @@ fn nowhere_refusal(team: &Team, is_of_office: bool) -> Refusal
 }
 
 /// Decides an action where the network isn't there.
-fn decide_nowhere(
+fn decide_without_net(
     alloc: Global,
     team: &Team,
     name: &NetName,
     action: &Action,
 ) -> Result<Decision, AllocError>
-    ensures { IfOk result (λ d. (book : Book) → Decides name.now (record { net = None; book = book })
+    ensures { IfOk result (λ d. (book : Book)
+        → Decides name.now (record { net = None; book = book })
         (acted team.now name.now None book action.now) d) }
 {
     match action {
         Action::OpenNet(open) => decide_open_net(alloc, team, name, open),
         Action::Grant(_) | Action::Release => {
-            Ok(refusal_decision(alloc, nowhere_refusal(team, true)))
+            Ok(refusal_decision(alloc, refusal_without_net(team, true)))
         }
-        _ => Ok(refusal_decision(alloc, nowhere_refusal(team, false))),
+        _ => Ok(refusal_decision(alloc, refusal_without_net(team, false))),
     }
 }
 
@@ -65,11 +66,12 @@ pub(crate) fn decide_by_walk(
     book: &SpnBook,
     action: &Action,
 ) -> Result<Decision, AllocError>
-    ensures { IfOk result (Decides name.now (record { net = option_copied net.entry; book = book.now })
+    ensures { IfOk result (Decides name.now
+        (record { net = option_copied net.entry; book = book.now })
         (acted team.now name.now (option_copied net.entry) book.now action.now)) }
 {
     match net {
-        None => decide_nowhere(alloc, team, name, action),
+        None => decide_without_net(alloc, team, name, action),
         Some(net) => {
             let facts = walk(net, &scope_of(action));
             decide_by(alloc, team, name, &facts, book, action)
@@ -96,7 +98,7 @@ pub fn decide(
     match &command.task {
         Task::Act(action) => decide_by_walk(alloc, team, &command.net, net, book, action),
         Task::Import(file) => match net {
-            None => Ok(refusal_decision(alloc, nowhere_refusal(team, false))),
+            None => Ok(refusal_decision(alloc, refusal_without_net(team, false))),
             Some(net) => decide_import_of(alloc, team, net, file.as_slice()),
         },
         Task::Bundle(parts) => decide_bundle(alloc, team, &command.net, net, book, parts),
@@ -113,7 +115,8 @@ pub fn decide_by_excerpt(
     command: &Command,
 ) -> Result<Decision, AllocError>
     requires { is_for command.now.task excerpt.now ≡ true }
-    ensures { IfOk result (λ d. (net : NetModel) (other : Book) → IsExcerptOf team.now net command.now.task excerpt.now
+    ensures { IfOk result (λ d. (net : NetModel) (other : Book)
+        → IsExcerptOf team.now net command.now.task excerpt.now
         → (reads_book command.now.task ≡ true → other ≡ book.now)
         → IsDecision team.now (record { net = Some net; book = other }) command.now d) }
 {

@@ -8,7 +8,7 @@
 //!
 //! `applying.rt` and `one_signal.rt` apply changes to such a copy, a [`Draft`].
 //!
-//! The bodies of the commands are in `office_take`, `office_signals` and `office_import`, and the definitions in
+//! The bodies of the commands are in `office_net`, `office_signals` and `office_import`, and the definitions in
 //! `office_rules/specs`: `Commands.antt` and `Step.antt` the outcome of a command, `Change.antt` what changes do.
 #![tactic(auto)]
 

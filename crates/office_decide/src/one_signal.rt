@@ -1,14 +1,16 @@
 //! Changes of one signal of a message: in its place in a list, or on a copy that is put into a network.
 ghost use Rattle.std.specs.Prelude.{◌≡◌, ◌<◌, None, Some, IfOk, IfSome, OnOk, OnErr, length, slice_get};
 ghost use Rattle.std.specs.Prelude.{slice_set};
-ghost use Rattle.catalogue.specs.Refusing.{first_refusal};
-ghost use Rattle.catalogue.specs.Signals.{signal_tests};
+ghost use Rattle.base.specs.Refusing.{first_refusal};
+ghost use Rattle.dbc_sheet.specs.Signals.{signal_tests};
 ghost use Rattle.office_types.specs.declared.change.Change.TheVariants.{AddSignal, RemoveSignal, SetSpn, SetValues};
 ghost use Rattle.office_rules.specs.Change.{Fits, net_changed};
 ghost use Rattle.office_rules.specs.Facts.{live_named};
 ghost use Rattle.office_rules.specs.Signals.{with_last_signal, with_signal_out, with_spn, with_values};
 
-use catalogue::{Copying, Items, Name, SheetCode, Signal, ValueTexts, put_item};
+use base::{Copying, Items, put_item};
+use dbc_sheet::{Signal, ValueTexts};
+use dbc_words::{Name, SheetCode};
 use office_facts::live_named;
 use office_types::{LiveMessage, Net, SignalPath, UsableSpn};
 use std::alloc::{AllocError, Global};

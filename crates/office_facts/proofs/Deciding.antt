@@ -1,6 +1,6 @@
 -- When a decision is that of a list of tests and of what comes after them.
 use Rattle.std.proofs.Common.{◌≡◌, ℕ, List, [], Option, Some, None, sym, ap, subst}
-use Rattle.catalogue.specs.Refusing.{Test, first_refusal}
+use Rattle.base.specs.Refusing.{Test, first_refusal}
 use Rattle.office_types.specs.declared.change.Change.{Change}
 use Rattle.office_types.specs.declared.change.Decision.{Decision}
 use Rattle.office_types.specs.declared.refusal.Refusal.{Refusal}
@@ -14,7 +14,8 @@ nothing_first None = tt
 nothing_first (Some net) = tt
 
 -- the first refusal of the tests is the reply, and nothing changes
-pub Decides-refused : (name : List ℕ) (before : NetAndBook) (tests : List (Test Refusal)) (out : Outcome) (d : Decision) (r : Refusal)
+pub Decides-refused : (name : List ℕ) (before : NetAndBook) (tests : List (Test Refusal)) (out : Outcome) (d : Decision)
+    (r : Refusal)
     → Some r ≡ first_refusal tests → d.reply ≡ Refused r → d.changes ≡ [] → Decides name before (unless tests out) d
 Decides-refused name before tests out d r first reply quiet =
     subst (λ (o : Option Refusal). Decides name before (refused_or o out) d) first (record {
@@ -29,4 +30,5 @@ Decides-refused name before tests out d r first reply quiet =
 -- no test refuses, and the decision is that of what comes after the tests
 pub Decides-given : (name : List ℕ) (before : NetAndBook) (tests : List (Test Refusal)) (out : Outcome) (d : Decision)
     → None ≡ first_refusal tests → Decides name before out d → Decides name before (unless tests out) d
-Decides-given name before tests out d none given = subst (λ (o : Option Refusal). Decides name before (refused_or o out) d) none given
+Decides-given name before tests out d none given =
+    subst (λ (o : Option Refusal). Decides name before (refused_or o out) d) none given

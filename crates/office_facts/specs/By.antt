@@ -11,7 +11,8 @@ use Rattle.office_types.specs.declared.refusal.Refusal.TheVariants as no
 use Rattle.office_types.specs.declared.reply.Reply.TheVariants.{Number}
 use Rattle.office_types.specs.declared.state.Net.{Net}
 use Rattle.office_rules.specs.Facts.{NumberFacts, blocks_of, group_facts, ident_facts, lies_in}
-use Rattle.office_rules.specs.Numbers.{group_given, ident_with, new_message, number_given, take_ident_tests, take_pgn_tests, with_message}
+use Rattle.office_rules.specs.Numbers.{group_given, ident_with, new_message, number_given, take_ident_tests}
+use Rattle.office_rules.specs.Numbers.{take_pgn_tests, with_message}
 use Rattle.office_rules.specs.Outcome.{Outcome, Changing, given_or, no_entries, unless, when}
 
 -- the command on the network, where these are the facts
@@ -34,7 +35,8 @@ AgreeInside blocks a b = (n : ℕ) → lies_in n blocks ≡ true → is_taken n 
 -- The facts are those of the network for the command; of the taken numbers only those of the team's blocks count.
 pub record AreIdentFacts (team : List ℕ) (net : Net) (c : TakeIdent) (facts : NumberFacts) : Type 0 where
   pub others : record (ident_facts net c.message.name c.form c.want) { taken = facts.taken } ≡ facts
-  pub taken : AgreeInside (blocks_of net.blocks team (block_form c.form)) facts.taken (ident_facts net c.message.name c.form c.want).taken
+  pub taken : AgreeInside (blocks_of net.blocks team (block_form c.form)) facts.taken
+      (ident_facts net c.message.name c.form c.want).taken
 
 pub record AreGroupFacts (team : List ℕ) (net : Net) (c : TakePgn) (facts : NumberFacts) : Type 0 where
   pub others : record (group_facts net c.message.name) { taken = facts.taken } ≡ facts

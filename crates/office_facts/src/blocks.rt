@@ -11,7 +11,8 @@ use std::alloc::{AllocError, Global};
 
 /// Whether the block was granted to the team and has the form.
 fn is_of(granted: &GrantedBlock, team: &Team, form: BlockForm) -> bool
-    ensures { result ≡ (same_form granted.now.block.form form && bytes_eq granted.now.team team.now) }
+    ensures { result ≡ (same_form granted.now.block.form form && bytes_eq granted.now.team
+        team.now) }
 {
     granted.block.form() == form && granted.team == *team
 }
@@ -48,7 +49,8 @@ pub fn lies_in(number: u32, blocks: &[Block]) -> bool
 
 /// Whether one of the blocks was granted to the team and has the form.
 fn some_block(blocks: &[GrantedBlock], team: &Team, form: BlockForm) -> bool
-    ensures { result ≡ list_any (λ g. same_form g.block.form form && bytes_eq g.team team.now) blocks.now }
+    ensures { result ≡ list_any (λ g. same_form g.block.form form && bytes_eq g.team team.now)
+        blocks.now }
 {
     blocks.iter().any(|granted| is_of(granted, team, form))
 }

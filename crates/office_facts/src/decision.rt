@@ -2,7 +2,7 @@
 ghost use Rattle.std.specs.Prelude.{◌≡◌, IfOk, ◌∷◌, []};
 ghost use Rattle.office_types.specs.declared.reply.Reply.TheVariants.{Refused};
 
-use catalogue::Items;
+use base::Items;
 use office_types::{Change, Decision, Refusal, Reply};
 use std::alloc::{AllocError, Global};
 

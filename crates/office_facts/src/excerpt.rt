@@ -5,7 +5,7 @@ ghost use Rattle.office_facts.specs.FactsOf.{facts_in, facts_of, message_facts_o
 use crate::message::MessageFacts;
 use crate::numbers::NumberFacts;
 use crate::taken::TakenNumbers;
-use catalogue::Items;
+use base::Items;
 use office_types::{GrantedBlock, Head, LiveMessage, Net};
 
 /// What is read of a network that is there, for each [`Scope`](crate::Scope).

@@ -1,13 +1,14 @@
 //! What a network's parts have, as the tests of commands need it.
 ghost use Rattle.std.specs.Prelude.{◌≡◌};
 ghost use Rattle.std.specs.Option.{option_copied};
-ghost use Rattle.catalogue.specs.Named.{has_name};
-ghost use Rattle.catalogue.specs.Signals.{signal_name};
+ghost use Rattle.dbc_words.specs.Named.{has_name};
+ghost use Rattle.dbc_sheet.specs.Signals.{signal_name};
 ghost use Rattle.office_rules.specs.Facts.{has_node, in_review, is_full, is_held, is_j1939, is_live, is_named};
 ghost use Rattle.office_rules.specs.Facts.{is_submitter, knows_node, live_named, same_ident};
 
 use can_id::Ident;
-use catalogue::{MESSAGE_LIMIT, Name, Node, Signal};
+use dbc_sheet::{Node, Signal};
+use dbc_words::{MESSAGE_LIMIT, Name};
 use office_types::{LiveMessage, Net, NetKind, Phase, Team};
 
 /// Whether J1939 parameter groups are allotted on a network of this kind.

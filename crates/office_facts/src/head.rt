@@ -1,7 +1,8 @@
 //! A network's head with one thing changed.
 ghost use Rattle.std.specs.Prelude.{◌≡◌, IfOk};
 
-use catalogue::{Copying, Sheet};
+use base::Copying;
+use dbc_sheet::Sheet;
 use office_types::{Head, Phase};
 use std::alloc::{AllocError, Global};
 

@@ -5,7 +5,8 @@ ghost use Rattle.office_rules.specs.Facts.{message_facts, was_released};
 
 use crate::facts::live_named;
 use can_id::Ident;
-use catalogue::{Name, Node};
+use dbc_sheet::Node;
+use dbc_words::Name;
 use office_types::{FrozenSheet, LiveMessage, Net, Phase};
 
 /// What a command on a live message reads of a network, wherever that is kept.

@@ -1,10 +1,10 @@
 //! Numbers in ascending order, in which a number is found by binary search, and the least that isn't there by halving.
 ghost use Rattle.std.specs.Prelude.{◌≡◌, ◌&&◌, ◌||◌, ◌==◌, ℕ, IfErr, IfOk, OnErr, OnOk, not};
 ghost use Rattle.std.specs.List.Sorted.{IsStrictlyIncreasing};
-ghost use Rattle.catalogue.specs.Ascending.{IsAt, IsGap};
+ghost use Rattle.base.specs.Ascending.{IsAt, IsGap};
 ghost use Rattle.office_types.specs.Free.{is_taken, least_free};
 
-use office_types::{Block, Form, least_gap};
+use office_types::{Block, NumberForm, least_gap};
 use std::alloc::AllocError;
 use std::marker::Model;
 
@@ -44,7 +44,8 @@ impl NumberSet {
 
     /// Adds the number. When memory runs out, nothing changes.
     pub fn add(&mut self, number: u32) -> Result<(), AllocError>
-        ensures ok { OnOk result ((n : ℕ) → is_taken n self.new ≡ ((number == n) || is_taken n self.old)) }
+        ensures ok { OnOk result
+            ((n : ℕ) → is_taken n self.new ≡ ((number == n) || is_taken n self.old)) }
         ensures err { OnErr result (self.new ≡ self.old) }
     {
         match search(&self.numbers, number) {
@@ -70,7 +71,7 @@ impl NumberSet {
 
     /// The least number that lies in one of the blocks, has the form and isn't one of these, `None` where there is
     /// none. Takes no memory.
-    pub fn least_free(&self, blocks: &[Block], form: Form) -> Option<u32>
+    pub fn least_free(&self, blocks: &[Block], form: NumberForm) -> Option<u32>
         ensures { result ≡ least_free self.now blocks.now form }
     {
         least_gap(&self.numbers, blocks, form)

@@ -1,6 +1,6 @@
 //! What commands that give out a number for a new message read of a network.
 use crate::taken::TakenNumbers;
-use catalogue::Node;
+use dbc_sheet::Node;
 use office_types::{GrantedBlock, NetKind, Phase};
 
 /// What a command that gives out a number for a new message reads of a network, wherever that is kept.

@@ -4,7 +4,7 @@ ghost use Rattle.std.specs.List.{list_any};
 ghost use Rattle.office_facts.specs.Scope.{reads_part, reads_book, scope_as, scope_of};
 ghost use Rattle.office_rules.specs.Commands.{action_reads_bodies, action_reads_releases, reads_bodies, reads_releases};
 
-use catalogue::Name;
+use dbc_words::Name;
 use office_types::{Action, BlockForm, TakeIdent, TakePgn, Task};
 
 /// What an action reads of a network that is there.

@@ -8,7 +8,7 @@ ghost use Rattle.office_rules.specs.Facts.{group_of, number_in, taken_groups, ta
 use crate::idents::{group_of, number_in};
 use crate::number_set::NumberSet;
 use can_id::{Ident, IdentForm};
-use office_types::{Block, Form, LiveMessage, Net, is_ascending, least_free};
+use office_types::{Block, LiveMessage, Net, NumberForm, is_ascending, least_free};
 use std::alloc::{AllocError, Global};
 
 /// The numbers of these live and these held identifiers that have the form. The error is out of memory.
@@ -18,7 +18,8 @@ pub fn numbers_of(
     live: &[Ident],
     held: &[Ident],
 ) -> Result<Vec<u32>, AllocError>
-    ensures { IfOk result (λ numbers. numbers.items ≡ filter_map (number_in form) (live.now ++ held.now)) }
+    ensures { IfOk result (λ numbers. numbers.items ≡ filter_map (number_in form)
+        (live.now ++ held.now)) }
 {
     live.iter()
         .chain(held.iter())
@@ -79,7 +80,8 @@ fn ascending(numbers: Vec<u32>) -> Result<Vec<u32>, AllocError>
 
 /// The numbers of the network's live and held identifiers of the form, as a set. The error is out of memory.
 pub fn number_set_of(alloc: Global, net: &Net, form: IdentForm) -> Result<NumberSet, AllocError>
-    ensures { IfOk result (λ set. (n : ℕ) → is_taken n set ≡ is_taken n (taken_numbers net.now form)) }
+    ensures { IfOk result (λ set. (n : ℕ)
+        → is_taken n set ≡ is_taken n (taken_numbers net.now form)) }
 {
     let numbers = taken_numbers(alloc, net, form)?;
     let rising = ascending(numbers)?;
@@ -87,7 +89,11 @@ pub fn number_set_of(alloc: Global, net: &Net, form: IdentForm) -> Result<Number
 }
 
 /// The least number that lies in one of the blocks, has the form and isn't one of these, if there is one.
-fn least_beside(numbers: Vec<u32>, blocks: &[Block], form: Form) -> Result<Option<u32>, AllocError>
+fn least_beside(
+    numbers: Vec<u32>,
+    blocks: &[Block],
+    form: NumberForm,
+) -> Result<Option<u32>, AllocError>
     ensures { IfOk result (λ least. least ≡ least_free numbers.items blocks.now form) }
 {
     let rising = ascending(numbers)?;
@@ -117,7 +123,7 @@ impl TakenNumbers<'_> {
         &self,
         alloc: Global,
         blocks: &[Block],
-        form: Form,
+        form: NumberForm,
     ) -> Result<Option<u32>, AllocError>
         ensures { IfOk result (λ least. least ≡ least_free (taken_by self.now) blocks.now form) }
     {

@@ -58,8 +58,10 @@ word_of Bundle = codes "bundle"
 -- all commands
 abbrev pub all_kinds : List CommandKind
 all_kinds =
-    Act kind.OpenNet ∷ Act kind.Grant ∷ Act kind.AddNode ∷ Act kind.TakeIdent ∷ Act kind.TakePgn ∷ Act kind.TakeSpn ∷ Act kind.TakeBits ∷
-    Act kind.SetValues ∷ Act kind.RemoveSignal ∷ Act kind.Retire ∷ Import ∷ Act kind.Submit ∷ Act kind.Approve ∷ Act kind.Reject ∷
+    Act kind.OpenNet ∷ Act kind.Grant ∷ Act kind.AddNode ∷ Act kind.TakeIdent ∷ Act kind.TakePgn ∷ Act kind.TakeSpn
+    ∷ Act kind.TakeBits ∷
+    Act kind.SetValues ∷ Act kind.RemoveSignal ∷ Act kind.Retire ∷ Import ∷ Act kind.Submit ∷ Act kind.Approve
+    ∷ Act kind.Reject ∷
     Act kind.Release ∷ Bundle ∷ []
 
 -- the command that a word names

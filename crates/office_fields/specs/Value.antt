@@ -1,20 +1,21 @@
 -- The kinds of values, and the value that bytes give: `None` where they are no value of the kind.
-use Rattle.std.specs.Prelude.{ℕ, ◌==◌, nat_le, Bool, true, false, List, [], ◌∷◌, Option, Some, None, if◌then◌else◌, codes}
+use Rattle.std.specs.Prelude.{ℕ, ◌==◌, nat_le, Bool, true, false, List, [], ◌∷◌, Option, Some, None, if◌then◌else◌}
+use Rattle.std.specs.Prelude.{codes}
 use Rattle.std.specs.Option.{option_and_then}
 use Rattle.std.specs.Result.{result_ok}
 use Rattle.std.specs.Str.{bytes_eq, is_utf8}
+use Rattle.base.specs.Split.{split_once}
+use Rattle.base.specs.WholeNumber.{whole_of}
 use Rattle.bitlayout.specs.declared.layout.Order.{Order}
 use Rattle.bitlayout.specs.declared.layout.Order.TheVariants.{Intel, Motorola}
 use Rattle.bitlayout.specs.declared.place.Mux.{Mux}
 use Rattle.can_id.specs.declared.form.IdentForm.{IdentForm}
 use Rattle.can_id.specs.declared.form.IdentForm.TheVariants as ident
-use Rattle.catalogue.specs.Indicator.{mux_of_indicator}
-use Rattle.catalogue.specs.Limits.{length_limit, size_limit, start_limit}
-use Rattle.catalogue.specs.Name.{is_name}
-use Rattle.catalogue.specs.Split.{split_once}
-use Rattle.catalogue.specs.Text.{is_text}
-use Rattle.catalogue.specs.WholeNumber.{whole_of}
-use Rattle.catalogue.specs.declared.value_texts.ValueText.{ValueText}
+use Rattle.dbc_words.specs.Indicator.{mux_of_indicator}
+use Rattle.dbc_words.specs.Limits.{length_limit, size_limit, start_limit}
+use Rattle.dbc_words.specs.Name.{is_name}
+use Rattle.dbc_words.specs.Text.{is_text}
+use Rattle.dbc_sheet.specs.declared.value_texts.ValueText.{ValueText}
 use Rattle.decimal.specs.Number.{Number}
 use Rattle.decimal.specs.Reading.{reading}
 use Rattle.office_types.specs.PlainName.{is_plain_name}

@@ -1,5 +1,5 @@
 //! Values that are one word of a few.
-ghost use Rattle.catalogue.specs.Indicator.{mux_of_indicator};
+ghost use Rattle.dbc_words.specs.Indicator.{mux_of_indicator};
 ghost use Rattle.office_fields.specs.Value.{addressing_of, block_form_of, ident_form_of, net_kind_of, order_of};
 ghost use Rattle.office_fields.specs.Value.{truth_of};
 
@@ -7,7 +7,7 @@ use crate::addressing::Addressing;
 use crate::given::FieldValue;
 use crate::unread::Unread;
 use bitlayout::{Mux, Order};
-use catalogue::mux_of_indicator;
+use dbc_words::mux_of_indicator;
 use office_types::{BlockForm, IdentForm, NetKind};
 use std::alloc::Global;
 

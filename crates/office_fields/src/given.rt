@@ -3,11 +3,11 @@ ghost use Rattle.std.specs.Prelude.{◌≡◌, ◌↔◌, ◌<◌, ◌∷◌, []
 ghost use Rattle.office_fields.specs.Field.{row_of};
 ghost use Rattle.office_fields.specs.Given.{named_values, values_of, is_name_of, are_known, read_once};
 ghost use Rattle.office_fields.specs.Given.{read_at_most_once, read_each};
-ghost use Rattle.office_fields.specs.Reading.{Reads};
+ghost use Rattle.office_fields.specs.Reading.{ReadsField};
 
 use crate::field::Field;
 use crate::unread::Unread;
-use catalogue::Items;
+use base::Items;
 use std::alloc::Global;
 
 /// A value that is given under a name.
@@ -28,7 +28,7 @@ pub(crate) trait FieldValue {
 
     /// The value that the bytes give. `Wrong` where they give none.
     fn of(alloc: Global, bytes: &[u8]) -> Result<Self, Unread>
-        ensures { Reads (read bytes.now) result };
+        ensures { ReadsField (read bytes.now) result };
 }
 
 /// The first value that is given under a name, and what is given after it.
@@ -68,7 +68,8 @@ pub(crate) fn once<T: FieldValue>(
     values: &[GivenValue<'_>],
     field: Field,
 ) -> Result<T, Unread>
-    ensures { Reads (read_once T.read (values_of (named_values values.now) (row_of field).name)) result }
+    ensures { ReadsField (read_once T.read
+        (values_of (named_values values.now) (row_of field).name)) result }
 {
     let Some(first) = first_of(values, field.name()) else {
         return Err(Unread::Wrong);
@@ -85,7 +86,8 @@ pub(crate) fn at_most_once<T: FieldValue>(
     values: &[GivenValue<'_>],
     field: Field,
 ) -> Result<Option<T>, Unread>
-    ensures { Reads (read_at_most_once T.read (values_of (named_values values.now) (row_of field).name)) result }
+    ensures { ReadsField (read_at_most_once T.read
+        (values_of (named_values values.now) (row_of field).name)) result }
 {
     let Some(first) = first_of(values, field.name()) else {
         return Ok(None);
@@ -102,7 +104,8 @@ pub(crate) fn each<T: FieldValue + Drop>(
     values: &[GivenValue<'_>],
     field: Field,
 ) -> Result<Items<T>, Unread>
-    ensures { Reads (read_each T.read (values_of (named_values values.now) (row_of field).name)) result }
+    ensures { ReadsField (read_each T.read
+        (values_of (named_values values.now) (row_of field).name)) result }
 {
     let mut items = Vec::new(alloc);
     for given in values {

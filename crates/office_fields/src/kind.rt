@@ -2,7 +2,7 @@
 ghost use Rattle.std.specs.Prelude.{◌≡◌, Some};
 ghost use Rattle.office_fields.specs.Given.{named_values};
 ghost use Rattle.office_fields.specs.Kind.{action_of, fields_of};
-ghost use Rattle.office_fields.specs.Reading.{Reads};
+ghost use Rattle.office_fields.specs.Reading.{ReadsField};
 
 use crate::field::Field;
 use crate::given::{GivenValue, once};
@@ -234,7 +234,7 @@ pub(crate) fn action_of(
     kind: ActionKind,
     values: &[GivenValue<'_>],
 ) -> Result<Action, Unread>
-    ensures { Reads (action_of kind (named_values values.now)) result }
+    ensures { ReadsField (action_of kind (named_values values.now)) result }
 {
     match kind {
         ActionKind::OpenNet => Ok(Action::OpenNet(open_net_of(alloc, values)?)),

@@ -1,7 +1,7 @@
 //! New messages.
 ghost use Rattle.office_fields.specs.Kind.{addressed_to, new_message_of, pdu_of, take_ident_of, take_pgn_of};
 ghost use Rattle.office_fields.specs.Given.{named_values};
-ghost use Rattle.office_fields.specs.Reading.{Reads};
+ghost use Rattle.office_fields.specs.Reading.{ReadsField};
 
 use crate::addressing::Addressing;
 use crate::field::Field;
@@ -11,7 +11,7 @@ use office_types::{NewMessage, Pdu, TakeIdent, TakePgn};
 use std::alloc::Global;
 
 fn new_message_of(alloc: Global, values: &[GivenValue<'_>]) -> Result<NewMessage, Unread>
-    ensures { Reads (new_message_of (named_values values.now)) result }
+    ensures { ReadsField (new_message_of (named_values values.now)) result }
 {
     let length = once(alloc, values, Field::Length)?;
     let name = once(alloc, values, Field::Name)?;
@@ -20,7 +20,7 @@ fn new_message_of(alloc: Global, values: &[GivenValue<'_>]) -> Result<NewMessage
 }
 
 pub(crate) fn take_ident_of(alloc: Global, values: &[GivenValue<'_>]) -> Result<TakeIdent, Unread>
-    ensures { Reads (take_ident_of (named_values values.now)) result }
+    ensures { ReadsField (take_ident_of (named_values values.now)) result }
 {
     let form = once(alloc, values, Field::IdentForm)?;
     let want = at_most_once(alloc, values, Field::Want)?;
@@ -33,7 +33,7 @@ pub(crate) fn take_ident_of(alloc: Global, values: &[GivenValue<'_>]) -> Result<
 }
 
 fn addressed_to(addressing: Addressing, destination: Option<u8>) -> Result<Pdu, Unread>
-    ensures { Reads (addressed_to addressing destination) result }
+    ensures { ReadsField (addressed_to addressing destination) result }
 {
     match addressing {
         Addressing::Addressed => Ok(Pdu::Addressed(destination)),
@@ -45,7 +45,7 @@ fn addressed_to(addressing: Addressing, destination: Option<u8>) -> Result<Pdu, 
 }
 
 fn pdu_of(alloc: Global, values: &[GivenValue<'_>]) -> Result<Pdu, Unread>
-    ensures { Reads (pdu_of (named_values values.now)) result }
+    ensures { ReadsField (pdu_of (named_values values.now)) result }
 {
     let addressing = once(alloc, values, Field::Pdu)?;
     let destination = at_most_once(alloc, values, Field::Destination)?;
@@ -53,7 +53,7 @@ fn pdu_of(alloc: Global, values: &[GivenValue<'_>]) -> Result<Pdu, Unread>
 }
 
 pub(crate) fn take_pgn_of(alloc: Global, values: &[GivenValue<'_>]) -> Result<TakePgn, Unread>
-    ensures { Reads (take_pgn_of (named_values values.now)) result }
+    ensures { ReadsField (take_pgn_of (named_values values.now)) result }
 {
     let pdu = pdu_of(alloc, values)?;
     let priority = once(alloc, values, Field::Priority)?;

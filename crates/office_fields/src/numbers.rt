@@ -1,26 +1,27 @@
 //! Numbers, by their digits.
-ghost use Rattle.office_fields.specs.Reading.{Reads};
+ghost use Rattle.base.specs.WholeNumber.{whole_of};
+ghost use Rattle.office_fields.specs.Reading.{ReadsField};
 ghost use Rattle.office_fields.specs.Value.{decimal_token, decimal_of, whole_up_to};
-ghost use Rattle.catalogue.specs.WholeNumber.{whole_of};
 
 use crate::given::FieldValue;
 use crate::unread::Unread;
+use base::whole_number;
 use bitlayout::{GREATEST_START, SIZE_LIMIT, Size};
-use catalogue::{PayloadLength, whole_number};
+use dbc_words::PayloadLength;
 use decimal::Decimal;
 use office_types::{Priority, ReviewCount};
 use std::alloc::Global;
 
 /// The number that digits write.
 fn whole_of(bytes: &[u8]) -> Result<u32, Unread>
-    ensures { Reads (whole_of bytes.now) result }
+    ensures { ReadsField (whole_of bytes.now) result }
 {
     whole_number(bytes).ok_or(Unread::Wrong)
 }
 
 /// The number that digits write, up to the limit.
 fn whole_up_to(limit: u32, bytes: &[u8]) -> Result<u32, Unread>
-    ensures { Reads (whole_up_to limit bytes.now) result }
+    ensures { ReadsField (whole_up_to limit bytes.now) result }
 {
     let number = whole_of(bytes)?;
     if number <= limit {
@@ -39,7 +40,7 @@ impl FieldValue for u32 {
 }
 
 impl FieldValue for u16 {
-    ghost use Rattle.catalogue.specs.Limits.{start_limit};
+    ghost use Rattle.dbc_words.specs.Limits.{start_limit};
 
     ghost read = { whole_up_to start_limit };
 
@@ -68,7 +69,7 @@ impl FieldValue for ReviewCount {
 }
 
 impl FieldValue for PayloadLength {
-    ghost use Rattle.catalogue.specs.Limits.{length_limit};
+    ghost use Rattle.dbc_words.specs.Limits.{length_limit};
 
     ghost read = { whole_up_to length_limit };
 
@@ -100,7 +101,7 @@ impl FieldValue for Size {
 
 /// The decimal that the number token gives, negated or not.
 fn decimal_token(negative: bool, bytes: &[u8]) -> Result<Decimal, Unread>
-    ensures { Reads (decimal_token negative bytes.now) result }
+    ensures { ReadsField (decimal_token negative bytes.now) result }
 {
     match Decimal::read(negative, bytes) {
         Ok(decimal) => Ok(decimal),
@@ -110,7 +111,7 @@ fn decimal_token(negative: bool, bytes: &[u8]) -> Result<Decimal, Unread>
 
 /// The decimal that a number token gives, after one `-` or none.
 pub(crate) fn decimal_of(bytes: &[u8]) -> Result<Decimal, Unread>
-    ensures { Reads (decimal_of bytes.now) result }
+    ensures { ReadsField (decimal_of bytes.now) result }
 {
     match bytes {
         [] => Err(Unread::Wrong),

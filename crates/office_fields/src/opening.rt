@@ -1,7 +1,7 @@
 //! Networks and blocks.
 ghost use Rattle.office_fields.specs.Kind.{grant_of, open_net_of, range_of};
 ghost use Rattle.office_fields.specs.Given.{named_values};
-ghost use Rattle.office_fields.specs.Reading.{Reads};
+ghost use Rattle.office_fields.specs.Reading.{ReadsField};
 
 use crate::field::Field;
 use crate::given::{GivenValue, once};
@@ -10,7 +10,7 @@ use office_types::{BlockForm, FormBlock, Grant, OpenNet};
 use std::alloc::Global;
 
 pub(crate) fn open_net_of(alloc: Global, values: &[GivenValue<'_>]) -> Result<OpenNet, Unread>
-    ensures { Reads (open_net_of (named_values values.now)) result }
+    ensures { ReadsField (open_net_of (named_values values.now)) result }
 {
     let kind = once(alloc, values, Field::Kind)?;
     let reviews = once(alloc, values, Field::Reviews)?;
@@ -18,13 +18,13 @@ pub(crate) fn open_net_of(alloc: Global, values: &[GivenValue<'_>]) -> Result<Op
 }
 
 fn range_of(form: BlockForm, first: u32, last: u32) -> Result<FormBlock, Unread>
-    ensures { Reads (range_of form first last) result }
+    ensures { ReadsField (range_of form first last) result }
 {
     FormBlock::new(form, first, last).ok_or(Unread::Wrong)
 }
 
 pub(crate) fn grant_of(alloc: Global, values: &[GivenValue<'_>]) -> Result<Grant, Unread>
-    ensures { Reads (grant_of (named_values values.now)) result }
+    ensures { ReadsField (grant_of (named_values values.now)) result }
 {
     let form = once(alloc, values, Field::BlockForm)?;
     let first = once(alloc, values, Field::First)?;

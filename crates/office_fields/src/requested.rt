@@ -2,14 +2,14 @@
 ghost use Rattle.std.specs.Prelude.{◌≡◌};
 ghost use Rattle.office_fields.specs.Requested.{requested_of, command_of, file_import_of, part_of};
 ghost use Rattle.office_fields.specs.Given.{named_values};
-ghost use Rattle.office_fields.specs.Reading.{Reads};
+ghost use Rattle.office_fields.specs.Reading.{ReadsField};
 
 use crate::field::Field;
 use crate::given::{GivenValue, are_known, once};
 use crate::kind::{ActionKind, CommandKind, action_of};
 use crate::path::FilePath;
 use crate::unread::Unread;
-use catalogue::Items;
+use base::Items;
 use office_types::{Action, Command, NetName, Parts, Task};
 use std::alloc::Global;
 
@@ -74,7 +74,7 @@ pub fn command_of(
     kind: ActionKind,
     values: &[GivenValue<'_>],
 ) -> Result<Command, Unread>
-    ensures { Reads (command_of kind (named_values values.now)) result }
+    ensures { ReadsField (command_of kind (named_values values.now)) result }
 {
     if !are_known(CommandKind::Act(kind).fields(), values) {
         return Err(Unread::Wrong);
@@ -90,7 +90,7 @@ pub fn command_of(
 /// The part of a bundle with these values, in any order: as [`command_of`], but without the network, which the bundle
 /// names.
 pub fn part_of(alloc: Global, kind: ActionKind, values: &[GivenValue<'_>]) -> Result<Action, Unread>
-    ensures { Reads (part_of kind (named_values values.now)) result }
+    ensures { ReadsField (part_of kind (named_values values.now)) result }
 {
     if !are_known(kind.part_fields(), values) {
         return Err(Unread::Wrong);
@@ -100,7 +100,7 @@ pub fn part_of(alloc: Global, kind: ActionKind, values: &[GivenValue<'_>]) -> Re
 
 /// The import or the bundle with these values, in any order. `Wrong` as for [`command_of`].
 fn file_import_of(alloc: Global, values: &[GivenValue<'_>]) -> Result<FileImport, Unread>
-    ensures { Reads (file_import_of (named_values values.now)) result }
+    ensures { ReadsField (file_import_of (named_values values.now)) result }
 {
     if !are_known(CommandKind::Import.fields(), values) {
         return Err(Unread::Wrong);
@@ -116,7 +116,7 @@ pub fn requested_of(
     kind: CommandKind,
     values: &[GivenValue<'_>],
 ) -> Result<Requested, Unread>
-    ensures { Reads (requested_of kind (named_values values.now)) result }
+    ensures { ReadsField (requested_of kind (named_values values.now)) result }
 {
     match kind {
         CommandKind::Act(kind) => Ok(Requested::Command(command_of(alloc, kind, values)?)),

@@ -1,7 +1,7 @@
 //! Signals of live messages.
 ghost use Rattle.office_fields.specs.Kind.{coding_of, path_of, scaling_of, set_values_of, take_bits_of, take_spn_of};
 ghost use Rattle.office_fields.specs.Given.{named_values};
-ghost use Rattle.office_fields.specs.Reading.{Reads};
+ghost use Rattle.office_fields.specs.Reading.{ReadsField};
 
 use crate::field::Field;
 use crate::given::{GivenValue, at_most_once, each, once};
@@ -31,7 +31,7 @@ pub(crate) struct Scaling {
 }
 
 pub(crate) fn path_of(alloc: Global, values: &[GivenValue<'_>]) -> Result<SignalPath, Unread>
-    ensures { Reads (path_of (named_values values.now)) result }
+    ensures { ReadsField (path_of (named_values values.now)) result }
 {
     let message = once(alloc, values, Field::Message)?;
     let signal = once(alloc, values, Field::Signal)?;
@@ -39,7 +39,7 @@ pub(crate) fn path_of(alloc: Global, values: &[GivenValue<'_>]) -> Result<Signal
 }
 
 pub(crate) fn take_spn_of(alloc: Global, values: &[GivenValue<'_>]) -> Result<TakeSpn, Unread>
-    ensures { Reads (take_spn_of (named_values values.now)) result }
+    ensures { ReadsField (take_spn_of (named_values values.now)) result }
 {
     let same = at_most_once(alloc, values, Field::Same)?;
     let path = path_of(alloc, values)?;
@@ -47,7 +47,7 @@ pub(crate) fn take_spn_of(alloc: Global, values: &[GivenValue<'_>]) -> Result<Ta
 }
 
 fn coding_of(alloc: Global, values: &[GivenValue<'_>]) -> Result<Coding, Unread>
-    ensures { Reads (coding_of (named_values values.now)) result }
+    ensures { ReadsField (coding_of (named_values values.now)) result }
 {
     let size = once(alloc, values, Field::Size)?;
     let order = once(alloc, values, Field::Order)?;
@@ -65,7 +65,7 @@ fn coding_of(alloc: Global, values: &[GivenValue<'_>]) -> Result<Coding, Unread>
 }
 
 fn scaling_of(alloc: Global, values: &[GivenValue<'_>]) -> Result<Scaling, Unread>
-    ensures { Reads (scaling_of (named_values values.now)) result }
+    ensures { ReadsField (scaling_of (named_values values.now)) result }
 {
     let factor = once(alloc, values, Field::Factor)?;
     let offset = once(alloc, values, Field::Offset)?;
@@ -80,7 +80,7 @@ fn scaling_of(alloc: Global, values: &[GivenValue<'_>]) -> Result<Scaling, Unrea
 }
 
 pub(crate) fn take_bits_of(alloc: Global, values: &[GivenValue<'_>]) -> Result<TakeBits, Unread>
-    ensures { Reads (take_bits_of (named_values values.now)) result }
+    ensures { ReadsField (take_bits_of (named_values values.now)) result }
 {
     let coding = coding_of(alloc, values)?;
     let scaling = scaling_of(alloc, values)?;
@@ -104,7 +104,7 @@ pub(crate) fn take_bits_of(alloc: Global, values: &[GivenValue<'_>]) -> Result<T
 }
 
 pub(crate) fn set_values_of(alloc: Global, values: &[GivenValue<'_>]) -> Result<SetValues, Unread>
-    ensures { Reads (set_values_of (named_values values.now)) result }
+    ensures { ReadsField (set_values_of (named_values values.now)) result }
 {
     let path = path_of(alloc, values)?;
     let texts = each(alloc, values, Field::Value)?;

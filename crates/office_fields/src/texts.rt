@@ -1,12 +1,14 @@
 //! Names, texts and paths.
-ghost use Rattle.office_fields.specs.Reading.{Reads};
+ghost use Rattle.office_fields.specs.Reading.{ReadsField};
 ghost use Rattle.office_fields.specs.Value.{name_of, path_of, plain_name_of, text_of, value_text_of};
 
 use crate::given::FieldValue;
 use crate::numbers::decimal_of;
 use crate::path::FilePath;
 use crate::unread::Unread;
-use catalogue::{Name, Text, ValueText, split_once};
+use base::split_once;
+use dbc_sheet::ValueText;
+use dbc_words::{Name, Text};
 use office_types::{NetName, Team};
 use std::alloc::Global;
 
@@ -65,13 +67,13 @@ impl FieldValue for ValueText {
 
 /// The team of this name, or `Wrong` where it is no name of a team.
 pub fn team_of(alloc: Global, bytes: &[u8]) -> Result<Team, Unread>
-    ensures { Reads (plain_name_of bytes.now) result }
+    ensures { ReadsField (plain_name_of bytes.now) result }
 {
     Team::of(alloc, bytes)?.ok_or(Unread::Wrong)
 }
 
 fn text_of(alloc: Global, bytes: &[u8]) -> Result<Text, Unread>
-    ensures { Reads (text_of bytes.now) result }
+    ensures { ReadsField (text_of bytes.now) result }
 {
     Text::of(alloc, bytes)?.ok_or(Unread::Wrong)
 }

@@ -1,6 +1,7 @@
 -- Worked examples, computed from the definitions: repeats after the office has moved on, a file under both profiles,
 -- releases that stay, suspect parameter numbers that are given, and arrivals on two networks.
-use Rattle.std.proofs.Common.{◌≡◌, ℕ, true, false, List, [], ◌∷◌, ◌++◌, filter, map, take, Some, None, IfSome, arith, refl}
+use Rattle.std.proofs.Common.{◌≡◌, ℕ, true, false, List, [], ◌∷◌, ◌++◌, filter, map, take, Some, None, IfSome, arith}
+use Rattle.std.proofs.Common.{refl}
 use Rattle.std.specs.Prelude.{codes}
 use Rattle.std.proofs.lemmas.Bool.{false≢true}
 use Rattle.std.proofs.lemmas.List.Elements.{All-from_recursion}
@@ -8,7 +9,7 @@ use Rattle.std.proofs.lemmas.Slice.Eq.{bytes_eq-Decides}
 use Rattle.bitlayout.specs.Bits.{walk, shares_bit, is_inside}
 use Rattle.bitlayout.specs.Clash.{clash_after}
 use Rattle.bitlayout.specs.First.{first_answer}
-use Rattle.catalogue.specs.Messages.{number_of}
+use Rattle.dbc_sheet.specs.Messages.{number_of}
 use Rattle.office_types.specs.declared.block.BlockForm.TheVariants as block
 use Rattle.office_types.specs.declared.command.Action.TheVariants as act
 use Rattle.office_types.specs.declared.command.NetKind.TheVariants.{Can}
@@ -21,7 +22,8 @@ use Rattle.office_rules.specs.Importing.{FileReading, Reading, Unreadable}
 use Rattle.office_rules.specs.Profile.{Profile, One, Two}
 use Rattle.office_rules.specs.Step.{IsRead, Step, file_wanted, net_named, office_after, opening, step_outcome}
 use Rattle.office_rules.proofs.ProfileRows.{long_file, of_length, read_today, unread_before}
-use Rattle.office_rules.proofs.TeamCommand.{Requested, requests, bus, engine, grants, left_by, office, on_bus, opens, takes, takes_spn, truck}
+use Rattle.office_rules.proofs.TeamCommand.{Requested, requests, bus, engine, grants, left_by, office, on_bus, opens}
+use Rattle.office_rules.proofs.TeamCommand.{takes, takes_spn, truck}
 use Rattle.office_history.specs.declared.arrival.Answer.{Answer}
 use Rattle.office_history.specs.declared.arrival.Answer.TheVariants as answer
 use Rattle.office_history.specs.declared.arrival.Answer.TheVariants.{KeyReused}
@@ -30,7 +32,8 @@ use Rattle.office_law.specs.Apart.{needs_book}
 use Rattle.office_history.specs.Laws.{HaveOneNetwork, is_on, new_spns}
 
 abbrev answered_under : Profile → Requested → List ℕ → List ℕ → Answer → Answered
-answered_under profile q key content answer = record { profile = profile; team = q.team; key = key; content = content; command = q.command; answer = answer }
+answered_under profile q key content answer =
+    record { profile = profile; team = q.team; key = key; content = content; command = q.command; answer = answer }
 
 abbrev answered : Requested → List ℕ → List ℕ → Answer → Answered
 answered q key content answer = answered_under Two q key content answer
@@ -61,12 +64,15 @@ requested_first = opens Can 0 ∷ grants engine block.Std 256 258 ∷ take_1 ∷
 the_first : first_arrivals moved_on ≡ take 5 moved_on
 the_first = refl
 
-step_under : (profile : Profile) (o : Office) (q : Requested) → IsRead profile (file_wanted (net_named o q.command.net) q.command.task) q.reading
-    → Step profile o q.team q.command (reply_of (step_outcome o q.team q.reading q.command)) (office_after o (step_outcome o q.team q.reading q.command))
+step_under : (profile : Profile) (o : Office) (q : Requested)
+    → IsRead profile (file_wanted (net_named o q.command.net) q.command.task) q.reading
+    → Step profile o q.team q.command (reply_of (step_outcome o q.team q.reading q.command))
+    (office_after o (step_outcome o q.team q.reading q.command))
 step_under profile o q read = record { reading = q.reading; read = read; answered = refl; left = refl }
 
 step_of : (o : Office) (q : Requested) → IsRead Two (file_wanted (net_named o q.command.net) q.command.task) q.reading
-    → Step Two o q.team q.command (reply_of (step_outcome o q.team q.reading q.command)) (office_after o (step_outcome o q.team q.reading q.command))
+    → Step Two o q.team q.command (reply_of (step_outcome o q.team q.reading q.command))
+    (office_after o (step_outcome o q.team q.reading q.command))
 step_of o q read = step_under Two o q read
 
 abbrev pub after : ℕ → Office
@@ -82,10 +88,15 @@ it_is_legal = record {
     (
       after 2,
       step_of (after 1) (grants engine block.Std 256 258) (tt {0}),
-      (after 3, step_of (after 2) take_1 (tt {0}), (after 4, step_of (after 3) retire_1 (tt {0}), (after 5, step_of (after 4) take_2 (tt {0}), refl))),
+      (
+        after 3,
+        step_of (after 2) take_1 (tt {0}),
+        (after 4, step_of (after 3) retire_1 (tt {0}), (after 5, step_of (after 4) take_2 (tt {0}), refl)),
+      ),
     ),
   );
-  again = All-from_recursion (λ a. IfSome (first_of moved_on a) (IsAnsweredAs a)) moved_on (refl, (refl, (refl, (refl, (refl, (refl, (refl, tt {0})))))));
+  again = All-from_recursion (λ a. IfSome (first_of moved_on a) (IsAnsweredAs a)) moved_on
+      (refl, (refl, (refl, (refl, (refl, (refl, (refl, tt {0})))))));
 }
 
 -- A file with a message of 100 bytes is refused under the first profile. Its request is answered so again when it is
@@ -124,29 +135,38 @@ it_is_legal_under_both = record {
   run = (
     opened,
     step_under One opening (opens Can 0) (tt {0}),
-    (opened, step_under One opened brings_before unread_before, (imported, step_under Two opened brings_today read_today, refl)),
+    (
+      opened,
+      step_under One opened brings_before unread_before,
+      (imported, step_under Two opened brings_today read_today, refl),
+    ),
   );
-  again = All-from_recursion (λ a. IfSome (first_of under_both a) (IsAnsweredAs a)) under_both (refl, (refl, (refl, (refl, tt {0}))));
+  again = All-from_recursion (λ a. IfSome (first_of under_both a) (IsAnsweredAs a)) under_both
+      (refl, (refl, (refl, (refl, tt {0}))));
 }
 
 -- A second release comes after the first one, which still has the message that is retired by then.
 
 abbrev released : List Requested
-released = opens Can 0 ∷ grants engine block.Std 256 258 ∷ take_1 ∷ requests engine act.Submit ∷ requests office act.Release ∷ []
+released = opens Can 0 ∷ grants engine block.Std 256 258 ∷ take_1 ∷ requests engine act.Submit
+    ∷ requests office act.Release ∷ []
 
 abbrev released_again : List Requested
 released_again = released ++ retire_1 ∷ take_2 ∷ requests engine act.Submit ∷ requests office act.Release ∷ []
 
 -- the names of the messages in each release
 abbrev names_released : List Requested → List (List (List ℕ))
-names_released qs = elim (net_named (left_by opening qs) truck) [ None ↦ [] | Some net ↦ map (λ s. map (λ m. m.name) s.messages) net.releases ]
+names_released qs = elim (net_named (left_by opening qs) truck)
+    [ None ↦ [] | Some net ↦ map (λ s. map (λ m. m.name) s.messages) net.releases ]
 
-it_stays : (names_released released ≡ (codes "E1" ∷ []) ∷ []) × (names_released released_again ≡ (codes "E1" ∷ []) ∷ (codes "E2" ∷ []) ∷ [])
+it_stays : (names_released released ≡ (codes "E1" ∷ []) ∷ [])
+    × (names_released released_again ≡ (codes "E1" ∷ []) ∷ (codes "E2" ∷ []) ∷ [])
 it_stays = (refl, refl)
 
 -- the number that was released with one name isn't given to a message of another one, though it is retired
 abbrev numbers_released : List Requested → List (List ℕ)
-numbers_released qs = elim (net_named (left_by opening qs) truck) [ None ↦ [] | Some net ↦ map (λ s. map number_of s.messages) net.releases ]
+numbers_released qs = elim (net_named (left_by opening qs) truck)
+    [ None ↦ [] | Some net ↦ map (λ s. map number_of s.messages) net.releases ]
 
 its_number_stays : numbers_released released_again ≡ (256 ∷ []) ∷ (257 ∷ []) ∷ []
 its_number_stays = refl
@@ -173,7 +193,8 @@ on_other = answered (on_bus (opens Can 0)) (codes "o9") (codes "open_net bus") (
 on_this_network : filter (is_on truck) (on_other ∷ moved_on) ≡ moved_on
 on_this_network = refl
 
-spns_ask_the_book : (needs_book (takes_spn (codes "P") None).command.task ≡ true) × (needs_book (grants engine block.Std 256 258).command.task ≡ false)
+spns_ask_the_book : (needs_book (takes_spn (codes "P") None).command.task ≡ true)
+    × (needs_book (grants engine block.Std 256 258).command.task ≡ false)
 spns_ask_the_book = (refl, refl)
 
 -- The law that networks are apart wants that no pair of team and key names two networks: without that it would be
@@ -181,7 +202,8 @@ spns_ask_the_book = (refl, refl)
 
 abbrev AnswersAreApartUnderAnyKeys : Type 0
 AnswersAreApartUnderAnyKeys = (h g : List Answered) (a : Answered) → needs_book a.command.task ≡ false
-    → filter (is_on a.command.net) h ≡ filter (is_on a.command.net) g → IsLegalHistory (h ++ a ∷ []) → IsLegalHistory g → IsLegalHistory (g ++ a ∷ [])
+    → filter (is_on a.command.net) h ≡ filter (is_on a.command.net) g → IsLegalHistory (h ++ a ∷ []) → IsLegalHistory g
+    → IsLegalHistory (g ++ a ∷ [])
 
 abbrev first_this : Answered
 first_this = answered (opens Can 0) (codes "o1") (codes "open_net truck") (answer.Reply Done)
@@ -199,7 +221,8 @@ opens_this = (
     replies = Done ∷ [];
     replied = refl;
     run = (left_by opening (opens Can 0 ∷ []), step_of opening (opens Can 0) (tt {0}), refl);
-    again = All-from_recursion (λ a. IfSome (first_of (first_this ∷ []) a) (IsAnsweredAs a)) (first_this ∷ []) (refl, tt {0});
+    again = All-from_recursion (λ a. IfSome (first_of (first_this ∷ []) a) (IsAnsweredAs a)) (first_this ∷ [])
+        (refl, tt {0});
   },
 )
 
@@ -210,7 +233,8 @@ opens_other = (
     replies = Done ∷ [];
     replied = refl;
     run = (left_by opening (on_bus (opens Can 0) ∷ []), step_of opening (on_bus (opens Can 0)) (tt {0}), refl);
-    again = All-from_recursion (λ a. IfSome (first_of (first_other ∷ []) a) (IsAnsweredAs a)) (first_other ∷ []) (refl, tt {0});
+    again = All-from_recursion (λ a. IfSome (first_of (first_other ∷ []) a) (IsAnsweredAs a)) (first_other ∷ [])
+        (refl, tt {0});
   },
 )
 

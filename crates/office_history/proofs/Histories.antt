@@ -1,5 +1,7 @@
 -- How a legal history goes on.
-use Rattle.std.proofs.Common.{◌≡◌, ℕ, zero, suc, ◌<◌, Bool, true, false, cond, not, List, [], ◌∷◌, ◌++◌, append-nil, length, get_or, map, filter, find, All, Option, Some, None, IfSome, refl, sym, ap, subst, ◌∙◌, arith, inl, inr}
+use Rattle.std.proofs.Common.{◌≡◌, ℕ, zero, suc, ◌<◌, Bool, true, false, cond, not, List, [], ◌∷◌, ◌++◌, append-nil}
+use Rattle.std.proofs.Common.{length, get_or, map, filter, find, All, Option, Some, None, IfSome, refl, sym, ap, subst}
+use Rattle.std.proofs.Common.{◌∙◌, arith, inl, inr}
 use Rattle.std.specs.Option.{option_or}
 use Rattle.std.proofs.lemmas.Bool.{and_from, cases_Bool, false≢true}
 use Rattle.std.proofs.lemmas.List.{map-append}
@@ -13,7 +15,8 @@ use Rattle.office_rules.specs.Step.{Run, Step, opening}
 use Rattle.office_rules.proofs.Runs.{run_more}
 use Rattle.office_history.specs.declared.arrival.Answer.TheVariants as answer
 use Rattle.office_history.specs.declared.arrival.Answer.TheVariants.{KeyReused}
-use Rattle.office_history.specs.History.{Answered, IsAnsweredAs, IsLegal, answer_of, first_arrivals, first_of, request_of, same_pair}
+use Rattle.office_history.specs.History.{Answered, IsAnsweredAs, IsLegal, answer_of, first_arrivals, first_of}
+use Rattle.office_history.specs.History.{request_of, same_pair}
 use Rattle.office_history.specs.Laws.{HistoriesGrow}
 
 -- ---- looking for the first of a list
@@ -47,7 +50,8 @@ abbrev pub others : Answered → Answered → Bool
 others b c = not (same_pair b c)
 
 -- one of a new pair comes last
-pub first_new : (h : List Answered) (a : Answered) → first_of h a ≡ None → first_arrivals (h ++ a ∷ []) ≡ first_arrivals h ++ a ∷ []
+pub first_new : (h : List Answered) (a : Answered) → first_of h a ≡ None
+    → first_arrivals (h ++ a ∷ []) ≡ first_arrivals h ++ a ∷ []
 first_new [] a none = refl
 first_new (b ∷ h) a none =
     let parts = none_parts (λ c. same_pair c a) b h none in
@@ -56,27 +60,33 @@ first_new (b ∷ h) a none =
     ∙ ap (λ same. filter (others b) (first_arrivals h) ++ cond (not same) (a ∷ []) []) parts.0)
 
 -- one of the first's pair is not among the others
-dropped : (b a : Answered) (rest : List Answered) → same_pair b a ≡ true → filter (others b) (rest ++ a ∷ []) ≡ filter (others b) rest
+dropped : (b a : Answered) (rest : List Answered) → same_pair b a ≡ true
+    → filter (others b) (rest ++ a ∷ []) ≡ filter (others b) rest
 dropped b a rest hit =
-    filter-append (others b) rest (a ∷ []) ∙ ap (λ same. filter (others b) rest ++ cond (not same) (a ∷ []) []) hit ∙ append-nil (filter (others b) rest)
+    filter-append (others b) rest (a ∷ []) ∙ ap (λ same. filter (others b) rest ++ cond (not same) (a ∷ []) []) hit
+    ∙ append-nil (filter (others b) rest)
 
-dropped_by : (h : List Answered) (b a : Answered) (found : Option Answered) → first_of h a ≡ found → same_pair b a ≡ true
+dropped_by : (h : List Answered) (b a : Answered) (found : Option Answered) → first_of h a ≡ found
+    → same_pair b a ≡ true
     → ((f : Answered) → first_of h a ≡ Some f → first_arrivals (h ++ a ∷ []) ≡ first_arrivals h)
     → filter (others b) (first_arrivals (h ++ a ∷ [])) ≡ filter (others b) (first_arrivals h)
 dropped_by h b a None is hit below = ap (filter (others b)) (first_new h a is) ∙ dropped b a (first_arrivals h) hit
 dropped_by h b a (Some f) is hit below = ap (filter (others b)) (below f is)
 
 -- one of a pair that came before isn't a first one
-pub first_again : (h : List Answered) (a f : Answered) → first_of h a ≡ Some f → first_arrivals (h ++ a ∷ []) ≡ first_arrivals h
+pub first_again : (h : List Answered) (a f : Answered) → first_of h a ≡ Some f
+    → first_arrivals (h ++ a ∷ []) ≡ first_arrivals h
 first_again [] a f found = absurd (some_none f (sym found))
 first_again (b ∷ h) a f found = elim (cases_Bool (same_pair b a)) [
   | inl hit ↦ ap (λ rest. b ∷ rest) (dropped_by h b a (first_of h a) refl hit (λ g is. first_again h a g is))
-  | inr miss ↦ ap (λ rest. b ∷ filter (others b) rest) (first_again h a f (sym (ap (λ same. cond same (Some b) (first_of h a)) miss) ∙ found))
+  | inr miss ↦ ap (λ rest. b ∷ filter (others b) rest)
+      (first_again h a f (sym (ap (λ same. cond same (Some b) (first_of h a)) miss) ∙ found))
 ]
 
 -- ---- the answers
 
-kept_by : (found last : Option Answered) (b : Answered) → (found ≡ None → ⊥) → IfSome found (IsAnsweredAs b) → IfSome (option_or found last) (IsAnsweredAs b)
+kept_by : (found last : Option Answered) (b : Answered) → (found ≡ None → ⊥) → IfSome found (IsAnsweredAs b)
+    → IfSome (option_or found last) (IsAnsweredAs b)
 kept_by None last b there h = absurd (there refl)
 kept_by (Some f) last b there h = h
 
@@ -86,37 +96,49 @@ kept_answers : (h : List Answered) (a : Answered) → All (λ b. IfSome (first_o
 kept_answers h a again k d lt =
     let b = get_or h k d in
     subst (λ o. IfSome o (IsAnsweredAs b)) (sym (find-append (λ c. same_pair c b) h (a ∷ [])))
-    (kept_by (first_of h b) (first_of (a ∷ []) b) b (found_there (λ c. same_pair c b) h k d lt (same_itself b)) (again k d lt))
+    (kept_by (first_of h b) (first_of (a ∷ []) b) b (found_there (λ c. same_pair c b) h k d lt (same_itself b))
+    (again k d lt))
 
-more_answers : (h : List Answered) (a : Answered) → All (λ b. IfSome (first_of h b) (IsAnsweredAs b)) h → IfSome (first_of (h ++ a ∷ []) a) (IsAnsweredAs a)
+more_answers : (h : List Answered) (a : Answered) → All (λ b. IfSome (first_of h b) (IsAnsweredAs b)) h
+    → IfSome (first_of (h ++ a ∷ []) a) (IsAnsweredAs a)
     → All (λ b. IfSome (first_of (h ++ a ∷ []) b) (IsAnsweredAs b)) (h ++ a ∷ [])
-more_answers h a again own = All-push (λ b. IfSome (first_of (h ++ a ∷ []) b) (IsAnsweredAs b)) h a (kept_answers h a again) own
+more_answers h a again own =
+    All-push (λ b. IfSome (first_of (h ++ a ∷ []) b) (IsAnsweredAs b)) h a (kept_answers h a again) own
 
 -- the first of its pair is itself, and has its own answer
-own_first : (h : List Answered) (a : Answered) → first_of h a ≡ None → IfSome (first_of (h ++ a ∷ []) a) (IsAnsweredAs a)
+own_first : (h : List Answered) (a : Answered) → first_of h a ≡ None
+    → IfSome (first_of (h ++ a ∷ []) a) (IsAnsweredAs a)
 own_first h a none =
     let found : first_of (h ++ a ∷ []) a ≡ Some a =
-    find-append (λ c. same_pair c a) h (a ∷ []) ∙ ap (λ o. option_or o (first_of (a ∷ []) a)) none ∙ ap (λ same. cond same (Some a) None) (same_itself a) in
-    subst (λ o. IfSome o (IsAnsweredAs a)) (sym found) (sym (ap (λ same. cond same a.answer KeyReused) (same_bytes a.content)))
+    find-append (λ c. same_pair c a) h (a ∷ []) ∙ ap (λ o. option_or o (first_of (a ∷ []) a)) none
+    ∙ ap (λ same. cond same (Some a) None) (same_itself a) in
+    subst (λ o. IfSome o (IsAnsweredAs a)) (sym found)
+    (sym (ap (λ same. cond same a.answer KeyReused) (same_bytes a.content)))
 
-own_again : (h : List Answered) (a f : Answered) → first_of h a ≡ Some f → IsAnsweredAs a f → IfSome (first_of (h ++ a ∷ []) a) (IsAnsweredAs a)
+own_again : (h : List Answered) (a f : Answered) → first_of h a ≡ Some f → IsAnsweredAs a f
+    → IfSome (first_of (h ++ a ∷ []) a) (IsAnsweredAs a)
 own_again h a f is answered =
-    let found : first_of (h ++ a ∷ []) a ≡ Some f = find-append (λ c. same_pair c a) h (a ∷ []) ∙ ap (λ o. option_or o (first_of (a ∷ []) a)) is in
+    let found : first_of (h ++ a ∷ []) a ≡ Some f = find-append (λ c. same_pair c a) h (a ∷ [])
+    ∙ ap (λ o. option_or o (first_of (a ∷ []) a)) is in
     subst (λ o. IfSome o (IsAnsweredAs a)) (sym found) answered
 
 -- ---- legal histories
 
-legal_first : (h : List Answered) (before after : Office) (a : Answered) (reply : Reply) → IsLegal h before → first_of h a ≡ None
+legal_first : (h : List Answered) (before after : Office) (a : Answered) (reply : Reply) → IsLegal h before
+    → first_of h a ≡ None
     → a.answer ≡ answer.Reply reply → Step a.profile before a.team a.command reply after → IsLegal (h ++ a ∷ []) after
 legal_first h before after a reply legal none reported step =
     let firsts = first_new h a none in
     record {
       replies = legal.replies ++ reply ∷ [];
       replied = ap (map answer_of) firsts ∙ map-append answer_of (first_arrivals h) (a ∷ [])
-          ∙ ap (λ answers. answers ++ a.answer ∷ []) legal.replied ∙ ap (λ last. map answer.Reply legal.replies ++ last ∷ []) reported
+          ∙ ap (λ answers. answers ++ a.answer ∷ []) legal.replied
+          ∙ ap (λ last. map answer.Reply legal.replies ++ last ∷ []) reported
           ∙ sym (map-append answer.Reply legal.replies (reply ∷ []));
-      run = subst (λ requests. Run opening requests (legal.replies ++ reply ∷ []) after) (sym (ap (map request_of) firsts ∙ map-append request_of (first_arrivals h) (a ∷ [])))
-          (run_more opening before after (map request_of (first_arrivals h)) legal.replies (request_of a) reply legal.run step);
+      run = subst (λ requests. Run opening requests (legal.replies ++ reply ∷ []) after)
+          (sym (ap (map request_of) firsts ∙ map-append request_of (first_arrivals h) (a ∷ [])))
+          (run_more opening before after (map request_of (first_arrivals h)) legal.replies (request_of a) reply
+          legal.run step);
       again = more_answers h a legal.again (own_first h a none);
     }
 
@@ -133,7 +155,13 @@ legal_again h office a first legal is answered =
 
 pub histories_grow : HistoriesGrow
 histories_grow = record {
-  begins = record { replies = []; replied = refl; run = refl; again = All-nil (λ a. IfSome (first_of [] a) (IsAnsweredAs a)) };
+  begins = record {
+    replies = [];
+    replied = refl;
+    run = refl;
+    again =
+        All-nil (λ a. IfSome (first_of [] a) (IsAnsweredAs a));
+  };
   first = legal_first;
   again = legal_again;
 }

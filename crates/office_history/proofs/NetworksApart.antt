@@ -1,5 +1,6 @@
 -- What an arrival is answered depends on the arrivals on its network alone.
-use Rattle.std.proofs.Common.{◌≡◌, ◌∙◌, ℕ, zero, suc, ◌<◌, Bool, true, false, cond, not, List, [], ◌∷◌, ◌++◌, map, filter, find, All, Option, Some, None, IfSome, refl, sym, ap, subst, arith, inl, inr}
+use Rattle.std.proofs.Common.{◌≡◌, ◌∙◌, ℕ, zero, suc, ◌<◌, Bool, true, false, cond, not, List, [], ◌∷◌, ◌++◌, map}
+use Rattle.std.proofs.Common.{filter, find, All, Option, Some, None, IfSome, refl, sym, ap, subst, arith, inl, inr}
 use Rattle.std.specs.Prelude.{AllPairs, if◌then◌else◌}
 use Rattle.std.specs.Option.{option_or}
 use Rattle.std.specs.Str.{bytes_eq}
@@ -26,7 +27,8 @@ use Rattle.office_law.proofs.KeptOffice.{offices_are_kept}
 use Rattle.office_history.specs.declared.arrival.Answer.{Answer}
 use Rattle.office_history.specs.declared.arrival.Answer.TheVariants as answer
 use Rattle.office_history.specs.declared.arrival.Answer.TheVariants.{KeyReused}
-use Rattle.office_history.specs.History.{Answered, IsAnsweredAs, IsLegal, IsLegalHistory, answer_of, first_arrivals, first_of, request_of, same_pair}
+use Rattle.office_history.specs.History.{Answered, IsAnsweredAs, IsLegal, IsLegalHistory, answer_of, first_arrivals}
+use Rattle.office_history.specs.History.{first_of, request_of, same_pair}
 use Rattle.office_history.specs.Laws.{AnswersAreApart, HaveOneNetwork, NamesOneNetwork, is_on}
 use Rattle.office_history.proofs.Histories.{first_new, histories_grow, others}
 
@@ -39,7 +41,8 @@ module _ {X : Type 0} (P : X → Type 0) where
 
   all_before : (xs : List X) (y : X) → All P (xs ++ y ∷ []) → All P xs
   all_before [] y h = All-nil P
-  all_before (x ∷ xs) y h = All-cons P x xs (All-head P x (xs ++ y ∷ []) h) (all_before xs y (All-tail P x (xs ++ y ∷ []) h))
+  all_before (x ∷ xs) y h =
+      All-cons P x xs (All-head P x (xs ++ y ∷ []) h) (all_before xs y (All-tail P x (xs ++ y ∷ []) h))
 
 module _ {X : Type 0} (R : X → X → Type 0) where
   pairs_head : (x : X) (xs : List X) → AllPairs R (x ∷ xs) → All (R x) xs
@@ -51,16 +54,19 @@ module _ {X : Type 0} (R : X → X → Type 0) where
   pairs_before : (xs : List X) (y : X) → AllPairs R (xs ++ y ∷ []) → AllPairs R xs
   pairs_before [] y h = λ i j d lt within. absurd (omega (arith, within))
   pairs_before (x ∷ xs) y h =
-      AllPairs-cons R x xs (all_before (R x) xs y (pairs_head x (xs ++ y ∷ []) h)) (pairs_before xs y (pairs_tail x (xs ++ y ∷ []) h))
+      AllPairs-cons R x xs (all_before (R x) xs y (pairs_head x (xs ++ y ∷ []) h))
+      (pairs_before xs y (pairs_tail x (xs ++ y ∷ []) h))
 
   pairs_last : (xs : List X) (y : X) → AllPairs R (xs ++ y ∷ []) → All (λ x. R x y) xs
   pairs_last [] y h = All-nil (λ x. R x y)
   pairs_last (x ∷ xs) y h =
-      All-cons (λ z. R z y) x xs (all_last (R x) xs y (pairs_head x (xs ++ y ∷ []) h)) (pairs_last xs y (pairs_tail x (xs ++ y ∷ []) h))
+      All-cons (λ z. R z y) x xs (all_last (R x) xs y (pairs_head x (xs ++ y ∷ []) h))
+      (pairs_last xs y (pairs_tail x (xs ++ y ∷ []) h))
 
 -- ---- two tests of a list
 
-filter_by : {X : Type 0} (p : X → Bool) (x : X) (xs : List X) (t : Bool) → p x ≡ t → filter p (x ∷ xs) ≡ cond t (x ∷ filter p xs) (filter p xs)
+filter_by : {X : Type 0} (p : X → Bool) (x : X) (xs : List X) (t : Bool) → p x ≡ t
+    → filter p (x ∷ xs) ≡ cond t (x ∷ filter p xs) (filter p xs)
 filter_by p x xs t is = ap (λ b. cond b (x ∷ filter p xs) (filter p xs)) is
 
 module _ {X : Type 0} (p q : X → Bool) where
@@ -70,7 +76,8 @@ module _ {X : Type 0} (p q : X → Bool) where
   filters_swap (x ∷ xs) = elim (cases_Bool (p x)) [
     | inl hit ↦ elim (cases_Bool (q x)) [
       | inl too ↦
-          ap (filter p) (filter_by q x xs true too) ∙ filter_by p x (filter q xs) true hit ∙ ap (λ l. x ∷ l) (filters_swap xs)
+          ap (filter p) (filter_by q x xs true too) ∙ filter_by p x (filter q xs) true hit
+          ∙ ap (λ l. x ∷ l) (filters_swap xs)
           ∙ sym (filter_by q x (filter p xs) true too) ∙ sym (ap (filter q) (filter_by p x xs true hit))
       | inr miss ↦
           ap (filter p) (filter_by q x xs false miss) ∙ filters_swap xs
@@ -80,7 +87,8 @@ module _ {X : Type 0} (p q : X → Bool) where
       | inl hit ↦
           ap (filter p) (filter_by q x xs true hit) ∙ filter_by p x (filter q xs) false miss ∙ filters_swap xs
           ∙ sym (ap (filter q) (filter_by p x xs false miss))
-      | inr too ↦ ap (filter p) (filter_by q x xs false too) ∙ filters_swap xs ∙ sym (ap (filter q) (filter_by p x xs false miss))
+      | inr too ↦ ap (filter p) (filter_by q x xs false too) ∙ filters_swap xs
+          ∙ sym (ap (filter q) (filter_by p x xs false miss))
     ]
   ]
 
@@ -89,12 +97,14 @@ module _ {X : Type 0} (p q : X → Bool) where
   Implies x = p x ≡ true → q x ≡ true
 
   misses : (x : X) → Implies x → q x ≡ false → p x ≡ false
-  misses x implied miss = elim (cases_Bool (p x)) [ inl hit ↦ absurd (false≢true (sym miss ∙ implied hit)) | inr not_so ↦ not_so ]
+  misses x implied miss = elim (cases_Bool (p x))
+      [ inl hit ↦ absurd (false≢true (sym miss ∙ implied hit)) | inr not_so ↦ not_so ]
 
   filter_kept : (xs : List X) → All Implies xs → filter p (filter q xs) ≡ filter p xs
   filter_kept [] all = refl
   filter_kept (x ∷ xs) all = elim (cases_Bool (q x)) [
-    | inl hit ↦ ap (filter p) (filter_by q x xs true hit) ∙ ap (λ l. cond (p x) (x ∷ l) l) (filter_kept xs (All-tail Implies x xs all))
+    | inl hit ↦ ap (filter p) (filter_by q x xs true hit)
+        ∙ ap (λ l. cond (p x) (x ∷ l) l) (filter_kept xs (All-tail Implies x xs all))
     | inr miss ↦
         ap (filter p) (filter_by q x xs false miss) ∙ filter_kept xs (All-tail Implies x xs all)
         ∙ sym (filter_by p x xs false (misses x (All-head Implies x xs all) miss))
@@ -103,7 +113,8 @@ module _ {X : Type 0} (p q : X → Bool) where
   find_kept : (xs : List X) → All Implies xs → find p (filter q xs) ≡ find p xs
   find_kept [] all = refl
   find_kept (x ∷ xs) all = elim (cases_Bool (q x)) [
-    | inl hit ↦ ap (find p) (filter_by q x xs true hit) ∙ ap (λ found. cond (p x) (Some x) found) (find_kept xs (All-tail Implies x xs all))
+    | inl hit ↦ ap (find p) (filter_by q x xs true hit)
+        ∙ ap (λ found. cond (p x) (Some x) found) (find_kept xs (All-tail Implies x xs all))
     | inr miss ↦
         ap (find p) (filter_by q x xs false miss) ∙ find_kept xs (All-tail Implies x xs all)
         ∙ sym (ap (λ t. cond t (Some x) (find p xs)) (misses x (All-head Implies x xs all) miss))
@@ -125,7 +136,8 @@ module _ (name : List ℕ) where
     | inr apart ↦ ap not apart
   ]
 
-  firsts_on : (h : List Answered) → HaveOneNetwork h → filter (is_on name) (first_arrivals h) ≡ first_arrivals (filter (is_on name) h)
+  firsts_on : (h : List Answered) → HaveOneNetwork h
+      → filter (is_on name) (first_arrivals h) ≡ first_arrivals (filter (is_on name) h)
   firsts_on [] one = refl
   firsts_on (b ∷ h) one =
       let below = firsts_on h (pairs_tail NamesOneNetwork b h one) in
@@ -137,7 +149,8 @@ module _ (name : List ℕ) where
         | inr off ↦
             filter_by (is_on name) b (filter (others b) (first_arrivals h)) false off
             ∙ filter_kept (is_on name) (others b) (first_arrivals h)
-            (All-weaker (NamesOneNetwork b) (Implies (is_on name) (others b)) (λ c one_net. is_other b c off one_net) (first_arrivals h)
+            (All-weaker (NamesOneNetwork b) (Implies (is_on name) (others b)) (λ c one_net. is_other b c off one_net)
+            (first_arrivals h)
             (firsts_all (NamesOneNetwork b) h (pairs_head NamesOneNetwork b h one)))
             ∙ below
             ∙ sym (ap first_arrivals (filter_by (is_on name) b h false off))
@@ -152,10 +165,12 @@ module _ (name : List ℕ) where
   abbrev entry : Answered → Profile × List ℕ × Command × Reply
   entry a = (a.profile, a.team, a.command, reply_in a.answer)
 
-  first_answer : (a : Answered) (list : List Answered) (r : Reply) (rs : List Reply) → map answer_of (a ∷ list) ≡ map answer.Reply (r ∷ rs) → a.answer ≡ answer.Reply r
+  first_answer : (a : Answered) (list : List Answered) (r : Reply) (rs : List Reply)
+      → map answer_of (a ∷ list) ≡ map answer.Reply (r ∷ rs) → a.answer ≡ answer.Reply r
   first_answer a list r rs e = cc
 
-  later_answers : (a : Answered) (list : List Answered) (r : Reply) (rs : List Reply) → map answer_of (a ∷ list) ≡ map answer.Reply (r ∷ rs)
+  later_answers : (a : Answered) (list : List Answered) (r : Reply) (rs : List Reply)
+      → map answer_of (a ∷ list) ≡ map answer.Reply (r ∷ rs)
       → map answer_of list ≡ map answer.Reply rs
   later_answers a list r rs e = cc
 
@@ -165,7 +180,8 @@ module _ (name : List ℕ) where
   history_is (a ∷ list) [] reported = absurd cc
   history_is (a ∷ list) (r ∷ rs) reported =
       let rest = history name (map request_of list) rs in
-      let below : rest ≡ map entry (filter (is_on name) list) = history_is list rs (later_answers a list r rs reported) in
+      let below : rest ≡ map entry (filter (is_on name) list) =
+      history_is list rs (later_answers a list r rs reported) in
       elim (cases_Bool (is_on name a)) [
         | inl on ↦
             ap (λ t. if t then (a.profile, a.team, a.command, r) ∷ rest else rest) on
@@ -184,10 +200,13 @@ record AreAnswered (list : List Answered) (office : Office) : Type 0 where
   replied : map answer_of list ≡ map answer.Reply replies
   run : Run opening (map request_of list) replies office
 
-one_network : ReadsAsOneAtMost → (name : List ℕ) (h g : List Answered) (o p : Office) → HaveOneNetwork h → HaveOneNetwork g
-    → filter (is_on name) h ≡ filter (is_on name) g → AreAnswered (first_arrivals h) o → AreAnswered (first_arrivals g) p → net_named o name ≡ net_named p name
+one_network : ReadsAsOneAtMost → (name : List ℕ) (h g : List Answered) (o p : Office) → HaveOneNetwork h
+    → HaveOneNetwork g
+    → filter (is_on name) h ≡ filter (is_on name) g → AreAnswered (first_arrivals h) o
+    → AreAnswered (first_arrivals g) p → net_named o name ≡ net_named p name
 one_network once name h g o p one_h one_g same answered_h answered_g =
-    one_history_one_network once name opening opening o p (map request_of (first_arrivals h)) (map request_of (first_arrivals g)) answered_h.replies answered_g.replies
+    one_history_one_network once name opening opening o p (map request_of (first_arrivals h))
+    (map request_of (first_arrivals g)) answered_h.replies answered_g.replies
     offices_are_kept.opening_is.rising offices_are_kept.opening_is.rising answered_h.run answered_g.run refl
     (history_is name (first_arrivals h) answered_h.replies answered_h.replied
     ∙ ap (map (entry name)) (firsts_on name h one_h ∙ ap first_arrivals same ∙ sym (firsts_on name g one_g))
@@ -205,10 +224,12 @@ record Ends (o : Office) (list : List Answered) (a : Answered) (after : Office) 
   answered : a.answer ≡ answer.Reply reply
   step : Step a.profile mid a.team a.command reply after
 
-only_answer : (a : Answered) (r : Reply) → map answer_of (a ∷ []) ≡ map answer.Reply (r ∷ []) → a.answer ≡ answer.Reply r
+only_answer : (a : Answered) (r : Reply) → map answer_of (a ∷ []) ≡ map answer.Reply (r ∷ [])
+    → a.answer ≡ answer.Reply r
 only_answer a r e = cc
 
-ends : (list : List Answered) (a : Answered) (rs : List Reply) (o after : Office) → map answer_of (list ++ a ∷ []) ≡ map answer.Reply rs
+ends : (list : List Answered) (a : Answered) (rs : List Reply) (o after : Office)
+    → map answer_of (list ++ a ∷ []) ≡ map answer.Reply rs
     → Run o (map request_of (list ++ a ∷ [])) rs after → Ends o list a after
 ends [] a [] o after reported run = absurd run
 ends [] a (r ∷ []) o after reported run = record {
@@ -228,14 +249,16 @@ ends (b ∷ list) a (r ∷ rs) o after reported run =
       mid = below.mid;
       reported = r ∷ below.reported;
       reply = below.reply;
-      replied = ap (λ x. x ∷ map answer_of list) (first_answer [] b (list ++ a ∷ []) r rs reported) ∙ ap (λ l. answer.Reply r ∷ l) below.replied;
+      replied = ap (λ x. x ∷ map answer_of list) (first_answer [] b (list ++ a ∷ []) r rs reported)
+          ∙ ap (λ l. answer.Reply r ∷ l) below.replied;
       run = (run.0, run.1, below.run);
       answered = below.answered;
       step = below.step;
     }
 
 -- a step in an office with the same network, where the book isn't read
-module _ (profile : Profile) (o p after : Office) (team : List ℕ) (c : Command) (r : Reply) (unrequested : needs_book c.task ≡ false) (same : net_named o c.net ≡ net_named p c.net)
+module _ (profile : Profile) (o p after : Office) (team : List ℕ) (c : Command) (r : Reply)
+    (unrequested : needs_book c.task ≡ false) (same : net_named o c.net ≡ net_named p c.net)
     (step : Step profile o team c r after) where
   abbrev left_there : Office
   left_there = office_after p (step_outcome p team step.reading c)
@@ -252,7 +275,8 @@ module _ (profile : Profile) (o p after : Office) (team : List ℕ) (c : Command
 
 -- ---- the law
 
-module _ (once : ReadsAsOneAtMost) (h g : List Answered) (a : Answered) (unrequested : needs_book a.command.task ≡ false) (one_h : HaveOneNetwork (h ++ a ∷ []))
+module _ (once : ReadsAsOneAtMost) (h g : List Answered) (a : Answered)
+    (unrequested : needs_book a.command.task ≡ false) (one_h : HaveOneNetwork (h ++ a ∷ []))
     (one_g : HaveOneNetwork (g ++ a ∷ [])) (same : filter (is_on a.command.net) h ≡ filter (is_on a.command.net) g)
     (office p : Office) (legal : IsLegal (h ++ a ∷ []) office) (other : IsLegal g p) where
   abbrev name : List ℕ
@@ -264,28 +288,35 @@ module _ (once : ReadsAsOneAtMost) (h g : List Answered) (a : Answered) (unreque
   -- all of its pair are on its network
   pair_on : (list : List Answered) → HaveOneNetwork (list ++ a ∷ []) → All (Implies of_pair (is_on name)) list
   pair_on list one =
-      All-weaker (λ b. NamesOneNetwork b a) (Implies of_pair (is_on name)) (λ b net_is pair. (bytes_eq-Decides b.command.net name).1 (net_is pair)) list
+      All-weaker (λ b. NamesOneNetwork b a) (Implies of_pair (is_on name))
+      (λ b net_is pair. (bytes_eq-Decides b.command.net name).1 (net_is pair)) list
       (pairs_last NamesOneNetwork list a one)
 
   one_first : first_of g a ≡ first_of h a
   one_first =
-      sym (find_kept of_pair (is_on name) g (pair_on g one_g)) ∙ ap (find of_pair) (sym same) ∙ find_kept of_pair (is_on name) h (pair_on h one_h)
+      sym (find_kept of_pair (is_on name) g (pair_on g one_g)) ∙ ap (find of_pair) (sym same)
+      ∙ find_kept of_pair (is_on name) h (pair_on h one_h)
 
   first_one : first_of h a ≡ None → IsLegalHistory (g ++ a ∷ [])
   first_one new =
       let firsts = first_new h a new in
       let way = ends (first_arrivals h) a legal.replies opening office (sym (ap (map answer_of) firsts) ∙ legal.replied)
       (subst (λ list. Run opening (map request_of list) legal.replies office) firsts legal.run) in
-      let net_is = one_network once name h g way.mid p (pairs_before NamesOneNetwork h a one_h) (pairs_before NamesOneNetwork g a one_g) same
-      (record { replies = way.reported; replied = way.replied; run = way.run }) (record { replies = other.replies; replied = other.replied; run = other.run }) in (
+      let net_is = one_network once name h g way.mid p (pairs_before NamesOneNetwork h a one_h)
+      (pairs_before NamesOneNetwork g a one_g) same
+      (record { replies = way.reported; replied = way.replied; run = way.run })
+      (record { replies = other.replies; replied = other.replied; run = other.run }) in (
         left_there a.profile way.mid p office a.team a.command way.reply unrequested net_is way.step,
-        histories_grow.first g p (left_there a.profile way.mid p office a.team a.command way.reply unrequested net_is way.step) a way.reply other (one_first ∙ new) way.answered
+        histories_grow.first g p
+            (left_there a.profile way.mid p office a.team a.command way.reply unrequested net_is way.step) a way.reply
+            other (one_first ∙ new) way.answered
             (step_there a.profile way.mid p office a.team a.command way.reply unrequested net_is way.step),
       )
 
   repeated : (first : Answered) → first_of h a ≡ Some first → IsLegalHistory (g ++ a ∷ [])
   repeated first is =
-      let found : first_of (h ++ a ∷ []) a ≡ Some first = find-append of_pair h (a ∷ []) ∙ ap (λ o. option_or o (first_of (a ∷ []) a)) is in
+      let found : first_of (h ++ a ∷ []) a ≡ Some first = find-append of_pair h (a ∷ [])
+      ∙ ap (λ o. option_or o (first_of (a ∷ []) a)) is in
       let answered : IsAnsweredAs a first = subst (λ o. IfSome o (IsAnsweredAs a)) found
       (all_last (λ b. IfSome (first_of (h ++ a ∷ []) b) (IsAnsweredAs b)) h a legal.again) in
       (p, histories_grow.again g p a first other (one_first ∙ is) answered)

@@ -7,7 +7,8 @@ abbrev pub is_key_byte : ℕ → Bool
 is_key_byte b = nat_le 33 b && nat_le b 126
 
 abbrev pub is_key : List ℕ → Bool
-is_key bytes = not (length bytes == 0) && nat_le (length bytes) 64 && list_all is_key_byte bytes && not (bytes_eq bytes (codes "-"))
+is_key bytes = not (length bytes == 0) && nat_le (length bytes) 64 && list_all is_key_byte bytes
+    && not (bytes_eq bytes (codes "-"))
 
 abbrev pub IsKey : List ℕ → Type 0
 IsKey bytes = IsTrue (is_key bytes)

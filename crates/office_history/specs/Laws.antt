@@ -1,10 +1,11 @@
 -- How legal histories go on, and what they leave.
-use Rattle.std.specs.Prelude.{◌≡◌, ◌≢◌, ℕ, Bool, true, false, if◌then◌else◌, List, [], ◌∷◌, ◌++◌, map, filter, All, AllPairs, Contains, Option, None, Some, is_none}
+use Rattle.std.specs.Prelude.{◌≡◌, ◌≢◌, ℕ, Bool, true, false, if◌then◌else◌, List, [], ◌∷◌, ◌++◌, map, filter, All}
+use Rattle.std.specs.Prelude.{AllPairs, Contains, Option, None, Some, is_none}
 use Rattle.std.specs.List.{flat_map}
 use Rattle.std.specs.Str.{bytes_eq}
-use Rattle.catalogue.specs.Messages.{number_of}
-use Rattle.catalogue.specs.declared.message.Message.{Message}
-use Rattle.catalogue.specs.declared.sheet.Sheet.{Sheet}
+use Rattle.dbc_sheet.specs.Messages.{number_of}
+use Rattle.dbc_sheet.specs.declared.message.Message.{Message}
+use Rattle.dbc_sheet.specs.declared.sheet.Sheet.{Sheet}
 use Rattle.office_types.specs.Command.{IsCommand}
 use Rattle.office_types.specs.PlainName.{IsPlainName}
 use Rattle.office_types.specs.Reply.{whole_reply}
@@ -24,13 +25,15 @@ use Rattle.office_law.specs.Apart.{needs_book}
 use Rattle.office_history.specs.declared.arrival.Answer.{Answer}
 use Rattle.office_history.specs.declared.arrival.Answer.TheVariants as answer
 use Rattle.office_history.specs.declared.arrival.Answer.TheVariants.{KeyReused}
-use Rattle.office_history.specs.History.{Answered, IsAnsweredAs, IsLegal, IsLegalHistory, first_arrivals, first_of, request_of, same_pair}
+use Rattle.office_history.specs.History.{Answered, IsAnsweredAs, IsLegal, IsLegalHistory, first_arrivals, first_of}
+use Rattle.office_history.specs.History.{request_of, same_pair}
 
 -- One more arrival leaves a history legal: a first one, by a step of the office, and a repeat, by the answer of the
 -- first one.
 pub record HistoriesGrow : Type 0 where
   pub begins : IsLegal [] opening
-  pub first : (h : List Answered) (before after : Office) (a : Answered) (reply : Reply) → IsLegal h before → first_of h a ≡ None
+  pub first : (h : List Answered) (before after : Office) (a : Answered) (reply : Reply) → IsLegal h before
+      → first_of h a ≡ None
       → a.answer ≡ answer.Reply reply → Step a.profile before a.team a.command reply after → IsLegal (h ++ a ∷ []) after
   pub again : (h : List Answered) (office : Office) (a first : Answered) → IsLegal h office → first_of h a ≡ Some first
       → IsAnsweredAs a first → IsLegal (h ++ a ∷ []) office
@@ -43,18 +46,23 @@ IsInRange a = IsPlainName a.team × IsCommand a.command
 -- office.
 pub record HistoriesLeaveOffices : Type 0 where
   pub kept : (h : List Answered) (office : Office) → All IsInRange h → IsLegal h office → IsOffice office
-  pub one : (h g : List Answered) (a b : Office) → map request_of (first_arrivals h) ≡ map request_of (first_arrivals g) → IsLegal h a → IsLegal g b → a ≡ b
+  pub one : (h g : List Answered) (a b : Office) → map request_of (first_arrivals h) ≡ map request_of (first_arrivals g)
+      → IsLegal h a → IsLegal g b → a ≡ b
 
 -- However a legal history goes on, the networks that it left are there, and their releases are the first ones of those
 -- that they have after: no release changes, and none goes.
 abbrev pub ReleasesStay : Type 0
-ReleasesStay = (h more : List Answered) (before after : Office) (name : List ℕ) (net : Net) → IsLegal h before → IsLegal (h ++ more) after
-    → net_named before name ≡ Some net → (last : Net) × (net_named after name ≡ Some last) × (new : List Sheet) × (last.releases ≡ net.releases ++ new)
+ReleasesStay = (h more : List Answered) (before after : Office) (name : List ℕ) (net : Net) → IsLegal h before
+    → IsLegal (h ++ more) after
+    → net_named before name ≡ Some net → (last : Net) × (net_named after name ≡ Some last) × (new : List Sheet)
+    × (last.releases ≡ net.releases ++ new)
 
 -- Two releases of a network that have one message number give it one name.
 abbrev pub NumbersKeepTheirNames : Type 0
-NumbersKeepTheirNames = (h : List Answered) (office : Office) (net : Net) (s t : Sheet) (m n : Message) → All IsInRange h → IsLegal h office
-    → Contains office.nets net → Contains net.releases s → Contains net.releases t → Contains s.messages m → Contains t.messages n → number_of m ≡ number_of n → m.name ≡ n.name
+NumbersKeepTheirNames = (h : List Answered) (office : Office) (net : Net) (s t : Sheet) (m n : Message)
+    → All IsInRange h → IsLegal h office
+    → Contains office.nets net → Contains net.releases s → Contains net.releases t → Contains s.messages m
+    → Contains t.messages n → number_of m ≡ number_of n → m.name ≡ n.name
 
 -- whether an action requests a suspect parameter number of its own, and not one to share
 abbrev pub wants_new_spn : Action → Bool
@@ -109,5 +117,7 @@ HaveOneNetwork h = AllPairs NamesOneNetwork h
 -- with the same answers, on its network, whatever else each of the two has: if the command doesn't read the book, and
 -- with this arrival no pair of team and key names two networks in either.
 abbrev pub AnswersAreApart : Type 0
-AnswersAreApart = (h g : List Answered) (a : Answered) → needs_book a.command.task ≡ false → HaveOneNetwork (h ++ a ∷ []) → HaveOneNetwork (g ++ a ∷ [])
-    → filter (is_on a.command.net) h ≡ filter (is_on a.command.net) g → IsLegalHistory (h ++ a ∷ []) → IsLegalHistory g → IsLegalHistory (g ++ a ∷ [])
+AnswersAreApart = (h g : List Answered) (a : Answered) → needs_book a.command.task ≡ false
+    → HaveOneNetwork (h ++ a ∷ []) → HaveOneNetwork (g ++ a ∷ [])
+    → filter (is_on a.command.net) h ≡ filter (is_on a.command.net) g → IsLegalHistory (h ++ a ∷ []) → IsLegalHistory g
+    → IsLegalHistory (g ++ a ∷ [])

@@ -3,7 +3,7 @@ ghost use Rattle.std.specs.Prelude.{◌≡◌};
 ghost use Rattle.std.specs.List.{list_all};
 ghost use Rattle.office_history.specs.Key.{is_key, is_key_byte};
 
-use catalogue::{Checked, Rule};
+use base::{Checked, Rule};
 
 /// The greatest length of a key, in bytes.
 pub const KEY_LIMIT: usize = 64;

@@ -1,7 +1,7 @@
 -- How many messages of a file are new, and how many are live already.
 use Rattle.std.proofs.Common.{◌≡◌, ◌+◌, List, length, refl}
 use Rattle.std.proofs.lemmas.List.Filters.{length-filter_both}
-use Rattle.catalogue.specs.declared.message.Message.{Message}
+use Rattle.dbc_sheet.specs.declared.message.Message.{Message}
 use Rattle.office_types.specs.declared.state.Net.{Net}
 use Rattle.office_rules.specs.Facts.{is_live}
 use Rattle.office_rules.specs.Importing.{live_already, new_messages}

@@ -1,11 +1,12 @@
 -- The names of a list, one after the other.
-use Rattle.std.proofs.Common.{◌≡◌, ◌<◌, ◌+◌, ◌||◌, Bool, true, false, cond, ℕ, List, length, get_or, take, refl, sym, ap, ◌∙◌}
+use Rattle.std.proofs.Common.{◌≡◌, ◌<◌, ◌+◌, ◌||◌, Bool, true, false, cond, ℕ, List, length, get_or, take, refl, sym}
+use Rattle.std.proofs.Common.{ap, ◌∙◌}
 use Rattle.std.specs.Ordering.{is_eq}
 use Rattle.std.specs.Str.{bytes_eq}
 use Rattle.std.specs.Cmp.Lexicographic.{texts_ties}
 use Rattle.std.proofs.lemmas.List.Folds.{list_any_more}
-use Rattle.catalogue.specs.Keyed.{text_cmp}
-use Rattle.catalogue.specs.Named.{has_name}
+use Rattle.base.specs.Keyed.{text_cmp}
+use Rattle.dbc_words.specs.Named.{has_name}
 
 or_last : (t there : Bool) → cond t true there ≡ (there || t)
 or_last true true = refl

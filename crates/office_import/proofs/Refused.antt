@@ -1,8 +1,8 @@
 -- The first refusal of an import, whose tests come in three parts.
 use Rattle.std.proofs.Common.{◌≡◌, ℕ, true, false, List, [], ◌∷◌, ◌++◌, Some, None, refl, sym}
 use Rattle.std.specs.List.{flat_map}
-use Rattle.catalogue.specs.Refusing.{Test, first_refusal}
-use Rattle.catalogue.specs.declared.sheet.Sheet.{Sheet}
+use Rattle.base.specs.Refusing.{Test, first_refusal}
+use Rattle.dbc_sheet.specs.declared.sheet.Sheet.{Sheet}
 use Rattle.office_types.specs.declared.refusal.Refusal.{Refusal}
 use Rattle.office_types.specs.declared.refusal.Refusal.TheVariants as no
 use Rattle.office_types.specs.declared.state.Net.{Net}
@@ -28,13 +28,18 @@ module _ (team : List ℕ) (net : Net) (s : Sheet) where
   pub refused_early : (r : Refusal) → Some r ≡ first_refusal early → Some r ≡ first_refusal tests
   refused_early r e = sym (first-refused (early ++ each) last r (first-refused early each r (sym e)))
 
-  pub refused_each : (r : Refusal) → first_refusal early ≡ None → Some r ≡ first_refusal each → Some r ≡ first_refusal tests
+  pub refused_each : (r : Refusal) → first_refusal early ≡ None → Some r ≡ first_refusal each
+      → Some r ≡ first_refusal tests
   refused_each r e f = sym (first-refused (early ++ each) last r (first-later early each (Some r) e (sym f)))
 
-  pub refused_last : first_refusal early ≡ None → None ≡ first_refusal each → is_too_large net s ≡ true → Some no.TooMany ≡ first_refusal tests
+  pub refused_last : first_refusal early ≡ None → None ≡ first_refusal each → is_too_large net s ≡ true
+      → Some no.TooMany ≡ first_refusal tests
   refused_last e f large =
-      sym (first-later (early ++ each) last (Some no.TooMany) (first-later early each None e (sym f)) (first-held (is_too_large net s) no.TooMany [] large))
+      sym (first-later (early ++ each) last (Some no.TooMany) (first-later early each None e (sym f))
+      (first-held (is_too_large net s) no.TooMany [] large))
 
-  pub none_refused : first_refusal early ≡ None → None ≡ first_refusal each → is_too_large net s ≡ false → None ≡ first_refusal tests
+  pub none_refused : first_refusal early ≡ None → None ≡ first_refusal each → is_too_large net s ≡ false
+      → None ≡ first_refusal tests
   none_refused e f small =
-      sym (first-later (early ++ each) last None (first-later early each None e (sym f)) (first-passed (is_too_large net s) no.TooMany [] None small refl))
+      sym (first-later (early ++ each) last None (first-later early each None e (sym f))
+      (first-passed (is_too_large net s) no.TooMany [] None small refl))

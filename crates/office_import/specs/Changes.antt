@@ -1,6 +1,6 @@
 -- The changes of an import, and its reply.
 use Rattle.std.specs.Prelude.{ℕ, List, ◌∷◌, ◌++◌, length, map}
-use Rattle.catalogue.specs.declared.sheet.Sheet.{Sheet}
+use Rattle.dbc_sheet.specs.declared.sheet.Sheet.{Sheet}
 use Rattle.office_types.specs.declared.change.Change.{Change}
 use Rattle.office_types.specs.declared.change.Change.TheVariants.{SetHead, SetMessage, EnterSpn}
 use Rattle.office_types.specs.declared.reply.Reply.{Reply}
@@ -12,7 +12,8 @@ use Rattle.office_rules.specs.Importing.{live_already, new_messages, owned_by, s
 abbrev pub import_changes : List ℕ → Net → Sheet → List Change
 import_changes team net s =
     SetHead (record net.head { frame = widened net.head.frame s })
-    ∷ (map (λ m. SetMessage (owned_by team m)) (new_messages net s.messages) ++ map EnterSpn (spns_of (new_messages net s.messages)))
+    ∷ (map (λ m. SetMessage (owned_by team m)) (new_messages net s.messages)
+    ++ map EnterSpn (spns_of (new_messages net s.messages)))
 
 -- how many messages are new, and how many are live already
 abbrev pub import_reply : Net → Sheet → Reply

@@ -7,4 +7,5 @@ use Rattle.office_import.specs.declared.numbers.TeamNumbers.{TeamNumbers}
 
 -- those of its blocks
 abbrev pub team_numbers : List ℕ → List GrantedBlock → TeamNumbers
-team_numbers team blocks = record { std = blocks_of blocks team Std; ext = blocks_of blocks team Ext; pgn = blocks_of blocks team Pgn }
+team_numbers team blocks =
+    record { std = blocks_of blocks team Std; ext = blocks_of blocks team Ext; pgn = blocks_of blocks team Pgn }

@@ -1,8 +1,8 @@
 -- The tests of an import that come first.
 use Rattle.std.specs.Prelude.{List, ◌∷◌}
 use Rattle.std.specs.List.{flat_map}
-use Rattle.catalogue.specs.Refusing.{Test}
-use Rattle.catalogue.specs.declared.sheet.Sheet.{Sheet}
+use Rattle.base.specs.Refusing.{Test}
+use Rattle.dbc_sheet.specs.declared.sheet.Sheet.{Sheet}
 use Rattle.office_types.specs.declared.refusal.Refusal.{Refusal}
 use Rattle.office_types.specs.declared.refusal.Refusal.TheVariants as no
 use Rattle.office_types.specs.declared.state.Net.{Net}

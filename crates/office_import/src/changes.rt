@@ -5,7 +5,8 @@ ghost use Rattle.office_rules.specs.Importing.{new_messages, owned_by, spns_of};
 ghost use Rattle.office_import.specs.Changes.{import_reply};
 
 use crate::index::LiveIndex;
-use catalogue::{Copying, Items, Message, Sheet, Signal};
+use base::{Copying, Items};
+use dbc_sheet::{Message, Sheet, Signal};
 use office_types::{Change, LiveMessage, Reply, Team, UsableSpn};
 use std::alloc::{AllocError, Global};
 
@@ -81,7 +82,8 @@ pub(crate) fn add_all_spns(
     messages: &[Message],
     changes: &mut Items<Change>,
 ) -> Result<(), AllocError>
-    ensures { OnOk result (changes.new ≡ changes.old ++ map EnterSpn (spns_of (new_messages index.now messages.now))) }
+    ensures { OnOk result (changes.new ≡ changes.old
+        ++ map EnterSpn (spns_of (new_messages index.now messages.now))) }
 {
     for message in messages {
         if !index.is_live(message.ident) {

@@ -1,10 +1,11 @@
 //! Whether the messages of an imported file are clear.
 ghost use Rattle.std.specs.Prelude.{◌≡◌, IfOk};
 ghost use Rattle.std.specs.List.{flat_map};
-ghost use Rattle.catalogue.specs.Refusing.{first_refusal};
+ghost use Rattle.base.specs.Refusing.{first_refusal};
 ghost use Rattle.office_rules.specs.Importing.{clear_tests};
 
-use catalogue::{Message, SheetCode};
+use dbc_sheet::Message;
+use dbc_words::SheetCode;
 use office_types::{FileFault, Refusal};
 use std::alloc::{AllocError, Global};
 

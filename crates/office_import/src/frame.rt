@@ -1,13 +1,15 @@
 //! The frame of a network, with what a file brings.
 ghost use Rattle.std.specs.Prelude.{◌≡◌, ◌++◌, IfOk, OnOk};
-ghost use Rattle.catalogue.specs.Sheet.{node_name, table_name};
-ghost use Rattle.catalogue.specs.WellFormed.{AreRostered};
-ghost use Rattle.catalogue.specs.declared.fault.SheetCode.TheVariants.{Memory};
+ghost use Rattle.dbc_words.specs.declared.fault.SheetCode.TheVariants.{Memory};
+ghost use Rattle.dbc_sheet.specs.Sheet.{node_name, table_name};
+ghost use Rattle.dbc_sheet.specs.WellFormed.{AreRostered};
 ghost use Rattle.office_rules.specs.Importing.{or_else, widened};
 ghost use Rattle.office_import.specs.News.{CanWiden, frame_news};
 
 use crate::news::FrameNews;
-use catalogue::{Copying, Items, Node, Sheet, SheetFault, Text, ValueTable};
+use base::{Copying, Items};
+use dbc_sheet::{Node, Sheet, ValueTable};
+use dbc_words::{SheetFault, Text};
 use std::alloc::{AllocError, Global};
 
 /// Out of memory, which is all that the fault can be.

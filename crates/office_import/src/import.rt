@@ -1,6 +1,6 @@
 //! Decisions on imports.
 ghost use Rattle.std.specs.Prelude.{◌≡◌, ℕ, List, None, Some, IfOk, IfSome, MatchOption};
-ghost use Rattle.catalogue.specs.Refusing.{first_refusal};
+ghost use Rattle.base.specs.Refusing.{first_refusal};
 ghost use Rattle.office_types.specs.declared.book.SpnBook.{SpnBook};
 ghost use Rattle.office_types.specs.declared.command.Task.TheVariants.{Import};
 ghost use Rattle.office_rules.specs.Change.{Decides};
@@ -18,7 +18,8 @@ use crate::joining::first_refused;
 use crate::limits::is_too_large;
 use crate::news::{FrameNews, frame_news};
 use crate::numbers::team_numbers;
-use catalogue::{Items, Sheet};
+use base::Items;
+use dbc_sheet::Sheet;
 use office_facts::{head_with, in_review, refusal_decision};
 use office_types::{Change, Decision, FileFault, Head, Net, Refusal, Team};
 use std::alloc::{AllocError, Global};
@@ -37,7 +38,8 @@ fn early_refusal(alloc: Global, net: &Net, file: &Sheet) -> Result<Option<Refusa
 fn new_head(alloc: Global, net: &Net, file: &Sheet, news: FrameNews) -> Result<Head, AllocError>
     requires news { news ≡ frame_news net.now.head.frame file.now }
     requires room { CanWiden net.now.head.frame news }
-    ensures { IfOk result (λ head. head ≡ record net.now.head { frame = widened net.now.head.frame file.now }) }
+    ensures { IfOk result (λ head. head
+        ≡ record net.now.head { frame = widened net.now.head.frame file.now }) }
 {
     let frame = widened(alloc, &net.head.frame, file, news)?;
     head_with(alloc, &net.head, frame)
@@ -94,7 +96,7 @@ fn decide_clear(
 /// code of its first clash and its DBC number; then for each message, in the order of their numbers, 51 `IdentTaken`
 /// where its identifier is that of a live message which isn't equal to it, 52 `Held` where the identifier is held, 50
 /// `NameTaken` where a live message has its name, 49 `OutsideBlock` where the team isn't the office and has no block
-/// with the identifier's number or its parameter group; then 26 `TooMany` where a limit of the catalogue would be
+/// with the identifier's number or its parameter group; then 26 `TooMany` where a limit of a sheet would be
 /// passed. The reply shows how many messages are added and how many were live. The error is out of memory.
 pub fn decide_import(
     alloc: Global,
@@ -130,8 +132,10 @@ pub fn decide_unreadable(alloc: Global, net: &Net, fault: FileFault) -> Decision
 /// Decides an import where the network is in review, whatever the file reads as: it is refused with 54 `InReview`.
 /// `None` where the file must be read. Takes no memory.
 pub fn decide_unread(alloc: Global, net: &Net) -> Option<Decision>
-    ensures decision { IfSome result (λ d. (team name : List ℕ) (book : SpnBook) (reading : FileReading) →
-        Decides name (record { net = Some net.now; book = book }) (import team (Some net.now) reading) d) }
+    ensures decision { IfSome result
+        (λ d. (team name : List ℕ) (book : SpnBook) (reading : FileReading) →
+        Decides name (record { net = Some net.now; book = book })
+        (import team (Some net.now) reading) d) }
     ensures wanted { (file : List ℕ) → MatchOption result
         (file_wanted (Some net.now) (Import file) ≡ Some file)
         (λ d. file_wanted (Some net.now) (Import file) ≡ None) }

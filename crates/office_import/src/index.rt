@@ -1,14 +1,15 @@
 //! A network, with what finds its messages by number and by name.
 ghost use Rattle.std.specs.Prelude.{◌≡◌, IfOk};
 ghost use Rattle.std.specs.List.{list_any};
-ghost use Rattle.catalogue.specs.Same.{same_message};
+ghost use Rattle.dbc_sheet.specs.Same.{same_message};
 ghost use Rattle.office_rules.specs.Facts.{is_held, is_live, is_named};
 ghost use Rattle.office_rules.specs.Importing.{is_live_so};
 
 use crate::names::live_names;
 use crate::searching::Searching;
 use can_id::Ident;
-use catalogue::{Message, Name, same_messages_are_equal};
+use dbc_sheet::{Message, same_messages_are_equal};
+use dbc_words::Name;
 use office_types::{LiveMessage, Net};
 use std::alloc::{AllocError, Global};
 use std::collections::BTreeSet;
@@ -33,8 +34,8 @@ pub(crate) struct LiveIndex<'a> {
 impl<'a> Model for LiveIndex<'a> {
     ghost use Rattle.std.specs.Prelude.{◌≡◌, ℕ, List};
     ghost use Rattle.std.specs.BTreeSet.{contains};
-    ghost use Rattle.catalogue.specs.Keyed.{text_cmp};
-    ghost use Rattle.catalogue.specs.Named.{has_name};
+    ghost use Rattle.base.specs.Keyed.{text_cmp};
+    ghost use Rattle.dbc_words.specs.Named.{has_name};
     ghost use Rattle.office_types.specs.declared.state.Net.{Net};
     ghost use Rattle.office_rules.specs.Facts.{live_name};
 

@@ -1,14 +1,14 @@
 //! Whether a team may bring the messages of a file to a network.
 ghost use Rattle.std.specs.Prelude.{◌≡◌};
 ghost use Rattle.std.specs.List.{flat_map};
-ghost use Rattle.catalogue.specs.Refusing.{first_refusal};
+ghost use Rattle.base.specs.Refusing.{first_refusal};
 ghost use Rattle.office_rules.specs.Importing.{may_bring, message_import_tests};
 ghost use Rattle.office_import.specs.Numbers.{team_numbers};
 
 use crate::index::LiveIndex;
 use crate::numbers::TeamNumbers;
 use can_id::{Ident, J1939};
-use catalogue::Message;
+use dbc_sheet::Message;
 use office_types::{Refusal, Team, is_office};
 
 /// Whether the team, which has these numbers, may bring a message of the identifier.
@@ -68,7 +68,8 @@ pub(crate) fn first_refused(
     messages: &[Message],
 ) -> Option<Refusal>
     requires { numbers.now ≡ team_numbers team.now index.now.blocks }
-    ensures { result ≡ first_refusal (flat_map (message_import_tests team.now index.now) messages.now) }
+    ensures { result ≡ first_refusal
+        (flat_map (message_import_tests team.now index.now) messages.now) }
 {
     for message in messages {
         let refusal = message_refusal(team, numbers, index, message);

@@ -1,4 +1,4 @@
-//! Whether a network with a file's messages, nodes and value tables would pass a limit of the catalogue.
+//! Whether a network with a file's messages, nodes and value tables would pass a limit of a sheet.
 ghost use Rattle.std.specs.Prelude.{◌≡◌, ◌+◌, nat_lt};
 ghost use Rattle.office_rules.specs.Importing.{is_too_large};
 ghost use Rattle.office_import.specs.News.{frame_news};
@@ -6,7 +6,8 @@ ghost use Rattle.office_import.specs.News.{frame_news};
 use crate::changes::new_count;
 use crate::index::LiveIndex;
 use crate::news::FrameNews;
-use catalogue::{MESSAGE_LIMIT, ROSTER_LIMIT, Sheet};
+use dbc_sheet::Sheet;
+use dbc_words::{MESSAGE_LIMIT, NODE_LIMIT, TABLE_LIMIT};
 
 /// Whether so many more are more than the limit.
 fn passes(limit: usize, have: usize, more: usize) -> bool
@@ -24,13 +25,9 @@ pub(crate) fn is_too_large(index: &LiveIndex, file: &Sheet, news: &FrameNews) ->
     let frame = &net.head.frame;
     let messages = new_count(index, file.messages());
     passes(MESSAGE_LIMIT, net.live.as_slice().len(), messages)
+        || passes(NODE_LIMIT, frame.nodes().len(), news.nodes.as_slice().len())
         || passes(
-            ROSTER_LIMIT,
-            frame.nodes().len(),
-            news.nodes.as_slice().len(),
-        )
-        || passes(
-            ROSTER_LIMIT,
+            TABLE_LIMIT,
             frame.tables().len(),
             news.tables.as_slice().len(),
         )

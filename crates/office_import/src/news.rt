@@ -4,7 +4,9 @@ ghost use Rattle.office_rules.specs.Importing.{new_named};
 ghost use Rattle.office_import.specs.News.{HasRosters, frame_news};
 
 use crate::names::names_of;
-use catalogue::{Copying, Items, Named, Node, Sheet, ValueTable};
+use base::{Copying, Items};
+use dbc_sheet::{Node, Sheet, ValueTable};
+use dbc_words::Named;
 use std::alloc::{AllocError, Global};
 
 /// Copies of those of the file's things whose names none of these things has, in the order of the file.

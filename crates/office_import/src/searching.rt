@@ -1,8 +1,8 @@
 //! Things with identifiers, found by binary search where they are in order.
 ghost use Rattle.std.specs.Prelude.{◌≡◌, Bool, true, IsTrue, IfOk, IfErr};
 ghost use Rattle.std.specs.List.{list_any};
+ghost use Rattle.base.specs.Ascending.{IsAt, IsGap};
 ghost use Rattle.can_id.specs.declared.ident.Ident.{Ident};
-ghost use Rattle.catalogue.specs.Ascending.{IsAt, IsGap};
 ghost use Rattle.office_rules.specs.Facts.{same_ident};
 ghost use Rattle.office_import.specs.Searching.{IsAscending, number_by};
 

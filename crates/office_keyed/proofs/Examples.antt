@@ -5,7 +5,7 @@ use Rattle.office_rules.proofs.TeamCommand.{engine, office}
 use Rattle.office_history.specs.declared.arrival.Answer.TheVariants as answer
 use Rattle.office_history.specs.declared.arrival.Answer.TheVariants.{KeyReused}
 use Rattle.office_history.proofs.Examples.{after, it_is_legal, moved_on}
-use Rattle.office_keyed.specs.Keyed.{Holds, Kept}
+use Rattle.office_keyed.specs.Keyed.{HoldsHistory, Kept}
 
 -- seven arrivals: the sixth repeats the third, and the seventh reuses its key
 abbrev kept_five : List Kept
@@ -16,5 +16,5 @@ kept_five =
     ∷ record { team = engine; key = codes "a2"; content = codes "retire E1"; answer = answer.Reply Done }
     ∷ record { team = engine; key = codes "a3"; content = codes "take E2"; answer = answer.Reply (Number 256) } ∷ []
 
-moved_on_is_held : Holds moved_on (record { office = after 5; kept = kept_five })
+moved_on_is_held : HoldsHistory moved_on (record { office = after 5; kept = kept_five })
 moved_on_is_held = record { legal = it_is_legal; kept = refl }

@@ -23,7 +23,7 @@ abbrev pub kept_of : Answered → Kept
 kept_of a = record { team = a.team; key = a.key; content = a.content; answer = a.answer }
 
 -- The history is legal and leaves the office, and what is kept is that of its first arrivals, in order.
-pub record Holds (h : List Answered) (o : Keyed) : Type 0 where
+pub record HoldsHistory (h : List Answered) (o : Keyed) : Type 0 where
   pub legal : IsLegal h o.office
   pub kept : o.kept ≡ map kept_of (first_arrivals h)
 

@@ -4,7 +4,7 @@ use Rattle.office_history.specs.declared.arrival.Answer.{Answer}
 use Rattle.office_history.specs.declared.arrival.Arrival.{Arrival}
 use Rattle.office_history.specs.Answering.{reported}
 use Rattle.office_history.specs.History.{Answered}
-use Rattle.office_keyed.specs.Keyed.{Holds, Keyed}
+use Rattle.office_keyed.specs.Keyed.{HoldsHistory, Keyed}
 
 -- the arrivals, each with its answer
 abbrev pub reported_each : List Arrival → List Answer → List Answered
@@ -14,13 +14,14 @@ reported_each (a ∷ arrivals) (answer ∷ answers) = reported a answer ∷ repo
 
 -- The arrivals were answered: their answers were added to the earlier ones, and every history that the office held goes
 -- on with them.
-pub record HasRun (before : Keyed) (arrivals : List Arrival) (earlier answers : List Answer) (after : Keyed) : Type 0 where
+pub record HasAnswered (before : Keyed) (arrivals : List Arrival) (earlier answers : List Answer) (after : Keyed) : Type
+    0 where
   pub new : List Answer
   pub added : answers ≡ earlier ++ new
   pub each : length new ≡ length arrivals
-  pub held : (h : List Answered) → Holds h before → Holds (h ++ reported_each arrivals new) after
+  pub held : (h : List Answered) → HoldsHistory h before → HoldsHistory (h ++ reported_each arrivals new) after
 
 -- This many of the arrivals, from the first one on, were answered.
-abbrev pub HasBegun : Keyed → List Arrival → List Answer → List Answer → Keyed → Type 0
-HasBegun before arrivals earlier answers after =
-    (n : ℕ) × (n ≤ length arrivals) × HasRun before (take n arrivals) earlier answers after
+abbrev pub HasBegunToAnswer : Keyed → List Arrival → List Answer → List Answer → Keyed → Type 0
+HasBegunToAnswer before arrivals earlier answers after =
+    (n : ℕ) × (n ≤ length arrivals) × HasAnswered before (take n arrivals) earlier answers after

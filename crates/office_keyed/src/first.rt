@@ -6,7 +6,7 @@ ghost use Rattle.office_history.specs.declared.arrival.Answer.TheVariants as ans
 ghost use Rattle.office_history.specs.History.{Answered, answer_again, first_arrivals, first_of};
 ghost use Rattle.office_keyed.specs.Keyed.{entry_kept, kept_of};
 
-use catalogue::Copying;
+use base::Copying;
 use indexmap::IndexMap;
 use office_history::{Answer, Key};
 use office_types::{Reply, Team};
@@ -114,10 +114,12 @@ pub(crate) fn answer_at(
     content: &[u8],
 ) -> Result<Option<Answer>, AllocError>
     ensures { IfOk result (λ found. (h : List Answered)
-        → map entry_kept firsts.now.entries ≡ map kept_of (first_arrivals h) → (a : Answered) → a.team ≡ pair.now.team
+        → map entry_kept firsts.now.entries ≡ map kept_of (first_arrivals h) → (a : Answered)
+        → a.team ≡ pair.now.team
         → a.key ≡ pair.now.key
         → MatchOption found (first_of h a ≡ None)
-        (λ answer. (first : Answered) × (first_of h a ≡ Some first) × (answer ≡ answer_again first content.now))) }
+        (λ answer. (first : Answered) × (first_of h a ≡ Some first)
+        × (answer ≡ answer_again first content.now))) }
 {
     match firsts.get(pair) {
         None => Ok(None),

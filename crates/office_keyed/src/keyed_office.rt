@@ -2,8 +2,8 @@
 ghost use Rattle.std.specs.Prelude.{◌≡◌, ◌++◌, ◌∷◌, [], List, None, IfOk, OnOk, OnErr};
 ghost use Rattle.office_history.specs.Answering.{answered};
 ghost use Rattle.office_history.specs.History.{Answered, first_of};
-ghost use Rattle.office_keyed.specs.Keyed.{Holds};
-ghost use Rattle.office_keyed.specs.Running.{HasBegun, HasRun};
+ghost use Rattle.office_keyed.specs.Keyed.{HoldsHistory};
+ghost use Rattle.office_keyed.specs.Running.{HasBegunToAnswer, HasAnswered};
 
 use crate::first::{First, Pair, answer_at};
 use indexmap::IndexMap;
@@ -32,7 +32,7 @@ impl Model for KeyedOffice {
 impl KeyedOffice {
     /// The office with no network and an empty book, at which nothing has arrived. Takes no memory.
     pub fn new(alloc: Global) -> Self
-        ensures { Holds [] result }
+        ensures { HoldsHistory [] result }
     {
         histories_grow();
         KeyedOffice {
@@ -56,9 +56,9 @@ impl KeyedOffice {
         pair: Pair,
         request: &Request,
     ) -> Result<Answer, AllocError>
-        ensures held { IfOk result (λ answer. (h : List Answered) → Holds h self.old
+        ensures held { IfOk result (λ answer. (h : List Answered) → HoldsHistory h self.old
             → first_of h (answered pair.team pair.key request.now answer) ≡ None
-            → Holds (h ++ answered pair.team pair.key request.now answer ∷ []) self.new) }
+            → HoldsHistory (h ++ answered pair.team pair.key request.now answer ∷ []) self.new) }
         ensures err { OnErr result (self.new ≡ self.old) }
     {
         histories_grow();
@@ -83,8 +83,8 @@ impl KeyedOffice {
         key: &Key,
         request: &Request,
     ) -> Result<Answer, AllocError>
-        ensures held { IfOk result (λ answer. (h : List Answered) → Holds h self.old
-            → Holds (h ++ answered team.now key.now request.now answer ∷ []) self.new) }
+        ensures held { IfOk result (λ answer. (h : List Answered) → HoldsHistory h self.old
+            → HoldsHistory (h ++ answered team.now key.now request.now answer ∷ []) self.new) }
         ensures err { OnErr result (self.new ≡ self.old) }
     {
         histories_grow();
@@ -103,8 +103,10 @@ impl KeyedOffice {
         arrivals: &[Arrival],
         answers: &mut Vec<Answer>,
     ) -> Result<(), AllocError>
-        ensures whole { OnOk result (HasRun self.old arrivals.now answers.old.items answers.new.items self.new) }
-        ensures begun { OnErr result (HasBegun self.old arrivals.now answers.old.items answers.new.items self.new) }
+        ensures whole { OnOk result
+            (HasAnswered self.old arrivals.now answers.old.items answers.new.items self.new) }
+        ensures begun { OnErr result
+            (HasBegunToAnswer self.old arrivals.now answers.old.items answers.new.items self.new) }
     {
         for arrival in arrivals {
             answers.reserve(1)?;

@@ -1,5 +1,6 @@
 -- Numbers that may be given out: no live message has them, and they aren't held.
-use Rattle.std.proofs.Common.{◌≡◌, ◌<◌, ◌==◌, ◌∙◌, ◌||◌, Bool, true, false, ℕ, zero, suc, List, [], ◌∷◌, map, length, get_or, Option, Some, None, Contains, refl, sym, ap, subst, arith, eq-eqb}
+use Rattle.std.proofs.Common.{◌≡◌, ◌<◌, ◌==◌, ◌∙◌, ◌||◌, Bool, true, false, ℕ, zero, suc, List, [], ◌∷◌, map, length}
+use Rattle.std.proofs.Common.{get_or, Option, Some, None, Contains, refl, sym, ap, subst, arith, eq-eqb}
 use Rattle.std.specs.List.{list_any, filter_map, cons_option}
 use Rattle.std.proofs.lemmas.Bool.{false≢true, and_parts, false_from_ne_true, leb-true, not-false, not-true, or_parts}
 use Rattle.std.proofs.lemmas.List.Elements.{Contains-append_left, Contains-append_right}
@@ -14,38 +15,45 @@ use Rattle.office_types.specs.Block.{block_form}
 use Rattle.office_types.specs.Free.{IsLeastFree, has_form, is_taken, least_free, number_form}
 use Rattle.office_types.specs.declared.block.Block.{Block}
 use Rattle.office_types.specs.declared.command.TakeIdent.{TakeIdent}
-use Rattle.office_types.specs.declared.free.Form.{Form}
+use Rattle.office_types.specs.declared.free.NumberForm.{NumberForm}
 use Rattle.office_types.specs.declared.state.LiveMessage.{LiveMessage}
 use Rattle.office_types.specs.declared.state.Net.{Net}
 use Rattle.office_types.proofs.Least.{least_free_is}
-use Rattle.office_rules.specs.Facts.{blocks_of, group_of, has_ident, ident_facts, is_held, is_live, lies_in, number_in, same_ident, taken_groups, taken_idents, taken_numbers}
+use Rattle.office_rules.specs.Facts.{blocks_of, group_of, has_ident, ident_facts, is_held, is_live, lies_in, number_in}
+use Rattle.office_rules.specs.Facts.{same_ident, taken_groups, taken_idents, taken_numbers}
 use Rattle.office_rules.specs.Numbers.{number_given, want_tests}
 use Rattle.office_law.specs.Fresh.{IsChosen}
 use Rattle.office_law.proofs.Idents.{same_ident-true}
-use Rattle.office_law.proofs.Passing.{NoneHolds}
+use Rattle.office_law.proofs.NoTestHolds.{NoneHolds}
 use Rattle.office_law.proofs.Sheets.{Contains-map}
 
 -- Identifiers that are taken, as numbers of a form.
 
-any_ident : (i : Ident) (live : List LiveMessage) → list_any (λ j. same_ident j i) (map (λ m. m.message.ident) live) ≡ list_any (has_ident i) live
+any_ident : (i : Ident) (live : List LiveMessage) → list_any (λ j. same_ident j i) (map (λ m. m.message.ident) live)
+    ≡ list_any (has_ident i) live
 any_ident i [] = refl
 any_ident i (m ∷ live) = ap (λ b. has_ident i m || b) (any_ident i live)
 
-taken_more : (form : IdentForm) (n : ℕ) (i : Ident) (ns : List ℕ) → is_taken n (cons_option (number_in form i) ns) ≡ (same_ident i (ident_of form n) || is_taken n ns)
+taken_more : (form : IdentForm) (n : ℕ) (i : Ident) (ns : List ℕ) → is_taken n (cons_option (number_in form i) ns)
+    ≡ (same_ident i (ident_of form n) || is_taken n ns)
 taken_more Standard n (id.Std m) ns = refl
 taken_more Standard n (id.Ext m) ns = refl
 taken_more Extended n (id.Std m) ns = refl
 taken_more Extended n (id.Ext m) ns = refl
 
-taken_from : (form : IdentForm) (n : ℕ) (is : List Ident) → is_taken n (filter_map (number_in form) is) ≡ list_any (λ i. same_ident i (ident_of form n)) is
+taken_from : (form : IdentForm) (n : ℕ) (is : List Ident)
+    → is_taken n (filter_map (number_in form) is) ≡ list_any (λ i. same_ident i (ident_of form n)) is
 taken_from form n [] = refl
-taken_from form n (i ∷ is) = taken_more form n i (filter_map (number_in form) is) ∙ ap (λ b. same_ident i (ident_of form n) || b) (taken_from form n is)
+taken_from form n (i ∷ is) = taken_more form n i (filter_map (number_in form) is)
+    ∙ ap (λ b. same_ident i (ident_of form n) || b) (taken_from form n is)
 
 -- a number is taken where a live message has it, or it is held
-pub is_taken-numbers : (net : Net) (form : IdentForm) (n : ℕ) → is_taken n (taken_numbers net form) ≡ (is_live net (ident_of form n) || is_held net (ident_of form n))
+pub is_taken-numbers : (net : Net) (form : IdentForm) (n : ℕ)
+    → is_taken n (taken_numbers net form) ≡ (is_live net (ident_of form n) || is_held net (ident_of form n))
 is_taken-numbers net form n =
     taken_from form n (taken_idents net)
-    ∙ list_any-append (λ i. same_ident i (ident_of form n)) (map (λ (m : LiveMessage). m.message.ident) net.live) net.held
+    ∙ list_any-append (λ i. same_ident i (ident_of form n)) (map (λ (m : LiveMessage). m.message.ident) net.live)
+    net.held
     ∙ ap (λ b. b || is_held net (ident_of form n)) (any_ident (ident_of form n) net.live)
 
 -- the number may be given out
@@ -57,13 +65,14 @@ pub record IsFreeNumber (team : List ℕ) (net : Net) (form : IdentForm) (want :
   pub held : is_held net (ident_of form n) ≡ false
 
 -- the least free number is one that may be given out
-pub record IsFreeLeast (taken : List ℕ) (blocks : List Block) (form : Form) (n : ℕ) : Type 0 where
+pub record IsFreeLeast (taken : List ℕ) (blocks : List Block) (form : NumberForm) (n : ℕ) : Type 0 where
   pub least : IsLeastFree taken blocks form (Some n)
   pub formed : has_form form n ≡ true
   pub granted : lies_in n blocks ≡ true
   pub free : is_taken n taken ≡ false
 
-pub free_least : (taken : List ℕ) (blocks : List Block) (form : Form) (n : ℕ) → least_free taken blocks form ≡ Some n → IsFreeLeast taken blocks form n
+pub free_least : (taken : List ℕ) (blocks : List Block) (form : NumberForm) (n : ℕ)
+    → least_free taken blocks form ≡ Some n → IsFreeLeast taken blocks form n
 free_least taken blocks form n e =
     let least = subst (IsLeastFree taken blocks form) e (least_free_is taken blocks form) in
     let inside = and_parts _ _ least.0 in
@@ -73,12 +82,15 @@ free_least taken blocks form n e =
 -- the number that `take_ident` gives out
 pub free_given : (team name : List ℕ) (net : Net) (c : TakeIdent) (want : Option ℕ)
     → NoneHolds (want_tests team (ident_facts net name c.form want) (record c { want = want })) → (n : ℕ)
-    → number_given team (ident_facts net name c.form want) (record c { want = want }) ≡ Some n → IsFreeNumber team net c.form want n
+    → number_given team (ident_facts net name c.form want) (record c { want = want }) ≡ Some n
+    → IsFreeNumber team net c.form want n
 free_given team name net c (Some m) h n e =
     let inside = and_parts _ _ (not-false _ h.0) in
-    subst (IsFreeNumber team net c.form (Some m)) (same_Some m n e) (record { chosen = refl; formed = inside.0; granted = inside.1; live = h.1.0; held = h.1.1.0 })
+    subst (IsFreeNumber team net c.form (Some m)) (same_Some m n e)
+    (record { chosen = refl; formed = inside.0; granted = inside.1; live = h.1.0; held = h.1.1.0 })
 free_given team name net c None h n e =
-    let free = free_least (taken_numbers net c.form) (blocks_of net.blocks team (block_form c.form)) (number_form c.form) n e in
+    let free = free_least (taken_numbers net c.form) (blocks_of net.blocks team (block_form c.form))
+    (number_form c.form) n e in
     let neither = or_parts _ _ (sym (is_taken-numbers net c.form n) ∙ free.free) in
     record { chosen = free.least; formed = free.formed; granted = free.granted; live = neither.0; held = neither.1 }
 
@@ -88,7 +100,8 @@ identifier_of Extended n h = leb-true n _ (and_parts _ _ h).0
 
 -- Parameter groups that are taken.
 
-pub group_taken : (is : List Ident) (i : Ident) (pgn : ℕ) → Contains is i → group_of i ≡ Some pgn → is_taken pgn (filter_map group_of is) ≡ true
+pub group_taken : (is : List Ident) (i : Ident) (pgn : ℕ) → Contains is i → group_of i ≡ Some pgn
+    → is_taken pgn (filter_map group_of is) ≡ true
 group_taken is i pgn c e = at_index is c.0 c.1 c.2
   where
     first : (o : Option ℕ) (ns : List ℕ) → o ≡ Some pgn → is_taken pgn (cons_option o ns) ≡ true
@@ -103,7 +116,8 @@ group_taken is i pgn c e = at_index is c.0 c.1 c.2
         or_true true b k = refl
         or_true false b k = k
 
-    at_index : (js : List Ident) (k : ℕ) → k < length js → get_or js k i ≡ i → is_taken pgn (filter_map group_of js) ≡ true
+    at_index : (js : List Ident) (k : ℕ) → k < length js → get_or js k i ≡ i
+        → is_taken pgn (filter_map group_of js) ≡ true
     at_index [] k lt same = absurd (omega arith)
     at_index (j ∷ js) zero lt same = first (group_of j) (filter_map group_of js) (ap group_of same ∙ e)
     at_index (j ∷ js) (suc k) lt same = later (group_of j) (filter_map group_of js) (at_index js k (omega arith) same)
@@ -124,10 +138,12 @@ other_group net pgn i free e = (
         let w = Any-from_list_any (has_ident i) net.live h in
         let same : w.1.message.ident ≡ i = same_ident-true w.1.message.ident i w.4 in
         Contains-append_left (map (λ (m : LiveMessage). m.message.ident) net.live) net.held i
-        (subst (Contains (map (λ (m : LiveMessage). m.message.ident) net.live)) same (Contains-map (λ (m : LiveMessage). m.message.ident) net.live w.1 (w.0, w.2, w.3)))
+        (subst (Contains (map (λ (m : LiveMessage). m.message.ident) net.live)) same
+        (Contains-map (λ (m : LiveMessage). m.message.ident) net.live w.1 (w.0, w.2, w.3)))
 
     held_ident : is_held net i ≡ true → Contains (taken_idents net) i
     held_ident h =
         let w = Any-from_list_any (λ j. same_ident j i) net.held h in
         let same : w.1 ≡ i = same_ident-true w.1 i w.4 in
-        Contains-append_right (map (λ (m : LiveMessage). m.message.ident) net.live) net.held i (subst (Contains net.held) same (w.0, w.2, w.3))
+        Contains-append_right (map (λ (m : LiveMessage). m.message.ident) net.live) net.held i
+        (subst (Contains net.held) same (w.0, w.2, w.3))

@@ -1,11 +1,11 @@
 -- Worked examples, computed from the definitions.
 use Rattle.std.proofs.Common.{◌≡◌, ℕ, List, [], ◌∷◌, Some, None, refl}
 use Rattle.std.specs.Prelude.{codes}
-use Rattle.catalogue.specs.Refusing.{first_refusal}
+use Rattle.base.specs.Refusing.{first_refusal}
 use Rattle.office_types.specs.Free.{least_free}
 use Rattle.office_types.specs.declared.command.Action.TheVariants as act
 use Rattle.office_types.specs.declared.command.Task.TheVariants.{Act}
-use Rattle.office_types.specs.declared.free.Form.TheVariants.{Std}
+use Rattle.office_types.specs.declared.free.NumberForm.TheVariants.{Std}
 use Rattle.office_types.specs.declared.refusal.Refusal.TheVariants as no
 use Rattle.office_types.specs.declared.reply.Reply.TheVariants.{Done, Refused}
 use Rattle.office_rules.specs.Outcome.{Refusing}
@@ -18,8 +18,10 @@ submits : List ℕ → TeamCommand
 submits net = (Two, codes "engine", record { net = net; task = Act act.Submit })
 
 -- the history of one of two networks
-one_of_two : history (codes "truck") (submits (codes "truck") ∷ submits (codes "bus") ∷ submits (codes "truck") ∷ []) (Done ∷ Done ∷ Refused no.InReview ∷ [])
-    ≡ (Two, codes "engine", record { net = codes "truck"; task = Act act.Submit }, Done) ∷ (Two, codes "engine", record { net = codes "truck"; task = Act act.Submit }, Refused no.InReview) ∷ []
+one_of_two : history (codes "truck") (submits (codes "truck") ∷ submits (codes "bus") ∷ submits (codes "truck") ∷ [])
+    (Done ∷ Done ∷ Refused no.InReview ∷ [])
+    ≡ (Two, codes "engine", record { net = codes "truck"; task = Act act.Submit }, Done)
+    ∷ (Two, codes "engine", record { net = codes "truck"; task = Act act.Submit }, Refused no.InReview) ∷ []
 unfolding submits
 one_of_two = refl
 
@@ -31,5 +33,6 @@ no_network : first_refusal (action_tests (codes "engine") (codes "truck") None o
 no_network = refl
 
 -- numbers outside the block don't matter
-inside_alone : least_free (4 ∷ 9 ∷ []) (record { first = 4; last = 6 } ∷ []) Std ≡ least_free (3 ∷ 4 ∷ []) (record { first = 4; last = 6 } ∷ []) Std
+inside_alone : least_free (4 ∷ 9 ∷ []) (record { first = 4; last = 6 } ∷ []) Std ≡ least_free (3 ∷ 4 ∷ [])
+    (record { first = 4; last = 6 } ∷ []) Std
 inside_alone = refl

@@ -1,5 +1,6 @@
 -- Identifiers and their numbers, and which of them are live, held and released.
-use Rattle.std.proofs.Common.{◌≡◌, ◌≢◌, ◌==◌, ◌∙◌, ◌||◌, true, false, ℕ, List, [], ◌∷◌, Contains, refl, sym, ap, arith, eq-eqb}
+use Rattle.std.proofs.Common.{◌≡◌, ◌≢◌, ◌==◌, ◌∙◌, ◌||◌, true, false, ℕ, List, [], ◌∷◌, Contains, refl, sym, ap, arith}
+use Rattle.std.proofs.Common.{eq-eqb}
 use Rattle.std.specs.Str.{bytes_eq}
 use Rattle.std.proofs.lemmas.Bool.{false≢true}
 use Rattle.std.proofs.lemmas.List.Elements.{All-contains}
@@ -7,10 +8,10 @@ use Rattle.std.proofs.lemmas.List.Folds.{list_any_at}
 use Rattle.can_id.specs.Ident.{IsIdentifier, dbc_number}
 use Rattle.can_id.specs.declared.ident.Ident.{Ident}
 use Rattle.can_id.specs.declared.ident.Ident.TheVariants as id
-use Rattle.catalogue.specs.Messages.{has_number, message_name, number_of}
-use Rattle.catalogue.specs.Named.{has_name}
-use Rattle.catalogue.specs.declared.message.Message.{Message}
-use Rattle.catalogue.specs.declared.sheet.Sheet.{Sheet}
+use Rattle.dbc_words.specs.Named.{has_name}
+use Rattle.dbc_sheet.specs.Messages.{has_number, message_name, number_of}
+use Rattle.dbc_sheet.specs.declared.message.Message.{Message}
+use Rattle.dbc_sheet.specs.declared.sheet.Sheet.{Sheet}
 use Rattle.office_types.specs.State.{live_messages}
 use Rattle.office_types.specs.declared.state.LiveMessage.{LiveMessage}
 use Rattle.office_types.specs.declared.state.Net.{Net}
@@ -33,22 +34,28 @@ pub same_ident-from : (a b : Ident) → a ≡ b → same_ident a b ≡ true
 same_ident-from a b e = ap (λ v. same_ident a v) (sym e) ∙ same_ident-itself a
 
 -- an identifier that no live message has
-pub not_live : (net : Net) (i : Ident) (m : LiveMessage) → is_live net i ≡ false → Contains net.live m → m.message.ident ≢ i
+pub not_live : (net : Net) (i : Ident) (m : LiveMessage) → is_live net i ≡ false → Contains net.live m
+    → m.message.ident ≢ i
 not_live net i m h c e =
-    false≢true (sym (All-contains (λ l. has_ident i l ≡ false) net.live m (All-from_none (has_ident i) net.live h) c) ∙ same_ident-from m.message.ident i e)
+    false≢true (sym (All-contains (λ l. has_ident i l ≡ false) net.live m (All-from_none (has_ident i) net.live h) c)
+    ∙ same_ident-from m.message.ident i e)
 
 pub not_held : (net : Net) (i : Ident) → is_held net i ≡ false → Contains net.held i → ⊥
 not_held net i h c =
-    false≢true (sym (All-contains (λ j. same_ident j i ≡ false) net.held i (All-from_none (λ j. same_ident j i) net.held h) c) ∙ same_ident-itself i)
+    false≢true (sym (All-contains (λ j. same_ident j i ≡ false) net.held i
+    (All-from_none (λ j. same_ident j i) net.held h) c) ∙ same_ident-itself i)
 
 -- an identifier that a release has
-pub is_released : (releases : List Sheet) (s : Sheet) (m : Message) → Contains releases s → Contains s.messages m → was_released releases m.ident ≡ true
+pub is_released : (releases : List Sheet) (s : Sheet) (m : Message) → Contains releases s → Contains s.messages m
+    → was_released releases m.ident ≡ true
 is_released releases s m c d =
     list_any_at (λ (t : Sheet). has_number t.messages (dbc_number m.ident)) releases c.0 s c.1
     (ap (λ (t : Sheet). has_number t.messages (dbc_number m.ident)) c.2
-    ∙ list_any_at (λ (x : Message). number_of x == dbc_number m.ident) s.messages d.0 m d.1 (ap (λ (x : Message). number_of x == dbc_number m.ident) d.2 ∙ eq-eqb (number_of m) (number_of m) refl))
+    ∙ list_any_at (λ (x : Message). number_of x == dbc_number m.ident) s.messages d.0 m d.1
+    (ap (λ (x : Message). number_of x == dbc_number m.ident) d.2 ∙ eq-eqb (number_of m) (number_of m) refl))
 
 -- names of live messages
-pub names_of_live : (live : List LiveMessage) (name : List ℕ) → has_name message_name (live_messages live) name ≡ has_name live_name live name
+pub names_of_live : (live : List LiveMessage) (name : List ℕ) → has_name message_name (live_messages live) name
+    ≡ has_name live_name live name
 names_of_live [] name = refl
 names_of_live (m ∷ live) name = ap (λ b. bytes_eq m.message.name name || b) (names_of_live live name)

@@ -1,5 +1,6 @@
 -- What a network keeps with a block more, with a node more, in another phase, and with an approval more.
-use Rattle.std.proofs.Common.{◌≡◌, ◌<◌, ◌∙◌, true, false, ℕ, List, [], ◌∷◌, ◌++◌, length, Contains, inl, inr, refl, sym, arith}
+use Rattle.std.proofs.Common.{◌≡◌, ◌<◌, ◌∙◌, true, false, ℕ, List, [], ◌∷◌, ◌++◌, length, Contains, inl, inr, refl, sym}
+use Rattle.std.proofs.Common.{arith}
 use Rattle.std.specs.Prelude.{IfSome}
 use Rattle.std.specs.List.Sorted.{IsStrictlySortedBy}
 use Rattle.std.proofs.lemmas.Bool.{false≢true}
@@ -8,14 +9,14 @@ use Rattle.std.proofs.lemmas.List.{length-append}
 use Rattle.std.proofs.lemmas.List.Elements.{All-nil, All-push, All-weaker}
 use Rattle.std.proofs.lemmas.Slice.Eq.{bytes_eq-Decides}
 use Rattle.std.specs.Str.{bytes_eq}
-use Rattle.catalogue.specs.Form.{IsNode, IsSheet}
-use Rattle.catalogue.specs.Keyed.{put, text_cmp}
-use Rattle.catalogue.specs.Limits.{roster_limit}
-use Rattle.catalogue.specs.Sheet.{node_name}
-use Rattle.catalogue.specs.declared.node.Node.{Node}
-use Rattle.catalogue.specs.declared.sheet.Sheet.{Sheet}
-use Rattle.catalogue.proofs.PutKeeps.{All-put, AllPairs-put, IsStrictlySortedBy-put}
-use Rattle.catalogue.proofs.Rosters.{apart_and_last}
+use Rattle.base.specs.Keyed.{put, text_cmp}
+use Rattle.base.proofs.PutKeeps.{All-put, AllPairs-put, IsStrictlySortedBy-put}
+use Rattle.dbc_words.specs.Limits.{roster_limit}
+use Rattle.dbc_words.proofs.Rosters.{apart_and_last}
+use Rattle.dbc_sheet.specs.Form.{IsNode, IsSheet}
+use Rattle.dbc_sheet.specs.Sheet.{node_name}
+use Rattle.dbc_sheet.specs.declared.node.Node.{Node}
+use Rattle.dbc_sheet.specs.declared.sheet.Sheet.{Sheet}
 use Rattle.office_types.proofs.Blocks.{have_common-comm}
 use Rattle.office_types.specs.Block.{IsRange, form_number, have_common, is_spn, same_form}
 use Rattle.office_types.specs.PlainName.{IsPlainName}
@@ -30,7 +31,7 @@ use Rattle.office_rules.specs.Kept.{AreApprovals, IsNet}
 use Rattle.office_rules.specs.Opening.{with_block, with_node}
 use Rattle.office_rules.specs.Reviewing.{in_phase, with_approval}
 use Rattle.office_law.proofs.Lists.{All-from_none, Contains-from_put, Contains-none}
-use Rattle.office_law.proofs.Ways.{CanAddNode, CanApprove, CanGrant}
+use Rattle.office_law.proofs.ChangesByTests.{CanAddNode, CanApprove, CanGrant}
 
 -- a network with one block more
 pub IsNet-granted : (net : Net) (g : GrantedBlock) → IsNet net → CanGrant net g → IsNet (with_block net g)
@@ -39,14 +40,19 @@ IsNet-granted net g h can = record {
   head = h.head;
   live = h.live;
   blocks = record {
-    ranges = All-put (λ b. IsRange b.block × IsPlainName b.team) by_first g net.blocks (can.range, can.team) h.blocks.ranges;
+    ranges = All-put (λ b. IsRange b.block × IsPlainName b.team) by_first g net.blocks (can.range, can.team)
+        h.blocks.ranges;
     formed = All-put (λ b. is_spn b.block.form ≡ false) by_first g net.blocks can.formed h.blocks.formed;
-    groups = All-put (λ b. same_form b.block.form Pgn ≡ true → is_j1939 net.head.kind ≡ true) by_first g net.blocks can.groups h.blocks.groups;
+    groups = All-put (λ b. same_form b.block.form Pgn ≡ true → is_j1939 net.head.kind ≡ true) by_first g net.blocks
+        can.groups h.blocks.groups;
     rising = IsStrictlySortedBy-put by_first
-        (then_total (on_total (λ (b : GrantedBlock). form_number b.block.form) nat_cmp_total) (on_total (λ (b : GrantedBlock). b.block.first) nat_cmp_total))
+        (then_total (on_total (λ (b : GrantedBlock). form_number b.block.form) nat_cmp_total)
+        (on_total (λ (b : GrantedBlock). b.block.first) nat_cmp_total))
         g net.blocks h.blocks.rising;
-    apart = AllPairs-put (λ a b. have_common a.block b.block ≡ false) (λ a b e. have_common-comm b.block a.block ∙ e) by_first g net.blocks
-        (All-weaker (λ b. have_common b.block g.block ≡ false) (λ b. have_common g.block b.block ≡ false) (λ b e. have_common-comm g.block b.block ∙ e)
+    apart = AllPairs-put (λ a b. have_common a.block b.block ≡ false) (λ a b e. have_common-comm b.block a.block ∙ e)
+        by_first g net.blocks
+        (All-weaker (λ b. have_common b.block g.block ≡ false) (λ b. have_common g.block b.block ≡ false)
+        (λ b e. have_common-comm g.block b.block ∙ e)
         net.blocks (All-from_none (λ b. have_common b.block g.block) net.blocks can.free))
         h.blocks.apart;
   };
@@ -56,7 +62,8 @@ IsNet-granted net g h can = record {
 }
 
 -- a sheet with one node more
-IsSheet-node : (s : Sheet) (node : Node) → IsSheet s → IsNode node → has_node s.nodes node.name ≡ false → length s.nodes < roster_limit
+IsSheet-node : (s : Sheet) (node : Node) → IsSheet s → IsNode node → has_node s.nodes node.name ≡ false
+    → length s.nodes < roster_limit
     → IsSheet (record s { nodes = s.nodes ++ node ∷ [] })
 IsSheet-node s node h form new few = record {
   well_formed = record {
@@ -102,7 +109,8 @@ none_approved phase = record { plain = All-nil _; rising = tt; in_review = λ _.
     nobody (Review submitter) = Contains-none submitter
 
 -- a network in another phase
-pub IsNet-in_phase : (net : Net) (phase : Phase) → IsNet net → IfSome (submitter_of phase) IsPlainName → IsNet (in_phase net phase)
+pub IsNet-in_phase : (net : Net) (phase : Phase) → IsNet net → IfSome (submitter_of phase) IsPlainName
+    → IsNet (in_phase net phase)
 IsNet-in_phase net phase h plain = record {
   named = h.named;
   head = record { reviewed = h.head.reviewed; submitted = plain; frame_alone = h.head.frame_alone };
@@ -113,7 +121,8 @@ IsNet-in_phase net phase h plain = record {
   releases = h.releases;
 }
 
-approved : (team : List ℕ) (phase : Phase) (approvals : List (List ℕ)) → AreApprovals phase approvals → IsPlainName team → in_review phase ≡ true → is_submitter team phase ≡ false
+approved : (team : List ℕ) (phase : Phase) (approvals : List (List ℕ)) → AreApprovals phase approvals → IsPlainName team
+    → in_review phase ≡ true → is_submitter team phase ≡ false
     → AreApprovals phase (put text_cmp team approvals)
 approved team Draft approvals h plain reviewed other = absurd (false≢true reviewed)
 approved team (Review submitter) approvals h plain reviewed other = record {

@@ -1,6 +1,6 @@
 -- What is proved of each action.
 use Rattle.std.proofs.Common.{◌≡◌, ℕ, Bool, true, false, List, Option, Some, None}
-use Rattle.catalogue.specs.Refusing.{first_refusal}
+use Rattle.base.specs.Refusing.{first_refusal}
 use Rattle.office_types.specs.Command.{IsAction}
 use Rattle.office_types.specs.declared.book.SpnBook.{SpnBook}
 use Rattle.office_types.specs.declared.command.Action.{Action}
@@ -11,11 +11,11 @@ use Rattle.office_types.specs.declared.state.Net.{Net}
 use Rattle.office_rules.specs.Commands.{acted, action_tests, releases_read}
 use Rattle.office_rules.specs.Outcome.{Refusing}
 use Rattle.office_law.specs.Deciding.{IsDecidedBy}
-use Rattle.office_law.proofs.Alike.{Depends}
-use Rattle.office_law.proofs.Left.{left}
-use Rattle.office_law.proofs.Passing.{Leaves}
+use Rattle.office_law.proofs.OutcomesAlike.{Depends}
+use Rattle.office_law.proofs.NameAndReleasesStay.{left}
+use Rattle.office_law.proofs.NoTestHolds.{Leaves}
 use Rattle.office_law.proofs.Singles.{AreSingle}
-use Rattle.office_law.proofs.WellLeft.{Goes}
+use Rattle.office_law.proofs.WhatCommandsLeave.{Goes}
 
 -- the action opens its network
 abbrev pub opens : Action → Bool
@@ -26,7 +26,8 @@ pub record ActionLaws (team name : List ℕ) (a : Action) : Type 0 where
   -- where there is no network it is refused, whatever the book, unless it opens one
   pub nowhere : opens a ≡ false → (r : Refusal) × ((book : SpnBook) → acted team name None book a ≡ Refusing r)
   -- its tests decide, and none of them is a bundle's
-  pub decided : (book : SpnBook) (net : Option Net) → IsDecidedBy (first_refusal (action_tests team name net book a)) (acted team name net book a)
+  pub decided : (book : SpnBook) (net : Option Net)
+      → IsDecidedBy (first_refusal (action_tests team name net book a)) (acted team name net book a)
   pub single : (book : SpnBook) (net : Option Net) → AreSingle (action_tests team name net book a)
   -- it leaves the name and the releases of its network so
   pub left : (book : SpnBook) (net : Option Net) → Leaves (left name (Act a) net) (acted team name net book a)

@@ -18,7 +18,8 @@ module _ {A B : Type 0} (f : A → B) (p : A → Bool) where
   All-kept P [] h = h
   All-kept P (x ∷ xs) h =
       cond_both (p x) (x ∷ filter p xs) (filter p xs) (λ (ys : List A). All P (map f ys))
-      (λ _. All-cons P (f x) (map f (filter p xs)) (All-head P (f x) (map f xs) h) (All-kept P xs (All-tail P (f x) (map f xs) h)))
+      (λ _. All-cons P (f x) (map f (filter p xs)) (All-head P (f x) (map f xs) h)
+      (All-kept P xs (All-tail P (f x) (map f xs) h)))
       (λ _. All-kept P xs (All-tail P (f x) (map f xs) h))
 
   -- and of any two
@@ -26,10 +27,12 @@ module _ {A B : Type 0} (f : A → B) (p : A → Bool) where
   AllPairs-kept R [] h = h
   AllPairs-kept R (x ∷ xs) h =
       cond_both (p x) (x ∷ filter p xs) (filter p xs) (λ (ys : List A). AllPairs R (map f ys))
-      (λ _. AllPairs-cons R (f x) (map f (filter p xs)) (All-kept (R (f x)) xs (AllPairs-head R (f x) (map f xs) h)) (AllPairs-kept R xs (AllPairs-tail R (f x) (map f xs) h)))
+      (λ _. AllPairs-cons R (f x) (map f (filter p xs)) (All-kept (R (f x)) xs (AllPairs-head R (f x) (map f xs) h))
+      (AllPairs-kept R xs (AllPairs-tail R (f x) (map f xs) h)))
       (λ _. AllPairs-kept R xs (AllPairs-tail R (f x) (map f xs) h))
 
-pub list_any-map : {A B : Type 0} (p : B → Bool) (f : A → B) (xs : List A) → list_any p (map f xs) ≡ list_any (λ x. p (f x)) xs
+pub list_any-map : {A B : Type 0} (p : B → Bool) (f : A → B) (xs : List A)
+    → list_any p (map f xs) ≡ list_any (λ x. p (f x)) xs
 list_any-map p f [] = refl
 list_any-map p f (x ∷ xs) = ap (λ b. p (f x) || b) (list_any-map p f xs)
 
@@ -44,7 +47,8 @@ or_either false b c f h = f h
 by_test : {A : Type 0} (q p : A → Bool) (x : A) (xs : List A) → (list_any q (filter p xs) ≡ true → list_any q xs ≡ true)
     → list_any q (filter p (x ∷ xs)) ≡ true → list_any q (x ∷ xs) ≡ true
 by_test {A = A} q p x xs later =
-    cond_both (p x) (x ∷ filter p xs) (filter p xs) (λ (ys : List A). list_any q ys ≡ true → (q x || list_any q xs) ≡ true)
+    cond_both (p x) (x ∷ filter p xs) (filter p xs)
+    (λ (ys : List A). list_any q ys ≡ true → (q x || list_any q xs) ≡ true)
     (λ _. or_either (q x) (list_any q (filter p xs)) (list_any q xs) later)
     (λ _ h. or_right (q x) (list_any q xs) (later h))
 
@@ -54,7 +58,8 @@ any_from_kept {A = A} q p [] h = h
 any_from_kept {A = A} q p (x ∷ xs) h = by_test {A = A} q p x xs (any_from_kept q p xs) h
 
 -- what is there and isn't dropped is found among those that are kept
-pub any_kept : {A : Type 0} (q n : A → Bool) (xs : List A) → list_any q xs ≡ true → list_any (λ x. n x && q x) xs ≡ false → list_any q (filter (λ x. not (n x)) xs) ≡ true
+pub any_kept : {A : Type 0} (q n : A → Bool) (xs : List A) → list_any q xs ≡ true
+    → list_any (λ x. n x && q x) xs ≡ false → list_any q (filter (λ x. not (n x)) xs) ≡ true
 any_kept {A = A} q n [] h none = h
 any_kept {A = A} q n (x ∷ xs) h none =
     let parts = or_parts (n x && q x) (list_any (λ y. n y && q y) xs) none in

@@ -1,5 +1,6 @@
 -- Live sheets with a message more, with one in place of another, and without one.
-use Rattle.std.proofs.Common.{◌≡◌, ◌≤◌, ◌<◌, ◌==◌, ◌∙◌, not, Bool, false, ℕ, zero, suc, List, [], ◌∷◌, map, length, get_or, Contains, refl, sym, ap, subst, arith}
+use Rattle.std.proofs.Common.{◌≡◌, ◌≤◌, ◌<◌, ◌==◌, ◌∙◌, not, Bool, false, ℕ, zero, suc, List, [], ◌∷◌, map, length}
+use Rattle.std.proofs.Common.{get_or, Contains, refl, sym, ap, subst, arith}
 use Rattle.std.specs.List.{All, filter}
 use Rattle.std.specs.Str.{bytes_eq}
 use Rattle.std.proofs.lemmas.Bool.{cond_both}
@@ -7,29 +8,31 @@ use Rattle.std.proofs.lemmas.Bool.Decides.{Decides-eqb}
 use Rattle.std.proofs.lemmas.Cmp.{nat_cmp_total, on_total}
 use Rattle.std.proofs.lemmas.List.Elements.{All-contains, All-filter, All-from_recursion, recursion_from_All}
 use Rattle.std.proofs.lemmas.List.Kept.{IsStrictlySortedBy-filter}
+use Rattle.base.specs.Keyed.{put}
+use Rattle.base.proofs.PutKeeps.{All-put, IsStrictlySortedBy-put, length-put}
 use Rattle.can_id.specs.Ident.{dbc_number}
 use Rattle.can_id.specs.declared.ident.Ident.{Ident}
-use Rattle.catalogue.specs.Form.{IsMessage, IsSheet, KeepsMessage}
-use Rattle.catalogue.specs.Keyed.{put}
-use Rattle.catalogue.specs.Limits.{message_limit}
-use Rattle.catalogue.specs.Messages.{AreMessages, IsClearMessage, by_number, message_name, number_of}
-use Rattle.catalogue.specs.Named.{AreNamedApart, has_name}
-use Rattle.catalogue.specs.WellFormed.{IsWellFormedMessage}
-use Rattle.catalogue.specs.declared.message.Message.{Message}
-use Rattle.catalogue.specs.declared.sheet.Sheet.{Sheet}
-use Rattle.catalogue.proofs.Naming.{apart-filter}
-use Rattle.catalogue.proofs.PutKeeps.{All-put, IsStrictlySortedBy-put, length-put}
+use Rattle.dbc_words.specs.Limits.{message_limit}
+use Rattle.dbc_words.specs.Named.{AreNamedApart, has_name}
+use Rattle.dbc_words.proofs.Naming.{apart-filter}
+use Rattle.dbc_sheet.specs.Form.{IsMessage, IsSheet, KeepsMessage}
+use Rattle.dbc_sheet.specs.Messages.{AreMessages, IsClearMessage, by_number, message_name, number_of}
+use Rattle.dbc_sheet.specs.WellFormed.{IsWellFormedMessage}
+use Rattle.dbc_sheet.specs.declared.message.Message.{Message}
+use Rattle.dbc_sheet.specs.declared.sheet.Sheet.{Sheet}
 use Rattle.office_types.specs.PlainName.{IsPlainName}
 use Rattle.office_types.specs.State.{by_number as live_by_number, live_messages, sheet_with}
 use Rattle.office_types.specs.declared.state.LiveMessage.{LiveMessage}
 use Rattle.office_rules.specs.Facts.{has_ident, same_ident}
 use Rattle.office_rules.specs.Kept.{AreLive}
-use Rattle.office_law.proofs.Lists.{IsDistinct-map, Looks, All-from_contains, Contains-later, apart-put, length-filter_le, map-filter, map-put, one_of_key}
-use Rattle.office_law.proofs.Replaced.{in_place, length-put_replaced, put-replaced}
+use Rattle.office_law.proofs.Lists.{IsDistinct-map, Looks, All-from_contains, Contains-later, apart-put}
+use Rattle.office_law.proofs.Lists.{length-filter_le, map-filter, map-put, one_of_key}
+use Rattle.office_law.proofs.ReplacedItem.{in_place, length-put_replaced, put-replaced}
 
 -- Messages.
 
-pub messages-put : (ms : List Message) (m : Message) → AreMessages ms → has_name message_name ms m.name ≡ false → length ms < message_limit → AreMessages (put by_number m ms)
+pub messages-put : (ms : List Message) (m : Message) → AreMessages ms → has_name message_name ms m.name ≡ false
+    → length ms < message_limit → AreMessages (put by_number m ms)
 messages-put ms m h new few = record {
   ascending = IsStrictlySortedBy-put by_number (on_total number_of nat_cmp_total) m ms h.ascending;
   apart = apart-put by_number message_name m ms h.apart new;
@@ -37,23 +40,29 @@ messages-put ms m h new few = record {
 }
 
 -- one of the messages is replaced by one of its number and its name
-pub messages-replaced : (ms : List Message) (old m : Message) → AreMessages ms → Contains ms old → old.ident ≡ m.ident → old.name ≡ m.name → AreMessages (put by_number m ms)
+pub messages-replaced : (ms : List Message) (old m : Message) → AreMessages ms → Contains ms old → old.ident ≡ m.ident
+    → old.name ≡ m.name → AreMessages (put by_number m ms)
 messages-replaced ms old m h there ident name =
     let number : number_of old ≡ number_of m = ap dbc_number ident in
     record {
       ascending = IsStrictlySortedBy-put by_number (on_total number_of nat_cmp_total) m ms h.ascending;
       apart = subst (AreNamedApart message_name) (sym (put-replaced number_of m old ms h.ascending there number))
-          (IsDistinct-map (λ a b. bytes_eq a.name b.name) (in_place number_of m) ms (recursion_from_All _ ms (All-from_contains _ ms (looks_same number))) h.apart);
-      few = subst (λ n. n ≤ message_limit) (sym (length-put_replaced number_of m old ms h.ascending there number)) h.few;
+          (IsDistinct-map (λ a b. bytes_eq a.name b.name) (in_place number_of m) ms
+          (recursion_from_All _ ms (All-from_contains _ ms (looks_same number))) h.apart);
+      few = subst (λ n. n ≤ message_limit) (sym (length-put_replaced number_of m old ms h.ascending there number))
+          h.few;
     }
   where
     same_name : (k : number_of old ≡ number_of m) (a : Message) → Contains ms a → (in_place number_of m a).name ≡ a.name
     same_name k a c =
         cond_both (number_of a == number_of m) m a (λ v. v.name ≡ a.name)
-        (λ t. sym name ∙ ap (λ v. v.name) (one_of_key number_of ms h.ascending old a there c (k ∙ sym ((Decides-eqb (number_of a) (number_of m)).0 t))))
+        (λ t. sym name ∙ ap (λ v. v.name)
+        (one_of_key number_of ms h.ascending old a there c
+        (k ∙ sym ((Decides-eqb (number_of a) (number_of m)).0 t))))
         (λ _. refl)
 
-    looks_same : (k : number_of old ≡ number_of m) (a : Message) → Contains ms a → Looks (λ (a b : Message). bytes_eq a.name b.name) (in_place number_of m) a
+    looks_same : (k : number_of old ≡ number_of m) (a : Message) → Contains ms a
+        → Looks (λ (a b : Message). bytes_eq a.name b.name) (in_place number_of m) a
     looks_same k a c = record {
       left = λ b. ap (λ n. bytes_eq n b.name) (same_name k a c);
       right = λ b. ap (λ n. bytes_eq b.name n) (same_name k a c);
@@ -68,7 +77,8 @@ messages-filter p ms h = record {
 
 -- Sheets.
 
-pub IsSheet-with : (s : Sheet) (ms : List Message) → IsSheet s → AreMessages ms → All IsWellFormedMessage ms → All IsMessage ms → IsSheet (record s { messages = ms })
+pub IsSheet-with : (s : Sheet) (ms : List Message) → IsSheet s → AreMessages ms → All IsWellFormedMessage ms
+    → All IsMessage ms → IsSheet (record s { messages = ms })
 IsSheet-with s ms h together formed forms = record {
   well_formed = record {
     nodes = h.well_formed.nodes;
@@ -89,7 +99,11 @@ each_formed s h = All-from_recursion IsWellFormedMessage s.messages h.well_forme
 
 -- each message of a sheet keeps what every message does
 pub keeps_message : (s : Sheet) (m : Message) → IsSheet s → Contains s.messages m → KeepsMessage m
-keeps_message s m h c = record { form = All-contains IsMessage s.messages m h.messages c; well_formed = All-contains IsWellFormedMessage s.messages m (each_formed s h) c }
+keeps_message s m h c = record {
+  form = All-contains IsMessage s.messages m h.messages c;
+  well_formed =
+      All-contains IsWellFormedMessage s.messages m (each_formed s h) c;
+}
 
 -- Live messages.
 
@@ -101,30 +115,36 @@ Contains-map f xs x c = at_index xs c.0 c.1 c.2
     at_index (y ∷ ys) zero lt e = (0, omega arith, ap f e)
     at_index (y ∷ ys) (suc k) lt e = let c = at_index ys k (omega arith) e in Contains-later (f y) (f x) (map f ys) c
 
-pub live_put : (m : LiveMessage) (live : List LiveMessage) → live_messages (put live_by_number m live) ≡ put by_number m.message (live_messages live)
+pub live_put : (m : LiveMessage) (live : List LiveMessage)
+    → live_messages (put live_by_number m live) ≡ put by_number m.message (live_messages live)
 live_put m live = map-put live_by_number by_number (λ (l : LiveMessage). l.message) (λ a b. refl) m live
 
 -- a message is put among live messages
-pub AreLive-put : (frame : Sheet) (live : List LiveMessage) (m : LiveMessage) → AreLive frame live → KeepsMessage m.message → IsPlainName m.owner → IsClearMessage m.message
+pub AreLive-put : (frame : Sheet) (live : List LiveMessage) (m : LiveMessage) → AreLive frame live
+    → KeepsMessage m.message → IsPlainName m.owner → IsClearMessage m.message
     → AreMessages (put by_number m.message (live_messages live)) → AreLive frame (put live_by_number m live)
 AreLive-put frame live m h form owner clear together = record {
   sheet = subst (λ ms. IsSheet (record frame { messages = ms })) (sym (live_put m live))
       (IsSheet-with (sheet_with frame live) (put by_number m.message (live_messages live)) h.sheet together
-      (All-put IsWellFormedMessage by_number m.message (live_messages live) form.well_formed (each_formed (sheet_with frame live) h.sheet))
+      (All-put IsWellFormedMessage by_number m.message (live_messages live) form.well_formed
+      (each_formed (sheet_with frame live) h.sheet))
       (All-put IsMessage by_number m.message (live_messages live) form.form h.sheet.messages));
-  clear = subst (All IsClearMessage) (sym (live_put m live)) (All-put IsClearMessage by_number m.message (live_messages live) clear h.clear);
+  clear = subst (All IsClearMessage) (sym (live_put m live))
+      (All-put IsClearMessage by_number m.message (live_messages live) clear h.clear);
   owned = All-put (λ o. IsPlainName o.owner) live_by_number m live owner h.owned;
 }
 
 -- one of the live messages is taken out
-pub AreLive-without : (frame : Sheet) (live : List LiveMessage) (i : Ident) → AreLive frame live → AreLive frame (filter (λ m. not (has_ident i m)) live)
+pub AreLive-without : (frame : Sheet) (live : List LiveMessage) (i : Ident) → AreLive frame live
+    → AreLive frame (filter (λ m. not (has_ident i m)) live)
 AreLive-without frame live i h =
     let kept : Message → Bool = λ m. not (same_ident m.ident i) in
     let same : live_messages (filter (λ m. not (has_ident i m)) live) ≡ filter kept (live_messages live) =
     map-filter (λ (l : LiveMessage). l.message) (λ m. not (has_ident i m)) kept (λ a. refl) live in
     record {
       sheet = subst (λ ms. IsSheet (record frame { messages = ms })) (sym same)
-          (IsSheet-with (sheet_with frame live) (filter kept (live_messages live)) h.sheet (messages-filter kept (live_messages live) h.sheet.well_formed.together)
+          (IsSheet-with (sheet_with frame live) (filter kept (live_messages live)) h.sheet
+          (messages-filter kept (live_messages live) h.sheet.well_formed.together)
           (All-filter kept IsWellFormedMessage (live_messages live) (each_formed (sheet_with frame live) h.sheet))
           (All-filter kept IsMessage (live_messages live) h.sheet.messages));
       clear = subst (All IsClearMessage) (sym same) (All-filter kept IsClearMessage (live_messages live) h.clear);

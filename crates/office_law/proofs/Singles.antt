@@ -2,7 +2,7 @@
 use Rattle.std.proofs.Common.{ℕ, List, [], ◌∷◌, ◌++◌, Option, Some, None, Bool, true, false}
 use Rattle.std.specs.List.{flat_map}
 use Rattle.std.specs.Prelude.{if◌then◌else◌}
-use Rattle.catalogue.specs.Refusing.{Test}
+use Rattle.base.specs.Refusing.{Test}
 use Rattle.office_types.specs.declared.refusal.Refusal.{Refusal}
 use Rattle.office_types.specs.declared.refusal.Refusal.TheVariants as no
 use Rattle.office_types.specs.declared.state.LiveMessage.{LiveMessage}
@@ -24,25 +24,31 @@ pub append_single : (ts us : List (Test Refusal)) → AreSingle ts → AreSingle
 append_single [] us are more = more
 append_single (t ∷ ts) us are more = (are.0, append_single ts us are.1 more)
 
-pub each_single : {A : Type 0} (tests : A → List (Test Refusal)) (xs : List A) → ((x : A) → AreSingle (tests x)) → AreSingle (flat_map tests xs)
+pub each_single : {A : Type 0} (tests : A → List (Test Refusal)) (xs : List A) → ((x : A) → AreSingle (tests x))
+    → AreSingle (flat_map tests xs)
 each_single tests [] are = tt
 each_single tests (x ∷ xs) are = append_single (tests x) (flat_map tests xs) (are x) (each_single tests xs are)
 
-pub requested_single : {A : Type 0} (o : Option A) (ts : A → List (Test Refusal)) → ((x : A) → AreSingle (ts x)) → AreSingle (requested_of o ts)
+pub requested_single : {A : Type 0} (o : Option A) (ts : A → List (Test Refusal)) → ((x : A) → AreSingle (ts x))
+    → AreSingle (requested_of o ts)
 requested_single None ts are = tt
 requested_single (Some x) ts are = are x
 
-pub wanted_single : {A : Type 0} (o : Option A) (ts : A → List (Test Refusal)) (us : List (Test Refusal)) → ((x : A) → AreSingle (ts x)) → AreSingle us
+pub wanted_single : {A : Type 0} (o : Option A) (ts : A → List (Test Refusal)) (us : List (Test Refusal))
+    → ((x : A) → AreSingle (ts x)) → AreSingle us
     → AreSingle (elim o [ Some x ↦ ts x | None ↦ us ])
 wanted_single None ts us are more = more
 wanted_single (Some x) ts us are more = are x
 
-pub either_single : (b : Bool) (ts us : List (Test Refusal)) → AreSingle ts → AreSingle us → AreSingle (if b then ts else us)
+pub either_single : (b : Bool) (ts us : List (Test Refusal)) → AreSingle ts → AreSingle us
+    → AreSingle (if b then ts else us)
 either_single true ts us are more = are
 either_single false ts us are more = more
 
-pub net_single : (net : Option Net) (ts : Net → List (Test Refusal)) → ((n : Net) → AreSingle (ts n)) → AreSingle (on_net net ts)
+pub net_single : (net : Option Net) (ts : Net → List (Test Refusal)) → ((n : Net) → AreSingle (ts n))
+    → AreSingle (on_net net ts)
 net_single net ts are = (tt, requested_single net ts are)
 
-pub message_single : (team : List ℕ) (facts : MessageFacts) (ts : LiveMessage → List (Test Refusal)) → ((m : LiveMessage) → AreSingle (ts m)) → AreSingle (on_message team facts ts)
+pub message_single : (team : List ℕ) (facts : MessageFacts) (ts : LiveMessage → List (Test Refusal))
+    → ((m : LiveMessage) → AreSingle (ts m)) → AreSingle (on_message team facts ts)
 message_single team facts ts are = (tt, (tt, requested_single facts.found _ (λ m. (tt, are m))))

@@ -3,7 +3,7 @@
 use Rattle.std.specs.Prelude.{◌≡◌, ◌⊎◌, ℕ, Bool, true, false, List, [], ◌∷◌, ◌++◌, Option, Some}
 use Rattle.std.specs.List.{list_any}
 use Rattle.std.specs.Str.{bytes_eq}
-use Rattle.catalogue.specs.declared.sheet.Sheet.{Sheet}
+use Rattle.dbc_sheet.specs.declared.sheet.Sheet.{Sheet}
 use Rattle.office_types.specs.Block.{is_spn}
 use Rattle.office_types.specs.State.{sheet_of}
 use Rattle.office_types.specs.declared.book.SpnBook.{SpnBook}
@@ -45,11 +45,15 @@ pub record NetworksAreApart : Type 0 where
   pub without_book : (team : List ℕ) (reading : FileReading) (net : Option Net) (book other : SpnBook) (c : Command)
       → needs_book c.task ≡ false → outcome team reading net book c ≡ outcome team reading net other c
   -- whatever the books, two outcomes on one network with one reply leave one network
-  pub one_net : (team : List ℕ) (reading : FileReading) (net : Option Net) (book other : SpnBook) (c : Command) (reply : Reply) (n m : Net) (e f : Entries)
-      → outcome team reading net book c ≡ Changing reply n e → outcome team reading net other c ≡ Changing reply m f → n ≡ m
+  pub one_net : (team : List ℕ) (reading : FileReading) (net : Option Net) (book other : SpnBook) (c : Command)
+      (reply : Reply) (n m : Net) (e f : Entries)
+      → outcome team reading net book c ≡ Changing reply n e → outcome team reading net other c ≡ Changing reply m f
+      → n ≡ m
   -- a network keeps its name and its releases
-  pub releases : (team : List ℕ) (reading : FileReading) (net n : Net) (book : SpnBook) (c : Command) (reply : Reply) (e : Entries)
+  pub releases : (team : List ℕ) (reading : FileReading) (net n : Net) (book : SpnBook) (c : Command) (reply : Reply)
+      (e : Entries)
       → outcome team reading (Some net) book c ≡ Changing reply n e → (n.name ≡ net.name) × KeepsReleases c.task net n
   -- a step leaves every other network as it was
   pub others : (profile : Profile) (before after : Office) (team : List ℕ) (c : Command) (reply : Reply) (name : List ℕ)
-      → Step profile before team c reply after → bytes_eq c.net name ≡ false → net_named after name ≡ net_named before name
+      → Step profile before team c reply after → bytes_eq c.net name ≡ false
+      → net_named after name ≡ net_named before name

@@ -28,7 +28,8 @@ requests_of profile team name parts = map (λ a. (profile, team, command_of name
 
 -- The earlier parts run, and none of them is refused; then this one is refused so. The refusal of the bundle has the
 -- part's number, from 1, and the number of the part's refusal.
-pub record IsPartRefused (profile : Profile) (before : Office) (team name : List ℕ) (parts : List Action) (refusal : Refusal) : Type 0 where
+pub record IsPartRefused (profile : Profile) (before : Office) (team name : List ℕ) (parts : List Action)
+    (refusal : Refusal) : Type 0 where
   pub earlier : List Action
   pub part : Action
   pub later : List Action
@@ -43,8 +44,13 @@ pub record IsPartRefused (profile : Profile) (before : Office) (team name : List
 -- A bundle is answered by the replies of its parts, which ran in order, or is refused, and then it changes nothing.
 pub record BundlesRunTheirParts : Type 0 where
   pub answers : (profile : Profile) (before after : Office) (team name : List ℕ) (parts : List Action) (reply : Reply)
-      → Step profile before team (bundle_of name parts) reply after → ((reported : List PartReply) × (reply ≡ Bundle reported)) ⊎ ((refusal : Refusal) × (reply ≡ Refused refusal))
-  pub done : (profile : Profile) (before after : Office) (team name : List ℕ) (parts : List Action) (reported : List PartReply) → AreInOrder before
-      → Step profile before team (bundle_of name parts) (Bundle reported) after → Run before (requests_of profile team name parts) (map whole_reply reported) after
-  pub refused : (profile : Profile) (before after : Office) (team name : List ℕ) (parts : List Action) (refusal : Refusal) → AreInOrder before → AreParts parts
-      → Step profile before team (bundle_of name parts) (Refused refusal) after → (after ≡ before) × IsPartRefused profile before team name parts refusal
+      → Step profile before team (bundle_of name parts) reply after
+      → ((reported : List PartReply) × (reply ≡ Bundle reported)) ⊎ ((refusal : Refusal) × (reply ≡ Refused refusal))
+  pub done : (profile : Profile) (before after : Office) (team name : List ℕ) (parts : List Action)
+      (reported : List PartReply) → AreInOrder before
+      → Step profile before team (bundle_of name parts) (Bundle reported) after
+      → Run before (requests_of profile team name parts) (map whole_reply reported) after
+  pub refused : (profile : Profile) (before after : Office) (team name : List ℕ) (parts : List Action)
+      (refusal : Refusal) → AreInOrder before → AreParts parts
+      → Step profile before team (bundle_of name parts) (Refused refusal) after → (after ≡ before)
+      × IsPartRefused profile before team name parts refusal

@@ -1,6 +1,6 @@
 -- A command's list of tests decides: the first that holds refuses it, and where none holds it is answered.
 use Rattle.std.specs.Prelude.{◌≡◌, true, ℕ, List, [], ◌∷◌, Option, Some, None}
-use Rattle.catalogue.specs.Refusing.{Test, first_refusal}
+use Rattle.base.specs.Refusing.{Test, first_refusal}
 use Rattle.office_types.specs.declared.book.SpnBook.{SpnBook}
 use Rattle.office_types.specs.declared.command.Command.{Command}
 use Rattle.office_types.specs.declared.command.Task.{Task}

@@ -4,9 +4,9 @@ use Rattle.bitlayout.specs.Start.{CanStartAt, IsLeastStart}
 use Rattle.bitlayout.specs.declared.place.Place.{Place}
 use Rattle.can_id.specs.Ident.{ident_of}
 use Rattle.can_id.specs.J1939.{IsBuilt, fields_with}
-use Rattle.catalogue.specs.Form.{IsSheet}
-use Rattle.catalogue.specs.Signals.{places_of}
-use Rattle.catalogue.specs.declared.sheet.Sheet.{Sheet}
+use Rattle.dbc_sheet.specs.Form.{IsSheet}
+use Rattle.dbc_sheet.specs.Signals.{places_of}
+use Rattle.dbc_sheet.specs.declared.sheet.Sheet.{Sheet}
 use Rattle.office_types.specs.Block.{block_form}
 use Rattle.office_types.specs.Command.{IsAction, group_form}
 use Rattle.office_types.specs.Free.{IsLeastFree, has_form, number_form}
@@ -18,13 +18,14 @@ use Rattle.office_types.specs.declared.command.TakeBits.{TakeBits}
 use Rattle.office_types.specs.declared.command.TakeIdent.{TakeIdent}
 use Rattle.office_types.specs.declared.command.TakePgn.{TakePgn}
 use Rattle.office_types.specs.declared.command.TakeSpn.{TakeSpn}
-use Rattle.office_types.specs.declared.free.Form.{Form}
-use Rattle.office_types.specs.declared.free.Form.TheVariants.{Spn}
+use Rattle.office_types.specs.declared.free.NumberForm.{NumberForm}
+use Rattle.office_types.specs.declared.free.NumberForm.TheVariants.{Spn}
 use Rattle.office_types.specs.declared.reply.Reply.{Reply}
 use Rattle.office_types.specs.declared.reply.Reply.TheVariants.{Number, Start}
 use Rattle.office_types.specs.declared.state.LiveMessage.{LiveMessage}
 use Rattle.office_types.specs.declared.state.Net.{Net}
-use Rattle.office_rules.specs.Facts.{blocks_of, group_of, lies_in, live_named, spn_blocks_of, taken_groups, taken_numbers}
+use Rattle.office_rules.specs.Facts.{blocks_of, group_of, lies_in, live_named, spn_blocks_of, taken_groups}
+use Rattle.office_rules.specs.Facts.{taken_numbers}
 use Rattle.office_rules.specs.Importing.{Reading, import, new_messages, owned_by}
 use Rattle.office_rules.specs.Kept.{IsNet}
 use Rattle.office_rules.specs.Numbers.{address_of, ident_with, new_message, take_ident, take_pgn, with_message}
@@ -32,7 +33,7 @@ use Rattle.office_rules.specs.Outcome.{Entries, no_entries, Changing, entered}
 use Rattle.office_rules.specs.Signals.{new_signal, spn_entered, take_bits, take_spn, with_last_signal}
 
 -- the number that is wanted, or where none is the least that may be given out
-abbrev pub IsChosen : Option ℕ → List ℕ → List Block → Form → ℕ → Type 0
+abbrev pub IsChosen : Option ℕ → List ℕ → List Block → NumberForm → ℕ → Type 0
 IsChosen (Some wanted) taken blocks form n = n ≡ wanted
 IsChosen None taken blocks form n = IsLeastFree taken blocks form (Some n)
 
@@ -44,11 +45,13 @@ pub record IsGrown (live next : List LiveMessage) (m : LiveMessage) : Type 0 whe
 
 -- What a `take_ident` that isn't refused gives out and changes: an identifier of the team's blocks, the wanted one or
 -- the least, that no live message has and that isn't held. The network gets one message more, which has it.
-pub record GivesIdent (team : List ℕ) (net : Net) (c : TakeIdent) (reply : Reply) (after : Net) (entries : Entries) : Type 0 where
+pub record GivesIdent (team : List ℕ) (net : Net) (c : TakeIdent) (reply : Reply) (after : Net)
+    (entries : Entries) : Type 0 where
   pub number : ℕ
   pub formed : has_form (number_form c.form) number ≡ true
   pub granted : lies_in number (blocks_of net.blocks team (block_form c.form)) ≡ true
-  pub chosen : IsChosen c.want (taken_numbers net c.form) (blocks_of net.blocks team (block_form c.form)) (number_form c.form) number
+  pub chosen : IsChosen c.want (taken_numbers net c.form) (blocks_of net.blocks team (block_form c.form))
+      (number_form c.form) number
   pub not_live : All (λ m. m.message.ident ≢ ident_of c.form number) net.live
   pub not_held : All (λ i. i ≢ ident_of c.form number) net.held
   pub reported : reply ≡ Number number
@@ -59,17 +62,21 @@ pub record GivesIdent (team : List ℕ) (net : Net) (c : TakeIdent) (reply : Rep
 -- What a `take_pgn` does: the least parameter group of the team's blocks that has a destination, or has none, and that
 -- no live and no held 29-bit identifier has. The identifier of the new message is of that group, with the requested
 -- fields.
-pub record GivesGroup (team : List ℕ) (net : Net) (c : TakePgn) (reply : Reply) (after : Net) (entries : Entries) : Type 0 where
+pub record GivesGroup (team : List ℕ) (net : Net) (c : TakePgn) (reply : Reply) (after : Net) (entries : Entries) : Type
+    0 where
   pub number : ℕ
   pub formed : has_form (group_form c.pdu) number ≡ true
   pub granted : lies_in number (blocks_of net.blocks team Pgn) ≡ true
   pub least : IsLeastFree (taken_groups net) (blocks_of net.blocks team Pgn) (group_form c.pdu) (Some number)
   pub not_live : All (λ m. group_of m.message.ident ≢ Some number) net.live
   pub not_held : All (λ i. group_of i ≢ Some number) net.held
-  pub built : IsAction (act.TakePgn c) → IsBuilt c.priority number (address_of c.pdu) c.source (fields_with c.priority number (address_of c.pdu) c.source)
+  pub built : IsAction (act.TakePgn c)
+      → IsBuilt c.priority number (address_of c.pdu) c.source
+      (fields_with c.priority number (address_of c.pdu) c.source)
   pub reported : reply ≡ Number number
   pub added : after ≡ with_message net (new_message team c.message (ident_with c number))
-  pub grown : IsNet net → IsAction (act.TakePgn c) → IsGrown net.live after.live (new_message team c.message (ident_with c number))
+  pub grown : IsNet net → IsAction (act.TakePgn c)
+      → IsGrown net.live after.live (new_message team c.message (ident_with c number))
   pub quiet : entries ≡ no_entries
 
 -- What a `take_spn` without a wanted number does: the least suspect parameter number of the team's blocks that was

@@ -1,7 +1,7 @@
 -- Networks that differ in their releases alone.
 use Rattle.std.specs.Prelude.{◌≡◌, ℕ, Bool, true, false, List, length, Some}
 use Rattle.std.specs.List.{list_any}
-use Rattle.catalogue.specs.declared.sheet.Sheet.{Sheet}
+use Rattle.dbc_sheet.specs.declared.sheet.Sheet.{Sheet}
 use Rattle.office_types.specs.declared.book.SpnBook.{SpnBook}
 use Rattle.office_types.specs.declared.change.Decision.{Decision}
 use Rattle.office_types.specs.declared.command.Action.TheVariants as act
@@ -31,14 +31,19 @@ outcome_with rs (Changing r n e) = Changing r (with_releases rs n) e
 
 pub record ReleasesDontCount : Type 0 where
   -- a command that doesn't depend on the releases has the same outcome, whatever they are
-  pub outcomes : (team : List ℕ) (reading : FileReading) (net : Net) (rs : List Sheet) (book : SpnBook) (c : Command) → reads_releases c.task ≡ false
-      → outcome team reading (Some (with_releases rs net)) book c ≡ outcome_with rs (outcome team reading (Some net) book c)
+  pub outcomes : (team : List ℕ) (reading : FileReading) (net : Net) (rs : List Sheet) (book : SpnBook) (c : Command)
+      → reads_releases c.task ≡ false
+      → outcome team reading (Some (with_releases rs net)) book c
+      ≡ outcome_with rs (outcome team reading (Some net) book c)
   -- so it is decided in the same way, and adds no release
-  pub decisions : (team : List ℕ) (net : Net) (rs : List Sheet) (book : SpnBook) (c : Command) (d : Decision) → reads_releases c.task ≡ false
+  pub decisions : (team : List ℕ) (net : Net) (rs : List Sheet) (book : SpnBook) (c : Command) (d : Decision)
+      → reads_releases c.task ≡ false
       → IsDecision team (record { net = Some net; book = book }) c d
-      → IsDecision team (record { net = Some (with_releases rs net); book = book }) c d × (list_any is_release d.changes ≡ false)
+      → IsDecision team (record { net = Some (with_releases rs net); book = book }) c d
+      × (list_any is_release d.changes ≡ false)
   -- nor does any other add one, but those that may
-  pub none_added : (team : List ℕ) (net : Net) (book : SpnBook) (c : Command) (d : Decision) → may_release c.task ≡ false
+  pub none_added : (team : List ℕ) (net : Net) (book : SpnBook) (c : Command) (d : Decision)
+      → may_release c.task ≡ false
       → IsDecision team (record { net = Some net; book = book }) c d → list_any is_release d.changes ≡ false
 
 -- A command that doesn't depend on what is in a release is decided in the same way where its network has as many other

@@ -7,10 +7,10 @@ use Rattle.bitlayout.specs.First.{first_answer}
 use Rattle.bitlayout.specs.declared.layout.Order.TheVariants.{Intel}
 use Rattle.bitlayout.specs.declared.place.Mux.TheVariants.{Always}
 use Rattle.can_id.specs.declared.ident.Ident.TheVariants as id
-use Rattle.catalogue.specs.Sheet.{empty_sheet}
-use Rattle.catalogue.specs.declared.sheet.Sheet.{Sheet}
-use Rattle.catalogue.specs.declared.signal.Signal.{Signal}
-use Rattle.catalogue.specs.declared.value_type.ValueType.TheVariants.{Integer}
+use Rattle.dbc_words.specs.declared.value_type.ValueType.TheVariants.{Integer}
+use Rattle.dbc_sheet.specs.Sheet.{empty_sheet}
+use Rattle.dbc_sheet.specs.declared.sheet.Sheet.{Sheet}
+use Rattle.dbc_sheet.specs.declared.signal.Signal.{Signal}
 use Rattle.office_types.specs.declared.block.BlockForm.TheVariants as block
 use Rattle.office_types.specs.declared.command.Action.TheVariants as act
 use Rattle.office_types.specs.declared.command.NetKind.TheVariants.{Can, J1939}
@@ -21,10 +21,14 @@ use Rattle.office_types.specs.declared.state.Net.{Net}
 use Rattle.office_rules.specs.Facts.{taken_groups}
 use Rattle.office_rules.specs.Importing.{Unreadable}
 use Rattle.office_rules.specs.Step.{opening}
-use Rattle.office_rules.proofs.TeamCommand.{adds, requests, brake, engine, grants, imports, left_by, message, number, office, opens, replies_to, setup, takes, takes_group}
+use Rattle.office_rules.proofs.TeamCommand.{adds, requests, brake, engine, grants, imports, left_by, message, number}
+use Rattle.office_rules.proofs.TeamCommand.{office, opens, replies_to, setup, takes, takes_group}
 
 abbrev three : Sheet
-three = record empty_sheet { messages = message (id.Std 256) (codes "A") [] ∷ message (id.Std 257) (codes "B") [] ∷ message (id.Std 258) (codes "C") [] ∷ [] }
+three = record empty_sheet {
+  messages = message (id.Std 256) (codes "A") [] ∷ message (id.Std 257) (codes "B") []
+      ∷ message (id.Std 258) (codes "C") [] ∷ [];
+}
 
 abbrev live_names : List Net → List (List (List ℕ))
 live_names nets = map (λ net. map (λ m. m.message.name) net.live) nets
@@ -35,12 +39,15 @@ taken_by_another : replies_to opening (setup (takes engine (codes "E3") (Some 25
 unfolding walk shares_bit is_inside clash_after first_answer
 taken_by_another = refl
 
-nothing_added : live_names (left_by opening (setup (takes engine (codes "E3") (Some 258) ∷ imports engine three ∷ []))).nets
+nothing_added : live_names
+    (left_by opening (setup (takes engine (codes "E3") (Some 258) ∷ imports engine three ∷ []))).nets
     ≡ (codes "E3" ∷ []) ∷ []
 unfolding walk shares_bit is_inside clash_after first_answer
 nothing_added = refl
 
-imported_twice : replies_to opening (setup (imports engine three ∷ imports engine three ∷ imports brake (record three { messages = message (id.Std 300) (codes "Z") [] ∷ [] }) ∷ []))
+imported_twice : replies_to opening
+    (setup (imports engine three ∷ imports engine three
+    ∷ imports brake (record three { messages = message (id.Std 300) (codes "Z") [] ∷ [] }) ∷ []))
     ≡ Done ∷ Done ∷ Counts 3 0 ∷ Counts 0 3 ∷ Refused no.OutsideBlock ∷ []
 unfolding walk shares_bit is_inside clash_after first_answer
 imported_twice = refl
@@ -89,13 +96,20 @@ used_by_file : (left_by opening (opens J1939 0 ∷ imports office engine_file �
 unfolding walk shares_bit is_inside clash_after first_answer
 used_by_file = refl
 
-groups_taken : map taken_groups (left_by opening (opens J1939 0 ∷ imports office engine_file ∷ grants engine block.Pgn 61444 61445 ∷ takes_group (codes "Eng") Broadcast ∷ [])).nets
+groups_taken : map taken_groups
+    (left_by opening (opens J1939 0 ∷ imports office engine_file ∷ grants engine block.Pgn 61444 61445
+    ∷ takes_group (codes "Eng") Broadcast ∷ [])).nets
     ≡ (61444 ∷ 61445 ∷ []) ∷ []
 unfolding walk shares_bit is_inside clash_after first_answer
 groups_taken = refl
 
 -- a file whose signals share bits is refused with the first unclear message's number
-unclear : replies_to opening (opens Can 0 ∷ imports office (record empty_sheet { messages = message (id.Std 5) (codes "M") (temperature ∷ record temperature { name = codes "Oil" } ∷ []) ∷ [] }) ∷ [])
+unclear : replies_to opening
+    (opens Can 0 ∷ imports office
+    (record empty_sheet {
+      messages =
+          message (id.Std 5) (codes "M") (temperature ∷ record temperature { name = codes "Oil" } ∷ []) ∷ [];
+    }) ∷ [])
     ≡ Done ∷ Refused (no.FileFault (record { fault = 23; at = 5 })) ∷ []
 unfolding walk shares_bit is_inside clash_after first_answer
 unclear = refl
@@ -125,7 +139,9 @@ unfolding walk shares_bit is_inside clash_after first_answer
 held_number = refl
 
 -- a new number under a live message's name
-live_name_brought : replies_to opening (setup (takes engine (codes "B") None ∷ imports engine (record three { messages = message (id.Std 257) (codes "B") [] ∷ [] }) ∷ []))
+live_name_brought : replies_to opening
+    (setup (takes engine (codes "B") None
+    ∷ imports engine (record three { messages = message (id.Std 257) (codes "B") [] ∷ [] }) ∷ []))
     ≡ Done ∷ Done ∷ Number 256 ∷ Refused no.NameTaken ∷ []
 unfolding walk shares_bit is_inside clash_after first_answer
 live_name_brought = refl
@@ -161,7 +177,8 @@ frame_widened : map (λ net. net.head.frame) (left_by opening (
     ≡ record {
       version = codes "2";
       comment = codes "trucks";
-      nodes = record { name = codes "ECU"; comment = [] } ∷ record { name = codes "Dash"; comment = [] } ∷ record { name = codes "Lamp"; comment = [] } ∷ [];
+      nodes = record { name = codes "ECU"; comment = [] } ∷ record { name = codes "Dash"; comment = [] }
+          ∷ record { name = codes "Lamp"; comment = [] } ∷ [];
       tables = record { name = codes "Gear"; entries = record { value = number 0; text = codes "P" } ∷ [] } ∷ [];
       messages = [];
     } ∷ []

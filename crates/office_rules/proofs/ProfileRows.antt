@@ -5,13 +5,14 @@ use Rattle.std.specs.List.{IsDistinct}
 use Rattle.std.specs.List.Sorted.{IsStrictlySortedBy}
 use Rattle.std.proofs.lemmas.List.Elements.{All-from_recursion}
 use Rattle.can_id.specs.declared.ident.Ident.TheVariants as id
-use Rattle.catalogue.specs.Form.{IsMessage, IsNode, IsSheet, IsSignal, IsTable}
-use Rattle.catalogue.specs.Name.{is_name}
-use Rattle.catalogue.specs.Sheet.{empty_sheet}
-use Rattle.catalogue.specs.declared.keyword.Keyword.TheVariants as keyword
-use Rattle.catalogue.specs.declared.sheet.Sheet.{Sheet}
-use Rattle.catalogue.proofs.Texts.{text-Decides}
-use Rattle.dbc_grammar.specs.Lexing.{exponent_len, first_token, lexed, lexed_in, number_len, power_len, tail_len, token_at, word_len}
+use Rattle.dbc_words.specs.Name.{is_name}
+use Rattle.dbc_words.specs.declared.keyword.Keyword.TheVariants as keyword
+use Rattle.dbc_words.proofs.Texts.{text-Decides}
+use Rattle.dbc_sheet.specs.Form.{IsMessage, IsNode, IsSheet, IsSignal, IsTable}
+use Rattle.dbc_sheet.specs.Sheet.{empty_sheet}
+use Rattle.dbc_sheet.specs.declared.sheet.Sheet.{Sheet}
+use Rattle.dbc_grammar.specs.Lexing.{exponent_len, first_token, lexed, lexed_in, number_len, power_len, tail_len}
+use Rattle.dbc_grammar.specs.Lexing.{token_at, word_len}
 use Rattle.dbc_grammar.specs.Parsing.{line_at, message_at, signals_at, statement_at, statements_at}
 use Rattle.dbc_grammar.specs.Reads.{Reads}
 use Rattle.dbc_grammar.specs.Saying.{Says}
@@ -39,7 +40,8 @@ old_has_64 : IsOfProfile One (of_length 64)
 old_has_64 = All-from_recursion (λ m. m.length ≤ 64) (of_length 64).messages (omega arith, tt)
 
 old_hasnt_65 : IsOfProfile One (of_length 65) → ⊥
-old_hasnt_65 all = let few : 65 ≤ 64 = all 0 (message (id.Std 256) (codes "M") []) (omega arith) in absurd (omega (arith, few))
+old_hasnt_65 all = let few : 65 ≤ 64 = all 0 (message (id.Std 256) (codes "M") []) (omega arith) in
+    absurd (omega (arith, few))
 
 today_has_both : IsOfProfile Two (of_length 64) × IsOfProfile Two (of_length 65)
 today_has_both = (tt, tt)
@@ -134,8 +136,10 @@ read_today = (reads, tt)
 pub unread_before : IsReadingOf One long_file (Unreadable (record { fault = 38; at = 11 }))
 unread_before = record {
   unread = λ s under.
-      let same = (one_reading (tokens_once 0) one_division one_sheet long_file s (of_length 100) under.0.0 reads.0 under.0.1 reads.1).0 in
-      let few : 100 ≤ 64 = subst (IsOfProfile One) same under.1 0 (record (message (id.Std 256) (codes "M") []) { length = 100 }) (omega arith) in
+      let same = (one_reading (tokens_once 0) one_division one_sheet long_file s (of_length 100) under.0.0 reads.0
+      under.0.1 reads.1).0 in
+      let few : 100 ≤ 64 = subst (IsOfProfile One) same under.1 0
+      (record (message (id.Std 256) (codes "M") []) { length = 100 }) (omega arith) in
       absurd (omega (arith, few));
   code = (12, omega arith, refl);
   offset = omega arith;

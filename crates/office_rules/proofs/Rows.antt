@@ -3,6 +3,7 @@ use Rattle.std.proofs.Common.{◌≡◌, ◌+◌, ◌/◌, ℕ, List, [], ◌∷
 use Rattle.std.proofs.lemmas.Bool.{true≢false}
 use Rattle.std.specs.List.{range_with_len}
 use Rattle.std.specs.Prelude.{◌%◌, codes}
+use Rattle.base.specs.Refusing.{first_refusal}
 use Rattle.bitlayout.specs.Bits.{walk, shares_bit, is_inside}
 use Rattle.bitlayout.specs.Clash.{clash_after}
 use Rattle.bitlayout.specs.First.{first_answer}
@@ -11,15 +12,14 @@ use Rattle.bitlayout.specs.declared.place.Mux.TheVariants.{Always, Multiplexor, 
 use Rattle.can_id.specs.declared.form.IdentForm.TheVariants.{Standard}
 use Rattle.can_id.specs.declared.ident.Ident.{Ident}
 use Rattle.can_id.specs.declared.ident.Ident.TheVariants as id
-use Rattle.catalogue.specs.Limits.{roster_limit}
-use Rattle.catalogue.specs.Refusing.{first_refusal}
-use Rattle.catalogue.specs.Sheet.{empty_sheet, node_name}
-use Rattle.catalogue.specs.Signals.{signal_tests}
-use Rattle.catalogue.specs.declared.fault.SheetCode.{SheetCode}
-use Rattle.catalogue.specs.declared.fault.SheetCode.TheVariants.{DoubleName}
-use Rattle.catalogue.specs.declared.sheet.Sheet.{Sheet}
-use Rattle.catalogue.specs.declared.signal.Signal.{Signal}
-use Rattle.catalogue.specs.declared.value_texts.ValueText.{ValueText}
+use Rattle.dbc_words.specs.Limits.{roster_limit}
+use Rattle.dbc_words.specs.declared.fault.SheetCode.{SheetCode}
+use Rattle.dbc_words.specs.declared.fault.SheetCode.TheVariants.{DoubleName}
+use Rattle.dbc_sheet.specs.Sheet.{empty_sheet, node_name}
+use Rattle.dbc_sheet.specs.Signals.{signal_tests}
+use Rattle.dbc_sheet.specs.declared.sheet.Sheet.{Sheet}
+use Rattle.dbc_sheet.specs.declared.signal.Signal.{Signal}
+use Rattle.dbc_sheet.specs.declared.value_texts.ValueText.{ValueText}
 use Rattle.office_types.specs.declared.block.BlockForm.TheVariants as block
 use Rattle.office_types.specs.declared.change.Change.TheVariants.{AddSignal, RemoveSignal, SetBlock}
 use Rattle.office_types.specs.declared.command.Action.TheVariants as act
@@ -36,18 +36,28 @@ use Rattle.office_rules.specs.Change.{Fits, HaveOwnBlocks, net_changed}
 use Rattle.office_rules.specs.Opening.{bare_net}
 use Rattle.office_rules.specs.Signals.{new_signal}
 use Rattle.office_rules.specs.Step.{opening}
-use Rattle.office_rules.proofs.TeamCommand.{Requested, adds, requests, bits, brake, bundles, engine, grants, imports, left_by, message, named, number, office, on_bus, opens, path, removes, replies_to, sets_values, setup, takes, takes_bits, takes_ext, takes_group, takes_spn, truck}
+use Rattle.office_rules.proofs.TeamCommand.{Requested, adds, requests, bits, brake, bundles, engine, grants, imports}
+use Rattle.office_rules.proofs.TeamCommand.{left_by, message, named, number, office, on_bus, opens, path, removes}
+use Rattle.office_rules.proofs.TeamCommand.{replies_to, sets_values, setup, takes, takes_bits, takes_ext, takes_group}
+use Rattle.office_rules.proofs.TeamCommand.{takes_spn, truck}
 
-full : replies_to opening (setup (takes engine (codes "E1") None ∷ takes engine (codes "E2") None ∷ takes engine (codes "E3") None ∷ takes engine (codes "E4") None ∷ []))
+full : replies_to opening
+    (setup (takes engine (codes "E1") None ∷ takes engine (codes "E2") None ∷ takes engine (codes "E3") None
+    ∷ takes engine (codes "E4") None ∷ []))
     ≡ Done ∷ Done ∷ Number 256 ∷ Number 257 ∷ Number 258 ∷ Refused no.BlockFull ∷ []
 full = refl
 
-blocks : replies_to opening (setup (grants engine block.Std 258 300 ∷ grants engine block.Ext 258 300 ∷ grants engine block.Pgn 0 5 ∷ grants engine block.Spn 1 5 ∷ grants engine block.Spn 5 9 ∷ []))
+blocks : replies_to opening
+    (setup (grants engine block.Std 258 300 ∷ grants engine block.Ext 258 300 ∷ grants engine block.Pgn 0 5
+    ∷ grants engine block.Spn 1 5 ∷ grants engine block.Spn 5 9 ∷ []))
     ≡ Done ∷ Done ∷ Refused no.BlockTaken ∷ Done ∷ Refused no.NotJ1939 ∷ Done ∷ Refused no.BlockTaken ∷ []
 blocks = refl
 
-wanted : replies_to opening (setup (takes engine (codes "E1") (Some 300) ∷ takes engine (codes "E1") (Some 257) ∷ takes engine (codes "E2") (Some 257) ∷ takes engine (codes "E1") None ∷ takes brake (codes "E3") None ∷ takes engine (codes "E3") None ∷ []))
-    ≡ Done ∷ Done ∷ Refused no.OutsideBlock ∷ Number 257 ∷ Refused no.IdentTaken ∷ Refused no.NameTaken ∷ Refused no.NoBlock ∷ Number 256 ∷ []
+wanted : replies_to opening
+    (setup (takes engine (codes "E1") (Some 300) ∷ takes engine (codes "E1") (Some 257) ∷ takes engine (codes "E2")
+    (Some 257) ∷ takes engine (codes "E1") None ∷ takes brake (codes "E3") None ∷ takes engine (codes "E3") None ∷ []))
+    ≡ Done ∷ Done ∷ Refused no.OutsideBlock ∷ Number 257 ∷ Refused no.IdentTaken ∷ Refused no.NameTaken
+    ∷ Refused no.NoBlock ∷ Number 256 ∷ []
 wanted = refl
 
 -- a number that a release has is held when its message goes; another one is free again
@@ -61,7 +71,8 @@ held : replies_to opening (setup (
     ∷ requests engine (act.Retire (codes "E2"))
     ∷ takes engine (codes "E4") None
     ∷ takes engine (codes "E5") (Some 257) ∷ []))
-    ≡ Done ∷ Done ∷ Number 256 ∷ Number 257 ∷ Done ∷ Number 256 ∷ Done ∷ Release 1 ∷ Done ∷ Number 258 ∷ Refused no.Held ∷ []
+    ≡ Done ∷ Done ∷ Number 256 ∷ Number 257 ∷ Done ∷ Number 256 ∷ Done ∷ Release 1 ∷ Done ∷ Number 258 ∷ Refused no.Held
+    ∷ []
 held = refl
 
 groups : replies_to opening (
@@ -86,11 +97,14 @@ extended : replies_to opening (setup (
     ∷ takes_ext (codes "E4") None
     ∷ takes_ext (codes "E5") None
     ∷ takes_ext (codes "E6") None ∷ []))
-    ≡ Done ∷ Done ∷ Done ∷ Done ∷ Number 256 ∷ Number 256 ∷ Number 4096 ∷ Refused no.OutsideBlock ∷ Refused no.OutsideBlock ∷ Number 257 ∷ Number 4097 ∷ Refused no.BlockFull ∷ []
+    ≡ Done ∷ Done ∷ Done ∷ Done ∷ Number 256 ∷ Number 256 ∷ Number 4096 ∷ Refused no.OutsideBlock
+    ∷ Refused no.OutsideBlock ∷ Number 257 ∷ Number 4097 ∷ Refused no.BlockFull ∷ []
 extended = refl
 
 -- nor is one above the form given, if a block had it (no value of the type of blocks has)
-above_the_form : replies_to opening (opens Can 0 ∷ grants engine block.Std 2047 2050 ∷ takes engine (codes "E1") (Some 2048) ∷ takes engine (codes "E1") None ∷ takes engine (codes "E2") None ∷ [])
+above_the_form : replies_to opening
+    (opens Can 0 ∷ grants engine block.Std 2047 2050 ∷ takes engine (codes "E1") (Some 2048) ∷ takes engine (codes "E1")
+    None ∷ takes engine (codes "E2") None ∷ [])
     ≡ Done ∷ Done ∷ Refused no.OutsideBlock ∷ Number 2047 ∷ Refused no.BlockFull ∷ []
 above_the_form = refl
 
@@ -140,10 +154,12 @@ no_net : replies_to opening (
     ∷ requests engine act.Approve
     ∷ requests engine act.Reject
     ∷ requests office act.Release ∷ [])
-    ≡ map Refused (no.NoNet ∷ no.NoNet ∷ no.NoNet ∷ no.NoNet ∷ no.NoNet ∷ no.NoNet ∷ no.NoNet ∷ no.NoNet ∷ no.NoNet ∷ no.NoNet ∷ no.NoNet ∷ no.NoNet ∷ no.NoNet ∷ no.NoNet ∷ [])
+    ≡ map Refused (no.NoNet ∷ no.NoNet ∷ no.NoNet ∷ no.NoNet ∷ no.NoNet ∷ no.NoNet ∷ no.NoNet ∷ no.NoNet ∷ no.NoNet
+    ∷ no.NoNet ∷ no.NoNet ∷ no.NoNet ∷ no.NoNet ∷ no.NoNet ∷ [])
 no_net = refl
 
-opened_twice : replies_to opening (opens Can 0 ∷ opens J1939 2 ∷ record (opens Can 0) { team = engine } ∷ on_bus (opens J1939 2) ∷ [])
+opened_twice : replies_to opening
+    (opens Can 0 ∷ opens J1939 2 ∷ record (opens Can 0) { team = engine } ∷ on_bus (opens J1939 2) ∷ [])
     ≡ Done ∷ Refused no.NetThere ∷ Refused no.NotOffice ∷ Done ∷ []
 opened_twice = refl
 
@@ -151,7 +167,12 @@ abbrev node_names : List Net → List (List (List ℕ))
 node_names nets = map (λ net. map node_name net.head.frame.nodes) nets
 
 abbrev from_ecu : Requested
-from_ecu = requests engine (act.TakeIdent (record { form = Standard; message = record (named (codes "E1")) { node = Some (codes "ECU") }; want = None }))
+from_ecu = requests engine
+    (act.TakeIdent (record {
+      form = Standard;
+      message = record (named (codes "E1")) { node = Some (codes "ECU") };
+      want = None;
+    }))
 
 nodes_added : replies_to opening (setup (
     from_ecu
@@ -161,19 +182,26 @@ nodes_added : replies_to opening (setup (
     ∷ from_ecu
     ∷ requests engine act.Submit
     ∷ adds (codes "Lamp") ∷ []))
-    ≡ Done ∷ Done ∷ Refused no.NoNode ∷ Done ∷ Refused no.NameTaken ∷ Done ∷ Number 256 ∷ Done ∷ Refused no.InReview ∷ []
+    ≡ Done ∷ Done ∷ Refused no.NoNode ∷ Done ∷ Refused no.NameTaken ∷ Done ∷ Number 256 ∷ Done ∷ Refused no.InReview
+    ∷ []
 nodes_added = refl
 
-nodes_left : node_names (left_by opening (setup (adds (codes "ECU") ∷ adds (codes "Dash") ∷ []))).nets ≡ (codes "ECU" ∷ codes "Dash" ∷ []) ∷ []
+nodes_left : node_names (left_by opening (setup (adds (codes "ECU") ∷ adds (codes "Dash") ∷ []))).nets
+    ≡ (codes "ECU" ∷ codes "Dash" ∷ []) ∷ []
 nodes_left = refl
 
 -- as many nodes as a network can have: NAAA, NAAB, .. NPPP
 abbrev full_roster : Sheet
 full_roster = record empty_sheet {
-  nodes = map (λ (n : ℕ). record { name = 78 ∷ (65 + n / 256) ∷ (65 + (n / 16) % 16) ∷ (65 + n % 16) ∷ []; comment = [] }) (range_with_len 0 roster_limit);
+  nodes = map (λ (n : ℕ). record {
+    name = 78 ∷ (65 + n / 256) ∷ (65 + (n / 16) % 16) ∷ (65 + n % 16) ∷ [];
+    comment =
+        [];
+  }) (range_with_len 0 roster_limit);
 }
 
-no_node_more : replies_to opening (opens Can 0 ∷ imports office full_roster ∷ adds (codes "NPPP") ∷ adds (codes "ECU") ∷ [])
+no_node_more : replies_to opening
+    (opens Can 0 ∷ imports office full_roster ∷ adds (codes "NPPP") ∷ adds (codes "ECU") ∷ [])
     ≡ Done ∷ Counts 0 0 ∷ Refused no.NameTaken ∷ Refused no.TooMany ∷ []
 no_node_more = refl
 
@@ -190,7 +218,8 @@ reviewed : replies_to opening (
     ∷ requests engine act.Release
     ∷ requests office act.Release
     ∷ requests office act.Release ∷ [])
-    ≡ Done ∷ Done ∷ Done ∷ Refused no.OwnReview ∷ Refused no.NeedsMore ∷ Refused no.InReview ∷ Done ∷ Refused no.NotOffice ∷ Release 1 ∷ Refused no.NotInReview ∷ []
+    ≡ Done ∷ Done ∷ Done ∷ Refused no.OwnReview ∷ Refused no.NeedsMore ∷ Refused no.InReview ∷ Done
+    ∷ Refused no.NotOffice ∷ Release 1 ∷ Refused no.NotInReview ∷ []
 reviewed = refl
 
 -- a review that is turned down leaves a draft, and no approval
@@ -207,7 +236,8 @@ turned_down : replies_to opening (
     ∷ requests office act.Release
     ∷ requests brake act.Approve
     ∷ requests office act.Release ∷ [])
-    ≡ Done ∷ Done ∷ Refused no.NotInReview ∷ Done ∷ Done ∷ Refused no.OwnReview ∷ Done ∷ Number 256 ∷ Done ∷ Refused no.NeedsMore ∷ Done ∷ Release 1 ∷ []
+    ≡ Done ∷ Done ∷ Refused no.NotInReview ∷ Done ∷ Done ∷ Refused no.OwnReview ∷ Done ∷ Number 256 ∷ Done
+    ∷ Refused no.NeedsMore ∷ Done ∷ Release 1 ∷ []
 turned_down = refl
 
 -- two approvals are those of two teams
@@ -253,7 +283,8 @@ bits_refused : replies_to opening (with_bits (
     ∷ takes_bits (codes "V") 1 Intel Always (Some 0)
     ∷ takes_bits (codes "W") 1 Intel Multiplexor None
     ∷ requests engine (act.RemoveSignal (path (codes "E1") (codes "Sel"))) ∷ []))
-    ≡ bits_given (Refused no.NoRoom ∷ Refused no.OutsidePayload ∷ Refused no.Clash ∷ Refused no.TwoMultiplexors ∷ Refused no.NoMultiplexor ∷ [])
+    ≡ bits_given (Refused no.NoRoom ∷ Refused no.OutsidePayload ∷ Refused no.Clash ∷ Refused no.TwoMultiplexors
+    ∷ Refused no.NoMultiplexor ∷ [])
 unfolding walk shares_bit is_inside clash_after first_answer
 bits_refused = refl
 
@@ -279,14 +310,18 @@ signals_refused : replies_to opening (with_bits (
     ∷ sets_values (codes "X") []
     ∷ removes (codes "X")
     ∷ takes_bits (codes "P") 8 Intel Always None ∷ []))
-    ≡ bits_given (Refused no.NoMessage ∷ Refused no.NoMessage ∷ Refused no.NotOwner ∷ Refused no.NotOwner ∷ Refused no.NotOwner ∷ Refused no.NoSignal ∷ Refused no.NoSignal ∷ Refused no.NoSignal ∷ Refused no.NameTaken ∷ [])
+    ≡ bits_given (Refused no.NoMessage ∷ Refused no.NoMessage ∷ Refused no.NotOwner ∷ Refused no.NotOwner
+    ∷ Refused no.NotOwner ∷ Refused no.NoSignal ∷ Refused no.NoSignal ∷ Refused no.NoSignal ∷ Refused no.NameTaken
+    ∷ [])
 unfolding walk shares_bit is_inside clash_after first_answer
 signals_refused = refl
 
 abbrev received : Requested
-received = requests engine (act.TakeBits (record (bits (codes "S") 4 Intel Always None) { receivers = codes "Dash" ∷ [] }))
+received = requests engine
+    (act.TakeBits (record (bits (codes "S") 4 Intel Always None) { receivers = codes "Dash" ∷ [] }))
 
-receiver_wanted : replies_to opening (setup (takes engine (codes "E1") None ∷ received ∷ adds (codes "Dash") ∷ received ∷ []))
+receiver_wanted : replies_to opening
+    (setup (takes engine (codes "E1") None ∷ received ∷ adds (codes "Dash") ∷ received ∷ []))
     ≡ Done ∷ Done ∷ Number 256 ∷ Refused no.NoNode ∷ Done ∷ Start 0 ∷ []
 unfolding walk shares_bit is_inside clash_after first_answer
 receiver_wanted = refl
@@ -318,12 +353,15 @@ abbrev value_texts : List Net → List (List (List (List ValueText)))
 value_texts nets = map (λ net. map (λ m. map (λ s. s.values) m.message.signals) net.live) nets
 
 -- value texts come in place of those that were there, of the named signal alone
-values_set : value_texts (left_by opening (with_bits (sets_values (codes "P") off_on ∷ sets_values (codes "Q") off_on ∷ sets_values (codes "P") [] ∷ []))).nets
+values_set : value_texts
+    (left_by opening (with_bits
+    (sets_values (codes "P") off_on ∷ sets_values (codes "Q") off_on ∷ sets_values (codes "P") [] ∷ []))).nets
     ≡ (([] ∷ [] ∷ off_on ∷ [] ∷ []) ∷ []) ∷ []
 unfolding walk shares_bit is_inside clash_after first_answer
 values_set = refl
 
-values_answered : replies_to opening (with_bits (sets_values (codes "P") off_on ∷ requests engine act.Submit ∷ sets_values (codes "P") [] ∷ []))
+values_answered : replies_to opening
+    (with_bits (sets_values (codes "P") off_on ∷ requests engine act.Submit ∷ sets_values (codes "P") [] ∷ []))
     ≡ bits_given (Done ∷ Done ∷ Refused no.InReview ∷ [])
 unfolding walk shares_bit is_inside clash_after first_answer
 values_answered = refl
@@ -341,15 +379,18 @@ spns_of_two_nets : replies_to opening (with_bits (
 unfolding walk shares_bit is_inside clash_after first_answer
 spns_of_two_nets = refl
 
-block_elsewhere : replies_to opening (with_bits (on_bus (opens Can 0) ∷ on_bus (grants engine block.Spn 500 501) ∷ takes_spn (codes "P") None ∷ []))
+block_elsewhere : replies_to opening
+    (with_bits (on_bus (opens Can 0) ∷ on_bus (grants engine block.Spn 500 501) ∷ takes_spn (codes "P") None ∷ []))
     ≡ bits_given (Done ∷ Done ∷ Refused no.NoBlock ∷ [])
 unfolding walk shares_bit is_inside clash_after first_answer
 block_elsewhere = refl
 
-block_of_identifiers : HaveOwnBlocks (SetBlock (record { block = record { form = block.Std; first = 256; last = 258 }; team = engine }) ∷ [])
+block_of_identifiers : HaveOwnBlocks
+    (SetBlock (record { block = record { form = block.Std; first = 256; last = 258 }; team = engine }) ∷ [])
 block_of_identifiers = (refl, tt)
 
-block_of_spns : HaveOwnBlocks (SetBlock (record { block = record { form = block.Spn; first = 500; last = 501 }; team = engine }) ∷ []) → ⊥
+block_of_spns : HaveOwnBlocks
+    (SetBlock (record { block = record { form = block.Spn; first = 500; last = 501 }; team = engine }) ∷ []) → ⊥
 block_of_spns blocks = true≢false blocks.0
 
 -- Changes of one signal, on a network of one message.
@@ -362,51 +403,71 @@ with_e1 signals = record (bare_net truck (record { kind = Can; reviews = 0; phas
   live = record { message = message (id.Std 256) (codes "E1") signals; owner = engine } ∷ [];
 }
 
-signal_added : net_changed (AddSignal (codes "E1") (byte_at (codes "Q") 8)) (with_e1 (byte_at (codes "P") 0 ∷ [])) ≡ with_e1 (byte_at (codes "P") 0 ∷ byte_at (codes "Q") 8 ∷ [])
+signal_added : net_changed (AddSignal (codes "E1") (byte_at (codes "Q") 8)) (with_e1 (byte_at (codes "P") 0 ∷ []))
+    ≡ with_e1 (byte_at (codes "P") 0 ∷ byte_at (codes "Q") 8 ∷ [])
 signal_added = refl
 
-signal_out : net_changed (RemoveSignal (path (codes "E1") (codes "P"))) (with_e1 (byte_at (codes "P") 0 ∷ byte_at (codes "Q") 8 ∷ [])) ≡ with_e1 (byte_at (codes "Q") 8 ∷ [])
+signal_out : net_changed (RemoveSignal (path (codes "E1") (codes "P")))
+    (with_e1 (byte_at (codes "P") 0 ∷ byte_at (codes "Q") 8 ∷ [])) ≡ with_e1 (byte_at (codes "Q") 8 ∷ [])
 signal_out = refl
 
 -- nothing changes where the message isn't there
 not_there : net_changed (AddSignal (codes "E2") (byte_at (codes "P") 0)) (with_e1 []) ≡ with_e1 []
 not_there = refl
 
-not_there_either : net_changed (RemoveSignal (path (codes "E2") (codes "P"))) (with_e1 (byte_at (codes "P") 0 ∷ [])) ≡ with_e1 (byte_at (codes "P") 0 ∷ [])
+not_there_either : net_changed (RemoveSignal (path (codes "E2") (codes "P"))) (with_e1 (byte_at (codes "P") 0 ∷ []))
+    ≡ with_e1 (byte_at (codes "P") 0 ∷ [])
 not_there_either = refl
 
 -- a signal fits a message that is there and has no signal of its name
 signal_fits : Fits (AddSignal (codes "E1") (byte_at (codes "Q") 8)) (Some (with_e1 (byte_at (codes "P") 0 ∷ [])))
-signal_fits = (record { message = message (id.Std 256) (codes "E1") (byte_at (codes "P") 0 ∷ []); owner = engine }, refl, refl)
+signal_fits = (
+  record { message = message (id.Std 256) (codes "E1") (byte_at (codes "P") 0 ∷ []); owner = engine },
+  refl,
+  refl,
+)
 
 no_message : Fits (AddSignal (codes "E2") (byte_at (codes "P") 0)) (Some (with_e1 [])) → ⊥
 no_message fits = let none : ◌≡◌ {A = Option LiveMessage} None (Some fits.0) = fits.1 in cc
 
 of_one_name : Fits (AddSignal (codes "E1") (byte_at (codes "P") 8)) (Some (with_e1 (byte_at (codes "P") 0 ∷ []))) → ⊥
 of_one_name fits =
-    let m : LiveMessage = record { message = message (id.Std 256) (codes "E1") (byte_at (codes "P") 0 ∷ []); owner = engine } in
+    let m : LiveMessage = record {
+      message = message (id.Std 256) (codes "E1") (byte_at (codes "P") 0 ∷ []);
+      owner =
+          engine;
+    } in
     let found : ◌≡◌ {A = Option LiveMessage} (Some m) (Some fits.0) = fits.1 in
     let same : m ≡ fits.0 = cc in
-    let passed : ◌≡◌ {A = Option SheetCode} (Some DoubleName) None = subst (λ (l : LiveMessage). first_refusal (signal_tests l.message.signals (byte_at (codes "P") 8)) ≡ None) (sym same) fits.2 in
+    let passed : ◌≡◌ {A = Option SheetCode} (Some DoubleName) None =
+    subst (λ (l : LiveMessage). first_refusal (signal_tests l.message.signals (byte_at (codes "P") 8)) ≡ None)
+    (sym same) fits.2 in
     cc
 
 -- Bundles: all parts or none, and a part finds what the earlier ones left.
 
-bundle : replies_to opening (setup (bundles engine (takes engine (codes "E1") None ∷ takes_bits (codes "P") 8 Intel Always None ∷ []) ∷ takes engine (codes "E2") None ∷ []))
+bundle : replies_to opening
+    (setup (bundles engine (takes engine (codes "E1") None ∷ takes_bits (codes "P") 8 Intel Always None ∷ [])
+    ∷ takes engine (codes "E2") None ∷ []))
     ≡ Done ∷ Done ∷ Bundle (part.Number 256 ∷ part.Start 0 ∷ []) ∷ Number 257 ∷ []
 unfolding walk shares_bit is_inside clash_after first_answer
 bundle = refl
 
 -- the third part has the name of the first; then nothing has changed
-bundle_refused : replies_to opening (setup (bundles engine (takes engine (codes "E1") None ∷ takes engine (codes "E2") None ∷ takes engine (codes "E1") None ∷ []) ∷ takes engine (codes "E9") None ∷ []))
+bundle_refused : replies_to opening
+    (setup (bundles engine (takes engine (codes "E1") None ∷ takes engine (codes "E2") None ∷ takes engine (codes "E1")
+    None ∷ []) ∷ takes engine (codes "E9") None ∷ []))
     ≡ Done ∷ Done ∷ Refused (no.BundleRefused (record { fault = 50; at = 3 })) ∷ Number 256 ∷ []
 bundle_refused = refl
 
-bundle_too_large : replies_to opening (setup (bundles engine (takes engine (codes "E1") None ∷ takes engine (codes "E2") None ∷ takes engine (codes "E3") None ∷ takes engine (codes "E4") None ∷ []) ∷ []))
+bundle_too_large : replies_to opening
+    (setup (bundles engine (takes engine (codes "E1") None ∷ takes engine (codes "E2") None ∷ takes engine (codes "E3")
+    None ∷ takes engine (codes "E4") None ∷ []) ∷ []))
     ≡ Done ∷ Done ∷ Refused (no.BundleRefused (record { fault = 48; at = 4 })) ∷ []
 bundle_too_large = refl
 
 -- a bundle may open its network
-opened : replies_to opening (bundles office (opens Can 0 ∷ grants engine block.Std 256 258 ∷ []) ∷ takes engine (codes "E1") None ∷ [])
+opened : replies_to opening
+    (bundles office (opens Can 0 ∷ grants engine block.Std 256 258 ∷ []) ∷ takes engine (codes "E1") None ∷ [])
     ≡ Bundle (part.Done ∷ part.Done ∷ []) ∷ Number 256 ∷ []
 opened = refl

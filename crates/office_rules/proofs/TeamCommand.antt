@@ -5,11 +5,11 @@ use Rattle.bitlayout.specs.declared.layout.Order.{Order}
 use Rattle.bitlayout.specs.declared.place.Mux.{Mux}
 use Rattle.can_id.specs.declared.form.IdentForm.TheVariants.{Standard, Extended}
 use Rattle.can_id.specs.declared.ident.Ident.{Ident}
-use Rattle.catalogue.specs.Sheet.{empty_sheet}
-use Rattle.catalogue.specs.declared.message.Message.{Message}
-use Rattle.catalogue.specs.declared.sheet.Sheet.{Sheet}
-use Rattle.catalogue.specs.declared.signal.Signal.{Signal}
-use Rattle.catalogue.specs.declared.value_texts.ValueText.{ValueText}
+use Rattle.dbc_sheet.specs.Sheet.{empty_sheet}
+use Rattle.dbc_sheet.specs.declared.message.Message.{Message}
+use Rattle.dbc_sheet.specs.declared.sheet.Sheet.{Sheet}
+use Rattle.dbc_sheet.specs.declared.signal.Signal.{Signal}
+use Rattle.dbc_sheet.specs.declared.value_texts.ValueText.{ValueText}
 use Rattle.decimal.specs.Number.{Number}
 use Rattle.office_types.specs.declared.block.BlockForm.{BlockForm}
 use Rattle.office_types.specs.declared.block.BlockForm.TheVariants as block
@@ -39,7 +39,8 @@ pub record Requested : Type 0 where
 abbrev pub replies_to : Office → List Requested → List Reply
 replies_to o [] = []
 replies_to o (q ∷ qs) =
-    reply_of (step_outcome o q.team q.reading q.command) ∷ replies_to (office_after o (step_outcome o q.team q.reading q.command)) qs
+    reply_of (step_outcome o q.team q.reading q.command)
+    ∷ replies_to (office_after o (step_outcome o q.team q.reading q.command)) qs
 
 abbrev pub left_by : Office → List Requested → Office
 left_by o [] = o
@@ -61,7 +62,12 @@ abbrev pub bus : List ℕ
 bus = codes "bus"
 
 abbrev pub requests : List ℕ → Action → Requested
-requests team action = record { team = team; reading = Reading empty_sheet; command = record { net = truck; task = Act action } }
+requests team action = record {
+  team = team;
+  reading = Reading empty_sheet;
+  command =
+      record { net = truck; task = Act action };
+}
 
 abbrev pub imports : List ℕ → Sheet → Requested
 imports team s = record { team = team; reading = Reading s; command = record { net = truck; task = Import [] } }
@@ -74,7 +80,8 @@ abbrev pub opens : NetKind → ℕ → Requested
 opens kind reviews = requests office (act.OpenNet (record { kind = kind; reviews = reviews }))
 
 abbrev pub grants : List ℕ → BlockForm → ℕ → ℕ → Requested
-grants team form first last = requests office (act.Grant (record { team = team; block = record { form = form; first = first; last = last } }))
+grants team form first last =
+    requests office (act.Grant (record { team = team; block = record { form = form; first = first; last = last } }))
 
 -- a network with a block of three identifiers
 abbrev pub setup : List Requested → List Requested
@@ -93,7 +100,8 @@ abbrev pub takes_ext : List ℕ → Option ℕ → Requested
 takes_ext name want = requests engine (act.TakeIdent (record { form = Extended; message = named name; want = want }))
 
 abbrev pub takes_group : List ℕ → Pdu → Requested
-takes_group name pdu = requests engine (act.TakePgn (record { message = named name; pdu = pdu; priority = 6; source = 0 }))
+takes_group name pdu = requests engine
+    (act.TakePgn (record { message = named name; pdu = pdu; priority = 6; source = 0 }))
 
 abbrev pub path : List ℕ → List ℕ → SignalPath
 path message signal = record { message = message; signal = signal }
@@ -124,10 +132,12 @@ abbrev pub takes_spn : List ℕ → Option ℕ → Requested
 takes_spn signal same = requests engine (act.TakeSpn (record { path = path (codes "E1") signal; same = same }))
 
 abbrev pub message : Ident → List ℕ → List Signal → Message
-message i name signals = record { ident = i; name = name; length = 8; transmitter = None; comment = []; signals = signals }
+message i name signals =
+    record { ident = i; name = name; length = 8; transmitter = None; comment = []; signals = signals }
 
 abbrev pub sets_values : List ℕ → List ValueText → Requested
-sets_values signal values = requests engine (act.SetValues (record { path = path (codes "E1") signal; values = values }))
+sets_values signal values =
+    requests engine (act.SetValues (record { path = path (codes "E1") signal; values = values }))
 
 abbrev pub removes : List ℕ → Requested
 removes signal = requests engine (act.RemoveSignal (path (codes "E1") signal))
@@ -138,4 +148,9 @@ requested_action task = act.Submit
 
 -- the requests as one bundle
 abbrev pub bundles : List ℕ → List Requested → Requested
-bundles team qs = record { team = team; reading = Reading empty_sheet; command = record { net = truck; task = Bundle (map (λ q. requested_action q.command.task) qs) } }
+bundles team qs = record {
+  team = team;
+  reading = Reading empty_sheet;
+  command =
+      record { net = truck; task = Bundle (map (λ q. requested_action q.command.task) qs) };
+}

@@ -2,14 +2,17 @@
 use Rattle.std.specs.Prelude.{◌≡◌, Bool, true, false, ℕ, List, [], ◌∷◌, Option, Some, None}
 use Rattle.std.specs.Option.{option_map}
 use Rattle.std.specs.Ordering.{nat_cmp}
-use Rattle.catalogue.specs.Keyed.{put}
-use Rattle.catalogue.specs.Refusing.{first_refusal}
-use Rattle.catalogue.specs.Signals.{signal_tests}
+use Rattle.base.specs.Keyed.{put}
+use Rattle.base.specs.Refusing.{first_refusal}
+use Rattle.dbc_sheet.specs.Signals.{signal_tests}
 use Rattle.office_types.specs.Block.{is_spn}
 use Rattle.office_types.specs.Book.{by_net}
 use Rattle.office_types.specs.declared.book.SpnBook.{SpnBook}
 use Rattle.office_types.specs.declared.change.Change.{Change}
-use Rattle.office_types.specs.declared.change.Change.TheVariants.{SetHead, SetMessage, RemoveMessage, AddSignal, RemoveSignal, SetSpn, SetValues, SetBlock, SetSpnBlock, Hold, EnterSpn, SetApproval, ClearApprovals, AddRelease}
+use Rattle.office_types.specs.declared.change.Change.TheVariants.{SetHead, SetMessage, RemoveMessage, AddSignal}
+use Rattle.office_types.specs.declared.change.Change.TheVariants.{RemoveSignal, SetSpn, SetValues, SetBlock}
+use Rattle.office_types.specs.declared.change.Change.TheVariants.{SetSpnBlock, Hold, EnterSpn, SetApproval}
+use Rattle.office_types.specs.declared.change.Change.TheVariants.{ClearApprovals, AddRelease}
 use Rattle.office_types.specs.declared.change.Decision.{Decision}
 use Rattle.office_types.specs.declared.command.Command.{Command}
 use Rattle.office_types.specs.declared.state.Head.{Head}
@@ -108,7 +111,8 @@ is_release c = false
 -- A signal is added to a message that is there and doesn't refuse it.
 abbrev pub Fits : Change → Option Net → Type 0
 Fits (AddSignal message s) None = ⊥
-Fits (AddSignal message s) (Some net) = (m : LiveMessage) × (live_named net.live message ≡ Some m) × (first_refusal (signal_tests m.message.signals s) ≡ None)
+Fits (AddSignal message s) (Some net) = (m : LiveMessage) × (live_named net.live message ≡ Some m)
+    × (first_refusal (signal_tests m.message.signals s) ≡ None)
 Fits c net = Unit {0}
 
 -- so does each of the changes, after those before it

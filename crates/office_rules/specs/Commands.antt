@@ -2,7 +2,7 @@
 -- definition.
 use Rattle.std.specs.Prelude.{ℕ, ◌+◌, Bool, true, false, List, [], ◌∷◌, Option, Some}
 use Rattle.std.specs.List.{list_any}
-use Rattle.catalogue.specs.Refusing.{Test}
+use Rattle.base.specs.Refusing.{Test}
 use Rattle.office_types.specs.declared.book.SpnBook.{SpnBook}
 use Rattle.office_types.specs.declared.command.Action.{Action}
 use Rattle.office_types.specs.declared.command.Action.TheVariants as act
@@ -19,7 +19,8 @@ use Rattle.office_rules.specs.Opening.{add_node, add_node_tests, grant, grant_te
 use Rattle.office_rules.specs.Outcome.{Outcome, entered, no_entries, on_net}
 use Rattle.office_rules.specs.Retiring.{retire, retire_tests}
 use Rattle.office_rules.specs.Reviewing.{approve, reject, release, release_tests, review_tests, submit, submit_tests}
-use Rattle.office_rules.specs.Signals.{remove_signal, remove_signal_tests, set_values, set_values_tests, take_bits, take_bits_tests, take_spn, take_spn_tests}
+use Rattle.office_rules.specs.Signals.{remove_signal, remove_signal_tests, set_values, set_values_tests, take_bits}
+use Rattle.office_rules.specs.Signals.{take_bits_tests, take_spn, take_spn_tests}
 
 -- an action on the network of this name, which may not be there
 abbrev pub acted : List ℕ → List ℕ → Option Net → SpnBook → Action → Outcome
@@ -43,12 +44,17 @@ abbrev pub action_tests : List ℕ → List ℕ → Option Net → SpnBook → A
 action_tests team name net book (act.OpenNet c) = open_net_tests team net
 action_tests team name net book (act.Grant c) = grant_tests team net book c
 action_tests team name net book (act.AddNode node) = add_node_tests net node
-action_tests team name net book (act.TakeIdent c) = on_net net (λ n. take_ident_tests team (ident_facts n c.message.name c.form c.want) c)
+action_tests team name net book (act.TakeIdent c) =
+    on_net net (λ n. take_ident_tests team (ident_facts n c.message.name c.form c.want) c)
 action_tests team name net book (act.TakePgn c) = on_net net (λ n. take_pgn_tests team (group_facts n c.message.name) c)
-action_tests team name net book (act.TakeSpn c) = on_net net (λ n. take_spn_tests team name (message_facts n c.path.message) book c)
-action_tests team name net book (act.TakeBits c) = on_net net (λ n. take_bits_tests team (message_facts n c.path.message) c)
-action_tests team name net book (act.SetValues c) = on_net net (λ n. set_values_tests team (message_facts n c.path.message) c)
-action_tests team name net book (act.RemoveSignal path) = on_net net (λ n. remove_signal_tests team (message_facts n path.message) path)
+action_tests team name net book (act.TakeSpn c) =
+    on_net net (λ n. take_spn_tests team name (message_facts n c.path.message) book c)
+action_tests team name net book (act.TakeBits c) =
+    on_net net (λ n. take_bits_tests team (message_facts n c.path.message) c)
+action_tests team name net book (act.SetValues c) =
+    on_net net (λ n. set_values_tests team (message_facts n c.path.message) c)
+action_tests team name net book (act.RemoveSignal path) =
+    on_net net (λ n. remove_signal_tests team (message_facts n path.message) path)
 action_tests team name net book (act.Retire message) = on_net net (λ n. retire_tests team (message_facts n message))
 action_tests team name net book act.Submit = submit_tests net
 action_tests team name net book act.Approve = review_tests team net
@@ -98,7 +104,8 @@ reads_bodies (Bundle parts) = list_any action_reads_bodies parts
 abbrev pub parts_done : List ℕ → List ℕ → ℕ → Option Net → SpnBook → List Action → PartsOutcome
 parts_done team name number net book [] = AllDone [] net no_entries
 parts_done team name number net book (a ∷ parts) =
-    part_then number (acted team name net book a) (λ n e. parts_done team name (number + 1) (Some n) (entered book e) parts)
+    part_then number (acted team name net book a)
+    (λ n e. parts_done team name (number + 1) (Some n) (entered book e) parts)
 
 -- an import also takes what its file reads as
 abbrev pub done_task : List ℕ → List ℕ → FileReading → Option Net → SpnBook → Task → Outcome

@@ -1,5 +1,6 @@
 -- What a network has, as the tests of commands need it.
-use Rattle.std.specs.Prelude.{ℕ, Bool, true, false, ◌&&◌, ◌==◌, nat_le, List, [], ◌∷◌, ◌++◌, map, filter, find, length, Option, Some, None}
+use Rattle.std.specs.Prelude.{ℕ, Bool, true, false, ◌&&◌, ◌==◌, nat_le, List, [], ◌∷◌, ◌++◌, map, filter, find, length}
+use Rattle.std.specs.Prelude.{Option, Some, None}
 use Rattle.std.specs.List.{list_any, filter_map}
 use Rattle.std.specs.Str.{bytes_eq}
 use Rattle.can_id.specs.Ident.{dbc_number, ident_of}
@@ -8,12 +9,12 @@ use Rattle.can_id.specs.declared.form.IdentForm.{IdentForm}
 use Rattle.can_id.specs.declared.form.IdentForm.TheVariants.{Standard, Extended}
 use Rattle.can_id.specs.declared.ident.Ident.{Ident}
 use Rattle.can_id.specs.declared.ident.Ident.TheVariants as id
-use Rattle.catalogue.specs.Limits.{message_limit}
-use Rattle.catalogue.specs.Messages.{has_number}
-use Rattle.catalogue.specs.Named.{has_name}
-use Rattle.catalogue.specs.Sheet.{node_name}
-use Rattle.catalogue.specs.declared.node.Node.{Node}
-use Rattle.catalogue.specs.declared.sheet.Sheet.{Sheet}
+use Rattle.dbc_words.specs.Limits.{message_limit}
+use Rattle.dbc_words.specs.Named.{has_name}
+use Rattle.dbc_sheet.specs.Messages.{has_number}
+use Rattle.dbc_sheet.specs.Sheet.{node_name}
+use Rattle.dbc_sheet.specs.declared.node.Node.{Node}
+use Rattle.dbc_sheet.specs.declared.sheet.Sheet.{Sheet}
 use Rattle.office_types.specs.Block.{Range, in_block, same_form, have_common}
 use Rattle.office_types.specs.declared.block.Block.{Block}
 use Rattle.office_types.specs.declared.block.BlockForm.{BlockForm}
@@ -150,7 +151,8 @@ pub record MessageFacts : Type 0 where
   pub found : Option LiveMessage
 
 abbrev pub message_facts : Net → List ℕ → MessageFacts
-message_facts net name = record { phase = net.head.phase; nodes = net.head.frame.nodes; found = live_named net.live name }
+message_facts net name =
+    record { phase = net.head.phase; nodes = net.head.frame.nodes; found = live_named net.live name }
 
 -- it has as many live messages as a network may have
 abbrev pub is_full : Net → Bool

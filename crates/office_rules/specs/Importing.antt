@@ -1,21 +1,22 @@
 -- Importing a file: its new messages are added, unless one of its messages is refused.
-use Rattle.std.specs.Prelude.{ℕ, ◌+◌, Bool, true, not, ◌||◌, ◌==◌, nat_lt, List, [], ◌∷◌, ◌++◌, map, filter, length, Option, Some, None, if◌then◌else◌}
+use Rattle.std.specs.Prelude.{ℕ, ◌+◌, Bool, true, not, ◌||◌, ◌==◌, nat_lt, List, [], ◌∷◌, ◌++◌, map, filter, length}
+use Rattle.std.specs.Prelude.{Option, Some, None, if◌then◌else◌}
 use Rattle.std.specs.List.{list_any, flat_map}
+use Rattle.base.specs.Refusing.{Test}
 use Rattle.bitlayout.specs.Clash.{first_clash_of}
 use Rattle.bitlayout.specs.declared.clash.Clash.{Clash}
 use Rattle.can_id.specs.J1939.{fields_of, pgn_of}
 use Rattle.can_id.specs.declared.ident.Ident.{Ident}
 use Rattle.can_id.specs.declared.ident.Ident.TheVariants as id
-use Rattle.catalogue.specs.Fault.{clash_code, code_number}
-use Rattle.catalogue.specs.Limits.{message_limit, roster_limit}
-use Rattle.catalogue.specs.Messages.{number_of}
-use Rattle.catalogue.specs.Named.{has_name}
-use Rattle.catalogue.specs.Refusing.{Test}
-use Rattle.catalogue.specs.Same.{same_message}
-use Rattle.catalogue.specs.Sheet.{node_name, table_name}
-use Rattle.catalogue.specs.Signals.{places_of}
-use Rattle.catalogue.specs.declared.message.Message.{Message}
-use Rattle.catalogue.specs.declared.sheet.Sheet.{Sheet}
+use Rattle.dbc_words.specs.Fault.{clash_code, code_number}
+use Rattle.dbc_words.specs.Limits.{message_limit, node_limit, table_limit}
+use Rattle.dbc_words.specs.Named.{has_name}
+use Rattle.dbc_sheet.specs.Messages.{number_of}
+use Rattle.dbc_sheet.specs.Same.{same_message}
+use Rattle.dbc_sheet.specs.Sheet.{node_name, table_name}
+use Rattle.dbc_sheet.specs.Signals.{places_of}
+use Rattle.dbc_sheet.specs.declared.message.Message.{Message}
+use Rattle.dbc_sheet.specs.declared.sheet.Sheet.{Sheet}
 use Rattle.office_types.specs.PlainName.{is_office}
 use Rattle.office_types.specs.State.{by_number}
 use Rattle.office_types.specs.declared.block.BlockForm.TheVariants.{Std, Ext, Pgn}
@@ -55,7 +56,8 @@ is_live_so net m = list_any (λ l. same_message l.message m) net.live
 abbrev pub may_bring : List ℕ → Net → Ident → Bool
 may_bring team net (id.Std n) = is_office team || lies_in n (blocks_of net.blocks team Std)
 may_bring team net (id.Ext n) =
-    is_office team || (lies_in n (blocks_of net.blocks team Ext) || lies_in (pgn_of (fields_of n)) (blocks_of net.blocks team Pgn))
+    is_office team || (lies_in n (blocks_of net.blocks team Ext) || lies_in (pgn_of (fields_of n))
+    (blocks_of net.blocks team Pgn))
 
 abbrev pub message_import_tests : List ℕ → Net → Message → List (Test Refusal)
 message_import_tests team net m =
@@ -110,12 +112,12 @@ spns_of ms = filter (λ n. not (n == 0)) (flat_map (λ m. map (λ s. s.spn) m.si
 abbrev pub spns_entered : Net → Sheet → Entries
 spns_entered net s = record no_entries { numbers = spns_of (new_messages net s.messages) }
 
--- a limit of the catalogue would be passed
+-- a limit of a sheet would be passed
 abbrev pub is_too_large : Net → Sheet → Bool
 is_too_large net s =
     nat_lt message_limit (length net.live + length (new_messages net s.messages))
-    || (nat_lt roster_limit (length net.head.frame.nodes + length (new_named node_name net.head.frame.nodes s.nodes))
-    || nat_lt roster_limit (length net.head.frame.tables + length (new_named table_name net.head.frame.tables s.tables)))
+    || (nat_lt node_limit (length net.head.frame.nodes + length (new_named node_name net.head.frame.nodes s.nodes))
+    || nat_lt table_limit (length net.head.frame.tables + length (new_named table_name net.head.frame.tables s.tables)))
 
 abbrev pub sheet_import_tests : List ℕ → Net → Sheet → List (Test Refusal)
 sheet_import_tests team net s =

@@ -1,13 +1,13 @@
 -- What every office keeps: a record for each part of a network, one for the book, and one for the whole.
 use Rattle.std.specs.Prelude.{◌≡◌, ◌≤◌, ◌⊎◌, true, false, ℕ, List, [], length, All, AllPairs, Contains, IfSome, is_some}
 use Rattle.std.specs.List.Sorted.{IsStrictlySortedBy}
+use Rattle.base.specs.Keyed.{text_cmp}
 use Rattle.can_id.specs.Ident.{IsIdentifier}
 use Rattle.can_id.specs.declared.ident.Ident.{Ident}
-use Rattle.catalogue.specs.Form.{IsSheet}
-use Rattle.catalogue.specs.Keyed.{text_cmp}
-use Rattle.catalogue.specs.Sheet.{IsClearSheet}
-use Rattle.catalogue.specs.declared.message.Message.{Message}
-use Rattle.catalogue.specs.declared.sheet.Sheet.{Sheet}
+use Rattle.dbc_sheet.specs.Form.{IsSheet}
+use Rattle.dbc_sheet.specs.Sheet.{IsClearSheet}
+use Rattle.dbc_sheet.specs.declared.message.Message.{Message}
+use Rattle.dbc_sheet.specs.declared.sheet.Sheet.{Sheet}
 use Rattle.office_types.specs.Block.{IsRange, have_common, is_spn, same_form}
 use Rattle.office_types.specs.Book.{AreUsed, by_net}
 use Rattle.office_types.specs.PlainName.{IsPlainName}

@@ -1,7 +1,7 @@
 -- Lists in the order of a key, with several things put into them.
 use Rattle.std.specs.Prelude.{Bool, true, false, List, [], ◌∷◌}
 use Rattle.std.specs.declared.cmp.Ordering.{Ordering}
-use Rattle.catalogue.specs.Keyed.{put}
+use Rattle.base.specs.Keyed.{put}
 
 -- the list with each of them where its key belongs, in place of a thing of that key
 abbrev pub put_all : {A : Type 0} → (A → A → Ordering) → List A → List A → List A

@@ -1,11 +1,11 @@
 -- Taking an identifier or a parameter group for a new message.
 use Rattle.std.specs.Prelude.{ℕ, not, ◌&&◌, List, [], ◌∷◌, ◌++◌, Option, Some, None, is_none, unwrap_or}
+use Rattle.base.specs.Keyed.{put}
+use Rattle.base.specs.Refusing.{Test}
 use Rattle.can_id.specs.Ident.{ident_of}
 use Rattle.can_id.specs.J1939.{fields_with, number_of}
 use Rattle.can_id.specs.declared.ident.Ident.{Ident}
 use Rattle.can_id.specs.declared.ident.Ident.TheVariants as id
-use Rattle.catalogue.specs.Keyed.{put}
-use Rattle.catalogue.specs.Refusing.{Test}
 use Rattle.office_types.specs.Block.{block_form}
 use Rattle.office_types.specs.Command.{group_form}
 use Rattle.office_types.specs.Free.{has_form, least_free, number_form}
@@ -21,7 +21,8 @@ use Rattle.office_types.specs.declared.refusal.Refusal.TheVariants as no
 use Rattle.office_types.specs.declared.reply.Reply.TheVariants.{Number}
 use Rattle.office_types.specs.declared.state.LiveMessage.{LiveMessage}
 use Rattle.office_types.specs.declared.state.Net.{Net}
-use Rattle.office_rules.specs.Facts.{NumberFacts, ident_facts, group_facts, is_j1939, in_review, knows_node, blocks_of, lies_in}
+use Rattle.office_rules.specs.Facts.{NumberFacts, ident_facts, group_facts, is_j1939, in_review, knows_node, blocks_of}
+use Rattle.office_rules.specs.Facts.{lies_in}
 use Rattle.office_rules.specs.Lists.{none_of}
 use Rattle.office_rules.specs.Outcome.{no_entries, Outcome, Changing, when, on_net, unless, given_or}
 
@@ -55,7 +56,8 @@ number_given team facts c = elim c.want [
 abbrev pub want_tests : List ℕ → NumberFacts → TakeIdent → List (Test Refusal)
 want_tests team facts c = elim c.want [
   | Some n ↦
-      when (not (has_form (number_form c.form) n && lies_in n (blocks_of facts.blocks team (block_form c.form)))) no.OutsideBlock
+      when (not (has_form (number_form c.form) n && lies_in n (blocks_of facts.blocks team (block_form c.form))))
+      no.OutsideBlock
       ∷ when facts.want_live no.IdentTaken
       ∷ when facts.want_held no.Held ∷ []
   | None ↦ when (is_none (number_given team facts c)) no.BlockFull ∷ []

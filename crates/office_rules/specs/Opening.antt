@@ -1,10 +1,10 @@
 -- Opening a network, granting a block, adding a node.
 use Rattle.std.specs.Prelude.{ℕ, Bool, not, ◌&&◌, nat_le, List, [], ◌∷◌, ◌++◌, length, Option, is_some, if◌then◌else◌}
-use Rattle.catalogue.specs.Keyed.{put}
-use Rattle.catalogue.specs.Limits.{roster_limit}
-use Rattle.catalogue.specs.Refusing.{Test}
-use Rattle.catalogue.specs.Sheet.{empty_sheet}
-use Rattle.catalogue.specs.declared.node.Node.{Node}
+use Rattle.base.specs.Keyed.{put}
+use Rattle.base.specs.Refusing.{Test}
+use Rattle.dbc_words.specs.Limits.{node_limit}
+use Rattle.dbc_sheet.specs.Sheet.{empty_sheet}
+use Rattle.dbc_sheet.specs.declared.node.Node.{Node}
 use Rattle.office_types.specs.Block.{is_spn, same_form}
 use Rattle.office_types.specs.PlainName.{is_office}
 use Rattle.office_types.specs.State.{by_first}
@@ -54,7 +54,8 @@ with_block net g = record net { blocks = put by_first g net.blocks }
 
 -- the block of suspect parameter numbers, which goes to the book
 abbrev pub spn_entry : List ℕ → Grant → Entries
-spn_entry name c = record no_entries { blocks = record { net = name; team = c.team; first = c.block.first; last = c.block.last } ∷ [] }
+spn_entry name c = record no_entries
+    { blocks = record { net = name; team = c.team; first = c.block.first; last = c.block.last } ∷ [] }
 
 abbrev pub granted : List ℕ → Net → Grant → Outcome
 granted name net c =
@@ -71,11 +72,14 @@ add_node_tests net name =
     on_net net (λ n.
     when (in_review n.head.phase) no.InReview
     ∷ when (has_node n.head.frame.nodes name) no.NameTaken
-    ∷ when (nat_le roster_limit (length n.head.frame.nodes)) no.TooMany ∷ [])
+    ∷ when (nat_le node_limit (length n.head.frame.nodes)) no.TooMany ∷ [])
 
 abbrev pub with_node : Net → Node → Net
 with_node net node =
-    record net { head = record net.head { frame = record net.head.frame { nodes = net.head.frame.nodes ++ node ∷ [] } } }
+    record net {
+      head = record net.head
+          { frame = record net.head.frame { nodes = net.head.frame.nodes ++ node ∷ [] } };
+    }
 
 abbrev pub add_node : Option Net → List ℕ → Outcome
 add_node net name =

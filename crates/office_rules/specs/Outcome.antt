@@ -2,7 +2,7 @@
 -- where none does.
 use Rattle.std.specs.Prelude.{Bool, List, [], ◌∷◌, ℕ, Option, Some, None, is_none}
 use Rattle.std.specs.Ordering.{nat_cmp}
-use Rattle.catalogue.specs.Refusing.{Test, first_refusal}
+use Rattle.base.specs.Refusing.{Test, first_refusal}
 use Rattle.office_types.specs.Book.{by_net}
 use Rattle.office_types.specs.declared.book.SpnBlock.{SpnBlock}
 use Rattle.office_types.specs.declared.book.SpnBook.{SpnBook}

@@ -1,7 +1,7 @@
 -- The profile under which an arrival came: it says which texts read as a sheet.
 use Rattle.std.specs.Prelude.{ℕ, ◌≤◌, List, All}
 use Rattle.dbc_grammar.specs.Reads.{Reads}
-use Rattle.catalogue.specs.declared.sheet.Sheet.{Sheet}
+use Rattle.dbc_sheet.specs.declared.sheet.Sheet.{Sheet}
 
 -- Under the first profile no message was longer than 64 bytes. The second one has the lengths of today.
 pub data Profile : Type 0 where

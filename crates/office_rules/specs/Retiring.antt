@@ -1,8 +1,8 @@
 -- Taking a live message out: its number is held for good where a release of the network has it, else it is free.
 use Rattle.std.specs.Prelude.{ℕ, not, List, [], filter, Option, if◌then◌else◌}
+use Rattle.base.specs.Keyed.{put}
+use Rattle.base.specs.Refusing.{Test}
 use Rattle.can_id.specs.declared.ident.Ident.{Ident}
-use Rattle.catalogue.specs.Keyed.{put}
-use Rattle.catalogue.specs.Refusing.{Test}
 use Rattle.office_types.specs.State.{by_ident}
 use Rattle.office_types.specs.declared.refusal.Refusal.{Refusal}
 use Rattle.office_types.specs.declared.reply.Reply.TheVariants.{Done}

@@ -1,8 +1,8 @@
 -- Reviews and releases.
 use Rattle.std.specs.Prelude.{ℕ, ◌+◌, not, nat_lt, nat_le, List, [], ◌∷◌, ◌++◌, length, Option}
-use Rattle.catalogue.specs.Keyed.{put, text_cmp}
-use Rattle.catalogue.specs.Refusing.{Test}
-use Rattle.catalogue.specs.declared.sheet.Sheet.{Sheet}
+use Rattle.base.specs.Keyed.{put, text_cmp}
+use Rattle.base.specs.Refusing.{Test}
+use Rattle.dbc_sheet.specs.declared.sheet.Sheet.{Sheet}
 use Rattle.office_types.specs.PlainName.{is_office}
 use Rattle.office_types.specs.State.{sheet_of}
 use Rattle.office_types.specs.declared.refusal.Refusal.{Refusal}

@@ -1,27 +1,29 @@
 -- Commands on a live message's signals. They read the phase, the nodes, the named message with its owner, and the book,
 -- and nothing else of the network.
-use Rattle.std.specs.Prelude.{ℕ, Bool, not, ◌&&◌, nat_lt, nat_le, List, [], ◌∷◌, ◌++◌, length, Option, Some, None, is_some, is_none}
+use Rattle.std.specs.Prelude.{ℕ, Bool, not, ◌&&◌, nat_lt, nat_le, List, [], ◌∷◌, ◌++◌, length, Option, Some, None}
+use Rattle.std.specs.Prelude.{is_some, is_none}
 use Rattle.std.specs.List.{list_any, list_all}
 use Rattle.std.specs.Str.{bytes_eq}
+use Rattle.base.specs.Refusing.{Test}
 use Rattle.bitlayout.specs.Bits.{is_inside}
 use Rattle.bitlayout.specs.Clash.{first_clash_of}
 use Rattle.bitlayout.specs.Mux.{is_multiplexor, is_under}
 use Rattle.bitlayout.specs.Start.{place_from, least_start_of}
 use Rattle.bitlayout.specs.declared.place.Place.{Place}
-use Rattle.catalogue.specs.Limits.{roster_limit, value_text_limit}
-use Rattle.catalogue.specs.Named.{has_name}
-use Rattle.catalogue.specs.Refusing.{Test}
-use Rattle.catalogue.specs.Signals.{has_multiplexor, at_signal, signal_is_multiplexor, places_of, signal_name, without_signal}
-use Rattle.catalogue.specs.declared.signal.Signal.{Signal}
-use Rattle.catalogue.specs.declared.value_texts.ValueText.{ValueText}
-use Rattle.catalogue.specs.declared.value_type.ValueType.TheVariants.{Integer}
+use Rattle.dbc_words.specs.Limits.{signal_limit, value_text_limit}
+use Rattle.dbc_words.specs.Named.{has_name}
+use Rattle.dbc_words.specs.declared.value_type.ValueType.TheVariants.{Integer}
+use Rattle.dbc_sheet.specs.Signals.{has_multiplexor, at_signal, signal_is_multiplexor, places_of, signal_name}
+use Rattle.dbc_sheet.specs.Signals.{without_signal}
+use Rattle.dbc_sheet.specs.declared.signal.Signal.{Signal}
+use Rattle.dbc_sheet.specs.declared.value_texts.ValueText.{ValueText}
 use Rattle.office_types.specs.Free.{is_taken, least_free}
 use Rattle.office_types.specs.declared.book.SpnBook.{SpnBook}
 use Rattle.office_types.specs.declared.command.SetValues.{SetValues}
 use Rattle.office_types.specs.declared.command.SignalPath.{SignalPath}
 use Rattle.office_types.specs.declared.command.TakeBits.{TakeBits}
 use Rattle.office_types.specs.declared.command.TakeSpn.{TakeSpn}
-use Rattle.office_types.specs.declared.free.Form.TheVariants.{Spn}
+use Rattle.office_types.specs.declared.free.NumberForm.TheVariants.{Spn}
 use Rattle.office_types.specs.declared.refusal.Refusal.{Refusal}
 use Rattle.office_types.specs.declared.refusal.Refusal.TheVariants as no
 use Rattle.office_types.specs.declared.reply.Reply.TheVariants.{Done, Number, Start}
@@ -30,7 +32,8 @@ use Rattle.office_types.specs.declared.state.Net.{Net}
 use Rattle.office_rules.specs.Facts.{MessageFacts, message_facts, in_review, has_node, live_named, spn_blocks_of}
 use Rattle.office_rules.specs.Lists.{none_of}
 use Rattle.office_rules.specs.Numbers.{with_message}
-use Rattle.office_rules.specs.Outcome.{Entries, no_entries, Outcome, Changing, when, on_net, requested_of, unless, given_or}
+use Rattle.office_rules.specs.Outcome.{Entries, no_entries, Outcome, Changing, when, on_net, requested_of, unless}
+use Rattle.office_rules.specs.Outcome.{given_or}
 
 -- The network is in draft, the message is live and the team's own, and is tested further.
 abbrev pub on_message : List ℕ → MessageFacts → (LiveMessage → List (Test Refusal)) → List (Test Refusal)
@@ -109,7 +112,7 @@ take_bits_tests team facts c =
     on_message team facts (λ m.
     when (has_signal m c.path.signal) no.NameTaken
     ∷ when (not (list_all (has_node facts.nodes) c.receivers)) no.NoNode
-    ∷ when (nat_le roster_limit (length m.message.signals)) no.TooMany
+    ∷ when (nat_le signal_limit (length m.message.signals)) no.TooMany
     ∷ when (is_multiplexor c.mux && has_multiplexor m.message.signals) no.TwoMultiplexors
     ∷ when (is_under c.mux && not (has_multiplexor m.message.signals)) no.NoMultiplexor
     ∷ start_tests (places_of m.message.signals) m.message.length c)
@@ -156,12 +159,14 @@ with_values m signal values = with_signals m (at_signal (λ s. record s { values
 abbrev pub set_values : List ℕ → Option Net → SetValues → Outcome
 set_values team net c =
     unless (on_net net (λ n. set_values_tests team (message_facts n c.path.message) c))
-    (on_found net c.path.message (λ n m. Changing Done (with_message n (with_values m c.path.signal c.values)) no_entries))
+    (on_found net c.path.message
+    (λ n m. Changing Done (with_message n (with_values m c.path.signal c.values)) no_entries))
 
 -- Take a signal out; not the multiplexor while another one is multiplexed.
 
 abbrev pub is_needed : List Signal → List ℕ → Bool
-is_needed signals name = list_any (λ s. bytes_eq s.name name && signal_is_multiplexor s) signals && list_any (λ s. is_under s.mux) signals
+is_needed signals name = list_any (λ s. bytes_eq s.name name && signal_is_multiplexor s) signals
+    && list_any (λ s. is_under s.mux) signals
 
 abbrev pub remove_signal_tests : List ℕ → MessageFacts → SignalPath → List (Test Refusal)
 remove_signal_tests team facts path =

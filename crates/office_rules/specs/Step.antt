@@ -1,8 +1,9 @@
 -- Steps of the office, and runs of them.
-use Rattle.std.specs.Prelude.{◌≡◌, ℕ, ◌≤◌, true, false, List, [], ◌∷◌, ◌++◌, length, take, Option, Some, None, Contains, find, map}
+use Rattle.std.specs.Prelude.{◌≡◌, ℕ, ◌≤◌, true, false, List, [], ◌∷◌, ◌++◌, length, take, Option, Some, None, Contains}
+use Rattle.std.specs.Prelude.{find, map}
 use Rattle.std.specs.Str.{bytes_eq}
-use Rattle.catalogue.specs.Keyed.{put}
-use Rattle.catalogue.specs.declared.sheet.Sheet.{Sheet}
+use Rattle.base.specs.Keyed.{put}
+use Rattle.dbc_sheet.specs.declared.sheet.Sheet.{Sheet}
 use Rattle.office_types.specs.State.{by_name}
 use Rattle.office_types.specs.declared.command.Command.{Command}
 use Rattle.office_types.specs.declared.command.Task.{Task}
@@ -63,11 +64,12 @@ abbrev pub step_outcome : Office → List ℕ → FileReading → Command → Ou
 step_outcome o team reading c = outcome team reading (net_named o c.net) o.book c
 
 -- The team's command that came under the profile is answered so, and leaves the office so.
-pub record Step (p : Profile) (before : Office) (team : List ℕ) (c : Command) (reply : Reply) (after : Office) : Type 0 where
-  pub reading : FileReading
-  pub read : IsRead p (file_wanted (net_named before c.net) c.task) reading
-  pub answered : reply ≡ reply_of (step_outcome before team reading c)
-  pub left : after ≡ office_after before (step_outcome before team reading c)
+pub record Step (p : Profile) (before : Office) (team : List ℕ) (c : Command) (reply : Reply) (after : Office) : Type 0
+  where
+    pub reading : FileReading
+    pub read : IsRead p (file_wanted (net_named before c.net) c.task) reading
+    pub answered : reply ≡ reply_of (step_outcome before team reading c)
+    pub left : after ≡ office_after before (step_outcome before team reading c)
 
 -- a command with its team and its profile
 abbrev pub TeamCommand : Type 0
@@ -85,7 +87,8 @@ abbrev pub requested_now : List (List ℕ × Command) → List TeamCommand
 requested_now requests = map (λ q. (Two, q.0, q.1)) requests
 
 -- The commands were run: their replies were added to the earlier ones.
-pub record HasRun (before : Office) (requests : List (List ℕ × Command)) (earlier replies : List Reply) (after : Office) : Type 0 where
+pub record HasRun (before : Office) (requests : List (List ℕ × Command)) (earlier replies : List Reply)
+    (after : Office) : Type 0 where
   pub reported : List Reply
   pub added : replies ≡ earlier ++ reported
   pub run : Run before (requested_now requests) reported after

@@ -1,5 +1,7 @@
 -- The bytes that a written value stands for.
-use Rattle.std.proofs.Common.{◌≡◌, ◌≢◌, ◌↔◌, ◌+◌, ◌*◌, ◌<◌, ◌&&◌, ◌++◌, nat_lt, true, false, ℕ, Bool, List, [], ◌∷◌, Option, Some, None, refl, sym, ap, ◌∙◌, subst, arith, inl, inr, ◌⊎◌, append_assoc, append-nil, length}
+use Rattle.std.proofs.Common.{◌≡◌, ◌≢◌, ◌↔◌, ◌+◌, ◌*◌, ◌<◌, ◌&&◌, ◌++◌, nat_lt, true, false, ℕ, Bool, List, [], ◌∷◌}
+use Rattle.std.proofs.Common.{Option, Some, None, refl, sym, ap, ◌∙◌, subst, arith, inl, inr, ◌⊎◌, append_assoc}
+use Rattle.std.proofs.Common.{append-nil, length}
 use Rattle.std.specs.Option.{option_map}
 use Rattle.std.specs.Char.{digit_value}
 use Rattle.std.proofs.lemmas.Bool.{ne_eqb}
@@ -19,7 +21,8 @@ digits_back : (high low : ℕ) → are_digits high low ≡ true → (digit_value
 digits_back high low e = (grind (arith, nat_tests), grind (arith, nat_tests))
 
 -- what follows a byte that stands for itself, or an escape
-more_of : (b : ℕ) (found : Option (List ℕ)) (bytes : List ℕ) → option_map (λ more. b ∷ more) found ≡ Some bytes → (more : List ℕ) × (found ≡ Some more) × (bytes ≡ b ∷ more)
+more_of : (b : ℕ) (found : Option (List ℕ)) (bytes : List ℕ) → option_map (λ more. b ∷ more) found ≡ Some bytes
+    → (more : List ℕ) × (found ≡ Some more) × (bytes ≡ b ∷ more)
 more_of b None bytes e = cc
 more_of b (Some more) bytes e = (more, refl, cc)
 
@@ -59,7 +62,8 @@ mutual
       elim (true_or_false (are_digits high low)) [
         | inl both ↦ let h = digits_back high low both in
             let m = more_of (16 * digit_value high + digit_value low) (unescaped written) bytes (rw both at e) in
-            along (37 ∷ high ∷ low ∷ written) ((16 * digit_value high + digit_value low) ∷ m.0) bytes (sym m.2) (escape h.0 h.1 (stands_from written m.0 m.1))
+            along (37 ∷ high ∷ low ∷ written) ((16 * digit_value high + digit_value low) ∷ m.0) bytes (sym m.2)
+            (escape h.0 h.1 (stands_from written m.0 m.1))
         | inr other ↦ let none : None ≡ Some bytes = rw other at e in cc
       ]
 
@@ -68,38 +72,51 @@ pub escapes_law : (written bytes : List ℕ) → (StandsFor written bytes ↔ (u
 escapes_law written bytes = (found_from, stands_from written bytes)
 
 -- the same of an answer
-pub meant : (written : List ℕ) (found : Option (List ℕ)) → found ≡ unescaped written → (bytes : List ℕ) → (StandsFor written bytes ↔ (found ≡ Some bytes))
+pub meant : (written : List ℕ) (found : Option (List ℕ)) → found ≡ unescaped written → (bytes : List ℕ)
+    → (StandsFor written bytes ↔ (found ≡ Some bytes))
 meant written found e bytes = rw e (escapes_law written bytes)
 
 -- an escape that was read
-pub escape_read : (after others rest : List ℕ) (high low byte : ℕ) → after ≡ high ∷ others → others ≡ low ∷ rest → ((digit_value high < 16) × (digit_value low < 16)) × (byte ≡ 16 * digit_value high + digit_value low) → unescaped_digits after ≡ option_map (λ bytes. byte ∷ bytes) (unescaped rest)
+pub escape_read : (after others rest : List ℕ) (high low byte : ℕ) → after ≡ high ∷ others → others ≡ low ∷ rest
+    → ((digit_value high < 16) × (digit_value low < 16)) × (byte ≡ 16 * digit_value high + digit_value low)
+    → unescaped_digits after ≡ option_map (λ bytes. byte ∷ bytes) (unescaped rest)
 escape_read after others rest high low byte first second h =
     rw (first, second, h.1, digits_yes high low h.0.0 h.0.1) refl
 
 -- one more byte at the end of those read so far
-one_more : (bytes : List ℕ) (b : ℕ) (found : Option (List ℕ)) → option_map (λ more. bytes ++ more) (option_map (λ more. b ∷ more) found) ≡ option_map (λ more. (bytes ++ (b ∷ [])) ++ more) found
+one_more : (bytes : List ℕ) (b : ℕ) (found : Option (List ℕ))
+    → option_map (λ more. bytes ++ more) (option_map (λ more. b ∷ more) found)
+    ≡ option_map (λ more. (bytes ++ (b ∷ [])) ++ more) found
 one_more bytes b None = refl
 one_more bytes b (Some more) = ap Some (sym (append_assoc bytes (b ∷ []) more))
 
 -- a byte was read that stands for itself
-pub itself_more : (all : Option (List ℕ)) (bytes left after : List ℕ) (b : ℕ) → all ≡ option_map (λ more. bytes ++ more) (unescaped left) → left ≡ b ∷ after → b ≢ 37 → all ≡ option_map (λ more. (bytes ++ (b ∷ [])) ++ more) (unescaped after)
+pub itself_more : (all : Option (List ℕ)) (bytes left after : List ℕ) (b : ℕ)
+    → all ≡ option_map (λ more. bytes ++ more) (unescaped left) → left ≡ b ∷ after → b ≢ 37
+    → all ≡ option_map (λ more. (bytes ++ (b ∷ [])) ++ more) (unescaped after)
 itself_more all bytes left after b h first ne =
     let step : unescaped left ≡ option_map (λ more. b ∷ more) (unescaped after) = rw (first, ne_eqb b 37 ne) refl in
     h ∙ (ap (option_map (λ more. bytes ++ more)) step ∙ one_more bytes b (unescaped after))
 
 -- an escape was read
-pub escape_more : (all : Option (List ℕ)) (bytes left after following : List ℕ) (first b : ℕ) → all ≡ option_map (λ more. bytes ++ more) (unescaped left) → left ≡ first ∷ after → first ≡ 37 → unescaped_digits after ≡ option_map (λ more. b ∷ more) (unescaped following) → all ≡ option_map (λ more. (bytes ++ (b ∷ [])) ++ more) (unescaped following)
+pub escape_more : (all : Option (List ℕ)) (bytes left after following : List ℕ) (first b : ℕ)
+    → all ≡ option_map (λ more. bytes ++ more) (unescaped left) → left ≡ first ∷ after → first ≡ 37
+    → unescaped_digits after ≡ option_map (λ more. b ∷ more) (unescaped following)
+    → all ≡ option_map (λ more. (bytes ++ (b ∷ [])) ++ more) (unescaped following)
 escape_more all bytes left after following first b h cut percent read =
     let step : unescaped left ≡ option_map (λ more. b ∷ more) (unescaped following) = rw (cut, percent) read in
     h ∙ (ap (option_map (λ more. bytes ++ more)) step ∙ one_more bytes b (unescaped following))
 
 -- no byte was read
-pub escape_stops : (all : Option (List ℕ)) (bytes left after : List ℕ) (first : ℕ) → all ≡ option_map (λ more. bytes ++ more) (unescaped left) → left ≡ first ∷ after → first ≡ 37 → unescaped_digits after ≡ None → None ≡ all
+pub escape_stops : (all : Option (List ℕ)) (bytes left after : List ℕ) (first : ℕ)
+    → all ≡ option_map (λ more. bytes ++ more) (unescaped left) → left ≡ first ∷ after → first ≡ 37
+    → unescaped_digits after ≡ None → None ≡ all
 escape_stops all bytes left after first h cut percent read =
     let step : unescaped left ≡ None = rw (cut, percent) read in
     sym (h ∙ ap (option_map (λ more. bytes ++ more)) step)
 
 -- all was read
-pub read_whole : (all : Option (List ℕ)) (bytes left : List ℕ) → all ≡ option_map (λ more. bytes ++ more) (unescaped left) → length left ≡ 0 → Some bytes ≡ all
+pub read_whole : (all : Option (List ℕ)) (bytes left : List ℕ)
+    → all ≡ option_map (λ more. bytes ++ more) (unescaped left) → length left ≡ 0 → Some bytes ≡ all
 read_whole all bytes [] h none = sym (h ∙ ap Some (append-nil bytes))
 read_whole all bytes (b ∷ left) h none = absurd (omega (arith, none))

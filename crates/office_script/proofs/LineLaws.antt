@@ -8,7 +8,8 @@ use Rattle.office_script.proofs.Parts.{Lacks, parts_lack, split_at_separator, sp
 use Rattle.office_script.specs.Lines.{lines_of, with_feeds, with_last_feed, lines_of_parts, AreLinesOf}
 
 -- a text is completed at its end
-with_last_feed_front : (front rest : List ℕ) → with_last_feed (front ++ (10 ∷ rest)) ≡ front ++ (10 ∷ with_last_feed rest)
+with_last_feed_front : (front rest : List ℕ) → with_last_feed (front ++ (10 ∷ rest)) ≡ front
+    ++ (10 ∷ with_last_feed rest)
 with_last_feed_front [] [] = refl
 with_last_feed_front [] (c ∷ rest) = refl
 with_last_feed_front (x ∷ []) rest = ap (λ bs. x ∷ bs) (with_last_feed_front [] rest)
@@ -20,7 +21,8 @@ with_last_feed_last x [] h = rw (ne_eqb x 10 (All-head (λ b. b ≢ 10) x [] h))
 with_last_feed_last x (y ∷ xs) h = ap (λ bs. x ∷ bs) (with_last_feed_last y xs (All-tail (λ b. b ≢ 10) x (y ∷ xs) h))
 
 -- the parts without an empty last one, each with a feed after it
-feeds_of_parts : (part : List ℕ) (parts : List (List ℕ)) → All (Lacks 10) (part ∷ parts) → with_feeds (lines_of_parts (part ∷ parts)) ≡ with_last_feed (join_with_byte 10 (part ∷ parts))
+feeds_of_parts : (part : List ℕ) (parts : List (List ℕ)) → All (Lacks 10) (part ∷ parts)
+    → with_feeds (lines_of_parts (part ∷ parts)) ≡ with_last_feed (join_with_byte 10 (part ∷ parts))
 feeds_of_parts [] [] h = refl
 feeds_of_parts (x ∷ xs) [] h = sym (with_last_feed_last x xs (All-head (Lacks 10) (x ∷ xs) [] h))
 feeds_of_parts part (next ∷ parts) h =
@@ -33,10 +35,12 @@ lack_without_last [] h = h
 lack_without_last ([] ∷ []) h = All-nil (Lacks 10)
 lack_without_last ((x ∷ xs) ∷ []) h = h
 lack_without_last (part ∷ next ∷ parts) h =
-    All-cons (Lacks 10) part (lines_of_parts (next ∷ parts)) (All-head (Lacks 10) part (next ∷ parts) h) (lack_without_last (next ∷ parts) (All-tail (Lacks 10) part (next ∷ parts) h))
+    All-cons (Lacks 10) part (lines_of_parts (next ∷ parts)) (All-head (Lacks 10) part (next ∷ parts) h)
+    (lack_without_last (next ∷ parts) (All-tail (Lacks 10) part (next ∷ parts) h))
 
 -- the same of any list of one part or more
-feeds_of_split : (parts : List (List ℕ)) → 0 < length parts → All (Lacks 10) parts → with_feeds (lines_of_parts parts) ≡ with_last_feed (join_with_byte 10 parts)
+feeds_of_split : (parts : List (List ℕ)) → 0 < length parts → All (Lacks 10) parts
+    → with_feeds (lines_of_parts parts) ≡ with_last_feed (join_with_byte 10 parts)
 feeds_of_split [] some h = absurd (omega (arith, some))
 feeds_of_split (part ∷ parts) some h = feeds_of_parts part parts h
 
@@ -45,12 +49,14 @@ lines_of_are : (text : List ℕ) → AreLinesOf text (lines_of text)
 lines_of_are text = record {
   apart = lack_without_last (slice_split (λ b. b == 10) text) (parts_lack 10 text);
   joined =
-      feeds_of_split (slice_split (λ b. b == 10) text) (omega (arith, length-slice_split (λ b. b == 10) text)) (parts_lack 10 text)
+      feeds_of_split (slice_split (λ b. b == 10) text) (omega (arith, length-slice_split (λ b. b == 10) text))
+      (parts_lack 10 text)
       ∙ ap with_last_feed (join_with_byte-slice_split 10 text);
 }
 
 -- the parts of lines with a feed after each are the lines, and an empty one
-split_feeds : (lines : List (List ℕ)) → All (Lacks 10) lines → slice_split (λ b. b == 10) (with_feeds lines) ≡ lines ++ ([] ∷ [])
+split_feeds : (lines : List (List ℕ)) → All (Lacks 10) lines → slice_split (λ b. b == 10) (with_feeds lines) ≡ lines
+    ++ ([] ∷ [])
 split_feeds [] h = refl
 split_feeds (line ∷ lines) h =
     split_at_separator 10 line (with_feeds lines) (All-head (Lacks 10) line lines h)
@@ -78,7 +84,8 @@ pub lines_law : (text : List ℕ) (lines : List (List ℕ)) → (AreLinesOf text
 lines_law text lines = (are_lines_of text lines, λ e. rw e (lines_of_are text))
 
 -- a part with another after it is a line
-before_more : (part : List ℕ) (parts : List (List ℕ)) → 0 < length parts → lines_of_parts (part ∷ parts) ≡ part ∷ lines_of_parts parts
+before_more : (part : List ℕ) (parts : List (List ℕ)) → 0 < length parts
+    → lines_of_parts (part ∷ parts) ≡ part ∷ lines_of_parts parts
 before_more part [] some = absurd (omega (arith, some))
 before_more part (next ∷ parts) some = refl
 

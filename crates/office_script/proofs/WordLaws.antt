@@ -28,10 +28,17 @@ pub words_law : (line : List ℕ) (words : List (List ℕ)) → (AreWordsOf line
 words_law line words = (are_words_of line words, λ e. rw e (words_of_are line))
 
 -- the request of a line's parts: what its text requests, under its key
-pub parts_make : (dash : Dash) (number : ℕ) (first second text word : List ℕ) (rest : List (List ℕ)) (key team : List ℕ) (requested : Requested) (copy : List ℕ) → words_of text ≡ word ∷ rest
-    → key_of dash number first ≡ Some key → plain_name_of second ≡ Some team → requested_by word rest ≡ Some requested → copy ≡ text
-    → request_of_words dash number (first ∷ second ∷ words_of text) ≡ Some (record { team = team; key = key; text = copy; requested = requested })
+pub parts_make : (dash : Dash) (number : ℕ) (first second text word : List ℕ) (rest : List (List ℕ)) (key team : List ℕ)
+    (requested : Requested) (copy : List ℕ) → words_of text ≡ word ∷ rest
+    → key_of dash number first ≡ Some key → plain_name_of second ≡ Some team → requested_by word rest ≡ Some requested
+    → copy ≡ text
+    → request_of_words dash number (first ∷ second ∷ words_of text)
+    ≡ Some (record { team = team; key = key; text = copy; requested = requested })
 parts_make dash number first second text word rest key team requested copy split is_key is_team requests same =
-    let joined : join_with_byte 32 (word ∷ rest) ≡ copy = ap (join_with_byte 32) (sym split) ∙ join_with_byte-slice_split 32 text ∙ sym same in
-    let made : request_of_words dash number (first ∷ second ∷ word ∷ rest) ≡ Some (record { team = team; key = key; text = join_with_byte 32 (word ∷ rest); requested = requested }) = rw (is_key, is_team, requests) refl in
-    ap (λ words. request_of_words dash number (first ∷ second ∷ words)) split ∙ made ∙ ap (λ (t : List ℕ). Some (record { team = team; key = key; text = t; requested = requested })) joined
+    let joined : join_with_byte 32 (word ∷ rest) ≡ copy = ap (join_with_byte 32) (sym split)
+    ∙ join_with_byte-slice_split 32 text ∙ sym same in
+    let made : request_of_words dash number (first ∷ second ∷ word ∷ rest)
+    ≡ Some (record { team = team; key = key; text = join_with_byte 32 (word ∷ rest); requested = requested }) =
+    rw (is_key, is_team, requests) refl in
+    ap (λ words. request_of_words dash number (first ∷ second ∷ words)) split ∙ made
+    ∙ ap (λ (t : List ℕ). Some (record { team = team; key = key; text = t; requested = requested })) joined

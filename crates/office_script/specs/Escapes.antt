@@ -1,5 +1,6 @@
 -- Written values, in which `%` and two hexadecimal digits stand for a byte.
-use Rattle.std.specs.Prelude.{◌≢◌, ◌==◌, if◌then◌else◌, ◌&&◌, ◌+◌, ◌*◌, ◌<◌, nat_lt, ℕ, List, [], ◌∷◌, Option, Some, None}
+use Rattle.std.specs.Prelude.{◌≢◌, ◌==◌, if◌then◌else◌, ◌&&◌, ◌+◌, ◌*◌, ◌<◌, nat_lt, ℕ, List, [], ◌∷◌, Option, Some}
+use Rattle.std.specs.Prelude.{None}
 use Rattle.std.specs.Option.{option_map}
 use Rattle.std.specs.Char.{digit_value}
 
@@ -8,13 +9,16 @@ use Rattle.std.specs.Char.{digit_value}
 pub data StandsFor : List ℕ → List ℕ → Type 0 where
   nothing : StandsFor [] []
   itself : {b : ℕ} {written bytes : List ℕ} → b ≢ 37 → StandsFor written bytes → StandsFor (b ∷ written) (b ∷ bytes)
-  escape : {high low : ℕ} {written bytes : List ℕ} → digit_value high < 16 → digit_value low < 16 → StandsFor written bytes → StandsFor (37 ∷ high ∷ low ∷ written) ((16 * digit_value high + digit_value low) ∷ bytes)
+  escape : {high low : ℕ} {written bytes : List ℕ} → digit_value high < 16 → digit_value low < 16
+      → StandsFor written bytes
+      → StandsFor (37 ∷ high ∷ low ∷ written) ((16 * digit_value high + digit_value low) ∷ bytes)
 
 abbrev mutual
   -- the bytes that a written value stands for, if it stands for any
   pub unescaped : List ℕ → Option (List ℕ)
   unescaped [] = Some []
-  unescaped (b ∷ written) = if b == 37 then unescaped_digits written else option_map (λ bytes. b ∷ bytes) (unescaped written)
+  unescaped (b ∷ written) = if b == 37 then unescaped_digits written else option_map (λ bytes. b ∷ bytes)
+      (unescaped written)
 
   -- the same of what follows a `%`
   pub unescaped_digits : List ℕ → Option (List ℕ)

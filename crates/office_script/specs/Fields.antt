@@ -20,10 +20,12 @@ AreFieldWords words fields = AllZip IsFieldWord words fields
 abbrev pub field_of : List ℕ → Option NamedValue
 field_of word =
     if list_any (λ b. b == 61) word
-    then option_map (λ value. record { name = before_first (λ b. b == 61) word; value = value }) (unescaped (after_first (λ b. b == 61) word))
+    then option_map (λ value. record { name = before_first (λ b. b == 61) word; value = value })
+    (unescaped (after_first (λ b. b == 61) word))
     else None
 
 -- the fields that words are, if each is one
 abbrev pub fields_of : List (List ℕ) → Option (List NamedValue)
 fields_of [] = Some []
-fields_of (word ∷ words) = option_and_then (λ field. option_map (λ fields. field ∷ fields) (fields_of words)) (field_of word)
+fields_of (word ∷ words) = option_and_then (λ field. option_map (λ fields. field ∷ fields) (fields_of words))
+    (field_of word)

@@ -48,8 +48,10 @@ pub record IsBundleRequest (text : List ℕ) (i : FileImport) (bytes : List ℕ)
 abbrev pub IsRequestFor : Files → List ℕ → Requested → Request → Type 0
 IsRequestFor files text (requested.Command c) request = (request.command ≡ c) × (request.content.items ≡ text)
 IsRequestFor files text (requested.Import i) request =
-    (bytes : List ℕ) × Gives (files i.file) bytes × (request.command ≡ record { net = i.net; task = task.Import bytes }) × (request.content.items ≡ text ++ (10 ∷ bytes))
-IsRequestFor files text (requested.Bundle i) request = (bytes : List ℕ) × Gives (files i.file) bytes × IsBundleRequest text i bytes request
+    (bytes : List ℕ) × Gives (files i.file) bytes × (request.command ≡ record { net = i.net; task = task.Import bytes })
+    × (request.content.items ≡ text ++ (10 ∷ bytes))
+IsRequestFor files text (requested.Bundle i) request = (bytes : List ℕ) × Gives (files i.file) bytes
+    × IsBundleRequest text i bytes request
 
 -- the arrival of what a line requests
 pub record IsArrivalOf (files : Files) (r : LineRequest) (a : Arrival) : Type 0 where

@@ -37,7 +37,8 @@ request_of dash number line = request_of_words dash number (words_of line)
 
 -- what the line of this number requests: nothing, or one thing; `None` if it is wrong
 abbrev pub requests_of_line : Dash → ℕ → List ℕ → Option (List LineRequest)
-requests_of_line dash number line = if says_nothing line then Some [] else option_map (λ r. r ∷ []) (request_of dash number line)
+requests_of_line dash number line =
+    if says_nothing line then Some [] else option_map (λ r. r ∷ []) (request_of dash number line)
 
 -- the file of a requested bundle: of a request, and of the line of this number
 abbrev pub requested_bundle : Requested → Option (List ℕ)
@@ -45,4 +46,5 @@ requested_bundle (requested.Bundle i) = Some i.file
 requested_bundle a = None
 
 abbrev pub bundle_file : Dash → ℕ → List ℕ → Option (List ℕ)
-bundle_file dash number line = if says_nothing line then None else option_and_then (λ r. requested_bundle r.requested) (request_of dash number line)
+bundle_file dash number line = if says_nothing line then None else option_and_then (λ r. requested_bundle r.requested)
+    (request_of dash number line)

@@ -24,7 +24,8 @@ use Rattle.office_script.specs.Requests.{requests_of_line}
 abbrev pub requests_of_lines : Dash → ℕ → List (List ℕ) → Option (List LineRequest)
 requests_of_lines dash number [] = Some []
 requests_of_lines dash number (line ∷ lines) =
-    option_and_then (λ here. option_map (λ rest. here ++ rest) (requests_of_lines dash (number + 1) lines)) (requests_of_line dash number line)
+    option_and_then (λ here. option_map (λ rest. here ++ rest) (requests_of_lines dash (number + 1) lines))
+    (requests_of_line dash number line)
 
 -- the lines of a script, from its first one, are right, and these are their arrivals with the bytes of the files
 pub record AreArrivalsOf (files : Files) (dash : Dash) (lines : List (List ℕ)) (arrivals : List Arrival) : Type 0 where
@@ -33,7 +34,8 @@ pub record AreArrivalsOf (files : Files) (dash : Dash) (lines : List (List ℕ))
   pub arrived : HaveArrived files requests arrivals
 
 -- the line of this number, from 1, is the first at which something is amiss: the lines before it have their arrivals
-pub record IsFirstAmiss (files : Files) (dash : Dash) (IsAmiss : ℕ → List ℕ → Type 0) (lines : List (List ℕ)) (number : ℕ) : Type 0 where
+pub record IsFirstAmiss (files : Files) (dash : Dash) (IsAmiss : ℕ → List ℕ → Type 0) (lines : List (List ℕ))
+    (number : ℕ) : Type 0 where
   pub before : List (List ℕ)
   pub line : List ℕ
   pub after : List (List ℕ)
@@ -80,12 +82,15 @@ pub record NamesUnreadable (files : Files) (dash : Dash) (path : List ℕ) (numb
 
 -- the fault is that of the first line at which something is amiss; out of memory states nothing
 abbrev pub IsScriptFault : Files → Dash → List ℕ → ScriptFault → Type 0
-IsScriptFault files dash text (script.BadLine number) = IsFirstAmiss files dash (IsWrong files dash) (lines_of text) number
-IsScriptFault files dash text (script.Unreadable path) = (number : ℕ) × IsFirstAmiss files dash (NamesUnreadable files dash path) (lines_of text) number
+IsScriptFault files dash text (script.BadLine number) =
+    IsFirstAmiss files dash (IsWrong files dash) (lines_of text) number
+IsScriptFault files dash text (script.Unreadable path) = (number : ℕ)
+    × IsFirstAmiss files dash (NamesUnreadable files dash path) (lines_of text) number
 IsScriptFault files dash text script.Memory = ⊤
 
 -- the line of this number is right, and these are its arrivals, one or none
-pub record AreArrivalsOfLine (files : Files) (dash : Dash) (number : ℕ) (line : List ℕ) (arrivals : List Arrival) : Type 0 where
+pub record AreArrivalsOfLine (files : Files) (dash : Dash) (number : ℕ) (line : List ℕ) (arrivals : List Arrival) : Type
+    0 where
   pub requests : List LineRequest
   pub requested : requests_of_line dash number line ≡ Some requests
   pub arrived : HaveArrived files requests arrivals

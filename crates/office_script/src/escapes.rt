@@ -20,7 +20,8 @@ fn hexadecimal_byte(high: u8, low: u8) -> Option<u8>
 /// The byte that the two hexadecimal digits after a `%` write, and what follows them.
 fn escaped_byte(after: &[u8]) -> Option<(u8, &[u8])>
     ensures first { MatchOption result (unescaped_digits after.now ≡ None)
-        (λ first. unescaped_digits after.now ≡ option_map (λ bytes. first.0 ∷ bytes) (unescaped first.1.now)) }
+        (λ first. unescaped_digits after.now ≡ option_map (λ bytes. first.0 ∷ bytes)
+        (unescaped first.1.now)) }
     ensures shorter { IfSome result (λ first. length first.1.now < length after.now) }
 {
     let (high, others) = after.split_first()?;
@@ -32,7 +33,8 @@ fn escaped_byte(after: &[u8]) -> Option<(u8, &[u8])>
 /// digits after it, in upper or lower case, stands for the byte that they write. `None` if a `%` isn't followed by two
 /// such digits. The only error is out of memory.
 pub fn unescape(alloc: Global, written: &[u8]) -> Result<Option<Vec<u8>>, AllocError>
-    ensures value { IfOk result (λ found. option_map (λ bytes. bytes.items) found ≡ unescaped written.now) }
+    ensures value { IfOk result
+        (λ found. option_map (λ bytes. bytes.items) found ≡ unescaped written.now) }
 
     // The value stands for the bytes that are found and for no others, and for none if none are found.
     ensures meaning { IfOk result (λ found. (meant : List ℕ)

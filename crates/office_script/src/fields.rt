@@ -7,7 +7,7 @@ ghost use Rattle.office_script.specs.Fields.{AreFieldWords, field_of, fields_of}
 
 use crate::escapes::unescape;
 use crate::words::first_word;
-use catalogue::split_once;
+use base::split_once;
 use office_fields::GivenValue;
 use std::alloc::{AllocError, Global};
 

@@ -11,7 +11,7 @@ use crate::files::{FileSource, PathFault};
 use crate::keys::Dash;
 use crate::lines::says_nothing;
 use crate::requests::{LineRequest, request_of};
-use catalogue::Items;
+use base::Items;
 use office_fields::{FileImport, FilePath, Requested, Unread};
 use office_history::{Arrival, Request};
 use std::alloc::{AllocError, AllocFailed, Global};
@@ -162,7 +162,8 @@ fn arrival_of<F: FileSource>(
     files: &F,
 ) -> Result<Arrival, LineFault>
     ensures ok { IfOk result (IsArrivalOf (F.held files.now) line) }
-    ensures fault { IfErr result (λ fault. Fills (F.held files.now) line.text line.requested (Err fault)) }
+    ensures fault { IfErr result
+        (λ fault. Fills (F.held files.now) line.text line.requested (Err fault)) }
 {
     let LineRequest {
         team,
@@ -185,7 +186,8 @@ pub(crate) fn add_arrivals<F: FileSource>(
     files: &F,
     arrivals: &mut Vec<Arrival>,
 ) -> Result<(), LineFault>
-    ensures { AddsArrivals (F.held files.now) dash number line.now arrivals.old.items arrivals.new.items result }
+    ensures { AddsArrivals (F.held files.now) dash number line.now arrivals.old.items
+        arrivals.new.items result }
 {
     if says_nothing(line) {
         return Ok(());

@@ -1,6 +1,6 @@
 //! The keys of lines.
 ghost use Rattle.std.specs.Prelude.{◌≡◌};
-ghost use Rattle.office_fields.specs.Reading.{Reads};
+ghost use Rattle.office_fields.specs.Reading.{ReadsField};
 ghost use Rattle.office_script.specs.Keys.{key_from, key_of};
 
 use office_fields::Unread;
@@ -17,14 +17,14 @@ pub enum Dash {
 }
 
 fn key_from(alloc: Global, bytes: &[u8]) -> Result<Key, Unread>
-    ensures { Reads (key_from bytes.now) result }
+    ensures { ReadsField (key_from bytes.now) result }
 {
     Key::of(alloc, bytes)?.ok_or(Unread::Wrong)
 }
 
 /// The key of the line of this number, from 1, whose first word this is. `Wrong` where the word is no key.
 pub fn key_of(alloc: Global, dash: Dash, number: usize, word: &[u8]) -> Result<Key, Unread>
-    ensures { Reads (key_of dash number word.now) result }
+    ensures { ReadsField (key_of dash number word.now) result }
 {
     match dash {
         Dash::LineNumber if word == b"-".as_slice() => {

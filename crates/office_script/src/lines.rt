@@ -2,7 +2,7 @@
 ghost use Rattle.std.specs.Prelude.{◌≡◌, ◌↔◌, ◌<◌, ◌∷◌, [], List, ℕ, length, MatchOption, IfSome};
 ghost use Rattle.office_script.specs.Lines.{lines_of, AreLinesOf, says_nothing};
 
-use catalogue::split_once;
+use base::split_once;
 
 /// The first line of a text, and what follows it.
 #[derive(Clone, Copy, Debug)]
@@ -23,7 +23,8 @@ pub fn first_line(text: &[u8]) -> Option<FirstLine<'_>>
     ensures shorter { IfSome result (λ first. length first.rest.now < length text.now) }
 
     // The lines of the text: with a line feed after each they are the text, and no other list is.
-    ensures lines { (lines : List (List ℕ)) → (AreLinesOf text.now lines ↔ (lines ≡ lines_of text.now)) }
+    ensures lines { (lines : List (List ℕ))
+        → (AreLinesOf text.now lines ↔ (lines ≡ lines_of text.now)) }
 {
     if text.is_empty() {
         return None;

@@ -1,7 +1,7 @@
 //! The request of a line: its key, its team, and what it requests.
 ghost use Rattle.std.specs.Prelude.{◌≡◌, ◌∷◌, ℕ, IfOk, IfSome, None, MatchOption};
 ghost use Rattle.office_fields.specs.Kind.{kind_of_word};
-ghost use Rattle.office_fields.specs.Reading.{Reads};
+ghost use Rattle.office_fields.specs.Reading.{ReadsField};
 ghost use Rattle.office_script.specs.Words.{words_of, words_after};
 ghost use Rattle.office_script.specs.Requests.{requested_bundle, requested_by, bundle_file, request_of_words};
 ghost use Rattle.office_script.specs.Requests.{request_of};
@@ -10,7 +10,7 @@ use crate::fields::read_fields;
 use crate::keys::{Dash, key_of};
 use crate::lines::says_nothing;
 use crate::words::first_word;
-use catalogue::Items;
+use base::Items;
 use office_fields::{CommandKind, FilePath, Requested, Unread, requested_of, team_of};
 use office_history::Key;
 use office_types::Team;
@@ -59,7 +59,7 @@ fn line_parts(line: &[u8]) -> Option<LineParts<'_>>
 }
 
 fn kind_of(word: &[u8]) -> Result<CommandKind, Unread>
-    ensures { Reads (kind_of_word word.now) result }
+    ensures { ReadsField (kind_of_word word.now) result }
 {
     CommandKind::of_word(word).ok_or(Unread::Wrong)
 }
@@ -67,7 +67,7 @@ fn kind_of(word: &[u8]) -> Result<CommandKind, Unread>
 /// What the command of this word requests with the fields of the words in `rest`.
 #[tactic(auto, unfolding(crate::specs::Requests::requested_by))]
 fn requested_of_words(alloc: Global, word: &[u8], rest: Option<&[u8]>) -> Result<Requested, Unread>
-    ensures { Reads (requested_by word.now (words_after rest.entry)) result }
+    ensures { ReadsField (requested_by word.now (words_after rest.entry)) result }
 {
     let kind = kind_of(word)?;
     match read_fields(alloc, rest)? {
@@ -89,7 +89,7 @@ fn request_of_parts(
     parts: &LineParts<'_>,
 ) -> Result<LineRequest, Unread>
     requires { words_of parts.now.text.now ≡ parts.now.command.now ∷ words_after parts.now.rest }
-    ensures { Reads (request_of_words dash number
+    ensures { ReadsField (request_of_words dash number
         (parts.now.key.now ∷ parts.now.team.now ∷ words_of parts.now.text.now)) result }
 {
     let key = key_of(alloc, dash, number, parts.key)?;
@@ -111,7 +111,7 @@ pub(crate) fn request_of(
     number: usize,
     line: &[u8],
 ) -> Result<LineRequest, Unread>
-    ensures { Reads (request_of dash number line.now) result }
+    ensures { ReadsField (request_of dash number line.now) result }
 {
     match line_parts(line) {
         Some(parts) => request_of_parts(alloc, dash, number, &parts),

@@ -2,7 +2,7 @@
 ghost use Rattle.std.specs.Prelude.{◌≡◌, ◌↔◌, ◌<◌, ◌∷◌, ◌++◌, List, ℕ, length, IfSome, MatchOption};
 ghost use Rattle.office_script.specs.Words.{words_of, words_after, AreWordsOf};
 
-use catalogue::split_once;
+use base::split_once;
 
 /// The first word of a line, and what follows it.
 #[derive(Clone, Copy, Debug)]
@@ -24,7 +24,8 @@ pub fn first_word(line: &[u8]) -> FirstWord<'_>
     ensures shorter { IfSome result.rest (λ rest. length rest.now < length line.now) }
 
     // The words of the line: joined by single spaces they are the line, and no other list is.
-    ensures words { (words : List (List ℕ)) → (AreWordsOf line.now words ↔ (words ≡ words_of line.now)) }
+    ensures words { (words : List (List ℕ))
+        → (AreWordsOf line.now words ↔ (words ≡ words_of line.now)) }
 {
     match split_once(line, b' ') {
         Some((word, rest)) => FirstWord {

@@ -5,7 +5,8 @@ use Rattle.std.proofs.lemmas.Bool.{and_parts, false≢true}
 use Rattle.office_types.specs.Book.{are_spns, is_spn_number}
 use Rattle.office_types.specs.Free.{is_taken}
 
-first_or_later : (n m : ℕ) (later : Bool) (here : Bool) → (m == n) ≡ here → (here || later) ≡ true → is_spn_number m ≡ true
+first_or_later : (n m : ℕ) (later : Bool) (here : Bool) → (m == n) ≡ here → (here || later) ≡ true
+    → is_spn_number m ≡ true
     → (later ≡ true → is_spn_number n ≡ true) → is_spn_number n ≡ true
 first_or_later n m later true e h usable rest = subst (λ k. is_spn_number k ≡ true) (eqb-true m n e) usable
 first_or_later n m later false e h usable rest = rest h

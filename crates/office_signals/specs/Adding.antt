@@ -1,8 +1,8 @@
 -- The signal that a command adds to its message.
 use Rattle.std.specs.Prelude.{◌≡◌, ℕ, List, Some, None, Result, Ok, Err}
-use Rattle.catalogue.specs.Refusing.{first_refusal}
-use Rattle.catalogue.specs.Signals.{places_of, signal_tests}
-use Rattle.catalogue.specs.declared.signal.Signal.{Signal}
+use Rattle.base.specs.Refusing.{first_refusal}
+use Rattle.dbc_sheet.specs.Signals.{places_of, signal_tests}
+use Rattle.dbc_sheet.specs.declared.signal.Signal.{Signal}
 use Rattle.office_types.specs.declared.command.TakeBits.{TakeBits}
 use Rattle.office_types.specs.declared.refusal.Refusal.{Refusal}
 use Rattle.office_types.specs.declared.state.LiveMessage.{LiveMessage}

@@ -1,6 +1,6 @@
 -- What a command goes on with, or the refusal of its tests.
 use Rattle.std.specs.Prelude.{◌≡◌, List, Option, Some, None, Result, Ok, Err}
-use Rattle.catalogue.specs.Refusing.{Test, first_refusal}
+use Rattle.base.specs.Refusing.{Test, first_refusal}
 use Rattle.office_types.specs.declared.refusal.Refusal.{Refusal}
 
 -- no test holds, and there is this to go on with; or this is the first refusal

@@ -1,9 +1,9 @@
 //! Taking bits for a new signal.
 ghost use Rattle.std.specs.Prelude.{◌≡◌, ◌&&◌, ◌∷◌, [], ℕ, List, IfErr, IfOk, None, Some, not};
 ghost use Rattle.std.specs.List.{list_all};
+ghost use Rattle.base.specs.Refusing.{first_refusal};
 ghost use Rattle.bitlayout.specs.Mux.{is_multiplexor, is_under};
-ghost use Rattle.catalogue.specs.Refusing.{first_refusal};
-ghost use Rattle.catalogue.specs.Signals.{has_multiplexor, places_of, signal_tests};
+ghost use Rattle.dbc_sheet.specs.Signals.{has_multiplexor, places_of, signal_tests};
 ghost use Rattle.office_facts.specs.FactsOf.{message_facts_of};
 ghost use Rattle.office_types.specs.declared.book.SpnBook.{SpnBook};
 ghost use Rattle.office_types.specs.declared.change.Change.TheVariants.{AddSignal};
@@ -16,23 +16,23 @@ ghost use Rattle.office_signals.specs.Adding.{IsNewSignal};
 
 use crate::own::own_message;
 use crate::start::{place_at, start_for};
+use base::Copying;
 use bitlayout::Mux;
-use catalogue::{
-    Copying, Name, Node, ROSTER_LIMIT, Receivers, Signal, Signals, Spn, Text, ValueTexts, ValueType,
-};
+use dbc_sheet::{Node, Receivers, Signal, Signals, ValueTexts};
+use dbc_words::{Name, SIGNAL_LIMIT, Spn, Text, ValueType};
 use office_facts::{MessageFacts, has_node, has_signal, one_change, refusal_decision};
 use office_types::{Change, Decision, LiveMessage, Refusal, Reply, TakeBits, Team};
 use std::alloc::{AllocError, Global};
 
 /// Whether the signal would be a second multiplexor.
-fn is_second(signals: &Signals, mux: Mux) -> bool
+fn is_second_multiplexor(signals: &Signals, mux: Mux) -> bool
     ensures { result ≡ (is_multiplexor mux && has_multiplexor signals.now) }
 {
     mux.is_multiplexor() && signals.are_multiplexed()
 }
 
 /// Whether the signal would depend on a multiplexor that isn't there.
-fn is_lacking(signals: &Signals, mux: Mux) -> bool
+fn lacks_multiplexor(signals: &Signals, mux: Mux) -> bool
     ensures { result ≡ (is_under mux && not (has_multiplexor signals.now)) }
 {
     mux.is_under() && !signals.are_multiplexed()
@@ -55,9 +55,11 @@ fn message_for<'a>(
     ensures there { IfOk result (λ live. (message_facts_of facts.now).found ≡ Some live.now) }
     ensures passed { IfOk result (λ live.
         first_refusal (take_bits_tests team.now (message_facts_of facts.now) command.now)
-        ≡ first_refusal (start_tests (places_of live.now.message.signals) live.now.message.length command.now)) }
+        ≡ first_refusal (start_tests (places_of live.now.message.signals) live.now.message.length
+        command.now)) }
     ensures room { IfOk result (λ live. (start : ℕ)
-        → first_refusal (signal_tests live.now.message.signals (new_signal command.now start)) ≡ None) }
+        → first_refusal (signal_tests live.now.message.signals (new_signal command.now start))
+        ≡ None) }
     ensures refused { IfErr result (λ refusal.
         first_refusal (take_bits_tests team.now (message_facts_of facts.now) command.now)
         ≡ Some refusal) }
@@ -68,11 +70,11 @@ fn message_for<'a>(
         Err(Refusal::NameTaken)
     } else if !has_nodes(facts.nodes, command.receivers.as_slice()) {
         Err(Refusal::NoNode)
-    } else if signals.as_slice().len() >= ROSTER_LIMIT {
+    } else if signals.as_slice().len() >= SIGNAL_LIMIT {
         Err(Refusal::TooMany)
-    } else if is_second(signals, command.mux) {
+    } else if is_second_multiplexor(signals, command.mux) {
         Err(Refusal::TwoMultiplexors)
-    } else if is_lacking(signals, command.mux) {
+    } else if lacks_multiplexor(signals, command.mux) {
         Err(Refusal::NoMultiplexor)
     } else {
         Ok(live)
@@ -145,7 +147,8 @@ pub fn decide_take_bits(
 ) -> Result<Decision, AllocError>
     ensures { IfOk result (λ d. (name : List ℕ) (net : Net) (book : SpnBook) →
         message_facts_of facts.now ≡ message_facts net command.now.path.message →
-        Decides name (record { net = Some net; book = book }) (take_bits team.now (Some net) command.now) d) }
+        Decides name (record { net = Some net; book = book })
+        (take_bits team.now (Some net) command.now) d) }
 {
     match new_signal_for(alloc, team, facts, command)? {
         Err(refusal) => Ok(refusal_decision(alloc, refusal)),

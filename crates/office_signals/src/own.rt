@@ -1,6 +1,6 @@
 //! The team's own live message on a network in draft, which every command on a message needs first.
 ghost use Rattle.std.specs.Prelude.{◌≡◌, IfErr, IfOk};
-ghost use Rattle.catalogue.specs.Refusing.{first_refusal};
+ghost use Rattle.base.specs.Refusing.{first_refusal};
 ghost use Rattle.office_facts.specs.FactsOf.{message_facts_of};
 ghost use Rattle.office_rules.specs.Retiring.{retire_tests};
 ghost use Rattle.office_signals.specs.Given.{IsGiven};
@@ -15,8 +15,10 @@ pub(crate) fn own_message<'a>(
     facts: &MessageFacts<'a>,
 ) -> Result<&'a LiveMessage, Refusal>
     ensures given { IfOk result (λ live.
-        IsGiven (retire_tests team.now (message_facts_of facts.now)) (message_facts_of facts.now).found (Ok live.now)) }
-    ensures refused { IfErr result (λ refusal. first_refusal (retire_tests team.now (message_facts_of facts.now))
+        IsGiven (retire_tests team.now (message_facts_of facts.now))
+        (message_facts_of facts.now).found (Ok live.now)) }
+    ensures refused { IfErr result
+        (λ refusal. first_refusal (retire_tests team.now (message_facts_of facts.now))
         ≡ Some refusal) }
 {
     if in_review(facts.phase) {

@@ -3,7 +3,7 @@ ghost use Rattle.std.specs.Prelude.{◌≡◌, ◌&&◌, ◌∷◌, [], ℕ, Lis
 ghost use Rattle.std.specs.List.{list_any};
 ghost use Rattle.std.specs.Str.{bytes_eq};
 ghost use Rattle.bitlayout.specs.Mux.{is_under};
-ghost use Rattle.catalogue.specs.Signals.{signal_is_multiplexor};
+ghost use Rattle.dbc_sheet.specs.Signals.{signal_is_multiplexor};
 ghost use Rattle.office_facts.specs.FactsOf.{message_facts_of};
 ghost use Rattle.office_types.specs.declared.book.SpnBook.{SpnBook};
 ghost use Rattle.office_types.specs.declared.change.Change.TheVariants.{RemoveSignal};
@@ -14,14 +14,17 @@ ghost use Rattle.office_rules.specs.Facts.{message_facts};
 ghost use Rattle.office_rules.specs.Signals.{is_needed, remove_signal};
 
 use crate::own::own_message;
-use catalogue::{Copying, Name, Signal};
+use base::Copying;
+use dbc_sheet::Signal;
+use dbc_words::Name;
 use office_facts::{MessageFacts, has_signal, one_change, refusal_decision};
 use office_types::{Change, Decision, Refusal, Reply, SignalPath, Team};
 use std::alloc::{AllocError, Global};
 
 /// Whether the signal of the name is the multiplexor.
 fn is_the_multiplexor(signals: &[Signal], name: &Name) -> bool
-    ensures { result ≡ list_any (λ s. bytes_eq s.name name.now && signal_is_multiplexor s) signals.now }
+    ensures { result ≡ list_any (λ s. bytes_eq s.name name.now && signal_is_multiplexor s)
+        signals.now }
 {
     signals.iter().any(|signal| signal.name == *name && signal.mux.is_multiplexor())
 }
@@ -59,7 +62,8 @@ pub fn decide_remove_signal(
 ) -> Result<Decision, AllocError>
     ensures { IfOk result (λ d. (name : List ℕ) (net : Net) (book : SpnBook) →
         message_facts_of facts.now ≡ message_facts net path.now.message →
-        Decides name (record { net = Some net; book = book }) (remove_signal team.now (Some net) path.now) d) }
+        Decides name (record { net = Some net; book = book })
+        (remove_signal team.now (Some net) path.now) d) }
 {
     match own_message(team, facts) {
         Err(refusal) => Ok(refusal_decision(alloc, refusal)),

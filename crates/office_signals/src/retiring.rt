@@ -19,7 +19,8 @@ use std::alloc::{AllocError, Global};
 /// error is out of memory.
 fn message_retired(alloc: Global, ident: &Ident, released: bool) -> Result<Decision, AllocError>
     ensures changes { IfOk result
-        (λ d. d.changes ≡ RemoveMessage ident.now ∷ (if released then Hold ident.now ∷ [] else [])) }
+        (λ d. d.changes ≡ RemoveMessage ident.now
+        ∷ (if released then Hold ident.now ∷ [] else [])) }
     ensures reply { IfOk result (λ d. d.reply ≡ Done) }
 {
     let remove = Change::RemoveMessage(*ident);
@@ -40,8 +41,10 @@ pub fn decide_retire(
 ) -> Result<Decision, AllocError>
     ensures { IfOk result (λ d. (name message : List ℕ) (net : Net) (book : SpnBook) →
         message_facts_of facts.now ≡ message_facts net message →
-        IfSome (message_facts_of facts.now).found (λ m. was_released net.releases m.message.ident ≡ released) →
-        Decides name (record { net = Some net; book = book }) (retire team.now (Some net) message) d) }
+        IfSome (message_facts_of facts.now).found
+        (λ m. was_released net.releases m.message.ident ≡ released) →
+        Decides name (record { net = Some net; book = book }) (retire team.now (Some net) message)
+        d) }
 {
     match own_message(team, facts) {
         Err(refusal) => Ok(refusal_decision(alloc, refusal)),

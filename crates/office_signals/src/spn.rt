@@ -12,11 +12,11 @@ ghost use Rattle.office_rules.specs.Signals.{spn_given, spn_tests, take_spn};
 ghost use Rattle.office_signals.specs.Given.{IsGiven};
 
 use crate::own::own_message;
-use catalogue::Copying;
+use base::Copying;
 use office_facts::{MessageFacts, has_signal, refusal_decision, spn_blocks_of, two_changes};
 use office_types::{
-    Block, Change, Decision, Form, NetName, Refusal, Reply, SignalPath, SpnBook, TakeSpn, Team,
-    UsableSpn, least_gap,
+    Block, Change, Decision, NetName, NumberForm, Refusal, Reply, SignalPath, SpnBook, TakeSpn,
+    Team, UsableSpn, least_gap,
 };
 use std::alloc::{AllocError, Global};
 
@@ -74,7 +74,7 @@ fn least_spn(
     if blocks.is_empty() {
         return Err(Refusal::NoBlock);
     }
-    match least_gap(book.used.as_slice(), blocks, Form::Spn) {
+    match least_gap(book.used.as_slice(), blocks, NumberForm::Spn) {
         Some(number) => Ok(usable_spn(number)),
         None => Err(Refusal::BlockFull),
     }

@@ -7,13 +7,13 @@ ghost use Rattle.std.specs.Prelude.{◌≡◌, ◌++◌, ◌∷◌, [], IfOk, No
 ghost use Rattle.std.specs.List.Sorted.{IsNonDecreasingBy, IsPermutation};
 ghost use Rattle.bitlayout.specs.Clash.{first_clash_of};
 ghost use Rattle.bitlayout.specs.Start.{least_start_of};
-ghost use Rattle.catalogue.specs.Signals.{places_of};
+ghost use Rattle.dbc_sheet.specs.Signals.{places_of};
 ghost use Rattle.office_rules.specs.Signals.{place_at, start_given, start_tests};
 ghost use Rattle.office_signals.specs.Given.{IsGiven};
 ghost use Rattle.office_signals.specs.Sorted.{mux_rank, place_rank};
 
 use bitlayout::{Layout, Mux, Place, first_clash, inside, least_start};
-use catalogue::{Message, Signals};
+use dbc_sheet::{Message, Signals};
 use office_types::{Refusal, TakeBits};
 use std::alloc::{AllocError, Global};
 
@@ -69,7 +69,8 @@ fn least_start_in(
     command: &TakeBits,
 ) -> Result<Option<u16>, AllocError>
     ensures { IfOk result (λ start. start ≡ least_start_of
-        (places_of message.now.signals) message.now.length command.now.size command.now.order command.now.mux) }
+        (places_of message.now.signals) message.now.length command.now.size command.now.order
+        command.now.mux) }
 {
     let places = sorted_places(alloc, &message.signals)?;
     let length = message.length.bytes();
@@ -84,7 +85,8 @@ fn wanted_start(
     start: u16,
 ) -> Result<Result<u16, Refusal>, AllocError>
     requires { command.now.start ≡ Some start }
-    ensures { IfOk result (IsGiven (start_tests (places_of message.now.signals) message.now.length command.now)
+    ensures { IfOk result (IsGiven
+        (start_tests (places_of message.now.signals) message.now.length command.now)
         (start_given (places_of message.now.signals) message.now.length command.now)) }
 {
     let place = place_at(command, start);
@@ -105,7 +107,8 @@ fn free_start(
     command: &TakeBits,
 ) -> Result<Result<u16, Refusal>, AllocError>
     requires { command.now.start ≡ None }
-    ensures { IfOk result (IsGiven (start_tests (places_of message.now.signals) message.now.length command.now)
+    ensures { IfOk result (IsGiven
+        (start_tests (places_of message.now.signals) message.now.length command.now)
         (start_given (places_of message.now.signals) message.now.length command.now)) }
 {
     match least_start_in(alloc, message, command)? {
@@ -120,7 +123,8 @@ pub(crate) fn start_for(
     message: &Message,
     command: &TakeBits,
 ) -> Result<Result<u16, Refusal>, AllocError>
-    ensures { IfOk result (IsGiven (start_tests (places_of message.now.signals) message.now.length command.now)
+    ensures { IfOk result (IsGiven
+        (start_tests (places_of message.now.signals) message.now.length command.now)
         (start_given (places_of message.now.signals) message.now.length command.now)) }
 {
     match command.start {

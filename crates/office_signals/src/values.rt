@@ -1,6 +1,6 @@
 //! Setting the texts of a signal's values.
 ghost use Rattle.std.specs.Prelude.{◌≡◌, ◌≤◌, ◌∷◌, [], ℕ, List, IfOk, Some, length};
-ghost use Rattle.catalogue.specs.Limits.{value_text_limit};
+ghost use Rattle.dbc_words.specs.Limits.{value_text_limit};
 ghost use Rattle.office_facts.specs.FactsOf.{message_facts_of};
 ghost use Rattle.office_types.specs.declared.book.SpnBook.{SpnBook};
 ghost use Rattle.office_types.specs.declared.change.Change.TheVariants.{SetValues as SetTexts};
@@ -11,7 +11,9 @@ ghost use Rattle.office_rules.specs.Facts.{message_facts};
 ghost use Rattle.office_rules.specs.Signals.{set_values};
 
 use crate::own::own_message;
-use catalogue::{Copying, Items, VALUE_TEXT_LIMIT, ValueText, ValueTexts};
+use base::{Copying, Items};
+use dbc_sheet::{ValueText, ValueTexts};
+use dbc_words::VALUE_TEXT_LIMIT;
 use office_facts::{MessageFacts, has_signal, one_change, refusal_decision};
 use office_types::{Change, Decision, Refusal, Reply, SetValues, Team};
 use std::alloc::{AllocError, Global};
@@ -31,7 +33,8 @@ fn value_texts(alloc: Global, values: &Items<ValueText>) -> Result<ValueTexts, A
 /// The decision that sets the texts. The error is out of memory.
 fn values_set(alloc: Global, command: &SetValues) -> Result<Decision, AllocError>
     requires { length command.now.values ≤ value_text_limit }
-    ensures changes { IfOk result (λ d. d.changes ≡ SetTexts command.now.path command.now.values ∷ []) }
+    ensures changes { IfOk result
+        (λ d. d.changes ≡ SetTexts command.now.path command.now.values ∷ []) }
     ensures reply { IfOk result (λ d. d.reply ≡ Done) }
 {
     let path = command.path.duplicate(alloc)?;
@@ -49,7 +52,8 @@ pub fn decide_set_values(
 ) -> Result<Decision, AllocError>
     ensures { IfOk result (λ d. (name : List ℕ) (net : Net) (book : SpnBook) →
         message_facts_of facts.now ≡ message_facts net command.now.path.message →
-        Decides name (record { net = Some net; book = book }) (set_values team.now (Some net) command.now) d) }
+        Decides name (record { net = Some net; book = book })
+        (set_values team.now (Some net) command.now) d) }
 {
     match own_message(team, facts) {
         Err(refusal) => Ok(refusal_decision(alloc, refusal)),

@@ -6,13 +6,14 @@ use Rattle.office_types.specs.PlainName.{is_office, is_plain_name}
 use Rattle.office_types.specs.Refusal.{all_refusals}
 use Rattle.office_types.specs.Reply.{reply_text}
 use Rattle.office_types.specs.declared.block.Block.{Block}
-use Rattle.office_types.specs.declared.free.Form.TheVariants.{Std, Ext, Pdu1, Pdu2, Spn}
+use Rattle.office_types.specs.declared.free.NumberForm.TheVariants.{Std, Ext, Pdu1, Pdu2, Spn}
 use Rattle.office_types.specs.declared.refusal.Refusal.TheVariants as no
 use Rattle.office_types.specs.declared.reply.PartReply.TheVariants as part
 use Rattle.office_types.specs.declared.reply.Reply.TheVariants.{Done, Number, Start, Counts, Release, Refused, Bundle}
 
 replies : map reply_text (Done ∷ Number 256 ∷ Number 0 ∷ Start 16 ∷ Counts 3 0 ∷ Release 1 ∷ [])
-    ≡ codes "done" ∷ codes "number 256" ∷ codes "number 0" ∷ codes "start 16" ∷ codes "counts 3 0" ∷ codes "release 1" ∷ []
+    ≡ codes "done" ∷ codes "number 256" ∷ codes "number 0" ∷ codes "start 16" ∷ codes "counts 3 0" ∷ codes "release 1"
+    ∷ []
 unfolding digits
 replies = refl
 
@@ -49,12 +50,16 @@ refusals : map (λ r. reply_text (Refused r)) (all_refusals (record { fault = 30
 unfolding digits
 refusals = refl
 
-bundles : map reply_text (Bundle (part.Number 256 ∷ part.Start 0 ∷ []) ∷ Bundle (part.Done ∷ []) ∷ Refused (no.BundleRefused (record { fault = 50; at = 3 })) ∷ [])
+bundles : map reply_text
+    (Bundle (part.Number 256 ∷ part.Start 0 ∷ []) ∷ Bundle (part.Done ∷ [])
+    ∷ Refused (no.BundleRefused (record { fault = 50; at = 3 })) ∷ [])
     ≡ codes "bundle number 256; start 0" ∷ codes "bundle done" ∷ codes "refused 62 BundleRefused 50 3" ∷ []
 unfolding digits
 bundles = refl
 
-names : map is_plain_name (codes "engine" ∷ codes "-" ∷ codes "a-0" ∷ codes "zzzzzzzzzzzzzzzzzzzzzzzzzzzzzzzz" ∷ codes "zzzzzzzzzzzzzzzzzzzzzzzzzzzzzzzzz" ∷ [] ∷ codes "Engine" ∷ codes "a b" ∷ [])
+names : map is_plain_name
+    (codes "engine" ∷ codes "-" ∷ codes "a-0" ∷ codes "zzzzzzzzzzzzzzzzzzzzzzzzzzzzzzzz"
+    ∷ codes "zzzzzzzzzzzzzzzzzzzzzzzzzzzzzzzzz" ∷ [] ∷ codes "Engine" ∷ codes "a b" ∷ [])
     ≡ true ∷ true ∷ true ∷ true ∷ false ∷ false ∷ false ∷ false ∷ []
 names = refl
 
@@ -65,11 +70,13 @@ the_office = refl
 abbrev to : ℕ → ℕ → Block
 to first last = record { first = first; last = last }
 
-in_one_block : map (λ taken. least_free taken (to 256 258 ∷ []) Std) ([] ∷ (256 ∷ 258 ∷ []) ∷ (256 ∷ 257 ∷ 258 ∷ []) ∷ [])
+in_one_block : map (λ taken. least_free taken (to 256 258 ∷ []) Std)
+    ([] ∷ (256 ∷ 258 ∷ []) ∷ (256 ∷ 257 ∷ 258 ∷ []) ∷ [])
     ≡ Some 256 ∷ Some 257 ∷ None ∷ []
 in_one_block = refl
 
-in_several_blocks : map (λ taken. least_free taken (to 256 258 ∷ to 11 300 ∷ to 10 12 ∷ []) Std) ((10 ∷ []) ∷ (10 ∷ 11 ∷ 12 ∷ 13 ∷ []) ∷ [])
+in_several_blocks : map (λ taken. least_free taken (to 256 258 ∷ to 11 300 ∷ to 10 12 ∷ []) Std)
+    ((10 ∷ []) ∷ (10 ∷ 11 ∷ 12 ∷ 13 ∷ []) ∷ [])
     ≡ Some 11 ∷ Some 14 ∷ []
 in_several_blocks = refl
 
@@ -77,7 +84,8 @@ in_no_block : map (λ blocks. least_free [] blocks Ext) ([] ∷ (to 5 4 ∷ []) 
     ≡ None ∷ None ∷ None ∷ []
 in_no_block = refl
 
-by_form : least_free [] (to 2047 3000 ∷ []) Std ∷ least_free (2047 ∷ []) (to 2047 2049 ∷ []) Std ∷ least_free (2047 ∷ []) (to 2047 3000 ∷ []) Ext ∷ []
+by_form : least_free [] (to 2047 3000 ∷ []) Std ∷ least_free (2047 ∷ []) (to 2047 2049 ∷ []) Std
+    ∷ least_free (2047 ∷ []) (to 2047 3000 ∷ []) Ext ∷ []
     ≡ Some 2047 ∷ None ∷ Some 2048 ∷ []
 by_form = refl
 
@@ -88,11 +96,13 @@ in_all_numbers = refl
 in_groups : map (least_free [] (to 61184 61440 ∷ [])) (Pdu1 ∷ Pdu2 ∷ []) ≡ Some 61184 ∷ Some 61440 ∷ []
 in_groups = refl
 
-taken_groups : map (λ taken. least_free taken (to 61444 61445 ∷ []) Pdu2) ((61444 ∷ []) ∷ (61444 ∷ 61445 ∷ []) ∷ []) ≡ Some 61445 ∷ None ∷ []
+taken_groups : map (λ taken. least_free taken (to 61444 61445 ∷ []) Pdu2) ((61444 ∷ []) ∷ (61444 ∷ 61445 ∷ []) ∷ [])
+    ≡ Some 61445 ∷ None ∷ []
 taken_groups = refl
 
 no_groups : map (least_free [] (to 131072 131073 ∷ to 61185 61439 ∷ [])) (Pdu1 ∷ Pdu2 ∷ []) ≡ None ∷ None ∷ []
 no_groups = refl
 
-in_spns : map (λ taken. least_free taken (to 0 2 ∷ to 524287 524288 ∷ []) Spn) ([] ∷ (1 ∷ 2 ∷ []) ∷ (1 ∷ 2 ∷ 524287 ∷ []) ∷ []) ≡ Some 1 ∷ Some 524287 ∷ None ∷ []
+in_spns : map (λ taken. least_free taken (to 0 2 ∷ to 524287 524288 ∷ []) Spn)
+    ([] ∷ (1 ∷ 2 ∷ []) ∷ (1 ∷ 2 ∷ 524287 ∷ []) ∷ []) ≡ Some 1 ∷ Some 524287 ∷ None ∷ []
 in_spns = refl

@@ -3,7 +3,7 @@ use Rattle.std.specs.Prelude.{ℕ, ◌≤◌, ◌==◌, Bool, true, false, ◌&&
 use Rattle.can_id.specs.Form.{greatest_number}
 use Rattle.can_id.specs.declared.form.IdentForm.{IdentForm}
 use Rattle.can_id.specs.declared.form.IdentForm.TheVariants.{Standard, Extended}
-use Rattle.catalogue.specs.Limits.{spn_limit}
+use Rattle.dbc_words.specs.Limits.{spn_limit}
 use Rattle.office_types.specs.declared.block.BlockForm.{BlockForm}
 use Rattle.office_types.specs.declared.block.BlockForm.TheVariants.{Std, Ext, Pgn, Spn}
 use Rattle.office_types.specs.declared.block.Block.{Block}
@@ -40,7 +40,8 @@ form_number Spn = 3
 -- the form of a number
 abbrev pub form_at : ℕ → Option BlockForm
 form_at n =
-    if n == 0 then Some Std else (if n == 1 then Some Ext else (if n == 2 then Some Pgn else (if n == 3 then Some Spn else None)))
+    if n == 0 then Some Std else (if n == 1 then Some Ext
+    else (if n == 2 then Some Pgn else (if n == 3 then Some Spn else None)))
 
 abbrev pub same_form : BlockForm → BlockForm → Bool
 same_form Std Std = true

@@ -4,8 +4,8 @@ use Rattle.std.specs.List.{list_all}
 use Rattle.std.specs.List.Sorted.{IsStrictlyIncreasing}
 use Rattle.std.specs.Ordering.{on, nat_cmp, then_cmp}
 use Rattle.std.specs.declared.cmp.Ordering.{Ordering}
-use Rattle.catalogue.specs.Keyed.{text_cmp}
-use Rattle.catalogue.specs.Limits.{spn_limit}
+use Rattle.base.specs.Keyed.{text_cmp}
+use Rattle.dbc_words.specs.Limits.{spn_limit}
 use Rattle.office_types.specs.declared.book.SpnBlock.{SpnBlock}
 
 -- the key by which the blocks are in order

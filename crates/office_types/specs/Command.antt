@@ -1,15 +1,15 @@
 -- The ranges of a command's fields, which its types keep, and what the fields request.
 use Rattle.std.specs.Prelude.{ℕ, ◌≤◌, ◌<◌, ◌^◌, ◌==◌, ⊤, All, Option, Some, None, IfSome, if◌then◌else◌}
-use Rattle.catalogue.specs.Form.{IsMux, IsValueText}
-use Rattle.catalogue.specs.Limits.{length_limit, size_limit}
-use Rattle.catalogue.specs.Name.{IsName}
-use Rattle.catalogue.specs.Text.{IsText}
+use Rattle.dbc_words.specs.Limits.{length_limit, size_limit}
+use Rattle.dbc_words.specs.Name.{IsName}
+use Rattle.dbc_words.specs.Text.{IsText}
+use Rattle.dbc_sheet.specs.Form.{IsMux, IsValueText}
 use Rattle.decimal.specs.Number.{IsDecimal}
 use Rattle.office_types.specs.PlainName.{IsPlainName}
 use Rattle.office_types.specs.Block.{IsRange}
 use Rattle.office_types.specs.Parts.{AreParts}
-use Rattle.office_types.specs.declared.free.Form.{Form}
-use Rattle.office_types.specs.declared.free.Form.TheVariants.{Pdu1, Pdu2}
+use Rattle.office_types.specs.declared.free.NumberForm.{NumberForm}
+use Rattle.office_types.specs.declared.free.NumberForm.TheVariants.{Pdu1, Pdu2}
 use Rattle.office_types.specs.declared.command.Action.{Action}
 use Rattle.office_types.specs.declared.command.Action.TheVariants as act
 use Rattle.office_types.specs.declared.command.Command.{Command}
@@ -33,7 +33,7 @@ abbrev pub kind_at : ℕ → Option NetKind
 kind_at n = if n == 0 then Some Can else (if n == 1 then Some J1939 else None)
 
 -- the form of the requested parameter groups, as numbers
-abbrev pub group_form : Pdu → Form
+abbrev pub group_form : Pdu → NumberForm
 group_form (Addressed destination) = Pdu1
 group_form Broadcast = Pdu2
 

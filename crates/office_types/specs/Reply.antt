@@ -1,5 +1,6 @@
 -- The lines of replies, without their ends, and replies as numbers.
-use Rattle.std.specs.Prelude.{◌≤◌, ◌==◌, not, ◌&&◌, ⊤, ℕ, nat_le, All, List, [], ◌∷◌, ◌++◌, length, Option, Some, None, codes, decimal, if◌then◌else◌}
+use Rattle.std.specs.Prelude.{◌≤◌, ◌==◌, not, ◌&&◌, ⊤, ℕ, nat_le, All, List, [], ◌∷◌, ◌++◌, length, Option, Some, None}
+use Rattle.std.specs.Prelude.{codes, decimal, if◌then◌else◌}
 use Rattle.std.specs.List.{flat_map}
 use Rattle.std.specs.Option.{option_map}
 use Rattle.office_types.specs.Parts.{AreParts, part_limit}

@@ -2,11 +2,11 @@
 use Rattle.std.specs.Prelude.{ℕ, ◌==◌, List, map, Option, Some, None, if◌then◌else◌}
 use Rattle.std.specs.Ordering.{on, nat_cmp, then_cmp}
 use Rattle.std.specs.declared.cmp.Ordering.{Ordering}
+use Rattle.base.specs.Keyed.{text_cmp}
 use Rattle.can_id.specs.Ident.{dbc_number}
 use Rattle.can_id.specs.declared.ident.Ident.{Ident}
-use Rattle.catalogue.specs.Keyed.{text_cmp}
-use Rattle.catalogue.specs.declared.message.Message.{Message}
-use Rattle.catalogue.specs.declared.sheet.Sheet.{Sheet}
+use Rattle.dbc_sheet.specs.declared.message.Message.{Message}
+use Rattle.dbc_sheet.specs.declared.sheet.Sheet.{Sheet}
 use Rattle.office_types.specs.Block.{form_number}
 use Rattle.office_types.specs.declared.state.GrantedBlock.{GrantedBlock}
 use Rattle.office_types.specs.declared.state.LiveMessage.{LiveMessage}

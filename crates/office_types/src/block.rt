@@ -2,7 +2,7 @@
 ghost use Rattle.std.specs.Prelude.{◌≡◌, ◌≤◌, SomeIff};
 
 use can_id::IdentForm;
-use catalogue::SPN_LIMIT;
+use dbc_words::SPN_LIMIT;
 use std::marker::Model;
 
 /// The greatest parameter group number with the extended data page clear.

@@ -1,13 +1,14 @@
 //! The book of J1939 suspect parameter numbers.
 ghost use Rattle.std.specs.Prelude.{◌≡◌, ◌==◌, [], if◌then◌else◌, IsTrue, None, OnOk, OnErr, Some, SomeIff};
 ghost use Rattle.std.specs.Ordering.{nat_cmp};
-ghost use Rattle.catalogue.specs.Keyed.{put};
+ghost use Rattle.base.specs.Keyed.{put};
 ghost use Rattle.office_types.specs.Book.{AreUsed, are_spns, is_spn_number};
 
 use crate::free::is_ascending;
 use crate::net_name::NetName;
 use crate::team::Team;
-use catalogue::{Copying, Items, Keyed, SPN_LIMIT, Spn, put_item};
+use base::{Copying, Items, Keyed, put_item};
+use dbc_words::{SPN_LIMIT, Spn};
 use std::alloc::{AllocError, Global};
 use std::cmp::Ordering;
 use std::marker::Model;

@@ -5,8 +5,10 @@ use crate::release::FrozenSheet;
 use crate::reply::Reply;
 use crate::state::{GrantedBlock, Head, LiveMessage};
 use crate::team::Team;
+use base::{Copying, Items};
 use can_id::Ident;
-use catalogue::{Copying, Items, Name, Signal, ValueTexts};
+use dbc_sheet::{Signal, ValueTexts};
+use dbc_words::Name;
 use std::alloc::{AllocError, Global};
 
 /// One thing that a command sets or removes: a row that is written or removed by its key. A change that isn't of the

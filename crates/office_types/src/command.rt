@@ -6,14 +6,16 @@ ghost use Rattle.std.specs.Prelude.{◌≡◌, ◌<◌, ◌^◌, All, IfSome};
 ghost use Rattle.office_types.specs.Command.{IsAction, IsCommand, IsNewMessage, IsPath, IsPdu, IsTakeBits, IsTask};
 
 use crate::block::FormBlock;
-use crate::free::Form;
+use crate::free::NumberForm;
 use crate::net_name::NetName;
 use crate::parts::Parts;
 use crate::quantity::{Priority, ReviewCount};
 use crate::team::Team;
+use base::{Copying, Items};
 use bitlayout::{Mux, Order, Size};
 use can_id::IdentForm;
-use catalogue::{Copying, Formed, Items, Name, PayloadLength, Text, ValueText, each_has_form};
+use dbc_sheet::{Formed, ValueText, each_has_form};
+use dbc_words::{Name, PayloadLength, Text};
 use decimal::Decimal;
 use std::alloc::{AllocError, Global};
 
@@ -224,12 +226,12 @@ impl Pdu {
     ghost use Rattle.office_types.specs.Command.{group_form};
 
     /// The form of the parameter groups as numbers.
-    pub fn number_form(self) -> Form
+    pub fn number_form(self) -> NumberForm
         ensures { result ≡ group_form self }
     {
         match self {
-            Pdu::Addressed(_) => Form::Pdu1,
-            Pdu::Broadcast => Form::Pdu2,
+            Pdu::Addressed(_) => NumberForm::Pdu1,
+            Pdu::Broadcast => NumberForm::Pdu2,
         }
     }
 }

@@ -7,16 +7,16 @@ ghost use Rattle.office_types.specs.Free.{SplitsAt, least_free};
 ghost use Rattle.office_types.specs.Block.{greatest_pgn};
 ghost use Rattle.office_types.specs.Least.{IsLeastOf};
 ghost use Rattle.office_types.specs.declared.block.Block.{Block};
-ghost use Rattle.office_types.specs.declared.free.Form.{Form};
-ghost use Rattle.office_types.specs.declared.free.Form.TheVariants.{Pdu1, Pdu2};
+ghost use Rattle.office_types.specs.declared.free.NumberForm.{NumberForm};
+ghost use Rattle.office_types.specs.declared.free.NumberForm.TheVariants.{Pdu1, Pdu2};
 
 use crate::block::{Block, GREATEST_PGN};
 use can_id::{IdentForm, has_destination};
-use catalogue::SPN_LIMIT;
+use dbc_words::SPN_LIMIT;
 
 /// What the requested numbers are.
 #[derive(Clone, Copy, Debug, PartialEq, Eq)]
-pub enum Form {
+pub enum NumberForm {
     /// 11-bit identifiers, 0 to 2047.
     Std,
     /// 29-bit identifiers, 0 to 536870911.
@@ -29,16 +29,16 @@ pub enum Form {
     Spn,
 }
 
-impl Form {
+impl NumberForm {
     ghost use Rattle.office_types.specs.Free.{has_form, greatest_number, number_form};
 
     /// The form of the numbers of identifiers of this form.
-    pub fn of_identifiers(form: IdentForm) -> Form
+    pub fn of_identifiers(form: IdentForm) -> NumberForm
         ensures { result ≡ number_form form }
     {
         match form {
-            IdentForm::Standard => Form::Std,
-            IdentForm::Extended => Form::Ext,
+            IdentForm::Standard => NumberForm::Std,
+            IdentForm::Extended => NumberForm::Ext,
         }
     }
 
@@ -47,10 +47,10 @@ impl Form {
         ensures { result ≡ greatest_number self }
     {
         match self {
-            Form::Std => IdentForm::Standard.greatest(),
-            Form::Ext => IdentForm::Extended.greatest(),
-            Form::Pdu1 | Form::Pdu2 => GREATEST_PGN,
-            Form::Spn => SPN_LIMIT,
+            NumberForm::Std => IdentForm::Standard.greatest(),
+            NumberForm::Ext => IdentForm::Extended.greatest(),
+            NumberForm::Pdu1 | NumberForm::Pdu2 => GREATEST_PGN,
+            NumberForm::Spn => SPN_LIMIT,
         }
     }
 
@@ -60,17 +60,17 @@ impl Form {
     {
         number <= self.greatest()
             && match self {
-                Form::Std | Form::Ext => true,
-                Form::Pdu1 => has_destination(number) && number % 256 == 0,
-                Form::Pdu2 => !has_destination(number),
-                Form::Spn => number >= 1,
+                NumberForm::Std | NumberForm::Ext => true,
+                NumberForm::Pdu1 => has_destination(number) && number % 256 == 0,
+                NumberForm::Pdu2 => !has_destination(number),
+                NumberForm::Spn => number >= 1,
             }
     }
 }
 
 /// The least free number, as it is computed, is the least number that is free, and it is none only where none is free.
 pub fn least_numbers_are_least()
-    ensures { (taken : List ℕ) (blocks : List Block) (form : Form)
+    ensures { (taken : List ℕ) (blocks : List Block) (form : NumberForm)
         → IsLeastFree taken blocks form (least_free taken blocks form) }
 {}
 
@@ -123,21 +123,21 @@ fn next_broadcast(from: u32) -> u32
 }
 
 /// The least number from `from` on that the form allows, but for the greatest number of the form.
-fn next_formed(form: Form, from: u32) -> u32
+fn next_formed(form: NumberForm, from: u32) -> u32
     requires { from ≤ greatest_number form }
     ensures { IsNextFormed form from result }
 {
     match form {
-        Form::Std | Form::Ext => from,
-        Form::Pdu1 => next_addressed(from),
-        Form::Pdu2 => next_broadcast(from),
-        Form::Spn => from.max(1),
+        NumberForm::Std | NumberForm::Ext => from,
+        NumberForm::Pdu1 => next_addressed(from),
+        NumberForm::Pdu2 => next_broadcast(from),
+        NumberForm::Spn => from.max(1),
     }
 }
 
 /// The least number from `from` on that has the form, or `None` where there is none. For `Pdu1` and `Pdu2` these are
 /// parameter group numbers, 0 to 131071, whose PDU format is below 240 or not (SAE J1939-21).
-pub fn next_of(form: Form, from: u32) -> Option<u32>
+pub fn next_of(form: NumberForm, from: u32) -> Option<u32>
     ensures { IsNextOf form from result }
 {
     if from > form.greatest() {
@@ -152,7 +152,7 @@ pub fn next_of(form: Form, from: u32) -> Option<u32>
 }
 
 /// The least number from `from` to `last` that has the form.
-fn next_until(form: Form, from: u32, last: u32) -> Option<u32>
+fn next_until(form: NumberForm, from: u32, last: u32) -> Option<u32>
     ensures next { IsLeastOf (λ n. (nat_le from n && nat_le n last) && has_form form n) result }
     ensures small { IfSome result (λ n. n < 2 ^ 30) }
 {
@@ -164,7 +164,7 @@ fn next_until(form: Form, from: u32, last: u32) -> Option<u32>
 
 /// The least number of the block that has the form and isn't taken, and the turns of its search. A turn compares a
 /// taken number with the candidate, the least number of the form that may still be free, or ends the block.
-fn least_in(taken: &[u32], block: Block, form: Form) -> (Option<u32>, u128)
+fn least_in(taken: &[u32], block: Block, form: NumberForm) -> (Option<u32>, u128)
     requires { IsStrictlyIncreasing taken.now }
     ensures least { IsLeastFree taken.now (block ∷ []) form result.0 }
     ensures turns { result.1 ≤ length taken.now + 1 }
@@ -203,7 +203,7 @@ pub(crate) fn lesser(a: Option<u32>, b: Option<u32>) -> Option<u32>
 /// [`least_free`], and the turns of its search. A turn compares a number of `taken` with the candidate, the least
 /// number of a block and the form that may still be free, or ends a block: so the turns don't grow with the size of the
 /// blocks.
-pub fn least_free_counted(taken: &[u32], blocks: &[Block], form: Form) -> (Option<u32>, u128)
+pub fn least_free_counted(taken: &[u32], blocks: &[Block], form: NumberForm) -> (Option<u32>, u128)
     requires { IsStrictlyIncreasing taken.now }
     ensures least { IsLeastFree taken.now blocks.now form result.0 }
     ensures computed { result.0 ≡ least_free taken.now blocks.now form }
@@ -222,7 +222,7 @@ pub fn least_free_counted(taken: &[u32], blocks: &[Block], form: Form) -> (Optio
 /// The least number that lies in one of the blocks, has the form and isn't taken; `None` where there is none.
 ///
 /// `taken` ascends, as [`is_ascending`] shows. The blocks need not be in any order, nor apart.
-pub fn least_free(taken: &[u32], blocks: &[Block], form: Form) -> Option<u32>
+pub fn least_free(taken: &[u32], blocks: &[Block], form: NumberForm) -> Option<u32>
     requires { IsStrictlyIncreasing taken.now }
     ensures least { IsLeastFree taken.now blocks.now form result }
     ensures computed { result ≡ least_free taken.now blocks.now form }

@@ -8,11 +8,11 @@ ghost use Rattle.std.specs.List.Sorted.{IsStrictlyIncreasing};
 ghost use Rattle.office_types.specs.Free.{IsLeastFree, is_formed, least_free};
 
 use crate::block::Block;
-use crate::free::{Form, count_below, least_free, lesser};
+use crate::free::{NumberForm, count_below, least_free, lesser};
 
 /// The least number of the block that has the form and isn't one of the ascending numbers, where the form has all
 /// numbers from `least` to its greatest. Each turn halves the numbers that are left.
-fn least_in(numbers: &[u32], block: Block, form: Form, least: u32) -> Option<u32>
+fn least_in(numbers: &[u32], block: Block, form: NumberForm, least: u32) -> Option<u32>
     requires rising { IsStrictlyIncreasing numbers.now }
     requires formed { (n : ℕ) → least ≤ n → is_formed form n ≡ true }
     requires above { (n : ℕ) → is_formed form n ≡ true → least ≤ n }
@@ -41,7 +41,7 @@ fn least_in(numbers: &[u32], block: Block, form: Form, least: u32) -> Option<u32
 
 /// The least number of the blocks that has the form and isn't one of the ascending numbers, where the form has all
 /// numbers from `least` to its greatest.
-fn least_in_blocks(numbers: &[u32], blocks: &[Block], form: Form, least: u32) -> Option<u32>
+fn least_in_blocks(numbers: &[u32], blocks: &[Block], form: NumberForm, least: u32) -> Option<u32>
     requires rising { IsStrictlyIncreasing numbers.now }
     requires formed { (n : ℕ) → least ≤ n → is_formed form n ≡ true }
     requires above { (n : ℕ) → is_formed form n ≡ true → least ≤ n }
@@ -58,15 +58,15 @@ fn least_in_blocks(numbers: &[u32], blocks: &[Block], form: Form, least: u32) ->
 /// The least number that lies in one of the blocks, has the form and isn't taken; `None` where there is none. `taken`
 /// ascends. It is the number of [`least_free`], found by halving, so that it takes hardly longer where more are taken;
 /// for parameter groups the taken numbers are walked over.
-pub fn least_gap(taken: &[u32], blocks: &[Block], form: Form) -> Option<u32>
+pub fn least_gap(taken: &[u32], blocks: &[Block], form: NumberForm) -> Option<u32>
     requires { IsStrictlyIncreasing taken.now }
     ensures least { IsLeastFree taken.now blocks.now form result }
     ensures computed { result ≡ least_free taken.now blocks.now form }
 {
     match form {
-        Form::Std => least_in_blocks(taken, blocks, Form::Std, 0),
-        Form::Ext => least_in_blocks(taken, blocks, Form::Ext, 0),
-        Form::Spn => least_in_blocks(taken, blocks, Form::Spn, 1),
+        NumberForm::Std => least_in_blocks(taken, blocks, NumberForm::Std, 0),
+        NumberForm::Ext => least_in_blocks(taken, blocks, NumberForm::Ext, 0),
+        NumberForm::Spn => least_in_blocks(taken, blocks, NumberForm::Spn, 1),
         other => least_free(taken, blocks, other),
     }
 }

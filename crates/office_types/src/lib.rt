@@ -40,7 +40,7 @@ pub use command::{
     TakeIdent, TakePgn, TakeSpn, Task, command_is_in_range,
 };
 pub use free::{
-    Form, is_ascending, least_free, least_free_counted, least_numbers_are_least, next_of,
+    NumberForm, is_ascending, least_free, least_free_counted, least_numbers_are_least, next_of,
 };
 pub use halving::least_gap;
 pub use look::Look;

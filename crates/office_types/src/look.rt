@@ -1,6 +1,6 @@
 //! Looks.
 use crate::net_name::NetName;
-use catalogue::Name;
+use dbc_words::Name;
 
 /// What can be looked up in an office.
 pub enum Look {

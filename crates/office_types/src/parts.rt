@@ -2,7 +2,7 @@
 ghost use Rattle.std.specs.Prelude.{◌≡◌, length, SomeIff};
 ghost use Rattle.office_types.specs.Parts.{AreParts};
 
-use catalogue::{Copying, Items};
+use base::{Copying, Items};
 use std::alloc::{AllocError, Global};
 use std::fmt;
 use std::marker::Model;

@@ -25,7 +25,7 @@ pub enum Refusal {
     NoMultiplexor,
     /// 25: the message has a multiplexor already.
     TwoMultiplexors,
-    /// 26: a limit of the catalogue is reached.
+    /// 26: a limit of a sheet is reached.
     TooMany,
     /// 40: there is no network of that name.
     NoNet,

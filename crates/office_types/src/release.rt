@@ -1,10 +1,11 @@
 //! Releases: sheets that never change again.
 ghost use Rattle.std.specs.Prelude.{◌≡◌};
 ghost use Rattle.can_id.specs.Ident.{dbc_number};
-ghost use Rattle.catalogue.specs.Messages.{has_number};
+ghost use Rattle.dbc_sheet.specs.Messages.{has_number};
 
+use base::{Copying, Items};
 use can_id::Ident;
-use catalogue::{Copying, Items, Message, Sheet};
+use dbc_sheet::{Message, Sheet};
 use std::alloc::{AllocError, Global};
 use std::marker::Model;
 
@@ -18,7 +19,7 @@ pub struct FrozenSheet {
 }
 
 impl Model for FrozenSheet {
-    ghost use Rattle.catalogue.specs.declared.sheet.Sheet.{Sheet};
+    ghost use Rattle.dbc_sheet.specs.declared.sheet.Sheet.{Sheet};
 
     ghost Value = { Sheet };
 

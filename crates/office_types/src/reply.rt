@@ -8,7 +8,7 @@ ghost use Rattle.office_types.specs.declared.reply.Reply.{Reply};
 
 use crate::parts::Parts;
 use crate::refusal::{FileFault, Refusal};
-use catalogue::{Copying, Items};
+use base::{Copying, Items};
 use std::alloc::{AllocError, Global};
 use std::fmt;
 
@@ -242,7 +242,8 @@ fn single_of(numbers: ReplyNumbers) -> Option<Reply>
 /// Each reply is that of its numbers and its parts, where its start and its fault are in range, as those of every reply
 /// are; and so is what each part is answered.
 pub fn replies_are_numbered()
-    ensures replies { (r : Reply) → IsReply r → reply_at (reply_numbers r) (reply_parts r) ≡ Some r }
+    ensures replies { (r : Reply) → IsReply r
+        → reply_at (reply_numbers r) (reply_parts r) ≡ Some r }
     ensures parts { (p : PartReply) → IsPartReply p → part_at (part_numbers p) ≡ Some p }
 {}
 

@@ -9,8 +9,9 @@ use crate::net_name::NetName;
 use crate::quantity::ReviewCount;
 use crate::release::FrozenSheet;
 use crate::team::Team;
+use base::{Copying, Items, Keyed};
 use can_id::Ident;
-use catalogue::{Copying, Items, Keyed, Message, Sheet};
+use dbc_sheet::{Message, Sheet};
 use std::alloc::{AllocError, Global};
 use std::cmp::Ordering;
 

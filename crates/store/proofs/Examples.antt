@@ -1,20 +1,26 @@
 -- Worked examples, computed from the definitions.
-use Rattle.std.proofs.Common.{◌≡◌, true, false, [], ◌∷◌, Err, Ok, refl}
+use Rattle.std.proofs.Common.{◌≡◌, ℕ, true, false, [], ◌∷◌, Err, Ok, ap, arith, inl, inr, length, refl}
 use Rattle.std.specs.Prelude.{Result}
 use Rattle.std.proofs.lemmas.Bool.{false≢true}
+use Rattle.sqlite.specs.Schema.{Schema}
+use Rattle.sqlite_schema.specs.declared.schema.View.{View}
 use Rattle.sqlite.specs.declared.error.Error.TheVariants.{InvalidQuery, SqliteFailure}
 use Rattle.sqlite.specs.declared.error.ErrorCode.TheVariants.{DiskFull, OutOfMemory}
+use Rattle.store_tables.specs.Schema.{no_schema, office_schema, schema_13, schema_9}
 use Rattle.office_history.specs.declared.arrival.Answer.{Answer}
 use Rattle.office_history.specs.declared.arrival.Answer.TheVariants.{KeyReused}
 use Rattle.office_history.specs.declared.arrival.Arrival.{Arrival}
 use Rattle.store.specs.declared.lost.Lost.{Lost}
 use Rattle.store.specs.declared.lost.Lost.TheVariants.{Memory, Store}
 use Rattle.store.specs.Lost.{lost_by, lost_number}
+use Rattle.store.specs.Opening.{MayMigrateFrom, MayOpen}
 use Rattle.office_history.specs.Answering.{reported}
 use Rattle.store.specs.Running.{FailsBy, answered_of, lost_of}
 
 -- a lost arrival isn't in the history, one that is sent again is there twice, with both answers
-the_answered : (a b : Arrival) (x : Answer) → answered_of (a ∷ b ∷ a ∷ b ∷ []) (Err Memory ∷ Ok x ∷ Ok x ∷ Ok KeyReused ∷ []) ≡ reported b x ∷ reported a x ∷ reported b KeyReused ∷ []
+the_answered : (a b : Arrival) (x : Answer)
+    → answered_of (a ∷ b ∷ a ∷ b ∷ []) (Err Memory ∷ Ok x ∷ Ok x ∷ Ok KeyReused ∷ []) ≡ reported b x ∷ reported a x ∷
+    reported b KeyReused ∷ []
 the_answered a b x = refl
 
 the_lost : (a b : Arrival) (x : Answer) → lost_of (a ∷ b ∷ a ∷ []) (Err Memory ∷ Ok x ∷ Err Store ∷ []) ≡ a ∷ a ∷ []
@@ -22,7 +28,10 @@ the_lost a b x = refl
 
 -- after the first failure each arrival is lost by it, and the office has failed; out of memory is no failure
 the_failed : (x : Answer) → FailsBy false (Err Memory ∷ Ok x ∷ Err Store ∷ Err Store ∷ []) true
-the_failed x = ((λ was. absurd (false≢true was)), ((λ was. absurd (false≢true was)), ((λ was. absurd (false≢true was)), ((λ was. refl), refl))))
+the_failed x = (
+  (λ was. absurd (false≢true was)),
+  ((λ was. absurd (false≢true was)), ((λ was. absurd (false≢true was)), ((λ was. refl), refl))),
+)
 
 -- it answers nothing after that, nor is it well again
 never_again : (x : Answer) → FailsBy true (Ok x ∷ []) false → ⊥
@@ -39,3 +48,32 @@ by_rows = refl
 
 of_memory : lost_number Memory ≡ 71
 of_memory = refl
+
+-- ---- which tables are taken
+
+none_is_taken : MayOpen no_schema × MayMigrateFrom no_schema
+none_is_taken = (inl refl, inl refl)
+
+those_without_parts_are_opened : MayOpen schema_13
+those_without_parts_are_opened = inr (inl refl)
+
+-- those of the first offices are for `migrate` alone
+nine_are_migrated : MayMigrateFrom schema_9
+nine_are_migrated = inr (inl refl)
+
+nine_are_not_opened : MayOpen schema_9 → ⊥
+unfolding schema_9 schema_13 office_schema
+nine_are_not_opened (inl same) =
+    let counts : ◌≡◌ {A = ℕ} 9 0 = ap (λ (s : Schema). length s.tables) same in omega (arith, counts)
+nine_are_not_opened (inr (inl same)) =
+    let counts : ◌≡◌ {A = ℕ} 9 13 = ap (λ (s : Schema). length s.tables) same in omega (arith, counts)
+nine_are_not_opened (inr (inr same)) =
+    let counts : ◌≡◌ {A = ℕ} 9 14 = ap (λ (s : Schema). length s.tables) same in omega (arith, counts)
+
+-- the office's tables with a view beside them aren't taken
+one_view_more : (view : View) → MayMigrateFrom (record office_schema { views = view ∷ [] }) → ⊥
+unfolding schema_9 schema_13 office_schema
+one_view_more view (inl same) = let views = ap (λ (s : Schema). s.views) same in cc
+one_view_more view (inr (inl same)) = let views = ap (λ (s : Schema). s.views) same in cc
+one_view_more view (inr (inr (inl same))) = let views = ap (λ (s : Schema). s.views) same in cc
+one_view_more view (inr (inr (inr same))) = let views = ap (λ (s : Schema). s.views) same in cc

@@ -1,9 +1,11 @@
-pub mod Opened
-pub mod InForm
-pub mod Arrived
-pub mod Left
-pub mod Ran
-pub mod Clear
+pub mod OpenedTables
+pub mod TablesInForm
+pub mod Same
+pub mod OneArrival
+pub mod AfterCrash
+pub mod ListOfArrivals
+pub mod ClearNetworks
 mod Examples
-pub mod Decided
-pub mod Counted
+pub mod DecidedOnPart
+pub mod CountedReleases
+pub mod OpenedSo

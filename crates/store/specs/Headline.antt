@@ -14,7 +14,9 @@ use Rattle.store.specs.Running.{KeepsWithOne, answered_of, lost_of}
 -- is the office's reply to the first arrival of its key, or KeyReused; and its teams and commands are in range. The
 -- tables hold it while the connection is open, and unless the office has failed it is open. What a crash leaves holds
 -- that history too, or it and one of the lost arrivals.
-pub record HasRun (h : List Answered) (arrivals : List Arrival) (results : List (Result Answer Lost)) (failed : Bool) (s : State) : Type 0 where
+pub record HasRunOnTables (h : List Answered) (arrivals : List Arrival) (results : List (Result Answer Lost))
+    (failed : Bool)
+    (s : State) : Type 0 where
   pub each : length results ≡ length arrivals
   pub legal : IsLegalHistory (h ++ answered_of arrivals results)
   pub in_range : All IsInRange (h ++ answered_of arrivals results)

@@ -2,7 +2,7 @@
 use Rattle.std.specs.Prelude.{List, IsTrue}
 use Rattle.sqlite.specs.Tree.{Trees}
 use Rattle.sqlite.specs.State.{State}
-use Rattle.office_tables.specs.Tables.{AreOffice, tables_of}
+use Rattle.store_tables.specs.Tables.{AreOffice, tables_of}
 use Rattle.office_history.specs.History.{Answered}
 use Rattle.store.specs.Holds.{Holds}
 

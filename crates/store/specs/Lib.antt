@@ -5,5 +5,9 @@ pub mod Holding
 pub mod Opening
 pub mod Running
 pub mod Headline
+pub mod Calls
+pub mod Making
+pub mod OpensAs
+pub mod Deciding
 pub mod Looking
 pub mod Laws

@@ -1,6 +1,8 @@
 -- What is shown of an office.
-use Rattle.std.specs.Prelude.{◌≡◌, ℕ, List, Option, Some}
-use Rattle.views.specs.NetList.{nets_text}
+use Rattle.std.specs.Prelude.{◌≡◌, ℕ, List, Option, Some, Vec}
+use Rattle.std.specs.Option.{option_map}
+use Rattle.std.specs.declared.alloc.Global.{Global}
+use Rattle.office_views.specs.NetList.{nets_text}
 use Rattle.office_types.specs.declared.state.Office.{Office}
 use Rattle.office_rules.specs.Step.{net_named}
 use Rattle.store_net.specs.Texts.{IsTextOf, live_chart, live_table, live_text, release_at, release_text}
@@ -14,5 +16,10 @@ abbrev pub IsShown : Office → Look → Option (List ℕ) → Type 0
 IsShown office Nets text = text ≡ Some (nets_text office.nets)
 IsShown office (Table net) text = text ≡ live_table (net_named office net)
 IsShown office (Live net) text = text ≡ live_text (net_named office net)
-IsShown office (Release net number) text = (text ≡ release_text (net_named office net) number) × IsTextOf (release_at (net_named office net) number) text
+IsShown office (Release net number) text =
+    (text ≡ release_text (net_named office net) number) × IsTextOf (release_at (net_named office net) number) text
 IsShown office (Chart net message) text = text ≡ live_chart (net_named office net) message
+
+-- the bytes of the text, if there is one
+abbrev pub bytes_of : Option (Vec ℕ Global) → Option (List ℕ)
+bytes_of text = option_map (λ bytes. bytes.items) text

@@ -8,5 +8,7 @@ pub record OfficeView (S : Type 0) : Type 0 where
   pub conn : Held S
   pub failed : Bool
 
+-- the code of an office is that of both
 abbrev pub stored_code : {S : Type 0} → Coded S → Coded (OfficeView S)
-stored_code {S} store = code_by (Held S × Bool) (coded× (held_code store) coded_bool) (λ o. (o.conn, o.failed)) (λ p. record { conn = p.0; failed = p.1 }) (λ _. refl)
+stored_code {S} store = code_by (Held S × Bool) (coded× (held_code store) coded_bool) (λ o. (o.conn, o.failed))
+    (λ p. record { conn = p.0; failed = p.1 }) (λ _. refl)

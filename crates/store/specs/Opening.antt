@@ -6,17 +6,17 @@ use Rattle.sqlite.specs.State.{State}
 use Rattle.sqlite.specs.Tree.{Trees}
 use Rattle.sqlite_catalog.specs.Listing.{IsSound}
 use Rattle.office_rules.specs.Profile.{One, Profile, Two}
-use Rattle.office_tables.specs.Schema.{IsOfficeSchema, no_schema, office_schema, schema_13, schema_9}
-use Rattle.office_tables.specs.Statements.{IsOfficeWith, tables_in}
-use Rattle.office_tables.specs.Tables.{AreNumbered, AreOffice, IsOffice, Tables, no_rows, tables_of}
+use Rattle.store_tables.specs.Schema.{IsOfficeSchema, no_schema, office_schema, schema_13, schema_9}
+use Rattle.store_tables.specs.Statements.{IsOfficeWith, tables_in}
+use Rattle.store_tables.specs.Tables.{AreNumbered, AreOffice, IsOffice, Tables, no_rows, tables_of}
 use Rattle.office_history.specs.History.{Answered}
-use Rattle.store_carry.specs.FormSchema.{schema_of}
-use Rattle.store_carry.specs.Forms.{HoldsAsRows, row_marks}
-use Rattle.store_carry.specs.InForm.{KeepsAs}
-use Rattle.store_carry.specs.Marks.{HasMarks}
-use Rattle.store_carry.specs.declared.forms.Form.{Form}
-use Rattle.store_carry.specs.declared.forms.Form.TheVariants.{All, Bodies, Foreign, Rows}
-use Rattle.store_carry.specs.declared.marks.Marks.TheVariants as marks
+use Rattle.store_migrate.specs.FormSchema.{schema_of}
+use Rattle.store_migrate.specs.Forms.{HoldsAsRows, row_marks}
+use Rattle.store_migrate.specs.InForm.{KeepsAs}
+use Rattle.store_migrate.specs.ProfileRows.{HasProfileRows}
+use Rattle.store_migrate.specs.declared.forms.SchemaForm.{SchemaForm}
+use Rattle.store_migrate.specs.declared.forms.SchemaForm.TheVariants.{All, Bodies, Foreign, Rows}
+use Rattle.store_migrate.specs.declared.profile_rows.ProfileRows.TheVariants as marks
 
 -- the connection has no table
 pub record HasNone (s : State) : Type 0 where
@@ -29,7 +29,7 @@ pub record HasTables (s : State) : Type 0 where
   pub office : AreOffice s.now.trees
 
 -- the same of an office of that form
-pub record HasForm (form : Form) (s : State) : Type 0 where
+pub record HasForm (form : SchemaForm) (s : State) : Type 0 where
   pub is_open : IsTrue s.is_open
   pub sound : IsSound (schema_of form) s.now.trees
   pub numbered : AreNumbered (schema_of form) s.now.trees
@@ -37,7 +37,7 @@ pub record HasForm (form : Form) (s : State) : Type 0 where
 -- the same of an office of some time
 pub record HasOffice (s : State) : Type 0 where
   pub is_open : IsTrue s.is_open
-  pub form : Form
+  pub form : SchemaForm
   pub known : form ≢ Foreign
   pub sound : IsSound (schema_of form) s.now.trees
   pub numbered : AreNumbered (schema_of form) s.now.trees
@@ -53,17 +53,25 @@ abbrev pub MayMigrateFrom : Schema → Type 0
 MayMigrateFrom schema = (schema ≡ no_schema) ⊎ IsOfficeSchema schema
 
 -- the profile is the first
-abbrev pub HasOlderMarks : Tables → Type 0
-HasOlderMarks t = HasMarks t marks.Bodies ⊎ HasMarks t marks.First
+abbrev pub HasOlderProfileRows : Tables → Type 0
+HasOlderProfileRows t = HasProfileRows t marks.Bodies ⊎ HasProfileRows t marks.First
 
 -- the profile is one that tables of this form have: where live messages are bodies the first, and else either
-abbrev pub HasMarksOf : Form → Tables → Type 0
-HasMarksOf Bodies t = HasMarks t marks.Bodies
-HasMarksOf Rows t = HasMarks t marks.First ⊎ HasMarks t marks.Second
-HasMarksOf All t = HasMarks t marks.First ⊎ HasMarks t marks.Second
-HasMarksOf Foreign t = ⊥
+abbrev pub HasProfileRowsOf : SchemaForm → Tables → Type 0
+HasProfileRowsOf Bodies t = HasProfileRows t marks.Bodies
+HasProfileRowsOf Rows t = HasProfileRows t marks.First ⊎ HasProfileRows t marks.Second
+HasProfileRowsOf All t = HasProfileRows t marks.First ⊎ HasProfileRows t marks.Second
+HasProfileRowsOf Foreign t = ⊥
 
 -- ---- what becomes of it
+
+-- the connection is open and shows such a database, which is committed
+abbrev pub HasCommitted : (Database → Type 0) → State → Type 0
+HasCommitted IsSo s = IsSo s.now × (s.committed ≡ s.now) × IsTrue s.is_open
+
+-- the trees are those of such a database
+abbrev pub AreTreesOf : (Database → Type 0) → Trees → Type 0
+AreTreesOf IsSo trees = (db : Database) × IsSo db × (trees ≡ db.trees)
 
 -- the tables as they are made: the rows of profile 2, and no other
 abbrev pub new_tables : Tables
@@ -79,7 +87,7 @@ pub record IsGrown (before : Trees) (db : Database) : Type 0 where
   pub tables_are : tables_of db.trees ≡ tables_in schema_13 before
 
 -- all tables of an office, which hold each history that older ones held
-pub record IsCarried (form : Form) (before : Trees) (db : Database) : Type 0 where
+pub record IsCarried (form : SchemaForm) (before : Trees) (db : Database) : Type 0 where
   pub office : IsOffice db
   pub holds : (h : List Answered) → KeepsAs One form h before → HoldsAsRows Two h (tables_of db.trees)
 
@@ -87,26 +95,28 @@ pub record IsCarried (form : Form) (before : Trees) (db : Database) : Type 0 whe
 pub record MayGrow (before : Database) (after : Trees) : Type 0 where
   pub not_first : before.schema ≢ schema_9
   pub not_all : before.schema ≢ office_schema
-  pub grown : IsOfficeWith schema_13 before → (db : Database) × IsGrown before.trees db × (after ≡ db.trees)
+  pub grown : IsOfficeWith schema_13 before → AreTreesOf (IsGrown before.trees) after
 
 -- The same of carrying over: those that hold each history that older ones held.
 abbrev pub MayCarry : Database → Trees → Type 0
-MayCarry before after = (form : Form) → form ≢ Foreign → IsOfficeWith (schema_of form) before → (db : Database) × IsCarried form before.trees db × (after ≡ db.trees)
+MayCarry before after = (form : SchemaForm) → form ≢ Foreign → IsOfficeWith (schema_of form) before
+    → AreTreesOf (IsCarried form before.trees) after
 
 -- What a crash may leave of an open: only tables whose profile is the second get the table of parts.
 abbrev pub MayComplete : Database → Trees → Type 0
-MayComplete before after = HasMarks (tables_of before.trees) marks.Second × MayGrow before after
+MayComplete before after = HasProfileRows (tables_of before.trees) marks.Second × MayGrow before after
 
 -- The same of `migrate`: only tables whose profile is the first are carried over.
 abbrev pub MayMigrate : Database → Trees → Type 0
-MayMigrate before after = MayComplete before after ⊎ (HasOlderMarks (tables_of before.trees) × MayCarry before after)
+MayMigrate before after = MayComplete before after
+    ⊎ (HasOlderProfileRows (tables_of before.trees) × MayCarry before after)
 
 -- the trees hold the history in the tables of some profile and form, or in those of the first profile
 abbrev pub KeepsInSomeForm : List Answered → Trees → Type 0
-KeepsInSomeForm h db = (p : Profile) × (form : Form) × KeepsAs p form h db
+KeepsInSomeForm h db = (p : Profile) × (form : SchemaForm) × KeepsAs p form h db
 
 abbrev pub KeepsOlder : List Answered → Trees → Type 0
-KeepsOlder h db = (form : Form) × KeepsAs One form h db
+KeepsOlder h db = (form : SchemaForm) × KeepsAs One form h db
 
 -- a connection that shows such trees
 pub record HoldingInSomeForm (h : List Answered) (s : State) : Type 0 where

@@ -40,4 +40,5 @@ FailsBy before (r ∷ results) after = (IsTrue before → r ≡ Err Store) × Fa
 
 -- the trees keep the history, or it and one of the lost arrivals, with an answer
 abbrev pub KeepsWithOne : List Answered → List Arrival → Trees → Type 0
-KeepsWithOne h lost db = Keeps h db ⊎ ((a : Arrival) × Contains lost a × (answer : Answer) × Keeps (h ++ reported a answer ∷ []) db)
+KeepsWithOne h lost db =
+    Keeps h db ⊎ ((a : Arrival) × Contains lost a × (answer : Answer) × Keeps (h ++ reported a answer ∷ []) db)

@@ -1,18 +1,14 @@
 //! Arrivals.
-ghost use Rattle.std.specs.Prelude.{◌≡◌, ◌≤◌, ◌⊎◌, ◌↔◌, ◌++◌, ◌∷◌, [], List, None, Err, false, IsTrue, IfOk, IfErr};
-ghost use Rattle.std.specs.Prelude.{IsSome, OnErr};
+ghost use Rattle.std.specs.Prelude.{◌≡◌, List, None, IsSome};
 ghost use Rattle.sqlite.specs.Held.{state};
-ghost use Rattle.sqlite.specs.State.{HasCleanDisk};
-ghost use Rattle.sqlite_trees.specs.View.{doubt};
-ghost use Rattle.office_tables.specs.Tables.{tables_of};
-ghost use Rattle.office_history.specs.declared.arrival.Answer.{Answer as AnswerModel};
+ghost use Rattle.store_tables.specs.Tables.{tables_of};
 ghost use Rattle.office_history.specs.History.{Answered, first_of};
 ghost use Rattle.office_history.specs.Answering.{answered};
-ghost use Rattle.store.specs.Holding.{Holding, Keeps, Leaves};
+ghost use Rattle.store.specs.Calls.{HoldsOnErr, HoldsOneMoreOnOk, IsOfficeCall, IsSettled};
+ghost use Rattle.store.specs.Calls.{KeepsDoubt, LeavesOneMoreAtMost, SameOnErr, SameOnRepeat};
+ghost use Rattle.store.specs.Calls.{followed_by};
+ghost use Rattle.store_tables.specs.Frames.{Asks, StaysIn};
 ghost use Rattle.store.specs.Holds.{Holds};
-ghost use Rattle.store.specs.Opening.{HasTables};
-ghost use Rattle.store.specs.Lost.{IsOfCall};
-ghost use Rattle.office_tables.specs.Statements.{CommitsNothing, Finds, LeavesNothing, StaysInside, StaysOffice};
 
 use crate::deciding::decide_on_tables;
 use crate::losing::loss_by;
@@ -20,11 +16,11 @@ use crate::lost::Lost;
 use crate::opening::leaves_committed;
 use crate::stored_office::StoredOffice;
 use office_history::{Answer, Key, Request, histories_leave_offices};
-use office_tables::knows_schema;
 use office_types::{Decision, Team, command_is_in_range};
 use sqlite::{Alter, Connection, Error, Transaction};
 use std::alloc::Global;
 use store_net::{answer_at, keep_reply, write_changes};
+use store_tables::knows_schema;
 
 /// Carries out an arrival whose pair of team and key is new: a step of the office.
 fn first_arrival<S: Alter>(
@@ -34,15 +30,11 @@ fn first_arrival<S: Alter>(
     key: &Key,
     request: &Request,
 ) -> Result<Answer, Error>
-    ensures same_reference { tx.new.conn.ghost_name ≡ tx.old.conn.ghost_name }
-    ensures kept { CommitsNothing (state S.Store tx.old.conn.now) (state S.Store tx.new.conn.now) }
-    ensures survives { LeavesNothing (state S.Store tx.old.conn.now) (state S.Store tx.new.conn.now) }
-    ensures inside { StaysInside result (state S.Store tx.old.conn.now) (state S.Store tx.new.conn.now) }
-    ensures office { StaysOffice result (state S.Store tx.old.conn.now) (state S.Store tx.new.conn.now) }
-    ensures held { Finds result (state S.Store tx.old.conn.now) (state S.Store tx.new.conn.now)
-        (λ answer t. (h : List Answered) → Holds h t
+    ensures frame { StaysIn S.Store tx.old tx.new result }
+    ensures held { Asks S.Store tx.old tx.new result (λ answer t.
+        (h : List Answered) → Holds h t
         → first_of h (answered team.now key.now request.now answer) ≡ None
-        → Holds (h ++ answered team.now key.now request.now answer ∷ [])
+        → Holds (followed_by h (answered team.now key.now request.now answer))
         (tables_of (state S.Store tx.new.conn.now).now.trees)) }
 {
     histories_leave_offices();
@@ -64,17 +56,13 @@ fn arrive_inside<S: Alter>(
     key: &Key,
     request: &Request,
 ) -> Result<Answer, Error>
-    ensures same_reference { tx.new.conn.ghost_name ≡ tx.old.conn.ghost_name }
-    ensures kept { CommitsNothing (state S.Store tx.old.conn.now) (state S.Store tx.new.conn.now) }
-    ensures survives { LeavesNothing (state S.Store tx.old.conn.now) (state S.Store tx.new.conn.now) }
-    ensures inside { StaysInside result (state S.Store tx.old.conn.now) (state S.Store tx.new.conn.now) }
-    ensures office { StaysOffice result (state S.Store tx.old.conn.now) (state S.Store tx.new.conn.now) }
-    ensures held { Finds result (state S.Store tx.old.conn.now) (state S.Store tx.new.conn.now)
-        (λ answer t. (h : List Answered) → Holds h t
-        → Holds (h ++ answered team.now key.now request.now answer ∷ [])
+    ensures frame { StaysIn S.Store tx.old tx.new result }
+    ensures held { Asks S.Store tx.old tx.new result (λ answer t.
+        (h : List Answered) → Holds h t
+        → Holds (followed_by h (answered team.now key.now request.now answer))
         (tables_of (state S.Store tx.new.conn.now).now.trees)) }
-    ensures repeated { Finds result (state S.Store tx.old.conn.now) (state S.Store tx.new.conn.now)
-        (λ answer t. (h : List Answered) → Holds h t
+    ensures repeated { Asks S.Store tx.old tx.new result (λ answer t.
+        (h : List Answered) → Holds h t
         → IsSome (first_of h (answered team.now key.now request.now answer))
         → (state S.Store tx.new.conn.now).now ≡ (state S.Store tx.old.conn.now).now) }
 {
@@ -95,26 +83,17 @@ pub(crate) fn transact<S: Alter>(
     key: &Key,
     request: &Request,
 ) -> Result<Answer, Error>
-    requires { (state S.Store conn.old).in_transaction ≡ false }
-    ensures autocommit { (state S.Store conn.new).in_transaction ≡ false }
-    ensures clean { doubt (state S.Store conn.old).is_clean ≤ doubt (state S.Store conn.new).is_clean }
-    ensures answered { HasCleanDisk (state S.Store conn.new) → (h : List Answered) → Holding h (state S.Store conn.old)
-        → IfOk result (λ answer. Holding (h ++ answered team.now key.now request.now answer ∷ [])
-        (state S.Store conn.new) × Leaves (Keeps (h ++ answered team.now key.now request.now answer ∷ []))
-        (state S.Store conn.new)) }
-    ensures lost { HasCleanDisk (state S.Store conn.new) → (h : List Answered) → Holding h (state S.Store conn.old)
-        → IsTrue (state S.Store conn.new).is_open → OnErr result (Holding h (state S.Store conn.new)) }
-    ensures lost_same { HasCleanDisk (state S.Store conn.new) → HasTables (state S.Store conn.old)
-        → IsTrue (state S.Store conn.new).is_open
-        → OnErr result (((state S.Store conn.new).now ≡ (state S.Store conn.old).now)
-        × ((state S.Store conn.new).committed ≡ (state S.Store conn.old).committed)) }
-    ensures repeated { HasCleanDisk (state S.Store conn.new) → (h : List Answered) → Holding h (state S.Store conn.old)
-        → IfOk result (λ answer. IsSome (first_of h (answered team.now key.now request.now answer))
-        → ((state S.Store conn.new).now ≡ (state S.Store conn.old).now)
-        × ((state S.Store conn.new).committed ≡ (state S.Store conn.old).committed)) }
-    ensures left { HasCleanDisk (state S.Store conn.new) → (h : List Answered) → Holding h (state S.Store conn.old)
-        → OnErr result (Leaves (λ db. Keeps h db ⊎ ((answer : AnswerModel)
-        × Keeps (h ++ answered team.now key.now request.now answer ∷ []) db)) (state S.Store conn.new)) }
+    requires { IsSettled S.Store conn.old }
+    ensures autocommit { IsSettled S.Store conn.new }
+    ensures clean { KeepsDoubt S.Store conn.old conn.new }
+    ensures answered { HoldsOneMoreOnOk S.Store conn.old conn.new result
+        (answered team.now key.now request.now) }
+    ensures repeated { SameOnRepeat S.Store conn.old conn.new result
+        (answered team.now key.now request.now) }
+    ensures lost { HoldsOnErr S.Store conn.old conn.new result }
+    ensures lost_same { SameOnErr S.Store conn.old conn.new result }
+    ensures left { LeavesOneMoreAtMost S.Store conn.old conn.new result
+        (answered team.now key.now request.now) }
 {
     knows_schema(conn);
     leaves_committed(conn);
@@ -142,34 +121,15 @@ impl<S: Alter> StoredOffice<S> {
         key: &Key,
         request: &Request,
     ) -> Result<Answer, Lost>
-        ensures failed { IsTrue self.new.failed ↔ (result ≡ Err Lost.Store) }
-        ensures refused { IsTrue self.old.failed → self.new ≡ self.old }
-        ensures named { IfErr result IsOfCall }
-        ensures clean { doubt (state S.Store self.old.conn).is_clean ≤ doubt (state S.Store self.new.conn).is_clean }
-        ensures answered { HasCleanDisk (state S.Store self.new.conn) → (h : List Answered)
-            → Holding h (state S.Store self.old.conn)
-            → IfOk result (λ answer. Holding (h ++ answered team.now key.now request.now answer ∷ [])
-            (state S.Store self.new.conn) × Leaves (Keeps (h ++ answered team.now key.now request.now answer ∷ []))
-            (state S.Store self.new.conn)) }
-        ensures lost { HasCleanDisk (state S.Store self.new.conn) → (h : List Answered)
-            → Holding h (state S.Store self.old.conn) → IsTrue (state S.Store self.new.conn).is_open
-            → OnErr result (Holding h (state S.Store self.new.conn)) }
-        ensures lost_same { HasCleanDisk (state S.Store self.new.conn) → HasTables (state S.Store self.old.conn)
-            → IsTrue (state S.Store self.new.conn).is_open
-            → OnErr result (((state S.Store self.new.conn).now ≡ (state S.Store self.old.conn).now)
-            × ((state S.Store self.new.conn).committed ≡ (state S.Store self.old.conn).committed)) }
-        ensures repeated { HasCleanDisk (state S.Store self.new.conn) → (h : List Answered)
-            → Holding h (state S.Store self.old.conn)
-            → IfOk result (λ answer. IsSome (first_of h (answered team.now key.now request.now answer))
-            → ((state S.Store self.new.conn).now ≡ (state S.Store self.old.conn).now)
-            × ((state S.Store self.new.conn).committed ≡ (state S.Store self.old.conn).committed)) }
-        ensures memory { HasCleanDisk (state S.Store self.new.conn)
-            → IfErr result (λ lost. lost ≡ Lost.Memory → IsTrue (state S.Store self.new.conn).is_open) }
-        ensures left { HasCleanDisk (state S.Store self.new.conn) → (h : List Answered)
-            → Holding h (state S.Store self.old.conn)
-            → OnErr result (Leaves (λ db. Keeps h db
-            ⊎ ((answer : AnswerModel) × Keeps (h ++ answered team.now key.now request.now answer ∷ []) db))
-            (state S.Store self.new.conn)) }
+        ensures call { IsOfficeCall S.Store self.old self.new result }
+        ensures answered { HoldsOneMoreOnOk S.Store self.old.conn self.new.conn result
+            (answered team.now key.now request.now) }
+        ensures repeated { SameOnRepeat S.Store self.old.conn self.new.conn result
+            (answered team.now key.now request.now) }
+        ensures lost { HoldsOnErr S.Store self.old.conn self.new.conn result }
+        ensures lost_same { SameOnErr S.Store self.old.conn self.new.conn result }
+        ensures left { LeavesOneMoreAtMost S.Store self.old.conn self.new.conn result
+            (answered team.now key.now request.now) }
     {
         leaves_committed(&self.conn);
         let _settled = self.conn.is_autocommit();

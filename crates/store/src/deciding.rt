@@ -5,21 +5,13 @@
 //! these they read how many there are, or what is in them, where they depend on it (`releases_read` in
 //! `office_rules/specs/Commands.antt`). The book is read for `take_spn`, for a `grant` of suspect parameter numbers,
 //! and with all of a network.
-ghost use Rattle.std.specs.Prelude.{◌≡◌, true, false, Option, Some, IfSome};
-ghost use Rattle.std.specs.List.{list_any};
-ghost use Rattle.sqlite.specs.Held.{state};
+ghost use Rattle.std.specs.Prelude.{◌≡◌, true, false, Some};
 ghost use Rattle.office_rules.specs.Commands.{reads_bodies, reads_releases};
 ghost use Rattle.office_facts.specs.Scope.{reads_part};
-ghost use Rattle.office_rules.specs.Change.{IsDecision, is_release};
-ghost use Rattle.office_rules.specs.Kept.{IsNet};
-ghost use Rattle.office_types.specs.declared.book.SpnBook.{SpnBook as Book};
-ghost use Rattle.office_types.specs.declared.state.Net.{Net as Network};
-ghost use Rattle.store_rows.specs.NetIn.{IsNetAt};
-ghost use Rattle.store_rows.specs.Rows.{IsBookIn};
-ghost use Rattle.store_net.specs.Writing.{IsNext};
-ghost use Rattle.office_tables.specs.Statements.{ChangesNothing, CommitsNothing, Finds, LeavesNothing};
+ghost use Rattle.store.specs.Deciding.{IsDecidedIn, IsDecidedInOffice, IsDecidedWithoutRelease};
+ghost use Rattle.store_tables.specs.Frames.{Asks, ReadsOnly};
 
-use catalogue::Items;
+use base::Items;
 use office_decide::{decide, decide_by_excerpt};
 use office_facts::{reads_bodies, reads_book, reads_part, reads_releases, scope_of};
 use office_law::{bodies_dont_count, releases_dont_count};
@@ -44,14 +36,9 @@ fn decide_by_part<S: Alter>(
     command: &Command,
 ) -> Result<Decision, Error>
     requires { reads_part command.now.task ≡ true }
-    ensures same_reference { tx.new.conn.ghost_name ≡ tx.old.conn.ghost_name }
-    ensures decided { Finds result (state S.Store tx.old.conn.now) (state S.Store tx.new.conn.now)
-        (λ d t. (net : Option Network) (book : Book) → IsNetAt command.now.net t net → IfSome net IsNet
-        → IsBookIn t book → IsDecision team.now (record { net = net; book = book }) command.now d
-        × (list_any is_release d.changes ≡ false)) }
-    ensures same { ChangesNothing result (state S.Store tx.old.conn.now) (state S.Store tx.new.conn.now) }
-    ensures kept { CommitsNothing (state S.Store tx.old.conn.now) (state S.Store tx.new.conn.now) }
-    ensures survives { LeavesNothing (state S.Store tx.old.conn.now) (state S.Store tx.new.conn.now) }
+    ensures decided { Asks S.Store tx.old tx.new result
+        (IsDecidedWithoutRelease team.now command.now) }
+    ensures frame { ReadsOnly S.Store tx.old tx.new result }
 {
     releases_dont_count();
     let Task::Act(action) = &command.task else {
@@ -82,13 +69,8 @@ fn decide_without_releases<S: Alter>(
     command: &Command,
 ) -> Result<(Decision, Option<u32>), Error>
     requires { reads_releases command.now.task ≡ false }
-    ensures same_reference { tx.new.conn.ghost_name ≡ tx.old.conn.ghost_name }
-    ensures decided { Finds result (state S.Store tx.old.conn.now) (state S.Store tx.new.conn.now)
-        (λ it t. (net : Option Network) (book : Book) → IsNetAt command.now.net t net → IsBookIn t book
-        → IsDecision team.now (record { net = net; book = book }) command.now it.0 × IsNext it.1 net it.0.changes) }
-    ensures same { ChangesNothing result (state S.Store tx.old.conn.now) (state S.Store tx.new.conn.now) }
-    ensures kept { CommitsNothing (state S.Store tx.old.conn.now) (state S.Store tx.new.conn.now) }
-    ensures survives { LeavesNothing (state S.Store tx.old.conn.now) (state S.Store tx.new.conn.now) }
+    ensures decided { Asks S.Store tx.old tx.new result (IsDecidedIn team.now command.now) }
+    ensures frame { ReadsOnly S.Store tx.old tx.new result }
 {
     releases_dont_count();
     let net = unreleased_net_at(alloc, tx, &command.net)?;
@@ -106,13 +88,8 @@ fn decide_by_count<S: Alter>(
     command: &Command,
 ) -> Result<(Decision, Option<u32>), Error>
     requires { reads_bodies command.now.task ≡ false }
-    ensures same_reference { tx.new.conn.ghost_name ≡ tx.old.conn.ghost_name }
-    ensures decided { Finds result (state S.Store tx.old.conn.now) (state S.Store tx.new.conn.now)
-        (λ it t. (net : Option Network) (book : Book) → IsNetAt command.now.net t net → IsBookIn t book
-        → IsDecision team.now (record { net = net; book = book }) command.now it.0 × IsNext it.1 net it.0.changes) }
-    ensures same { ChangesNothing result (state S.Store tx.old.conn.now) (state S.Store tx.new.conn.now) }
-    ensures kept { CommitsNothing (state S.Store tx.old.conn.now) (state S.Store tx.new.conn.now) }
-    ensures survives { LeavesNothing (state S.Store tx.old.conn.now) (state S.Store tx.new.conn.now) }
+    ensures decided { Asks S.Store tx.old tx.new result (IsDecidedIn team.now command.now) }
+    ensures frame { ReadsOnly S.Store tx.old tx.new result }
 {
     bodies_dont_count();
     let net = counted_net_at(alloc, tx, &command.net)?;
@@ -129,13 +106,8 @@ fn decide_by_net<S: Alter>(
     team: &Team,
     command: &Command,
 ) -> Result<(Decision, Option<u32>), Error>
-    ensures same_reference { tx.new.conn.ghost_name ≡ tx.old.conn.ghost_name }
-    ensures decided { Finds result (state S.Store tx.old.conn.now) (state S.Store tx.new.conn.now)
-        (λ it t. (net : Option Network) (book : Book) → IsNetAt command.now.net t net → IsBookIn t book
-        → IsDecision team.now (record { net = net; book = book }) command.now it.0 × IsNext it.1 net it.0.changes) }
-    ensures same { ChangesNothing result (state S.Store tx.old.conn.now) (state S.Store tx.new.conn.now) }
-    ensures kept { CommitsNothing (state S.Store tx.old.conn.now) (state S.Store tx.new.conn.now) }
-    ensures survives { LeavesNothing (state S.Store tx.old.conn.now) (state S.Store tx.new.conn.now) }
+    ensures decided { Asks S.Store tx.old tx.new result (IsDecidedIn team.now command.now) }
+    ensures frame { ReadsOnly S.Store tx.old tx.new result }
 {
     let net = net_at(alloc, tx, &command.net)?;
     let book = book_of(alloc, tx)?;
@@ -153,14 +125,8 @@ pub(crate) fn decide_on_tables<S: Alter>(
     team: &Team,
     command: &Command,
 ) -> Result<(Decision, Option<u32>), Error>
-    ensures same_reference { tx.new.conn.ghost_name ≡ tx.old.conn.ghost_name }
-    ensures decided { Finds result (state S.Store tx.old.conn.now) (state S.Store tx.new.conn.now)
-        (λ it t. (net : Option Network) (book : Book) → IsNetAt command.now.net t net → IfSome net IsNet
-        → IsBookIn t book → IsDecision team.now (record { net = net; book = book }) command.now it.0
-        × IsNext it.1 net it.0.changes) }
-    ensures same { ChangesNothing result (state S.Store tx.old.conn.now) (state S.Store tx.new.conn.now) }
-    ensures kept { CommitsNothing (state S.Store tx.old.conn.now) (state S.Store tx.new.conn.now) }
-    ensures survives { LeavesNothing (state S.Store tx.old.conn.now) (state S.Store tx.new.conn.now) }
+    ensures decided { Asks S.Store tx.old tx.new result (IsDecidedInOffice team.now command.now) }
+    ensures frame { ReadsOnly S.Store tx.old tx.new result }
 {
     if reads_part(&command.task) {
         let decision = decide_by_part(alloc, tx, team, command)?;

@@ -13,8 +13,9 @@
 //! [`held_networks_are_apart`] of an answer after other histories.
 //!
 //! The other definitions are in `specs/`: `Holding.antt` (connections, and what a crash leaves, that hold a history),
-//! `Opening.antt`, `Running.antt`, `Looking.antt` and `Laws.antt` by the names of the modules,
-//! `Office.antt` (an office as contracts see it) and `Lost.antt`.
+//! `Calls.antt` (what a call on an office promises), `OpensAs.antt` (what opening and migrating do), `Making.antt` (what
+//! makes the tables below them), `Opening.antt`, `Deciding.antt`, `Running.antt`, `Looking.antt` and `Laws.antt` by the
+//! names of the modules, `Office.antt` (an office as contracts see it) and `Lost.antt`.
 #![tactic(auto)]
 
 mod arriving;
@@ -32,5 +33,5 @@ pub use laws::{held_networks_are_apart, held_networks_are_clear, held_numbers_me
 pub use lost::Lost;
 pub use office_history::{Answer, Arrival, Key, Request};
 pub use office_types::Look;
-pub use store_carry::Watch;
+pub use store_migrate::Watch;
 pub use stored_office::StoredOffice;

@@ -1,8 +1,9 @@
 //! Calls that are lost.
-ghost use Rattle.std.specs.Prelude.{◌≡◌, false, Err, IsTrue};
+ghost use Rattle.std.specs.Prelude.{◌≡◌, Err, IsTrue};
 ghost use Rattle.sqlite.specs.Held.{state};
-ghost use Rattle.sqlite.specs.State.{HasCleanDisk, Survives};
+ghost use Rattle.sqlite.specs.State.{HasCleanDisk};
 ghost use Rattle.sqlite_resolve.specs.declared.error.CompileError.{CompileError};
+ghost use Rattle.store.specs.Calls.{IsSettled, OnlyAsksWhetherOpen};
 ghost use Rattle.store.specs.Lost.{IsOfCall};
 
 use crate::lost::Lost;
@@ -10,7 +11,8 @@ use sqlite::{Alter, Connection, Error, Statement};
 
 /// Whether the text was refused for what it is.
 fn is_refused(prepared: &Result<Statement, Error>) -> bool
-    ensures { IsTrue result → (fault : CompileError) × (prepared.now ≡ Err (Error.SqlInputError fault)) }
+    ensures { IsTrue result
+        → (fault : CompileError) × (prepared.now ≡ Err (Error.SqlInputError fault)) }
 {
     matches!(prepared, Err(Error::SqlInputError(_)))
 }
@@ -19,16 +21,10 @@ fn is_refused(prepared: &Result<Statement, Error>) -> bool
 /// This takes no new memory, since memory may be what is lacking: an open one refuses a text that begins no statement
 /// before it requests any.
 fn is_open<S: Alter>(conn: &mut Connection<S>) -> bool
-    requires { (state S.Store conn.old).in_transaction ≡ false }
-    ensures autocommit { (state S.Store conn.new).in_transaction ≡ false }
-    ensures open { HasCleanDisk (state S.Store conn.new) → IsTrue result → IsTrue (state S.Store conn.new).is_open }
-    ensures was_open { HasCleanDisk (state S.Store conn.new) → IsTrue (state S.Store conn.new).is_open
-        → IsTrue (state S.Store conn.old).is_open }
-    ensures same { HasCleanDisk (state S.Store conn.new) → IsTrue (state S.Store conn.new).is_open
-        → (state S.Store conn.new).now ≡ (state S.Store conn.old).now }
-    ensures committed { HasCleanDisk (state S.Store conn.new) → IsTrue (state S.Store conn.new).is_open
-        → (state S.Store conn.new).committed ≡ (state S.Store conn.old).committed }
-    ensures survives { Survives (state S.Store conn.old) (state S.Store conn.new) (λ _. ⊥) }
+    requires { IsSettled S.Store conn.old }
+    ensures open { HasCleanDisk (state S.Store conn.new) → IsTrue result
+        → IsTrue (state S.Store conn.new).is_open }
+    ensures frame { OnlyAsksWhetherOpen S.Store conn.old conn.new }
 {
     let _settled_before = conn.is_autocommit();
     let prepared = conn.prepare("no statement");
@@ -39,18 +35,11 @@ fn is_open<S: Alter>(conn: &mut Connection<S>) -> bool
 /// Why a call is lost in which this error came: out of memory, if the connection is still open, and else an error of
 /// the store.
 pub(crate) fn loss_by<S: Alter>(conn: &mut Connection<S>, error: Error) -> Lost
-    requires { (state S.Store conn.old).in_transaction ≡ false }
-    ensures autocommit { (state S.Store conn.new).in_transaction ≡ false }
+    requires { IsSettled S.Store conn.old }
     ensures named { IsOfCall result }
     ensures open { HasCleanDisk (state S.Store conn.new) → result ≡ Lost.Memory
         → IsTrue (state S.Store conn.new).is_open }
-    ensures was_open { HasCleanDisk (state S.Store conn.new) → IsTrue (state S.Store conn.new).is_open
-        → IsTrue (state S.Store conn.old).is_open }
-    ensures same { HasCleanDisk (state S.Store conn.new) → IsTrue (state S.Store conn.new).is_open
-        → (state S.Store conn.new).now ≡ (state S.Store conn.old).now }
-    ensures committed { HasCleanDisk (state S.Store conn.new) → IsTrue (state S.Store conn.new).is_open
-        → (state S.Store conn.new).committed ≡ (state S.Store conn.old).committed }
-    ensures survives { Survives (state S.Store conn.old) (state S.Store conn.new) (λ _. ⊥) }
+    ensures frame { OnlyAsksWhetherOpen S.Store conn.old conn.new }
 {
     let lost = Lost::from(error);
     if lost == Lost::Memory && !is_open(conn) {

@@ -1,52 +1,43 @@
 //! Carrying tables of the first profile over to the second.
-ghost use Rattle.std.specs.Prelude.{◌≡◌, ◌≢◌, ◌≤◌, ◌⊎◌, [], List, false, IsTrue, IfOk, IfErr, OnOk, OnErr, MatchResult};
-ghost use Rattle.sqlite.specs.Effect.{Database};
+ghost use Rattle.std.specs.Prelude.{◌≡◌, ◌≢◌, IsTrue, OnOk};
 ghost use Rattle.sqlite.specs.Held.{state};
-ghost use Rattle.sqlite.specs.State.{HasCleanDisk, IsUnchanged, Survives};
-ghost use Rattle.sqlite_trees.specs.View.{doubt};
-ghost use Rattle.office_tables.specs.Schema.{IsOfficeSchema, no_schema, office_schema, schema_9, schema_13};
-ghost use Rattle.office_tables.specs.Statements.{IsOfficeWith};
-ghost use Rattle.office_tables.specs.Tables.{tables_of};
-ghost use Rattle.office_history.specs.History.{Answered};
-ghost use Rattle.store_carry.specs.FormSchema.{schema_of};
-ghost use Rattle.store_carry.specs.InForm.{first_marks};
-ghost use Rattle.store_carry.specs.Marks.{HasMarks};
-ghost use Rattle.store_carry.specs.declared.forms.Form.{Form as FormOf};
-ghost use Rattle.store.specs.Holding.{Holding, Keeps, Leaves};
-ghost use Rattle.store.specs.Lost.{IsOfCall};
-ghost use Rattle.store.specs.Opening.{HasForm, HasMarksOf, HasNone, HasOffice, HasTables, HoldingInSomeForm};
-ghost use Rattle.store.specs.Opening.{IsCarried, IsGrown, IsNew, MayCarry, MayMigrate, MayMigrateFrom};
+ghost use Rattle.sqlite.specs.State.{Survives};
+ghost use Rattle.store_tables.specs.Schema.{IsOfficeSchema};
+ghost use Rattle.store_migrate.specs.FormSchema.{schema_of};
+ghost use Rattle.store_migrate.specs.InForm.{first_profile_rows};
+ghost use Rattle.store_migrate.specs.declared.forms.SchemaForm.{SchemaForm as FormOf};
+ghost use Rattle.store.specs.Calls.{IsSettled, KeepsDoubt};
+ghost use Rattle.store.specs.Making.{CommitsOnOk, HasSchema, KeepsCommitOnErr, LeavesNew};
+ghost use Rattle.store.specs.Making.{MakesCurrentOnOk, NotCurrentOnErr, OnForm};
+ghost use Rattle.store.specs.Opening.{IsCarried, MayCarry, MayMigrate};
+ghost use Rattle.store.specs.OpensAs.{LeavesInForm, Migrates, conn_of};
 
 use crate::lost::Lost;
 use crate::opening::{complete, is_office, leaves_committed, refuse, start};
 use crate::stored_office::StoredOffice;
-use office_tables::{is_new, knows_tables};
 use sqlite::{Alter, Connection, Error};
 use std::alloc::Global;
-use store_carry::{Form, Marks, Watch, carry, form_of, read_marks};
+use store_migrate::{ProfileRows, SchemaForm, Watch, carry, form_of, read_profile_rows};
+use store_tables::{is_new, knows_tables};
 
 /// Carries tables whose profile is the first over, in one transaction. Where there is an error they are as before.
 fn carry_all<S: Alter, W: Watch>(
     alloc: Global,
     conn: &mut Connection<S>,
-    marks: Marks,
+    marks: ProfileRows,
     watch: &mut W,
 ) -> Result<(), Error>
-    requires { (state S.Store conn.old).in_transaction ≡ false }
-    ensures autocommit { (state S.Store conn.new).in_transaction ≡ false }
-    ensures carried { HasCleanDisk (state S.Store conn.new) → (form : FormOf) → form ≢ Form.Foreign
-        → IsOfficeWith (schema_of form) (state S.Store conn.old).now
-        → OnOk result (IsCarried form (state S.Store conn.old).now.trees (state S.Store conn.new).now
-        × ((state S.Store conn.new).committed ≡ (state S.Store conn.new).now)
-        × IsTrue (state S.Store conn.new).is_open) }
-    ensures matched { (form : FormOf) → form ≢ Form.Foreign → (state S.Store conn.old).now.schema ≡ schema_of form
-        → OnOk result (marks ≡ first_marks form) }
-    ensures back { HasCleanDisk (state S.Store conn.new) → (form : FormOf) → form ≢ Form.Foreign
-        → IsOfficeWith (schema_of form) (state S.Store conn.old).now → IsTrue (state S.Store conn.new).is_open
-        → OnErr result ((state S.Store conn.new).committed ≡ (state S.Store conn.old).committed) }
+    requires { IsSettled S.Store conn.old }
+    ensures autocommit { IsSettled S.Store conn.new }
+    ensures carried { OnForm S.Store conn.old conn.new (λ form.
+        CommitsOnOk S.Store conn.new result (IsCarried form (state S.Store conn.old).now.trees)) }
+    ensures matched { (form : FormOf) → form ≢ SchemaForm.Foreign
+        → HasSchema S.Store conn.old (schema_of form)
+        → OnOk result (marks ≡ first_profile_rows form) }
+    ensures back { OnForm S.Store conn.old conn.new (λ form. IsTrue (state S.Store conn.new).is_open
+        → KeepsCommitOnErr S.Store conn.old conn.new result) }
     ensures survives { Survives (state S.Store conn.old) (state S.Store conn.new)
         (MayCarry (state S.Store conn.old).now) }
-    ensures clean { doubt (state S.Store conn.old).is_clean ≤ doubt (state S.Store conn.new).is_clean }
 {
     let form = form_of(conn);
     let mut tx = conn.transaction();
@@ -60,50 +51,15 @@ fn make_current<S: Alter, W: Watch>(
     conn: &mut Connection<S>,
     watch: &mut W,
 ) -> Result<(), Lost>
-    requires { (state S.Store conn.old).in_transaction ≡ false }
-    ensures autocommit { (state S.Store conn.new).in_transaction ≡ false }
-    ensures made { HasCleanDisk (state S.Store conn.new) → (state S.Store conn.old).now.schema ≡ no_schema
-        → OnOk result (IsNew (state S.Store conn.new).now
-        × ((state S.Store conn.new).committed ≡ (state S.Store conn.new).now)
-        × IsTrue (state S.Store conn.new).is_open) }
-    ensures same { HasCleanDisk (state S.Store conn.new) → (state S.Store conn.old).now.schema ≡ office_schema
-        → HasMarks (tables_of (state S.Store conn.old).now.trees) Marks.Second
-        → OnOk result (IsUnchanged (state S.Store conn.old) (state S.Store conn.new)) }
-    ensures grown { HasCleanDisk (state S.Store conn.new) → IsOfficeWith schema_13 (state S.Store conn.old).now
-        → HasMarks (tables_of (state S.Store conn.old).now.trees) Marks.Second
-        → OnOk result (IsGrown (state S.Store conn.old).now.trees (state S.Store conn.new).now
-        × ((state S.Store conn.new).committed ≡ (state S.Store conn.new).now)
-        × IsTrue (state S.Store conn.new).is_open) }
-    ensures known { HasCleanDisk (state S.Store conn.new) → (form : FormOf) → form ≢ Form.Foreign
-        → (state S.Store conn.old).now.schema ≡ schema_of form
-        → OnOk result (HasMarksOf form (tables_of (state S.Store conn.old).now.trees)) }
-    ensures bodies { HasCleanDisk (state S.Store conn.new) → (state S.Store conn.old).now.schema ≡ schema_9
-        → HasMarks (tables_of (state S.Store conn.old).now.trees) Marks.Second → OnOk result ⊥ }
-    ensures taken { HasCleanDisk (state S.Store conn.new)
-        → OnOk result (MayMigrateFrom (state S.Store conn.old).now.schema) }
-    ensures carried { HasCleanDisk (state S.Store conn.new) → (form : FormOf) → form ≢ Form.Foreign
-        → IsOfficeWith (schema_of form) (state S.Store conn.old).now
-        → ¬ HasMarks (tables_of (state S.Store conn.old).now.trees) Marks.Second
-        → OnOk result (IsCarried form (state S.Store conn.old).now.trees (state S.Store conn.new).now
-        × ((state S.Store conn.new).committed ≡ (state S.Store conn.new).now)
-        × IsTrue (state S.Store conn.new).is_open) }
-    ensures newer { HasCleanDisk (state S.Store conn.new) → IsOfficeSchema (state S.Store conn.old).now.schema
-        → IfErr result (λ lost. lost ≡ Lost.NewerProfile
-        → HasMarks (tables_of (state S.Store conn.old).now.trees) Marks.Newer) }
-    ensures never_older { IfErr result (λ lost. lost ≢ Lost.OlderProfile) }
-    ensures named { (state S.Store conn.old).now.schema ≡ no_schema → IfErr result (λ lost. IsOfCall lost) }
-    ensures back { HasCleanDisk (state S.Store conn.new) → (form : FormOf) → form ≢ Form.Foreign
-        → IsOfficeWith (schema_of form) (state S.Store conn.old).now → IsTrue (state S.Store conn.new).is_open
-        → OnErr result ((state S.Store conn.new).committed ≡ (state S.Store conn.old).committed) }
-    ensures new_back { HasCleanDisk (state S.Store conn.new) → (state S.Store conn.old).now.schema ≡ no_schema
-        → IsTrue (state S.Store conn.new).is_open
-        → OnErr result ((state S.Store conn.new).committed ≡ (state S.Store conn.old).committed) }
-    ensures new_survives { (state S.Store conn.old).now.schema ≡ no_schema
-        → Survives (state S.Store conn.old) (state S.Store conn.new)
-        (λ trees. (db : Database) × IsNew db × (trees ≡ db.trees)) }
+    requires { IsSettled S.Store conn.old }
+    ensures autocommit { IsSettled S.Store conn.new }
+    ensures current { MakesCurrentOnOk S.Store conn.old conn.new result }
+    ensures not_current { NotCurrentOnErr S.Store conn.old conn.new result }
+    ensures new_survives { LeavesNew S.Store conn.old conn.new }
     ensures survives { IsOfficeSchema (state S.Store conn.old).now.schema
-        → Survives (state S.Store conn.old) (state S.Store conn.new) (MayMigrate (state S.Store conn.old).now) }
-    ensures clean { doubt (state S.Store conn.old).is_clean ≤ doubt (state S.Store conn.new).is_clean }
+        → Survives (state S.Store conn.old) (state S.Store conn.new)
+        (MayMigrate (state S.Store conn.old).now) }
+    ensures clean { KeepsDoubt S.Store conn.old conn.new }
 {
     if is_new(conn) {
         return start(conn);
@@ -111,10 +67,10 @@ fn make_current<S: Alter, W: Watch>(
     if !is_office(conn) {
         return refuse(conn);
     }
-    match read_marks(conn)? {
-        Marks::Second => complete(conn),
-        Marks::Newer => Err(Lost::NewerProfile),
-        Marks::Foreign => Err(Lost::Store),
+    match read_profile_rows(conn)? {
+        ProfileRows::Second => complete(conn),
+        ProfileRows::Newer => Err(Lost::NewerProfile),
+        ProfileRows::Foreign => Err(Lost::Store),
         older => {
             carry_all(alloc, conn, older, watch)?;
             Ok(())
@@ -132,51 +88,10 @@ impl<S: Alter> StoredOffice<S> {
         conn: Connection<S>,
         watch: &mut W,
     ) -> Result<StoredOffice<S>, (Lost, Connection<S>)>
-        requires { (state S.Store conn).in_transaction ≡ false }
-        ensures autocommit { IfErr result (λ lost. (state S.Store lost.1).in_transaction ≡ false) }
-        ensures working { IfOk result (λ office. office.failed ≡ false) }
-        ensures taken { IfOk result (λ office. HasCleanDisk (state S.Store office.conn)
-            → MayMigrateFrom (state S.Store conn).now.schema) }
-        ensures made { IfOk result (λ office. HasCleanDisk (state S.Store office.conn) → HasNone (state S.Store conn)
-            → Holding [] (state S.Store office.conn) × Leaves (Keeps []) (state S.Store office.conn)) }
-        ensures unmade { IfErr result (λ lost. HasCleanDisk (state S.Store lost.1) → HasNone (state S.Store conn)
-            → Leaves (λ db. (db ≡ (state S.Store conn).committed.trees) ⊎ Keeps [] db) (state S.Store lost.1)) }
-        ensures same { IfOk result (λ office. HasCleanDisk (state S.Store office.conn) → HasTables (state S.Store conn)
-            → HasMarks (tables_of (state S.Store conn).now.trees) Marks.Second
-            → IsUnchanged (state S.Store conn) (state S.Store office.conn)) }
-        ensures migrated { IfOk result (λ office. HasCleanDisk (state S.Store office.conn) → (h : List Answered)
-            → HoldingInSomeForm h (state S.Store conn) → Holding h (state S.Store office.conn)
-            × Leaves (Keeps h) (state S.Store office.conn)) }
-        ensures grown { IfOk result (λ office. HasCleanDisk (state S.Store office.conn)
-            → HasForm Form.Rows (state S.Store conn)
-            → HasMarks (tables_of (state S.Store conn).now.trees) Marks.Second
-            → IsGrown (state S.Store conn).now.trees (state S.Store office.conn).now
-            × ((state S.Store office.conn).committed ≡ (state S.Store office.conn).now)
-            × IsTrue (state S.Store office.conn).is_open) }
-        ensures known { IfOk result (λ office. HasCleanDisk (state S.Store office.conn)
-            → (has : HasOffice (state S.Store conn)) → HasMarksOf has.form (tables_of (state S.Store conn).now.trees)) }
-        ensures bodies { IfOk result (λ office. HasCleanDisk (state S.Store office.conn)
-            → HasForm Form.Bodies (state S.Store conn)
-            → HasMarks (tables_of (state S.Store conn).now.trees) Marks.Second → ⊥) }
-        ensures newer_stays { HasOffice (state S.Store conn)
-            → HasMarks (tables_of (state S.Store conn).now.trees) Marks.Newer
-            → MatchResult result (λ office. HasCleanDisk (state S.Store office.conn) → ⊥)
-            (λ lost. Survives (state S.Store conn) (state S.Store lost.1) (λ _. ⊥)) }
-        ensures newer { IfErr result (λ lost. HasCleanDisk (state S.Store lost.1) → HasOffice (state S.Store conn)
-            → lost.0 ≡ Lost.NewerProfile → HasMarks (tables_of (state S.Store conn).now.trees) Marks.Newer) }
-        ensures never_older { IfErr result (λ lost. lost.0 ≢ Lost.OlderProfile) }
-        ensures named { IfErr result (λ lost. HasNone (state S.Store conn) → IsOfCall lost.0) }
-        ensures back { IfErr result (λ lost. HasCleanDisk (state S.Store lost.1) → HasOffice (state S.Store conn)
-            ⊎ HasNone (state S.Store conn) → IsTrue (state S.Store lost.1).is_open
-            → (state S.Store lost.1).committed ≡ (state S.Store conn).committed) }
-        ensures left { (h : List Answered) → HoldingInSomeForm h (state S.Store conn)
-            → MatchResult result (λ office. HasCleanDisk (state S.Store office.conn)
-            → Leaves (λ db. (db ≡ (state S.Store conn).committed.trees) ⊎ Keeps h db) (state S.Store office.conn))
-            (λ lost. HasCleanDisk (state S.Store lost.1)
-            → Leaves (λ db. (db ≡ (state S.Store conn).committed.trees) ⊎ Keeps h db) (state S.Store lost.1)) }
-        ensures clean { MatchResult result (λ office. doubt (state S.Store conn).is_clean ≤ doubt
-            (state S.Store office.conn).is_clean)
-            (λ lost. doubt (state S.Store conn).is_clean ≤ doubt (state S.Store lost.1).is_clean) }
+        requires { IsSettled S.Store conn }
+        ensures opened { Migrates S.Store conn result }
+        ensures left { LeavesInForm S.Store conn (conn_of result) }
+        ensures clean { KeepsDoubt S.Store conn (conn_of result) }
     {
         let mut conn = conn;
         knows_tables(&conn);

@@ -1,13 +1,9 @@
 //! Lists of arrivals.
-ghost use Rattle.std.specs.Prelude.{◌≡◌, ◌≤◌, List, All, IsErr, IsSome, IsTrue, IfOk, OnErr};
+ghost use Rattle.std.specs.Prelude.{◌≡◌, All, IsTrue, IfOk, OnErr};
 ghost use Rattle.sqlite.specs.Held.{state};
-ghost use Rattle.sqlite.specs.State.{HasCleanDisk};
-ghost use Rattle.sqlite_trees.specs.View.{doubt};
-ghost use Rattle.office_history.specs.History.{Answered, first_of};
-ghost use Rattle.store.specs.Holding.{Holding};
-ghost use Rattle.store.specs.Headline.{HasRun};
-ghost use Rattle.store.specs.Opening.{HasTables};
-ghost use Rattle.store.specs.Running.{FailsBy, IsNoProfile, answered_of};
+ghost use Rattle.store.specs.Calls.{KeepsDoubt, OnHistory, SameIfAllLost, SameIfAllRepeat};
+ghost use Rattle.store.specs.Headline.{HasRunOnTables};
+ghost use Rattle.store.specs.Running.{FailsBy, IsNoProfile};
 
 use crate::lost::Lost;
 use crate::stored_office::StoredOffice;
@@ -23,24 +19,18 @@ impl<S: Alter> StoredOffice<S> {
         alloc: Global,
         arrivals: &[Arrival],
     ) -> Result<Vec<Result<Answer, Lost>>, AllocError>
-        ensures ran { HasCleanDisk (state S.Store self.new.conn) → (h : List Answered)
-            → Holding h (state S.Store self.old.conn)
-            → IfOk result (λ results. HasRun h arrivals.now results.items self.new.failed
-            (state S.Store self.new.conn)) }
-        ensures lost_same { HasCleanDisk (state S.Store self.new.conn) → HasTables (state S.Store self.old.conn)
-            → IsTrue (state S.Store self.new.conn).is_open
-            → IfOk result (λ results. All IsErr results.items
-            → ((state S.Store self.new.conn).now ≡ (state S.Store self.old.conn).now)
-            × ((state S.Store self.new.conn).committed ≡ (state S.Store self.old.conn).committed)) }
-        ensures repeated { HasCleanDisk (state S.Store self.new.conn) → (h : List Answered)
-            → Holding h (state S.Store self.old.conn) → IsTrue (state S.Store self.new.conn).is_open
-            → IfOk result (λ results. All (λ a. IsSome (first_of h a)) (answered_of arrivals.now results.items)
-            → ((state S.Store self.new.conn).now ≡ (state S.Store self.old.conn).now)
-            × ((state S.Store self.new.conn).committed ≡ (state S.Store self.old.conn).committed)) }
+        ensures ran { OnHistory S.Store self.old.conn self.new.conn (λ h. IfOk result (λ results.
+            HasRunOnTables h arrivals.now results.items self.new.failed
+            (state S.Store self.new.conn))) }
+        ensures lost_same { IfOk result (λ results.
+            SameIfAllLost S.Store self.old.conn self.new.conn results.items) }
+        ensures repeated { IfOk result (λ results.
+            SameIfAllRepeat S.Store self.old.conn self.new.conn arrivals.now results.items) }
         ensures refused { IsTrue self.old.failed → self.new ≡ self.old }
-        ensures failed { IfOk result (λ results. FailsBy self.old.failed results.items self.new.failed) }
+        ensures failed { IfOk result (λ results.
+            FailsBy self.old.failed results.items self.new.failed) }
         ensures named { IfOk result (λ results. All IsNoProfile results.items) }
-        ensures clean { doubt (state S.Store self.old.conn).is_clean ≤ doubt (state S.Store self.new.conn).is_clean }
+        ensures clean { KeepsDoubt S.Store self.old.conn self.new.conn }
         ensures err { OnErr result (self.new ≡ self.old) }
     {
         self.leaves_now();

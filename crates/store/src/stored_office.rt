@@ -1,7 +1,8 @@
 //! An office on tables.
-ghost use Rattle.std.specs.Prelude.{◌≡◌, false, IsTrue};
+ghost use Rattle.std.specs.Prelude.{◌≡◌, IsTrue};
 ghost use Rattle.sqlite.specs.Held.{state};
 ghost use Rattle.sqlite.specs.Tree.{Trees};
+ghost use Rattle.store.specs.Calls.{IsSettled};
 
 use crate::opening::leaves_committed;
 use sqlite::{Alter, Connection};
@@ -38,7 +39,8 @@ impl<S: Alter> StoredOffice<S> {
     /// Does nothing. Its contract is a law: while the connection is open, a crash leaves what it shows.
     pub fn leaves_now(&self)
         ensures { IsTrue (state S.Store self.now.conn).is_open → (db : Trees)
-            → (state S.Store self.now.conn).may_leave db → db ≡ (state S.Store self.now.conn).now.trees }
+            → (state S.Store self.now.conn).may_leave db
+            → db ≡ (state S.Store self.now.conn).now.trees }
     {
         leaves_committed(&self.conn);
         let _settled = self.conn.is_autocommit();
@@ -47,7 +49,7 @@ impl<S: Alter> StoredOffice<S> {
     /// The connection, as it is: nothing is written.
     pub fn close(self) -> Connection<S>
         ensures same { result ≡ self.conn }
-        ensures settled { (state S.Store result).in_transaction ≡ false }
+        ensures settled { IsSettled S.Store result }
     {
         let StoredOffice {
             conn,

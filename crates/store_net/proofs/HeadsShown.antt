@@ -1,5 +1,6 @@
 -- A name is live if the query on it shows a row, and the query that counts shows how many live messages there are.
-use Rattle.std.proofs.Common.{◌≡◌, ◌≤◌, ◌∙◌, ℕ, suc, ◌<◌, ◌^◌, pos, Bool, true, false, cond, not, List, [], ◌∷◌, filter, length, Some, refl, sym, ap, arith}
+use Rattle.std.proofs.Common.{◌≡◌, ◌≤◌, ◌∙◌, ℕ, suc, ◌<◌, ◌^◌, pos, Bool, true, false, cond, not, List, [], ◌∷◌, filter}
+use Rattle.std.proofs.Common.{length, Some, refl, sym, ap, arith}
 use Rattle.std.specs.Prelude.{◌==◌, ◌||◌, min, slice_get}
 use Rattle.std.specs.List.{list_any}
 use Rattle.std.specs.Str.{bytes_eq}
@@ -8,13 +9,13 @@ use Rattle.std.proofs.lemmas.List.Sorted.{length_permutation}
 use Rattle.sqlite.specs.declared.types.Value.TheVariants.{Int}
 use Rattle.sqlite.specs.Order.{Row, column}
 use Rattle.sqlite_sql.specs.Aggregate.{count}
-use Rattle.catalogue.specs.Named.{has_name}
+use Rattle.dbc_words.specs.Named.{has_name}
 use Rattle.office_types.specs.declared.state.LiveMessage.{LiveMessage}
 use Rattle.office_rules.specs.Facts.{live_name}
-use Rattle.office_tables.specs.Selected.{IsSelected}
-use Rattle.office_tables.specs.Tables.{Tables}
-use Rattle.office_rows.specs.Rows.{has_net_and_name, is_of_net}
-use Rattle.office_rows.specs.Shown.{msg_named_order, msg_named_shown}
+use Rattle.store_tables.specs.Selected.{IsSelected}
+use Rattle.store_tables.specs.Tables.{Tables}
+use Rattle.store_statements.specs.Rows.{has_net_and_name, is_of_net}
+use Rattle.store_statements.specs.Shown.{msg_named_order, msg_named_shown}
 use Rattle.store_rows.specs.Live.{AreLiveRows, IsMsgRow, live_rows}
 use Rattle.store_rows.specs.SignalShowing.{ShowsLive}
 use Rattle.store_rows.proofs.LiveRows.{named_are_shown}
@@ -28,7 +29,8 @@ any_of_filter : {X : Type 0} (test : X → Bool) (xs : List X) → not (length (
 any_of_filter test [] = refl
 any_of_filter test (x ∷ xs) = by_test (test x) (any_of_filter test xs)
   where
-    by_test : (b : Bool) → not (length (filter test xs) == 0) ≡ list_any test xs → not (length (cond b (x ∷ filter test xs) (filter test xs)) == 0) ≡ (b || list_any test xs)
+    by_test : (b : Bool) → not (length (filter test xs) == 0) ≡ list_any test xs
+        → not (length (cond b (x ∷ filter test xs) (filter test xs)) == 0) ≡ (b || list_any test xs)
     by_test true rest = not_none (length (filter test xs))
     by_test false rest = rest
 
@@ -36,13 +38,15 @@ pub filter_shorter : {X : Type 0} (test : X → Bool) (xs : List X) → length (
 filter_shorter test [] = omega arith
 filter_shorter test (x ∷ xs) = by_test (test x) (filter_shorter test xs)
   where
-    by_test : (b : Bool) → length (filter test xs) ≤ length xs → length (cond b (x ∷ filter test xs) (filter test xs)) ≤ suc (length xs)
+    by_test : (b : Bool) → length (filter test xs) ≤ length xs
+        → length (cond b (x ∷ filter test xs) (filter test xs)) ≤ suc (length xs)
     by_test true rest = omega (arith, rest)
     by_test false rest = omega (arith, rest)
 
 module _ (name : List ℕ) (t : Tables) (live : List LiveMessage) (h : AreLiveRows name (live_rows name t) live) where
   -- the message of the name is there if a row is shown
-  pub named_by_rows : (message : List ℕ) (rows : List Row) → IsSelected (has_net_and_name name message) msg_named_shown msg_named_order t.msg rows
+  pub named_by_rows : (message : List ℕ) (rows : List Row)
+      → IsSelected (has_net_and_name name message) msg_named_shown msg_named_order t.msg rows
       → not (length rows == 0) ≡ has_name live_name live message
   named_by_rows message rows sel =
       let named = filter (λ m. bytes_eq (live_name m) message) live in
@@ -51,12 +55,15 @@ module _ (name : List ℕ) (t : Tables) (live : List LiveMessage) (h : AreLiveRo
 
   pub rows_counted : length (filter (is_of_net name) t.msg) ≡ length live
   rows_counted =
-      sym (length_permutation (filter (is_of_net name) t.msg) h.messages.found h.messages.same) ∙ count_shown (IsMsgRow name) live h.messages.found h.messages.each
+      sym (length_permutation (filter (is_of_net name) t.msg) h.messages.found h.messages.same)
+      ∙ count_shown (IsMsgRow name) live h.messages.found h.messages.each
 
 -- a count of 32 bits is exact
-pub exact_count : (rows : List Row) (row : Row) (k n : ℕ) → rows ≡ (count k ∷ []) ∷ [] → Some row ≡ slice_get rows 0 → column row 0 ≡ Int (pos n) → n < 2 ^ 32 → n ≡ k
+pub exact_count : (rows : List Row) (row : Row) (k n : ℕ) → rows ≡ (count k ∷ []) ∷ [] → Some row ≡ slice_get rows 0
+    → column row 0 ≡ Int (pos n) → n < 2 ^ 32 → n ≡ k
 exact_count rows row k n are first shown fits =
     let one : Some row ≡ Some (count k ∷ []) = first ∙ ap (λ l. slice_get l 0) are in
     let same : row ≡ count k ∷ [] = cc in
-    let least : min k 9223372036854775807 ≡ n = one_number (column row 0) (min k 9223372036854775807) n (ap (λ x. column x 0) same) shown in
+    let least : min k 9223372036854775807 ≡ n =
+    one_number (column row 0) (min k 9223372036854775807) n (ap (λ x. column x 0) same) shown in
     omega (arith, least, fits)

@@ -23,3 +23,4 @@ pub mod NumberExcerpts
 mod NumberExamples
 pub mod Bare
 mod FewRows
+pub mod Frames

@@ -30,7 +30,8 @@ within : idents_between 257 258 (live_idents live) ≡ id.Std 258 ∷ []
 within = refl
 
 -- the number 256 of 11 bits isn't the one of 29 bits
-of_11_bits : idents_inside Standard (record { first = 250; last = 256 } ∷ record { first = 258; last = 258 } ∷ []) (live_idents live) ≡ id.Std 256 ∷ id.Std 258 ∷ []
+of_11_bits : idents_inside Standard (record { first = 250; last = 256 } ∷ record { first = 258; last = 258 } ∷ [])
+    (live_idents live) ≡ id.Std 256 ∷ id.Std 258 ∷ []
 of_11_bits = refl
 
 of_29_bits : idents_inside Extended (record { first = 0; last = 300 } ∷ []) (live_idents live) ≡ id.Ext 256 ∷ []

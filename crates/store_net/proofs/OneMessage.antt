@@ -6,13 +6,13 @@ use Rattle.std.specs.Str.{bytes_eq}
 use Rattle.sqlite.specs.Order.{Row, column}
 use Rattle.sqlite.specs.declared.types.Value.TheVariants.{Int}
 use Rattle.can_id.specs.Ident.{dbc_number}
-use Rattle.catalogue.specs.declared.signal.Signal.{Signal}
+use Rattle.dbc_sheet.specs.declared.signal.Signal.{Signal}
 use Rattle.office_types.specs.declared.state.LiveMessage.{LiveMessage}
 use Rattle.office_rules.specs.Facts.{live_named}
-use Rattle.office_tables.specs.Selected.{IsSelected}
-use Rattle.office_tables.specs.Tables.{Tables}
-use Rattle.office_rows.specs.Rows.{has_net_and_name}
-use Rattle.office_rows.specs.Shown.{msg_named_order, msg_named_shown}
+use Rattle.store_tables.specs.Selected.{IsSelected}
+use Rattle.store_tables.specs.Tables.{Tables}
+use Rattle.store_statements.specs.Rows.{has_net_and_name}
+use Rattle.store_statements.specs.Shown.{msg_named_order, msg_named_shown}
 use Rattle.store_rows.specs.Listed.{AreShown}
 use Rattle.store_rows.specs.Live.{AreLiveRows, AreSignalsOf, live_rows}
 use Rattle.store_rows.specs.SignalShowing.{ShowsLive}
@@ -20,7 +20,8 @@ use Rattle.store_rows.proofs.LiveRows.{find_first, named_are_shown, own_signals}
 use Rattle.store_rows.proofs.Values.{one_number}
 use Rattle.store_net.proofs.First.{none_first, some_first}
 
-module _ (name : List ℕ) (t : Tables) (live : List LiveMessage) (message : List ℕ) (rows : List Row) (h : AreLiveRows name (live_rows name t) live)
+module _ (name : List ℕ) (t : Tables) (live : List LiveMessage) (message : List ℕ) (rows : List Row)
+    (h : AreLiveRows name (live_rows name t) live)
     (sel : IsSelected (has_net_and_name name message) msg_named_shown msg_named_order t.msg rows) where
   abbrev found : List LiveMessage
   found = filter (λ m. bytes_eq m.message.name message) live
@@ -36,14 +37,19 @@ module _ (name : List ℕ) (t : Tables) (live : List LiveMessage) (message : Lis
   none_named none = none_first ShowsLive found rows shown none ∙ sym first
 
   -- what was made of the first row and of the signals of its number is the message of the name
-  pub one_message : (row : Row) (number : ℕ) (signals : List Signal) (made : LiveMessage) → Some row ≡ slice_get rows 0 → column row 0 ≡ Int (pos number)
+  pub one_message : (row : Row) (number : ℕ) (signals : List Signal) (made : LiveMessage) → Some row ≡ slice_get rows 0
+      → column row 0 ≡ Int (pos number)
       → ((others : List Signal) → AreSignalsOf name number (live_rows name t) others → signals ≡ others)
-      → ((other : LiveMessage) → ShowsLive other row → signals ≡ other.message.signals → made ≡ other) → Some made ≡ live_named live message
+      → ((other : LiveMessage) → ShowsLive other row → signals ≡ other.message.signals → made ≡ other)
+      → Some made ≡ live_named live message
   one_message row number signals made some is read put =
       let it = some_first ShowsLive found rows row shown some in
       let named : live_named live message ≡ Some it.0 = first ∙ sym it.1 in
-      let same : dbc_number it.0.message.ident ≡ number = one_number (column row 0) (dbc_number it.0.message.ident) number it.2.number is in
-      ap Some (put it.0 it.2 (read it.0.message.signals (subst (λ n. AreSignalsOf name n (live_rows name t) it.0.message.signals) same (own_signals name t live message it.0 h named))))
+      let same : dbc_number it.0.message.ident ≡ number =
+      one_number (column row 0) (dbc_number it.0.message.ident) number it.2.number is in
+      ap Some (put it.0 it.2 (read it.0.message.signals
+      (subst (λ n. AreSignalsOf name n (live_rows name t) it.0.message.signals) same
+      (own_signals name t live message it.0 h named))))
       ∙ sym named
 
   -- the number in the first row is that of the message of the name
@@ -52,5 +58,6 @@ module _ (name : List ℕ) (t : Tables) (live : List LiveMessage) (message : Lis
   named_number row number some is =
       let it = some_first ShowsLive found rows row shown some in
       let named : live_named live message ≡ Some it.0 = first ∙ sym it.1 in
-      let same : dbc_number it.0.message.ident ≡ number = one_number (column row 0) (dbc_number it.0.message.ident) number it.2.number is in
+      let same : dbc_number it.0.message.ident ≡ number =
+      one_number (column row 0) (dbc_number it.0.message.ident) number it.2.number is in
       ap Some (sym same) ∙ sym (ap (option_map (λ (m : LiveMessage). dbc_number m.message.ident)) named)

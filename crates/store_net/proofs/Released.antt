@@ -1,5 +1,6 @@
 -- The release of a number, among the rows of all releases.
-use Rattle.std.proofs.Common.{◌≡◌, ◌==◌, ℕ, pos, List, [], ◌∷◌, Option, Some, None, Bool, true, false, cond, slice_get, refl, sym, ap, subst, ◌∙◌, arith}
+use Rattle.std.proofs.Common.{◌≡◌, ◌==◌, ℕ, pos, List, [], ◌∷◌, Option, Some, None, Bool, true, false, cond, slice_get}
+use Rattle.std.proofs.Common.{refl, sym, ap, subst, ◌∙◌, arith}
 use Rattle.std.specs.Prelude.{filter, find}
 use Rattle.std.specs.Option.{option_map}
 use Rattle.std.specs.Ordering.{is_eq, nat_cmp}
@@ -7,12 +8,12 @@ use Rattle.std.proofs.lemmas.Bool.Decides.{nat_tests}
 use Rattle.sqlite.specs.declared.types.Value.TheVariants.{Int, Blob}
 use Rattle.sqlite.specs.Order.{Row, column, value_cmp}
 use Rattle.dbc_grammar.specs.Reads.{Reads}
-use Rattle.catalogue.specs.declared.sheet.Sheet.{Sheet}
+use Rattle.dbc_sheet.specs.declared.sheet.Sheet.{Sheet}
 use Rattle.office_types.specs.declared.state.Net.{Net}
-use Rattle.office_tables.specs.Tables.{Tables}
-use Rattle.office_tables.specs.Selected.{IsSelected, has_number}
-use Rattle.office_rows.specs.Rows.{frozen_row, has_net_and_number, is_of_net}
-use Rattle.office_rows.specs.Shown.{release_order, release_shown, releases_order}
+use Rattle.store_tables.specs.Tables.{Tables}
+use Rattle.store_tables.specs.Selected.{IsSelected, has_number}
+use Rattle.store_statements.specs.Rows.{frozen_row, has_net_and_number, is_of_net}
+use Rattle.store_statements.specs.Shown.{release_order, release_shown, releases_order}
 use Rattle.store_rows.specs.Listed.{AreListed, AreShown}
 use Rattle.store_rows.specs.NetIn.{IsNetAt, RestRows}
 use Rattle.store_rows.specs.Rows.{IsFrozenRow, IsRowOf, numbered}
@@ -35,47 +36,65 @@ abbrev releases_in : Option Net → List Sheet
 releases_in None = []
 releases_in (Some net) = net.releases
 
-its_releases : (name : List ℕ) (t : Tables) (net : Option Net) → IsNetAt name t net → HasReleases name t (releases_in net)
-its_releases name t None at = subst (λ (r : RestRows). AreListed releases_order (IsRowOf frozen_row (IsFrozenRow name)) r.releases []) (sym at.rest) none_listed
+its_releases : (name : List ℕ) (t : Tables) (net : Option Net) → IsNetAt name t net
+    → HasReleases name t (releases_in net)
+its_releases name t None at =
+    subst (λ (r : RestRows). AreListed releases_order (IsRowOf frozen_row (IsFrozenRow name)) r.releases [])
+    (sym at.rest) none_listed
 its_releases name t (Some net) at = at.rest.releases
 
-same_test : (name : List ℕ) (number : ℕ) (release : ℕ × Sheet) (row : Row) → IsRowOf frozen_row (IsFrozenRow name) release row → has_this number release ≡ has_number 1 number row
+same_test : (name : List ℕ) (number : ℕ) (release : ℕ × Sheet) (row : Row)
+    → IsRowOf frozen_row (IsFrozenRow name) release row → has_this number release ≡ has_number 1 number row
 same_test name number release row is =
     let test : is_eq (nat_cmp is.0.number number) ≡ (is.0.number == number) = grind (arith, nat_tests) in
-    ap (λ n. n == number) (sym is.1.number) ∙ sym test ∙ ap is_eq (sym (int_test is.0.number number)) ∙ ap (λ r. is_eq (value_cmp (column r 1) (Int (pos number)))) (sym is.2)
+    ap (λ n. n == number) (sym is.1.number) ∙ sym test ∙ ap is_eq (sym (int_test is.0.number number))
+    ∙ ap (λ r. is_eq (value_cmp (column r 1) (Int (pos number)))) (sym is.2)
 
-these_shown : (name : List ℕ) (number : ℕ) (t : Tables) (rows : List Row) (releases : List Sheet) → HasReleases name t releases
-    → IsSelected (has_net_and_number name number) release_shown release_order t.frozen rows → AreShown ShowsBody (filter (has_this number) (numbered 1 releases)) rows
+these_shown : (name : List ℕ) (number : ℕ) (t : Tables) (rows : List Row) (releases : List Sheet)
+    → HasReleases name t releases
+    → IsSelected (has_net_and_number name number) release_shown release_order t.frozen rows
+    → AreShown ShowsBody (filter (has_this number) (numbered 1 releases)) rows
 these_shown name number t rows releases listed sel =
-    let kept = kept_listed (has_this number) (has_number 1 number) (same_test name number) (filter (is_of_net name) t.frozen) (numbered 1 releases) listed in
-    selected_shown releases_total (IsRowOf frozen_row (IsFrozenRow name)) ShowsBody (has_net_and_number name number) release_shown t.frozen rows (filter (has_this number) (numbered 1 releases))
+    let kept = kept_listed (has_this number) (has_number 1 number) (same_test name number)
+    (filter (is_of_net name) t.frozen) (numbered 1 releases) listed in
+    selected_shown releases_total (IsRowOf frozen_row (IsFrozenRow name)) ShowsBody (has_net_and_number name number)
+    release_shown t.frozen rows (filter (has_this number) (numbered 1 releases))
     (λ release row is. (is.0.body.now, ap (λ r. column r 2) is.2, is.1.body))
-    (subst (λ l. AreListed releases_order (IsRowOf frozen_row (IsFrozenRow name)) l (filter (has_this number) (numbered 1 releases))) (both_tests (is_of_net name) (has_number 1 number) t.frozen) kept)
+    (subst (λ l. AreListed releases_order (IsRowOf frozen_row (IsFrozenRow name)) l
+    (filter (has_this number) (numbered 1 releases))) (both_tests (is_of_net name) (has_number 1 number) t.frozen)
+    kept)
     sel
 
 first_found : {A : Type 0} (p : A → Bool) (items : List A) → slice_get (filter p items) 0 ≡ find p items
 first_found p [] = refl
 first_found p (a ∷ items) = by_test (p a) (first_found p items)
   where
-    by_test : (b : Bool) → slice_get (filter p items) 0 ≡ find p items → slice_get (cond b (a ∷ filter p items) (filter p items)) 0 ≡ cond b (Some a) (find p items)
+    by_test : (b : Bool) → slice_get (filter p items) 0 ≡ find p items
+        → slice_get (cond b (a ∷ filter p items) (filter p items)) 0 ≡ cond b (Some a) (find p items)
     by_test true rest = refl
     by_test false rest = rest
 
-release_is : (net : Option Net) (number : ℕ) (found : Option (ℕ × Sheet)) → found ≡ slice_get (filter (has_this number) (numbered 1 (releases_in net))) 0
+release_is : (net : Option Net) (number : ℕ) (found : Option (ℕ × Sheet))
+    → found ≡ slice_get (filter (has_this number) (numbered 1 (releases_in net))) 0
     → release_at net number ≡ option_map (λ (r : ℕ × Sheet). r.1) found
 release_is None number found is = sym (ap (option_map (λ (r : ℕ × Sheet). r.1)) is)
-release_is (Some net) number found is = sym (ap (option_map (λ (r : ℕ × Sheet). r.1)) (is ∙ first_found (has_this number) (numbered 1 net.releases)))
+release_is (Some net) number found is =
+    sym (ap (option_map (λ (r : ℕ × Sheet). r.1)) (is ∙ first_found (has_this number) (numbered 1 net.releases)))
 
 -- where no row is shown there is no such release
 pub no_release : (name : List ℕ) (number : ℕ) (t : Tables) (rows : List Row) (net : Option Net) → IsNetAt name t net
-    → IsSelected (has_net_and_number name number) release_shown release_order t.frozen rows → None ≡ slice_get rows 0 → release_at net number ≡ None
+    → IsSelected (has_net_and_number name number) release_shown release_order t.frozen rows → None ≡ slice_get rows 0
+    → release_at net number ≡ None
 no_release name number t rows net at sel none =
     let shown = these_shown name number t rows (releases_in net) (its_releases name t net at) sel in
-    release_is net number None (none_first ShowsBody (filter (has_this number) (numbered 1 (releases_in net))) rows shown none)
+    release_is net number None
+    (none_first ShowsBody (filter (has_this number) (numbered 1 (releases_in net))) rows shown none)
 
 -- where one is, its body reads as the release
-pub its_release : (name : List ℕ) (number : ℕ) (t : Tables) (rows : List Row) (row : Row) (body : List ℕ) (net : Option Net) → IsNetAt name t net
-    → IsSelected (has_net_and_number name number) release_shown release_order t.frozen rows → Some row ≡ slice_get rows 0 → column row 0 ≡ Blob body
+pub its_release : (name : List ℕ) (number : ℕ) (t : Tables) (rows : List Row) (row : Row) (body : List ℕ)
+    (net : Option Net) → IsNetAt name t net
+    → IsSelected (has_net_and_number name number) release_shown release_order t.frozen rows
+    → Some row ≡ slice_get rows 0 → column row 0 ≡ Blob body
     → (release : Sheet) × (release_at net number ≡ Some release) × Reads body release
 its_release name number t rows row body net at sel is shown_body =
     let shown = these_shown name number t rows (releases_in net) (its_releases name t net at) sel in

@@ -1,5 +1,6 @@
 -- Numbers and parts are those of one reply at most.
-use Rattle.std.proofs.Common.{◌≡◌, ◌∙◌, ℕ, Bool, true, false, if◌then◌else◌, pos, List, Option, Some, None, option_map, sym, ap}
+use Rattle.std.proofs.Common.{◌≡◌, ◌∙◌, ℕ, Bool, true, false, if◌then◌else◌, pos, List, Option, Some, None, option_map}
+use Rattle.std.proofs.Common.{sym, ap}
 use Rattle.sqlite.specs.declared.types.Value.TheVariants.{Int}
 use Rattle.sqlite.specs.Order.{Row, column}
 use Rattle.office_types.specs.Reply.{reply_at, reply_numbers, reply_parts}
@@ -32,8 +33,10 @@ one_reply (Bundle ps) x e = if_some _ x (Bundle ps) e
 same_number : (m n : ℕ) → Int (pos m) ≡ Int (pos n) → m ≡ n
 same_number m n e = cc
 
-pub reported : (row : Row) (other reply : Reply) (k a b c : ℕ) (parts : List PartReply) → column row 1 ≡ Int (pos k) → column row 2 ≡ Int (pos a) → column row 3 ≡ Int (pos b) → column row 4 ≡ Int (pos c)
-    → ShowsReply other row → parts ≡ reply_parts other → Some reply ≡ reply_at (record { kind = k; a = a; b = b; c = c }) parts → reply ≡ other
+pub reported : (row : Row) (other reply : Reply) (k a b c : ℕ) (parts : List PartReply) → column row 1 ≡ Int (pos k)
+    → column row 2 ≡ Int (pos a) → column row 3 ≡ Int (pos b) → column row 4 ≡ Int (pos c)
+    → ShowsReply other row → parts ≡ reply_parts other
+    → Some reply ≡ reply_at (record { kind = k; a = a; b = b; c = c }) parts → reply ≡ other
 reported row other reply k a b c parts hk ha hb hc shows same e =
     let n = reply_numbers other in
     let is_k : k ≡ n.kind = same_number k n.kind (sym hk ∙ shows.0) in

@@ -4,9 +4,9 @@ use Rattle.std.specs.Fmt.{digits}
 use Rattle.bitlayout.specs.First.{first_answer}
 use Rattle.can_id.specs.declared.ident.Ident.TheVariants.{Std}
 use Rattle.dbc_grammar.specs.Canon.{canonical_text}
-use Rattle.catalogue.specs.Sheet.{empty_sheet}
-use Rattle.catalogue.specs.declared.message.Message.{Message}
-use Rattle.catalogue.specs.declared.sheet.Sheet.{Sheet}
+use Rattle.dbc_sheet.specs.Sheet.{empty_sheet}
+use Rattle.dbc_sheet.specs.declared.message.Message.{Message}
+use Rattle.dbc_sheet.specs.declared.sheet.Sheet.{Sheet}
 use Rattle.office_types.specs.declared.state.Head.{Head}
 use Rattle.office_types.specs.declared.state.Net.{Net}
 use Rattle.store_net.specs.Parts.{heads}
@@ -37,14 +37,16 @@ something_missing : (release : Sheet) → IsTextOf (Some release) None → ⊥
 something_missing release none = none
 
 -- a network without a message has its frame as live sheet
-live_frame : (net : Net) → live_text (Some (record net { head = record net.head { frame = empty_sheet }; live = [] })) ≡ Some (canonical_text empty_sheet)
+live_frame : (net : Net) → live_text (Some (record net { head = record net.head { frame = empty_sheet }; live = [] }))
+    ≡ Some (canonical_text empty_sheet)
 live_frame net = refl
 
 no_live : live_text None ≡ None
 no_live = refl
 
 -- its table has the counts alone, and there is no chart of it
-live_counts : (net : Net) → live_table (Some (record net { head = record net.head { frame = empty_sheet }; live = [] })) ≡ Some (codes "messages 0 signals 0\n")
+live_counts : (net : Net) → live_table (Some (record net { head = record net.head { frame = empty_sheet }; live = [] }))
+    ≡ Some (codes "messages 0 signals 0\n")
 unfolding digits
 live_counts net = refl
 
@@ -61,11 +63,15 @@ chart_nowhere = refl
 abbrev one_byte : Message
 one_byte = record { ident = Std 256; name = codes "E1"; length = 1; transmitter = None; comment = []; signals = [] }
 
-a_chart : (net : Net) → live_chart (Some (record net { live = record { message = one_byte; owner = codes "engine" } ∷ [] })) (codes "E1") ≡ Some (codes "   0 . . . . . . . .\nclear\n")
+a_chart : (net : Net) → live_chart
+    (Some (record net { live = record { message = one_byte; owner = codes "engine" } ∷ [] })) (codes "E1")
+    ≡ Some (codes "   0 . . . . . . . .\nclear\n")
 unfolding digits first_answer
 a_chart net = refl
 
-chart_of_another : (net : Net) → live_chart (Some (record net { live = record { message = one_byte; owner = codes "engine" } ∷ [] })) (codes "E2") ≡ None
+chart_of_another : (net : Net)
+    → live_chart (Some (record net { live = record { message = one_byte; owner = codes "engine" } ∷ [] })) (codes "E2")
+    ≡ None
 chart_of_another net = refl
 
 one_head : (head : Head) → heads (Some head) ≡ head ∷ []

@@ -5,15 +5,15 @@ use Rattle.sqlite.specs.Effect.{Database}
 use Rattle.sqlite.specs.State.{State, Survives}
 use Rattle.sqlite.proofs.StateLemmas.{survives_then}
 use Rattle.can_id.specs.declared.ident.Ident.{Ident}
-use Rattle.catalogue.specs.declared.sheet.Sheet.{Sheet}
+use Rattle.dbc_sheet.specs.declared.sheet.Sheet.{Sheet}
 use Rattle.office_types.specs.declared.state.GrantedBlock.{GrantedBlock}
 use Rattle.office_types.specs.declared.state.Head.{Head}
 use Rattle.office_types.specs.declared.state.LiveMessage.{LiveMessage}
 use Rattle.office_types.specs.declared.state.Net.{Net}
 use Rattle.office_law.specs.Released.{with_releases}
-use Rattle.office_tables.specs.Tables.{Tables, tables_of}
-use Rattle.office_rows.specs.Rows.{net_row}
-use Rattle.office_rows.specs.Shown.{net_order}
+use Rattle.store_tables.specs.Tables.{Tables, tables_of}
+use Rattle.store_statements.specs.Rows.{net_row}
+use Rattle.store_statements.specs.Shown.{net_order}
 use Rattle.store_rows.specs.Listed.{AreListed}
 use Rattle.store_rows.specs.NetIn.{HasRows, IsNetAt, RestRows}
 use Rattle.store_rows.specs.Rows.{IsNetRow, IsRowOf}
@@ -23,18 +23,22 @@ use Rattle.store_net.specs.Parts.{HasApprovals, HasBlocks, HasHead, HasHeld, Has
 
 -- of two calls that leave nothing for a crash to find
 pub nothing_left : (a b c : State) → Survives a b (λ _. ⊥) → Survives b c (λ _. ⊥) → Survives a c (λ _. ⊥)
-nothing_left a b c first second = survives_then a b c (λ _. ⊥) (λ _. ⊥) (λ _. ⊥) (λ _ db made. made) (λ _ db made. made) first second
+nothing_left a b c first second = survives_then a b c (λ _. ⊥) (λ _. ⊥) (λ _. ⊥) (λ _ db made. made) (λ _ db made. made)
+    first second
 
 -- what was read of a database was read of one that is the same
 pub read_before : {A : Type 0} (Has : Tables → A → Type 0) (it : A) (after before : Database) → after ≡ before
-    → ((other : A) → Has (tables_of after.trees) other → it ≡ other) → (other : A) → Has (tables_of before.trees) other → it ≡ other
-read_before {A} Has it after before same one = subst (λ (d : Database). (other : A) → Has (tables_of d.trees) other → it ≡ other) same one
+    → ((other : A) → Has (tables_of after.trees) other → it ≡ other) → (other : A) → Has (tables_of before.trees) other
+    → it ≡ other
+read_before {A} Has it after before same one =
+    subst (λ (d : Database). (other : A) → Has (tables_of d.trees) other → it ≡ other) same one
 
 abbrev pub head_in : Option Net → Option Head
 head_in net = option_map (λ (n : Net). n.head) net
 
 pub its_head : (name : List ℕ) (t : Tables) (net : Option Net) → IsNetAt name t net → HasHead name t (head_in net)
-its_head name t None at = subst (λ (r : RestRows). AreListed net_order (IsRowOf net_row (IsNetRow name)) r.head []) (sym at.rest) none_listed
+its_head name t None at = subst (λ (r : RestRows). AreListed net_order (IsRowOf net_row (IsNetRow name)) r.head [])
+    (sym at.rest) none_listed
 its_head name t (Some net) at = at.rest.head
 
 pub none_unreleased : (net : Option Net) → None ≡ head_in net → None ≡ option_map (with_releases []) net
@@ -45,9 +49,19 @@ pub none_if_unreleased : (net : Option Net) → None ≡ option_map (with_releas
 none_if_unreleased None none = refl
 none_if_unreleased (Some net) none = absurd (cc)
 
-same_parts : (a b : Net) → a.name ≡ b.name → a.head ≡ b.head → a.live ≡ b.live → a.blocks ≡ b.blocks → a.held ≡ b.held → a.approvals ≡ b.approvals → a.releases ≡ b.releases → a ≡ b
+same_parts : (a b : Net) → a.name ≡ b.name → a.head ≡ b.head → a.live ≡ b.live → a.blocks ≡ b.blocks → a.held ≡ b.held
+    → a.approvals ≡ b.approvals → a.releases ≡ b.releases → a ≡ b
 same_parts a b name head live blocks held approvals releases =
-    λ i. record { name = name i; head = head i; live = live i; blocks = blocks i; held = held i; approvals = approvals i; releases = releases i }
+    λ i. record {
+      name = name i;
+      head = head i;
+      live = live i;
+      blocks = blocks i;
+      held = held i;
+      approvals =
+          approvals i;
+      releases = releases i;
+    }
 
 -- each part is the one that the tables have, and there is no release
 pub record AreParts (name : List ℕ) (t : Tables) (made : Net) : Type 0 where
@@ -58,22 +72,26 @@ pub record AreParts (name : List ℕ) (t : Tables) (made : Net) : Type 0 where
   pub approvals : (teams : List (List ℕ)) → HasApprovals name t teams → made.approvals ≡ teams
   pub releases : made.releases ≡ []
 
-pub unreleased_net : (name : List ℕ) (t : Tables) (net : Option Net) (made : Net) → IsNetAt name t net → Some made.head ≡ head_in net → AreParts name t made
+pub unreleased_net : (name : List ℕ) (t : Tables) (net : Option Net) (made : Net) → IsNetAt name t net
+    → Some made.head ≡ head_in net → AreParts name t made
     → Some made ≡ option_map (with_releases []) net
 unreleased_net name t None made at head parts = absurd (cc)
 unreleased_net name t (Some net) made at head parts =
     let same : made.head ≡ net.head = cc in
     ap Some
-    (same_parts made (with_releases [] net) (parts.named ∙ sym at.rest.named) same (parts.live net.live at.live) (parts.blocks net.blocks at.rest.blocks) (parts.held net.held at.rest.held)
+    (same_parts made (with_releases [] net) (parts.named ∙ sym at.rest.named) same (parts.live net.live at.live)
+    (parts.blocks net.blocks at.rest.blocks) (parts.held net.held at.rest.held)
     (parts.approvals net.approvals at.rest.approvals) parts.releases)
 
 -- a network without its releases, and with them
-pub with_its_releases : (name : List ℕ) (t : Tables) (net : Option Net) (made : Net) (releases : List Sheet) → IsNetAt name t net → Some made ≡ option_map (with_releases []) net
+pub with_its_releases : (name : List ℕ) (t : Tables) (net : Option Net) (made : Net) (releases : List Sheet)
+    → IsNetAt name t net → Some made ≡ option_map (with_releases []) net
     → ((others : List Sheet) → HasReleases name t others → releases ≡ others) → Some (with_releases releases made) ≡ net
 with_its_releases name t None made releases at is one = absurd (cc)
 with_its_releases name t (Some net) made releases at is one =
     let same : made ≡ with_releases [] net = cc in
-    ap Some (ap (with_releases releases) same ∙ ap (λ (rs : List Sheet). with_releases rs net) (one net.releases at.rest.releases))
+    ap Some (ap (with_releases releases) same
+    ∙ ap (λ (rs : List Sheet). with_releases rs net) (one net.releases at.rest.releases))
 
 -- as many other sheets in the place of its releases
 
@@ -81,7 +99,8 @@ pub none_counted : (net : Option Net) → None ≡ option_map (with_releases [])
 none_counted None none = refl
 none_counted (Some net) none = absurd (cc)
 
-pub with_as_many : (net : Option Net) (made : Net) (others : List Sheet) (count : ℕ) → Some made ≡ option_map (with_releases []) net → length others ≡ count
+pub with_as_many : (net : Option Net) (made : Net) (others : List Sheet) (count : ℕ)
+    → Some made ≡ option_map (with_releases []) net → length others ≡ count
     → ((n : Net) → net ≡ Some n → count ≡ length n.releases) → HasAsMany net (Some (with_releases others made))
 with_as_many None made others count is long counted = absurd (cc)
 with_as_many (Some net) made others count is long counted =

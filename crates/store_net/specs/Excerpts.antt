@@ -7,7 +7,7 @@ use Rattle.office_facts.specs.declared.excerpt.Excerpt.{Excerpt}
 use Rattle.office_facts.specs.declared.excerpt.NumberExcerpt.{NumberExcerpt}
 use Rattle.office_types.specs.declared.state.Net.{Net}
 use Rattle.office_rules.specs.Facts.{is_full, is_named}
-use Rattle.office_tables.specs.Tables.{Tables}
+use Rattle.store_tables.specs.Tables.{Tables}
 use Rattle.store_rows.specs.Live.{AreLiveRows, live_rows}
 use Rattle.store_net.specs.Parts.{HasBlocks, HasHead, HasHeld}
 

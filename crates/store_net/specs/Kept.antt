@@ -15,7 +15,8 @@ use Rattle.store_rows.specs.Listed.{AreShown}
 
 -- the row of a team's request under a key, with its content and the numbers of its reply
 abbrev pub row_of_numbers : List ℕ → List ℕ → List ℕ → ReplyNumbers → Row
-row_of_numbers team key content n = Text team ∷ Text key ∷ Blob content ∷ Int (pos n.kind) ∷ Int (pos n.a) ∷ Int (pos n.b) ∷ Int (pos n.c) ∷ []
+row_of_numbers team key content n = Text team ∷ Text key ∷ Blob content ∷ Int (pos n.kind) ∷ Int (pos n.a)
+    ∷ Int (pos n.b) ∷ Int (pos n.c) ∷ []
 
 abbrev pub kept_row : List ℕ → List ℕ → List ℕ → Reply → Row
 kept_row team key content reply = row_of_numbers team key content (reply_numbers reply)
@@ -33,7 +34,8 @@ pub record AreKept (h : List Answered) (rows : List Row) : Type 0 where
 -- the row of what a part is answered, at its place in the bundle
 abbrev pub part_values : List ℕ → List ℕ → ℕ → PartReply → Row
 part_values team key place p =
-    Text team ∷ Text key ∷ Int (pos place) ∷ Int (pos (part_numbers p).kind) ∷ Int (pos (part_numbers p).a) ∷ Int (pos 0) ∷ []
+    Text team ∷ Text key ∷ Int (pos place) ∷ Int (pos (part_numbers p).kind) ∷ Int (pos (part_numbers p).a)
+    ∷ Int (pos 0) ∷ []
 
 -- those of parts, from this place on
 abbrev pub part_rows : List ℕ → List ℕ → ℕ → List PartReply → List Row
@@ -57,9 +59,11 @@ AreKeptParts h rows = IsPermutation rows (flat_map kept_parts (first_arrivals h)
 
 abbrev pub ShowsReply : Reply → Row → Type 0
 ShowsReply reply row =
-    (column row 1 ≡ Int (pos (reply_numbers reply).kind)) × (column row 2 ≡ Int (pos (reply_numbers reply).a)) × (column row 3 ≡ Int (pos (reply_numbers reply).b))
+    (column row 1 ≡ Int (pos (reply_numbers reply).kind)) × (column row 2 ≡ Int (pos (reply_numbers reply).a))
+    × (column row 3 ≡ Int (pos (reply_numbers reply).b))
     × (column row 4 ≡ Int (pos (reply_numbers reply).c))
 
 -- the row of the arrival, as it is shown
 abbrev pub ShowsKept : Answered → Row → Type 0
-ShowsKept a row = (reply : Reply) × (a.answer ≡ answer.Reply reply) × (column row 0 ≡ Blob a.content) × ShowsReply reply row
+ShowsKept a row = (reply : Reply) × (a.answer ≡ answer.Reply reply) × (column row 0 ≡ Blob a.content)
+    × ShowsReply reply row

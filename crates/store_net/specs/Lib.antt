@@ -7,4 +7,5 @@ pub mod Excerpts
 pub mod Numbers
 pub mod Places
 pub mod Counted
-pub mod Detail
+pub mod SignalParts
+pub mod Reading

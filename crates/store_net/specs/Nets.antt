@@ -6,7 +6,7 @@ use Rattle.sqlite.specs.Order.{Row, column}
 use Rattle.sqlite.specs.declared.types.Value.TheVariants.{Text}
 use Rattle.office_types.specs.State.{by_name}
 use Rattle.office_types.specs.declared.state.Net.{Net}
-use Rattle.office_tables.specs.Tables.{Tables}
+use Rattle.store_tables.specs.Tables.{Tables}
 use Rattle.store_rows.specs.NetIn.{IsNetAt, IsRestAt, rest_of}
 
 -- the tables have these networks and no other

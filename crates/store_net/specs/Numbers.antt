@@ -6,7 +6,7 @@ use Rattle.std.specs.Ordering.{is_ge, is_le, nat_cmp}
 use Rattle.can_id.specs.Ident.{dbc_number, ident_of}
 use Rattle.can_id.specs.declared.form.IdentForm.{IdentForm}
 use Rattle.can_id.specs.declared.ident.Ident.{Ident}
-use Rattle.office_tables.specs.Tables.{Tables}
+use Rattle.store_tables.specs.Tables.{Tables}
 use Rattle.office_types.specs.declared.block.Block.{Block}
 use Rattle.office_types.specs.declared.state.LiveMessage.{LiveMessage}
 use Rattle.store_rows.specs.Live.{AreLiveRows, live_rows}
@@ -19,7 +19,8 @@ live_idents live = map (λ (m : LiveMessage). m.message.ident) live
 
 -- the network of the name has these identifiers in the table
 abbrev pub HasTaken : TakenTable → List ℕ → Tables → List Ident → Type 0
-HasTaken Live name t idents = (live : List LiveMessage) × AreLiveRows name (live_rows name t) live × (idents ≡ live_idents live)
+HasTaken Live name t idents = (live : List LiveMessage) × AreLiveRows name (live_rows name t) live
+    × (idents ≡ live_idents live)
 HasTaken Held name t idents = HasHeld name t idents
 
 -- from the first to the last

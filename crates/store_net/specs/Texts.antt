@@ -6,11 +6,11 @@ use Rattle.can_id.specs.Ident.{dbc_number}
 use Rattle.can_id.specs.declared.ident.Ident.{Ident}
 use Rattle.dbc_grammar.specs.Canon.{canonical_text}
 use Rattle.dbc_grammar.specs.Reads.{ReadsOnlyAs}
-use Rattle.catalogue.specs.Messages.{has_number}
-use Rattle.catalogue.specs.declared.message.Message.{Message}
-use Rattle.catalogue.specs.declared.sheet.Sheet.{Sheet}
-use Rattle.views.specs.Message.{message_chart}
-use Rattle.views.specs.Table.{table_of}
+use Rattle.dbc_sheet.specs.Messages.{has_number}
+use Rattle.dbc_sheet.specs.declared.message.Message.{Message}
+use Rattle.dbc_sheet.specs.declared.sheet.Sheet.{Sheet}
+use Rattle.office_views.specs.Message.{message_chart}
+use Rattle.office_views.specs.Table.{table_of}
 use Rattle.office_types.specs.State.{sheet_of}
 use Rattle.office_types.specs.declared.state.Net.{Net}
 use Rattle.store_rows.specs.Rows.{numbered}
@@ -35,7 +35,8 @@ live_chart (Some net) name = option_map message_chart (message_named name (sheet
 -- the release of the number, from 1
 abbrev pub release_at : Option Net → ℕ → Option Sheet
 release_at None number = None
-release_at (Some net) number = option_map (λ (r : ℕ × Sheet). r.1) (find (λ (r : ℕ × Sheet). r.0 == number) (numbered 1 net.releases))
+release_at (Some net) number =
+    option_map (λ (r : ℕ × Sheet). r.1) (find (λ (r : ℕ × Sheet). r.0 == number) (numbered 1 net.releases))
 
 -- it is there and has a message of the identifier
 abbrev pub release_has : Option Sheet → Ident → Bool

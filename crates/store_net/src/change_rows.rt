@@ -1,6 +1,5 @@
 //! The rows of each kind of change: one function for each that the tables have a row for.
 ghost use Rattle.std.specs.Prelude.{◌≡◌, false, Option, Some};
-ghost use Rattle.sqlite.specs.Held.{state};
 ghost use Rattle.office_types.specs.Block.{is_spn};
 ghost use Rattle.office_types.specs.declared.change.Change.TheVariants.{SetHead, SetBlock, SetSpnBlock, Hold};
 ghost use Rattle.office_types.specs.declared.change.Change.TheVariants.{EnterSpn, SetApproval, ClearApprovals};
@@ -8,19 +7,19 @@ ghost use Rattle.office_types.specs.declared.change.Change.TheVariants.{AddRelea
 ghost use Rattle.office_types.specs.declared.state.Net.{Net as Network};
 ghost use Rattle.store_rows.specs.Rows.{next_release, submitter_text};
 ghost use Rattle.store_rows.specs.Written.{IsWritten};
-ghost use Rattle.store_net.specs.Writing.{EndsInOffice};
-ghost use Rattle.office_tables.specs.Statements.{AddsNoCommit, LeavesNothing, Writes};
+ghost use Rattle.store_tables.specs.Frames.{Relates, WritesAndEndsIn};
+ghost use Rattle.store_net.specs.Writing.{IsWrittenToAny};
 
 use crate::release_sheet::release_sheet;
 use crate::setting::{set_approval, set_block, set_held, set_net, set_spn};
 use can_id::Ident;
 use dbc_write::text_of;
-use office_rows::{BlockRow, FrozenRow, NetRow, delete_approvals, insert_frozen};
 use office_types::{
     BlockForm, FrozenSheet, GrantedBlock, Head, NetName, Phase, SpnBlock, Team, UsableSpn,
 };
 use sqlite::{Alter, Error, Transaction};
 use std::alloc::Global;
+use store_statements::{BlockRow, FrozenRow, NetRow, delete_approvals, insert_frozen};
 
 /// The team that requested the review, empty in draft.
 fn submitter_text(phase: &Phase) -> &[u8]
@@ -39,12 +38,9 @@ pub(crate) fn write_head<S: Alter>(
     name: &NetName,
     head: &Head,
 ) -> Result<(), Error>
-    ensures same_reference { tx.new.conn.ghost_name ≡ tx.old.conn.ghost_name }
-    ensures written { Writes result (state S.Store tx.old.conn.now) (state S.Store tx.new.conn.now)
-        (λ before after. (net : Option Network) → IsWritten name.now (SetHead head.now) net before after) }
-    ensures inside { EndsInOffice result (state S.Store tx.old.conn.now) (state S.Store tx.new.conn.now) }
-    ensures kept { AddsNoCommit (state S.Store tx.old.conn.now) (state S.Store tx.new.conn.now) }
-    ensures survives { LeavesNothing (state S.Store tx.old.conn.now) (state S.Store tx.new.conn.now) }
+    ensures written { Relates S.Store tx.old tx.new result
+        (IsWrittenToAny name.now (SetHead head.now)) }
+    ensures frame { WritesAndEndsIn S.Store tx.old tx.new result }
 {
     let frame = text_of(alloc, &head.frame)?;
     let row = NetRow {
@@ -64,13 +60,10 @@ pub(crate) fn write_block<S: Alter>(
     name: &NetName,
     granted: &GrantedBlock,
 ) -> Result<(), Error>
-    ensures same_reference { tx.new.conn.ghost_name ≡ tx.old.conn.ghost_name }
-    ensures written { Writes result (state S.Store tx.old.conn.now) (state S.Store tx.new.conn.now)
+    ensures written { Relates S.Store tx.old tx.new result
         (λ before after. (net : Option Network) → is_spn granted.now.block.form ≡ false
         → IsWritten name.now (SetBlock granted.now) net before after) }
-    ensures inside { EndsInOffice result (state S.Store tx.old.conn.now) (state S.Store tx.new.conn.now) }
-    ensures kept { AddsNoCommit (state S.Store tx.old.conn.now) (state S.Store tx.new.conn.now) }
-    ensures survives { LeavesNothing (state S.Store tx.old.conn.now) (state S.Store tx.new.conn.now) }
+    ensures frame { WritesAndEndsIn S.Store tx.old tx.new result }
 {
     let numbers = granted.block.numbers();
     let row = BlockRow {
@@ -89,12 +82,9 @@ pub(crate) fn write_spn_block<S: Alter>(
     name: &NetName,
     block: &SpnBlock,
 ) -> Result<(), Error>
-    ensures same_reference { tx.new.conn.ghost_name ≡ tx.old.conn.ghost_name }
-    ensures written { Writes result (state S.Store tx.old.conn.now) (state S.Store tx.new.conn.now)
-        (λ before after. (net : Option Network) → IsWritten name.now (SetSpnBlock block.now) net before after) }
-    ensures inside { EndsInOffice result (state S.Store tx.old.conn.now) (state S.Store tx.new.conn.now) }
-    ensures kept { AddsNoCommit (state S.Store tx.old.conn.now) (state S.Store tx.new.conn.now) }
-    ensures survives { LeavesNothing (state S.Store tx.old.conn.now) (state S.Store tx.new.conn.now) }
+    ensures written { Relates S.Store tx.old tx.new result
+        (IsWrittenToAny name.now (SetSpnBlock block.now)) }
+    ensures frame { WritesAndEndsIn S.Store tx.old tx.new result }
 {
     let row = BlockRow {
         net: block.net.as_bytes(),
@@ -112,12 +102,8 @@ pub(crate) fn write_held<S: Alter>(
     name: &NetName,
     ident: Ident,
 ) -> Result<(), Error>
-    ensures same_reference { tx.new.conn.ghost_name ≡ tx.old.conn.ghost_name }
-    ensures written { Writes result (state S.Store tx.old.conn.now) (state S.Store tx.new.conn.now)
-        (λ before after. (net : Option Network) → IsWritten name.now (Hold ident) net before after) }
-    ensures inside { EndsInOffice result (state S.Store tx.old.conn.now) (state S.Store tx.new.conn.now) }
-    ensures kept { AddsNoCommit (state S.Store tx.old.conn.now) (state S.Store tx.new.conn.now) }
-    ensures survives { LeavesNothing (state S.Store tx.old.conn.now) (state S.Store tx.new.conn.now) }
+    ensures written { Relates S.Store tx.old tx.new result (IsWrittenToAny name.now (Hold ident)) }
+    ensures frame { WritesAndEndsIn S.Store tx.old tx.new result }
 {
     let number = ident.to_dbc();
     set_held(tx, name.as_bytes(), number)
@@ -129,12 +115,9 @@ pub(crate) fn write_spn<S: Alter>(
     name: &NetName,
     spn: UsableSpn,
 ) -> Result<(), Error>
-    ensures same_reference { tx.new.conn.ghost_name ≡ tx.old.conn.ghost_name }
-    ensures written { Writes result (state S.Store tx.old.conn.now) (state S.Store tx.new.conn.now)
-        (λ before after. (net : Option Network) → IsWritten name.now (EnterSpn spn) net before after) }
-    ensures inside { EndsInOffice result (state S.Store tx.old.conn.now) (state S.Store tx.new.conn.now) }
-    ensures kept { AddsNoCommit (state S.Store tx.old.conn.now) (state S.Store tx.new.conn.now) }
-    ensures survives { LeavesNothing (state S.Store tx.old.conn.now) (state S.Store tx.new.conn.now) }
+    ensures written { Relates S.Store tx.old tx.new result
+        (IsWrittenToAny name.now (EnterSpn spn)) }
+    ensures frame { WritesAndEndsIn S.Store tx.old tx.new result }
 {
     set_spn(tx, spn.number())
 }
@@ -145,12 +128,9 @@ pub(crate) fn write_approval<S: Alter>(
     name: &NetName,
     team: &Team,
 ) -> Result<(), Error>
-    ensures same_reference { tx.new.conn.ghost_name ≡ tx.old.conn.ghost_name }
-    ensures written { Writes result (state S.Store tx.old.conn.now) (state S.Store tx.new.conn.now)
-        (λ before after. (net : Option Network) → IsWritten name.now (SetApproval team.now) net before after) }
-    ensures inside { EndsInOffice result (state S.Store tx.old.conn.now) (state S.Store tx.new.conn.now) }
-    ensures kept { AddsNoCommit (state S.Store tx.old.conn.now) (state S.Store tx.new.conn.now) }
-    ensures survives { LeavesNothing (state S.Store tx.old.conn.now) (state S.Store tx.new.conn.now) }
+    ensures written { Relates S.Store tx.old tx.new result
+        (IsWrittenToAny name.now (SetApproval team.now)) }
+    ensures frame { WritesAndEndsIn S.Store tx.old tx.new result }
 {
     set_approval(tx, name.as_bytes(), team.as_bytes())
 }
@@ -160,12 +140,9 @@ pub(crate) fn clear_approvals<S: Alter>(
     tx: &mut Transaction<'_, S>,
     name: &NetName,
 ) -> Result<(), Error>
-    ensures same_reference { tx.new.conn.ghost_name ≡ tx.old.conn.ghost_name }
-    ensures written { Writes result (state S.Store tx.old.conn.now) (state S.Store tx.new.conn.now)
-        (λ before after. (net : Option Network) → IsWritten name.now ClearApprovals net before after) }
-    ensures inside { EndsInOffice result (state S.Store tx.old.conn.now) (state S.Store tx.new.conn.now) }
-    ensures kept { AddsNoCommit (state S.Store tx.old.conn.now) (state S.Store tx.new.conn.now) }
-    ensures survives { LeavesNothing (state S.Store tx.old.conn.now) (state S.Store tx.new.conn.now) }
+    ensures written { Relates S.Store tx.old tx.new result
+        (IsWrittenToAny name.now ClearApprovals) }
+    ensures frame { WritesAndEndsIn S.Store tx.old tx.new result }
 {
     delete_approvals(tx, name.as_bytes())?;
     Ok(())
@@ -180,13 +157,10 @@ pub(crate) fn write_release<S: Alter>(
     number: u32,
     release: &FrozenSheet,
 ) -> Result<(), Error>
-    ensures same_reference { tx.new.conn.ghost_name ≡ tx.old.conn.ghost_name }
-    ensures written { Writes result (state S.Store tx.old.conn.now) (state S.Store tx.new.conn.now)
+    ensures written { Relates S.Store tx.old tx.new result
         (λ before after. (net : Network) → number ≡ next_release net
         → IsWritten name.now (AddRelease release.now) (Some net) before after) }
-    ensures inside { EndsInOffice result (state S.Store tx.old.conn.now) (state S.Store tx.new.conn.now) }
-    ensures kept { AddsNoCommit (state S.Store tx.old.conn.now) (state S.Store tx.new.conn.now) }
-    ensures survives { LeavesNothing (state S.Store tx.old.conn.now) (state S.Store tx.new.conn.now) }
+    ensures frame { WritesAndEndsIn S.Store tx.old tx.new result }
 {
     let sheet = release_sheet(alloc, release)?;
     let body = text_of(alloc, &sheet)?;

@@ -1,20 +1,17 @@
 //! What an action reads of its network in the tables: an excerpt of the action's scope.
-ghost use Rattle.std.specs.Prelude.{Option, ◌≡◌, ℕ, List, true, IfOk, IfSome};
+ghost use Rattle.std.specs.Prelude.{Option, ◌≡◌, ℕ, List, true, IfSome};
 ghost use Rattle.office_facts.specs.Excerpt.{fits};
-ghost use Rattle.office_facts.specs.FactsOf.{facts_in};
 ghost use Rattle.office_facts.specs.Scope.{Head, Message, Parts, Retiring, is_part, scope_as};
 ghost use Rattle.office_rules.specs.Kept.{IsNet};
-ghost use Rattle.office_types.specs.declared.state.Net.{Net as Network};
-ghost use Rattle.sqlite.specs.Held.{state};
-ghost use Rattle.store_rows.specs.NetIn.{IsNetAt};
-ghost use Rattle.store_net.specs.Excerpts.{IsExcerptIn, IsReadIn};
-ghost use Rattle.office_tables.specs.Statements.{ChangesNothing, CommitsNothing, Finds, LeavesNothing};
+ghost use Rattle.store_net.specs.Excerpts.{IsExcerptIn};
+ghost use Rattle.store_tables.specs.Frames.{Asks, ReadsOnly};
+ghost use Rattle.store_net.specs.Reading.{IfReadFits, OnNet, OnParts};
 
 use crate::message::message_at;
 use crate::number_excerpt::{group_excerpt, ident_excerpt};
 use crate::parts::{blocks_of, head_of};
 use crate::release::last_has_at;
-use catalogue::Name;
+use dbc_words::Name;
 use office_facts::{Excerpt, Scope};
 use office_types::{NetName, Team};
 use sqlite::{Alter, Error, Transaction};
@@ -26,14 +23,10 @@ fn head_excerpt<S: Alter>(
     tx: &mut Transaction<'_, S>,
     name: &NetName,
 ) -> Result<Option<Excerpt>, Error>
-    ensures same_reference { tx.new.conn.ghost_name ≡ tx.old.conn.ghost_name }
-    ensures found { Finds result (state S.Store tx.old.conn.now) (state S.Store tx.new.conn.now)
-        (λ found t. (net : Option Network) → IsReadIn name.now t net
-        → (team : List ℕ) → IsExcerptIn team Head net found) }
-    ensures fits { IfOk result (λ found. IfSome found (λ e. fits Head (facts_in e) ≡ true)) }
-    ensures same { ChangesNothing result (state S.Store tx.old.conn.now) (state S.Store tx.new.conn.now) }
-    ensures kept { CommitsNothing (state S.Store tx.old.conn.now) (state S.Store tx.new.conn.now) }
-    ensures survives { LeavesNothing (state S.Store tx.old.conn.now) (state S.Store tx.new.conn.now) }
+    ensures found { Asks S.Store tx.old tx.new result
+        (OnParts name.now (λ net found. (team : List ℕ) → IsExcerptIn team Head net found)) }
+    ensures fits { IfReadFits Head result }
+    ensures frame { ReadsOnly S.Store tx.old tx.new result }
 {
     let Some(head) = head_of(alloc, tx, name)? else {
         return Ok(None);
@@ -47,14 +40,10 @@ fn parts_excerpt<S: Alter>(
     tx: &mut Transaction<'_, S>,
     name: &NetName,
 ) -> Result<Option<Excerpt>, Error>
-    ensures same_reference { tx.new.conn.ghost_name ≡ tx.old.conn.ghost_name }
-    ensures found { Finds result (state S.Store tx.old.conn.now) (state S.Store tx.new.conn.now)
-        (λ found t. (net : Option Network) → IsReadIn name.now t net
-        → (team : List ℕ) → IsExcerptIn team Parts net found) }
-    ensures fits { IfOk result (λ found. IfSome found (λ e. fits Parts (facts_in e) ≡ true)) }
-    ensures same { ChangesNothing result (state S.Store tx.old.conn.now) (state S.Store tx.new.conn.now) }
-    ensures kept { CommitsNothing (state S.Store tx.old.conn.now) (state S.Store tx.new.conn.now) }
-    ensures survives { LeavesNothing (state S.Store tx.old.conn.now) (state S.Store tx.new.conn.now) }
+    ensures found { Asks S.Store tx.old tx.new result
+        (OnParts name.now (λ net found. (team : List ℕ) → IsExcerptIn team Parts net found)) }
+    ensures fits { IfReadFits Parts result }
+    ensures frame { ReadsOnly S.Store tx.old tx.new result }
 {
     let Some(head) = head_of(alloc, tx, name)? else {
         return Ok(None);
@@ -70,14 +59,11 @@ fn message_excerpt<S: Alter>(
     name: &NetName,
     message: &Name,
 ) -> Result<Option<Excerpt>, Error>
-    ensures same_reference { tx.new.conn.ghost_name ≡ tx.old.conn.ghost_name }
-    ensures found { Finds result (state S.Store tx.old.conn.now) (state S.Store tx.new.conn.now)
-        (λ found t. (net : Option Network) → IsReadIn name.now t net
-        → (team : List ℕ) → IsExcerptIn team (Message message.now) net found) }
-    ensures fits { IfOk result (λ found. IfSome found (λ e. fits (Message message.now) (facts_in e) ≡ true)) }
-    ensures same { ChangesNothing result (state S.Store tx.old.conn.now) (state S.Store tx.new.conn.now) }
-    ensures kept { CommitsNothing (state S.Store tx.old.conn.now) (state S.Store tx.new.conn.now) }
-    ensures survives { LeavesNothing (state S.Store tx.old.conn.now) (state S.Store tx.new.conn.now) }
+    ensures found { Asks S.Store tx.old tx.new result
+        (OnParts name.now (λ net found. (team : List ℕ)
+        → IsExcerptIn team (Message message.now) net found)) }
+    ensures fits { IfReadFits (Message message.now) result }
+    ensures frame { ReadsOnly S.Store tx.old tx.new result }
 {
     let Some(head) = head_of(alloc, tx, name)? else {
         return Ok(None);
@@ -94,14 +80,11 @@ fn retiring_excerpt<S: Alter>(
     name: &NetName,
     message: &Name,
 ) -> Result<Option<Excerpt>, Error>
-    ensures same_reference { tx.new.conn.ghost_name ≡ tx.old.conn.ghost_name }
-    ensures found { Finds result (state S.Store tx.old.conn.now) (state S.Store tx.new.conn.now)
-        (λ found t. (net : Option Network) → IsNetAt name.now t net → IfSome net IsNet
-        → (team : List ℕ) → IsExcerptIn team (Retiring message.now) net found) }
-    ensures fits { IfOk result (λ found. IfSome found (λ e. fits (Retiring message.now) (facts_in e) ≡ true)) }
-    ensures same { ChangesNothing result (state S.Store tx.old.conn.now) (state S.Store tx.new.conn.now) }
-    ensures kept { CommitsNothing (state S.Store tx.old.conn.now) (state S.Store tx.new.conn.now) }
-    ensures survives { LeavesNothing (state S.Store tx.old.conn.now) (state S.Store tx.new.conn.now) }
+    ensures found { Asks S.Store tx.old tx.new result
+        (OnNet name.now (λ net found. IfSome net IsNet → (team : List ℕ)
+        → IsExcerptIn team (Retiring message.now) net found)) }
+    ensures fits { IfReadFits (Retiring message.now) result }
+    ensures frame { ReadsOnly S.Store tx.old tx.new result }
 {
     let Some(head) = head_of(alloc, tx, name)? else {
         return Ok(None);
@@ -126,14 +109,10 @@ pub fn excerpt_at<S: Alter>(
     scope: &Scope<'_>,
 ) -> Result<Option<Excerpt>, Error>
     requires { is_part (scope_as scope.now) ≡ true }
-    ensures same_reference { tx.new.conn.ghost_name ≡ tx.old.conn.ghost_name }
-    ensures found { Finds result (state S.Store tx.old.conn.now) (state S.Store tx.new.conn.now)
-        (λ found t. (net : Option Network) → IsNetAt name.now t net → IfSome net IsNet
-        → IsExcerptIn team.now (scope_as scope.now) net found) }
-    ensures fits { IfOk result (λ found. IfSome found (λ e. fits (scope_as scope.now) (facts_in e) ≡ true)) }
-    ensures same { ChangesNothing result (state S.Store tx.old.conn.now) (state S.Store tx.new.conn.now) }
-    ensures kept { CommitsNothing (state S.Store tx.old.conn.now) (state S.Store tx.new.conn.now) }
-    ensures survives { LeavesNothing (state S.Store tx.old.conn.now) (state S.Store tx.new.conn.now) }
+    ensures found { Asks S.Store tx.old tx.new result (OnNet name.now (λ net found. IfSome net IsNet
+        → IsExcerptIn team.now (scope_as scope.now) net found)) }
+    ensures fits { IfReadFits (scope_as scope.now) result }
+    ensures frame { ReadsOnly S.Store tx.old tx.new result }
 {
     match scope {
         Scope::Head => head_excerpt(alloc, tx, name),

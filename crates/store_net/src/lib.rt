@@ -21,14 +21,14 @@
 //! does. An error is out of memory, what `sqlite` answers, or `InvalidQuery` where the rows are no office's; the
 //! transaction is to be rolled back then.
 //!
-//! The definitions are in `specs/`: `Parts.antt` (the parts of a network in the tables), `Excerpts.antt` and
-//! `Numbers.antt` (the part that a command reads), `Nets.antt` (all networks of the tables), `Texts.antt` (the texts of
-//! a network), `Writing.antt` (what writing a change leaves), `Kept.antt` (the rows of answered requests). The lemmas
-//! on them, for the crates above, are in `proofs/`.
+//! The definitions are in `specs/`: `Reading.antt` (the words for what is read), `Parts.antt` (the parts of a network in
+//! the tables), `Excerpts.antt` and `Numbers.antt` (the part that a command reads), `Nets.antt` (all networks of the
+//! tables), `Texts.antt` (the texts of a network), `Writing.antt` (what writing a change leaves), `Kept.antt` (the rows
+//! of answered requests). The lemmas on them, for the crates above, are in `proofs/`; those of loops are in
+//! `Frames.antt` there.
 #![tactic(auto)]
 
 mod change_rows;
-mod detail;
 mod excerpt;
 mod heads;
 mod live;
@@ -38,6 +38,7 @@ mod message_rows;
 mod nets;
 mod number_excerpt;
 mod one_signal;
+mod orphans;
 mod parts;
 mod ranges;
 mod reading;
@@ -45,7 +46,7 @@ mod release;
 mod release_sheet;
 mod replies;
 mod setting;
-mod strays;
+mod signal_parts;
 mod writing;
 
 pub use excerpt::excerpt_at;

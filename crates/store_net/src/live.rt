@@ -2,26 +2,26 @@
 ghost use Rattle.std.specs.Prelude.{◌≡◌, [], false, Option, IfOk, OnOk};
 ghost use Rattle.std.specs.List.Sorted.{IsStrictlySortedBy};
 ghost use Rattle.std.specs.Option.{option_map};
-ghost use Rattle.catalogue.specs.Keyed.{put};
-ghost use Rattle.catalogue.specs.Messages.{by_number, has_number, number_of};
-ghost use Rattle.views.specs.Table.{table_of};
+ghost use Rattle.base.specs.Keyed.{put};
+ghost use Rattle.dbc_sheet.specs.Messages.{by_number, has_number, number_of};
+ghost use Rattle.office_views.specs.Table.{table_of};
 ghost use Rattle.office_types.specs.State.{live_messages, sheet_of, sheet_with};
-ghost use Rattle.office_types.specs.declared.state.Net.{Net as Network};
-ghost use Rattle.sqlite.specs.Held.{state};
-ghost use Rattle.store_rows.specs.NetIn.{IsNetAt};
 ghost use Rattle.store_net.specs.Texts.{live_chart, live_table, live_text};
-ghost use Rattle.office_tables.specs.Statements.{ChangesNothing, CommitsNothing, Finds, LeavesNothing};
+ghost use Rattle.store_tables.specs.Frames.{Asks, ReadsOnly};
+ghost use Rattle.store_net.specs.Reading.{OnNet};
 
 use crate::live_list::{bare_messages, live_messages};
 use crate::message::message_at;
 use crate::parts::head_of;
-use catalogue::{Copying, Message, Name, Sheet, SheetCode};
+use base::Copying;
+use dbc_sheet::{Message, Sheet};
+use dbc_words::{Name, SheetCode};
 use dbc_write::text_of;
 use office_types::{Head, LiveMessage, NetName};
+use office_views::{message_chart, table_of};
 use sqlite::{Alter, Error, Transaction};
 use std::alloc::{AllocError, Global};
 use std::mem::replace;
-use views::{message_chart, table_of};
 
 /// The frame of the head, without a message.
 fn frame_of(alloc: Global, head: Head) -> Sheet
@@ -36,7 +36,8 @@ fn frame_of(alloc: Global, head: Head) -> Sheet
 /// Adds a message that the sheet doesn't have. An error is out of memory, or `InvalidQuery` where one sheet can't have
 /// both.
 fn add_message(alloc: Global, sheet: &mut Sheet, message: Message) -> Result<(), Error>
-    ensures ok { OnOk result (sheet.new ≡ record sheet.old { messages = put by_number message sheet.old.messages }) }
+    ensures ok { OnOk result (sheet.new
+        ≡ record sheet.old { messages = put by_number message sheet.old.messages }) }
     ensures absent { OnOk result (has_number sheet.old.messages (number_of message) ≡ false) }
 {
     match sheet.with_message(alloc, message) {
@@ -70,12 +71,9 @@ fn sheet_at<S: Alter>(
     tx: &mut Transaction<'_, S>,
     name: &NetName,
 ) -> Result<Option<Sheet>, Error>
-    ensures same_reference { tx.new.conn.ghost_name ≡ tx.old.conn.ghost_name }
-    ensures found { Finds result (state S.Store tx.old.conn.now) (state S.Store tx.new.conn.now)
-        (λ found t. (net : Option Network) → IsNetAt name.now t net → found ≡ option_map sheet_of net) }
-    ensures same { ChangesNothing result (state S.Store tx.old.conn.now) (state S.Store tx.new.conn.now) }
-    ensures kept { CommitsNothing (state S.Store tx.old.conn.now) (state S.Store tx.new.conn.now) }
-    ensures survives { LeavesNothing (state S.Store tx.old.conn.now) (state S.Store tx.new.conn.now) }
+    ensures found { Asks S.Store tx.old tx.new result
+        (OnNet name.now (λ net found. found ≡ option_map sheet_of net)) }
+    ensures frame { ReadsOnly S.Store tx.old tx.new result }
 {
     let Some(head) = head_of(alloc, tx, name)? else {
         return Ok(None);
@@ -92,12 +90,9 @@ fn bare_sheet_at<S: Alter>(
     tx: &mut Transaction<'_, S>,
     name: &NetName,
 ) -> Result<Option<Sheet>, Error>
-    ensures same_reference { tx.new.conn.ghost_name ≡ tx.old.conn.ghost_name }
-    ensures found { Finds result (state S.Store tx.old.conn.now) (state S.Store tx.new.conn.now)
-        (λ found t. (net : Option Network) → IsNetAt name.now t net → option_map table_of found ≡ live_table net) }
-    ensures same { ChangesNothing result (state S.Store tx.old.conn.now) (state S.Store tx.new.conn.now) }
-    ensures kept { CommitsNothing (state S.Store tx.old.conn.now) (state S.Store tx.new.conn.now) }
-    ensures survives { LeavesNothing (state S.Store tx.old.conn.now) (state S.Store tx.new.conn.now) }
+    ensures found { Asks S.Store tx.old tx.new result
+        (OnNet name.now (λ net found. option_map table_of found ≡ live_table net)) }
+    ensures frame { ReadsOnly S.Store tx.old tx.new result }
 {
     let Some(head) = head_of(alloc, tx, name)? else {
         return Ok(None);
@@ -114,13 +109,9 @@ pub fn live_text<S: Alter>(
     tx: &mut Transaction<'_, S>,
     name: &NetName,
 ) -> Result<Option<Vec<u8>>, Error>
-    ensures same_reference { tx.new.conn.ghost_name ≡ tx.old.conn.ghost_name }
-    ensures found { Finds result (state S.Store tx.old.conn.now) (state S.Store tx.new.conn.now)
-        (λ found t. (net : Option Network) → IsNetAt name.now t net
-        → option_map (λ text. text.items) found ≡ live_text net) }
-    ensures same { ChangesNothing result (state S.Store tx.old.conn.now) (state S.Store tx.new.conn.now) }
-    ensures kept { CommitsNothing (state S.Store tx.old.conn.now) (state S.Store tx.new.conn.now) }
-    ensures survives { LeavesNothing (state S.Store tx.old.conn.now) (state S.Store tx.new.conn.now) }
+    ensures found { Asks S.Store tx.old tx.new result
+        (OnNet name.now (λ net found. option_map (λ text. text.items) found ≡ live_text net)) }
+    ensures frame { ReadsOnly S.Store tx.old tx.new result }
 {
     let Some(sheet) = sheet_at(alloc, tx, name)? else {
         return Ok(None);
@@ -135,13 +126,9 @@ pub fn live_table<S: Alter>(
     tx: &mut Transaction<'_, S>,
     name: &NetName,
 ) -> Result<Option<Vec<u8>>, Error>
-    ensures same_reference { tx.new.conn.ghost_name ≡ tx.old.conn.ghost_name }
-    ensures found { Finds result (state S.Store tx.old.conn.now) (state S.Store tx.new.conn.now)
-        (λ found t. (net : Option Network) → IsNetAt name.now t net
-        → option_map (λ text. text.items) found ≡ live_table net) }
-    ensures same { ChangesNothing result (state S.Store tx.old.conn.now) (state S.Store tx.new.conn.now) }
-    ensures kept { CommitsNothing (state S.Store tx.old.conn.now) (state S.Store tx.new.conn.now) }
-    ensures survives { LeavesNothing (state S.Store tx.old.conn.now) (state S.Store tx.new.conn.now) }
+    ensures found { Asks S.Store tx.old tx.new result
+        (OnNet name.now (λ net found. option_map (λ text. text.items) found ≡ live_table net)) }
+    ensures frame { ReadsOnly S.Store tx.old tx.new result }
 {
     let Some(sheet) = bare_sheet_at(alloc, tx, name)? else {
         return Ok(None);
@@ -157,13 +144,9 @@ pub fn live_chart<S: Alter>(
     name: &NetName,
     message: &Name,
 ) -> Result<Option<Vec<u8>>, Error>
-    ensures same_reference { tx.new.conn.ghost_name ≡ tx.old.conn.ghost_name }
-    ensures found { Finds result (state S.Store tx.old.conn.now) (state S.Store tx.new.conn.now)
-        (λ found t. (net : Option Network) → IsNetAt name.now t net
-        → option_map (λ text. text.items) found ≡ live_chart net message.now) }
-    ensures same { ChangesNothing result (state S.Store tx.old.conn.now) (state S.Store tx.new.conn.now) }
-    ensures kept { CommitsNothing (state S.Store tx.old.conn.now) (state S.Store tx.new.conn.now) }
-    ensures survives { LeavesNothing (state S.Store tx.old.conn.now) (state S.Store tx.new.conn.now) }
+    ensures found { Asks S.Store tx.old tx.new result (OnNet name.now (λ net found.
+        option_map (λ text. text.items) found ≡ live_chart net message.now)) }
+    ensures frame { ReadsOnly S.Store tx.old tx.new result }
 {
     match message_at(alloc, tx, name, message)? {
         None => Ok(None),

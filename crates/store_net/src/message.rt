@@ -1,20 +1,18 @@
 //! One live message of a network, as the tables have it: no other message is read.
-ghost use Rattle.std.specs.Prelude.{◌≡◌, List, map, Option};
-ghost use Rattle.catalogue.specs.declared.signal.Signal.{Signal as SignalModel};
+ghost use Rattle.std.specs.Prelude.{◌≡◌, map, Option};
 ghost use Rattle.office_rules.specs.Facts.{live_named};
-ghost use Rattle.office_types.specs.declared.state.LiveMessage.{LiveMessage as Live};
-ghost use Rattle.sqlite.specs.Held.{state};
-ghost use Rattle.store_rows.specs.Live.{AreLiveRows, AreSignalsOf, live_rows};
-ghost use Rattle.store_net.specs.Detail.{bare_signal, signals_in};
-ghost use Rattle.office_tables.specs.Statements.{ChangesNothing, CommitsNothing, Finds, LeavesNothing};
+ghost use Rattle.store_net.specs.SignalParts.{bare_signal, signals_in};
+ghost use Rattle.store_tables.specs.Frames.{Asks, ReadsOnly};
+ghost use Rattle.store_net.specs.Reading.{OnLive, OnSignals};
 
-use crate::detail::Detail;
-use catalogue::{Name, Signals};
-use office_rows::{select_msg_named, select_receivers, select_sigs, select_sigvalues};
+use crate::signal_parts::SignalParts;
+use dbc_sheet::Signals;
+use dbc_words::Name;
 use office_types::{LiveMessage, NetName};
 use sqlite::{Alter, Error, Transaction};
 use std::alloc::Global;
 use store_rows::{live_message_of, number_at, signals_of};
+use store_statements::{select_msg_named, select_receivers, select_sigs, select_sigvalues};
 
 /// The signals of the network's message with the number.
 fn signals_at<S: Alter>(
@@ -23,13 +21,9 @@ fn signals_at<S: Alter>(
     net: &[u8],
     number: u32,
 ) -> Result<Signals, Error>
-    ensures same_reference { tx.new.conn.ghost_name ≡ tx.old.conn.ghost_name }
-    ensures found { Finds result (state S.Store tx.old.conn.now) (state S.Store tx.new.conn.now)
-        (λ signals t. (others : List SignalModel) → AreSignalsOf net.now number (live_rows net.now t) others
-        → signals ≡ others) }
-    ensures same { ChangesNothing result (state S.Store tx.old.conn.now) (state S.Store tx.new.conn.now) }
-    ensures kept { CommitsNothing (state S.Store tx.old.conn.now) (state S.Store tx.new.conn.now) }
-    ensures survives { LeavesNothing (state S.Store tx.old.conn.now) (state S.Store tx.new.conn.now) }
+    ensures found { Asks S.Store tx.old tx.new result
+        (OnSignals net.now number (λ others signals. signals ≡ others)) }
+    ensures frame { ReadsOnly S.Store tx.old tx.new result }
 {
     let sigs = select_sigs(tx, net, number)?;
     let receivers = select_receivers(tx, net, number)?;
@@ -44,13 +38,9 @@ fn bare_signals_at<S: Alter>(
     net: &[u8],
     number: u32,
 ) -> Result<Signals, Error>
-    ensures same_reference { tx.new.conn.ghost_name ≡ tx.old.conn.ghost_name }
-    ensures found { Finds result (state S.Store tx.old.conn.now) (state S.Store tx.new.conn.now)
-        (λ signals t. (others : List SignalModel) → AreSignalsOf net.now number (live_rows net.now t) others
-        → signals ≡ map bare_signal others) }
-    ensures same { ChangesNothing result (state S.Store tx.old.conn.now) (state S.Store tx.new.conn.now) }
-    ensures kept { CommitsNothing (state S.Store tx.old.conn.now) (state S.Store tx.new.conn.now) }
-    ensures survives { LeavesNothing (state S.Store tx.old.conn.now) (state S.Store tx.new.conn.now) }
+    ensures found { Asks S.Store tx.old tx.new result
+        (OnSignals net.now number (λ others signals. signals ≡ map bare_signal others)) }
+    ensures frame { ReadsOnly S.Store tx.old tx.new result }
 {
     let sigs = select_sigs(tx, net, number)?;
     signals_of(alloc, &sigs, &[], &[])
@@ -62,19 +52,15 @@ pub(crate) fn signals_for<S: Alter>(
     tx: &mut Transaction<'_, S>,
     net: &[u8],
     number: u32,
-    detail: Detail,
+    detail: SignalParts,
 ) -> Result<Signals, Error>
-    ensures same_reference { tx.new.conn.ghost_name ≡ tx.old.conn.ghost_name }
-    ensures found { Finds result (state S.Store tx.old.conn.now) (state S.Store tx.new.conn.now)
-        (λ signals t. (others : List SignalModel) → AreSignalsOf net.now number (live_rows net.now t) others
-        → signals ≡ signals_in detail others) }
-    ensures same { ChangesNothing result (state S.Store tx.old.conn.now) (state S.Store tx.new.conn.now) }
-    ensures kept { CommitsNothing (state S.Store tx.old.conn.now) (state S.Store tx.new.conn.now) }
-    ensures survives { LeavesNothing (state S.Store tx.old.conn.now) (state S.Store tx.new.conn.now) }
+    ensures found { Asks S.Store tx.old tx.new result
+        (OnSignals net.now number (λ others signals. signals ≡ signals_in detail others)) }
+    ensures frame { ReadsOnly S.Store tx.old tx.new result }
 {
     match detail {
-        Detail::Whole => signals_at(alloc, tx, net, number),
-        Detail::Bare => bare_signals_at(alloc, tx, net, number),
+        SignalParts::All => signals_at(alloc, tx, net, number),
+        SignalParts::RowOnly => bare_signals_at(alloc, tx, net, number),
     }
 }
 
@@ -85,13 +71,9 @@ pub fn message_at<S: Alter>(
     name: &NetName,
     message: &Name,
 ) -> Result<Option<LiveMessage>, Error>
-    ensures same_reference { tx.new.conn.ghost_name ≡ tx.old.conn.ghost_name }
-    ensures found { Finds result (state S.Store tx.old.conn.now) (state S.Store tx.new.conn.now)
-        (λ found t. (live : List Live) → AreLiveRows name.now (live_rows name.now t) live
-        → found ≡ live_named live message.now) }
-    ensures same { ChangesNothing result (state S.Store tx.old.conn.now) (state S.Store tx.new.conn.now) }
-    ensures kept { CommitsNothing (state S.Store tx.old.conn.now) (state S.Store tx.new.conn.now) }
-    ensures survives { LeavesNothing (state S.Store tx.old.conn.now) (state S.Store tx.new.conn.now) }
+    ensures found { Asks S.Store tx.old tx.new result
+        (OnLive name.now (λ live found. found ≡ live_named live message.now)) }
+    ensures frame { ReadsOnly S.Store tx.old tx.new result }
 {
     let rows = select_msg_named(tx, name.as_bytes(), message.as_bytes())?;
     match rows.first() {

@@ -2,28 +2,27 @@
 ghost use Rattle.std.specs.Prelude.{◌≡◌, ◌≢◌, ◌++◌, ◌∷◌, [], IfOk, IfSome, OnOk};
 ghost use Rattle.std.specs.List.{AllByRecursion};
 ghost use Rattle.can_id.specs.Ident.{IsIdentifier, dbc_number};
-ghost use Rattle.catalogue.specs.declared.value_texts.ValueText.{ValueText as Entry};
+ghost use Rattle.dbc_sheet.specs.declared.value_texts.ValueText.{ValueText as Entry};
 ghost use Rattle.decimal.specs.Number.{IsDecimal};
 ghost use Rattle.decimal.specs.Printing.{text_of};
-ghost use Rattle.sqlite.specs.Held.{state};
 ghost use Rattle.store_rows.specs.Live.{HasDecimals, flag_number, motorola_number, mux_column, sender_text, sig_values};
 ghost use Rattle.store_rows.specs.LiveWritten.{IsLive, IsSignal, placed_from, receiver_rows, value_rows, with_live};
 ghost use Rattle.store_rows.specs.LiveWritten.{with_msg, with_signal, with_signals, without_live};
-ghost use Rattle.office_tables.specs.Statements.{AddsNoCommit, EndsInside, LeavesNothing, MakesTables, StaysInside};
-ghost use Rattle.office_tables.specs.Statements.{StaysOffice, Writes};
+ghost use Rattle.store_tables.specs.Frames.{Edits, OnlyWrites, Relates, WritesAndEndsIn, WritesAndStaysIn};
 
 use crate::writing::number_above;
 use bitlayout::{Mux, Order};
 use can_id::Ident;
-use catalogue::{Name, Signal, ValueText};
+use dbc_sheet::{Signal, ValueText};
+use dbc_words::Name;
 use decimal::Decimal;
-use office_rows::{
-    MsgRow, MuxColumn, ReceiverRow, SigRow, SigValueRow, delete_msgs, delete_receivers,
-    delete_sigs, delete_sigvalues, insert_msg, insert_receiver, insert_sig, insert_sigvalue,
-};
 use office_types::{LiveMessage, NetName};
 use sqlite::{Alter, Error, Transaction};
 use std::alloc::{AllocError, Global};
+use store_statements::{
+    LiveRow, MuxColumn, ReceiverRow, SigRow, SigValueRow, delete_msgs, delete_receivers,
+    delete_sigs, delete_sigvalues, insert_msg, insert_receiver, insert_sig, insert_sigvalue,
+};
 
 /// Writes the receivers of the signal at the place of a message.
 pub fn write_receivers<S: Alter>(
@@ -33,26 +32,22 @@ pub fn write_receivers<S: Alter>(
     place: u32,
     receivers: &[Name],
 ) -> Result<(), Error>
-    ensures same_reference { tx.new.conn.ghost_name ≡ tx.old.conn.ghost_name }
-    ensures written { Writes result (state S.Store tx.old.conn.now) (state S.Store tx.new.conn.now)
-        (λ before after. after
-        ≡ (record before { receiver = before.receiver ++ receiver_rows net.now number place 0 receivers.now })) }
-    ensures office { StaysOffice result (state S.Store tx.old.conn.now) (state S.Store tx.new.conn.now) }
-    ensures inside { StaysInside result (state S.Store tx.old.conn.now) (state S.Store tx.new.conn.now) }
-    ensures kept { AddsNoCommit (state S.Store tx.old.conn.now) (state S.Store tx.new.conn.now) }
-    ensures survives { LeavesNothing (state S.Store tx.old.conn.now) (state S.Store tx.new.conn.now) }
+    ensures written { Relates S.Store tx.old tx.new result (λ before after. after ≡ (record before {
+      receiver = before.receiver ++ receiver_rows net.now number place 0 receivers.now;
+    })) }
+    ensures frame { WritesAndStaysIn S.Store tx.old tx.new result }
 {
-    let mut seat = 0;
+    let mut index = 0;
     for name in receivers {
         let row = ReceiverRow {
             net,
             number,
             place,
-            seat,
+            index,
             name: name.as_bytes(),
         };
         insert_receiver(tx, &row)?;
-        seat = number_above(seat)?;
+        index = number_above(index)?;
     }
     Ok(())
 }
@@ -76,29 +71,25 @@ pub fn write_values<S: Alter>(
     place: u32,
     values: &[ValueText],
 ) -> Result<(), Error>
-    ensures same_reference { tx.new.conn.ghost_name ≡ tx.old.conn.ghost_name }
     ensures decimals { OnOk result (AllByRecursion (λ (v : Entry). IsDecimal v.value) values.now) }
-    ensures written { Writes result (state S.Store tx.old.conn.now) (state S.Store tx.new.conn.now)
-        (λ before after. after
-        ≡ (record before { sigvalue = before.sigvalue ++ value_rows net.now number place 0 values.now })) }
-    ensures office { StaysOffice result (state S.Store tx.old.conn.now) (state S.Store tx.new.conn.now) }
-    ensures inside { StaysInside result (state S.Store tx.old.conn.now) (state S.Store tx.new.conn.now) }
-    ensures kept { AddsNoCommit (state S.Store tx.old.conn.now) (state S.Store tx.new.conn.now) }
-    ensures survives { LeavesNothing (state S.Store tx.old.conn.now) (state S.Store tx.new.conn.now) }
+    ensures written { Relates S.Store tx.old tx.new result (λ before after. after ≡ (record before {
+      sigvalue = before.sigvalue ++ value_rows net.now number place 0 values.now;
+    })) }
+    ensures frame { WritesAndStaysIn S.Store tx.old tx.new result }
 {
-    let mut seat = 0;
+    let mut index = 0;
     for entry in values {
         let text = decimal_text(alloc, &entry.value)?;
         let row = SigValueRow {
             net,
             number,
             place,
-            seat,
+            index,
             value: &text,
-            words: entry.text.as_bytes(),
+            text: entry.text.as_bytes(),
         };
         insert_sigvalue(tx, &row)?;
-        seat = number_above(seat)?;
+        index = number_above(index)?;
     }
     Ok(())
 }
@@ -140,17 +131,15 @@ pub(crate) fn write_sig<S: Alter>(
     place: u32,
     signal: &Signal,
 ) -> Result<(), Error>
-    ensures same_reference { tx.new.conn.ghost_name ≡ tx.old.conn.ghost_name }
     ensures decimals { OnOk result (HasDecimals signal.now) }
-    ensures written { MakesTables result (state S.Store tx.old.conn.now) (state S.Store tx.new.conn.now)
+    ensures written { Edits S.Store tx.old tx.new result
         (λ t. record t { sig = t.sig ++ sig_values net.now number place signal.now ∷ [] }) }
-    ensures kept { AddsNoCommit (state S.Store tx.old.conn.now) (state S.Store tx.new.conn.now) }
-    ensures survives { LeavesNothing (state S.Store tx.old.conn.now) (state S.Store tx.new.conn.now) }
+    ensures frame { OnlyWrites S.Store tx.old tx.new }
 {
     let factor = decimal_text(alloc, &signal.factor)?;
-    let shift = decimal_text(alloc, &signal.offset)?;
-    let least = decimal_text(alloc, &signal.minimum)?;
-    let most = decimal_text(alloc, &signal.maximum)?;
+    let offset = decimal_text(alloc, &signal.offset)?;
+    let minimum = decimal_text(alloc, &signal.minimum)?;
+    let maximum = decimal_text(alloc, &signal.maximum)?;
     let row = SigRow {
         net,
         number,
@@ -162,13 +151,13 @@ pub(crate) fn write_sig<S: Alter>(
         signed: flag_number(signal.signed),
         mux: mux_column(signal.mux),
         factor: &factor,
-        shift: &shift,
-        least: &least,
-        most: &most,
+        offset: &offset,
+        minimum: &minimum,
+        maximum: &maximum,
         unit: signal.unit.as_bytes(),
         comment: signal.comment.as_bytes(),
         spn: signal.spn.number(),
-        label: u32::from(signal.value_type.number()),
+        value_type: u32::from(signal.value_type.number()),
     };
     insert_sig(tx, &row)?;
     Ok(())
@@ -183,14 +172,10 @@ pub(crate) fn write_signal<S: Alter>(
     place: u32,
     signal: &Signal,
 ) -> Result<(), Error>
-    ensures same_reference { tx.new.conn.ghost_name ≡ tx.old.conn.ghost_name }
     ensures signal { OnOk result (IsSignal signal.now) }
-    ensures written { Writes result (state S.Store tx.old.conn.now) (state S.Store tx.new.conn.now)
+    ensures written { Relates S.Store tx.old tx.new result
         (λ before after. after ≡ with_signal net.now number place signal.now before) }
-    ensures office { StaysOffice result (state S.Store tx.old.conn.now) (state S.Store tx.new.conn.now) }
-    ensures inside { EndsInside result (state S.Store tx.old.conn.now) (state S.Store tx.new.conn.now) }
-    ensures kept { AddsNoCommit (state S.Store tx.old.conn.now) (state S.Store tx.new.conn.now) }
-    ensures survives { LeavesNothing (state S.Store tx.old.conn.now) (state S.Store tx.new.conn.now) }
+    ensures frame { WritesAndEndsIn S.Store tx.old tx.new result }
 {
     write_sig(alloc, tx, net, number, place, signal)?;
     write_receivers(tx, net, number, place, signal.receivers.as_slice())?;
@@ -205,14 +190,10 @@ fn write_signals<S: Alter>(
     number: u32,
     signals: &[Signal],
 ) -> Result<(), Error>
-    ensures same_reference { tx.new.conn.ghost_name ≡ tx.old.conn.ghost_name }
     ensures signals { OnOk result (AllByRecursion IsSignal signals.now) }
-    ensures written { Writes result (state S.Store tx.old.conn.now) (state S.Store tx.new.conn.now)
+    ensures written { Relates S.Store tx.old tx.new result
         (λ before after. after ≡ with_signals net.now number (placed_from 0 signals.now) before) }
-    ensures office { StaysOffice result (state S.Store tx.old.conn.now) (state S.Store tx.new.conn.now) }
-    ensures inside { StaysInside result (state S.Store tx.old.conn.now) (state S.Store tx.new.conn.now) }
-    ensures kept { AddsNoCommit (state S.Store tx.old.conn.now) (state S.Store tx.new.conn.now) }
-    ensures survives { LeavesNothing (state S.Store tx.old.conn.now) (state S.Store tx.new.conn.now) }
+    ensures frame { WritesAndStaysIn S.Store tx.old tx.new result }
 {
     let mut place = 0;
     for signal in signals {
@@ -239,21 +220,18 @@ fn write_msg<S: Alter>(
     net: &[u8],
     live: &LiveMessage,
 ) -> Result<(), Error>
-    ensures same_reference { tx.new.conn.ghost_name ≡ tx.old.conn.ghost_name }
     ensures identifier { IsIdentifier live.now.message.ident }
     ensures sent { IfSome live.now.message.transmitter (λ n. n ≢ []) }
-    ensures written { MakesTables result (state S.Store tx.old.conn.now) (state S.Store tx.new.conn.now)
-        (with_msg net.now live.now) }
-    ensures kept { AddsNoCommit (state S.Store tx.old.conn.now) (state S.Store tx.new.conn.now) }
-    ensures survives { LeavesNothing (state S.Store tx.old.conn.now) (state S.Store tx.new.conn.now) }
+    ensures written { Edits S.Store tx.old tx.new result (with_msg net.now live.now) }
+    ensures frame { OnlyWrites S.Store tx.old tx.new }
 {
-    let row = MsgRow {
+    let row = LiveRow {
         net,
         number: live.message.ident.to_dbc(),
         name: live.message.name.as_bytes(),
         owner: live.owner.as_bytes(),
         length: u32::from(live.message.length.bytes()),
-        sender: sender_text(&live.message.transmitter),
+        transmitter: sender_text(&live.message.transmitter),
         comment: live.message.comment.as_bytes(),
     };
     insert_msg(tx, &row)?;
@@ -266,11 +244,8 @@ fn remove_numbered<S: Alter>(
     net: &[u8],
     number: u32,
 ) -> Result<(), Error>
-    ensures same_reference { tx.new.conn.ghost_name ≡ tx.old.conn.ghost_name }
-    ensures removed { MakesTables result (state S.Store tx.old.conn.now) (state S.Store tx.new.conn.now)
-        (without_live net.now number) }
-    ensures kept { AddsNoCommit (state S.Store tx.old.conn.now) (state S.Store tx.new.conn.now) }
-    ensures survives { LeavesNothing (state S.Store tx.old.conn.now) (state S.Store tx.new.conn.now) }
+    ensures removed { Edits S.Store tx.old tx.new result (without_live net.now number) }
+    ensures frame { OnlyWrites S.Store tx.old tx.new }
 {
     delete_msgs(tx, net, number)?;
     delete_sigs(tx, net, number)?;
@@ -285,12 +260,10 @@ pub fn remove_message<S: Alter>(
     name: &NetName,
     ident: Ident,
 ) -> Result<(), Error>
-    ensures same_reference { tx.new.conn.ghost_name ≡ tx.old.conn.ghost_name }
     ensures identifier { IsIdentifier ident }
-    ensures removed { MakesTables result (state S.Store tx.old.conn.now) (state S.Store tx.new.conn.now)
+    ensures removed { Edits S.Store tx.old tx.new result
         (without_live name.now (dbc_number ident)) }
-    ensures kept { AddsNoCommit (state S.Store tx.old.conn.now) (state S.Store tx.new.conn.now) }
-    ensures survives { LeavesNothing (state S.Store tx.old.conn.now) (state S.Store tx.new.conn.now) }
+    ensures frame { OnlyWrites S.Store tx.old tx.new }
 {
     let number = ident.to_dbc();
     remove_numbered(tx, name.as_bytes(), number)
@@ -303,14 +276,10 @@ pub fn write_message<S: Alter>(
     name: &NetName,
     live: &LiveMessage,
 ) -> Result<(), Error>
-    ensures same_reference { tx.new.conn.ghost_name ≡ tx.old.conn.ghost_name }
     ensures live { OnOk result (IsLive live.now) }
-    ensures written { Writes result (state S.Store tx.old.conn.now) (state S.Store tx.new.conn.now)
+    ensures written { Relates S.Store tx.old tx.new result
         (λ before after. after ≡ with_live name.now live.now before) }
-    ensures office { StaysOffice result (state S.Store tx.old.conn.now) (state S.Store tx.new.conn.now) }
-    ensures inside { EndsInside result (state S.Store tx.old.conn.now) (state S.Store tx.new.conn.now) }
-    ensures kept { AddsNoCommit (state S.Store tx.old.conn.now) (state S.Store tx.new.conn.now) }
-    ensures survives { LeavesNothing (state S.Store tx.old.conn.now) (state S.Store tx.new.conn.now) }
+    ensures frame { WritesAndEndsIn S.Store tx.old tx.new result }
 {
     let number = live.message.ident.to_dbc();
     let net = name.as_bytes();

@@ -2,20 +2,20 @@
 ghost use Rattle.std.specs.Prelude.{◌≡◌, List, Some, length, map, IfOk};
 ghost use Rattle.std.specs.List.{AllByRecursion};
 ghost use Rattle.office_types.specs.declared.state.Net.{Net as Network};
-ghost use Rattle.sqlite.specs.Held.{state};
-ghost use Rattle.views.specs.NetList.{net_line, nets_text};
+ghost use Rattle.office_views.specs.NetList.{net_line, nets_text};
 ghost use Rattle.store_rows.specs.Listed.{AreShown};
 ghost use Rattle.store_rows.specs.NetIn.{IsNetAt};
 ghost use Rattle.store_net.specs.Nets.{AreKnownNets, AreNets, IsNamed};
-ghost use Rattle.office_tables.specs.Statements.{ChangesNothing, CommitsNothing, Finds, LeavesNothing, StaysSame};
+ghost use Rattle.store_tables.specs.Frames.{Asks, ReadsOnly, ReadsWhileOpen};
+ghost use Rattle.store_net.specs.Reading.{OnNetThere};
 
 use crate::parts::head_of;
-use office_rows::{select_net_names, select_release_numbers};
 use office_types::NetName;
+use office_views::net_line;
 use sqlite::types::ValueRef;
 use sqlite::{Alter, Error, Row, Transaction};
 use std::alloc::Global;
-use views::net_line;
+use store_statements::{select_net_names, select_release_numbers};
 
 /// The name that the row shows. An error where it shows none, or memory ran out.
 fn name_in(alloc: Global, row: &Row) -> Result<NetName, Error>
@@ -45,12 +45,9 @@ fn names_in(alloc: Global, rows: &[Row]) -> Result<Vec<NetName>, Error>
 /// The names of all networks, in their order, whatever the form of their live messages. An error is out of memory, what
 /// `sqlite` answers, or `InvalidQuery` where a row is no network's.
 pub fn names_of<S: Alter>(alloc: Global, tx: &mut Transaction<'_, S>) -> Result<Vec<NetName>, Error>
-    ensures same_reference { tx.new.conn.ghost_name ≡ tx.old.conn.ghost_name }
-    ensures found { Finds result (state S.Store tx.old.conn.now) (state S.Store tx.new.conn.now)
-        (λ names t. (nets : List Network) → AreKnownNets t nets → names.items ≡ map (λ net. net.name) nets) }
-    ensures same { ChangesNothing result (state S.Store tx.old.conn.now) (state S.Store tx.new.conn.now) }
-    ensures kept { CommitsNothing (state S.Store tx.old.conn.now) (state S.Store tx.new.conn.now) }
-    ensures survives { LeavesNothing (state S.Store tx.old.conn.now) (state S.Store tx.new.conn.now) }
+    ensures found { Asks S.Store tx.old tx.new result (λ names t.
+        (nets : List Network) → AreKnownNets t nets → names.items ≡ map (λ net. net.name) nets) }
+    ensures frame { ReadsOnly S.Store tx.old tx.new result }
 {
     let rows = select_net_names(tx)?;
     names_in(alloc, &rows)
@@ -61,12 +58,9 @@ pub(crate) fn release_count<S: Alter>(
     tx: &mut Transaction<'_, S>,
     name: &NetName,
 ) -> Result<usize, Error>
-    ensures same_reference { tx.new.conn.ghost_name ≡ tx.old.conn.ghost_name }
-    ensures found { Finds result (state S.Store tx.old.conn.now) (state S.Store tx.new.conn.now)
-        (λ count t. (net : Network) → IsNetAt name.now t (Some net) → count ≡ length net.releases) }
-    ensures same { ChangesNothing result (state S.Store tx.old.conn.now) (state S.Store tx.new.conn.now) }
-    ensures kept { CommitsNothing (state S.Store tx.old.conn.now) (state S.Store tx.new.conn.now) }
-    ensures survives { LeavesNothing (state S.Store tx.old.conn.now) (state S.Store tx.new.conn.now) }
+    ensures found { Asks S.Store tx.old tx.new result
+        (OnNetThere name.now (λ net count. count ≡ length net.releases)) }
+    ensures frame { ReadsOnly S.Store tx.old tx.new result }
 {
     let rows = select_release_numbers(tx, name.as_bytes())?;
     Ok(rows.as_slice().len())
@@ -79,12 +73,9 @@ fn line_at<S: Alter>(
     tx: &mut Transaction<'_, S>,
     name: &NetName,
 ) -> Result<Vec<u8>, Error>
-    ensures same_reference { tx.new.conn.ghost_name ≡ tx.old.conn.ghost_name }
-    ensures found { Finds result (state S.Store tx.old.conn.now) (state S.Store tx.new.conn.now)
-        (λ line t. (net : Network) → IsNetAt name.now t (Some net) → line.items ≡ net_line net) }
-    ensures same { ChangesNothing result (state S.Store tx.old.conn.now) (state S.Store tx.new.conn.now) }
-    ensures kept { CommitsNothing (state S.Store tx.old.conn.now) (state S.Store tx.new.conn.now) }
-    ensures survives { LeavesNothing (state S.Store tx.old.conn.now) (state S.Store tx.new.conn.now) }
+    ensures found { Asks S.Store tx.old tx.new result
+        (OnNetThere name.now (λ net line. line.items ≡ net_line net)) }
+    ensures frame { ReadsOnly S.Store tx.old tx.new result }
 {
     let Some(head) = head_of(alloc, tx, name)? else {
         return Err(Error::InvalidQuery);
@@ -99,13 +90,10 @@ fn lines_at<S: Alter>(
     tx: &mut Transaction<'_, S>,
     names: &[NetName],
 ) -> Result<Vec<u8>, Error>
-    ensures same_reference { tx.new.conn.ghost_name ≡ tx.old.conn.ghost_name }
-    ensures found { Finds result (state S.Store tx.old.conn.now) (state S.Store tx.new.conn.now)
-        (λ text t. (nets : List Network) → AllByRecursion (λ net. IsNetAt net.name t (Some net)) nets
+    ensures found { Asks S.Store tx.old tx.new result (λ text t.
+        (nets : List Network) → AllByRecursion (λ net. IsNetAt net.name t (Some net)) nets
         → names.now ≡ map (λ net. net.name) nets → text.items ≡ nets_text nets) }
-    ensures same { StaysSame result (state S.Store tx.old.conn.now) (state S.Store tx.new.conn.now) }
-    ensures kept { CommitsNothing (state S.Store tx.old.conn.now) (state S.Store tx.new.conn.now) }
-    ensures survives { LeavesNothing (state S.Store tx.old.conn.now) (state S.Store tx.new.conn.now) }
+    ensures frame { ReadsWhileOpen S.Store tx.old tx.new result }
 {
     let mut text = Vec::new(alloc);
     for name in names {
@@ -118,12 +106,9 @@ fn lines_at<S: Alter>(
 /// The lines of all networks, in the order of their names: name, kind, phase and count of releases. An error is out of
 /// memory, what `sqlite` answers, or `InvalidQuery` where rows are no network's.
 pub fn nets_text<S: Alter>(alloc: Global, tx: &mut Transaction<'_, S>) -> Result<Vec<u8>, Error>
-    ensures same_reference { tx.new.conn.ghost_name ≡ tx.old.conn.ghost_name }
-    ensures found { Finds result (state S.Store tx.old.conn.now) (state S.Store tx.new.conn.now)
+    ensures found { Asks S.Store tx.old tx.new result
         (λ text t. (nets : List Network) → AreNets t nets → text.items ≡ nets_text nets) }
-    ensures same { ChangesNothing result (state S.Store tx.old.conn.now) (state S.Store tx.new.conn.now) }
-    ensures kept { CommitsNothing (state S.Store tx.old.conn.now) (state S.Store tx.new.conn.now) }
-    ensures survives { LeavesNothing (state S.Store tx.old.conn.now) (state S.Store tx.new.conn.now) }
+    ensures frame { ReadsOnly S.Store tx.old tx.new result }
 {
     let names = names_of(alloc, tx)?;
     lines_at(alloc, tx, &names)

@@ -1,20 +1,19 @@
 //! What a command that gives out a number reads of its network: its row, its blocks, of the live messages whether one
 //! has a name and whether there are as many as there may be, and which identifiers live messages have or are held:
 //! those in the team's blocks, or all of 29 bits. No message is read.
-ghost use Rattle.std.specs.Prelude.{◌≡◌, ℕ, List, Option, true, IfOk, IfSome};
+ghost use Rattle.std.specs.Prelude.{ℕ, List, Option};
 ghost use Rattle.office_facts.specs.Excerpt.{fits};
-ghost use Rattle.office_facts.specs.FactsOf.{facts_in};
 ghost use Rattle.office_facts.specs.Scope.{Groups, Idents};
-ghost use Rattle.office_types.specs.declared.state.Net.{Net as Network};
-ghost use Rattle.sqlite.specs.Held.{state};
-ghost use Rattle.store_net.specs.Excerpts.{HasNameAndRoom, IsExcerptIn, IsReadIn, MatchBoth};
-ghost use Rattle.office_tables.specs.Statements.{ChangesNothing, CommitsNothing, Finds, LeavesNothing};
+ghost use Rattle.store_net.specs.Excerpts.{HasNameAndRoom, IsExcerptIn, MatchBoth};
+ghost use Rattle.store_tables.specs.Frames.{Asks, ReadsOnly};
+ghost use Rattle.store_net.specs.Reading.{IfReadFits, OnParts};
 
 use crate::heads::{is_full_at, is_named_at};
 use crate::parts::{blocks_of, head_of};
 use crate::ranges::{TakenTable, idents_at, idents_inside_at, want_taken_at};
+use base::Items;
 use can_id::{EXTENDED_FLAG, GREATEST_EXTENDED};
-use catalogue::{Items, Name};
+use dbc_words::Name;
 use office_facts::{Excerpt, NumberExcerpt, blocks_of as team_blocks, groups_of, numbers_of};
 use office_types::{BlockForm, NetName, TakeIdent, TakePgn, Team};
 use sqlite::{Alter, Error, Transaction};
@@ -28,13 +27,9 @@ fn name_and_room<S: Alter>(
     name: &NetName,
     message: &Name,
 ) -> Result<Option<NumberExcerpt>, Error>
-    ensures same_reference { tx.new.conn.ghost_name ≡ tx.old.conn.ghost_name }
-    ensures found { Finds result (state S.Store tx.old.conn.now) (state S.Store tx.new.conn.now)
-        (λ found t. (net : Option Network) → IsReadIn name.now t net
-        → MatchBoth (HasNameAndRoom message.now) net found) }
-    ensures same { ChangesNothing result (state S.Store tx.old.conn.now) (state S.Store tx.new.conn.now) }
-    ensures kept { CommitsNothing (state S.Store tx.old.conn.now) (state S.Store tx.new.conn.now) }
-    ensures survives { LeavesNothing (state S.Store tx.old.conn.now) (state S.Store tx.new.conn.now) }
+    ensures found { Asks S.Store tx.old tx.new result
+        (OnParts name.now (λ net found. MatchBoth (HasNameAndRoom message.now) net found)) }
+    ensures frame { ReadsOnly S.Store tx.old tx.new result }
 {
     let Some(head) = head_of(alloc, tx, name)? else {
         return Ok(None);
@@ -62,14 +57,10 @@ pub(crate) fn ident_excerpt<S: Alter>(
     team: &Team,
     take: &TakeIdent,
 ) -> Result<Option<Excerpt>, Error>
-    ensures same_reference { tx.new.conn.ghost_name ≡ tx.old.conn.ghost_name }
-    ensures found { Finds result (state S.Store tx.old.conn.now) (state S.Store tx.new.conn.now)
-        (λ found t. (net : Option Network) → IsReadIn name.now t net
-        → IsExcerptIn team.now (Idents take.now) net found) }
-    ensures fits { IfOk result (λ found. IfSome found (λ e. fits (Idents take.now) (facts_in e) ≡ true)) }
-    ensures same { ChangesNothing result (state S.Store tx.old.conn.now) (state S.Store tx.new.conn.now) }
-    ensures kept { CommitsNothing (state S.Store tx.old.conn.now) (state S.Store tx.new.conn.now) }
-    ensures survives { LeavesNothing (state S.Store tx.old.conn.now) (state S.Store tx.new.conn.now) }
+    ensures found { Asks S.Store tx.old tx.new result
+        (OnParts name.now (λ net found. IsExcerptIn team.now (Idents take.now) net found)) }
+    ensures fits { IfReadFits (Idents take.now) result }
+    ensures frame { ReadsOnly S.Store tx.old tx.new result }
 {
     let Some(mut excerpt) = name_and_room(alloc, tx, name, &take.message.name)? else {
         return Ok(None);
@@ -100,14 +91,11 @@ pub(crate) fn group_excerpt<S: Alter>(
     name: &NetName,
     take: &TakePgn,
 ) -> Result<Option<Excerpt>, Error>
-    ensures same_reference { tx.new.conn.ghost_name ≡ tx.old.conn.ghost_name }
-    ensures found { Finds result (state S.Store tx.old.conn.now) (state S.Store tx.new.conn.now)
-        (λ found t. (net : Option Network) → IsReadIn name.now t net
-        → (team : List ℕ) → IsExcerptIn team (Groups take.now) net found) }
-    ensures fits { IfOk result (λ found. IfSome found (λ e. fits (Groups take.now) (facts_in e) ≡ true)) }
-    ensures same { ChangesNothing result (state S.Store tx.old.conn.now) (state S.Store tx.new.conn.now) }
-    ensures kept { CommitsNothing (state S.Store tx.old.conn.now) (state S.Store tx.new.conn.now) }
-    ensures survives { LeavesNothing (state S.Store tx.old.conn.now) (state S.Store tx.new.conn.now) }
+    ensures found { Asks S.Store tx.old tx.new result
+        (OnParts name.now (λ net found. (team : List ℕ)
+        → IsExcerptIn team (Groups take.now) net found)) }
+    ensures fits { IfReadFits (Groups take.now) result }
+    ensures frame { ReadsOnly S.Store tx.old tx.new result }
 {
     let Some(mut excerpt) = name_and_room(alloc, tx, name, &take.message.name)? else {
         return Ok(None);

@@ -3,37 +3,38 @@ ghost use Rattle.std.specs.Prelude.{[], ◌∷◌, ◌≡◌, ℕ, List, IfOk, O
 ghost use Rattle.std.specs.List.{AllByRecursion};
 ghost use Rattle.std.specs.Option.{option_map};
 ghost use Rattle.can_id.specs.Ident.{dbc_number};
-ghost use Rattle.catalogue.specs.declared.signal.Signal.{Signal as SignalModel};
-ghost use Rattle.catalogue.specs.declared.value_texts.ValueText.{ValueText as Entry};
+ghost use Rattle.dbc_sheet.specs.declared.signal.Signal.{Signal as SignalModel};
+ghost use Rattle.dbc_sheet.specs.declared.value_texts.ValueText.{ValueText as Entry};
 ghost use Rattle.decimal.specs.Number.{IsDecimal};
 ghost use Rattle.office_rules.specs.Facts.{live_named};
-ghost use Rattle.office_rows.specs.Rows.{has_net_and_number};
-ghost use Rattle.office_rows.specs.Shown.{last_place_order, last_place_shown};
-ghost use Rattle.office_tables.specs.Selected.{IsFirstSelected};
-ghost use Rattle.office_tables.specs.Tables.{Tables};
+ghost use Rattle.store_statements.specs.Rows.{has_net_and_number};
+ghost use Rattle.store_statements.specs.Shown.{last_place_order, last_place_shown};
+ghost use Rattle.store_tables.specs.Selected.{IsFirstSelected};
+ghost use Rattle.store_tables.specs.Tables.{Tables};
 ghost use Rattle.office_types.specs.declared.state.LiveMessage.{LiveMessage as Live};
-ghost use Rattle.sqlite.specs.Held.{state};
 ghost use Rattle.sqlite.specs.Order.{Row as Columns};
 ghost use Rattle.store_rows.specs.Listed.{AreShown};
 ghost use Rattle.store_rows.specs.Live.{AreLiveRows, live_rows};
-ghost use Rattle.store_rows.specs.LiveWritten.{AreTextsSet, IsAdded, IsAfter, IsSpnSet, IsTakenOut, with_spns};
+ghost use Rattle.store_rows.specs.LiveWritten.{AreTextsSet, IsSignalAdded, IsAfter, IsSpnSet, IsTakenOut, with_spns};
 ghost use Rattle.store_rows.specs.LiveWritten.{with_texts, without_place, without_places};
 ghost use Rattle.store_rows.specs.SignalShowing.{PlacesAscend, ShowsPlaced};
 ghost use Rattle.store_net.specs.Places.{places_shown};
-ghost use Rattle.office_tables.specs.Statements.{AddsNoCommit, ChangesNothing, CommitsNothing, EndsInside, Finds};
-ghost use Rattle.office_tables.specs.Statements.{LeavesNothing, MakesTables, StaysInside, StaysOffice, Writes};
+ghost use Rattle.store_tables.specs.Frames.{Asks, Edits, EndsIn, OnlyWrites, ReadsOnly, Relates, StaysIn};
+ghost use Rattle.store_tables.specs.Frames.{WritesAndStaysIn};
+ghost use Rattle.store_net.specs.Reading.{OnLive};
 
 use crate::message_rows::{write_sig, write_signal, write_values};
 use crate::writing::number_above;
-use catalogue::{Name, Receivers, Signal, ValueText, ValueTexts};
-use office_rows::{
-    delete_receivers_at, delete_sig_at, delete_sigvalues_at, select_last_place, select_msg_named,
-    select_sigs_named,
-};
+use dbc_sheet::{Receivers, Signal, ValueText, ValueTexts};
+use dbc_words::Name;
 use office_types::{NetName, SignalPath, UsableSpn};
 use sqlite::{Alter, Error, Row, Transaction};
 use std::alloc::Global;
 use store_rows::{number_at, signal_of};
+use store_statements::{
+    delete_receivers_at, delete_sig_at, delete_sigvalues_at, select_last_place, select_msg_named,
+    select_sigs_named,
+};
 
 /// The DBC number of the live message of the name, `None` where the network has none.
 fn number_named<S: Alter>(
@@ -41,13 +42,9 @@ fn number_named<S: Alter>(
     name: &NetName,
     message: &Name,
 ) -> Result<Option<u32>, Error>
-    ensures same_reference { tx.new.conn.ghost_name ≡ tx.old.conn.ghost_name }
-    ensures found { Finds result (state S.Store tx.old.conn.now) (state S.Store tx.new.conn.now)
-        (λ found t. (live : List Live) → AreLiveRows name.now (live_rows name.now t) live
-        → found ≡ option_map (λ (m : Live). dbc_number m.message.ident) (live_named live message.now)) }
-    ensures same { ChangesNothing result (state S.Store tx.old.conn.now) (state S.Store tx.new.conn.now) }
-    ensures kept { CommitsNothing (state S.Store tx.old.conn.now) (state S.Store tx.new.conn.now) }
-    ensures survives { LeavesNothing (state S.Store tx.old.conn.now) (state S.Store tx.new.conn.now) }
+    ensures found { Asks S.Store tx.old tx.new result (OnLive name.now (λ live found. found
+        ≡ option_map (λ (m : Live). dbc_number m.message.ident) (live_named live message.now))) }
+    ensures frame { ReadsOnly S.Store tx.old tx.new result }
 {
     let rows = select_msg_named(tx, name.as_bytes(), message.as_bytes())?;
     match rows.first() {
@@ -60,8 +57,8 @@ fn number_named<S: Alter>(
 /// after it, or the row shows no number.
 fn place_after(rows: &[Row]) -> Result<u32, Error>
     ensures { IfOk result (λ place. (net : List ℕ) (number : ℕ) (t : Tables)
-        → IsFirstSelected (has_net_and_number net number) last_place_shown last_place_order t.sig rows.now
-        → IsAfter net number t place) }
+        → IsFirstSelected (has_net_and_number net number) last_place_shown last_place_order
+        t.sig rows.now → IsAfter net number t place) }
 {
     match rows.first() {
         None => Ok(0),
@@ -77,14 +74,10 @@ pub(crate) fn add_signal<S: Alter>(
     message: &Name,
     signal: &Signal,
 ) -> Result<(), Error>
-    ensures same_reference { tx.new.conn.ghost_name ≡ tx.old.conn.ghost_name }
-    ensures written { Writes result (state S.Store tx.old.conn.now) (state S.Store tx.new.conn.now)
+    ensures written { Relates S.Store tx.old tx.new result
         (λ before after. (live : List Live) → AreLiveRows name.now (live_rows name.now before) live
-        → IsAdded name.now message.now signal.now live before after) }
-    ensures office { StaysOffice result (state S.Store tx.old.conn.now) (state S.Store tx.new.conn.now) }
-    ensures inside { EndsInside result (state S.Store tx.old.conn.now) (state S.Store tx.new.conn.now) }
-    ensures kept { CommitsNothing (state S.Store tx.old.conn.now) (state S.Store tx.new.conn.now) }
-    ensures survives { LeavesNothing (state S.Store tx.old.conn.now) (state S.Store tx.new.conn.now) }
+        → IsSignalAdded name.now message.now signal.now live before after) }
+    ensures frame { EndsIn S.Store tx.old tx.new result }
 {
     let net = name.as_bytes();
     let Some(number) = number_named(tx, name, message)? else {
@@ -102,11 +95,8 @@ fn remove_place<S: Alter>(
     number: u32,
     place: u32,
 ) -> Result<(), Error>
-    ensures same_reference { tx.new.conn.ghost_name ≡ tx.old.conn.ghost_name }
-    ensures removed { MakesTables result (state S.Store tx.old.conn.now) (state S.Store tx.new.conn.now)
-        (without_place net.now number place) }
-    ensures kept { AddsNoCommit (state S.Store tx.old.conn.now) (state S.Store tx.new.conn.now) }
-    ensures survives { LeavesNothing (state S.Store tx.old.conn.now) (state S.Store tx.new.conn.now) }
+    ensures removed { Edits S.Store tx.old tx.new result (without_place net.now number place) }
+    ensures frame { OnlyWrites S.Store tx.old tx.new }
 {
     delete_sig_at(tx, net, number, place)?;
     delete_receivers_at(tx, net, number, place)?;
@@ -121,13 +111,9 @@ fn remove_shown<S: Alter>(
     number: u32,
     rows: &[Row],
 ) -> Result<(), Error>
-    ensures same_reference { tx.new.conn.ghost_name ≡ tx.old.conn.ghost_name }
-    ensures removed { Writes result (state S.Store tx.old.conn.now) (state S.Store tx.new.conn.now)
+    ensures removed { Relates S.Store tx.old tx.new result
         (λ before after. after ≡ without_places net.now number (places_shown rows.now) before) }
-    ensures office { StaysOffice result (state S.Store tx.old.conn.now) (state S.Store tx.new.conn.now) }
-    ensures inside { StaysInside result (state S.Store tx.old.conn.now) (state S.Store tx.new.conn.now) }
-    ensures kept { AddsNoCommit (state S.Store tx.old.conn.now) (state S.Store tx.new.conn.now) }
-    ensures survives { LeavesNothing (state S.Store tx.old.conn.now) (state S.Store tx.new.conn.now) }
+    ensures frame { WritesAndStaysIn S.Store tx.old tx.new result }
 {
     for row in rows {
         let place = number_at(row, 0)?;
@@ -142,14 +128,10 @@ pub(crate) fn take_signal_out<S: Alter>(
     name: &NetName,
     path: &SignalPath,
 ) -> Result<(), Error>
-    ensures same_reference { tx.new.conn.ghost_name ≡ tx.old.conn.ghost_name }
-    ensures written { Writes result (state S.Store tx.old.conn.now) (state S.Store tx.new.conn.now)
+    ensures written { Relates S.Store tx.old tx.new result
         (λ before after. (live : List Live) → AreLiveRows name.now (live_rows name.now before) live
         → IsTakenOut name.now path.now live before after) }
-    ensures office { StaysOffice result (state S.Store tx.old.conn.now) (state S.Store tx.new.conn.now) }
-    ensures inside { StaysInside result (state S.Store tx.old.conn.now) (state S.Store tx.new.conn.now) }
-    ensures kept { CommitsNothing (state S.Store tx.old.conn.now) (state S.Store tx.new.conn.now) }
-    ensures survives { LeavesNothing (state S.Store tx.old.conn.now) (state S.Store tx.new.conn.now) }
+    ensures frame { StaysIn S.Store tx.old tx.new result }
 {
     let net = name.as_bytes();
     match number_named(tx, name, &path.message)? {
@@ -170,14 +152,10 @@ fn set_row_spn<S: Alter>(
     row: &Row,
     spn: UsableSpn,
 ) -> Result<(), Error>
-    ensures same_reference { tx.new.conn.ghost_name ≡ tx.old.conn.ghost_name }
-    ensures written { Writes result (state S.Store tx.old.conn.now) (state S.Store tx.new.conn.now)
+    ensures written { Relates S.Store tx.old tx.new result
         (λ before after. (q : ℕ × SignalModel) → ShowsPlaced q row.now
         → after ≡ with_spns net.now number spn (q ∷ []) before) }
-    ensures office { StaysOffice result (state S.Store tx.old.conn.now) (state S.Store tx.new.conn.now) }
-    ensures inside { StaysInside result (state S.Store tx.old.conn.now) (state S.Store tx.new.conn.now) }
-    ensures kept { AddsNoCommit (state S.Store tx.old.conn.now) (state S.Store tx.new.conn.now) }
-    ensures survives { LeavesNothing (state S.Store tx.old.conn.now) (state S.Store tx.new.conn.now) }
+    ensures frame { WritesAndStaysIn S.Store tx.old tx.new result }
 {
     let place = number_at(row, 0)?;
     let mut signal = signal_of(alloc, row, Receivers::new(), ValueTexts::empty(alloc))?;
@@ -195,14 +173,11 @@ fn set_shown_spn<S: Alter>(
     rows: &[Row],
     spn: UsableSpn,
 ) -> Result<(), Error>
-    ensures same_reference { tx.new.conn.ghost_name ≡ tx.old.conn.ghost_name }
-    ensures written { Writes result (state S.Store tx.old.conn.now) (state S.Store tx.new.conn.now)
-        (λ before after. (placed : List (ℕ × SignalModel)) → PlacesAscend placed → AreShown ShowsPlaced placed rows.now
+    ensures written { Relates S.Store tx.old tx.new result (λ before after.
+        (placed : List (ℕ × SignalModel)) → PlacesAscend placed
+        → AreShown ShowsPlaced placed rows.now
         → after ≡ with_spns net.now number spn placed before) }
-    ensures office { StaysOffice result (state S.Store tx.old.conn.now) (state S.Store tx.new.conn.now) }
-    ensures inside { StaysInside result (state S.Store tx.old.conn.now) (state S.Store tx.new.conn.now) }
-    ensures kept { AddsNoCommit (state S.Store tx.old.conn.now) (state S.Store tx.new.conn.now) }
-    ensures survives { LeavesNothing (state S.Store tx.old.conn.now) (state S.Store tx.new.conn.now) }
+    ensures frame { WritesAndStaysIn S.Store tx.old tx.new result }
 {
     for row in rows {
         set_row_spn(alloc, tx, net, number, row, spn)?;
@@ -219,14 +194,10 @@ pub(crate) fn set_signal_spn<S: Alter>(
     path: &SignalPath,
     spn: UsableSpn,
 ) -> Result<(), Error>
-    ensures same_reference { tx.new.conn.ghost_name ≡ tx.old.conn.ghost_name }
-    ensures written { Writes result (state S.Store tx.old.conn.now) (state S.Store tx.new.conn.now)
+    ensures written { Relates S.Store tx.old tx.new result
         (λ before after. (live : List Live) → AreLiveRows name.now (live_rows name.now before) live
         → IsSpnSet name.now path.now spn live before after) }
-    ensures office { StaysOffice result (state S.Store tx.old.conn.now) (state S.Store tx.new.conn.now) }
-    ensures inside { StaysInside result (state S.Store tx.old.conn.now) (state S.Store tx.new.conn.now) }
-    ensures kept { CommitsNothing (state S.Store tx.old.conn.now) (state S.Store tx.new.conn.now) }
-    ensures survives { LeavesNothing (state S.Store tx.old.conn.now) (state S.Store tx.new.conn.now) }
+    ensures frame { StaysIn S.Store tx.old tx.new result }
 {
     let net = name.as_bytes();
     match number_named(tx, name, &path.message)? {
@@ -247,15 +218,11 @@ fn set_row_values<S: Alter>(
     row: &Row,
     values: &[ValueText],
 ) -> Result<(), Error>
-    ensures same_reference { tx.new.conn.ghost_name ≡ tx.old.conn.ghost_name }
     ensures decimals { OnOk result (AllByRecursion (λ (v : Entry). IsDecimal v.value) values.now) }
-    ensures written { Writes result (state S.Store tx.old.conn.now) (state S.Store tx.new.conn.now)
+    ensures written { Relates S.Store tx.old tx.new result
         (λ before after. (q : ℕ × SignalModel) → ShowsPlaced q row.now
         → after ≡ with_texts net.now number values.now (q ∷ []) before) }
-    ensures office { StaysOffice result (state S.Store tx.old.conn.now) (state S.Store tx.new.conn.now) }
-    ensures inside { StaysInside result (state S.Store tx.old.conn.now) (state S.Store tx.new.conn.now) }
-    ensures kept { AddsNoCommit (state S.Store tx.old.conn.now) (state S.Store tx.new.conn.now) }
-    ensures survives { LeavesNothing (state S.Store tx.old.conn.now) (state S.Store tx.new.conn.now) }
+    ensures frame { WritesAndStaysIn S.Store tx.old tx.new result }
 {
     let place = number_at(row, 0)?;
     delete_sigvalues_at(tx, net, number, place)?;
@@ -271,16 +238,13 @@ fn set_shown_values<S: Alter>(
     rows: &[Row],
     values: &[ValueText],
 ) -> Result<(), Error>
-    ensures same_reference { tx.new.conn.ghost_name ≡ tx.old.conn.ghost_name }
-    ensures decimals { OnOk result (AllByRecursion
-        (λ (row : Columns). AllByRecursion (λ (v : Entry). IsDecimal v.value) values.now) rows.now) }
-    ensures written { Writes result (state S.Store tx.old.conn.now) (state S.Store tx.new.conn.now)
-        (λ before after. (placed : List (ℕ × SignalModel)) → PlacesAscend placed → AreShown ShowsPlaced placed rows.now
+    ensures decimals { OnOk result (AllByRecursion (λ (row : Columns).
+        AllByRecursion (λ (v : Entry). IsDecimal v.value) values.now) rows.now) }
+    ensures written { Relates S.Store tx.old tx.new result (λ before after.
+        (placed : List (ℕ × SignalModel)) → PlacesAscend placed
+        → AreShown ShowsPlaced placed rows.now
         → after ≡ with_texts net.now number values.now placed before) }
-    ensures office { StaysOffice result (state S.Store tx.old.conn.now) (state S.Store tx.new.conn.now) }
-    ensures inside { StaysInside result (state S.Store tx.old.conn.now) (state S.Store tx.new.conn.now) }
-    ensures kept { AddsNoCommit (state S.Store tx.old.conn.now) (state S.Store tx.new.conn.now) }
-    ensures survives { LeavesNothing (state S.Store tx.old.conn.now) (state S.Store tx.new.conn.now) }
+    ensures frame { WritesAndStaysIn S.Store tx.old tx.new result }
 {
     for row in rows {
         set_row_values(alloc, tx, net, number, row, values)?;
@@ -297,14 +261,10 @@ pub(crate) fn set_signal_values<S: Alter>(
     path: &SignalPath,
     values: &ValueTexts,
 ) -> Result<(), Error>
-    ensures same_reference { tx.new.conn.ghost_name ≡ tx.old.conn.ghost_name }
-    ensures written { Writes result (state S.Store tx.old.conn.now) (state S.Store tx.new.conn.now)
+    ensures written { Relates S.Store tx.old tx.new result
         (λ before after. (live : List Live) → AreLiveRows name.now (live_rows name.now before) live
         → AreTextsSet name.now path.now values.now live before after) }
-    ensures office { StaysOffice result (state S.Store tx.old.conn.now) (state S.Store tx.new.conn.now) }
-    ensures inside { StaysInside result (state S.Store tx.old.conn.now) (state S.Store tx.new.conn.now) }
-    ensures kept { CommitsNothing (state S.Store tx.old.conn.now) (state S.Store tx.new.conn.now) }
-    ensures survives { LeavesNothing (state S.Store tx.old.conn.now) (state S.Store tx.new.conn.now) }
+    ensures frame { StaysIn S.Store tx.old tx.new result }
 {
     let net = name.as_bytes();
     match number_named(tx, name, &path.message)? {

@@ -2,21 +2,20 @@
 ghost use Rattle.std.specs.Prelude.{◌≡◌, List, Some};
 ghost use Rattle.can_id.specs.declared.ident.Ident.{Ident as Identifier};
 ghost use Rattle.office_rules.specs.Facts.{is_wanted, same_ident};
-ghost use Rattle.sqlite.specs.Held.{state};
 ghost use Rattle.std.specs.List.{list_any};
 ghost use Rattle.store_net.specs.Numbers.{HasTaken, dbc_of, idents_between, idents_inside};
 ghost use Rattle.store_rows.specs.Listed.{AreShown};
 ghost use Rattle.store_rows.specs.Showing.{ShowsIdent};
-ghost use Rattle.office_tables.specs.Statements.{ChangesNothing, CommitsNothing, Finds, LeavesNothing, StaysSame};
+ghost use Rattle.store_tables.specs.Frames.{Asks, ReadsOnly, ReadsWhileOpen};
 
+use base::Items;
 use can_id::{EXTENDED_FLAG, Ident, IdentForm};
-use catalogue::Items;
 use office_facts::has_ident;
-use office_rows::{select_held_numbers, select_msg_numbers};
 use office_types::{Block, NetName};
 use sqlite::{Alter, Error, Row, Transaction};
 use std::alloc::Global;
 use store_rows::items_of;
+use store_statements::{select_held_numbers, select_msg_numbers};
 
 /// A table of identifiers that a network doesn't give out.
 #[derive(Clone, Copy, Debug, PartialEq, Eq)]
@@ -35,13 +34,10 @@ fn numbers_between<S: Alter>(
     first: u32,
     last: u32,
 ) -> Result<Vec<Row>, Error>
-    ensures same_reference { tx.new.conn.ghost_name ≡ tx.old.conn.ghost_name }
-    ensures found { Finds result (state S.Store tx.old.conn.now) (state S.Store tx.new.conn.now)
+    ensures found { Asks S.Store tx.old tx.new result
         (λ rows t. (idents : List Identifier) → HasTaken table name.now t idents
         → AreShown ShowsIdent (idents_between first last idents) rows.items) }
-    ensures same { ChangesNothing result (state S.Store tx.old.conn.now) (state S.Store tx.new.conn.now) }
-    ensures kept { CommitsNothing (state S.Store tx.old.conn.now) (state S.Store tx.new.conn.now) }
-    ensures survives { LeavesNothing (state S.Store tx.old.conn.now) (state S.Store tx.new.conn.now) }
+    ensures frame { ReadsOnly S.Store tx.old tx.new result }
 {
     match table {
         TakenTable::Live => select_msg_numbers(tx, name.as_bytes(), first, last),
@@ -60,13 +56,10 @@ pub(crate) fn idents_at<S: Alter>(
     first: u32,
     last: u32,
 ) -> Result<Items<Ident>, Error>
-    ensures same_reference { tx.new.conn.ghost_name ≡ tx.old.conn.ghost_name }
-    ensures found { Finds result (state S.Store tx.old.conn.now) (state S.Store tx.new.conn.now)
+    ensures found { Asks S.Store tx.old tx.new result
         (λ found t. (idents : List Identifier) → HasTaken table name.now t idents
         → found ≡ idents_between first last idents) }
-    ensures same { ChangesNothing result (state S.Store tx.old.conn.now) (state S.Store tx.new.conn.now) }
-    ensures kept { CommitsNothing (state S.Store tx.old.conn.now) (state S.Store tx.new.conn.now) }
-    ensures survives { LeavesNothing (state S.Store tx.old.conn.now) (state S.Store tx.new.conn.now) }
+    ensures frame { ReadsOnly S.Store tx.old tx.new result }
 {
     let rows = numbers_between(tx, name, table, first, last)?;
     items_of(alloc, &rows)
@@ -92,13 +85,10 @@ pub(crate) fn idents_inside_at<S: Alter>(
     form: IdentForm,
     blocks: &[Block],
 ) -> Result<Vec<Ident>, Error>
-    ensures same_reference { tx.new.conn.ghost_name ≡ tx.old.conn.ghost_name }
-    ensures found { Finds result (state S.Store tx.old.conn.now) (state S.Store tx.new.conn.now)
+    ensures found { Asks S.Store tx.old tx.new result
         (λ found t. (idents : List Identifier) → HasTaken table name.now t idents
         → found.items ≡ idents_inside form blocks.now idents) }
-    ensures same { StaysSame result (state S.Store tx.old.conn.now) (state S.Store tx.new.conn.now) }
-    ensures kept { CommitsNothing (state S.Store tx.old.conn.now) (state S.Store tx.new.conn.now) }
-    ensures survives { LeavesNothing (state S.Store tx.old.conn.now) (state S.Store tx.new.conn.now) }
+    ensures frame { ReadsWhileOpen S.Store tx.old tx.new result }
 {
     let mut idents = Vec::new(alloc);
     for block in blocks {
@@ -120,13 +110,10 @@ fn is_taken_at<S: Alter>(
     form: IdentForm,
     number: u32,
 ) -> Result<bool, Error>
-    ensures same_reference { tx.new.conn.ghost_name ≡ tx.old.conn.ghost_name }
-    ensures found { Finds result (state S.Store tx.old.conn.now) (state S.Store tx.new.conn.now)
-        (λ found t. (idents : List Identifier) → HasTaken table name.now t idents
-        → found ≡ is_wanted (λ i. list_any (λ taken. same_ident taken i) idents) form (Some number)) }
-    ensures same { ChangesNothing result (state S.Store tx.old.conn.now) (state S.Store tx.new.conn.now) }
-    ensures kept { CommitsNothing (state S.Store tx.old.conn.now) (state S.Store tx.new.conn.now) }
-    ensures survives { LeavesNothing (state S.Store tx.old.conn.now) (state S.Store tx.new.conn.now) }
+    ensures found { Asks S.Store tx.old tx.new result
+        (λ found t. (idents : List Identifier) → HasTaken table name.now t idents → found
+        ≡ is_wanted (λ i. list_any (λ taken. same_ident taken i) idents) form (Some number)) }
+    ensures frame { ReadsOnly S.Store tx.old tx.new result }
 {
     let number_of_dbc = dbc_of(form, number);
     let idents = idents_at(alloc, tx, name, table, number_of_dbc, number_of_dbc)?;
@@ -143,13 +130,10 @@ pub(crate) fn want_taken_at<S: Alter>(
     form: IdentForm,
     want: Option<u32>,
 ) -> Result<bool, Error>
-    ensures same_reference { tx.new.conn.ghost_name ≡ tx.old.conn.ghost_name }
-    ensures found { Finds result (state S.Store tx.old.conn.now) (state S.Store tx.new.conn.now)
+    ensures found { Asks S.Store tx.old tx.new result
         (λ found t. (idents : List Identifier) → HasTaken table name.now t idents
         → found ≡ is_wanted (λ i. list_any (λ taken. same_ident taken i) idents) form want) }
-    ensures same { StaysSame result (state S.Store tx.old.conn.now) (state S.Store tx.new.conn.now) }
-    ensures kept { CommitsNothing (state S.Store tx.old.conn.now) (state S.Store tx.new.conn.now) }
-    ensures survives { LeavesNothing (state S.Store tx.old.conn.now) (state S.Store tx.new.conn.now) }
+    ensures frame { ReadsWhileOpen S.Store tx.old tx.new result }
 {
     match want {
         None => Ok(false),

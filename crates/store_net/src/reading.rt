@@ -3,19 +3,18 @@ ghost use Rattle.std.specs.Prelude.{◌≡◌, [], length, Option, IfOk};
 ghost use Rattle.std.specs.Option.{option_map};
 ghost use Rattle.office_law.specs.Released.{with_releases};
 ghost use Rattle.office_types.specs.declared.book.SpnBook.{SpnBook as Book};
-ghost use Rattle.office_types.specs.declared.state.Net.{Net as Network};
-ghost use Rattle.sqlite.specs.Held.{state};
-ghost use Rattle.store_rows.specs.NetIn.{IsNetAt};
 ghost use Rattle.store_rows.specs.Rows.{IsBookIn};
 ghost use Rattle.store_net.specs.Counted.{HasAsMany};
-ghost use Rattle.office_tables.specs.Statements.{ChangesNothing, CommitsNothing, Finds, LeavesNothing};
+ghost use Rattle.store_tables.specs.Frames.{Asks, ReadsOnly};
+ghost use Rattle.store_net.specs.Reading.{OnNet};
 
 use crate::live_list::live_messages;
 use crate::nets::release_count;
 use crate::parts::{
     approvals_of, blocks_of, head_of, held_of, releases_of, spn_blocks_of, used_of,
 };
-use catalogue::{Copying, Items, Sheet};
+use base::{Copying, Items};
+use dbc_sheet::Sheet;
 use office_types::{FrozenSheet, Net, NetName, SpnBook, UsedSpns};
 use sqlite::{Alter, Error, Transaction};
 use std::alloc::{AllocError, Global};
@@ -28,12 +27,9 @@ pub fn unreleased_net_at<S: Alter>(
     tx: &mut Transaction<'_, S>,
     name: &NetName,
 ) -> Result<Option<Net>, Error>
-    ensures same_reference { tx.new.conn.ghost_name ≡ tx.old.conn.ghost_name }
-    ensures found { Finds result (state S.Store tx.old.conn.now) (state S.Store tx.new.conn.now)
-        (λ found t. (net : Option Network) → IsNetAt name.now t net → found ≡ option_map (with_releases []) net) }
-    ensures same { ChangesNothing result (state S.Store tx.old.conn.now) (state S.Store tx.new.conn.now) }
-    ensures kept { CommitsNothing (state S.Store tx.old.conn.now) (state S.Store tx.new.conn.now) }
-    ensures survives { LeavesNothing (state S.Store tx.old.conn.now) (state S.Store tx.new.conn.now) }
+    ensures found { Asks S.Store tx.old tx.new result
+        (OnNet name.now (λ net found. found ≡ option_map (with_releases []) net)) }
+    ensures frame { ReadsOnly S.Store tx.old tx.new result }
 {
     let Some(head) = head_of(alloc, tx, name)? else {
         return Ok(None);
@@ -72,12 +68,9 @@ pub fn counted_net_at<S: Alter>(
     tx: &mut Transaction<'_, S>,
     name: &NetName,
 ) -> Result<Option<Net>, Error>
-    ensures same_reference { tx.new.conn.ghost_name ≡ tx.old.conn.ghost_name }
-    ensures found { Finds result (state S.Store tx.old.conn.now) (state S.Store tx.new.conn.now)
-        (λ found t. (net : Option Network) → IsNetAt name.now t net → HasAsMany net found) }
-    ensures same { ChangesNothing result (state S.Store tx.old.conn.now) (state S.Store tx.new.conn.now) }
-    ensures kept { CommitsNothing (state S.Store tx.old.conn.now) (state S.Store tx.new.conn.now) }
-    ensures survives { LeavesNothing (state S.Store tx.old.conn.now) (state S.Store tx.new.conn.now) }
+    ensures found { Asks S.Store tx.old tx.new result
+        (OnNet name.now (λ net found. HasAsMany net found)) }
+    ensures frame { ReadsOnly S.Store tx.old tx.new result }
 {
     let Some(mut net) = unreleased_net_at(alloc, tx, name)? else {
         return Ok(None);
@@ -94,12 +87,8 @@ pub fn net_at<S: Alter>(
     tx: &mut Transaction<'_, S>,
     name: &NetName,
 ) -> Result<Option<Net>, Error>
-    ensures same_reference { tx.new.conn.ghost_name ≡ tx.old.conn.ghost_name }
-    ensures found { Finds result (state S.Store tx.old.conn.now) (state S.Store tx.new.conn.now)
-        (λ found t. (net : Option Network) → IsNetAt name.now t net → found ≡ net) }
-    ensures same { ChangesNothing result (state S.Store tx.old.conn.now) (state S.Store tx.new.conn.now) }
-    ensures kept { CommitsNothing (state S.Store tx.old.conn.now) (state S.Store tx.new.conn.now) }
-    ensures survives { LeavesNothing (state S.Store tx.old.conn.now) (state S.Store tx.new.conn.now) }
+    ensures found { Asks S.Store tx.old tx.new result (OnNet name.now (λ net found. found ≡ net)) }
+    ensures frame { ReadsOnly S.Store tx.old tx.new result }
 {
     let Some(mut net) = unreleased_net_at(alloc, tx, name)? else {
         return Ok(None);
@@ -112,12 +101,9 @@ pub fn net_at<S: Alter>(
 /// tables have a book, it is that one. An error is out of memory, what `sqlite` answers, or `InvalidQuery` where the
 /// rows are no book's.
 pub fn book_of<S: Alter>(alloc: Global, tx: &mut Transaction<'_, S>) -> Result<SpnBook, Error>
-    ensures same_reference { tx.new.conn.ghost_name ≡ tx.old.conn.ghost_name }
-    ensures found { Finds result (state S.Store tx.old.conn.now) (state S.Store tx.new.conn.now)
+    ensures found { Asks S.Store tx.old tx.new result
         (λ found t. (book : Book) → IsBookIn t book → found ≡ book) }
-    ensures same { ChangesNothing result (state S.Store tx.old.conn.now) (state S.Store tx.new.conn.now) }
-    ensures kept { CommitsNothing (state S.Store tx.old.conn.now) (state S.Store tx.new.conn.now) }
-    ensures survives { LeavesNothing (state S.Store tx.old.conn.now) (state S.Store tx.new.conn.now) }
+    ensures frame { ReadsOnly S.Store tx.old tx.new result }
 {
     let blocks = spn_blocks_of(alloc, tx)?;
     let numbers = used_of(alloc, tx)?;

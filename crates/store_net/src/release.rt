@@ -1,35 +1,34 @@
 //! The text of a release, and whether one has an identifier.
 ghost use Rattle.std.specs.Prelude.{◌≡◌, Option, Some, IfOk};
 ghost use Rattle.can_id.specs.Ident.{dbc_number};
-ghost use Rattle.catalogue.specs.Messages.{has_number};
+ghost use Rattle.dbc_sheet.specs.Messages.{has_number};
 ghost use Rattle.dbc_grammar.specs.Canon.{canonical_text};
 ghost use Rattle.dbc_grammar.specs.Reads.{Reads, ReadsOnlyAs};
-ghost use Rattle.catalogue.specs.declared.sheet.Sheet.{Sheet as SheetModel};
+ghost use Rattle.dbc_sheet.specs.declared.sheet.Sheet.{Sheet as SheetModel};
 ghost use Rattle.std.specs.Option.{option_map};
-ghost use Rattle.office_types.specs.declared.state.Net.{Net as Network};
-ghost use Rattle.sqlite.specs.Held.{state};
-ghost use Rattle.store_rows.specs.NetIn.{IsNetAt};
 ghost use Rattle.office_rules.specs.Facts.{in_last};
 ghost use Rattle.store_net.specs.Texts.{IsTextOf, release_at, release_has, release_text};
-ghost use Rattle.office_tables.specs.Statements.{ChangesNothing, CommitsNothing, Finds, LeavesNothing};
+ghost use Rattle.store_tables.specs.Frames.{Asks, ReadsOnly};
+ghost use Rattle.store_net.specs.Reading.{OnNet, OnNetThere};
 
 use crate::nets::release_count;
 use can_id::Ident;
-use catalogue::Message;
+use dbc_sheet::Message;
 use dbc_write::text_of;
-use office_bodies::sheet_of;
-use office_rows::select_release;
 use office_types::NetName;
 use sqlite::{Alter, Error, Transaction};
 use std::alloc::Global;
+use store_bodies::sheet_of;
 use store_rows::blob_at;
+use store_statements::select_release;
 
 /// The canonical text of the sheet that the body reads as. An error is out of memory, or `InvalidQuery` where it reads
 /// as none.
 fn canonical_of(alloc: Global, body: &[u8]) -> Result<Vec<u8>, Error>
     ensures text { IfOk result (λ text. (sheet : SheetModel) → Reads body.now sheet
         → text.items ≡ canonical_text sheet) }
-    ensures reads { IfOk result (λ text. (sheet : SheetModel) → Reads body.now sheet → ReadsOnlyAs text.items sheet) }
+    ensures reads { IfOk result (λ text. (sheet : SheetModel) → Reads body.now sheet
+        → ReadsOnlyAs text.items sheet) }
 {
     match sheet_of(alloc, body)? {
         Some(sheet) => Ok(text_of(alloc, &sheet)?),
@@ -46,16 +45,11 @@ pub fn release_text<S: Alter>(
     name: &NetName,
     number: u32,
 ) -> Result<Option<Vec<u8>>, Error>
-    ensures same_reference { tx.new.conn.ghost_name ≡ tx.old.conn.ghost_name }
-    ensures found { Finds result (state S.Store tx.old.conn.now) (state S.Store tx.new.conn.now)
-        (λ found t. (net : Option Network) → IsNetAt name.now t net
-        → option_map (λ text. text.items) found ≡ release_text net number) }
-    ensures reads { Finds result (state S.Store tx.old.conn.now) (state S.Store tx.new.conn.now)
-        (λ found t. (net : Option Network) → IsNetAt name.now t net
-        → IsTextOf (release_at net number) (option_map (λ text. text.items) found)) }
-    ensures same { ChangesNothing result (state S.Store tx.old.conn.now) (state S.Store tx.new.conn.now) }
-    ensures kept { CommitsNothing (state S.Store tx.old.conn.now) (state S.Store tx.new.conn.now) }
-    ensures survives { LeavesNothing (state S.Store tx.old.conn.now) (state S.Store tx.new.conn.now) }
+    ensures found { Asks S.Store tx.old tx.new result (OnNet name.now (λ net found.
+        option_map (λ text. text.items) found ≡ release_text net number)) }
+    ensures reads { Asks S.Store tx.old tx.new result (OnNet name.now (λ net found.
+        IsTextOf (release_at net number) (option_map (λ text. text.items) found))) }
+    ensures frame { ReadsOnly S.Store tx.old tx.new result }
 {
     let rows = select_release(tx, name.as_bytes(), number)?;
     match rows.first() {
@@ -93,13 +87,9 @@ fn release_has_at<S: Alter>(
     number: u32,
     ident: Ident,
 ) -> Result<bool, Error>
-    ensures same_reference { tx.new.conn.ghost_name ≡ tx.old.conn.ghost_name }
-    ensures found { Finds result (state S.Store tx.old.conn.now) (state S.Store tx.new.conn.now)
-        (λ found t. (net : Option Network) → IsNetAt name.now t net
-        → found ≡ release_has (release_at net number) ident) }
-    ensures same { ChangesNothing result (state S.Store tx.old.conn.now) (state S.Store tx.new.conn.now) }
-    ensures kept { CommitsNothing (state S.Store tx.old.conn.now) (state S.Store tx.new.conn.now) }
-    ensures survives { LeavesNothing (state S.Store tx.old.conn.now) (state S.Store tx.new.conn.now) }
+    ensures found { Asks S.Store tx.old tx.new result
+        (OnNet name.now (λ net found. found ≡ release_has (release_at net number) ident)) }
+    ensures frame { ReadsOnly S.Store tx.old tx.new result }
 {
     let rows = select_release(tx, name.as_bytes(), number)?;
     match rows.first() {
@@ -115,12 +105,9 @@ pub(crate) fn last_has_at<S: Alter>(
     name: &NetName,
     ident: Ident,
 ) -> Result<bool, Error>
-    ensures same_reference { tx.new.conn.ghost_name ≡ tx.old.conn.ghost_name }
-    ensures found { Finds result (state S.Store tx.old.conn.now) (state S.Store tx.new.conn.now)
-        (λ found t. (net : Network) → IsNetAt name.now t (Some net) → found ≡ in_last net.releases ident) }
-    ensures same { ChangesNothing result (state S.Store tx.old.conn.now) (state S.Store tx.new.conn.now) }
-    ensures kept { CommitsNothing (state S.Store tx.old.conn.now) (state S.Store tx.new.conn.now) }
-    ensures survives { LeavesNothing (state S.Store tx.old.conn.now) (state S.Store tx.new.conn.now) }
+    ensures found { Asks S.Store tx.old tx.new result
+        (OnNetThere name.now (λ net found. found ≡ in_last net.releases ident)) }
+    ensures frame { ReadsOnly S.Store tx.old tx.new result }
 {
     let count = release_count(tx, name)?;
     match u32::try_from(count) {

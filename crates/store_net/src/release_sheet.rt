@@ -1,7 +1,9 @@
 //! The sheet of a release.
 ghost use Rattle.std.specs.Prelude.{◌≡◌, IfOk, OnOk};
 
-use catalogue::{Copying, Message, Sheet, SheetCode, same_messages_are_equal};
+use base::Copying;
+use dbc_sheet::{Message, Sheet, same_messages_are_equal};
+use dbc_words::SheetCode;
 use office_types::FrozenSheet;
 use sqlite::Error;
 use std::alloc::{AllocError, Global};

@@ -1,22 +1,20 @@
 //! Kept replies: the rows of an answered request, and what a request under the same key is answered.
 ghost use Rattle.std.specs.Prelude.{◌≡◌, ◌++◌, ◌∷◌, [], List, Some, IfOk};
 ghost use Rattle.std.specs.Option.{option_map};
-ghost use Rattle.sqlite.specs.Held.{state};
 ghost use Rattle.office_types.specs.Reply.{reply_parts};
 ghost use Rattle.office_types.specs.declared.reply.Reply.{Reply as ReplyModel};
 ghost use Rattle.office_history.specs.History.{Answered, answer_again, first_of};
 ghost use Rattle.store_net.specs.Kept.{AreKept, AreKeptParts, ShowsKept, ShowsReply, answer_parts, kept_row, part_rows};
-ghost use Rattle.office_tables.specs.Statements.{AddsNoCommit, ChangesNothing, CommitsNothing, Finds, LeavesNothing};
-ghost use Rattle.office_tables.specs.Statements.{StaysInside, StaysOffice, Writes};
+ghost use Rattle.store_tables.specs.Frames.{Asks, ReadsOnly, Relates, WritesAndStaysIn};
 
 use crate::writing::number_above;
-use catalogue::Items;
+use base::Items;
 use office_history::{Answer, Key};
-use office_rows::{PartRow, ReplyRow, insert_part, insert_reply, select_parts, select_reply};
 use office_types::{PartReply, Reply, ReplyNumbers, Team};
 use sqlite::{Alter, Error, Row, Transaction};
 use std::alloc::Global;
 use store_rows::{blob_at, items_of, number_at};
+use store_statements::{PartRow, ReplyRow, insert_part, insert_reply, select_parts, select_reply};
 
 /// Writes what the parts of a bundle are answered, each at its place from 1 on.
 fn write_parts<S: Alter>(
@@ -25,14 +23,9 @@ fn write_parts<S: Alter>(
     key: &[u8],
     parts: &[PartReply],
 ) -> Result<(), Error>
-    ensures same_reference { tx.new.conn.ghost_name ≡ tx.old.conn.ghost_name }
-    ensures written { Writes result (state S.Store tx.old.conn.now) (state S.Store tx.new.conn.now)
-        (λ before after. after
+    ensures written { Relates S.Store tx.old tx.new result (λ before after. after
         ≡ (record before { part = before.part ++ part_rows team.now key.now 1 parts.now })) }
-    ensures office { StaysOffice result (state S.Store tx.old.conn.now) (state S.Store tx.new.conn.now) }
-    ensures inside { StaysInside result (state S.Store tx.old.conn.now) (state S.Store tx.new.conn.now) }
-    ensures kept { AddsNoCommit (state S.Store tx.old.conn.now) (state S.Store tx.new.conn.now) }
-    ensures survives { LeavesNothing (state S.Store tx.old.conn.now) (state S.Store tx.new.conn.now) }
+    ensures frame { WritesAndStaysIn S.Store tx.old tx.new result }
 {
     let mut place = 1;
     for part in parts {
@@ -61,16 +54,11 @@ pub fn keep_reply<S: Alter>(
     content: &[u8],
     reply: &Reply,
 ) -> Result<(), Error>
-    ensures same_reference { tx.new.conn.ghost_name ≡ tx.old.conn.ghost_name }
-    ensures added { Writes result (state S.Store tx.old.conn.now) (state S.Store tx.new.conn.now) (λ before after. after
-        ≡ (record before {
-          reply = before.reply ++ kept_row team.now key.now content.now reply.now ∷ [];
-          part = before.part ++ part_rows team.now key.now 1 (reply_parts reply.now);
-        })) }
-    ensures office { StaysOffice result (state S.Store tx.old.conn.now) (state S.Store tx.new.conn.now) }
-    ensures inside { StaysInside result (state S.Store tx.old.conn.now) (state S.Store tx.new.conn.now) }
-    ensures kept { AddsNoCommit (state S.Store tx.old.conn.now) (state S.Store tx.new.conn.now) }
-    ensures survives { LeavesNothing (state S.Store tx.old.conn.now) (state S.Store tx.new.conn.now) }
+    ensures added { Relates S.Store tx.old tx.new result (λ before after. after ≡ (record before {
+      reply = before.reply ++ kept_row team.now key.now content.now reply.now ∷ [];
+      part = before.part ++ part_rows team.now key.now 1 (reply_parts reply.now);
+    })) }
+    ensures frame { WritesAndStaysIn S.Store tx.old tx.new result }
 {
     let numbers = reply.numbers();
     let row = ReplyRow {
@@ -93,14 +81,11 @@ fn parts_at<S: Alter>(
     team: &Team,
     key: &Key,
 ) -> Result<Items<PartReply>, Error>
-    ensures same_reference { tx.new.conn.ghost_name ≡ tx.old.conn.ghost_name }
-    ensures found { Finds result (state S.Store tx.old.conn.now) (state S.Store tx.new.conn.now)
+    ensures found { Asks S.Store tx.old tx.new result
         (λ parts t. (h : List Answered) → AreKeptParts h t.part
         → (a first : Answered) → a.team ≡ team.now → a.key ≡ key.now → first_of h a ≡ Some first
         → parts ≡ answer_parts first.answer) }
-    ensures same { ChangesNothing result (state S.Store tx.old.conn.now) (state S.Store tx.new.conn.now) }
-    ensures kept { CommitsNothing (state S.Store tx.old.conn.now) (state S.Store tx.new.conn.now) }
-    ensures survives { LeavesNothing (state S.Store tx.old.conn.now) (state S.Store tx.new.conn.now) }
+    ensures frame { ReadsOnly S.Store tx.old tx.new result }
 {
     let rows = select_parts(tx, team.as_bytes(), key.as_bytes())?;
     items_of(alloc, &rows)
@@ -108,8 +93,8 @@ fn parts_at<S: Alter>(
 
 /// The reply in the second to the fifth column, with these parts. An error where they are the numbers of none.
 fn reply_in(row: &Row, parts: Items<PartReply>) -> Result<Reply, Error>
-    ensures { IfOk result (λ reply. (other : ReplyModel) → ShowsReply other row.now → parts ≡ reply_parts other
-        → reply ≡ other) }
+    ensures { IfOk result (λ reply. (other : ReplyModel) → ShowsReply other row.now
+        → parts ≡ reply_parts other → reply ≡ other) }
 {
     let numbers = ReplyNumbers {
         kind: number_at(row, 1)?,
@@ -126,8 +111,8 @@ fn reply_in(row: &Row, parts: Items<PartReply>) -> Result<Reply, Error>
 /// What a request of this content is answered, where the row is that of the first one of its pair, which was answered
 /// with these parts.
 fn answer_in(row: &Row, parts: Items<PartReply>, content: &[u8]) -> Result<Answer, Error>
-    ensures { IfOk result (λ answer. (first : Answered) → ShowsKept first row.now → parts ≡ answer_parts first.answer
-        → answer ≡ answer_again first content.now) }
+    ensures { IfOk result (λ answer. (first : Answered) → ShowsKept first row.now
+        → parts ≡ answer_parts first.answer → answer ≡ answer_again first content.now) }
 {
     let kept = blob_at(row, 0)?;
     let reply = reply_in(row, parts)?;
@@ -148,15 +133,11 @@ pub fn answer_at<S: Alter>(
     key: &Key,
     content: &[u8],
 ) -> Result<Option<Answer>, Error>
-    ensures same_reference { tx.new.conn.ghost_name ≡ tx.old.conn.ghost_name }
-    ensures found { Finds result (state S.Store tx.old.conn.now) (state S.Store tx.new.conn.now)
-        (λ found t. (h : List Answered) → AreKept h t.reply
-        → AreKeptParts h t.part
+    ensures found { Asks S.Store tx.old tx.new result
+        (λ found t. (h : List Answered) → AreKept h t.reply → AreKeptParts h t.part
         → (a : Answered) → a.team ≡ team.now → a.key ≡ key.now → a.content ≡ content.now
         → found ≡ option_map (λ first. answer_again first a.content) (first_of h a)) }
-    ensures same { ChangesNothing result (state S.Store tx.old.conn.now) (state S.Store tx.new.conn.now) }
-    ensures kept { CommitsNothing (state S.Store tx.old.conn.now) (state S.Store tx.new.conn.now) }
-    ensures survives { LeavesNothing (state S.Store tx.old.conn.now) (state S.Store tx.new.conn.now) }
+    ensures frame { ReadsOnly S.Store tx.old tx.new result }
 {
     let rows = select_reply(tx, team.as_bytes(), key.as_bytes())?;
     match rows.first() {

@@ -1,7 +1,6 @@
 //! Lists of changes, written to the tables.
 ghost use Rattle.std.specs.Prelude.{◌≡◌, ◌+◌, ℕ, List, ◌∷◌, [], Option, IfOk};
 ghost use Rattle.std.specs.Option.{option_copied};
-ghost use Rattle.sqlite.specs.Held.{state};
 ghost use Rattle.office_types.specs.declared.book.SpnBook.{SpnBook as Book};
 ghost use Rattle.office_types.specs.declared.change.Change.{Change as Changing};
 ghost use Rattle.office_types.specs.declared.state.Net.{Net as Network};
@@ -10,7 +9,7 @@ ghost use Rattle.store_rows.specs.Follows.{Follows};
 ghost use Rattle.store_rows.specs.NetIn.{IsNetAt};
 ghost use Rattle.store_rows.specs.Written.{IsWritten};
 ghost use Rattle.store_net.specs.Writing.{IsNext, next_number};
-ghost use Rattle.office_tables.specs.Statements.{CommitsNothing, LeavesNothing, StaysInside, StaysOffice, Writes};
+ghost use Rattle.store_tables.specs.Frames.{Relates, StaysIn};
 
 use crate::change_rows::{
     clear_approvals, write_approval, write_block, write_head, write_held, write_release, write_spn,
@@ -69,15 +68,11 @@ fn write_change<S: Alter>(
     number: Option<u32>,
     change: &Change,
 ) -> Result<(), Error>
-    ensures same_reference { tx.new.conn.ghost_name ≡ tx.old.conn.ghost_name }
-    ensures written { Writes result (state S.Store tx.old.conn.now) (state S.Store tx.new.conn.now)
-        (λ before after. (net : Option Network) → IsNetAt name.now before net → IsHeadFirst net (change.now ∷ [])
+    ensures written { Relates S.Store tx.old tx.new result (λ before after.
+        (net : Option Network) → IsNetAt name.now before net → IsHeadFirst net (change.now ∷ [])
         → HaveOwnBlocks (change.now ∷ []) → IsNext number net (change.now ∷ [])
         → IsWritten name.now change.now net before after) }
-    ensures office { StaysOffice result (state S.Store tx.old.conn.now) (state S.Store tx.new.conn.now) }
-    ensures inside { StaysInside result (state S.Store tx.old.conn.now) (state S.Store tx.new.conn.now) }
-    ensures kept { CommitsNothing (state S.Store tx.old.conn.now) (state S.Store tx.new.conn.now) }
-    ensures survives { LeavesNothing (state S.Store tx.old.conn.now) (state S.Store tx.new.conn.now) }
+    ensures frame { StaysIn S.Store tx.old tx.new result }
 {
     match change {
         Change::SetHead(head) => write_head(alloc, tx, name, head),
@@ -117,16 +112,12 @@ pub fn write_changes<S: Alter>(
     next: Option<u32>,
     changes: &[Change],
 ) -> Result<(), Error>
-    ensures same_reference { tx.new.conn.ghost_name ≡ tx.old.conn.ghost_name }
-    ensures written { Writes result (state S.Store tx.old.conn.now) (state S.Store tx.new.conn.now)
+    ensures written { Relates S.Store tx.old tx.new result
         (λ before after. (net : Option Network) (book : Book) → IsNetAt name.now before net
         → IsHeadFirst net changes.now → HaveOwnBlocks changes.now → IsNext next net changes.now
-        → Follows name.now before after
-        (record { net = net; book = book }) (all_applied name.now changes.now (record { net = net; book = book }))) }
-    ensures office { StaysOffice result (state S.Store tx.old.conn.now) (state S.Store tx.new.conn.now) }
-    ensures inside { StaysInside result (state S.Store tx.old.conn.now) (state S.Store tx.new.conn.now) }
-    ensures kept { CommitsNothing (state S.Store tx.old.conn.now) (state S.Store tx.new.conn.now) }
-    ensures survives { LeavesNothing (state S.Store tx.old.conn.now) (state S.Store tx.new.conn.now) }
+        → Follows name.now before after (record { net = net; book = book })
+        (all_applied name.now changes.now (record { net = net; book = book }))) }
+    ensures frame { StaysIn S.Store tx.old tx.new result }
 {
     let mut number = next;
     for change in changes {

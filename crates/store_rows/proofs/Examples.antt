@@ -4,9 +4,9 @@ use Rattle.sqlite.specs.declared.types.Value.TheVariants.{Int, Text}
 use Rattle.sqlite_value.specs.Order.{value_cmp}
 use lib.Ieee
 use Rattle.office_types.specs.declared.state.Phase.TheVariants.{Draft, Review}
-use Rattle.catalogue.specs.Sheet.{empty_sheet}
-use Rattle.office_tables.specs.Tables.{Tables, no_rows}
-use Rattle.office_rows.specs.Rows.{approval_row, held_row, spn_row}
+use Rattle.dbc_sheet.specs.Sheet.{empty_sheet}
+use Rattle.store_tables.specs.Tables.{Tables, no_rows}
+use Rattle.store_statements.specs.Rows.{approval_row, held_row, spn_row}
 use Rattle.store_rows.specs.NetIn.{no_rest, rest_of}
 use Rattle.store_rows.specs.Rows.{numbered, submitter_text}
 use Rattle.store_rows.specs.Written.{with_approval_row, with_held_row, with_spn_row, without_approval_rows}
@@ -33,7 +33,10 @@ own_blocks : rest_of (codes "truck") (record no_rows {
   block = (Text (codes "truck") ∷ Int (pos 3) ∷ Int (pos 500) ∷ Int (pos 509) ∷ Text (codes "engine") ∷ [])
       ∷ (Text (codes "truck") ∷ Int (pos 0) ∷ Int (pos 256) ∷ Int (pos 258) ∷ Text (codes "engine") ∷ []) ∷ [];
 })
-    ≡ record no_rest { blocks = (Text (codes "truck") ∷ Int (pos 0) ∷ Int (pos 256) ∷ Int (pos 258) ∷ Text (codes "engine") ∷ []) ∷ [] }
+    ≡ record no_rest {
+      blocks =
+          (Text (codes "truck") ∷ Int (pos 0) ∷ Int (pos 256) ∷ Int (pos 258) ∷ Text (codes "engine") ∷ []) ∷ [];
+    }
 unfolding value_cmp lib.Ieee.is_nan lib.Ieee.lt
 own_blocks = refl
 

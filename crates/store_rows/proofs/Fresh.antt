@@ -1,6 +1,6 @@
 -- Tables with no row have no network, and an empty book.
 use Rattle.std.proofs.Common.{ℕ, List, [], None, refl}
-use Rattle.office_tables.specs.Tables.{no_rows}
+use Rattle.store_tables.specs.Tables.{no_rows}
 use Rattle.office_rules.specs.Step.{opening}
 use Rattle.store_rows.specs.Live.{AreLiveRows, live_rows}
 use Rattle.store_rows.specs.NetIn.{IsNetAt}
@@ -11,7 +11,14 @@ no_live : (name : List ℕ) → AreLiveRows name (live_rows name no_rows) []
 no_live name = record {
   messages = none_listed;
   numbered = record { sigs = tt; receivers = tt; values = tt };
-  signals = λ number. record { placed = []; are = refl; sigs = none_listed; receivers = none_listed; values = none_listed };
+  signals = λ number. record {
+    placed = [];
+    are = refl;
+    sigs = none_listed;
+    receivers = none_listed;
+    values =
+        none_listed;
+  };
 }
 
 pub no_net : (name : List ℕ) → IsNetAt name no_rows None

@@ -15,18 +15,19 @@ use Rattle.sqlite.specs.declared.types.Value.{Value}
 use Rattle.sqlite.specs.declared.types.Value.TheVariants.{Int, Text}
 use Rattle.sqlite.specs.Order.{Row, column, value_cmp}
 use Rattle.sqlite_value.proofs.OrderLemmas.{value_cmp_total, value_cmp-Int, value_cmp-Text}
+use Rattle.base.specs.Keyed.{text_cmp}
 use Rattle.can_id.specs.Ident.{IsIdentifier, dbc_number}
 use Rattle.can_id.specs.declared.ident.Ident.{Ident}
 use Rattle.can_id.specs.declared.ident.Ident.TheVariants as id
-use Rattle.catalogue.specs.Keyed.{text_cmp}
-use Rattle.catalogue.proofs.Naming.{bytes_eq-flip}
+use Rattle.dbc_words.proofs.Naming.{bytes_eq-flip}
 use Rattle.office_types.specs.Block.{form_number, is_spn}
 use Rattle.office_types.specs.declared.block.BlockForm.{BlockForm}
 use Rattle.office_types.specs.declared.block.BlockForm.TheVariants.{Std, Ext, Pgn, Spn}
 use Rattle.office_rules.specs.Facts.{same_ident}
-use Rattle.office_tables.specs.Selected.{by_column}
-use Rattle.office_rows.specs.Rows.{is_of_net}
-use Rattle.office_rows.specs.Shown.{net_order, messages_order, blocks_order, blocks_of_form_order, held_order, spns_order, approvals_order, releases_order, parts_order}
+use Rattle.store_tables.specs.Selected.{by_column}
+use Rattle.store_statements.specs.Rows.{is_of_net}
+use Rattle.store_statements.specs.Shown.{net_order, messages_order, blocks_order, blocks_of_form_order, held_order}
+use Rattle.store_statements.specs.Shown.{spns_order, approvals_order, releases_order, parts_order}
 
 -- ---- tests
 
@@ -47,7 +48,8 @@ not_true true h = absurd (false≢true h)
 not_true false h = refl
 
 -- a value that is one is no other
-pub one_value : (v a b : Value) → is_eq (value_cmp v a) ≡ true → is_eq (value_cmp a b) ≡ false → is_eq (value_cmp v b) ≡ false
+pub one_value : (v a b : Value) → is_eq (value_cmp v a) ≡ true → is_eq (value_cmp a b) ≡ false
+    → is_eq (value_cmp v b) ≡ false
 one_value v a b here apart = ap is_eq (value_cmp_total.congr v a b ((Equal-is (value_cmp v a)).0 here)) ∙ apart
 
 -- ---- texts
@@ -59,19 +61,23 @@ pub own_text : (a b : List ℕ) → a ≡ b → is_eq (value_cmp (Text a) (Text 
 own_text a b same = text_test a b ∙ (bytes_eq-Decides a b).1 same
 
 -- a text that is the name isn't another name
-pub other_text : (text name other : List ℕ) → text ≡ name → bytes_eq name other ≡ false → is_eq (value_cmp (Text text) (Text other)) ≡ false
+pub other_text : (text name other : List ℕ) → text ≡ name → bytes_eq name other ≡ false
+    → is_eq (value_cmp (Text text) (Text other)) ≡ false
 other_text text name other same apart = text_test text other ∙ ap (λ n. bytes_eq n other) same ∙ apart
 
 -- a row of the other network isn't the network's
-pub other_net : (text name other : List ℕ) → text ≡ name → bytes_eq name other ≡ false → (row : Row) → is_of_net other row ≡ true → is_of_net text row ≡ false
+pub other_net : (text name other : List ℕ) → text ≡ name → bytes_eq name other ≡ false → (row : Row)
+    → is_of_net other row ≡ true → is_of_net text row ≡ false
 other_net text name other same apart row here =
-    one_value (column row 0) (Text other) (Text text) here (text_test other text ∙ ap (bytes_eq other) same ∙ bytes_eq-flip other name ∙ apart)
+    one_value (column row 0) (Text other) (Text text) here
+    (text_test other text ∙ ap (bytes_eq other) same ∙ bytes_eq-flip other name ∙ apart)
 
 pub own_net : (text name : List ℕ) → text ≡ name → (row : Row) → is_of_net name row ≡ true → is_of_net text row ≡ true
 own_net text name same row here = subst (λ n. is_of_net n row ≡ true) (sym same) here
 
 pub text_order : (a b c d : List ℕ) → c ≡ a → d ≡ b → text_cmp a b ≡ value_cmp (Text c) (Text d)
-text_order a b c d first second = ap (λ v. text_cmp v b) (sym first) ∙ ap (text_cmp c) (sym second) ∙ sym (value_cmp-Text c d)
+text_order a b c d first second = ap (λ v. text_cmp v b) (sym first) ∙ ap (text_cmp c) (sym second)
+    ∙ sym (value_cmp-Text c d)
 
 -- ---- numbers
 
@@ -89,11 +95,14 @@ number_below m n less =
     int_test m n ∙ is
 
 pub own_number : (m n : ℕ) → m ≡ n → is_eq (value_cmp (Int (pos m)) (Int (pos n))) ≡ true
-own_number m n same = ap (λ v. is_eq (value_cmp (Int (pos v)) (Int (pos n)))) same ∙ ap is_eq (tied_itself value_cmp_total (Int (pos n)))
+own_number m n same = ap (λ v. is_eq (value_cmp (Int (pos v)) (Int (pos n)))) same
+    ∙ ap is_eq (tied_itself value_cmp_total (Int (pos n)))
 
 -- a form other than that of suspect parameter numbers has another number
-pub other_form : (form : BlockForm) (m : ℕ) → m ≡ form_number form → is_spn form ≡ false → is_eq (value_cmp (Int (pos m)) (Int (pos (form_number Spn)))) ≡ false
-other_form form m same none = ap is_eq (int_test m (form_number Spn)) ∙ ap (λ v. is_eq (nat_cmp v (form_number Spn))) same ∙ by_form form none
+pub other_form : (form : BlockForm) (m : ℕ) → m ≡ form_number form → is_spn form ≡ false
+    → is_eq (value_cmp (Int (pos m)) (Int (pos (form_number Spn)))) ≡ false
+other_form form m same none = ap is_eq (int_test m (form_number Spn))
+    ∙ ap (λ v. is_eq (nat_cmp v (form_number Spn))) same ∙ by_form form none
   where
     by_form : (f : BlockForm) → is_spn f ≡ false → is_eq (nat_cmp (form_number f) (form_number Spn)) ≡ false
     by_form Std h = refl
@@ -101,8 +110,10 @@ other_form form m same none = ap is_eq (int_test m (form_number Spn)) ∙ ap (λ
     by_form Pgn h = refl
     by_form Spn h = absurd (false≢true (sym h))
 
-pub spn_apart : (form : BlockForm) (m : ℕ) → m ≡ form_number form → is_spn form ≡ false → is_eq (value_cmp (Int (pos (form_number Spn))) (Int (pos m))) ≡ false
-spn_apart form m same none = ap is_eq (int_test (form_number Spn) m) ∙ ap (λ v. is_eq (nat_cmp (form_number Spn) v)) same ∙ by_form form none
+pub spn_apart : (form : BlockForm) (m : ℕ) → m ≡ form_number form → is_spn form ≡ false
+    → is_eq (value_cmp (Int (pos (form_number Spn))) (Int (pos m))) ≡ false
+spn_apart form m same none = ap is_eq (int_test (form_number Spn) m)
+    ∙ ap (λ v. is_eq (nat_cmp (form_number Spn) v)) same ∙ by_form form none
   where
     by_form : (f : BlockForm) → is_spn f ≡ false → is_eq (nat_cmp (form_number Spn) (form_number f)) ≡ false
     by_form Std h = refl
@@ -111,10 +122,12 @@ spn_apart form m same none = ap is_eq (int_test (form_number Spn) m) ∙ ap (λ 
     by_form Spn h = absurd (false≢true (sym h))
 
 -- identifiers are the same if their numbers are
-pub same_number : (a b : Ident) → IsIdentifier a → IsIdentifier b → same_ident a b ≡ is_eq (value_cmp (Int (pos (dbc_number a))) (Int (pos (dbc_number b))))
+pub same_number : (a b : Ident) → IsIdentifier a → IsIdentifier b
+    → same_ident a b ≡ is_eq (value_cmp (Int (pos (dbc_number a))) (Int (pos (dbc_number b))))
 same_number a b is_a is_b = by_form a b is_a is_b ∙ ap is_eq (sym (int_test (dbc_number a) (dbc_number b)))
   where
-    by_form : (a b : Ident) → IsIdentifier a → IsIdentifier b → same_ident a b ≡ is_eq (nat_cmp (dbc_number a) (dbc_number b))
+    by_form : (a b : Ident) → IsIdentifier a → IsIdentifier b
+        → same_ident a b ≡ is_eq (nat_cmp (dbc_number a) (dbc_number b))
     by_form (id.Std m) (id.Std n) h k = grind (arith, nat_tests)
     by_form (id.Std m) (id.Ext n) h k = grind (arith, nat_tests, h, k)
     by_form (id.Ext m) (id.Std n) h k = grind (arith, nat_tests, h, k)

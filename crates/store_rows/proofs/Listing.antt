@@ -1,6 +1,7 @@
 -- Rows that stand for the items of a list, in the order of a key: a row that is set is an item that is put, a row that
 -- is removed an item that is left out, and rows in order show the items.
-use Rattle.std.proofs.Common.{◌≡◌, inl, inr, ◌+◌, List, [], ◌∷◌, ◌++◌, get_or, Bool, true, false, cond, not, ◌&&◌, refl, sym, ap, subst, ◌∙◌, arith}
+use Rattle.std.proofs.Common.{◌≡◌, inl, inr, ◌+◌, List, [], ◌∷◌, ◌++◌, get_or, Bool, true, false, cond, not, ◌&&◌, refl}
+use Rattle.std.proofs.Common.{sym, ap, subst, ◌∙◌, arith}
 use Rattle.std.specs.Prelude.{IsPermutation, IsSorted, filter}
 use Rattle.std.specs.List.{AllByRecursion}
 use Rattle.std.specs.List.Sorted.{IsStrictlySortedBy}
@@ -9,19 +10,23 @@ use Rattle.std.specs.Cmp.{IsTotalOrder}
 use Rattle.std.specs.declared.cmp.Ordering.{Ordering}
 use Rattle.std.specs.declared.cmp.Ordering.TheVariants.{Less, Equal, Greater}
 use Rattle.std.proofs.lemmas.Bool.{false≢true}
-use Rattle.std.proofs.lemmas.List.Sorted.{All-permutation, IsPermutation-sym, IsPermutation-refl, IsPermutation-trans, IsPermutation-cons, IsPermutation-to_front, IsPermutation-append, IsPermutation-middle}
+use Rattle.std.proofs.lemmas.List.Sorted.{All-permutation, IsPermutation-sym, IsPermutation-refl, IsPermutation-trans}
+use Rattle.std.proofs.lemmas.List.Sorted.{IsPermutation-cons, IsPermutation-to_front, IsPermutation-append}
+use Rattle.std.proofs.lemmas.List.Sorted.{IsPermutation-middle}
 use Rattle.std.proofs.lemmas.List.Elements.{All-from_recursion, recursion_from_All}
 use Rattle.std.proofs.lemmas.List.Kept.{IsStrictlySortedBy-filter}
-use Rattle.std.proofs.lemmas.Map.Keys.{IsDistinct-from_sorted, IsDistinct-IsPermutation, apart_from_distinct, sorted_from_all_adjacent}
+use Rattle.std.proofs.lemmas.Map.Keys.{IsDistinct-from_sorted, IsDistinct-IsPermutation, apart_from_distinct}
+use Rattle.std.proofs.lemmas.Map.Keys.{sorted_from_all_adjacent}
 use Rattle.sqlite_rules.specs.Lists.{Has}
 use Rattle.sqlite_trees.proofs.ListLemmas.{IsPermutation-filter}
-use Rattle.catalogue.specs.Keyed.{are_above, put, put_by_order}
-use Rattle.catalogue.proofs.PutKeeps.{IsStrictlySortedBy-put, put_cases}
+use Rattle.base.specs.Keyed.{are_above, put, put_by_order}
+use Rattle.base.proofs.PutKeeps.{IsStrictlySortedBy-put, put_cases}
 use Rattle.store_rows.specs.Listed.{AreShown, AreListed}
 
 -- ---- members
 
-has_more : {X : Type 0} (xs : List X) (y : X) (zs : List X) → AllByRecursion (Has xs) zs → AllByRecursion (Has (y ∷ xs)) zs
+has_more : {X : Type 0} (xs : List X) (y : X) (zs : List X) → AllByRecursion (Has xs) zs
+    → AllByRecursion (Has (y ∷ xs)) zs
 has_more xs y [] all = tt
 has_more xs y (z ∷ zs) all = (inr all.0, has_more xs y zs all.1)
 
@@ -37,45 +42,54 @@ has_all P [] x all h = absurd h
 -- a permutation has the same members
 pub permuted_has : {X : Type 0} (xs ys : List X) → IsPermutation xs ys → (x : X) → Has ys x → Has xs x
 permuted_has xs ys same x h =
-    has_all (Has xs) ys x (recursion_from_All (Has xs) ys (All-permutation (Has xs) xs ys same (All-from_recursion (Has xs) xs (has_itself xs)))) h
+    has_all (Has xs) ys x (recursion_from_All (Has xs) ys
+    (All-permutation (Has xs) xs ys same (All-from_recursion (Has xs) xs (has_itself xs)))) h
 
 -- ---- lists of rows and items
 
-pub filter_shown : {A X : Type 0} {R : A → X → Type 0} (keep : A → Bool) (stays : X → Bool) → ((b : A) (x : X) → R b x → keep b ≡ stays x) → (items : List A) (xs : List X)
+pub filter_shown : {A X : Type 0} {R : A → X → Type 0} (keep : A → Bool) (stays : X → Bool)
+    → ((b : A) (x : X) → R b x → keep b ≡ stays x) → (items : List A) (xs : List X)
     → AreShown R items xs → AreShown R (filter keep items) (filter stays xs)
 filter_shown keep stays same [] [] all = tt
 filter_shown keep stays same [] (x ∷ xs) all = absurd all
 filter_shown keep stays same (b ∷ items) [] all = absurd all
 filter_shown {A} {X} {R} keep stays same (b ∷ items) (x ∷ xs) all =
-    subst (λ t. AreShown R (cond t (b ∷ filter keep items) (filter keep items)) (filter stays (x ∷ xs))) (sym (same b x all.0))
+    subst (λ t. AreShown R (cond t (b ∷ filter keep items) (filter keep items)) (filter stays (x ∷ xs)))
+    (sym (same b x all.0))
     (by_test (stays x) (filter_shown {R = R} keep stays same items xs all.1))
   where
     by_test : (t : Bool) → AreShown R (filter keep items) (filter stays xs)
-        → AreShown R (cond t (b ∷ filter keep items) (filter keep items)) (cond t (x ∷ filter stays xs) (filter stays xs))
+        → AreShown R (cond t (b ∷ filter keep items) (filter keep items))
+        (cond t (x ∷ filter stays xs) (filter stays xs))
     by_test true rest = (all.0, rest)
     by_test false rest = rest
 
-pub last_shown : {A X : Type 0} (R : A → X → Type 0) (a : A) (r : X) (items : List A) (xs : List X) → R a r → AreShown R items xs → AreShown R (items ++ a ∷ []) (xs ++ r ∷ [])
+pub last_shown : {A X : Type 0} (R : A → X → Type 0) (a : A) (r : X) (items : List A) (xs : List X) → R a r
+    → AreShown R items xs → AreShown R (items ++ a ∷ []) (xs ++ r ∷ [])
 last_shown R a r [] [] one all = (one, tt)
 last_shown R a r [] (x ∷ xs) one all = absurd all
 last_shown R a r (b ∷ items) [] one all = absurd all
 last_shown R a r (b ∷ items) (x ∷ xs) one all = (all.0, last_shown R a r items xs one all.1)
 
-below_shown : {A X : Type 0} (R : A → X → Type 0) (P : X → Type 0) (items : List A) (xs : List X) → AllByRecursion (λ b. (x : X) → R b x → P x) items → AreShown R items xs
+below_shown : {A X : Type 0} (R : A → X → Type 0) (P : X → Type 0) (items : List A) (xs : List X)
+    → AllByRecursion (λ b. (x : X) → R b x → P x) items → AreShown R items xs
     → AllByRecursion P xs
 below_shown R P [] [] below all = tt
 below_shown R P [] (x ∷ xs) below all = absurd all
 below_shown R P (b ∷ items) [] below all = tt
 below_shown R P (b ∷ items) (x ∷ xs) below all = (below.0 x all.0, below_shown R P items xs below.1 all.1)
 
-all_last : {X : Type 0} (P : X → Type 0) (xs : List X) (r : X) → AllByRecursion P xs → P r → AllByRecursion P (xs ++ r ∷ [])
+all_last : {X : Type 0} (P : X → Type 0) (xs : List X) (r : X) → AllByRecursion P xs → P r
+    → AllByRecursion P (xs ++ r ∷ [])
 all_last P [] r all last = (last, tt)
 all_last P (x ∷ xs) r all last = (all.0, all_last P xs r all.1 last)
 
-last_ascends : {X : Type 0} (by : X → X → Ordering) (xs : List X) (r : X) → AllByRecursion (λ x. by x r ≡ Less) xs → IsStrictlySortedBy by xs → IsStrictlySortedBy by (xs ++ r ∷ [])
+last_ascends : {X : Type 0} (by : X → X → Ordering) (xs : List X) (r : X) → AllByRecursion (λ x. by x r ≡ Less) xs
+    → IsStrictlySortedBy by xs → IsStrictlySortedBy by (xs ++ r ∷ [])
 unfolding IsStrictlySortedBy
 last_ascends by [] r below strict = (tt, tt)
-last_ascends by (x ∷ xs) r below strict = (all_last (λ z. by x z ≡ Less) xs r strict.0 below.0, last_ascends by xs r below.1 strict.1)
+last_ascends by (x ∷ xs) r below strict =
+    (all_last (λ z. by x z ≡ Less) xs r strict.0 below.0, last_ascends by xs r below.1 strict.1)
 
 module _ {A X : Type 0} {by : X → X → Ordering} {R : A → X → Type 0} where
   pub none_listed : AreListed by R [] []
@@ -83,12 +97,19 @@ module _ {A X : Type 0} {by : X → X → Ordering} {R : A → X → Type 0} whe
   none_listed = record { found = []; same = IsPermutation-refl []; ascending = tt; each = tt }
 
   -- the order of the rows in the table doesn't count
-  pub moved_listed : (rows rows2 : List X) (items : List A) → IsPermutation rows2 rows → AreListed by R rows items → AreListed by R rows2 items
+  pub moved_listed : (rows rows2 : List X) (items : List A) → IsPermutation rows2 rows → AreListed by R rows items
+      → AreListed by R rows2 items
   moved_listed rows rows2 items moved h =
-      record { found = h.found; same = IsPermutation-trans rows2 rows h.found moved h.same; ascending = h.ascending; each = h.each }
+      record {
+        found = h.found;
+        same = IsPermutation-trans rows2 rows h.found moved h.same;
+        ascending = h.ascending;
+        each = h.each;
+      }
 
   -- rows that a test of their own keeps stand for the items that are kept
-  pub kept_listed : (keep : A → Bool) (stays : X → Bool) → ((b : A) (x : X) → R b x → keep b ≡ stays x) → (rows : List X) (items : List A) → AreListed by R rows items
+  pub kept_listed : (keep : A → Bool) (stays : X → Bool) → ((b : A) (x : X) → R b x → keep b ≡ stays x)
+      → (rows : List X) (items : List A) → AreListed by R rows items
       → AreListed by R (filter stays rows) (filter keep items)
   kept_listed keep stays same rows items h = record {
     found = filter stays h.found;
@@ -98,7 +119,8 @@ module _ {A X : Type 0} {by : X → X → Ordering} {R : A → X → Type 0} whe
   }
 
   -- a row that is above those of all items is added: its item is the last
-  pub last_listed : (a : A) (r : X) (rows : List X) (items : List A) → R a r → AllByRecursion (λ b. (x : X) → R b x → by x r ≡ Less) items → AreListed by R rows items
+  pub last_listed : (a : A) (r : X) (rows : List X) (items : List A) → R a r
+      → AllByRecursion (λ b. (x : X) → R b x → by x r ≡ Less) items → AreListed by R rows items
       → AreListed by R (rows ++ r ∷ []) (items ++ a ∷ [])
   last_listed a r rows items one below h = record {
     found = h.found ++ r ∷ [];
@@ -124,11 +146,13 @@ module _ {X : Type 0} {by : X → X → Ordering} (o : IsTotalOrder by) where
       turned Greater = refl
 
   -- what is in order, with the keys of rows that differ, ascends
-  ascends : (xs ys : List X) → IsStrictlySortedBy by xs → IsPermutation xs ys → IsSorted by ys → IsStrictlySortedBy by ys
+  ascends : (xs ys : List X) → IsStrictlySortedBy by xs → IsPermutation xs ys → IsSorted by ys
+      → IsStrictlySortedBy by ys
   unfolding IsStrictlySortedBy
   ascends xs [] strict same sorted = tt
   ascends xs (y ∷ ys) strict same sorted =
-      let apart = IsDistinct-IsPermutation (eq_by_cmp by) flips xs (y ∷ ys) same (IsDistinct-from_sorted by xs strict) in
+      let apart = IsDistinct-IsPermutation (eq_by_cmp by) flips xs (y ∷ ys) same
+      (IsDistinct-from_sorted by xs strict) in
       sorted_from_all_adjacent o (y ∷ ys) y (λ k high.
       less_from (by (get_or (y ∷ ys) k y) (get_or (y ∷ ys) (k + 1) y))
       (apart_from_distinct (eq_by_cmp by) (y ∷ ys) k (k + 1) y apart (omega arith) high)
@@ -141,7 +165,8 @@ module _ {X : Type 0} {by : X → X → Ordering} (o : IsTotalOrder by) where
   not_itself x a = not_below x x a a
 
   -- lists that ascend and have the same members are one
-  one_list : (xs ys : List X) → IsStrictlySortedBy by xs → IsStrictlySortedBy by ys → ((x : X) → Has xs x → Has ys x) → ((x : X) → Has ys x → Has xs x) → ys ≡ xs
+  one_list : (xs ys : List X) → IsStrictlySortedBy by xs → IsStrictlySortedBy by ys → ((x : X) → Has xs x → Has ys x)
+      → ((x : X) → Has ys x → Has xs x) → ys ≡ xs
   unfolding IsStrictlySortedBy
   one_list [] [] p q to back = refl
   one_list [] (y ∷ ys) p q to back = absurd (back y (inl refl))
@@ -167,7 +192,8 @@ module _ {X : Type 0} {by : X → X → Ordering} (o : IsTotalOrder by) where
   -- rows put in order are in one order only
   pub one_order : (xs ys : List X) → IsStrictlySortedBy by xs → IsPermutation xs ys → IsSorted by ys → ys ≡ xs
   one_order xs ys strict same sorted =
-      one_list xs ys strict (ascends xs ys strict same sorted) (permuted_has ys xs (IsPermutation-sym xs ys same)) (permuted_has xs ys same)
+      one_list xs ys strict (ascends xs ys strict same sorted) (permuted_has ys xs (IsPermutation-sym xs ys same))
+      (permuted_has xs ys same)
 
   -- ---- rows without the key of r
 
@@ -181,18 +207,24 @@ module _ {X : Type 0} {by : X → X → Ordering} (o : IsTotalOrder by) where
   all_differ r [] above = refl
   all_differ r (y ∷ ys) above = by_order (by r y) refl above (all_differ r ys)
     where
-      by_order : (c : Ordering) → by r y ≡ c → (is_lt c && are_above by r ys) ≡ true → (are_above by r ys ≡ true → filter (differs r) ys ≡ ys)
+      by_order : (c : Ordering) → by r y ≡ c → (is_lt c && are_above by r ys) ≡ true
+          → (are_above by r ys ≡ true → filter (differs r) ys ≡ ys)
           → filter (differs r) (y ∷ ys) ≡ y ∷ ys
-      by_order Less e h rest = ap (λ t. cond t (y ∷ filter (differs r) ys) (filter (differs r) ys)) (differs_above r y e) ∙ ap (λ l. y ∷ l) (rest h)
+      by_order Less e h rest =
+          ap (λ t. cond t (y ∷ filter (differs r) ys) (filter (differs r) ys)) (differs_above r y e)
+          ∙ ap (λ l. y ∷ l) (rest h)
       by_order Equal e h rest = absurd (false≢true h)
       by_order Greater e h rest = absurd (false≢true h)
 
-  tied_above : (r y : X) (ys : List X) → by y r ≡ Equal → AllByRecursion (λ z. by y z ≡ Less) ys → are_above by r ys ≡ true
+  tied_above : (r y : X) (ys : List X) → by y r ≡ Equal → AllByRecursion (λ z. by y z ≡ Less) ys
+      → are_above by r ys ≡ true
   tied_above r y [] tied all = refl
-  tied_above r y (z ∷ zs) tied all = ap (λ c. is_lt c && are_above by r zs) (sym (o.congr y r z tied) ∙ all.0) ∙ tied_above r y zs tied all.1
+  tied_above r y (z ∷ zs) tied all = ap (λ c. is_lt c && are_above by r zs) (sym (o.congr y r z tied) ∙ all.0)
+      ∙ tied_above r y zs tied all.1
 
   -- y, where r belongs after a later one
-  differs_late : (r y : X) (ys : List X) → AllByRecursion (λ z. by y z ≡ Less) ys → are_above by r ys ≡ false → differs r y ≡ true
+  differs_late : (r y : X) (ys : List X) → AllByRecursion (λ z. by y z ≡ Less) ys → are_above by r ys ≡ false
+      → differs r y ≡ true
   differs_late r y ys all late = by_order (by y r) refl
     where
       by_order : (c : Ordering) → by y r ≡ c → differs r y ≡ true
@@ -203,7 +235,8 @@ module _ {X : Type 0} {by : X → X → Ordering} (o : IsTotalOrder by) where
   swapped : (r y : X) (ys : List X) → IsPermutation (r ∷ y ∷ ys) (y ∷ r ∷ ys)
   swapped r y ys = IsPermutation-sym (y ∷ r ∷ ys) (r ∷ y ∷ ys) (IsPermutation-middle (y ∷ []) r ys)
 
-  kept_first : (r y : X) (ys : List X) (t : Bool) → differs r y ≡ t → filter (differs r) (y ∷ ys) ≡ cond t (y ∷ filter (differs r) ys) (filter (differs r) ys)
+  kept_first : (r y : X) (ys : List X) (t : Bool) → differs r y ≡ t
+      → filter (differs r) (y ∷ ys) ≡ cond t (y ∷ filter (differs r) ys) (filter (differs r) ys)
   kept_first r y ys t e = ap (λ b. cond b (y ∷ filter (differs r) ys) (filter (differs r) ys)) e
 
   -- to put r moves it to where it belongs, in place of one of its key
@@ -213,7 +246,8 @@ module _ {X : Type 0} {by : X → X → Ordering} (o : IsTotalOrder by) where
   put_moves r (y ∷ ys) strict =
       put_cases by r (λ l. IsPermutation (r ∷ filter (differs r) (y ∷ ys)) l) y ys
       (λ above e.
-      let k : filter (differs r) (y ∷ ys) ≡ y ∷ ys = all_differ r (y ∷ ys) (ap (λ c. is_lt c && are_above by r ys) e ∙ above) in
+      let k : filter (differs r) (y ∷ ys) ≡ y ∷ ys =
+      all_differ r (y ∷ ys) (ap (λ c. is_lt c && are_above by r ys) e ∙ above) in
       subst (λ l. IsPermutation (r ∷ l) (r ∷ y ∷ ys)) (sym k) (IsPermutation-refl (r ∷ y ∷ ys)))
       (λ above e.
       let n : differs r y ≡ false = ap (λ c. not (is_eq c)) (o.antisymm y r ∙ ap ordering_reverse e) in
@@ -221,55 +255,68 @@ module _ {X : Type 0} {by : X → X → Ordering} (o : IsTotalOrder by) where
       subst (λ l. IsPermutation (r ∷ l) (r ∷ ys)) (sym k) (IsPermutation-refl (r ∷ ys)))
       (λ above e.
       let n : differs r y ≡ true = ap (λ c. not (is_eq c)) (o.antisymm y r ∙ ap ordering_reverse e) in
-      let k : filter (differs r) (y ∷ ys) ≡ y ∷ ys = kept_first r y ys true n ∙ ap (λ l. y ∷ l) (all_differ r ys above) in
+      let k : filter (differs r) (y ∷ ys) ≡ y ∷ ys = kept_first r y ys true n
+      ∙ ap (λ l. y ∷ l) (all_differ r ys above) in
       subst (λ l. IsPermutation (r ∷ l) (y ∷ r ∷ ys)) (sym k) (swapped r y ys))
       (λ late.
-      let k : filter (differs r) (y ∷ ys) ≡ y ∷ filter (differs r) ys = kept_first r y ys true (differs_late r y ys strict.0 late) in
+      let k : filter (differs r) (y ∷ ys) ≡ y ∷ filter (differs r) ys =
+      kept_first r y ys true (differs_late r y ys strict.0 late) in
       subst (λ l. IsPermutation (r ∷ l) (y ∷ put by r ys)) (sym k)
-      (IsPermutation-trans (r ∷ y ∷ filter (differs r) ys) (y ∷ r ∷ filter (differs r) ys) (y ∷ put by r ys) (swapped r y (filter (differs r) ys))
+      (IsPermutation-trans (r ∷ y ∷ filter (differs r) ys) (y ∷ r ∷ filter (differs r) ys) (y ∷ put by r ys)
+      (swapped r y (filter (differs r) ys))
       (IsPermutation-cons y (r ∷ filter (differs r) ys) (put by r ys) (put_moves r ys strict.1))))
 
   module _ {A : Type 0} {R : A → X → Type 0} where
-    above_shown : (order : A → A → Ordering) (a : A) (r : X) → ((b : A) (x : X) → R b x → order a b ≡ by r x) → (items : List A) (xs : List X) → AreShown R items xs
+    above_shown : (order : A → A → Ordering) (a : A) (r : X) → ((b : A) (x : X) → R b x → order a b ≡ by r x)
+        → (items : List A) (xs : List X) → AreShown R items xs
         → are_above order a items ≡ are_above by r xs
     above_shown order a r same [] [] all = refl
     above_shown order a r same [] (x ∷ xs) all = absurd all
     above_shown order a r same (b ∷ items) [] all = absurd all
     above_shown order a r same (b ∷ items) (x ∷ xs) all =
-        ap (λ c. is_lt c && are_above order a items) (same b x all.0) ∙ ap (λ t. is_lt (by r x) && t) (above_shown order a r same items xs all.1)
+        ap (λ c. is_lt c && are_above order a items) (same b x all.0)
+        ∙ ap (λ t. is_lt (by r x) && t) (above_shown order a r same items xs all.1)
 
-    put_shown : (order : A → A → Ordering) (a : A) (r : X) (items : List A) (xs : List X) → R a r → ((b : A) (x : X) → R b x → order a b ≡ by r x) → AreShown R items xs
+    put_shown : (order : A → A → Ordering) (a : A) (r : X) (items : List A) (xs : List X) → R a r
+        → ((b : A) (x : X) → R b x → order a b ≡ by r x) → AreShown R items xs
         → AreShown R (put order a items) (put by r xs)
     put_shown order a r [] [] one same all = (one, tt)
     put_shown order a r [] (x ∷ xs) one same all = absurd all
     put_shown order a r (b ∷ items) [] one same all = absurd all
     put_shown order a r (b ∷ items) (x ∷ xs) one same all =
         let rest = put_shown order a r items xs one same all.1 in
-        subst (λ t. AreShown R (cond t (put_by_order (order a b) a b items) (b ∷ put order a items)) (put by r (x ∷ xs))) (sym (above_shown order a r same items xs all.1))
-        (subst (λ c. AreShown R (cond (are_above by r xs) (put_by_order c a b items) (b ∷ put order a items)) (put by r (x ∷ xs))) (sym (same b x all.0))
+        subst (λ t. AreShown R (cond t (put_by_order (order a b) a b items) (b ∷ put order a items))
+        (put by r (x ∷ xs))) (sym (above_shown order a r same items xs all.1))
+        (subst (λ c. AreShown R (cond (are_above by r xs) (put_by_order c a b items) (b ∷ put order a items))
+        (put by r (x ∷ xs))) (sym (same b x all.0))
         (by_case (are_above by r xs) (by r x) rest))
       where
         by_case : (t : Bool) (c : Ordering) → AreShown R (put order a items) (put by r xs)
-            → AreShown R (cond t (put_by_order c a b items) (b ∷ put order a items)) (cond t (put_by_order c r x xs) (x ∷ put by r xs))
+            → AreShown R (cond t (put_by_order c a b items) (b ∷ put order a items))
+            (cond t (put_by_order c r x xs) (x ∷ put by r xs))
         by_case true Less rest = (one, (all.0, all.1))
         by_case true Equal rest = (one, all.1)
         by_case true Greater rest = (all.0, (one, all.1))
         by_case false c rest = (all.0, rest)
 
     -- the row of a key is removed and the new one added at the end: the item is put
-    pub set_listed : (order : A → A → Ordering) (a : A) (r : X) (rows : List X) (items : List A) → R a r → ((b : A) (x : X) → R b x → order a b ≡ by r x) → AreListed by R rows items
+    pub set_listed : (order : A → A → Ordering) (a : A) (r : X) (rows : List X) (items : List A) → R a r
+        → ((b : A) (x : X) → R b x → order a b ≡ by r x) → AreListed by R rows items
         → AreListed by R (filter (differs r) rows ++ r ∷ []) (put order a items)
     set_listed order a r rows items one same h = record {
       found = put by r h.found;
-      same = IsPermutation-trans (filter (differs r) rows ++ r ∷ []) (r ∷ filter (differs r) rows) (put by r h.found) (IsPermutation-to_front (filter (differs r) rows) r)
+      same = IsPermutation-trans (filter (differs r) rows ++ r ∷ []) (r ∷ filter (differs r) rows) (put by r h.found)
+          (IsPermutation-to_front (filter (differs r) rows) r)
           (IsPermutation-trans (r ∷ filter (differs r) rows) (r ∷ filter (differs r) h.found) (put by r h.found)
-          (IsPermutation-cons r (filter (differs r) rows) (filter (differs r) h.found) (IsPermutation-filter (differs r) rows h.found h.same)) (put_moves r h.found h.ascending));
+          (IsPermutation-cons r (filter (differs r) rows) (filter (differs r) h.found)
+          (IsPermutation-filter (differs r) rows h.found h.same)) (put_moves r h.found h.ascending));
       ascending = IsStrictlySortedBy-put by o r h.found h.ascending;
       each = put_shown order a r items h.found one same h.each;
     }
 
     -- rows that a query put in order stand for the items
-    pub found_listed : (rows found : List X) (items : List A) → AreListed by R rows items → IsPermutation rows found → IsSorted by found → AreShown R items found
+    pub found_listed : (rows found : List X) (items : List A) → AreListed by R rows items → IsPermutation rows found
+        → IsSorted by found → AreShown R items found
     found_listed rows found items h same sorted =
         let moved = IsPermutation-trans h.found rows found (IsPermutation-sym rows h.found h.same) same in
         subst (AreShown R items) (sym (one_order h.found found h.ascending moved sorted)) h.each

@@ -2,8 +2,8 @@
 use Rattle.std.proofs.Common.{◌≡◌, ℕ, pos, List, Some, sym, ap, ◌∙◌}
 use Rattle.sqlite.specs.declared.types.Value.{Value}
 use Rattle.sqlite.specs.declared.types.Value.TheVariants.{Int, Text, Blob}
-use Rattle.catalogue.specs.declared.message.Message.{Message}
-use Rattle.catalogue.specs.declared.sheet.Sheet.{Sheet}
+use Rattle.dbc_sheet.specs.declared.message.Message.{Message}
+use Rattle.dbc_sheet.specs.declared.sheet.Sheet.{Sheet}
 use Rattle.office_types.specs.declared.command.NetKind.{NetKind}
 use Rattle.office_types.specs.declared.state.Head.{Head}
 use Rattle.office_types.specs.declared.state.LiveMessage.{LiveMessage}
@@ -27,14 +27,18 @@ one_message a b same = cc
 abbrev pub message_of : Message → List ℕ → LiveMessage
 message_of message owner = record { message = message; owner = owner }
 
-pub whole_message : (message : Message) (owner : List ℕ) (other : LiveMessage) → message ≡ other.message → owner ≡ other.owner → message_of message owner ≡ other
-whole_message message owner other first second = ap (λ v. message_of v owner) first ∙ ap (message_of other.message) second
+pub whole_message : (message : Message) (owner : List ℕ) (other : LiveMessage) → message ≡ other.message
+    → owner ≡ other.owner → message_of message owner ≡ other
+whole_message message owner other first second = ap (λ v. message_of v owner) first
+    ∙ ap (message_of other.message) second
 
 abbrev pub head_of : NetKind → ℕ → Phase → Sheet → Head
 head_of kind reviews phase frame = record { kind = kind; reviews = reviews; phase = phase; frame = frame }
 
-pub whole_head : (kind : NetKind) (reviews : ℕ) (phase : Phase) (frame : Sheet) (other : Head) → kind ≡ other.kind → reviews ≡ other.reviews → phase ≡ other.phase → frame ≡ other.frame
+pub whole_head : (kind : NetKind) (reviews : ℕ) (phase : Phase) (frame : Sheet) (other : Head) → kind ≡ other.kind
+    → reviews ≡ other.reviews → phase ≡ other.phase → frame ≡ other.frame
     → head_of kind reviews phase frame ≡ other
 whole_head kind reviews phase frame other first second third fourth =
-    ap (λ v. head_of v reviews phase frame) first ∙ ap (λ v. head_of other.kind v phase frame) second ∙ ap (λ v. head_of other.kind other.reviews v frame) third
+    ap (λ v. head_of v reviews phase frame) first ∙ ap (λ v. head_of other.kind v phase frame) second
+    ∙ ap (λ v. head_of other.kind other.reviews v frame) third
     ∙ ap (head_of other.kind other.reviews other.phase) fourth

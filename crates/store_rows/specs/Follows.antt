@@ -3,7 +3,7 @@ use Rattle.std.specs.Prelude.{◌≡◌, ℕ, List, [], ◌∷◌, false}
 use Rattle.std.specs.Str.{bytes_eq}
 use Rattle.office_types.specs.declared.change.Change.{Change}
 use Rattle.office_rules.specs.Change.{NetAndBook, applied}
-use Rattle.office_tables.specs.Tables.{Tables}
+use Rattle.store_tables.specs.Tables.{Tables}
 use Rattle.store_rows.specs.Live.{live_rows}
 use Rattle.store_rows.specs.NetIn.{IsNetAt, rest_of}
 use Rattle.store_rows.specs.Rows.{IsBookIn}
@@ -28,4 +28,5 @@ pub record Follows (name : List ℕ) (t t2 : Tables) (before after : NetAndBook)
 -- the changes were written, one after the other
 abbrev pub AreWritten : List ℕ → List Change → NetAndBook → Tables → Tables → Type 0
 AreWritten name [] e t t2 = t2 ≡ t
-AreWritten name (c ∷ cs) e t t2 = (mid : Tables) × IsWritten name c e.net t mid × AreWritten name cs (applied name c e) mid t2
+AreWritten name (c ∷ cs) e t t2 = (mid : Tables) × IsWritten name c e.net t mid
+    × AreWritten name cs (applied name c e) mid t2

@@ -11,7 +11,8 @@ AreShown R (a ∷ items) [] = ⊥
 AreShown R (a ∷ items) (x ∷ xs) = R a x × AreShown R items xs
 
 -- the rows, put in order, stand for the items
-pub record AreListed {A X : Type 0} (by : X → X → Ordering) (R : A → X → Type 0) (rows : List X) (items : List A) : Type 0 where
+pub record AreListed {A X : Type 0} (by : X → X → Ordering) (R : A → X → Type 0) (rows : List X) (items : List A) : Type
+    0 where
   pub found : List X
   pub same : IsPermutation rows found
   pub ascending : IsStrictlySortedBy by found

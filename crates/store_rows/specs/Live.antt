@@ -1,5 +1,6 @@
 -- What rows of `msg`, `sig`, `receiver` and `sigvalue` stand for: the live messages of a network.
-use Rattle.std.specs.Prelude.{◌≡◌, ◌≢◌, IfSome, ℕ, ◌==◌, Bool, true, false, List, [], ◌∷◌, ◌++◌, map, filter, find, Option, Some, None, unwrap_or, pos}
+use Rattle.std.specs.Prelude.{◌≡◌, ◌≢◌, IfSome, ℕ, ◌==◌, Bool, true, false, List, [], ◌∷◌, ◌++◌, map, filter, find}
+use Rattle.std.specs.Prelude.{Option, Some, None, unwrap_or, pos}
 use Rattle.std.specs.List.{AllByRecursion}
 use Rattle.sqlite.specs.declared.types.Value.TheVariants.{Int, Text, Blob}
 use Rattle.sqlite.specs.Order.{Row, column}
@@ -8,19 +9,19 @@ use Rattle.bitlayout.specs.declared.layout.Order.{Order}
 use Rattle.bitlayout.specs.declared.layout.Order.TheVariants.{Intel, Motorola}
 use Rattle.bitlayout.specs.declared.place.Mux.{Mux}
 use Rattle.bitlayout.specs.declared.place.Mux.TheVariants as mux
-use Rattle.catalogue.specs.ValueType.{value_type_number}
-use Rattle.catalogue.specs.declared.signal.Signal.{Signal}
-use Rattle.catalogue.specs.declared.value_texts.ValueText.{ValueText}
+use Rattle.dbc_words.specs.ValueType.{value_type_number}
+use Rattle.dbc_sheet.specs.declared.signal.Signal.{Signal}
+use Rattle.dbc_sheet.specs.declared.value_texts.ValueText.{ValueText}
 use Rattle.decimal.specs.Number.{IsDecimal}
 use Rattle.decimal.specs.Printing.{text_of}
 use Rattle.office_types.specs.declared.state.LiveMessage.{LiveMessage}
-use Rattle.office_tables.specs.Selected.{has_number}
-use Rattle.office_tables.specs.Tables.{Tables}
-use Rattle.office_rows.specs.Mux.{mux_number}
-use Rattle.office_rows.specs.Rows.{is_of_net}
-use Rattle.office_rows.specs.Shown.{msgs_order, sigs_order, receivers_order, sigvalues_order}
-use Rattle.office_rows.specs.declared.row.MuxColumn.{MuxColumn}
-use Rattle.office_rows.specs.declared.row.MuxColumn.TheVariants as column
+use Rattle.store_tables.specs.Selected.{has_number}
+use Rattle.store_tables.specs.Tables.{Tables}
+use Rattle.store_statements.specs.Mux.{mux_number}
+use Rattle.store_statements.specs.Rows.{is_of_net}
+use Rattle.store_statements.specs.Shown.{msgs_order, sigs_order, receivers_order, sigvalues_order}
+use Rattle.store_statements.specs.declared.row.MuxColumn.{MuxColumn}
+use Rattle.store_statements.specs.declared.row.MuxColumn.TheVariants as column
 use Rattle.store_rows.specs.Listed.{AreListed}
 
 -- ---- columns
@@ -47,7 +48,8 @@ sender_text sender = unwrap_or sender []
 -- all of a live message but its signals
 abbrev pub msg_values : List ℕ → LiveMessage → Row
 msg_values name m =
-    Text name ∷ Int (pos (dbc_number m.message.ident)) ∷ Text m.message.name ∷ Text m.owner ∷ Int (pos m.message.length) ∷ Text (sender_text m.message.transmitter)
+    Text name ∷ Int (pos (dbc_number m.message.ident)) ∷ Text m.message.name ∷ Text m.owner ∷ Int (pos m.message.length)
+    ∷ Text (sender_text m.message.transmitter)
     ∷ Blob m.message.comment ∷ []
 
 -- a row of `msg`; the message is as those of its type are
@@ -66,9 +68,12 @@ pub record HasDecimals (s : Signal) : Type 0 where
 -- all of a signal but its receivers and value texts, at its place
 abbrev pub sig_values : List ℕ → ℕ → ℕ → Signal → Row
 sig_values name number place s =
-    Text name ∷ Int (pos number) ∷ Int (pos place) ∷ Text s.name ∷ Int (pos s.layout.start) ∷ Int (pos s.layout.size) ∷ Int (pos (motorola_number s.layout.order))
-    ∷ Int (pos (flag_number s.signed)) ∷ Int (mux_number (mux_column s.mux)) ∷ Text (text_of s.factor) ∷ Text (text_of s.offset) ∷ Text (text_of s.minimum)
-    ∷ Text (text_of s.maximum) ∷ Blob s.unit ∷ Blob s.comment ∷ Int (pos s.spn) ∷ Int (pos (value_type_number s.value_type)) ∷ []
+    Text name ∷ Int (pos number) ∷ Int (pos place) ∷ Text s.name ∷ Int (pos s.layout.start) ∷ Int (pos s.layout.size)
+    ∷ Int (pos (motorola_number s.layout.order))
+    ∷ Int (pos (flag_number s.signed)) ∷ Int (mux_number (mux_column s.mux)) ∷ Text (text_of s.factor)
+    ∷ Text (text_of s.offset) ∷ Text (text_of s.minimum)
+    ∷ Text (text_of s.maximum) ∷ Blob s.unit ∷ Blob s.comment ∷ Int (pos s.spn)
+    ∷ Int (pos (value_type_number s.value_type)) ∷ []
 
 -- a row of `sig`
 pub record IsSigRow (name : List ℕ) (message : ℕ) (p : ℕ × Signal) (row : Row) : Type 0 where
@@ -76,7 +81,8 @@ pub record IsSigRow (name : List ℕ) (message : ℕ) (p : ℕ × Signal) (row :
   pub decimals : HasDecimals p.1
 
 abbrev pub receiver_values : List ℕ → ℕ → ℕ → ℕ → List ℕ → Row
-receiver_values name number place seat node = Text name ∷ Int (pos number) ∷ Int (pos place) ∷ Int (pos seat) ∷ Text node ∷ []
+receiver_values name number place seat node = Text name ∷ Int (pos number) ∷ Int (pos place) ∷ Int (pos seat)
+    ∷ Text node ∷ []
 
 -- a row of `receiver`, with the place of the signal; of its own seat only the order counts
 pub record IsReceiverRow (name : List ℕ) (message : ℕ) (p : ℕ × List ℕ) (row : Row) : Type 0 where
@@ -84,7 +90,8 @@ pub record IsReceiverRow (name : List ℕ) (message : ℕ) (p : ℕ × List ℕ)
   pub row_is : row ≡ receiver_values name message p.0 seat p.1
 
 abbrev pub sigvalue_values : List ℕ → ℕ → ℕ → ℕ → ValueText → Row
-sigvalue_values name number place seat v = Text name ∷ Int (pos number) ∷ Int (pos place) ∷ Int (pos seat) ∷ Text (text_of v.value) ∷ Blob v.text ∷ []
+sigvalue_values name number place seat v = Text name ∷ Int (pos number) ∷ Int (pos place) ∷ Int (pos seat)
+    ∷ Text (text_of v.value) ∷ Blob v.text ∷ []
 
 -- a row of `sigvalue`, with the place of the signal
 pub record IsSigValueRow (name : List ℕ) (message : ℕ) (p : ℕ × ValueText) (row : Row) : Type 0 where
@@ -123,8 +130,10 @@ pub record AreSignalsOf (name : List ℕ) (number : ℕ) (rows : LiveRows) (sign
   pub placed : List (ℕ × Signal)
   pub are : map (λ p. p.1) placed ≡ signals
   pub sigs : AreListed sigs_order (IsSigRow name number) (numbered_rows number rows.sig) placed
-  pub receivers : AreListed receivers_order (IsReceiverRow name number) (numbered_rows number rows.receiver) (parts_of (λ s. s.receivers) placed)
-  pub values : AreListed sigvalues_order (IsSigValueRow name number) (numbered_rows number rows.sigvalue) (parts_of (λ s. s.values) placed)
+  pub receivers : AreListed receivers_order (IsReceiverRow name number) (numbered_rows number rows.receiver)
+      (parts_of (λ s. s.receivers) placed)
+  pub values : AreListed sigvalues_order (IsSigValueRow name number) (numbered_rows number rows.sigvalue)
+      (parts_of (λ s. s.values) placed)
 
 -- the signals of the live message with the number, none if there is none
 abbrev pub signals_numbered : List LiveMessage → ℕ → List Signal

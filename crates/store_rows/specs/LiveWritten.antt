@@ -1,29 +1,33 @@
 -- Rows of a message as they are written: seats and places are counted from 0.
-use Rattle.std.specs.Prelude.{◌≡◌, ◌≢◌, ◌==◌, IfSome, ℕ, ◌+◌, ◌<◌, Bool, ◌&&◌, List, [], ◌∷◌, ◌++◌, Some, None, filter, not}
+use Rattle.std.specs.Prelude.{◌≡◌, ◌≢◌, ◌==◌, IfSome, ℕ, ◌+◌, ◌<◌, Bool, ◌&&◌, List, [], ◌∷◌, ◌++◌, Some, None, filter}
+use Rattle.std.specs.Prelude.{not}
 use Rattle.std.specs.List.{AllByRecursion, flat_map, list_any}
 use Rattle.std.specs.Str.{bytes_eq}
 use Rattle.sqlite.specs.Order.{Row}
 use Rattle.can_id.specs.Ident.{IsIdentifier, dbc_number}
-use Rattle.catalogue.specs.declared.signal.Signal.{Signal}
-use Rattle.catalogue.specs.declared.value_texts.ValueText.{ValueText}
+use Rattle.dbc_sheet.specs.declared.signal.Signal.{Signal}
+use Rattle.dbc_sheet.specs.declared.value_texts.ValueText.{ValueText}
 use Rattle.decimal.specs.Number.{IsDecimal}
 use Rattle.office_types.specs.declared.command.SignalPath.{SignalPath}
 use Rattle.office_types.specs.declared.state.LiveMessage.{LiveMessage}
 use Rattle.office_rules.specs.Facts.{live_named}
-use Rattle.office_tables.specs.Selected.{has_number, has_text}
-use Rattle.office_tables.specs.Tables.{Tables}
-use Rattle.office_rows.specs.Rows.{has_net_and_number, has_place_of}
-use Rattle.store_rows.specs.Live.{AreSignalsOf, HasDecimals, live_rows, msg_values, receiver_values, sig_values, sigvalue_values}
+use Rattle.store_tables.specs.Selected.{has_number, has_text}
+use Rattle.store_tables.specs.Tables.{Tables}
+use Rattle.store_statements.specs.Rows.{has_net_and_number, has_place_of}
+use Rattle.store_rows.specs.Live.{AreSignalsOf, HasDecimals, live_rows, msg_values, receiver_values, sig_values}
+use Rattle.store_rows.specs.Live.{sigvalue_values}
 
 -- the rows of a signal's receivers, from this seat on
 abbrev pub receiver_rows : List ℕ → ℕ → ℕ → ℕ → List (List ℕ) → List Row
 receiver_rows net number place seat [] = []
-receiver_rows net number place seat (name ∷ names) = receiver_values net number place seat name ∷ receiver_rows net number place (seat + 1) names
+receiver_rows net number place seat (name ∷ names) =
+    receiver_values net number place seat name ∷ receiver_rows net number place (seat + 1) names
 
 -- those of its value texts
 abbrev pub value_rows : List ℕ → ℕ → ℕ → ℕ → List ValueText → List Row
 value_rows net number place seat [] = []
-value_rows net number place seat (v ∷ values) = sigvalue_values net number place seat v ∷ value_rows net number place (seat + 1) values
+value_rows net number place seat (v ∷ values) =
+    sigvalue_values net number place seat v ∷ value_rows net number place (seat + 1) values
 
 -- the signals with their places, counted from this one
 abbrev pub placed_from : ℕ → List Signal → List (ℕ × Signal)
@@ -59,7 +63,8 @@ without_live net number t = record t {
 -- all rows of the message in place of those of its number
 abbrev pub with_live : List ℕ → LiveMessage → Tables → Tables
 with_live net m t =
-    with_signals net (dbc_number m.message.ident) (placed_from 0 m.message.signals) (with_msg net m (without_live net (dbc_number m.message.ident) t))
+    with_signals net (dbc_number m.message.ident) (placed_from 0 m.message.signals)
+    (with_msg net m (without_live net (dbc_number m.message.ident) t))
 
 -- what the types keep of a signal and of a message, and what their rows need
 
@@ -76,10 +81,11 @@ pub record IsLive (m : LiveMessage) : Type 0 where
 
 -- the place is above those of the signals of the message with the number
 abbrev pub IsAfter : List ℕ → ℕ → Tables → ℕ → Type 0
-IsAfter name number t place = (signals : List Signal) (h : AreSignalsOf name number (live_rows name t) signals) → AllByRecursion (λ (q : ℕ × Signal). q.0 < place) h.placed
+IsAfter name number t place = (signals : List Signal) (h : AreSignalsOf name number (live_rows name t) signals)
+    → AllByRecursion (λ (q : ℕ × Signal). q.0 < place) h.placed
 
 -- the signal was added to the live message of the name, at a place after those of its other signals
-pub record IsAdded (name message : List ℕ) (s : Signal) (live : List LiveMessage) (t t2 : Tables) : Type 0 where
+pub record IsSignalAdded (name message : List ℕ) (s : Signal) (live : List LiveMessage) (t t2 : Tables) : Type 0 where
   pub known : IsSignal s
   pub m : LiveMessage
   pub there : live_named live message ≡ Some m
@@ -102,12 +108,14 @@ without_places net number (place ∷ places) t = without_places net number place
 
 -- the places are those of the signals of the name
 abbrev pub AreItsPlaces : List ℕ → List ℕ → List (ℕ × Signal) → Type 0
-AreItsPlaces signal places placed = AllByRecursion (λ (q : ℕ × Signal). list_any (λ p. p == q.0) places ≡ bytes_eq q.1.name signal) placed
+AreItsPlaces signal places placed =
+    AllByRecursion (λ (q : ℕ × Signal). list_any (λ p. p == q.0) places ≡ bytes_eq q.1.name signal) placed
 
 -- the rows of the signal of the name were removed from those of the message with the number
 pub record IsGone (name : List ℕ) (number : ℕ) (signal : List ℕ) (t t2 : Tables) : Type 0 where
   pub places : List ℕ
-  pub own : (signals : List Signal) (h : AreSignalsOf name number (live_rows name t) signals) → AreItsPlaces signal places h.placed
+  pub own : (signals : List Signal) (h : AreSignalsOf name number (live_rows name t) signals)
+      → AreItsPlaces signal places h.placed
   pub tables_are : t2 ≡ without_places name number places t
 
 -- from those of the live message of the path, if it is there
@@ -125,19 +133,26 @@ placed_named signal placed = filter (λ q. bytes_eq q.1.name signal) placed
 
 -- a row of one of these signals, by its message and its place
 abbrev pub is_of_placed : List ℕ → ℕ → List (ℕ × Signal) → Row → Bool
-is_of_placed net number placed row = has_text 0 net row && (has_number 1 number row && list_any (λ q. has_number 2 q.0 row) placed)
+is_of_placed net number placed row =
+    has_text 0 net row && (has_number 1 number row && list_any (λ q. has_number 2 q.0 row) placed)
 
 -- new rows of these signals, in place of those that they had
 abbrev pub with_rows_of : List ℕ → ℕ → (ℕ × Signal → List Row) → List (ℕ × Signal) → List Row → List Row
-with_rows_of net number new placed rows = filter (λ row. not (is_of_placed net number placed row)) rows ++ flat_map new placed
+with_rows_of net number new placed rows = filter (λ row. not (is_of_placed net number placed row)) rows
+    ++ flat_map new placed
 
 -- their rows of `sig`, with the suspect parameter number
 abbrev pub with_spns : List ℕ → ℕ → ℕ → List (ℕ × Signal) → Tables → Tables
-with_spns net number n placed t = record t { sig = with_rows_of net number (λ q. sig_values net number q.0 (record q.1 { spn = n }) ∷ []) placed t.sig }
+with_spns net number n placed t =
+    record t {
+      sig = with_rows_of net number (λ q. sig_values net number q.0 (record q.1 { spn = n }) ∷ []) placed
+          t.sig;
+    }
 
 -- their rows of `sigvalue`, which are those of the value texts
 abbrev pub with_texts : List ℕ → ℕ → List ValueText → List (ℕ × Signal) → Tables → Tables
-with_texts net number values placed t = record t { sigvalue = with_rows_of net number (λ q. value_rows net number q.0 0 values) placed t.sigvalue }
+with_texts net number values placed t =
+    record t { sigvalue = with_rows_of net number (λ q. value_rows net number q.0 0 values) placed t.sigvalue }
 
 -- the rows of the live message's signals of the name got the suspect parameter number, and no other row changed
 pub record HasSpn (name : List ℕ) (m : LiveMessage) (signal : List ℕ) (n : ℕ) (t t2 : Tables) : Type 0 where
@@ -145,9 +160,11 @@ pub record HasSpn (name : List ℕ) (m : LiveMessage) (signal : List ℕ) (n : �
   pub tables_are : t2 ≡ with_spns name (dbc_number m.message.ident) n (placed_named signal before.placed) t
 
 -- they got the value texts, whose values are decimals, and no other row changed
-pub record HasTexts (name : List ℕ) (m : LiveMessage) (signal : List ℕ) (values : List ValueText) (t t2 : Tables) : Type 0 where
+pub record HasTexts (name : List ℕ) (m : LiveMessage) (signal : List ℕ) (values : List ValueText) (t t2 : Tables) : Type
+    0 where
   pub before : AreSignalsOf name (dbc_number m.message.ident) (live_rows name t) m.message.signals
-  pub decimals : AllByRecursion (λ (q : ℕ × Signal). AllByRecursion (λ (v : ValueText). IsDecimal v.value) values) (placed_named signal before.placed)
+  pub decimals : AllByRecursion (λ (q : ℕ × Signal). AllByRecursion (λ (v : ValueText). IsDecimal v.value) values)
+      (placed_named signal before.placed)
   pub tables_are : t2 ≡ with_texts name (dbc_number m.message.ident) values (placed_named signal before.placed) t
 
 -- those of the live message of the path, if it is there

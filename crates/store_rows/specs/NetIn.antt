@@ -4,12 +4,14 @@ use Rattle.std.specs.Prelude.{◌≡◌, ℕ, List, [], ◌∷◌, Option, Some,
 use Rattle.sqlite.specs.Order.{Row}
 use Rattle.office_types.specs.declared.state.LiveMessage.{LiveMessage}
 use Rattle.office_types.specs.declared.state.Net.{Net}
-use Rattle.office_tables.specs.Tables.{Tables}
-use Rattle.office_rows.specs.Rows.{net_row, message_row, block_row, frozen_row, is_of_net}
-use Rattle.office_rows.specs.Shown.{net_order, messages_order, blocks_order, held_order, approvals_order, releases_order}
+use Rattle.store_tables.specs.Tables.{Tables}
+use Rattle.store_statements.specs.Rows.{net_row, message_row, block_row, frozen_row, is_of_net}
+use Rattle.store_statements.specs.Shown.{net_order, messages_order, blocks_order, held_order, approvals_order}
+use Rattle.store_statements.specs.Shown.{releases_order}
 use Rattle.store_rows.specs.Listed.{AreListed}
 use Rattle.store_rows.specs.Live.{AreLiveRows, live_rows}
-use Rattle.store_rows.specs.Rows.{IsRowOf, IsNetRow, IsMessageRow, IsBlockRow, IsHeldRow, IsApprovalRow, IsFrozenRow, is_granted, numbered}
+use Rattle.store_rows.specs.Rows.{IsRowOf, IsNetRow, IsMessageRow, IsBlockRow, IsHeldRow, IsApprovalRow, IsFrozenRow}
+use Rattle.store_rows.specs.Rows.{is_granted, numbered}
 
 -- how the tables have the live messages of the network of a name
 abbrev pub LiveForm : Type 1
@@ -17,7 +19,8 @@ LiveForm = List ℕ → Tables → List LiveMessage → Type 0
 
 -- before: each is one row, whose body reads as the message
 abbrev pub HasBodies : LiveForm
-HasBodies name t live = AreListed messages_order (IsRowOf message_row (IsMessageRow name)) (filter (is_of_net name) t.message) live
+HasBodies name t live = AreListed messages_order (IsRowOf message_row (IsMessageRow name))
+    (filter (is_of_net name) t.message) live
 
 -- now: each has rows of its own, of four tables
 abbrev pub HasRows : LiveForm
@@ -49,7 +52,8 @@ pub record AreRestOf (name : List ℕ) (rows : RestRows) (net : Net) : Type 0 wh
   pub blocks : AreListed blocks_order (IsRowOf block_row (IsBlockRow name)) rows.blocks net.blocks
   pub held : AreListed held_order (IsHeldRow name) rows.held net.held
   pub approvals : AreListed approvals_order (IsApprovalRow name) rows.approvals net.approvals
-  pub releases : AreListed releases_order (IsRowOf frozen_row (IsFrozenRow name)) rows.releases (numbered 1 net.releases)
+  pub releases : AreListed releases_order (IsRowOf frozen_row (IsFrozenRow name)) rows.releases
+      (numbered 1 net.releases)
 
 -- what is there but for live messages
 abbrev pub IsRestAt : List ℕ → RestRows → Option Net → Type 0

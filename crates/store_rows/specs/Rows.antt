@@ -4,7 +4,7 @@ use Rattle.sqlite.specs.Order.{Row}
 use Rattle.can_id.specs.Ident.{IsIdentifier, dbc_number}
 use Rattle.can_id.specs.declared.ident.Ident.{Ident}
 use Rattle.dbc_grammar.specs.Reads.{Reads}
-use Rattle.catalogue.specs.declared.sheet.Sheet.{Sheet}
+use Rattle.dbc_sheet.specs.declared.sheet.Sheet.{Sheet}
 use Rattle.office_types.specs.Block.{form_number}
 use Rattle.office_types.specs.Command.{kind_number}
 use Rattle.office_types.specs.State.{phase_number, submitter_of}
@@ -17,14 +17,14 @@ use Rattle.office_types.specs.declared.state.LiveMessage.{LiveMessage}
 use Rattle.office_types.specs.declared.state.Net.{Net}
 use Rattle.office_types.specs.declared.state.Phase.{Phase}
 use Rattle.office_rules.specs.Facts.{spn_range}
-use Rattle.office_tables.specs.Tables.{Tables}
-use Rattle.office_bodies.specs.Body.{IsBody}
-use Rattle.office_rows.specs.Rows.{block_row, held_row, spn_row, approval_row, is_of_net, is_of_form}
-use Rattle.office_rows.specs.Shown.{blocks_of_form_order, spns_order}
-use Rattle.office_rows.specs.declared.row.NetRow.{NetRow}
-use Rattle.office_rows.specs.declared.row.MessageRow.{MessageRow}
-use Rattle.office_rows.specs.declared.row.BlockRow.{BlockRow}
-use Rattle.office_rows.specs.declared.row.FrozenRow.{FrozenRow}
+use Rattle.store_tables.specs.Tables.{Tables}
+use Rattle.store_bodies.specs.Body.{IsBody}
+use Rattle.store_statements.specs.Rows.{block_row, held_row, spn_row, approval_row, is_of_net, is_of_form}
+use Rattle.store_statements.specs.Shown.{blocks_of_form_order, spns_order}
+use Rattle.store_statements.specs.declared.row.NetRow.{NetRow}
+use Rattle.store_statements.specs.declared.row.BodyRow.{BodyRow}
+use Rattle.store_statements.specs.declared.row.BlockRow.{BlockRow}
+use Rattle.store_statements.specs.declared.row.FrozenRow.{FrozenRow}
 use Rattle.store_rows.specs.Listed.{AreListed}
 
 -- ---- one row
@@ -47,7 +47,7 @@ pub record IsNetRow (name : List ℕ) (head : Head) (it : NetRow) : Type 0 where
   pub frame : Reads it.frame.now head.frame
 
 -- a row of `message`; the body reads as the message alone
-pub record IsMessageRow (name : List ℕ) (m : LiveMessage) (it : MessageRow) : Type 0 where
+pub record IsMessageRow (name : List ℕ) (m : LiveMessage) (it : BodyRow) : Type 0 where
   pub net : it.net.now ≡ name
   pub number : it.number ≡ dbc_number m.message.ident
   pub named : it.name.now ≡ m.message.name
@@ -101,5 +101,6 @@ is_granted name row = is_of_net name row && not (is_of_form (form_number Spn) ro
 
 -- blocks of suspect parameter numbers, over all networks, and the used numbers
 pub record IsBookIn (t : Tables) (book : SpnBook) : Type 0 where
-  pub blocks : AreListed blocks_of_form_order (IsRowOf block_row IsSpnBlockRow) (filter (is_of_form (form_number Spn)) t.block) book.blocks
+  pub blocks : AreListed blocks_of_form_order (IsRowOf block_row IsSpnBlockRow)
+      (filter (is_of_form (form_number Spn)) t.block) book.blocks
   pub used : AreListed spns_order IsSpnRow t.spn book.used

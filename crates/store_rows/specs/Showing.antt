@@ -6,7 +6,7 @@ use Rattle.sqlite.specs.Order.{Row, column, value_cmp}
 use Rattle.can_id.specs.Ident.{IsIdentifier, dbc_number}
 use Rattle.can_id.specs.declared.ident.Ident.{Ident}
 use Rattle.dbc_grammar.specs.Reads.{Reads}
-use Rattle.catalogue.specs.declared.sheet.Sheet.{Sheet}
+use Rattle.dbc_sheet.specs.declared.sheet.Sheet.{Sheet}
 use Rattle.office_types.specs.Block.{Range, form_number}
 use Rattle.office_types.specs.Command.{kind_number}
 use Rattle.office_types.specs.Reply.{part_numbers}
@@ -18,7 +18,7 @@ use Rattle.office_types.specs.declared.state.GrantedBlock.{GrantedBlock}
 use Rattle.office_types.specs.declared.state.Head.{Head}
 use Rattle.office_types.specs.declared.state.LiveMessage.{LiveMessage}
 use Rattle.office_types.specs.declared.state.Phase.{Phase}
-use Rattle.office_bodies.specs.Body.{IsBody}
+use Rattle.store_bodies.specs.Body.{IsBody}
 use Rattle.store_rows.specs.Rows.{submitter_text}
 
 -- phase and submitter

@@ -4,12 +4,12 @@ use Rattle.std.specs.List.{AllByRecursion}
 use Rattle.sqlite.specs.declared.types.Value.{Value}
 use Rattle.sqlite.specs.declared.types.Value.TheVariants.{Int, Text, Blob}
 use Rattle.sqlite.specs.Order.{Row, column}
-use Rattle.catalogue.specs.ValueType.{value_type_number}
-use Rattle.catalogue.specs.declared.signal.Signal.{Signal}
-use Rattle.catalogue.specs.declared.value_texts.ValueText.{ValueText}
+use Rattle.dbc_words.specs.ValueType.{value_type_number}
+use Rattle.dbc_sheet.specs.declared.signal.Signal.{Signal}
+use Rattle.dbc_sheet.specs.declared.value_texts.ValueText.{ValueText}
 use Rattle.decimal.specs.Number.{IsDecimal}
 use Rattle.decimal.specs.Printing.{text_of}
-use Rattle.office_rows.specs.Mux.{mux_number}
+use Rattle.store_statements.specs.Mux.{mux_number}
 use Rattle.can_id.specs.Ident.{IsIdentifier, dbc_number}
 use Rattle.office_types.specs.declared.state.LiveMessage.{LiveMessage}
 use Rattle.store_rows.specs.Live.{HasDecimals, flag_number, motorola_number, mux_column, sender_text}

@@ -3,14 +3,14 @@ ghost use Rattle.std.specs.Prelude.{◌≡◌, ℕ, List, IfOk, pos};
 ghost use Rattle.sqlite.specs.declared.types.Value.TheVariants.{Int, Text, Blob};
 ghost use Rattle.sqlite.specs.Order.{column};
 ghost use Rattle.dbc_grammar.specs.Reads.{Reads};
-ghost use Rattle.catalogue.specs.declared.sheet.Sheet.{Sheet as SheetModel};
+ghost use Rattle.dbc_sheet.specs.declared.sheet.Sheet.{Sheet as SheetModel};
 
-use catalogue::Sheet;
-use office_bodies::sheet_of;
+use dbc_sheet::Sheet;
 use office_types::Team;
 use sqlite::types::ValueRef;
 use sqlite::{Error, Row};
 use std::alloc::Global;
+use store_bodies::sheet_of;
 
 /// The text in the column. An error where it has none.
 pub fn text_at(row: &Row, at: usize) -> Result<&[u8], Error>
@@ -52,7 +52,8 @@ pub(crate) fn team_at(alloc: Global, row: &Row, at: usize) -> Result<Team, Error
 
 /// The sheet that the blob in the column reads as.
 pub(crate) fn sheet_at(alloc: Global, row: &Row, at: usize) -> Result<Sheet, Error>
-    ensures { IfOk result (λ sheet. (text : List ℕ) → (other : SheetModel) → column row.now at ≡ Blob text
+    ensures { IfOk result (λ sheet. (text : List ℕ) → (other : SheetModel)
+        → column row.now at ≡ Blob text
         → Reads text other → sheet ≡ other) }
 {
     let text = blob_at(row, at)?;

@@ -11,13 +11,13 @@ ghost use Rattle.store_rows.specs.Showing.{ShowsPhase, ShowsRange, ShowsRelease,
 
 use crate::columns::{blob_at, number_at, sheet_at, team_at, text_at};
 use can_id::Ident;
-use office_bodies::message_of;
 use office_types::{
     BlockForm, FormBlock, FrozenSheet, GrantedBlock, Head, LiveMessage, NetKind, NetName,
     PartNumbers, PartReply, Phase, ReviewCount, SpnBlock, Team,
 };
 use sqlite::{Error, Row};
 use std::alloc::Global;
+use store_bodies::message_of;
 
 /// A value that a query shows as a row.
 pub trait FromRow {
@@ -143,7 +143,8 @@ impl FromRow for FrozenSheet {
 
 /// The kind in the first column.
 fn kind_at(row: &Row) -> Result<NetKind, Error>
-    ensures { IfOk result (λ kind. (other : Kind) → column row.now 0 ≡ Int (pos (kind_number other)) → kind ≡ other) }
+    ensures { IfOk result (λ kind. (other : Kind) → column row.now 0 ≡ Int (pos (kind_number other))
+        → kind ≡ other) }
 {
     let number = number_at(row, 0)?;
     match NetKind::of_number(number) {
@@ -165,7 +166,8 @@ fn reviews_at(row: &Row) -> Result<ReviewCount, Error>
 
 /// The phase in the third and the fourth column.
 fn phase_at(alloc: Global, row: &Row) -> Result<Phase, Error>
-    ensures { IfOk result (λ phase. (other : PhaseModel) → ShowsPhase other row.now → phase ≡ other) }
+    ensures { IfOk result (λ phase. (other : PhaseModel) → ShowsPhase other row.now
+        → phase ≡ other) }
 {
     let number = number_at(row, 2)?;
     if number == 0 {

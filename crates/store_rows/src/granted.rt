@@ -6,7 +6,7 @@ ghost use Rattle.store_rows.specs.Showing.{ShowsBlock, is_own};
 
 use crate::columns::number_at;
 use crate::from_row::FromRow;
-use catalogue::Items;
+use base::Items;
 use office_types::{BlockForm, GrantedBlock};
 use sqlite::{Error, Row};
 use std::alloc::Global;
@@ -22,7 +22,8 @@ fn is_own(row: &Row) -> Result<bool, Error>
 /// The blocks that the rows show, in order, but those of suspect parameter numbers. An error where a row shows none, or
 /// memory ran out.
 pub fn granted_of(alloc: Global, rows: &[Row]) -> Result<Items<GrantedBlock>, Error>
-    ensures { IfOk result (λ items. (others : List Granted) → AreShown ShowsBlock others (filter is_own rows.now)
+    ensures { IfOk result (λ items. (others : List Granted)
+        → AreShown ShowsBlock others (filter is_own rows.now)
         → items ≡ others) }
 {
     let mut items = Items::new(alloc);

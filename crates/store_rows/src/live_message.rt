@@ -11,7 +11,8 @@ ghost use Rattle.store_rows.specs.SignalShowing.{ShowsLive};
 use crate::columns::{number_at, team_at, text_at};
 use crate::signal_columns::{name_at, words_at};
 use can_id::Ident;
-use catalogue::{Message, Name, PayloadLength, Signals};
+use dbc_sheet::{Message, Signals};
+use dbc_words::{Name, PayloadLength};
 use office_types::LiveMessage;
 use sqlite::{Error, Row};
 use std::alloc::Global;
@@ -41,7 +42,8 @@ fn length_at(row: &Row) -> Result<PayloadLength, Error>
 
 /// The node that sends it, in the fifth column; none if the column is empty.
 fn sender_at(alloc: Global, row: &Row) -> Result<Option<Name>, Error>
-    ensures { IfOk result (λ sender. (other : Live) → ShowsLive other row.now → sender ≡ other.message.transmitter) }
+    ensures { IfOk result (λ sender. (other : Live) → ShowsLive other row.now
+        → sender ≡ other.message.transmitter) }
 {
     let text = text_at(row, 4)?;
     if text.is_empty() {
@@ -53,7 +55,8 @@ fn sender_at(alloc: Global, row: &Row) -> Result<Option<Name>, Error>
 
 /// The live message that the row shows, with these signals. An error where it shows none, or memory ran out.
 pub fn live_message_of(alloc: Global, row: &Row, signals: Signals) -> Result<LiveMessage, Error>
-    ensures { IfOk result (λ live. (other : Live) → ShowsLive other row.now → signals ≡ other.message.signals
+    ensures { IfOk result (λ live. (other : Live) → ShowsLive other row.now
+        → signals ≡ other.message.signals
         → live ≡ other) }
 {
     let ident = ident_at(row)?;

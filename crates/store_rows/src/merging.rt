@@ -1,8 +1,8 @@
 //! The signals of a message, of their rows, their receivers' and their value texts'.
 ghost use Rattle.std.specs.Prelude.{◌≡◌, ◌≤◌, ℕ, List, IfOk, map, length, pos, IsTrue};
 ghost use Rattle.std.specs.List.{prefix_len};
-ghost use Rattle.catalogue.specs.declared.signal.Signal.{Signal as SignalModel};
-ghost use Rattle.catalogue.specs.declared.value_texts.ValueText.{ValueText as Described};
+ghost use Rattle.dbc_sheet.specs.declared.signal.Signal.{Signal as SignalModel};
+ghost use Rattle.dbc_sheet.specs.declared.value_texts.ValueText.{ValueText as Described};
 ghost use Rattle.store_rows.specs.Listed.{AreShown};
 ghost use Rattle.store_rows.specs.Live.{parts_of};
 ghost use Rattle.store_rows.specs.SignalShowing.{has_place, PlacesAscend, ShowsPart, ShowsPlaced, ShowsReceiver};
@@ -11,7 +11,8 @@ ghost use Rattle.store_rows.specs.SignalShowing.{ShowsValueText};
 use crate::columns::number_at;
 use crate::items::items_of;
 use crate::signal::signal_of;
-use catalogue::{Name, Receivers, Signal, Signals, ValueText, ValueTexts};
+use dbc_sheet::{Receivers, Signal, Signals, ValueText, ValueTexts};
+use dbc_words::Name;
 use sqlite::types::ValueRef;
 use sqlite::{Error, Row};
 use std::alloc::Global;
@@ -39,7 +40,8 @@ fn rows_at(rows: &[Row], place: u32) -> usize
 
 /// The receivers that the rows show.
 fn receivers_in(alloc: Global, rows: &[Row]) -> Result<Receivers, Error>
-    ensures { IfOk result (λ receivers. (others : List (List ℕ)) → AreShown ShowsReceiver others rows.now
+    ensures { IfOk result (λ receivers. (others : List (List ℕ))
+        → AreShown ShowsReceiver others rows.now
         → receivers ≡ others) }
 {
     let names = items_of::<Name>(alloc, rows)?;
@@ -48,7 +50,8 @@ fn receivers_in(alloc: Global, rows: &[Row]) -> Result<Receivers, Error>
 
 /// The value texts that the rows show.
 fn values_in(alloc: Global, rows: &[Row]) -> Result<ValueTexts, Error>
-    ensures { IfOk result (λ values. (others : List Described) → AreShown ShowsValueText others rows.now
+    ensures { IfOk result (λ values. (others : List Described)
+        → AreShown ShowsValueText others rows.now
         → values ≡ others) }
 {
     let texts = items_of::<ValueText>(alloc, rows)?;

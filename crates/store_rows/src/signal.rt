@@ -3,22 +3,24 @@ ghost use Rattle.std.specs.Prelude.{◌≡◌, List, IfOk, pos};
 ghost use Rattle.sqlite.specs.declared.types.Value.TheVariants.{Int};
 ghost use Rattle.sqlite.specs.Order.{column};
 ghost use Rattle.bitlayout.specs.declared.layout.Layout.{Layout as Lies};
-ghost use Rattle.catalogue.specs.ValueType.{value_type_number};
-ghost use Rattle.catalogue.specs.declared.signal.Signal.{Signal as SignalModel};
-ghost use Rattle.catalogue.specs.declared.value_type.ValueType.{ValueType as Kind};
+ghost use Rattle.dbc_words.specs.ValueType.{value_type_number};
+ghost use Rattle.dbc_words.specs.declared.value_type.ValueType.{ValueType as Kind};
+ghost use Rattle.dbc_sheet.specs.declared.signal.Signal.{Signal as SignalModel};
 ghost use Rattle.store_rows.specs.SignalShowing.{ShowsLayout, ShowsReceiver, ShowsSignal, ShowsValueText};
 
 use crate::columns::number_at;
 use crate::from_row::FromRow;
 use crate::signal_columns::{decimal_at, flag_at, mux_at, name_at, order_at, words_at};
 use bitlayout::{Layout, Size};
-use catalogue::{Name, Receivers, Signal, Spn, ValueText, ValueTexts, ValueType};
+use dbc_sheet::{Receivers, Signal, ValueText, ValueTexts};
+use dbc_words::{Name, Spn, ValueType};
 use sqlite::{Error, Row};
 use std::alloc::Global;
 
 /// The layout in the third to the fifth column.
 fn layout_at(row: &Row) -> Result<Layout, Error>
-    ensures { IfOk result (λ layout. (other : SignalModel) → ShowsLayout other row.now → layout ≡ other.layout) }
+    ensures { IfOk result (λ layout. (other : SignalModel) → ShowsLayout other row.now
+        → layout ≡ other.layout) }
 {
     let start = number_at(row, 2)?;
     let bits = number_at(row, 3)?;
@@ -45,7 +47,8 @@ fn spn_at(row: &Row, at: usize) -> Result<Spn, Error>
 
 /// The value type in the column.
 fn type_at(row: &Row, at: usize) -> Result<ValueType, Error>
-    ensures { IfOk result (λ kind. (other : Kind) → column row.now at ≡ Int (pos (value_type_number other))
+    ensures { IfOk result (λ kind. (other : Kind)
+        → column row.now at ≡ Int (pos (value_type_number other))
         → kind ≡ other) }
 {
     let number = number_at(row, at)?;
@@ -80,7 +83,8 @@ pub fn signal_of(
     receivers: Receivers,
     values: ValueTexts,
 ) -> Result<Signal, Error>
-    ensures { IfOk result (λ signal. (other : SignalModel) → ShowsSignal other row.now → receivers ≡ other.receivers
+    ensures { IfOk result (λ signal. (other : SignalModel) → ShowsSignal other row.now
+        → receivers ≡ other.receivers
         → values ≡ other.values → signal ≡ other) }
 {
     let name = name_at(alloc, row, 1)?;

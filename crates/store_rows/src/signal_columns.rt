@@ -6,14 +6,14 @@ ghost use Rattle.bitlayout.specs.declared.layout.Order.{Order as BitOrder};
 ghost use Rattle.bitlayout.specs.declared.place.Mux.{Mux as Indicator};
 ghost use Rattle.decimal.specs.Number.{IsDecimal, Number};
 ghost use Rattle.decimal.specs.Printing.{text_of};
-ghost use Rattle.decimal.specs.Reading.{Reads};
-ghost use Rattle.office_rows.specs.Mux.{mux_number};
+ghost use Rattle.decimal.specs.Reading.{ReadsNumber};
+ghost use Rattle.store_statements.specs.Mux.{mux_number};
 ghost use Rattle.store_rows.specs.SignalShowing.{without_sign};
 ghost use Rattle.store_rows.specs.Live.{flag_number, motorola_number, mux_column};
 
 use crate::columns::{blob_at, number_at, text_at};
 use bitlayout::{Mux, Order};
-use catalogue::{Name, Text};
+use dbc_words::{Name, Text};
 use decimal::Decimal;
 use sqlite::{Error, Row};
 use std::alloc::Global;
@@ -42,7 +42,8 @@ pub(crate) fn words_at(alloc: Global, row: &Row, at: usize) -> Result<Text, Erro
 
 /// The decimal that the bytes without their sign read as.
 fn decimal_read(negative: bool, digits: &[u8]) -> Result<Decimal, Error>
-    ensures { IfOk result (λ d. (other : Number) → Reads negative digits.now (Ok other) → d ≡ other) }
+    ensures { IfOk result (λ d. (other : Number) → ReadsNumber negative digits.now (Ok other)
+        → d ≡ other) }
 {
     match Decimal::read(negative, digits) {
         Ok(decimal) => Ok(decimal),
@@ -62,7 +63,8 @@ fn without_sign(bytes: &[u8]) -> (bool, &[u8])
 
 /// The decimal that the bytes are the text of.
 fn decimal_of(bytes: &[u8]) -> Result<Decimal, Error>
-    ensures { IfOk result (λ d. (other : Number) → IsDecimal other → bytes.now ≡ text_of other → d ≡ other) }
+    ensures { IfOk result (λ d. (other : Number) → IsDecimal other → bytes.now ≡ text_of other
+        → d ≡ other) }
 {
     let (negative, digits) = without_sign(bytes);
     decimal_read(negative, digits)
@@ -70,7 +72,8 @@ fn decimal_of(bytes: &[u8]) -> Result<Decimal, Error>
 
 /// The decimal in the column.
 pub(crate) fn decimal_at(row: &Row, at: usize) -> Result<Decimal, Error>
-    ensures { IfOk result (λ d. (other : Number) → IsDecimal other → column row.now at ≡ Text (text_of other)
+    ensures { IfOk result (λ d. (other : Number) → IsDecimal other
+        → column row.now at ≡ Text (text_of other)
         → d ≡ other) }
 {
     let text = text_at(row, at)?;

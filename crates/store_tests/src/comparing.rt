@@ -7,7 +7,7 @@ use std::io::{self, ErrorKind};
 use store::{Lost, StoredOffice};
 
 /// A new office on the connection.
-fn opened<S: Alter + Drop>(conn: Connection<S>) -> io::Result<StoredOffice<S>> {
+fn open_office<S: Alter + Drop>(conn: Connection<S>) -> io::Result<StoredOffice<S>> {
     if !conn.is_autocommit() {
         return Err(ErrorKind::InvalidData)?;
     }
@@ -46,7 +46,7 @@ pub(crate) fn is_answered(
     arrivals: &[Arrival],
     expected: &Expected,
 ) -> io::Result<bool> {
-    let mut office = opened(Connection::open_in_memory(rt.alloc())?)?;
+    let mut office = open_office(Connection::open_in_memory(rt.alloc())?)?;
     answers_each(rt, &mut office, arrivals, expected)
 }
 
@@ -73,7 +73,7 @@ pub(crate) fn is_run(
     arrivals: &[Arrival],
     expected: &Expected,
 ) -> io::Result<bool> {
-    let mut office = opened(Connection::open_in_memory(rt.alloc())?)?;
+    let mut office = open_office(Connection::open_in_memory(rt.alloc())?)?;
     let right = runs(rt, &mut office, arrivals, expected);
     drop(office);
     right

@@ -1,6 +1,6 @@
 //! What a legal history answers: the office in memory answers what comes first under a key, and each repeat is answered
 //! as the first one if its content is the same, and else that the key is reused.
-use catalogue::Copying;
+use base::Copying;
 use office::PlainOffice;
 use office_history::{Answer, Arrival};
 use std::alloc::{AllocError, Global};

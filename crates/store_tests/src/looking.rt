@@ -1,13 +1,15 @@
 //! Looks at the list of networks, and at every network, live message and release.
 use crate::expecting::Expected;
-use catalogue::{Copying, Message, Name, Sheet, SheetCode};
+use base::Copying;
+use dbc_sheet::{Message, Sheet};
+use dbc_words::{Name, SheetCode};
 use dbc_write::text_of;
 use office_types::{FrozenSheet, Look, Net, NetName};
+use office_views::{message_chart, net_line, table_of};
 use sqlite::Alter;
 use std::alloc::{AllocError, Global};
 use std::io::{self, ErrorKind};
 use store::StoredOffice;
-use views::{message_chart, net_line, table_of};
 
 /// Adds a copy of the message to the sheet.
 fn add(alloc: Global, sheet: &mut Sheet, message: &Message) -> io::Result<()> {
@@ -38,14 +40,14 @@ fn release_text(alloc: Global, release: &FrozenSheet) -> io::Result<Vec<u8>> {
     Ok(text_of(alloc, &sheet)?)
 }
 
-/// Whether the office shows this text for the question, or that there is none.
+/// Whether the office shows this text for the look, or that there is none.
 fn shows<S: Alter>(
     alloc: Global,
     office: &mut StoredOffice<S>,
-    question: &Look,
+    look: &Look,
     text: Option<&[u8]>,
 ) -> bool {
-    match office.look(alloc, question) {
+    match office.look(alloc, look) {
         Ok(Some(seen)) => text == Some(seen.as_slice()),
         Ok(None) => text.is_none(),
         Err(_) => false,
@@ -65,14 +67,14 @@ fn charts_are_seen<S: Alter>(
     for live in net.live.as_slice().iter().take(CHARTS) {
         let chart = message_chart(alloc, &live.message)?;
         let name = live.message.name.duplicate(alloc)?;
-        let question = Look::Chart(net.name.duplicate(alloc)?, name);
-        right = shows(alloc, office, &question, Some(&chart)) && right;
+        let look = Look::Chart(net.name.duplicate(alloc)?, name);
+        right = shows(alloc, office, &look, Some(&chart)) && right;
     }
     let Some(absent) = Name::of(alloc, b"NoMessageOfThisName")? else {
         return Err(ErrorKind::InvalidData)?;
     };
-    let question = Look::Chart(net.name.duplicate(alloc)?, absent);
-    Ok(shows(alloc, office, &question, None) && right)
+    let look = Look::Chart(net.name.duplicate(alloc)?, absent);
+    Ok(shows(alloc, office, &look, None) && right)
 }
 
 /// Whether the live sheet is seen, and its table.
@@ -86,8 +88,8 @@ fn live_is_seen<S: Alter>(
     let table = table_of(alloc, &sheet)?;
     let live = Look::Live(net.name.duplicate(alloc)?);
     let right = shows(alloc, office, &live, Some(&text));
-    let question = Look::Table(net.name.duplicate(alloc)?);
-    Ok(shows(alloc, office, &question, Some(&table)) && right)
+    let look = Look::Table(net.name.duplicate(alloc)?);
+    Ok(shows(alloc, office, &look, Some(&table)) && right)
 }
 
 /// Whether each release is seen, and none after the last one.
@@ -100,8 +102,8 @@ fn releases_are_seen<S: Alter>(
     let mut number = 1u32;
     for release in net.releases.as_slice() {
         let text = release_text(alloc, release)?;
-        let question = Look::Release(net.name.duplicate(alloc)?, number);
-        right = shows(alloc, office, &question, Some(&text)) && right;
+        let look = Look::Release(net.name.duplicate(alloc)?, number);
+        right = shows(alloc, office, &look, Some(&text)) && right;
         number = number.saturating_add(1);
     }
     let next = Look::Release(net.name.duplicate(alloc)?, number);

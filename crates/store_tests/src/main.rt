@@ -6,8 +6,8 @@
 //! are looked at. A line is printed for each list: how many arrivals there were, and whether all of them were answered
 //! so.
 //!
-//! Without words it tries each text of `office_rows` on real tables (`rows`), tables of something else, and a list that
-//! a generator makes. The words `rows DATABASE` request the first alone.
+//! Without words it tries each text of `store_statements` on real tables (`rows`), tables of something else, and a list
+//! that a generator makes. The words `rows DATABASE` request the first alone.
 #![tactic(auto)]
 
 mod comparing;

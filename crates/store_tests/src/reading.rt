@@ -1,6 +1,6 @@
 //! Scripts as lists of arrivals. A line is that of a script, but that its first word may be a key.
 use crate::folder::Folder;
-use catalogue::split_once;
+use base::split_once;
 use office_history::{Arrival, Key};
 use office_script::{
     Dash, FileSource, arrivals_of as arrivals_of_script, first_line, says_nothing,

@@ -9,12 +9,12 @@ mod signals;
 
 use clearing::clear;
 use filling::{LONG, make_filled};
-use office_rows::{delete_net, insert_held};
 use reading::{show_office, show_profile};
 use signals::clear_signals;
 use sqlite::{Alter, Connection, Error};
 use std::io;
 use std::rt::Runtime;
+use store_statements::{delete_net, insert_held};
 
 /// An error of `sqlite` as one of the program.
 fn done<T: Drop>(outcome: Result<T, Error>) -> io::Result<T> {

@@ -31,10 +31,12 @@ impl MemoryDatabase {
     /// The connection, which is taken out.
     fn taken(&mut self) -> Result<Connection<MemStore>, Lost>
         ensures settled { IfOk result (λ conn. (state over_memory conn).in_transaction ≡ false) }
-        ensures held { IfOk result (λ conn. (path : List ℕ) (h : List Answered) → (known_of self.old.conn).holds path h
+        ensures held { IfOk result
+            (λ conn. (path : List ℕ) (h : List Answered) → (known_of self.old.conn).holds path h
             → Holding h (state over_memory conn)) }
         ensures in_form { IfOk result (λ conn. (path : List ℕ) (h : List Answered)
-            → (known_of self.old.conn).holds_in_form path h → HoldingInSomeForm h (state over_memory conn)) }
+            → (known_of self.old.conn).holds_in_form path h
+            → HoldingInSomeForm h (state over_memory conn)) }
         ensures none { IfOk result (λ conn. (path : List ℕ) → (known_of self.old.conn).is_new path
             → HasNone (state over_memory conn)) }
         ensures err { OnErr result (self.new ≡ self.old) }
@@ -73,14 +75,9 @@ impl Databases for MemoryDatabase {
         }
     }
 
-    fn look(
-        &mut self,
-        alloc: Global,
-        _path: &str,
-        question: &Look,
-    ) -> Result<Option<Vec<u8>>, Lost> {
+    fn look(&mut self, alloc: Global, _path: &str, look: &Look) -> Result<Option<Vec<u8>>, Lost> {
         let conn = self.taken()?;
-        let (shown, conn) = look_on(alloc, conn, question);
+        let (shown, conn) = look_on(alloc, conn, look);
         self.conn = Some(conn);
         shown
     }

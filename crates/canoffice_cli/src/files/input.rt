@@ -27,8 +27,10 @@ pub fn bytes_at<F: FileSource + StandardInput>(
     files: &F,
     word: &str,
 ) -> Result<Vec<u8>, PathFault>
-    ensures bytes { IfOk result (λ v. Gives (source_at (F.held files.now) (F.given files.now) word.now) v.items) }
-    ensures fault { IfErr result (FailsWith (source_at (F.held files.now) (F.given files.now) word.now)) }
+    ensures bytes { IfOk result
+        (λ v. Gives (source_at (F.held files.now) (F.given files.now) word.now) v.items) }
+    ensures fault { IfErr result
+        (FailsWith (source_at (F.held files.now) (F.given files.now) word.now)) }
 {
     if word == "-" {
         files.read_input(alloc)

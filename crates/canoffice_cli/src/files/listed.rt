@@ -54,7 +54,8 @@ impl StandardInput for ListedFiles<'_> {
 
 /// The first file with this path.
 fn first_at<'a>(files: &'a [NamedFile<'a>], path: &str) -> Option<&'a NamedFile<'a>>
-    ensures { option_map (λ file. file.now) result ≡ find (λ file. bytes_eq file.path.now path.now) files.now }
+    ensures { option_map (λ file. file.now) result ≡ find (λ file. bytes_eq file.path.now path.now)
+        files.now }
 {
     files.iter().find(|file| file.path == path)
 }

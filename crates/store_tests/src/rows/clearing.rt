@@ -1,10 +1,10 @@
 //! Each DELETE once, on the network of the short name: what is left of it, and that the other network's rows stay.
 use super::filling::{LONG, SHORT};
-use office_rows::{
+use sqlite::{Alter, Error, Transaction};
+use store_statements::{
     delete_approval, delete_approvals, delete_block, delete_held, delete_message, delete_net,
     delete_spn,
 };
-use sqlite::{Alter, Error, Transaction};
 
 /// How many rows each removed.
 fn removed<S: Alter>(tx: &mut Transaction<'_, S>) -> Result<[usize; 8], Error> {

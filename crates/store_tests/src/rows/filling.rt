@@ -1,12 +1,11 @@
 //! The rows of the test.
 use super::signals::fill_signals;
-use office_rows::{
-    BlockRow, FrozenRow, MessageRow, NetRow, ReplyRow, insert_approval, insert_block,
-    insert_frozen, insert_held, insert_message, insert_net, insert_profile, insert_reply,
-    insert_spn,
-};
-use office_tables::make_tables;
 use sqlite::{Alter, Error, Transaction};
+use store_statements::{
+    BlockRow, BodyRow, FrozenRow, NetRow, ReplyRow, insert_approval, insert_block, insert_frozen,
+    insert_held, insert_message, insert_net, insert_profile, insert_reply, insert_spn,
+};
+use store_tables::make_tables;
 
 /// A name of 32 bytes, the greatest length.
 pub(crate) const LONG: &[u8] = b"0123456789-123456789-123456789-1";
@@ -59,7 +58,7 @@ fn fill_messages<S: Alter>(tx: &mut Transaction<'_, S>, net: &[u8]) -> Result<()
     for number in NUMBERS {
         insert_message(
             tx,
-            &MessageRow {
+            &BodyRow {
                 net,
                 number,
                 name: name_of(number),

@@ -2,14 +2,14 @@
 use super::filling::{LONG, LONG_KEY, NETS, SHORT, SHORT_KEY};
 use super::showing::show;
 use super::signals::show_signals;
-use office_rows::{
+use sqlite::{Alter, Connection, Transaction};
+use std::io;
+use std::rt::Runtime;
+use store_statements::{
     select_approvals, select_blocks, select_blocks_of_form, select_held, select_held_numbers,
     select_messages, select_net, select_net_names, select_profile, select_release,
     select_release_numbers, select_releases, select_reply, select_spns,
 };
-use sqlite::{Alter, Connection, Transaction};
-use std::io;
-use std::rt::Runtime;
 
 pub(crate) fn show_profile<S: Alter, R: Runtime>(
     rt: &R,

@@ -1,17 +1,17 @@
 //! Rows of live messages with their signals, and of bundles' parts: added, shown and removed.
 use super::filling::{BYTES, LONG_KEY, NUMBERS, SHORT, name_of};
 use super::showing::show;
-use office_rows::{
-    MsgRow, MuxColumn, PartRow, ReceiverRow, SigRow, SigValueRow, clear_messages, clear_profile,
+use sqlite::{Alter, Error, Transaction};
+use std::io;
+use std::rt::Runtime;
+use store_statements::{
+    LiveRow, MuxColumn, PartRow, ReceiverRow, SigRow, SigValueRow, clear_messages, clear_profile,
     count_msgs, count_receivers, count_sigs, count_sigvalues, delete_msgs, delete_receivers,
     delete_receivers_at, delete_sig_at, delete_sigs, delete_sigvalues, delete_sigvalues_at,
     insert_msg, insert_part, insert_receiver, insert_sig, insert_sigvalue, select_last_place,
     select_msg_above, select_msg_below, select_msg_named, select_msg_numbers, select_msgs,
     select_parts, select_receivers, select_sigs, select_sigs_named, select_sigvalues,
 };
-use sqlite::{Alter, Error, Transaction};
-use std::io;
-use std::rt::Runtime;
 
 /// The places of the signals of a message, not in their order.
 const PLACES: [u32; 2] = [4294967295, 0];
@@ -43,24 +43,24 @@ fn fill_signal<S: Alter>(
             signed: 0,
             mux: mux_of(place),
             factor: b"0.125",
-            shift: b"-40",
-            least: b"0",
-            most: b"1E400",
+            offset: b"-40",
+            minimum: b"0",
+            maximum: b"1E400",
             unit: BYTES,
             comment: b"",
             spn: 524287,
-            label: 2,
+            value_type: 2,
         },
     )?;
-    for seat in PLACES {
+    for index in PLACES {
         insert_receiver(
             tx,
             &ReceiverRow {
                 net,
                 number,
                 place,
-                seat,
-                name: name_of(seat),
+                index,
+                name: name_of(index),
             },
         )?;
     }
@@ -70,9 +70,9 @@ fn fill_signal<S: Alter>(
             net,
             number,
             place,
-            seat: 0,
+            index: 0,
             value: b"-1",
-            words: BYTES,
+            text: BYTES,
         },
     )?;
     Ok(())
@@ -83,13 +83,13 @@ pub(crate) fn fill_signals<S: Alter>(tx: &mut Transaction<'_, S>, net: &[u8]) ->
     for number in NUMBERS {
         insert_msg(
             tx,
-            &MsgRow {
+            &LiveRow {
                 net,
                 number,
                 name: name_of(number),
                 owner: net,
                 length: 1785,
-                sender: b"",
+                transmitter: b"",
                 comment: BYTES,
             },
         )?;

@@ -39,7 +39,8 @@ loop-byte-preserved c = λ q of_a of_b.
           let byte_a = rank_byte a.order q in
           let byte_b = rank_byte b.order q in
           let reversed = reversed_rank a.order b.order c.requires q in
-          absurd (iff_false c.meets.ensures c.if-meets.false (rank b.order q, (omega arith, omega arith), (omega arith, omega arith)))
+          absurd (iff_false c.meets.ensures c.if-meets.false
+          (rank b.order q, (omega arith, omega arith), (omega arith, omega arith)))
     ]
 
 pub returns : goal.returns

@@ -14,15 +14,20 @@ loop-place-preserved c =
     let places = c.args.places.now in
     let i = c.loop-place.place-index in
     let place = c.place-item.result in
-    let always : place.mux ≡ Always = elim c.match-matches.branch [ in-Always w ↦ w.in-Always.is | in_default w ↦ cc ] in
+    let always : place.mux ≡ Always =
+    elim c.match-matches.branch [ in-Always w ↦ w.in-Always.is | in_default w ↦ cc ] in
     let same : place.layout.order ≡ c.args.order = search rules in
     let at = slice_get_read places _ i place refl c.loop-place-test.true c.place-item.is in
     let later = c.ranks-ranks.ensures.first in
     let end = c.ranks-ranks.ensures.end in
-    subst (InTurn places c.args.order (i + 1)) (sym end) (next_in_turn places c.args.order i c.loop-place.end place (λ d. get_or_from_slice_get places i place d at) c.loop-place.invariant always same (omega arith))
+    subst (InTurn places c.args.order (i + 1)) (sym end)
+    (next_in_turn places c.args.order i c.loop-place.end place (λ d. get_or_from_slice_get places i place d at)
+    c.loop-place.invariant always same (omega arith))
 
 pub returns : goal.returns
 returns c = λ t.
     let few : c.loop-place.end ≤ 8 * c.from.result = leb-true _ _ t in
     let all : c.loop-place.place-index ≡ length c.args.places.now = omega arith in
-    clear_in_turn c.args.places.now c.args.order c.loop-place.end c.args.length (subst (λ n. InTurn c.args.places.now c.args.order n c.loop-place.end) all c.loop-place.invariant) (omega (arith, c.from.ensures))
+    clear_in_turn c.args.places.now c.args.order c.loop-place.end c.args.length
+    (subst (λ n. InTurn c.args.places.now c.args.order n c.loop-place.end) all c.loop-place.invariant)
+    (omega (arith, c.from.ensures))

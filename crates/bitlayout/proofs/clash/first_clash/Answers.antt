@@ -19,7 +19,8 @@ pub returns-2 : goal.returns-2
 returns-2 c =
     let places = c.args.places.now in
     let bytes = c.args.length in
-    let is : c.first_clash_where.result ≡ first_clash_of places bytes = c.first_clash_where.ensures ∙ ap (λ multiplexed. first_clash_among bytes multiplexed places) c.any_multiplexor.ensures in
+    let is : c.first_clash_where.result ≡ first_clash_of places bytes = c.first_clash_where.ensures
+    ∙ ap (λ multiplexed. first_clash_among bytes multiplexed places) c.any_multiplexor.ensures in
     record {
       clear = subst (λ (o : Option Clash). IsNone o ↔ IsClear places bytes) (sym is) (clear_law places bytes);
       first = first_if_some places bytes c.first_clash_where.result (sym is);

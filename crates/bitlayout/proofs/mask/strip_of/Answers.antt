@@ -12,8 +12,10 @@ use Rattle.bitlayout.proofs.mask.strip_of.Goals.{in-Intel, in-Motorola}
 abbrev IsRun : ℕ → ℕ → ℕ → Order → Type 0
 IsRun bits first end order = (i : ℕ) → HasBit bits i ↔ ((first ≤ rank order i) × (rank order i < end))
 
-as_run : (bits run first end : ℕ) (order known : Order) → bits ≡ run → order ≡ known → IsRun run first end known → IsRun bits first end order
-as_run bits run first end order known is same h = subst (λ o. IsRun bits first end o) (sym same) (subst (λ n. IsRun n first end known) (sym is) h)
+as_run : (bits run first end : ℕ) (order known : Order) → bits ≡ run → order ≡ known → IsRun run first end known
+    → IsRun bits first end order
+as_run bits run first end order known is same h =
+    subst (λ o. IsRun bits first end o) (sym same) (subst (λ n. IsRun n first end known) (sym is) h)
 
 pub returns-clause-positions : goal.returns-clause-positions
 unfolding IsStripOf
@@ -24,7 +26,9 @@ returns-clause-positions c =
     let low : ℕ = first - 64 * (first / 64) in
     let high : ℕ = end - 64 * (first / 64) in
     let is : IsRun c.match-order.bits low high layout.order = elim c.match-order.branch [
-      | in-Intel w ↦ as_run c.match-order.bits w.run-bits.result low high layout.order Intel w.bits-is w.in-Intel.is w.run-bits.ensures
-      | in-Motorola w ↦ as_run c.match-order.bits w.motorola_run-bits.result low high layout.order Motorola w.bits-is w.in-Motorola.is w.motorola_run-bits.ensures
+      | in-Intel w ↦ as_run c.match-order.bits w.run-bits.result low high layout.order Intel w.bits-is w.in-Intel.is
+          w.run-bits.ensures
+      | in-Motorola w ↦ as_run c.match-order.bits w.motorola_run-bits.result low high layout.order Motorola w.bits-is
+          w.in-Motorola.is w.motorola_run-bits.ensures
     ] in
     strip_positions layout first end c.match-order.bits c.ranks-ranks.ensures.first c.ranks-ranks.ensures.end is

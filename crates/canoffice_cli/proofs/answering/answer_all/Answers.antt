@@ -16,12 +16,15 @@ loop-arrival-init g c =
       room = let room = c.in_ok-answers.ensures.capacity in omega (arith, room);
       each = ap length c.in_ok-answers.ensures.items;
       clean = omega arith;
-      held = λ clean h holding. subst (λ k. Holding k old) (history_at_first h (take 0 c.args.arrivals.now) c.in_ok-answers.answers.items c.in_ok-answers.ensures.items) holding;
+      held = λ clean h holding. subst (λ k. Holding k old)
+          (history_at_first h (take 0 c.args.arrivals.now) c.in_ok-answers.answers.items c.in_ok-answers.ensures.items)
+          holding;
     }
 
 pub push_reserved-requires : goal.push_reserved-requires
 push_reserved-requires g c =
-    let len = c.loop-arrival.invariant.len in let room = c.loop-arrival.invariant.room in let within = c.loop-arrival-test.true in omega (arith, len, room, within)
+    let len = c.loop-arrival.invariant.len in let room = c.loop-arrival.invariant.room in let within =
+    c.loop-arrival-test.true in omega (arith, len, room, within)
 
 pub loop-arrival-preserved : goal.loop-arrival-preserved
 loop-arrival-preserved g c =
@@ -34,35 +37,41 @@ loop-arrival-preserved g c =
     let now = state g.S.Store c.arrive.new.self.conn in
     let arrive = c.in-Ok.ensures in
     let within : at < length arrivals = c.loop-arrival-test.true in
-    let next : take (at + 1) arrivals ≡ take at arrivals ++ item ∷ [] = rw (take_more arrivals at item within, ← c.arrival-item.is) in
+    let next : take (at + 1) arrivals ≡ take at arrivals ++ item ∷ [] =
+    rw (take_more arrivals at item within, ← c.arrival-item.is) in
     record {
       within = omega (arith, within);
       len = let len = i.len in let more = c.push_reserved.ensures.len in omega (arith, len, more);
       room = let room = i.room in let same = c.push_reserved.ensures.capacity in omega (arith, room, same);
-      each = let each = i.each in let one = length-append items (c.in-Ok.answer ∷ []) in ap length c.push_reserved.ensures.items ∙ omega (arith, each, one);
-      clean = let early = i.clean in omega (arith, early, arrive.clean);
+      each = let each = i.each in let one = length-append items (c.in-Ok.answer ∷ []) in
+          ap length c.push_reserved.ensures.items ∙ omega (arith, each, one);
+      clean = let early = i.clean in omega (arith, early, arrive.call.clean);
       held = λ clean h holding.
-          let early : HasCleanDisk mid = omega (arith, arrive.clean, clean) in
-          reported_next (λ k. Holding k now) h arrivals at items _ item c.in-Ok.answer within next i.each c.push_reserved.ensures.items (arrive.answered clean _ (i.held early h holding)).0;
+          let early : HasCleanDisk mid = omega (arith, arrive.call.clean, clean) in
+          reported_next (λ k. Holding k now) h arrivals at items _ item c.in-Ok.answer within next i.each
+          c.push_reserved.ensures.items (arrive.answered clean _ (i.held early h holding)).0;
     }
 
 pub returns-in-Err-clause-held : goal.returns-in-Err-clause-held
-returns-in-Err-clause-held g c clean opened h holding =
+returns-in-Err-clause-held g c clean h holding is_open =
     let i = c.loop-arrival.invariant in
     let arrive = c.in-Err.ensures in
-    let early : HasCleanDisk (state g.S.Store c.loop-arrival.office.conn) = omega (arith, arrive.clean, clean) in
-    subst (λ k. Holding k (state g.S.Store c.arrive.new.self.conn)) (history_so_far h c.args.arrivals.now _ _ i.each) (arrive.lost clean _ (i.held early h holding) opened)
+    let early : HasCleanDisk (state g.S.Store c.loop-arrival.office.conn) = omega (arith, arrive.call.clean, clean) in
+    subst (λ k. Holding k (state g.S.Store c.arrive.new.self.conn)) (history_so_far h c.args.arrivals.now _ _ i.each)
+    (arrive.lost clean _ (i.held early h holding) is_open)
 
 pub returns-in-Err-clause-legal : goal.returns-in-Err-clause-legal
 returns-in-Err-clause-legal g c clean h holding =
     let i = c.loop-arrival.invariant in
-    let early : HasCleanDisk (state g.S.Store c.loop-arrival.office.conn) = omega (arith, c.in-Err.ensures.clean, clean) in
+    let early : HasCleanDisk (state g.S.Store c.loop-arrival.office.conn) =
+    omega (arith, c.in-Err.ensures.call.clean, clean) in
     subst IsLegalHistory (history_so_far h c.args.arrivals.now _ _ i.each) (held_is_legal _ _ (i.held early h holding))
 
 pub returns-clause-held : goal.returns-clause-held
-returns-clause-held g c clean opened h holding =
+returns-clause-held g c clean h holding is_open =
     let i = c.loop-arrival.invariant in
-    subst (λ k. Holding k (state g.S.Store c.loop-arrival.office.conn)) (history_so_far h c.args.arrivals.now _ _ i.each) (i.held clean h holding)
+    subst (λ k. Holding k (state g.S.Store c.loop-arrival.office.conn))
+    (history_so_far h c.args.arrivals.now _ _ i.each) (i.held clean h holding)
 
 pub returns-clause-legal : goal.returns-clause-legal
 returns-clause-legal g c clean h holding =

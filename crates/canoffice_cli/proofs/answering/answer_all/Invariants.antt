@@ -19,5 +19,6 @@ invariant-loop-arrival g l =
       room : length l.arrivals ≤ vec_capacity l.answers;
       each : length l.answers.items ≡ l.arrival-index;
       clean : doubt old.is_clean ≤ doubt now.is_clean;
-      held : HasCleanDisk now → (h : List Answered) → Holding h old → Holding (h ++ answered_with (take l.arrival-index l.arrivals) l.answers.items) now;
+      held : HasCleanDisk now → (h : List Answered) → Holding h old
+          → Holding (h ++ answered_with (take l.arrival-index l.arrivals) l.answers.items) now;
     }

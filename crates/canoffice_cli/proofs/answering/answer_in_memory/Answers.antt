@@ -1,6 +1,6 @@
 use Rattle.std.proofs.Common.{◌≡◌, ◌+◌, ◌<◌, ◌++◌, ◌∷◌, [], length, take, ap, ◌∙◌, subst, arith, length-append}
 use Rattle.std.proofs.lemmas.List.{take_more}
-use Rattle.office_keyed.specs.Keyed.{Holds}
+use Rattle.office_keyed.specs.Keyed.{HoldsHistory}
 use Rattle.office_history.specs.History.{IsLegalHistory}
 use Rattle.canoffice_cli.proofs.Reported.{history_at_first, history_so_far, reported_next}
 use Rattle.canoffice_cli.proofs.answering.answer_in_memory.Goals as goal
@@ -11,12 +11,15 @@ loop-arrival-init g c = record {
   len = c.in_ok-answers.ensures.len;
   room = let room = c.in_ok-answers.ensures.capacity in omega (arith, room);
   each = ap length c.in_ok-answers.ensures.items;
-  held = subst (λ k. Holds k c.new-office.result) (history_at_first [] (take 0 c.args.arrivals.now) c.in_ok-answers.answers.items c.in_ok-answers.ensures.items) c.new-office.ensures;
+  held = subst (λ k. HoldsHistory k c.new-office.result)
+      (history_at_first [] (take 0 c.args.arrivals.now) c.in_ok-answers.answers.items c.in_ok-answers.ensures.items)
+      c.new-office.ensures;
 }
 
 pub push_reserved-requires : goal.push_reserved-requires
 push_reserved-requires g c =
-    let len = c.loop-arrival.invariant.len in let room = c.loop-arrival.invariant.room in let within = c.loop-arrival-test.true in omega (arith, len, room, within)
+    let len = c.loop-arrival.invariant.len in let room = c.loop-arrival.invariant.room in let within =
+    c.loop-arrival-test.true in omega (arith, len, room, within)
 
 pub loop-arrival-preserved : goal.loop-arrival-preserved
 loop-arrival-preserved g c =
@@ -27,13 +30,16 @@ loop-arrival-preserved g c =
     let items = c.loop-arrival.answers.items in
     let now = c.arrive.new.self in
     let within : at < length arrivals = c.loop-arrival-test.true in
-    let next : take (at + 1) arrivals ≡ take at arrivals ++ item ∷ [] = rw (take_more arrivals at item within, ← c.arrival-item.is) in
+    let next : take (at + 1) arrivals ≡ take at arrivals ++ item ∷ [] =
+    rw (take_more arrivals at item within, ← c.arrival-item.is) in
     record {
       within = omega (arith, within);
       len = let len = i.len in let more = c.push_reserved.ensures.len in omega (arith, len, more);
       room = let room = i.room in let same = c.push_reserved.ensures.capacity in omega (arith, room, same);
-      each = let each = i.each in let one = length-append items (c.in-Ok.answer ∷ []) in ap length c.push_reserved.ensures.items ∙ omega (arith, each, one);
-      held = reported_next (λ k. Holds k now) [] arrivals at items _ item c.in-Ok.answer within next i.each c.push_reserved.ensures.items (c.in-Ok.ensures.held _ i.held);
+      each = let each = i.each in let one = length-append items (c.in-Ok.answer ∷ []) in
+          ap length c.push_reserved.ensures.items ∙ omega (arith, each, one);
+      held = reported_next (λ k. HoldsHistory k now) [] arrivals at items _ item c.in-Ok.answer within next i.each
+          c.push_reserved.ensures.items (c.in-Ok.ensures.held _ i.held);
     }
 
 pub returns-in-Err-clause-goes_on : goal.returns-in-Err-clause-goes_on

@@ -1,6 +1,6 @@
 use Rattle.std.proofs.Common.{◌≡◌, ◌≤◌, length, take}
 use Rattle.std.specs.Vec.{vec_capacity, vec_len}
-use Rattle.office_keyed.specs.Keyed.{Holds}
+use Rattle.office_keyed.specs.Keyed.{HoldsHistory}
 use Rattle.canoffice_cli.specs.Answered.{answered_with}
 use Rattle.canoffice_cli.proofs.answering.answer_in_memory.Given as goal
 
@@ -11,5 +11,5 @@ invariant-loop-arrival g l = record {
   len : vec_len l.answers ≡ l.arrival-index;
   room : length l.arrivals ≤ vec_capacity l.answers;
   each : length l.answers.items ≡ l.arrival-index;
-  held : Holds (answered_with (take l.arrival-index l.arrivals) l.answers.items) l.office;
+  held : HoldsHistory (answered_with (take l.arrival-index l.arrivals) l.answers.items) l.office;
 }

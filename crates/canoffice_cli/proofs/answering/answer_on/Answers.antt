@@ -8,20 +8,21 @@ use Rattle.canoffice_cli.proofs.Opened.{held_or_none}
 use Rattle.canoffice_cli.proofs.answering.answer_on.Goals as goal
 
 pub returns-in-Ok-clause-held : goal.returns-in-Ok-clause-held
-returns-in-Ok-clause-held g c clean opened h holding =
+returns-in-Ok-clause-held g c clean h holding is_open =
     let reported = c.answer_all-reported.ensures in
     let same : c.close.result ≡ c.answer_all-reported.new.office.conn = c.close.ensures.same in
     let clean_now : HasCleanDisk (state g.S.Store c.answer_all-reported.new.office.conn) = rw (← same) clean in
     let early : HasCleanDisk (state g.S.Store c.in-Ok.office.conn) = omega (arith, reported.clean, clean_now) in
-    rw same (reported.held clean_now (rw (← same) opened) h (c.in-Ok.ensures.begun early h (inl holding)))
+    rw same (reported.held clean_now h (c.in-Ok.ensures.begun early h (inl holding)) (rw (← same) is_open))
 
 pub returns-in-Ok-clause-begun : goal.returns-in-Ok-clause-begun
-returns-in-Ok-clause-begun g c clean opened h begins =
+returns-in-Ok-clause-begun g c clean h begins is_open =
     let reported = c.answer_all-reported.ensures in
     let same : c.close.result ≡ c.answer_all-reported.new.office.conn = c.close.ensures.same in
     let clean_now : HasCleanDisk (state g.S.Store c.answer_all-reported.new.office.conn) = rw (← same) clean in
     let early : HasCleanDisk (state g.S.Store c.in-Ok.office.conn) = omega (arith, reported.clean, clean_now) in
-    rw same (held_or_none _ _ c.answer_all-reported.result (reported.held clean_now (rw (← same) opened) h (c.in-Ok.ensures.begun early h begins)))
+    rw same (held_or_none _ _ c.answer_all-reported.result
+    (reported.held clean_now h (c.in-Ok.ensures.begun early h begins) (rw (← same) is_open)))
 
 pub returns-in-Ok-clause-legal : goal.returns-in-Ok-clause-legal
 returns-in-Ok-clause-legal g c clean h begins =
@@ -32,9 +33,12 @@ returns-in-Ok-clause-legal g c clean h begins =
     reported.legal clean_now h (c.in-Ok.ensures.begun early h begins)
 
 pub returns-in-Err-clause-held : goal.returns-in-Err-clause-held
-returns-in-Err-clause-held g c clean opened h holding =
-    subst (λ k. Holding k (state g.S.Store c.in-Err.conn)) (history_at_first h c.args.arrivals.now _ c.nothing_answered.ensures.answers) (c.in-Err.ensures.held clean opened h holding)
+returns-in-Err-clause-held g c clean h holding is_open =
+    subst (λ k. Holding k (state g.S.Store c.in-Err.conn))
+    (history_at_first h c.args.arrivals.now _ c.nothing_answered.ensures.answers)
+    (c.in-Err.ensures.held clean h holding is_open)
 
 pub returns-in-Err-clause-legal : goal.returns-in-Err-clause-legal
 returns-in-Err-clause-legal g c clean h begins =
-    subst IsLegalHistory (history_at_first h c.args.arrivals.now _ c.nothing_answered.ensures.answers) (begun_is_legal c.histories_grow.ensures h _ begins)
+    subst IsLegalHistory (history_at_first h c.args.arrivals.now _ c.nothing_answered.ensures.answers)
+    (begun_is_legal c.histories_grow.ensures h _ begins)

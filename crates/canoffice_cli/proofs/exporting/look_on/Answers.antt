@@ -6,26 +6,27 @@ use Rattle.canoffice_cli.proofs.Opened.{either_way}
 use Rattle.canoffice_cli.proofs.exporting.look_on.Goals as goal
 
 pub returns-in-Ok-clause-shown : goal.returns-in-Ok-clause-shown
-returns-in-Ok-clause-shown g c clean h office begins legal =
+returns-in-Ok-clause-shown g c clean h begins office legal =
     let look = c.look-shown.ensures in
     let same : c.close.result ≡ c.look-shown.new.self.conn = c.close.ensures.same in
     let clean_now : HasCleanDisk (state g.S.Store c.look-shown.new.self.conn) = rw (← same) clean in
-    let early : HasCleanDisk (state g.S.Store c.in-Ok.office.conn) = omega (arith, look.clean, clean_now) in
-    look.shown clean_now h office (c.in-Ok.ensures.begun early h begins) legal
+    let early : HasCleanDisk (state g.S.Store c.in-Ok.office.conn) = omega (arith, look.call.clean, clean_now) in
+    look.shown clean_now h (c.in-Ok.ensures.begun early h begins) office legal
 
 pub returns-in-Ok-clause-held : goal.returns-in-Ok-clause-held
-returns-in-Ok-clause-held g c clean opened h holding =
+returns-in-Ok-clause-held g c clean h holding is_open =
     let look = c.look-shown.ensures in
     let same : c.close.result ≡ c.look-shown.new.self.conn = c.close.ensures.same in
     let clean_now : HasCleanDisk (state g.S.Store c.look-shown.new.self.conn) = rw (← same) clean in
-    let early : HasCleanDisk (state g.S.Store c.in-Ok.office.conn) = omega (arith, look.clean, clean_now) in
+    let early : HasCleanDisk (state g.S.Store c.in-Ok.office.conn) = omega (arith, look.call.clean, clean_now) in
     let begun : Holding h (state g.S.Store c.in-Ok.office.conn) = c.in-Ok.ensures.begun early h (inl holding) in
-    rw same (either_way _ c.look-shown.result (look.held clean_now h begun) (look.lost clean_now h begun (rw (← same) opened)))
+    rw same (either_way _ c.look-shown.result (look.held clean_now h begun)
+    (look.lost clean_now h begun (rw (← same) is_open)))
 
 pub returns-in-Ok-clause-begun : goal.returns-in-Ok-clause-begun
 returns-in-Ok-clause-begun g c clean h begins =
     let look = c.look-shown.ensures in
     let same : c.close.result ≡ c.look-shown.new.self.conn = c.close.ensures.same in
     let clean_now : HasCleanDisk (state g.S.Store c.look-shown.new.self.conn) = rw (← same) clean in
-    let early : HasCleanDisk (state g.S.Store c.in-Ok.office.conn) = omega (arith, look.clean, clean_now) in
+    let early : HasCleanDisk (state g.S.Store c.in-Ok.office.conn) = omega (arith, look.call.clean, clean_now) in
     rw same (look.held clean_now h (c.in-Ok.ensures.begun early h begins))

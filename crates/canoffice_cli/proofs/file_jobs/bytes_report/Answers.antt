@@ -10,8 +10,11 @@ returns-in_ok-report g c =
     let before = g.D.Databases.known c.args.databases.now in
     let after = g.D.Databases.known c.task_report.new.databases in
     let job = c.args.job in
-    with_more job.explain (IsTaskOutcome files before after job.task c.args.bytes.now) (IsStated files job.task (shown_path job.path.now) c.args.bytes.now) c.and_errors.result c.in_ok-report.report
-    c.in_ok-stated.stated.items c.if-job.true c.in_ok-report.ensures (rw (c.as_bytes.ensures.value, c.in_ok-shown.ensures.shown) at c.in_ok-stated.ensures) (rw c.deref.ensures.value at c.and_errors.ensures)
+    with_more job.explain (IsTaskOutcome files before after job.task c.args.bytes.now)
+    (IsStated files job.task (shown_path job.path.now) c.args.bytes.now) c.and_errors.result c.in_ok-report.report
+    c.in_ok-stated.stated.items c.if-job.true c.in_ok-report.ensures
+    (rw (c.as_bytes.ensures.value, c.in_ok-shown.ensures.shown) at c.in_ok-stated.ensures)
+    (rw c.deref.ensures.value at c.and_errors.ensures)
 
 pub returns-else-job : goal.returns-else-job
 returns-else-job g c =
@@ -19,4 +22,6 @@ returns-else-job g c =
     let before = g.D.Databases.known c.args.databases.now in
     let after = g.D.Databases.known c.task_report-else-job.new.databases in
     let job = c.args.job in
-    without_more job.explain (IsTaskOutcome files before after job.task c.args.bytes.now) (IsStated files job.task (shown_path job.path.now) c.args.bytes.now) c.task_report-else-job.result c.if-job.false c.task_report-else-job.ensures
+    without_more job.explain (IsTaskOutcome files before after job.task c.args.bytes.now)
+    (IsStated files job.task (shown_path job.path.now) c.args.bytes.now) c.task_report-else-job.result
+    c.if-job.false c.task_report-else-job.ensures

@@ -12,7 +12,9 @@ returns-in-Ok g c =
     let before = g.D.Databases.known c.args.databases.now in
     let after = g.D.Databases.known c.bytes_report.new.databases in
     let path = c.args.job.path.now in
-    of_bytes (AreKept before after) (IsOfBytes files before after c.args.job) path (source_at files input path) c.in-Ok.bytes.items c.bytes_report.result c.in-Ok.ensures.bytes (rw c.deref.ensures.value at c.bytes_report.ensures)
+    of_bytes (AreKept before after) (IsOfBytes files before after c.args.job) path (source_at files input path)
+    c.in-Ok.bytes.items c.bytes_report.result c.in-Ok.ensures.bytes
+    (rw c.deref.ensures.value at c.bytes_report.ensures)
 
 pub returns-in-Err : goal.returns-in-Err
 returns-in-Err g c =
@@ -20,4 +22,5 @@ returns-in-Err g c =
     let input = g.F.StandardInput.given c.args.files.now in
     let known = g.D.Databases.known c.args.databases.now in
     let path = c.args.job.path.now in
-    unread (AreKept known known) (IsOfBytes files known known c.args.job) path (source_at files input path) c.in-Err.fault c.unreadable_report.result (kept_same known) c.in-Err.ensures.fault c.unreadable_report.ensures
+    unread (AreKept known known) (IsOfBytes files known known c.args.job) path (source_at files input path)
+    c.in-Err.fault c.unreadable_report.result (kept_same known) c.in-Err.ensures.fault c.unreadable_report.ensures

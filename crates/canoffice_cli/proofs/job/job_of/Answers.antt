@@ -7,23 +7,29 @@ use Rattle.canoffice_cli.proofs.job.job_of.Goals as goal
 pub job_in-requires : goal.job_in-requires
 job_in-requires c =
     let found = c.in-Ok-try_get_matches_from in
-    (line_is_read (app_of c.in-Ok.command) (map (λ s. s.now) c.args.words.now) found.matches c.in-Ok.ensures.app found.ensures.kinds found.ensures.matches).entered
+    (line_is_read (app_of c.in-Ok.command) (map (λ s. s.now) c.args.words.now) found.matches c.in-Ok.ensures.app
+    found.ensures.kinds found.ensures.matches).entered
 
 pub returns-in-Ok-job_in-clause-job : goal.returns-in-Ok-job_in-clause-job
 returns-in-Ok-job_in-clause-job c =
     let found = c.in-Ok-try_get_matches_from in
     let words = map (λ s. s.now) c.args.words.now in
-    job_of_read words found.matches c.in-Ok-job_in.job (line_is_read (app_of c.in-Ok.command) words found.matches c.in-Ok.ensures.app found.ensures.kinds found.ensures.matches) c.in-Ok-job_in.ensures.job
+    job_of_read words found.matches c.in-Ok-job_in.job
+    (line_is_read (app_of c.in-Ok.command) words found.matches c.in-Ok.ensures.app found.ensures.kinds
+    found.ensures.matches) c.in-Ok-job_in.ensures.job
 
 pub returns-in-Err-WrongNumber-clause-fault : goal.returns-in-Err-WrongNumber-clause-fault
 returns-in-Err-WrongNumber-clause-fault c =
     let found = c.in-Ok-try_get_matches_from in
     let words = map (λ s. s.now) c.args.words.now in
-    let read = line_is_read (app_of c.in-Ok.command) words found.matches c.in-Ok.ensures.app found.ensures.kinds found.ensures.matches in
+    let read = line_is_read (app_of c.in-Ok.command) words found.matches c.in-Ok.ensures.app found.ensures.kinds
+    found.ensures.matches in
     let word = c.in-Err-WrongNumber.word.now in
     wrong_number_of words word c.wrong_number.result
-    (wrong_number_read words found.matches word read (rw c.in-Err-WrongNumber.field-0-is at c.in-Err-WrongNumber.ensures.fault)) c.wrong_number.ensures
+    (wrong_number_read words found.matches word read
+    (rw c.in-Err-WrongNumber.field-0-is at c.in-Err-WrongNumber.ensures.fault)) c.wrong_number.ensures
 
 pub returns-clause-fault : goal.returns-clause-fault
 returns-clause-fault c =
-    line_fault_by (app_of c.in-Ok.command) (map (λ s. s.now) c.args.words.now) (kind_of c.in-Err.error) c.line_fault.result c.in-Ok.ensures.app c.in-Err.ensures.kinds c.line_fault.ensures
+    line_fault_by (app_of c.in-Ok.command) (map (λ s. s.now) c.args.words.now) (kind_of c.in-Err.error)
+    c.line_fault.result c.in-Ok.ensures.app c.in-Err.ensures.kinds c.line_fault.ensures

@@ -3,4 +3,5 @@ use Rattle.std.specs.List.{flat_map}
 use Rattle.canoffice_cli.proofs.lines.add_lines.Given as goal
 
 abbrev pub invariant-loop-value : goal.invariant-loop-value
-invariant-loop-value g l = string_bytes l.text ++ flat_map g.T.Line.line (drop l.value-index l.values) ≡ string_bytes l.fn.text ++ flat_map g.T.Line.line l.values
+invariant-loop-value g l = string_bytes l.text ++ flat_map g.T.PrintedLine.line (drop l.value-index l.values)
+    ≡ string_bytes l.fn.text ++ flat_map g.T.PrintedLine.line l.values

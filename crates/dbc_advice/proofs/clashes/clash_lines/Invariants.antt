@@ -5,4 +5,5 @@ use Rattle.dbc_advice.specs.declared.reasons.Reason.{Reason}
 use Rattle.dbc_advice.proofs.clashes.clash_lines.Given as goal
 
 abbrev pub invariant-loop-reason : goal.invariant-loop-reason
-invariant-loop-reason l = AreLinesOf (λ (r : Reason). IsClashLine l.source.name.now l.source.text.now (l.message, r)) (take l.reason-index l.reasons) l.lines.items
+invariant-loop-reason l = AreLinesOf (λ (r : Reason). IsClashLine l.source.name.now l.source.text.now (l.message, r))
+    (take l.reason-index l.reasons) l.lines.items

@@ -1,7 +1,7 @@
 use Rattle.std.proofs.Common.{◌≡◌, None, not, sym, ap, ◌∙◌}
 use Rattle.bitlayout.proofs.Collisions.{none_from_test}
 use Rattle.bitlayout.specs.Clash.{first_clash_of}
-use Rattle.catalogue.specs.Signals.{places_of}
+use Rattle.dbc_sheet.specs.Signals.{places_of}
 use Rattle.dbc_advice.proofs.ClearReasons.{no_reasons}
 use Rattle.dbc_advice.proofs.clashes.message_reasons.Goals as goal
 
@@ -9,8 +9,10 @@ pub returns-then-is_none : goal.returns-then-is_none
 returns-then-is_none c =
     let message = c.args.message.now in
     let shown = c.deref.result.now in
-    let none : c.first_clash.result ≡ None = none_from_test c.first_clash.result (ap not c.is_none.ensures ∙ ap (λ b. not (not b)) c.if-is_none.true) in
+    let none : c.first_clash.result ≡ None =
+    none_from_test c.first_clash.result (ap not c.is_none.ensures ∙ ap (λ b. not (not b)) c.if-is_none.true) in
     let clear : first_clash_of (places_of message.signals) message.length ≡ None =
-    ap (λ ps. first_clash_of ps message.length) (sym (c.deref.ensures.value ∙ c.in_ok-places.ensures)) ∙ ap (λ n. first_clash_of shown n) (sym c.bytes-bytes.ensures.value)
+    ap (λ ps. first_clash_of ps message.length) (sym (c.deref.ensures.value ∙ c.in_ok-places.ensures))
+    ∙ ap (λ n. first_clash_of shown n) (sym c.bytes-bytes.ensures.value)
     ∙ sym c.first_clash.ensures.computed ∙ none in
     rw c.new.ensures.items (no_reasons message.length (places_of message.signals) clear)

@@ -1,5 +1,5 @@
 use Rattle.std.proofs.Common.{◌≡◌, ◌<◌, ◌-◌, ℕ, List, ◌++◌, length, take, get_or, refl, ap, subst, ◌∙◌, arith}
-use Rattle.catalogue.specs.declared.message.Message.{Message}
+use Rattle.dbc_sheet.specs.declared.message.Message.{Message}
 use Rattle.dbc_advice.specs.Clashes.{IsClashLine}
 use Rattle.dbc_advice.specs.Limits.{clashes_reported}
 use Rattle.dbc_advice.specs.ReportedLine.{AreLinesOf}
@@ -17,10 +17,14 @@ returns-then-len-room c =
     let same = c.messages-message-items.ensures.messages in
     let lt : i < length messages = subst (λ (ms : List Message). i < length ms) same c.loop-message-test.true in
     let item : m ≡ get_or messages i m = c.message-item.is ∙ ap (λ (ms : List Message). get_or ms i m) same in
-    cut_reported source.name.now source.text.now messages i old.reported (clashes_reported - old.reported) old.lines.items c.in_ok-last.last.items c.extend_from_slice.new.self.items m c.in_ok-reasons.reasons.items _
-    lt item c.in_ok-reasons.ensures old.invariant.lines old.invariant.reported old.invariant.few refl (omega (arith, c.if-len-room.true, c.len.ensures))
-    (ap (λ (rs : List Reason). take (clashes_reported - old.reported) rs) c.deref-then-len-room.ensures.value) c.in_ok-last.ensures
-    (c.in_ok-extend_from_slice.ensures.items ∙ ap (λ (v : List ℕ). old.lines.items ++ v) c.deref-then-len-room-2.ensures.value)
+    cut_reported source.name.now source.text.now messages i old.reported (clashes_reported - old.reported)
+    old.lines.items c.in_ok-last.last.items c.extend_from_slice.new.self.items m c.in_ok-reasons.reasons.items _
+    lt item c.in_ok-reasons.ensures old.invariant.lines old.invariant.reported old.invariant.few refl
+    (omega (arith, c.if-len-room.true, c.len.ensures))
+    (ap (λ (rs : List Reason). take (clashes_reported - old.reported) rs) c.deref-then-len-room.ensures.value)
+    c.in_ok-last.ensures
+    (c.in_ok-extend_from_slice.ensures.items
+    ∙ ap (λ (v : List ℕ). old.lines.items ++ v) c.deref-then-len-room-2.ensures.value)
 
 pub loop-message-preserved : goal.loop-message-preserved
 loop-message-preserved c =
@@ -33,17 +37,30 @@ loop-message-preserved c =
     let same = c.messages-message-items.ensures.messages in
     let lt : i < length messages = subst (λ (ms : List Message). i < length ms) same c.loop-message-test.true in
     let item : m ≡ get_or messages i m = c.message-item.is ∙ ap (λ (ms : List Message). get_or ms i m) same in
-    let here = subst (λ (rs : List Reason). AreLinesOf (λ (r : Reason). IsClashLine source.name.now source.text.now (m, r)) rs c.in_ok-all.all.items) c.deref-in-loop-message-2.ensures.value c.in_ok-all.ensures in
+    let here = subst (λ (rs : List Reason). AreLinesOf
+    (λ (r : Reason). IsClashLine source.name.now source.text.now (m, r)) rs c.in_ok-all.all.items)
+    c.deref-in-loop-message-2.ensures.value c.in_ok-all.ensures in
     record {
-      lines = message_more source.name.now source.text.now messages i old.lines.items c.in_ok-all.all.items c.extend_from_slice-in-loop-message.new.self.items m reasons
-          lt item c.in_ok-reasons.ensures (omega (arith, c.if-len-room.false, c.len.ensures, old.invariant.few)) old.invariant.lines here
-          (c.in_ok-extend_from_slice-2.ensures.items ∙ ap (λ (v : List ℕ). old.lines.items ++ v) c.deref-in-loop-message-3.ensures.value);
-      reported = omega (arith, c.len-reported.ensures, count_more messages i old.reported m reasons lt item c.in_ok-reasons.ensures (omega (arith, c.if-len-room.false, c.len.ensures, old.invariant.few)) old.invariant.reported);
+      lines = message_more source.name.now source.text.now messages i old.lines.items c.in_ok-all.all.items
+          c.extend_from_slice-in-loop-message.new.self.items m reasons
+          lt item c.in_ok-reasons.ensures (omega (arith, c.if-len-room.false, c.len.ensures, old.invariant.few))
+          old.invariant.lines here
+          (c.in_ok-extend_from_slice-2.ensures.items
+          ∙ ap (λ (v : List ℕ). old.lines.items ++ v) c.deref-in-loop-message-3.ensures.value);
+      reported = omega (
+        arith,
+        c.len-reported.ensures,
+        count_more messages i old.reported m reasons lt item
+            c.in_ok-reasons.ensures (omega (arith, c.if-len-room.false, c.len.ensures, old.invariant.few))
+            old.invariant.reported,
+      );
       few = omega (arith, c.len-reported.ensures, c.len.ensures, c.if-len-room.false, old.invariant.few);
     }
 
 pub returns : goal.returns
 returns c =
     let old = c.loop-message in
-    all_reported c.args.source.name.now c.args.source.text.now c.args.sheet.now.messages old.message-index old.reported old.lines.items
-    (omega (arith, c.loop-message-test.false, ap length c.messages-message-items.ensures.messages)) old.invariant.lines old.invariant.reported old.invariant.few
+    all_reported c.args.source.name.now c.args.source.text.now c.args.sheet.now.messages old.message-index old.reported
+    old.lines.items
+    (omega (arith, c.loop-message-test.false, ap length c.messages-message-items.ensures.messages)) old.invariant.lines
+    old.invariant.reported old.invariant.few

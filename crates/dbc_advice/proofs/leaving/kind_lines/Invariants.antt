@@ -5,6 +5,7 @@ use Rattle.dbc_advice.proofs.leaving.kind_lines.Given as goal
 
 abbrev pub invariant-loop-one : goal.invariant-loop-one
 invariant-loop-one l = record {
-  lines : l.lines.items ++ kinds_text l.source.name.now l.source.text.now l.passed l.one-index ≡ kinds_text l.source.name.now l.source.text.now l.passed 0;
+  lines : l.lines.items ++ kinds_text l.source.name.now l.source.text.now l.passed l.one-index
+      ≡ kinds_text l.source.name.now l.source.text.now l.passed 0;
   come : HaveKeywords l.firsts.items l.passed l.one-index;
 }

@@ -1,9 +1,10 @@
 use Rattle.std.proofs.Common.{◌≡◌, ◌++◌, drop, map}
-use Rattle.catalogue.specs.Messages.{number_of}
-use Rattle.catalogue.specs.declared.signal.Signal.{Signal}
+use Rattle.dbc_sheet.specs.Messages.{number_of}
+use Rattle.dbc_sheet.specs.declared.signal.Signal.{Signal}
 use Rattle.dbc_read.specs.Keys.{key_of}
 use Rattle.dbc_advice.specs.Names.{keys_of}
 use Rattle.dbc_advice.proofs.names.add_keys.Given as goal
 
 abbrev pub invariant-loop-signal : goal.invariant-loop-signal
-invariant-loop-signal l = map key_of l.keys.items ++ map (λ (s : Signal). (number_of l.message, s.name)) (drop l.signal-index l.message.signals) ≡ map key_of l.initial.keys.items ++ keys_of l.message
+invariant-loop-signal l = map key_of l.keys.items ++ map (λ (s : Signal). (number_of l.message, s.name))
+    (drop l.signal-index l.message.signals) ≡ map key_of l.initial.keys.items ++ keys_of l.message

@@ -1,5 +1,5 @@
 use Rattle.std.proofs.Common.{◌≡◌, ◌++◌, drop, map}
-use Rattle.catalogue.specs.Sheet.{node_name}
+use Rattle.dbc_sheet.specs.Sheet.{node_name}
 use Rattle.dbc_read.specs.Keys.{text_of}
 use Rattle.dbc_advice.proofs.names.names_of_nodes.Given as goal
 

@@ -11,11 +11,13 @@ use Rattle.dbc_advice.proofs.paths.shown_path.Goals as goal
 
 pub loop-c-preserved : goal.loop-c-preserved
 loop-c-preserved c =
-    rw (flat_map-append, append-nil (shown_character c.in-Some.c), encodes-append, ← c.loop-c.invariant) c.in_ok-push_shown.ensures
+    rw (flat_map-append, append-nil (shown_character c.in-Some.c), encodes-append, ← c.loop-c.invariant)
+    c.in_ok-push_shown.ensures
 
 pub returns-clause-shown : goal.returns-clause-shown
 returns-clause-shown c =
-    let done = YieldsList-end (YieldsList-from_chars c.args.path.now c.utf8.path cc) c.loop-c.yielded _ c.loop-c.yielded_by _ _ c.in-None.is c.next.ensures.steps in
+    let done = YieldsList-end (YieldsList-from_chars c.args.path.now c.utf8.path cc) c.loop-c.yielded _
+    c.loop-c.yielded_by _ _ c.in-None.is c.next.ensures.steps in
     c.loop-c.invariant ∙ ap (λ cs. encode_utf8_all (shown_characters cs)) (sym (map-id c.loop-c.yielded) ∙ done.0)
 
 pub returns-clause-plain : goal.returns-clause-plain

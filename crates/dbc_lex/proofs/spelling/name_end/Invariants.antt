@@ -1,12 +1,13 @@
 use Rattle.std.proofs.Common.{◌≡◌, ◌+◌, ◌<◌, ◌-◌, length, drop}
 use Rattle.std.specs.List.{prefix_len}
-use Rattle.catalogue.specs.Name.{continues_identifier}
+use Rattle.dbc_words.specs.Name.{continues_identifier}
 use Rattle.dbc_lex.proofs.spelling.name_end.Given as goal
 
 abbrev pub invariant-loop-end : goal.invariant-loop-end
 invariant-loop-end l = record {
   within : l.end < length l.source;
-  same : l.end + prefix_len continues_identifier (drop l.end l.source) ≡ l.at + prefix_len continues_identifier (drop l.at l.source);
+  same : l.end + prefix_len continues_identifier (drop l.end l.source) ≡ l.at + prefix_len continues_identifier
+      (drop l.at l.source);
 }
 
 abbrev pub decreases-loop-end : goal.decreases-loop-end

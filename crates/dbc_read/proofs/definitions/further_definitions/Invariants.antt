@@ -7,7 +7,9 @@ use Rattle.dbc_read.proofs.definitions.further_definitions.Given as goal
 abbrev pub invariant-statements : goal.invariant-statements
 invariant-statements l = record {
   source : l.statements.source ≡ l.initial.statements.source;
-  read : ReadSoFar (λ stated. HaveFewTexts stated × ((before : List dbc.Statement) → AreDefinitions before l.fn.gathered → AreDefinitions (before ++ stated) l.definitions)) l.initial.statements.tokens l.statements.tokens;
+  read : ReadSoFar (λ stated. HaveFewTexts stated
+      × ((before : List dbc.Statement) → AreDefinitions before l.fn.gathered
+      → AreDefinitions (before ++ stated) l.definitions)) l.initial.statements.tokens l.statements.tokens;
 }
 
 abbrev pub decreases-statements : goal.decreases-statements

@@ -1,7 +1,7 @@
 use Rattle.std.proofs.Common.{◌<◌, ◌∙◌, ◌+◌, ◌++◌, ap, drop, length, refl, slice_index_or, sym, take, arith}
 use Rattle.std.proofs.lemmas.List.{drop_more}
 use Rattle.std.proofs.lemmas.Result.{err_from_is_err_and}
-use Rattle.catalogue.specs.declared.signal.Signal.{Signal}
+use Rattle.dbc_sheet.specs.declared.signal.Signal.{Signal}
 use Rattle.dbc_read.specs.Built.{feeds_after, next_signal, rest_of, signals_from}
 use Rattle.dbc_read.specs.Fit.{HaveFewTexts}
 use Rattle.dbc_read.specs.declared.feed.Feeds.{Feeds}
@@ -22,13 +22,16 @@ loop-at-preserved c =
     let is = c.in_ok-feed_signal.ensures in
     record {
       stays = set_leaves signal_of xs i d y is.stays ∙ c.loop-at.invariant.stays;
-      fed = one_fed_itself rest xs i d y f g lt is.rest (λ s h. next_signal (signal_of s) h) (λ ss h. signals_from (signals_of ss) h) (λ s ss h. refl) is.fed ∙ c.loop-at.invariant.fed;
-      left = one_left rest xs i d y f g lt is.rest (λ ss h. feeds_after (signals_of ss) h) (λ s ss h. refl) ∙ c.loop-at.invariant.left;
+      fed = one_fed_itself rest xs i d y f g lt is.rest (λ s h. next_signal (signal_of s) h)
+          (λ ss h. signals_from (signals_of ss) h) (λ s ss h. refl) is.fed ∙ c.loop-at.invariant.fed;
+      left = one_left rest xs i d y f g lt is.rest (λ ss h. feeds_after (signals_of ss) h) (λ s ss h. refl)
+          ∙ c.loop-at.invariant.left;
     }
 
 pub returns-in_err-feed_signal-clause-stays : goal.returns-in_err-feed_signal-clause-stays
 returns-in_err-feed_signal-clause-stays c =
-    set_leaves signal_of c.loop-at.signals c.loop-at.at c.index-signals-at.result c.feed_signal.new.signal c.in_err-feed_signal.ensures.stays ∙ c.loop-at.invariant.stays
+    set_leaves signal_of c.loop-at.signals c.loop-at.at c.index-signals-at.result c.feed_signal.new.signal
+    c.in_err-feed_signal.ensures.stays ∙ c.loop-at.invariant.stays
 
 pub returns-in_err-feed_signal-clause-refused : goal.returns-in_err-feed_signal-clause-refused
 returns-in_err-feed_signal-clause-refused c =
@@ -41,4 +44,5 @@ returns-in_err-feed_signal-clause-refused c =
     let lt : i < length xs = let long = c.loop-at.auto.signals in let test = c.loop-at-test.true in omega arith in
     let front = take i xs in
     let e = ap (λ l. front ++ signals_from (signals_of l) f) (sym (drop_more xs i d lt)) ∙ c.loop-at.invariant.fed in
-    rw (p.1, p.2) (one_refused HaveFewTexts front (next_signal (signal_of x) f) (signals_from (signals_of (drop (i + 1) xs)) (rest_of f)) _ _ e c.in_err-feed_signal.ensures.refused)
+    rw (p.1, p.2) (one_refused HaveFewTexts front (next_signal (signal_of x) f)
+    (signals_from (signals_of (drop (i + 1) xs)) (rest_of f)) _ _ e c.in_err-feed_signal.ensures.refused)

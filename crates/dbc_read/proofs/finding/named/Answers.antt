@@ -1,7 +1,7 @@
 use Rattle.std.proofs.Common.{◌≡◌, ◌∙◌, ◌+◌, ◌++◌, List, Some, length, subst}
 use Rattle.std.specs.Str.{bytes_eq}
 use Rattle.std.proofs.lemmas.List.{take-append-drop}
-use Rattle.catalogue.specs.declared.signal.Signal.{Signal}
+use Rattle.dbc_sheet.specs.declared.signal.Signal.{Signal}
 use Rattle.dbc_read.specs.Lookup.{IsIndexIn}
 use Rattle.dbc_read.proofs.Positions.{after_front, none_after}
 use Rattle.dbc_read.proofs.finding.named.Goals as goal
@@ -11,13 +11,17 @@ returns-in-Some c =
     let test = λ (s : Signal). bytes_eq s.name c.args.name.now in
     let before = c.split_at.result.0.now in
     let after = c.split_at.result.1.now in
-    let parts : before ++ after ≡ c.args.signals.now = (λ i. c.split_at.ensures.front i ++ c.split_at.ensures.back i) ∙ take-append-drop c.min.result c.args.signals.now in
-    subst (λ (l : List Signal). IsIndexIn test l (Some (length before + c.in-Some.index))) parts (after_front test before after c.in-Some.index c.in-Some.ensures)
+    let parts : before ++ after ≡ c.args.signals.now = (λ i. c.split_at.ensures.front i ++ c.split_at.ensures.back i)
+    ∙ take-append-drop c.min.result c.args.signals.now in
+    subst (λ (l : List Signal). IsIndexIn test l (Some (length before + c.in-Some.index))) parts
+    (after_front test before after c.in-Some.index c.in-Some.ensures)
 
 pub returns-in-None : goal.returns-in-None
 returns-in-None c =
     let test = λ (s : Signal). bytes_eq s.name c.args.name.now in
     let before = c.split_at.result.0.now in
     let after = c.split_at.result.1.now in
-    let parts : before ++ after ≡ c.args.signals.now = (λ i. c.split_at.ensures.front i ++ c.split_at.ensures.back i) ∙ take-append-drop c.min.result c.args.signals.now in
-    subst (λ (l : List Signal). IsIndexIn test l c.first_named-in-None.result) parts (none_after test before after c.first_named-in-None.result c.first_named-in-None.ensures c.in-None.ensures)
+    let parts : before ++ after ≡ c.args.signals.now = (λ i. c.split_at.ensures.front i ++ c.split_at.ensures.back i)
+    ∙ take-append-drop c.min.result c.args.signals.now in
+    subst (λ (l : List Signal). IsIndexIn test l c.first_named-in-None.result) parts
+    (none_after test before after c.first_named-in-None.result c.first_named-in-None.ensures c.in-None.ensures)

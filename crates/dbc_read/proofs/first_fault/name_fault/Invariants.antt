@@ -1,6 +1,6 @@
 use Rattle.std.proofs.Common.{take}
 use Rattle.std.specs.Str.{bytes_eq}
-use Rattle.catalogue.specs.Keyed.{text_cmp}
+use Rattle.base.specs.Keyed.{text_cmp}
 use Rattle.dbc_read.proofs.FirstRefused.{ArePassed}
 use Rattle.dbc_read.proofs.first_fault.name_fault.Given as goal
 

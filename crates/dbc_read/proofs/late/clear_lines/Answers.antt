@@ -12,6 +12,8 @@ loop-at-preserved c =
     let y = c.clear_line.new.line in
     let lt : i < length xs = let long = c.loop-at.auto.lines in let test = c.loop-at-test.true in omega arith in
     record {
-      stays = set_leaves message_of xs i c.index-lines-at.result y c.clear_line.ensures.stays ∙ c.loop-at.invariant.stays;
-      bare = one_more (λ (m : MessageLine). HaveNothingAttached m.signals.items) xs i y lt c.loop-at.invariant.bare c.clear_line.ensures.nothing;
+      stays = set_leaves message_of xs i c.index-lines-at.result y c.clear_line.ensures.stays
+          ∙ c.loop-at.invariant.stays;
+      bare = one_more (λ (m : MessageLine). HaveNothingAttached m.signals.items) xs i y lt c.loop-at.invariant.bare
+          c.clear_line.ensures.nothing;
     }

@@ -11,6 +11,7 @@ loop-at-preserved c =
     let y = c.clear_signal.new.signal in
     let lt : i < length xs = let long = c.loop-at.auto.signals in let test = c.loop-at-test.true in omega arith in
     record {
-      stays = set_leaves signal_of xs i c.index-signals-at.result y c.clear_signal.ensures.stays ∙ c.loop-at.invariant.stays;
+      stays = set_leaves signal_of xs i c.index-signals-at.result y c.clear_signal.ensures.stays
+          ∙ c.loop-at.invariant.stays;
       nothing = one_more HasNothingAttached xs i y lt c.loop-at.invariant.nothing c.clear_signal.ensures.nothing;
     }

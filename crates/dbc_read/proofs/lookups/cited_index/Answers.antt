@@ -11,4 +11,5 @@ returns-in-NodeComment c = λ statements are.
     let here = c.find.ensures are.node_names are.nodes in
     rw c.in-NodeComment.is
     (subst (λ names. IsIndexIn (λ n. bytes_eq n name) names c.find.result) are.names
-    (index_seen text_of (λ (v : Bor (List ℕ)). bytes_eq v.now name) (λ n. bytes_eq n name) (λ v. refl) are.node_names c.find.result here))
+    (index_seen text_of (λ (v : Bor (List ℕ)). bytes_eq v.now name) (λ n. bytes_eq n name) (λ v. refl) are.node_names
+    c.find.result here))

@@ -11,7 +11,9 @@ loop-statement-preserved c = λ all are more indices.
     let i = c.loop-statement.statement-index in
     let index = c.cited_index.result in
     let found = c.loop-statement.found.items in
-    let here = subst (λ l. AreCitedIndices all (statements_of l) (index ∷ more)) (sym (drop_item ss i c.statement-item.result c.loop-statement-test.true c.statement-item.is)) (c.cited_index.ensures all are, indices) in
+    let here = subst (λ l. AreCitedIndices all (statements_of l) (index ∷ more))
+    (sym (drop_item ss i c.statement-item.result c.loop-statement-test.true c.statement-item.is))
+    (c.cited_index.ensures all are, indices) in
     rw c.in_ok-push.ensures.items (rw append_assoc (c.loop-statement.invariant all are (index ∷ more) here))
 
 pub returns : goal.returns

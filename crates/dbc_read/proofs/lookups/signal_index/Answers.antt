@@ -13,4 +13,5 @@ returns-in-Some c = λ statements are.
     let here = c.find.ensures are.signal_keys are.signals in
     rw c.in-Some.is
     (subst (λ keys. IsIndexIn (λ key. same_signal key (number, name)) keys c.find.result) are.keys
-    (index_seen key_of (λ (k : ℕ × Bor (List ℕ)). nat_eq k.0 number && bytes_eq k.1.now name) (λ key. same_signal key (number, name)) (λ k. refl) are.signal_keys c.find.result here))
+    (index_seen key_of (λ (k : ℕ × Bor (List ℕ)). nat_eq k.0 number && bytes_eq k.1.now name)
+    (λ key. same_signal key (number, name)) (λ k. refl) are.signal_keys c.find.result here))

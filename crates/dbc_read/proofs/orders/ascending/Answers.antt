@@ -1,4 +1,5 @@
-use Rattle.std.proofs.Common.{◌≡◌, ◌∙◌, ◌+◌, ◌-◌, ◌<◌, ◌++◌, ℕ, List, [], ◌∷◌, ap, append-nil, append_assoc, arith, get_or, rules, subst, suc, sym}
+use Rattle.std.proofs.Common.{◌≡◌, ◌∙◌, ◌+◌, ◌-◌, ◌<◌, ◌++◌, ℕ, List, [], ◌∷◌, ap, append-nil, append_assoc, arith}
+use Rattle.std.proofs.Common.{get_or, rules, subst, suc, sym}
 use Rattle.std.specs.Prelude.{IsPermutation}
 use Rattle.std.specs.Cmp.Lexicographic.{nat_list_cmp_total}
 use Rattle.std.specs.List.{range_with_len}
@@ -6,8 +7,8 @@ use Rattle.std.specs.Ordering.{is_lt}
 use Rattle.std.proofs.lemmas.Fn.{always_returns_same}
 use Rattle.std.proofs.lemmas.List.{length-map}
 use Rattle.std.proofs.lemmas.List.Sorted.{ranks_by}
-use Rattle.catalogue.specs.Keyed.{text_cmp}
-use Rattle.catalogue.specs.declared.signal.Signal.{Signal}
+use Rattle.base.specs.Keyed.{text_cmp}
+use Rattle.dbc_sheet.specs.declared.signal.Signal.{Signal}
 use Rattle.dbc_read.specs.Orders.{signal_names}
 use Rattle.dbc_read.proofs.orders.ascending.Goals as goal
 
@@ -19,7 +20,8 @@ loop-index-preserved c =
     let made = c.loop-index.order.items in
     let i = c.loop-index.index in
     let n = c.args.count in
-    ap (λ l. l ++ range_with_len (i + 1) (n - (i + 1))) c.in_ok-push.ensures.items ∙ append_assoc made (i ∷ []) (range_with_len (i + 1) (n - (i + 1)))
+    ap (λ l. l ++ range_with_len (i + 1) (n - (i + 1))) c.in_ok-push.ensures.items
+    ∙ append_assoc made (i ∷ []) (range_with_len (i + 1) (n - (i + 1)))
     ∙ ap (λ l. made ++ l) (sym (range_next i n c.loop-index-test.true)) ∙ c.loop-index.invariant
 
 pub returns : goal.returns
@@ -28,9 +30,12 @@ returns c =
     let at : ℕ → List ℕ = λ i. get_or names i [] in
     let made = c.loop-index.order.items in
     let none : c.args.count - c.loop-index.index ≡ 0 = omega arith in
-    let counted : made ≡ range_with_len 0 c.args.count = sym (append-nil made) ∙ ap (λ n. made ++ range_with_len c.loop-index.index n) (sym none) ∙ c.loop-index.invariant in
-    let whole = counted ∙ ap (range_with_len 0) (c.requires ∙ sym (length-map c.args.signals.now (λ (s : Signal). s.name))) in
+    let counted : made ≡ range_with_len 0 c.args.count = sym (append-nil made)
+    ∙ ap (λ n. made ++ range_with_len c.loop-index.index n) (sym none) ∙ c.loop-index.invariant in
+    let whole = counted ∙ ap (range_with_len 0)
+    (c.requires ∙ sym (length-map c.args.signals.now (λ (s : Signal). s.name))) in
     record {
       indices = subst (λ is. IsPermutation is c.sort_by.new.self.items) whole c.in_ok-sort_by.ensures.permutation;
-      sorted = c.in_ok-sort_by.ensures.sorted (λ i j. is_lt (text_cmp (at i) (at j))) (ranks_by nat_list_cmp_total at) (always_returns_same _ _ _ (λ a r f called. (search rules, search rules)));
+      sorted = c.in_ok-sort_by.ensures.sorted (λ i j. is_lt (text_cmp (at i) (at j))) (ranks_by nat_list_cmp_total at)
+          (always_returns_same _ _ _ (λ a r f called. (search rules, search rules)));
     }

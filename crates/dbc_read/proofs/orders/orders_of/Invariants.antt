@@ -5,4 +5,6 @@ use Rattle.dbc_statements.specs.Statement.{message_of}
 use Rattle.dbc_read.proofs.orders.orders_of.Given as goal
 
 abbrev pub invariant-loop-line : goal.invariant-loop-line
-invariant-loop-line l = (more : List (Option (Box Order Global))) → AreOrdersOf (map message_of (drop l.line-index l.lines)) more → AreOrdersOf (map message_of l.lines) (l.orders.items ++ more)
+invariant-loop-line l = (more : List (Option (Box Order Global)))
+    → AreOrdersOf (map message_of (drop l.line-index l.lines)) more
+    → AreOrdersOf (map message_of l.lines) (l.orders.items ++ more)

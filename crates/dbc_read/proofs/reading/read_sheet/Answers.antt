@@ -12,10 +12,12 @@ pub returns-in-Some-clause-reads : goal.returns-in-Some-clause-reads
 returns-in-Some-clause-reads c =
     let of = rw c.in-Some.is at c.in_ok-gathered.ensures.ok in
     IfOk-weaker c.reading_or_none.result _ _ (λ found some.
-    found_reads c.args.source.now of.stated of.divided (in_signals c.in-Some.gathered) of.gathered c.into_reading.result found c.into_reading.ensures.built c.into_reading.ensures.passed some) c.reading_or_none.ensures.some
+    found_reads c.args.source.now of.stated of.divided (in_signals c.in-Some.gathered) of.gathered c.into_reading.result
+    found c.into_reading.ensures.built c.into_reading.ensures.passed some) c.reading_or_none.ensures.some
 
 pub returns-in-Some-clause-only : goal.returns-in-Some-clause-only
 returns-in-Some-clause-only c =
     let of = rw c.in-Some.is at c.in_ok-gathered.ensures.ok in
     IfOk-weaker c.reading_or_none.result _ _ (λ found some.
-    found_only c.args.source.now of.stated of.divided (in_signals c.in-Some.gathered) of.gathered c.into_reading.result found c.texts_read_as_one_sheet.ensures c.into_reading.ensures.built some) c.reading_or_none.ensures.some
+    found_only c.args.source.now of.stated of.divided (in_signals c.in-Some.gathered) of.gathered c.into_reading.result
+    found c.texts_read_as_one_sheet.ensures c.into_reading.ensures.built some) c.reading_or_none.ensures.some

@@ -8,7 +8,8 @@ abbrev pub invariant-statements : goal.invariant-statements
 invariant-statements l = record {
   source : l.statements.source ≡ l.initial.statements.source;
   messages : map message_of l.lines ≡ map message_of l.initial.lines;
-  read : ReadSoFar (λ stated. SettlesApart l.finders stated l.initial.lines l.initial.gathered l.lines l.gathered) l.initial.statements.tokens l.statements.tokens;
+  read : ReadSoFar (λ stated. SettlesApart l.finders stated l.initial.lines l.initial.gathered l.lines l.gathered)
+      l.initial.statements.tokens l.statements.tokens;
 }
 
 abbrev pub decreases-statements : goal.decreases-statements

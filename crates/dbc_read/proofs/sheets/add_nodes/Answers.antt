@@ -1,7 +1,7 @@
 use Rattle.std.specs.Vec.Iter.{into_iter_items}
 use Rattle.std.proofs.lemmas.Result.{err_from_is_err_and}
-use Rattle.catalogue.specs.Sheet.{node_name}
-use Rattle.catalogue.specs.declared.node.Node.{Node}
+use Rattle.dbc_sheet.specs.Sheet.{node_name}
+use Rattle.dbc_sheet.specs.declared.node.Node.{Node}
 use Rattle.dbc_read.specs.Built.{nodes_from}
 use Rattle.dbc_read.proofs.SheetsFit.{node_refused}
 use Rattle.dbc_statements.specs.Statement.{names_of}
@@ -13,4 +13,6 @@ returns-in_err-with_node-clause-refused c =
     let before = c.loop-node.sheet.nodes in
     let node : Node = record { name = c.in-Some.node.name; comment = c.next_or-comment.result } in
     let after = nodes_from (names_of (into_iter_items c.next.new.self)) c.next_or-comment.new.self in
-    rw (p.1, p.2) (node_refused node_name before node after _ _ (rw (c.next_or-comment.ensures.value, c.empty.ensures, c.next_or-comment.ensures.rest) (rw c.in-Some.ensures.steps.0 at c.loop-node.invariant.rest)) c.in_err-with_node.ensures.refused)
+    rw (p.1, p.2) (node_refused node_name before node after _ _
+    (rw (c.next_or-comment.ensures.value, c.empty.ensures, c.next_or-comment.ensures.rest)
+    (rw c.in-Some.ensures.steps.0 at c.loop-node.invariant.rest)) c.in_err-with_node.ensures.refused)

@@ -9,7 +9,8 @@ pub returns-in_err-table-clause-refused : goal.returns-in_err-table-clause-refus
 returns-in_err-table-clause-refused c =
     let p = err_from_is_err_and c.from_residual.result c.from_residual.ensures.1 in
     let e = rw c.in-Some.ensures.steps.0 at c.loop-line.invariant.rest in
-    rw (p.1, p.2) (entries_refused c.loop-line.sheet.tables (table_of c.in-Some.line) (map table_of (into_iter_items c.next.new.self)) _ _ e c.in_err-table.ensures.refused)
+    rw (p.1, p.2) (entries_refused c.loop-line.sheet.tables (table_of c.in-Some.line)
+    (map table_of (into_iter_items c.next.new.self)) _ _ e c.in_err-table.ensures.refused)
 
 pub returns-in_err-with_table-clause-refused : goal.returns-in_err-with_table-clause-refused
 returns-in_err-with_table-clause-refused c =
@@ -17,5 +18,6 @@ returns-in_err-with_table-clause-refused c =
     let p = err_from_is_err_and r.result r.ensures.1 in
     let before = c.loop-line.sheet.tables in
     let after = map table_of (into_iter_items c.next.new.self) in
-    let e = ap (λ t. before ++ t ∷ after) c.in_ok-table.ensures.ok ∙ rw c.in-Some.ensures.steps.0 at c.loop-line.invariant.rest in
+    let e = ap (λ t. before ++ t ∷ after) c.in_ok-table.ensures.ok
+    ∙ rw c.in-Some.ensures.steps.0 at c.loop-line.invariant.rest in
     rw (p.1, p.2) (table_refused before c.in_ok-table.table after _ _ e c.in_err-with_table.ensures.refused)

@@ -12,8 +12,10 @@ entries-init c = rw c.in_ok-entries.ensures (at_start (many_at (starts is_open) 
 
 pub entries-smaller : goal.entries-smaller
 entries-smaller c =
-    fewer entries_take c.entries.entries c.entries.tokens c.add_entry.new.entries c.add_entry.new.tokens (sym c.is_open.ensures ∙ c.entries-test.true) c.in_ok-add_entry.ensures.ok
+    fewer entries_take c.entries.entries c.entries.tokens c.add_entry.new.entries c.add_entry.new.tokens
+    (sym c.is_open.ensures ∙ c.entries-test.true) c.in_ok-add_entry.ensures.ok
 
 pub entries-preserved : goal.entries-preserved
 entries-preserved c =
-    one_more entries_take c.entries.entries c.entries.tokens c.add_entry.new.entries c.add_entry.new.tokens _ (sym c.is_open.ensures ∙ c.entries-test.true) c.in_ok-add_entry.ensures.ok c.entries.invariant
+    one_more entries_take c.entries.entries c.entries.tokens c.add_entry.new.entries c.add_entry.new.tokens _
+    (sym c.is_open.ensures ∙ c.entries-test.true) c.in_ok-add_entry.ensures.ok c.entries.invariant

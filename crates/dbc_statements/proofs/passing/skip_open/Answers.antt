@@ -10,7 +10,9 @@ pub open-smaller : goal.open-smaller
 open-smaller c = rw c.skip.ensures (one_fewer is_open c.open.tokens (sym c.is_open.ensures ∙ c.open-test.true))
 
 pub open-preserved : goal.open-preserved
-open-preserved c = rw c.skip.ensures (one_skipped is_open c.args.tokens.now c.open.tokens c.open.invariant (sym c.is_open.ensures ∙ c.open-test.true))
+open-preserved c = rw c.skip.ensures
+    (one_skipped is_open c.args.tokens.now c.open.tokens c.open.invariant (sym c.is_open.ensures ∙ c.open-test.true))
 
 pub returns : goal.returns
-returns c = all_skipped is_open c.args.tokens.now c.open.tokens c.open.invariant (sym c.is_open.ensures ∙ c.open-test.false)
+returns c = all_skipped is_open c.args.tokens.now c.open.tokens c.open.invariant
+    (sym c.is_open.ensures ∙ c.open-test.false)

@@ -7,13 +7,17 @@ pub others-init : goal.others-init
 others-init c = none_skipped begins_no_next c.args.tokens.now
 
 pub others-smaller : goal.others-smaller
-others-smaller c = rw c.skip.ensures (one_fewer begins_no_next c.others.tokens (sym c.goes_on.ensures ∙ c.others-test.true))
+others-smaller c = rw c.skip.ensures
+    (one_fewer begins_no_next c.others.tokens (sym c.goes_on.ensures ∙ c.others-test.true))
 
 pub others-preserved : goal.others-preserved
-others-preserved c = rw c.skip.ensures (one_skipped begins_no_next c.args.tokens.now c.others.tokens c.others.invariant (sym c.goes_on.ensures ∙ c.others-test.true))
+others-preserved c = rw c.skip.ensures
+    (one_skipped begins_no_next c.args.tokens.now c.others.tokens c.others.invariant
+    (sym c.goes_on.ensures ∙ c.others-test.true))
 
 pub returns-clause-skips : goal.returns-clause-skips
-returns-clause-skips c = all_skipped begins_no_next c.args.tokens.now c.others.tokens c.others.invariant (sym c.goes_on.ensures ∙ c.others-test.false)
+returns-clause-skips c = all_skipped begins_no_next c.args.tokens.now c.others.tokens c.others.invariant
+    (sym c.goes_on.ensures ∙ c.others-test.false)
 
 pub returns-clause-next : goal.returns-clause-next
 returns-clause-next c = next_there c.others.tokens (sym c.goes_on.ensures ∙ c.others-test.false)

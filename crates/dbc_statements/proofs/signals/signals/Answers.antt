@@ -1,8 +1,8 @@
 use Rattle.std.proofs.Common.{sym, ◌∙◌}
+use Rattle.dbc_words.specs.declared.keyword.Keyword.TheVariants.{Signal}
 use Rattle.dbc_grammar.specs.Fields.{is_key}
 use Rattle.dbc_grammar.specs.Parsing.{many_at, signal_at, signals_at}
 use Rattle.dbc_grammar.specs.Rules.{starts}
-use Rattle.catalogue.specs.declared.keyword.Keyword.TheVariants.{Signal}
 use Rattle.dbc_grammar.proofs.Repeating.{signals_take}
 use Rattle.dbc_statements.specs.Statement.{signals_of}
 use Rattle.dbc_statements.proofs.LoopRounds.{at_start, fewer, one_more}
@@ -17,10 +17,13 @@ signals-init c = record {
 
 pub signals-smaller : goal.signals-smaller
 signals-smaller c =
-    fewer signals_take (signals_of c.signals.signals.items) c.signals.tokens (signals_of c.add_signal.new.signals.items) c.add_signal.new.tokens (sym c.is_signal.ensures ∙ c.signals-test.true) c.in_ok-ended.ensures.ok
+    fewer signals_take (signals_of c.signals.signals.items) c.signals.tokens (signals_of c.add_signal.new.signals.items)
+    c.add_signal.new.tokens (sym c.is_signal.ensures ∙ c.signals-test.true) c.in_ok-ended.ensures.ok
 
 pub signals-preserved : goal.signals-preserved
 signals-preserved c = record {
-  read = one_more signals_take (signals_of c.signals.signals.items) c.signals.tokens (signals_of c.add_signal.new.signals.items) c.add_signal.new.tokens _ (sym c.is_signal.ensures ∙ c.signals-test.true) c.in_ok-ended.ensures.ok c.signals.invariant.read;
+  read = one_more signals_take (signals_of c.signals.signals.items) c.signals.tokens
+      (signals_of c.add_signal.new.signals.items) c.add_signal.new.tokens _
+      (sym c.is_signal.ensures ∙ c.signals-test.true) c.in_ok-ended.ensures.ok c.signals.invariant.read;
   nothing = c.in_ok-ended.ensures.nothing c.signals.invariant.nothing;
 }

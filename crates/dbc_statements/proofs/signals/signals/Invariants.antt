@@ -1,14 +1,15 @@
 use Rattle.std.proofs.Common.{◌≡◌, length}
+use Rattle.dbc_words.specs.declared.keyword.Keyword.TheVariants.{Signal}
 use Rattle.dbc_grammar.specs.Fields.{is_key}
 use Rattle.dbc_grammar.specs.Parsing.{with_front, many_at, signal_at, signals_at}
 use Rattle.dbc_grammar.specs.Rules.{starts}
-use Rattle.catalogue.specs.declared.keyword.Keyword.TheVariants.{Signal}
 use Rattle.dbc_statements.specs.Statement.{HaveNothingAttached, signals_of}
 use Rattle.dbc_statements.proofs.signals.signals.Given as goal
 
 abbrev pub invariant-signals : goal.invariant-signals
 invariant-signals l = record {
-  read : with_front (signals_of l.signals.items) (many_at (starts (is_key Signal)) signal_at l.tokens) ≡ signals_at l.initial.tokens;
+  read : with_front (signals_of l.signals.items) (many_at (starts (is_key Signal)) signal_at l.tokens)
+      ≡ signals_at l.initial.tokens;
   nothing : HaveNothingAttached l.signals.items;
 }
 

@@ -1,9 +1,12 @@
 use Rattle.std.proofs.Common.{take}
 use Rattle.std.specs.List.{flat_map}
 use Rattle.dbc_grammar.specs.Canon.{comment_lines, line_text, signal_pieces}
-use Rattle.catalogue.specs.declared.signal.Signal.{Signal}
+use Rattle.dbc_sheet.specs.declared.signal.Signal.{Signal}
 use Rattle.dbc_write.specs.Adding.{Adds}
 use Rattle.dbc_write.proofs.comments.with_signals.Given as goal
 
 abbrev pub invariant-loop-signal : goal.invariant-loop-signal
-invariant-loop-signal l = Adds line_text l.initial.text.items l.text.items (flat_map (λ (s : Signal). comment_lines (signal_pieces l.message s) s.comment) (take l.signal-index l.signal-items))
+invariant-loop-signal l =
+    Adds line_text l.initial.text.items l.text.items
+    (flat_map (λ (s : Signal). comment_lines (signal_pieces l.message s) s.comment)
+    (take l.signal-index l.signal-items))

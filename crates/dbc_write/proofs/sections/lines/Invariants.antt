@@ -1,10 +1,12 @@
 use Rattle.std.proofs.Common.{take}
 use Rattle.std.specs.List.{flat_map}
 use Rattle.dbc_grammar.specs.Canon.{line_text}
-use Rattle.catalogue.specs.declared.message.Message.{Message}
+use Rattle.dbc_sheet.specs.declared.message.Message.{Message}
 use Rattle.dbc_write.specs.Adding.{Adds}
 use Rattle.dbc_write.specs.Sections.{section_lines}
 use Rattle.dbc_write.proofs.sections.lines.Given as goal
 
 abbrev pub invariant-loop-message : goal.invariant-loop-message
-invariant-loop-message l = Adds line_text l.initial.text.items l.text.items (flat_map (λ (m : Message). flat_map (section_lines l.section m) m.signals) (take l.message-index l.message-items))
+invariant-loop-message l =
+    Adds line_text l.initial.text.items l.text.items
+    (flat_map (λ (m : Message). flat_map (section_lines l.section m) m.signals) (take l.message-index l.message-items))

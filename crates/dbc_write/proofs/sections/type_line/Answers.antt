@@ -1,6 +1,6 @@
 use Rattle.std.proofs.Common.{◌≡◌, ◌==◌, ◌∙◌, false, arith}
 use Rattle.std.proofs.lemmas.Bool.Decides.{nat_tests}
-use Rattle.catalogue.specs.ValueType.{value_type_number}
+use Rattle.dbc_words.specs.ValueType.{value_type_number}
 use Rattle.dbc_write.proofs.Adds.{also, line}
 use Rattle.dbc_write.proofs.sections.type_line.Goals as goal
 

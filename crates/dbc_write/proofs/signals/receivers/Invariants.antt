@@ -7,4 +7,5 @@ use Rattle.dbc_write.proofs.signals.receivers.Given as goal
 
 abbrev pub invariant-loop-other : goal.invariant-loop-other
 invariant-loop-other l =
-    Adds piece_text l.initial.text.items l.text.items (flat_map (λ (n : List ℕ). mark tight (codes ",") ∷ word tight n ∷ []) (take l.other-index l.others))
+    Adds piece_text l.initial.text.items l.text.items
+    (flat_map (λ (n : List ℕ). mark tight (codes ",") ∷ word tight n ∷ []) (take l.other-index l.others))

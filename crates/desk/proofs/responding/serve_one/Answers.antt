@@ -1,59 +1,112 @@
-use Rattle.std.proofs.Common.{◌∙◌, ℕ, List, inl, inr, sym, subst}
+use Rattle.std.proofs.Common.{◌∙◌, ℕ, List, ap, inl, inr, refl, sym, subst, Err}
+use Rattle.std.proofs.lemmas.Result.{err_from_is_err_and}
 use Rattle.std.specs.Io.KnownBytes.{Appends}
 use Rattle.sqlite.specs.Held.{state}
 use Rattle.desk_types.specs.Moved.{AppendsFront}
-use Rattle.desk_types.specs.declared.fault.DeskFault.TheVariants.{Write}
 use Rattle.desk_call.specs.Call.{seen}
-use Rattle.desk.specs.Responding.{HasRefused, HasServed, Responds}
-use Rattle.desk.proofs.Responses.{err_of, left_now, on_ok}
+use Rattle.desk.specs.Responding.{Responds}
+use Rattle.desk.proofs.Devices.{devices_unread, not_unwritten, refuses_unread, serves_unread}
+use Rattle.desk.proofs.Responses.{left_now}
 use Rattle.desk.proofs.responding.serve_one.Goals as goal
 
-pub returns-in_default-clause-memory : goal.returns-in_default-clause-memory
-returns-in_default-clause-memory g c clean h holds is_memory =
+-- ---- the request isn't read
+
+pub returns-in_err-call-clause-devices : goal.returns-in_err-call-clause-devices
+returns-in_err-call-clause-devices g c =
+    let p = err_from_is_err_and c.from_residual.result c.from_residual.ensures.1 in
+    let unread = c.in_err-call.ensures in
+    rw p.1 (devices_unread _ _ g.R.Source g.W.Sink _ p.0 _ _ _ p.2 unread.reads (λ is. unread.failed (ap Err is)))
+
+pub returns-in_err-call-clause-refused : goal.returns-in_err-call-clause-refused
+returns-in_err-call-clause-refused g c failed =
+    let p = err_from_is_err_and c.from_residual.result c.from_residual.ensures.1 in
+    rw p.1 (refuses_unread Unit _ p.0 _ _ p.2)
+
+pub returns-in_err-call-clause-served : goal.returns-in_err-call-clause-served
+returns-in_err-call-clause-served g c clean h holds =
+    let p = err_from_is_err_and c.from_residual.result c.from_residual.ensures.1 in
+    let left = left_now h (state g.S.Store c.args.office.now.conn) c.leaves_now.ensures holds in
+    rw p.1 (serves_unread Unit h _ p.0 _ _ _ _ p.2 holds left)
+
+-- ---- there is no memory for its response
+
+pub returns-in_default-clause-devices : goal.returns-in_default-clause-devices
+returns-in_default-clause-devices g c =
+    let read = c.in_ok-call.ensures.reads in
+    record { most = read.most; count = (read.count, refl); short = λ is. cc; unwritten = λ is. refl }
+
+pub returns-in_default-clause-kept : goal.returns-in_default-clause-kept
+returns-in_default-clause-kept g c is =
+    elim is [ inl failed ↦ c.response_to.ensures.refused failed | inr unread ↦ cc ]
+
+pub returns-in_default-clause-served : goal.returns-in_default-clause-served
+returns-in_default-clause-served g c clean h holds =
     inr (seen c.in_ok-call.call, c.in_ok-call.ensures.ok, c.in_default.ensures.err clean h holds)
+
+-- ---- all of its response was written
+
+pub returns-in-Ok-put_all-clause-devices : goal.returns-in-Ok-put_all-clause-devices
+returns-in-Ok-put_all-clause-devices g c =
+    let read = c.in_ok-call.ensures.reads in
+    record {
+      most = read.most;
+      count = (read.count, c.in-Ok-put_all.ensures.count);
+      short = λ is. cc;
+      unwritten = not_unwritten _ (λ is. cc) (λ is. cc);
+    }
+
+pub returns-in-Ok-put_all-clause-kept : goal.returns-in-Ok-put_all-clause-kept
+returns-in-Ok-put_all-clause-kept g c is =
+    elim is [ inl failed ↦ c.response_to.ensures.refused failed | inr unread ↦ cc ]
+
+pub returns-in-Ok-put_all-clause-refused : goal.returns-in-Ok-put_all-clause-refused
+returns-in-Ok-put_all-clause-refused g c failed =
+    let reported = g.W.Sink.reported in
+    let refusal = c.deref.ensures.value ∙ c.in-Ok.ensures.failed failed in (
+      seen c.in_ok-call.call,
+      c.in_ok-call.ensures.ok,
+      subst (Appends (reported c.args.sink.now) (reported c.put_all.new.sink)) refusal c.in-Ok-put_all.ensures.ok,
+    )
+
+pub returns-in-Ok-put_all-clause-served : goal.returns-in-Ok-put_all-clause-served
+returns-in-Ok-put_all-clause-served g c clean h holds =
+    let text = c.deref.result.now in
+    let s = state g.S.Store c.response_to.new.office.conn in
+    let requested = seen c.in_ok-call.call in
+    let responds : Responds h requested text s =
+    subst (λ (l : List ℕ). Responds h requested l s) (sym c.deref.ensures.value) (c.in-Ok.ensures.ok clean h holds) in
+    (requested, text, c.in_ok-call.ensures.ok, responds, c.in-Ok-put_all.ensures.ok)
+
+-- ---- a beginning of its response was written
+
+pub returns-clause-devices : goal.returns-clause-devices
+returns-clause-devices g c =
+    let read = c.in_ok-call.ensures.reads in
+    record {
+      most = read.most;
+      count = (read.count, c.in-Err.ensures.count);
+      short = λ is. cc;
+      unwritten = not_unwritten _ (λ is. cc) (λ is. cc);
+    }
+
+pub returns-clause-kept : goal.returns-clause-kept
+returns-clause-kept g c is =
+    elim is [ inl failed ↦ c.response_to.ensures.refused failed | inr unread ↦ cc ]
+
+pub returns-clause-refused : goal.returns-clause-refused
+returns-clause-refused g c failed =
+    let reported = g.W.Sink.reported in
+    let refusal = c.deref.ensures.value ∙ c.in-Ok.ensures.failed failed in (
+      seen c.in_ok-call.call,
+      c.in_ok-call.ensures.ok,
+      subst (AppendsFront (reported c.args.sink.now) (reported c.put_all.new.sink)) refusal c.in-Err.ensures.front,
+    )
 
 pub returns-clause-served : goal.returns-clause-served
 returns-clause-served g c clean h holds =
-    let reported = g.W.Sink.reported in
     let text = c.deref.result.now in
     let s = state g.S.Store c.response_to.new.office.conn in
     let requested = seen c.in_ok-call.call in
-    let responds : Responds h requested text s = subst (λ (l : List ℕ). Responds h requested l s) (sym c.deref.ensures.value) (c.in-Ok.ensures.ok clean h holds) in
-    on_ok c.put_all.result (Appends (reported c.args.sink.now) (reported c.put_all.new.sink) text)
-    (HasServed h (g.R.Source.left c.args.source.now) (reported c.args.sink.now) (reported c.put_all.new.sink) s) c.put_all.ensures.ok
-    (λ appended. (requested, text, c.in_ok-call.ensures.ok, responds, appended))
-
-pub returns-clause-write : goal.returns-clause-write
-returns-clause-write g c clean h holds is_write =
-    let reported = g.W.Sink.reported in
-    let text = c.deref.result.now in
-    let s = state g.S.Store c.response_to.new.office.conn in
-    let requested = seen c.in_ok-call.call in
-    let responds : Responds h requested text s = subst (λ (l : List ℕ). Responds h requested l s) (sym c.deref.ensures.value) (c.in-Ok.ensures.ok clean h holds) in (
-      requested,
-      text,
-      c.in_ok-call.ensures.ok,
-      responds,
-      err_of c.put_all.result Write (AppendsFront (reported c.args.sink.now) (reported c.put_all.new.sink) text) is_write c.put_all.ensures.front,
-    )
-
-pub returns-clause-failed : goal.returns-clause-failed
-returns-clause-failed g c failed =
-    let reported = g.W.Sink.reported in
-    let requested = seen c.in_ok-call.call in
-    let refusal = c.deref.ensures.value ∙ c.in-Ok.ensures.failed failed in
-    on_ok c.put_all.result (Appends (reported c.args.sink.now) (reported c.put_all.new.sink) c.deref.result.now)
-    (HasRefused (g.R.Source.left c.args.source.now) (reported c.args.sink.now) (reported c.put_all.new.sink)) c.put_all.ensures.ok
-    (λ appended. (requested, c.in_ok-call.ensures.ok, subst (Appends (reported c.args.sink.now) (reported c.put_all.new.sink)) refusal appended))
-
-pub returns-clause-failed_write : goal.returns-clause-failed_write
-returns-clause-failed_write g c failed is_write =
-    let reported = g.W.Sink.reported in
-    let requested = seen c.in_ok-call.call in
-    let refusal = c.deref.ensures.value ∙ c.in-Ok.ensures.failed failed in
-    let front = err_of c.put_all.result Write (AppendsFront (reported c.args.sink.now) (reported c.put_all.new.sink) c.deref.result.now) is_write c.put_all.ensures.front in
-    (requested, c.in_ok-call.ensures.ok, subst (AppendsFront (reported c.args.sink.now) (reported c.put_all.new.sink)) refusal front)
-
-pub returns-in_err-call-clause-memory : goal.returns-in_err-call-clause-memory
-returns-in_err-call-clause-memory g c clean h holds is_memory =
-    inl (holds, left_now h (state g.S.Store c.args.office.now.conn) c.leaves_now.ensures holds)
+    let responds : Responds h requested text s =
+    subst (λ (l : List ℕ). Responds h requested l s) (sym c.deref.ensures.value) (c.in-Ok.ensures.ok clean h holds) in
+    (requested, text, c.in_ok-call.ensures.ok, responds, c.in-Err.ensures.front)

@@ -1,17 +1,21 @@
-use Rattle.std.proofs.Common.{◌≡◌, ◌≤◌, ◌<◌, ◌⊎◌, drop, length, inl, inr, arith, ap, Err}
+use Rattle.std.proofs.Common.{◌≡◌, ◌∙◌, ◌≤◌, ◌<◌, ◌⊎◌, drop, length, inl, inr, refl, arith, ap, Err}
+use Rattle.std.proofs.KnownBytes.{Keeps-refl}
 use Rattle.std.proofs.lemmas.List.{take_rest}
 use Rattle.std.specs.Io.KnownBytes.{IsAtEnd}
 use Rattle.desk_types.specs.Moved.{Moves}
-use Rattle.desk_types.specs.declared.fault.DeskFault.TheVariants.{Read}
+use Rattle.desk_types.specs.declared.fault.ReadFault.TheVariants.{Read}
+use Rattle.desk_types.proofs.Gives.{gives_none, reads_to_fault}
 use Rattle.desk_head.specs.Demand.{demand_of, body_size}
 use Rattle.desk_head.specs.Head.{IsHeadAt}
+use Rattle.desk_head.specs.Limits.{head_limit, request_limit}
+use Rattle.desk_head.proofs.BodySizes.{size_is_small}
 use Rattle.desk_call.specs.Call.{call_of, seen}
 use Rattle.desk_call.proofs.Gives.{gives_request}
 use Rattle.desk_call.proofs.Whole.{requests, either, not_whole}
 use Rattle.desk_call.proofs.reading.read_call.Goals as goal
 
-pub returns-in-Err-read_until-clause-read : goal.returns-in-Err-read_until-clause-read
-returns-in-Err-read_until-clause-read g c is_read =
+pub returns-in-Err-read_until-clause-failed : goal.returns-in-Err-read_until-clause-failed
+returns-in-Err-read_until-clause-failed g c is_read =
     let left = g.R.Source.left in
     let got = c.read_head.new.got.items in
     let rest = c.read_until.new.got.items in
@@ -20,10 +24,11 @@ returns-in-Err-read_until-clause-read g c is_read =
     let tail : c.in-Ok.rest.items ≡ drop spans.len got =
     rw (c.deref-2.ensures.value, take_rest got spans.len) at c.in-Ok.ensures.items in
     let fault : c.in-Err-read_until.e ≡ Read = cc is_read in
-    let read = c.in-Err-read_until.ensures.read (ap Err fault) in
+    let read = c.in-Err-read_until.ensures.failed (ap Err fault) in
     let second : Moves (left c.read_head.new.source) (left c.read_until.new.source) (drop spans.len got) rest =
     rw tail at read.0 in
-    let demand : c.demand_at-demand.result ≡ demand_of head.1.0 = c.demand_at-demand.ensures head.1.0 (rw c.deref.ensures.value head.1.2) in
+    let demand : c.demand_at-demand.result ≡ demand_of head.1.0 =
+    c.demand_at-demand.ensures head.1.0 (rw c.deref.ensures.value head.1.2) in
     let short : length rest < body_size (demand_of head.1.0) =
     rw (← demand) (omega (arith, read.1, c.body_size.ensures, c.read_until.new.got.ok.0)) in
     not_whole _ _ _ got (drop spans.len got) rest head.1.0 c.in-Ok-Some.ensures.moves second head.1.1 short
@@ -39,7 +44,8 @@ returns-in-Ok-call_read-clause-ok g c =
     rw (c.deref-2.ensures.value, take_rest got spans.len) at c.in-Ok.ensures.items in
     let second : Moves (left c.read_head.new.source) (left c.read_until.new.source) (drop spans.len got) rest =
     rw tail at c.in-Ok-read_until.ensures.moves in
-    let demand : c.demand_at-demand.result ≡ demand_of head.1.0 = c.demand_at-demand.ensures head.1.0 (rw c.deref.ensures.value head.1.2) in
+    let demand : c.demand_at-demand.result ≡ demand_of head.1.0 =
+    c.demand_at-demand.ensures head.1.0 (rw c.deref.ensures.value head.1.2) in
     let end : (body_size (demand_of head.1.0) ≤ length rest) ⊎ IsAtEnd (left c.read_until.new.source) =
     elim (either c.read_until.result c.in-Ok-read_until.field-0 c.in-Ok-read_until.is
     c.read_until.ensures.whole c.read_until.ensures.end) [
@@ -52,26 +58,42 @@ returns-in-Ok-call_read-clause-ok g c =
     requests (left c.args.source.now) _ _ got (drop spans.len got) rest head.1.0 _
     c.in-Ok-Some.ensures.moves second head.1.1 is end
 
-pub returns-in-Err-read_until-clause-most : goal.returns-in-Err-read_until-clause-most
-returns-in-Err-read_until-clause-most g c =
-    let got = c.read_head.new.got.items in
-    let head : IsHeadAt got c.read_head.new.headers c.in-Ok-Some.spans =
-    rw c.in-Ok-Some.field-0-is at c.in-Ok-Some.ensures.head in
-    gives_request _ _ _ c.demand_at-demand.result head.1.0 _ _ c.read_head.ensures.most c.read_until.ensures.most c.body_size.ensures
-    (c.demand_at-demand.ensures head.1.0 (rw c.deref.ensures.value head.1.2))
+pub returns-in-Err-clause-reads : goal.returns-in-Err-clause-reads
+returns-in-Err-clause-reads g c =
+    reads_to_fault _ _ g.R.Source _ _ _ 0 _ request_limit c.in-Err.e (gives_none _ _ 0 (Keeps-refl _)) refl
+    c.in-Err.ensures.reads (omega arith)
 
-pub returns-in-Ok-call_read-clause-most : goal.returns-in-Ok-call_read-clause-most
-returns-in-Ok-call_read-clause-most g c =
+pub returns-in-Err-read_until-clause-reads : goal.returns-in-Err-read_until-clause-reads
+returns-in-Err-read_until-clause-reads g c =
     let got = c.read_head.new.got.items in
     let head : IsHeadAt got c.read_head.new.headers c.in-Ok-Some.spans =
     rw c.in-Ok-Some.field-0-is at c.in-Ok-Some.ensures.head in
-    gives_request _ _ _ c.demand_at-demand.result head.1.0 _ _ c.read_head.ensures.most c.read_until.ensures.most c.body_size.ensures
-    (c.demand_at-demand.ensures head.1.0 (rw c.deref.ensures.value head.1.2))
+    let demand : c.demand_at-demand.result ≡ demand_of head.1.0 =
+    c.demand_at-demand.ensures head.1.0 (rw c.deref.ensures.value head.1.2) in
+    reads_to_fault _ _ g.R.Source _ _ _ head_limit _ request_limit c.in-Err-read_until.e
+    c.in-Ok-Some.ensures.reads.most c.in-Ok-Some.ensures.reads.count c.in-Err-read_until.ensures.reads
+    (omega (arith, size_is_small head.1.0, c.body_size.ensures, ap body_size demand))
 
-pub returns-clause-most : goal.returns-clause-most
-returns-clause-most g c =
+pub returns-in-Ok-call_read-clause-reads : goal.returns-in-Ok-call_read-clause-reads
+returns-in-Ok-call_read-clause-reads g c =
     let got = c.read_head.new.got.items in
     let head : IsHeadAt got c.read_head.new.headers c.in-Ok-Some.spans =
     rw c.in-Ok-Some.field-0-is at c.in-Ok-Some.ensures.head in
-    gives_request _ _ _ c.demand_at-demand.result head.1.0 _ _ c.read_head.ensures.most c.read_until.ensures.most c.body_size.ensures
-    (c.demand_at-demand.ensures head.1.0 (rw c.deref.ensures.value head.1.2))
+    let demand = c.demand_at-demand.ensures head.1.0 (rw c.deref.ensures.value head.1.2) in
+    record {
+      most = gives_request _ _ _ c.demand_at-demand.result head.1.0 _ _ c.in-Ok-Some.ensures.reads.most
+          c.in-Ok-read_until.ensures.reads.most c.body_size.ensures demand;
+      count = c.in-Ok-read_until.ensures.reads.count ∙ c.in-Ok-Some.ensures.reads.count;
+    }
+
+pub returns-clause-reads : goal.returns-clause-reads
+returns-clause-reads g c =
+    let got = c.read_head.new.got.items in
+    let head : IsHeadAt got c.read_head.new.headers c.in-Ok-Some.spans =
+    rw c.in-Ok-Some.field-0-is at c.in-Ok-Some.ensures.head in
+    let demand = c.demand_at-demand.ensures head.1.0 (rw c.deref.ensures.value head.1.2) in
+    record {
+      most = gives_request _ _ _ c.demand_at-demand.result head.1.0 _ _ c.in-Ok-Some.ensures.reads.most
+          c.in-Ok-read_until.ensures.reads.most c.body_size.ensures demand;
+      count = c.in-Ok-read_until.ensures.reads.count ∙ c.in-Ok-Some.ensures.reads.count;
+    }

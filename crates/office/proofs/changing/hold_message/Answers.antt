@@ -1,8 +1,8 @@
 use Rattle.std.proofs.Common.{◌∙◌, List, ap, sym, subst}
 use Rattle.std.proofs.lemmas.Option.{get_or_from_slice_get}
+use Rattle.base.specs.Ascending.{IsAt, IsGap}
 use Rattle.can_id.specs.Ident.{dbc_number}
 use Rattle.can_id.specs.declared.ident.Ident.{Ident}
-use Rattle.catalogue.specs.Ascending.{IsAt, IsGap}
 use Rattle.office_types.specs.declared.state.LiveMessage.{LiveMessage}
 use Rattle.office_rules.specs.Facts.{live_name}
 use Rattle.office.specs.Indexed.{IsIndexIfThere}
@@ -43,8 +43,10 @@ returns-clause-index c =
     let ident = c.args.ident.now in
     let at = c.args.at in
     let removed = c.remove-removed.result in
-    subst (λ (p : List LiveMessage × List Ident). IsIndexIfThere c.with_moved.result (record net { live = p.0; held = p.1 }))
+    subst (λ (p : List LiveMessage × List Ident). IsIndexIfThere c.with_moved.result
+    (record net { live = p.0; held = p.1 }))
     (λ i. (sym c.remove-removed.ensures.rest i, sym c.in_ok-insert-in-Err.ensures.ok i))
     (c.with_moved.ensures.follows net at c.in-Err.gap ident
-    (removable net c.requires.net ident at c.requires.found removed.message.name (λ d. ap live_name (get_or_from_slice_get net.live at removed d c.remove-removed.ensures.item)))
+    (removable net c.requires.net ident at c.requires.found removed.message.name
+    (λ d. ap live_name (get_or_from_slice_get net.live at removed d c.remove-removed.ensures.item)))
     (subst (λ o. IsIndexIfThere o net) (sym c.replace-before.ensures.value) c.requires.index))

@@ -1,7 +1,7 @@
 use Rattle.std.proofs.Common.{◌∙◌, List, sym}
-use Rattle.catalogue.specs.Signals.{without_signal}
+use Rattle.dbc_sheet.specs.Signals.{without_signal}
 use Rattle.office_types.specs.declared.state.LiveMessage.{LiveMessage}
-use Rattle.catalogue.specs.declared.signal.Signal.{Signal}
+use Rattle.dbc_sheet.specs.declared.signal.Signal.{Signal}
 use Rattle.office.proofs.Changed.{index-with_signals}
 use Rattle.office.proofs.InPlace.{changed_in_place, is_within, none_changed}
 use Rattle.office.proofs.changing.remove_signal_in.Goals as goal
@@ -22,11 +22,13 @@ pub returns-in-Some-clause-net : goal.returns-in-Some-clause-net
 returns-in-Some-clause-net c =
     let path = c.args.path.now in
     let signals : LiveMessage → List Signal = λ m. without_signal m.message.signals path.signal in
-    changed_in_place c.args.net.now path.message signals c.in-Some.at (sym c.find_named.ensures ∙ c.in-Some.is) c.take_out_at.new.live c.requires.net c.take_out_at.ensures
+    changed_in_place c.args.net.now path.message signals c.in-Some.at (sym c.find_named.ensures ∙ c.in-Some.is)
+    c.take_out_at.new.live c.requires.net c.take_out_at.ensures
 
 pub returns-in-Some-clause-index : goal.returns-in-Some-clause-index
 returns-in-Some-clause-index c =
     let path = c.args.path.now in
     let signals : LiveMessage → List Signal = λ m. without_signal m.message.signals path.signal in
     index-with_signals c.args.index.now c.args.net.now c.in-Some.at signals c.take_out_at.new.live
-    (is_within c.args.net.now path.message signals c.in-Some.at (sym c.find_named.ensures ∙ c.in-Some.is)) c.take_out_at.ensures c.requires.index
+    (is_within c.args.net.now path.message signals c.in-Some.at (sym c.find_named.ensures ∙ c.in-Some.is))
+    c.take_out_at.ensures c.requires.index

@@ -7,5 +7,6 @@ use Rattle.office.proofs.indexed.facts_for.Goals as goal
 
 pub returns-in-Idents-clause-facts : goal.returns-in-Idents-clause-facts
 returns-in-Idents-clause-facts c = λ team.
-    subst (λ (s : Scope). AreFacts team c.args.net.now (scope_as s) (Numbers (number_facts_of c.ident_facts.result))) (sym c.in-Idents.is)
+    subst (λ (s : Scope). AreFacts team c.args.net.now (scope_as s) (Numbers (number_facts_of c.ident_facts.result)))
+    (sym c.in-Idents.is)
     (c.ident_facts.ensures team)

@@ -11,7 +11,8 @@ pub returns : goal.returns
 returns c = λ team.
     let net = c.args.net.now in
     let take = c.args.take.now in
-    let known = c.contains_key-named.ensures ∙ ap is_some (c.requires.index.names take.message.name) ∙ any_found (named take.message.name) live_number net.live in
+    let known = c.contains_key-named.ensures ∙ ap is_some (c.requires.index.names take.message.name)
+    ∙ any_found (named take.message.name) live_number net.live in
     let taken = ap (λ (f : NumberFacts). f.taken) c.number_facts.ensures in
     record {
       others = sym (c.number_facts.ensures ∙ (λ i. record (group_facts net []) {

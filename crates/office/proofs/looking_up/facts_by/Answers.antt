@@ -7,4 +7,5 @@ look_up-at-requires-clause-rising c = live_rises c.args.net.now c.requires.net
 
 pub returns : goal.returns
 returns c =
-    facts_are_those c.args.net.now c.args.name.now c.look_up-at.result (message_facts_of c.facts_at.result) c.facts_at.ensures c.look_up-at.ensures
+    facts_are_those c.args.net.now c.args.name.now c.look_up-at.result (message_facts_of c.facts_at.result)
+    c.facts_at.ensures c.look_up-at.ensures

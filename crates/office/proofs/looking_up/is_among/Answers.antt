@@ -1,6 +1,6 @@
 use Rattle.std.proofs.Common.{◌∙◌, ap, sym, subst}
+use Rattle.base.specs.Ascending.{IsAt, IsGap}
 use Rattle.can_id.specs.Ident.{dbc_number}
-use Rattle.catalogue.specs.Ascending.{IsAt, IsGap}
 use Rattle.office_rules.specs.Facts.{same_ident}
 use Rattle.office.proofs.Looked.{among_at, among_none}
 use Rattle.office.proofs.looking_up.is_among.Goals as goal
@@ -9,10 +9,13 @@ pub returns-in-Ok : goal.returns-in-Ok
 returns-in-Ok c =
     let idents = c.args.idents.now in
     let at = c.in-Ok.at in
-    c.same_ident.ensures ∙ ap (λ j. same_ident j c.args.ident.now) c.index-idents-at.is ∙ among_at idents c.args.ident.now at c.index-idents-at.result (subst (λ k. IsAt dbc_number idents k at) c.to_dbc.ensures.number c.in-Ok.ensures.found)
+    c.same_ident.ensures ∙ ap (λ j. same_ident j c.args.ident.now) c.index-idents-at.is
+    ∙ among_at idents c.args.ident.now at c.index-idents-at.result
+    (subst (λ k. IsAt dbc_number idents k at) c.to_dbc.ensures.number c.in-Ok.ensures.found)
 
 pub returns-in-Err : goal.returns-in-Err
 returns-in-Err c =
     let idents = c.args.idents.now in
     let at = c.in-Err.field-0 in
-    sym (among_none idents c.args.ident.now at (subst (λ k. IsGap dbc_number idents k at) c.to_dbc.ensures.number c.in-Err.ensures.absent))
+    sym (among_none idents c.args.ident.now at
+    (subst (λ k. IsGap dbc_number idents k at) c.to_dbc.ensures.number c.in-Err.ensures.absent))

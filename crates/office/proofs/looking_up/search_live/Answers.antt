@@ -1,6 +1,6 @@
 use Rattle.std.proofs.Common.{rules}
 use Rattle.std.proofs.lemmas.List.Sorted.{answers_always}
-use Rattle.catalogue.proofs.AscendingLists.{searched}
+use Rattle.base.proofs.AscendingLists.{searched}
 use Rattle.office.specs.Indexed.{live_number}
 use Rattle.office.proofs.looking_up.search_live.Goals as goal
 

@@ -1,8 +1,9 @@
-use Rattle.std.proofs.Common.{◌≡◌, ◌∙◌, ◌+◌, ◌-◌, ◌<◌, ◌∷◌, List, Some, cond, length, drop, get_or, sym, ap, subst, arith}
+use Rattle.std.proofs.Common.{◌≡◌, ◌∙◌, ◌+◌, ◌-◌, ◌<◌, ◌∷◌, List, Some, cond, length, drop, get_or, sym, ap, subst}
+use Rattle.std.proofs.Common.{arith}
 use Rattle.std.specs.BTreeMap.{get}
 use Rattle.std.specs.Ordering.{is_eq}
 use Rattle.std.proofs.lemmas.List.{drop_more}
-use Rattle.catalogue.specs.Keyed.{text_cmp}
+use Rattle.base.specs.Keyed.{text_cmp}
 use Rattle.office_types.specs.declared.state.LiveMessage.{LiveMessage}
 use Rattle.office.proofs.Indexes.{AreNames, names-first}
 use Rattle.office.proofs.net_index.names_of.Goals as goal
@@ -16,10 +17,12 @@ loop-at-preserved c =
     let le = c.loop-at.invariant.within in
     let within : at - 1 < length live = omega arith in
     let next : at - 1 + 1 ≡ at = omega arith in
-    let here : drop (at - 1) live ≡ m ∷ drop at live = drop_more live (at - 1) c.index-live-at.result within ∙ ap (λ k. m ∷ drop k live) next in
+    let here : drop (at - 1) live ≡ m ∷ drop at live = drop_more live (at - 1) c.index-live-at.result within
+    ∙ ap (λ k. m ∷ drop k live) next in
     record {
       within = omega arith;
-      names = subst (λ (ms : List LiveMessage). AreNames c.insert.new.self ms) (sym here) (names-first before c.insert.new.self (drop at live) c.loop-at.invariant.names m (λ q.
+      names = subst (λ (ms : List LiveMessage). AreNames c.insert.new.self ms) (sym here)
+          (names-first before c.insert.new.self (drop at live) c.loop-at.invariant.names m (λ q.
           c.in_ok-insert.ensures.updates.0 q
           ∙ ap (λ k. cond (is_eq (text_cmp k q)) (Some c.number.result) (get text_cmp before q)) c.in_ok-name.ensures
           ∙ ap (λ v. cond (is_eq (text_cmp m.message.name q)) (Some v) (get text_cmp before q)) c.number.ensures));

@@ -12,4 +12,5 @@ loop-indexes-preserved c =
     let le = c.loop-indexes-test.true in
     let len = c.len.ensures in
     let room : length xs < length nets = omega (arith, within, le, len, c.loop-indexes.indexes.ok.0) in
-    subst (λ (v : List (Option NetIndex)). AreIndexes v nets) (sym c.in-Ok.ensures.items) (indexes-push xs nets c.loop-indexes.invariant room)
+    subst (λ (v : List (Option NetIndex)). AreIndexes v nets) (sym c.in-Ok.ensures.items)
+    (indexes-push xs nets c.loop-indexes.invariant room)

@@ -14,7 +14,8 @@ returns-in-Ok c =
 pub returns-in-Some : goal.returns-in-Some
 returns-in-Some c =
     let other = c.in-Some.ensures.other in
-    let given = read_fault c.args.file.now c.in-Err.fault _ refl other (c.in-Err.ensures.none other) c.in-Err.ensures.within c.in-Err.ensures.tokens in
+    let given = read_fault c.args.file.now c.in-Err.fault _ refl other (c.in-Err.ensures.none other)
+    c.in-Err.ensures.within c.in-Err.ensures.tokens in
     record {
       reading = Unreadable c.in-Some.reported;
       read = record { fault = c.in-Err.fault; given = given; reports = c.in-Some.ensures };

@@ -9,4 +9,5 @@ use Rattle.office_facts.proofs.blocks.has_block.Goals as goal
 pub returns : goal.returns
 returns c =
     c.some_block.ensures
-    ∙ list_any-some (λ (g : GrantedBlock). numbers_of g.block) (λ g. same_form g.block.form c.args.form && bytes_eq g.team c.args.team.now) c.args.blocks.now
+    ∙ list_any-some (λ (g : GrantedBlock). numbers_of g.block)
+    (λ g. same_form g.block.form c.args.form && bytes_eq g.team c.args.team.now) c.args.blocks.now

@@ -8,7 +8,8 @@ use Rattle.office_facts.proofs.Least.{is_taken-dedup}
 use Rattle.office_facts.proofs.taken.ascending.Goals as goal
 
 pub returns-clause-rising : goal.returns-clause-rising
-returns-clause-rising c = rw (dedup_is eqb _ _ c.dedup.ensures.filtered) (IsStrictlyIncreasing-dedup _ c.in_ok-sort.ensures.sorted)
+returns-clause-rising c =
+    rw (dedup_is eqb _ _ c.dedup.ensures.filtered) (IsStrictlyIncreasing-dedup _ c.in_ok-sort.ensures.sorted)
 
 pub returns-clause-same : goal.returns-clause-same
 returns-clause-same c = λ n.

@@ -7,4 +7,5 @@ pub returns : goal.returns
 returns c =
     c.least_free.ensures.computed
     ∙ ap (λ (v : List ℕ). least_free v c.args.blocks.now c.args.form) c.deref.ensures.value
-    ∙ least_free-same c.in_ok-rising.rising.items c.args.numbers.items c.in_ok-rising.ensures.same c.args.blocks.now c.args.form
+    ∙ least_free-same c.in_ok-rising.rising.items c.args.numbers.items c.in_ok-rising.ensures.same c.args.blocks.now
+    c.args.form

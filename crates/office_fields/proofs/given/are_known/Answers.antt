@@ -7,5 +7,6 @@ use Rattle.office_fields.proofs.given.are_known.Goals as goal
 
 pub returns : goal.returns
 returns c =
-    all_from_yields_List (λ v. is_name_of c.args.fields.now v.name.now) _ _ c.all.result c.all.ensures.ran (YieldsList-from_slice c.args.values.now cc) (λ x b q k. search (rules, tests))
+    all_from_yields_List (λ v. is_name_of c.args.fields.now v.name.now) _ _ c.all.result c.all.ensures.ran
+    (YieldsList-from_slice c.args.values.now cc) (λ x b q k. search (rules, tests))
     ∙ known_views c.args.fields.now c.args.values.now

@@ -8,4 +8,5 @@ use Rattle.office_fields.proofs.given.each.Given as goal
 abbrev pub invariant-loop-given : goal.invariant-loop-given
 invariant-loop-given g l =
     read_each g.T.FieldValue.read (values_of (named_values l.values) (row_of l.field).name)
-    ≡ option_map (λ more. l.items.items ++ more) (read_each g.T.FieldValue.read (values_of (named_values (drop l.given-index l.values)) (row_of l.field).name))
+    ≡ option_map (λ more. l.items.items ++ more)
+    (read_each g.T.FieldValue.read (values_of (named_values (drop l.given-index l.values)) (row_of l.field).name))

@@ -20,16 +20,20 @@ pub returns-in-NetKind : goal.returns-in-NetKind
 returns-in-NetKind c = of_kind c.gives-in-NetKind.result _ _ c.args.bytes.now c.in-NetKind.is c.gives-in-NetKind.ensures
 
 pub returns-in-IdentForm : goal.returns-in-IdentForm
-returns-in-IdentForm c = of_kind c.gives-in-IdentForm.result _ _ c.args.bytes.now c.in-IdentForm.is c.gives-in-IdentForm.ensures
+returns-in-IdentForm c = of_kind c.gives-in-IdentForm.result _ _ c.args.bytes.now c.in-IdentForm.is
+    c.gives-in-IdentForm.ensures
 
 pub returns-in-BlockForm : goal.returns-in-BlockForm
-returns-in-BlockForm c = of_kind c.gives-in-BlockForm.result _ _ c.args.bytes.now c.in-BlockForm.is c.gives-in-BlockForm.ensures
+returns-in-BlockForm c = of_kind c.gives-in-BlockForm.result _ _ c.args.bytes.now c.in-BlockForm.is
+    c.gives-in-BlockForm.ensures
 
 pub returns-in-Addressing : goal.returns-in-Addressing
-returns-in-Addressing c = of_kind c.gives-in-Addressing.result _ _ c.args.bytes.now c.in-Addressing.is c.gives-in-Addressing.ensures
+returns-in-Addressing c = of_kind c.gives-in-Addressing.result _ _ c.args.bytes.now c.in-Addressing.is
+    c.gives-in-Addressing.ensures
 
 pub returns-in-ByteOrder : goal.returns-in-ByteOrder
-returns-in-ByteOrder c = of_kind c.gives-in-ByteOrder.result _ _ c.args.bytes.now c.in-ByteOrder.is c.gives-in-ByteOrder.ensures
+returns-in-ByteOrder c = of_kind c.gives-in-ByteOrder.result _ _ c.args.bytes.now c.in-ByteOrder.is
+    c.gives-in-ByteOrder.ensures
 
 pub returns-in-Truth : goal.returns-in-Truth
 returns-in-Truth c = of_kind c.gives-in-Truth.result _ _ c.args.bytes.now c.in-Truth.is c.gives-in-Truth.ensures
@@ -47,7 +51,8 @@ pub returns-in-Length : goal.returns-in-Length
 returns-in-Length c = of_kind c.gives-in-Length.result _ _ c.args.bytes.now c.in-Length.is c.gives-in-Length.ensures
 
 pub returns-in-Priority : goal.returns-in-Priority
-returns-in-Priority c = of_kind c.gives-in-Priority.result _ _ c.args.bytes.now c.in-Priority.is c.gives-in-Priority.ensures
+returns-in-Priority c = of_kind c.gives-in-Priority.result _ _ c.args.bytes.now c.in-Priority.is
+    c.gives-in-Priority.ensures
 
 pub returns-in-Address : goal.returns-in-Address
 returns-in-Address c = of_kind c.gives-in-Address.result _ _ c.args.bytes.now c.in-Address.is c.gives-in-Address.ensures
@@ -62,4 +67,5 @@ pub returns-in-Decimal : goal.returns-in-Decimal
 returns-in-Decimal c = of_kind c.gives-in-Decimal.result _ _ c.args.bytes.now c.in-Decimal.is c.gives-in-Decimal.ensures
 
 pub returns-in-ValueText : goal.returns-in-ValueText
-returns-in-ValueText c = of_kind c.gives-in-ValueText.result _ _ c.args.bytes.now c.in-ValueText.is c.gives-in-ValueText.ensures
+returns-in-ValueText c = of_kind c.gives-in-ValueText.result _ _ c.args.bytes.now c.in-ValueText.is
+    c.gives-in-ValueText.ensures

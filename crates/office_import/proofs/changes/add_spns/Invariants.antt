@@ -3,4 +3,6 @@ use Rattle.office_types.specs.declared.change.Change.TheVariants.{EnterSpn}
 use Rattle.office_import.proofs.changes.add_spns.Given as goal
 
 abbrev pub invariant-loop-signal : goal.invariant-loop-signal
-invariant-loop-signal l = l.changes ≡ l.fn.changes ++ map EnterSpn (filter (λ n. not (eqb n 0)) (map (λ s. s.spn) (take l.signal-index l.signals)))
+invariant-loop-signal l =
+    l.changes ≡ l.fn.changes
+    ++ map EnterSpn (filter (λ n. not (eqb n 0)) (map (λ s. s.spn) (take l.signal-index l.signals)))

@@ -1,5 +1,5 @@
 use Rattle.std.proofs.Common.{◌≡◌, ◌-◌, List, length, ap, arith, ◌∙◌}
-use Rattle.catalogue.specs.declared.message.Message.{Message}
+use Rattle.dbc_sheet.specs.declared.message.Message.{Message}
 use Rattle.office_types.specs.declared.reply.Reply.TheVariants.{Counts}
 use Rattle.office_rules.specs.Importing.{live_already, new_messages}
 use Rattle.office_import.proofs.Counted.{counted}
@@ -10,7 +10,8 @@ overflow_sub-same c = omega (arith, c.new_count-new.ensures, counted c.args.inde
 
 pub overflow_cast-result : goal.overflow_cast-result
 overflow_cast-result c =
-    let all : length c.messages-messages.result.now ≡ length c.args.file.now.messages = ap length c.messages-messages.ensures.messages in
+    let all : length c.messages-messages.result.now ≡ length c.args.file.now.messages =
+    ap length c.messages-messages.ensures.messages in
     let few = c.messages-messages.ensures.together.few in
     omega (arith, c.new_count-new.ensures, counted c.args.index.now c.messages-messages.result.now)
 
@@ -18,7 +19,9 @@ pub returns : goal.returns
 returns c =
     let net = c.args.index.now in
     let ms = c.messages-messages.result.now in
-    let same : length ms - c.new_count-new.result ≡ length (live_already net ms) = omega (arith, c.new_count-new.ensures, counted net ms) in
+    let same : length ms - c.new_count-new.result ≡ length (live_already net ms) =
+    omega (arith, c.new_count-new.ensures, counted net ms) in
     ap (λ n. Counts n (length ms - c.new_count-new.result)) c.new_count-new.ensures
     ∙ ap (λ n. Counts (length (new_messages net ms)) n) same
-    ∙ ap (λ (v : List Message). Counts (length (new_messages net v)) (length (live_already net v))) c.messages-messages.ensures.messages
+    ∙ ap (λ (v : List Message). Counts (length (new_messages net v)) (length (live_already net v)))
+    c.messages-messages.ensures.messages

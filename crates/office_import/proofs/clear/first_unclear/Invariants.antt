@@ -1,6 +1,6 @@
 use Rattle.std.proofs.Common.{◌≡◌, None, take}
 use Rattle.std.specs.List.{flat_map}
-use Rattle.catalogue.specs.Refusing.{first_refusal}
+use Rattle.base.specs.Refusing.{first_refusal}
 use Rattle.office_rules.specs.Importing.{clear_tests}
 use Rattle.office_import.proofs.clear.first_unclear.Given as goal
 

@@ -1,7 +1,7 @@
 use Rattle.std.proofs.Common.{◌≡◌, List, None, Some, sym, ap, subst, ◌∙◌}
 use Rattle.std.specs.List.{flat_map}
-use Rattle.catalogue.specs.Refusing.{first_refusal}
-use Rattle.catalogue.specs.declared.message.Message.{Message}
+use Rattle.base.specs.Refusing.{first_refusal}
+use Rattle.dbc_sheet.specs.declared.message.Message.{Message}
 use Rattle.office_types.specs.declared.change.Decision.{Decision}
 use Rattle.office_types.specs.declared.refusal.Refusal.TheVariants as no
 use Rattle.office_types.specs.declared.state.Net.{Net}
@@ -19,9 +19,13 @@ returns-in-Some c = λ name book.
     let net = c.args.index.now in
     let s = c.args.file.now in
     let some : Some c.in-Some.refusal ≡ first_refusal (flat_map (message_import_tests team net) s.messages) =
-    sym c.in-Some.is ∙ c.first_refused.ensures ∙ ap (λ (ms : List Message). first_refusal (flat_map (message_import_tests team net) ms)) c.messages.ensures.messages in
-    Decides-refused name (record { net = Some net; book = book }) (import_tests team (Some net) (Reading s)) _ c.refusal_decision.result c.in-Some.refusal
-    (refused_each team net s c.in-Some.refusal c.requires some) c.refusal_decision.ensures.reply c.refusal_decision.ensures.changes
+    sym c.in-Some.is ∙ c.first_refused.ensures
+    ∙ ap (λ (ms : List Message). first_refusal (flat_map (message_import_tests team net) ms))
+    c.messages.ensures.messages in
+    Decides-refused name (record { net = Some net; book = book }) (import_tests team (Some net) (Reading s)) _
+    c.refusal_decision.result c.in-Some.refusal
+    (refused_each team net s c.in-Some.refusal c.requires some) c.refusal_decision.ensures.reply
+    c.refusal_decision.ensures.changes
 
 pub returns-then-is_too_large : goal.returns-then-is_too_large
 returns-then-is_too_large c = λ name book.
@@ -29,8 +33,11 @@ returns-then-is_too_large c = λ name book.
     let net = c.args.index.now in
     let s = c.args.file.now in
     let none : None ≡ first_refusal (flat_map (message_import_tests team net) s.messages) =
-    sym c.in_default.is ∙ c.first_refused.ensures ∙ ap (λ (ms : List Message). first_refusal (flat_map (message_import_tests team net) ms)) c.messages.ensures.messages in
-    Decides-refused name (record { net = Some net; book = book }) (import_tests team (Some net) (Reading s)) _ c.refusal_decision-then-is_too_large.result no.TooMany
+    sym c.in_default.is ∙ c.first_refused.ensures
+    ∙ ap (λ (ms : List Message). first_refusal (flat_map (message_import_tests team net) ms))
+    c.messages.ensures.messages in
+    Decides-refused name (record { net = Some net; book = book }) (import_tests team (Some net) (Reading s)) _
+    c.refusal_decision-then-is_too_large.result no.TooMany
     (refused_last team net s c.requires none (sym c.is_too_large.ensures ∙ c.if-is_too_large.true))
     c.refusal_decision-then-is_too_large.ensures.reply c.refusal_decision-then-is_too_large.ensures.changes
 
@@ -38,8 +45,10 @@ pub import_changes-requires-clause-room : goal.import_changes-requires-clause-ro
 import_changes-requires-clause-room c =
     let net = c.args.index.now in
     let s = c.args.file.now in
-    subst (CanWiden net.head.frame) (sym (c.in_ok-news.ensures.news ∙ ap (λ (n : Net). frame_news n.head.frame s) c.net-2.ensures))
-    (can_widen net s (subst (λ (n : Net). HasRosters n.head.frame) c.net-2.ensures c.in_ok-news.ensures.frame) c.in_ok-news.ensures.file
+    subst (CanWiden net.head.frame)
+    (sym (c.in_ok-news.ensures.news ∙ ap (λ (n : Net). frame_news n.head.frame s) c.net-2.ensures))
+    (can_widen net s (subst (λ (n : Net). HasRosters n.head.frame) c.net-2.ensures c.in_ok-news.ensures.frame)
+    c.in_ok-news.ensures.file
     (sym c.is_too_large.ensures ∙ c.if-is_too_large.false))
 
 pub returns : goal.returns
@@ -48,8 +57,11 @@ returns c = λ name book.
     let net = c.args.index.now in
     let s = c.args.file.now in
     let none : None ≡ first_refusal (flat_map (message_import_tests team net) s.messages) =
-    sym c.in_default.is ∙ c.first_refused.ensures ∙ ap (λ (ms : List Message). first_refusal (flat_map (message_import_tests team net) ms)) c.messages.ensures.messages in
+    sym c.in_default.is ∙ c.first_refused.ensures
+    ∙ ap (λ (ms : List Message). first_refusal (flat_map (message_import_tests team net) ms))
+    c.messages.ensures.messages in
     let d : Decision = record { changes = c.in_ok-changes.changes; reply = c.counts-reply.result } in
-    Decides-given name (record { net = Some net; book = book }) (import_tests team (Some net) (Reading s)) (import_sheet team net s) d
+    Decides-given name (record { net = Some net; book = book }) (import_tests team (Some net) (Reading s))
+    (import_sheet team net s) d
     (none_refused team net s c.requires none (sym c.is_too_large.ensures ∙ c.if-is_too_large.false))
     (Decides-imported name team net book s d c.in_ok-changes.ensures c.counts-reply.ensures)

@@ -12,12 +12,16 @@ returns-in-Some c = λ name book.
     let team = c.args.team.now in
     let net = c.args.net.now in
     let s = c.args.file.now in
-    Decides-refused name (record { net = Some net; book = book }) (import_tests team (Some net) (Reading s)) _ c.refusal_decision.result c.in-Some.refusal
-    (refused_early team net s c.in-Some.refusal (sym c.in-Some.is ∙ c.in_ok-refusal.ensures)) c.refusal_decision.ensures.reply c.refusal_decision.ensures.changes
+    Decides-refused name (record { net = Some net; book = book }) (import_tests team (Some net) (Reading s)) _
+    c.refusal_decision.result c.in-Some.refusal
+    (refused_early team net s c.in-Some.refusal (sym c.in-Some.is ∙ c.in_ok-refusal.ensures))
+    c.refusal_decision.ensures.reply c.refusal_decision.ensures.changes
 
 pub returns : goal.returns
 returns c =
     let team = c.args.team.now in
     let s = c.args.file.now in
-    subst (λ (n : Net). IfOk c.decide_clear.result (λ d. (name : List ℕ) → (book : SpnBook) → Decides name (record { net = Some n; book = book }) (import team (Some n) (Reading s)) d))
+    subst (λ (n : Net). IfOk c.decide_clear.result
+    (λ d. (name : List ℕ) → (book : SpnBook)
+    → Decides name (record { net = Some n; book = book }) (import team (Some n) (Reading s)) d))
     c.in_ok-index.ensures c.decide_clear.ensures

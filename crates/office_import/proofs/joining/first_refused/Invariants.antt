@@ -1,8 +1,9 @@
 use Rattle.std.proofs.Common.{◌≡◌, None, take}
 use Rattle.std.specs.List.{flat_map}
-use Rattle.catalogue.specs.Refusing.{first_refusal}
+use Rattle.base.specs.Refusing.{first_refusal}
 use Rattle.office_rules.specs.Importing.{message_import_tests}
 use Rattle.office_import.proofs.joining.first_refused.Given as goal
 
 abbrev pub invariant-loop-message : goal.invariant-loop-message
-invariant-loop-message l = first_refusal (flat_map (message_import_tests l.team l.index) (take l.message-index l.messages)) ≡ None
+invariant-loop-message l =
+    first_refusal (flat_map (message_import_tests l.team l.index) (take l.message-index l.messages)) ≡ None

@@ -1,7 +1,7 @@
 use Rattle.std.proofs.Common.{◌≡◌, ℕ, List, take}
 use Rattle.std.specs.BTreeSet.{contains}
-use Rattle.catalogue.specs.Keyed.{text_cmp}
-use Rattle.catalogue.specs.Named.{has_name}
+use Rattle.base.specs.Keyed.{text_cmp}
+use Rattle.dbc_words.specs.Named.{has_name}
 use Rattle.office_rules.specs.Facts.{live_name}
 use Rattle.office_import.proofs.names.live_names.Given as goal
 

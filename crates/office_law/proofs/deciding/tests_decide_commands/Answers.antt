@@ -1,4 +1,4 @@
-use Rattle.office_law.proofs.Decided.{tests_decide}
+use Rattle.office_law.proofs.DecidedByTests.{tests_decide}
 use Rattle.office_law.proofs.deciding.tests_decide_commands.Goals as goal
 
 pub returns : goal.returns

@@ -1,4 +1,4 @@
-use Rattle.office_law.proofs.Wanting.{least_inside_blocks}
+use Rattle.office_law.proofs.RefusalsForAbsence.{least_inside_blocks}
 use Rattle.office_law.proofs.laws.numbers_elsewhere_do_not_count.Goals as goal
 
 pub returns : goal.returns

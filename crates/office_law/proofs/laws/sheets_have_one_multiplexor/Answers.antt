@@ -1,4 +1,4 @@
-use Rattle.office_law.proofs.Wanting.{never_two}
+use Rattle.office_law.proofs.RefusalsForAbsence.{never_two}
 use Rattle.office_law.proofs.laws.sheets_have_one_multiplexor.Goals as goal
 
 pub returns : goal.returns

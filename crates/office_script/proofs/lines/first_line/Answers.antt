@@ -9,7 +9,8 @@ returns-then-is_empty-clause-lines c = lines_law c.args.text.now
 
 pub returns-in-Some-clause-next : goal.returns-in-Some-clause-next
 returns-in-Some-clause-next c =
-    ap lines_of c.in-Some.ensures.parts.1 ∙ lines_of-feed c.in-Some.line.now c.in-Some.rest.now c.in-Some.ensures.parts.0
+    ap lines_of c.in-Some.ensures.parts.1
+    ∙ lines_of-feed c.in-Some.line.now c.in-Some.rest.now c.in-Some.ensures.parts.0
 
 pub returns-in-Some-clause-lines : goal.returns-in-Some-clause-lines
 returns-in-Some-clause-lines c = lines_law c.args.text.now

@@ -17,12 +17,14 @@ loop-low-preserved-then-numbers-middle c =
     let d = inv.within in
     let there : first + (low + (high - low) / 2) ≤ get_or xs (low + (high - low) / 2) 0 + start =
     least_there xs c.requires.rising first start split (low + (high - low) / 2) (omega arith) (omega arith) in
-    let here : get_or xs (low + (high - low) / 2) 0 + start ≡ first + (low + (high - low) / 2) = let e = c.if-numbers-middle.true in omega arith in
+    let here : get_or xs (low + (high - low) / 2) 0 + start ≡ first + (low + (high - low) / 2) = let e =
+    c.if-numbers-middle.true in omega arith in
     record {
       after = omega arith;
       order = omega arith;
       within = d;
-      least = λ j u v. all_least xs c.requires.rising first start split j (low + (high - low) / 2) u (omega arith) (omega arith) here;
+      least = λ j u v. all_least xs c.requires.rising first start split j (low + (high - low) / 2) u (omega arith)
+          (omega arith) here;
       greater = inv.greater;
     }
 
@@ -40,7 +42,8 @@ loop-low-preserved c =
     let d = inv.within in
     let there : first + (low + (high - low) / 2) ≤ get_or xs (low + (high - low) / 2) 0 + start =
     least_there xs c.requires.rising first start split (low + (high - low) / 2) (omega arith) (omega arith) in
-    let more : first + (low + (high - low) / 2) < get_or xs (low + (high - low) / 2) 0 + start = let e = c.if-numbers-middle.false in omega arith in
+    let more : first + (low + (high - low) / 2) < get_or xs (low + (high - low) / 2) 0 + start = let e =
+    c.if-numbers-middle.false in omega arith in
     record {
       after = a;
       order = omega arith;
@@ -62,10 +65,17 @@ returns-then-number-min c =
     let b = inv.order in
     let d = inv.within in
     let gap : IsFirstGap xs c.requires.rising first start split low =
-    record { after = inv.after; within = omega arith; least = inv.least; greater = λ j u v. inv.greater j (omega arith) v } in
+    record {
+      after = inv.after;
+      within = omega arith;
+      least = inv.least;
+      greater =
+          λ j u v. inv.greater j (omega arith) v;
+    } in
     let e = c.min.ensures in
     let g = c.greatest.ensures in
-    gap_is_least xs c.args.block c.args.form c.requires.rising c.args.least c.requires.formed c.requires.above first c.max-from.ensures start split low gap (first + (low - start)) refl (omega arith) (omega arith)
+    gap_is_least xs c.args.block c.args.form c.requires.rising c.args.least c.requires.formed c.requires.above first
+    c.max-from.ensures start split low gap (first + (low - start)) refl (omega arith) (omega arith)
 
 pub returns-else-number-min : goal.returns-else-number-min
 returns-else-number-min c =
@@ -80,10 +90,17 @@ returns-else-number-min c =
     let b = inv.order in
     let d = inv.within in
     let gap : IsFirstGap xs c.requires.rising first start split low =
-    record { after = inv.after; within = omega arith; least = inv.least; greater = λ j u v. inv.greater j (omega arith) v } in
+    record {
+      after = inv.after;
+      within = omega arith;
+      least = inv.least;
+      greater =
+          λ j u v. inv.greater j (omega arith) v;
+    } in
     let e = c.min.ensures in
     let g = c.greatest.ensures in
-    gap_is_past xs c.args.block c.args.form c.requires.rising c.args.least c.requires.formed c.requires.above first c.max-from.ensures start split low gap
+    gap_is_past xs c.args.block c.args.form c.requires.rising c.args.least c.requires.formed c.requires.above first
+    c.max-from.ensures start split low gap
     (elim (cases_lt c.args.block.last (first + (low - start))) [
       | inl l ↦ inl l
       | inr l ↦ inr (omega arith)

@@ -1,19 +1,22 @@
 use Rattle.std.proofs.Common.{◌∷◌, ◌++◌, [], refl, sym, subst, ◌∙◌}
 use Rattle.sqlite.specs.Effect.{Database}
 use Rattle.sqlite.specs.Held.{state}
-use Rattle.office_tables.specs.Tables.{tables_of}
+use Rattle.store_tables.specs.Tables.{tables_of}
 use Rattle.office_history.specs.History.{answer_again, first_of}
 use Rattle.office_history.specs.Answering.{answered}
 use Rattle.store.specs.Holds.{Holds}
-use Rattle.store.proofs.Arrived.{again_holds, some_of}
+use Rattle.store.proofs.OneArrival.{again_holds, some_of}
 use Rattle.store.proofs.arriving.arrive_inside.Goals as goal
 
 pub returns-in-Some-clause-held : goal.returns-in-Some-clause-held
 returns-in-Some-clause-held g c clean office h holds =
     let old = state g.S.Store c.args.tx.now.conn.now in
     let a = answered c.args.team.now c.args.key.now c.args.request.now c.in-Some.answer in
-    let found = c.in_ok-answer.ensures.found clean office h holds.holds.replies holds.holds.parts a refl refl (sym c.as_slice.ensures.value) in
-    let it = some_of (λ first. answer_again first a.content) (first_of h a) c.in-Some.answer (sym c.in-Some.is ∙ found) in
-    let now = (c.in_ok-answer.ensures.same clean office).0.now_is in
+    let found = c.in_ok-answer.ensures.found clean office h holds.holds.replies holds.holds.parts a refl refl
+    (sym c.as_slice.ensures.value) in
+    let it = some_of (λ first. answer_again first a.content) (first_of h a) c.in-Some.answer (sym c.in-Some.is
+    ∙ found) in
+    let now = (c.in_ok-answer.ensures.frame.same clean office).0.now_is in
     subst (λ (db : Database). Holds (h ++ a ∷ []) (tables_of db.trees)) (sym now)
-    (again_holds h a it.0 (tables_of old.now.trees) holds (c.as_bytes.ensures.keeps, c.command_is_in_range.ensures) it.1 it.2)
+    (again_holds h a it.0 (tables_of old.now.trees) holds (c.as_bytes.ensures.keeps, c.command_is_in_range.ensures)
+    it.1 it.2)

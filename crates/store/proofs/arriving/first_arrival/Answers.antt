@@ -8,21 +8,23 @@ use Rattle.office_types.specs.declared.change.Change.{Change}
 use Rattle.office_types.specs.declared.state.Net.{Net}
 use Rattle.office_rules.specs.Change.{HaveOwnBlocks, IsHeadFirst, all_applied}
 use Rattle.office_rules.specs.Step.{net_named}
-use Rattle.office_tables.specs.Tables.{IsOffice, Tables, tables_of}
+use Rattle.store_tables.specs.Tables.{IsOffice, Tables, tables_of}
 use Rattle.office_history.specs.declared.arrival.Answer.TheVariants as answer
 use Rattle.store_net.specs.Kept.{kept_row, part_rows}
 use Rattle.store_rows.specs.Follows.{Follows}
 use Rattle.store_rows.specs.NetIn.{IsNetAt}
 use Rattle.store_net.specs.Writing.{IsNext}
 use Rattle.office_history.specs.Answering.{answered}
-use Rattle.store.proofs.Arrived.{AreFollowed, before_of, first_holds, net_of_office}
+use Rattle.store.proofs.OneArrival.{AreFollowed, before_of, first_holds, net_of_office}
 use Rattle.store.proofs.arriving.first_arrival.Goals as goal
 
 -- the same changes by another name
 followed : (name : List ℕ) (t u : Tables) (net : Option Net) (cs ds : List Change) (book : SpnBook) → cs ≡ ds
-    → (IsHeadFirst net cs → HaveOwnBlocks cs → Follows name t u (record { net = net; book = book }) (all_applied name cs (record { net = net; book = book })))
+    → (IsHeadFirst net cs → HaveOwnBlocks cs → Follows name t u (record { net = net; book = book })
+    (all_applied name cs (record { net = net; book = book })))
     → AreFollowed name (record { net = net; book = book }) ds t u
-followed name t u net cs ds book alike written = subst (λ l. AreFollowed name (record { net = net; book = book }) l t u) alike written
+followed name t u net cs ds book alike written =
+    subst (λ l. AreFollowed name (record { net = net; book = book }) l t u) alike written
 
 pub returns-clause-held : goal.returns-clause-held
 returns-clause-held g c clean office h holds new =
@@ -30,25 +32,34 @@ returns-clause-held g c clean office h holds new =
     let s1 = state g.S.Store c.decide_on_tables.new.tx.conn.now in
     let s2 = state g.S.Store c.write_changes.new.tx.conn.now in
     let s3 = state g.S.Store c.keep_reply.new.tx.conn.now in
-    let clean2 : HasCleanDisk s2 = omega (arith, c.keep_reply.ensures.survives.clean) in
-    let clean1 : HasCleanDisk s1 = omega (arith, c.write_changes.ensures.survives.clean) in
+    let clean2 : HasCleanDisk s2 = omega (arith, c.keep_reply.ensures.frame.survives.clean) in
+    let clean1 : HasCleanDisk s1 = omega (arith, c.write_changes.ensures.frame.survives.clean) in
     let o = holds.holds.office in
     let team = c.args.team.now in
     let command = c.args.request.now.command in
     let name = command.net in
     let before = net_named o name in
     let d = c.in_ok-decision.decision in
-    let now1 : s1.now ≡ s0.now = (c.in_ok-decision.ensures.same clean1 office).0.now_is in
+    let now1 : s1.now ≡ s0.now = (c.in_ok-decision.ensures.frame.same clean1 office).0.now_is in
     let office1 : IsOffice s1.now = subst IsOffice (sym now1) office in
-    let office2 : IsOffice s2.now = c.in_ok-write_changes.ensures.office clean2 office1 in
+    let office2 : IsOffice s2.now = c.in_ok-write_changes.ensures.frame.office clean2 office1 in
     let decided = c.in_ok-decision.ensures.decided clean1 office before o.book (holds.holds.nets name)
-    (net_of_office c.histories_leave_offices.ensures h o name holds.holds.in_range holds.holds.legal) holds.holds.book in
-    let there : IsNetAt name (tables_of s1.now.trees) before = subst (λ (db : Database). IsNetAt name (tables_of db.trees) before) (sym now1) (holds.holds.nets name) in
-    let written = subst (λ (db : Database). AreFollowed name (before_of o name) d.changes (tables_of db.trees) (tables_of s2.now.trees)) now1
+    (net_of_office c.histories_leave_offices.ensures h o name holds.holds.in_range holds.holds.legal)
+    holds.holds.book in
+    let there : IsNetAt name (tables_of s1.now.trees) before =
+    subst (λ (db : Database). IsNetAt name (tables_of db.trees) before) (sym now1) (holds.holds.nets name) in
+    let written = subst (λ (db : Database). AreFollowed name (before_of o name) d.changes (tables_of db.trees)
+    (tables_of s2.now.trees)) now1
     (followed name (tables_of s1.now.trees) (tables_of s2.now.trees) before _ d.changes o.book c.as_slice.ensures
     (λ first own. c.in_ok-write_changes.ensures.written clean2 office1 before o.book there first own
     (subst (λ (cs : List Change). IsNext c.in_ok-decision.next before cs) (sym c.as_slice.ensures) decided.1))) in
     let kept = c.in_ok-keep_reply.ensures.added clean office2
-    ∙ ap (λ content. record (tables_of s2.now.trees) { reply = (tables_of s2.now.trees).reply ++ kept_row team c.args.key.now content d.reply ∷ []; part = (tables_of s2.now.trees).part ++ part_rows team c.args.key.now 1 (reply_parts d.reply) }) c.as_slice-2.ensures.value in
-    first_holds c.histories_leave_offices.ensures h (answered team c.args.key.now c.args.request.now (answer.Reply d.reply)) d (tables_of s0.now.trees) (tables_of s2.now.trees) (tables_of s3.now.trees)
+    ∙ ap (λ content. record (tables_of s2.now.trees) {
+      reply = (tables_of s2.now.trees).reply ++ kept_row team
+          c.args.key.now content d.reply ∷ [];
+      part = (tables_of s2.now.trees).part ++ part_rows team c.args.key.now 1
+          (reply_parts d.reply);
+    }) c.as_slice-2.ensures.value in
+    first_holds c.histories_leave_offices.ensures h (answered team c.args.key.now c.args.request.now
+    (answer.Reply d.reply)) d (tables_of s0.now.trees) (tables_of s2.now.trees) (tables_of s3.now.trees)
     holds refl (c.as_bytes.ensures.keeps, c.command_is_in_range.ensures) new refl decided.0 written kept

@@ -4,11 +4,11 @@ use Rattle.sqlite.specs.Held.{state}
 use Rattle.sqlite.specs.State.{HasCleanDisk}
 use Rattle.sqlite.specs.Tree.{Trees}
 use Rattle.sqlite.proofs.Callers.{survives_begin}
-use Rattle.office_tables.specs.Tables.{IsOffice}
+use Rattle.store_tables.specs.Tables.{IsOffice}
 use Rattle.office_history.specs.declared.arrival.Answer.{Answer}
 use Rattle.office_history.specs.Answering.{answered}
 use Rattle.store.specs.Holding.{Keeps, Leaves}
-use Rattle.store.proofs.Left.{either_left, on_err}
+use Rattle.store.proofs.AfterCrash.{either_left, on_err}
 use Rattle.store.proofs.arriving.transact.Goals as goal
 
 pub returns-in_err-done-clause-left : goal.returns-in_err-done-clause-left
@@ -17,16 +17,26 @@ returns-in_err-done-clause-left g c clean h holds =
     let last = state g.S.Store c.arrive_inside.new.tx.conn.now in
     let end = c.commit-done.new.self.0 in
     let same : end ≡ c.conn-2-1.given.0 = search rules in
-    let clean_end : HasCleanDisk (state g.S.Store end) = subst (λ v. HasCleanDisk (state g.S.Store v)) (sym same) clean in
+    let clean_end : HasCleanDisk (state g.S.Store end) =
+    subst (λ v. HasCleanDisk (state g.S.Store v)) (sym same) clean in
     let clean_last : HasCleanDisk last = omega (arith, c.commit-done.ensures.survives.clean, clean_end) in
     let begun = c.transaction-tx.ensures.begun in
-    let inside = survives_begin g.S.Store c.args.conn.now last (λ _. ⊥) (rw begun at c.arrive_inside.ensures.survives) in
-    let settled : old.now ≡ old.committed = c.is_autocommit-settled.ensures.settled (c.is_autocommit-settled.ensures.value ∙ ap not c.requires) holds.is_open in
-    let office : IsOffice old.now = record { schema = c.knows_schema.ensures holds.is_open holds.keeps.office.sound; trees = holds.keeps.office } in
-    let office_last = (rw begun at (c.in_ok-answer.ensures.office clean_last)) office in
+    let inside = survives_begin g.S.Store c.args.conn.now last (λ _. ⊥)
+    (rw begun at c.arrive_inside.ensures.frame.survives) in
+    let settled : old.now ≡ old.committed = c.is_autocommit-settled.ensures.settled
+    (c.is_autocommit-settled.ensures.value ∙ ap not c.requires) holds.is_open in
+    let office : IsOffice old.now = record {
+      schema = c.knows_schema.ensures holds.is_open holds.keeps.office.sound;
+      trees = holds.keeps.office;
+    } in
+    let office_last = (rw begun at (c.in_ok-answer.ensures.frame.office clean_last)) office in
     let held_last = (rw begun at (c.in_ok-answer.ensures.held clean_last)) office h holds.keeps.holds in
     let later = λ (answer : Answer). h ++ answered c.args.team.now c.args.key.now c.args.request.now answer ∷ [] in
     let After : Trees → Type 0 = λ db. (answer : Answer) × Keeps (later answer) db in
-    let leaves = λ (db : Trees) (left : old.may_leave db). subst (Keeps h) (sym (c.leaves_committed.ensures holds.is_open db left ∙ ap (λ (d : Database). d.trees) (sym settled))) holds.keeps in
-    on_err c.from_residual-in_err-done.result (subst (λ v. Leaves (λ db. Keeps h db ⊎ After db) (state g.S.Store v)) same
-    (either_left old last (state g.S.Store end) (Keeps h) After clean_end inside c.commit-done.ensures.survives leaves (c.in_ok-answer.answer, record { office = office_last.trees; holds = held_last })))
+    let leaves = λ (db : Trees) (left : old.may_leave db). subst (Keeps h)
+    (sym (c.leaves_committed.ensures holds.is_open db left ∙ ap (λ (d : Database). d.trees) (sym settled)))
+    holds.keeps in
+    on_err c.from_residual-in_err-done.result (subst (λ v. Leaves (λ db. Keeps h db ⊎ After db) (state g.S.Store v))
+    same
+    (either_left old last (state g.S.Store end) (Keeps h) After clean_end inside c.commit-done.ensures.survives leaves
+    (c.in_ok-answer.answer, record { office = office_last.trees; holds = held_last })))

@@ -1,5 +1,5 @@
 use Rattle.std.proofs.lemmas.Result.{IfOk-weaker}
-use Rattle.store.proofs.Decided.{next_unwanted}
+use Rattle.store.proofs.DecidedOnPart.{next_unwanted}
 use Rattle.store.proofs.deciding.decide_on_tables.Goals as goal
 
 pub returns-in_ok-decision-clause-decided : goal.returns-in_ok-decision-clause-decided
@@ -9,12 +9,15 @@ returns-in_ok-decision-clause-decided g c clean office net book at is_net in_boo
 
 pub returns-then-not-reads_releases-clause-decided : goal.returns-then-not-reads_releases-clause-decided
 returns-then-not-reads_releases-clause-decided g c clean office =
-    IfOk-weaker c.decide_without_releases.result _ _ (λ it decided net book at is_net in_book. decided net book at in_book) (c.decide_without_releases.ensures.decided clean office)
+    IfOk-weaker c.decide_without_releases.result _ _ (λ it decided net book at is_net in_book. decided net book at
+    in_book) (c.decide_without_releases.ensures.decided clean office)
 
 pub returns-then-not-reads_bodies-clause-decided : goal.returns-then-not-reads_bodies-clause-decided
 returns-then-not-reads_bodies-clause-decided g c clean office =
-    IfOk-weaker c.decide_by_count.result _ _ (λ it decided net book at is_net in_book. decided net book at in_book) (c.decide_by_count.ensures.decided clean office)
+    IfOk-weaker c.decide_by_count.result _ _ (λ it decided net book at is_net in_book. decided net book at in_book)
+    (c.decide_by_count.ensures.decided clean office)
 
 pub returns-else-not-reads_bodies-clause-decided : goal.returns-else-not-reads_bodies-clause-decided
 returns-else-not-reads_bodies-clause-decided g c clean office =
-    IfOk-weaker c.decide_by_net.result _ _ (λ it decided net book at is_net in_book. decided net book at in_book) (c.decide_by_net.ensures.decided clean office)
+    IfOk-weaker c.decide_by_net.result _ _ (λ it decided net book at is_net in_book. decided net book at in_book)
+    (c.decide_by_net.ensures.decided clean office)

@@ -3,27 +3,30 @@ use Rattle.sqlite.specs.Effect.{Database}
 use Rattle.sqlite.specs.Held.{state}
 use Rattle.sqlite.specs.State.{HasCleanDisk}
 use Rattle.office_rules.specs.Change.{IsDecision}
-use Rattle.office_tables.specs.Tables.{IsOffice, tables_of}
+use Rattle.store_tables.specs.Tables.{IsOffice, tables_of}
 use Rattle.office_types.specs.declared.book.SpnBook.{SpnBook as Book}
 use Rattle.office_types.specs.declared.state.Net.{Net as Network}
 use Rattle.store_rows.specs.Rows.{IsBookIn}
-use Rattle.store.proofs.Decided.{unreleased_decided}
+use Rattle.store.proofs.DecidedOnPart.{unreleased_decided}
 use Rattle.store.proofs.deciding.decide_without_releases.Goals as goal
 
 pub returns-clause-decided : goal.returns-clause-decided
 returns-clause-decided g c clean office net book at in_book =
     let s0 = state g.S.Store c.args.tx.now.conn.now in
     let s1 = state g.S.Store c.unreleased_net_at.new.tx.conn.now in
-    let clean1 : HasCleanDisk s1 = omega (arith, c.book_of.ensures.survives.clean, clean) in
-    let now1 : s1.now ≡ s0.now = (c.in_ok-net.ensures.same clean1 office).0.now_is in
+    let clean1 : HasCleanDisk s1 = omega (arith, c.book_of.ensures.frame.survives.clean, clean) in
+    let now1 : s1.now ≡ s0.now = (c.in_ok-net.ensures.frame.same clean1 office).0.now_is in
     let office1 : IsOffice s1.now = subst IsOffice (sym now1) office in
-    let found = c.in_ok-book.ensures.found clean office1 book (subst (λ (d : Database). IsBookIn (tables_of d.trees) book) (sym now1) in_book) in
+    let found = c.in_ok-book.ensures.found clean office1 book
+    (subst (λ (d : Database). IsBookIn (tables_of d.trees) book) (sym now1) in_book) in
     let team = c.args.team.now in
     let command = c.args.command.now in
     let decision = c.in_ok-decision.decision in
     let read = c.in_ok-net.net in
     let of_net : IsDecision team (record { net = read; book = c.in_ok-book.book }) command decision =
-    subst (λ (n : Option Network). IsDecision team (record { net = n; book = c.in_ok-book.book }) command decision) c.as_ref.ensures.value c.in_ok-decision.ensures.decision in
-    unreleased_decided c.releases_dont_count.ensures team command decision net read book c.first_number-next.result c.requires (c.in_ok-net.ensures.found clean1 office net at)
-    (λ none. c.first_number-next.ensures (c.is_some.ensures ∙ none))
+    subst (λ (n : Option Network). IsDecision team (record { net = n; book = c.in_ok-book.book }) command decision)
+    c.as_ref.ensures.value c.in_ok-decision.ensures.decision in
+    unreleased_decided c.releases_dont_count.ensures team command decision net read book c.first_number-next.result
+    c.requires (c.in_ok-net.ensures.found clean1 office net at)
+    (λ absent. c.first_number-next.ensures (c.is_some.ensures ∙ absent))
     (subst (λ (b : Book). IsDecision team (record { net = read; book = b }) command decision) found of_net)

@@ -1,4 +1,4 @@
-use Rattle.store.proofs.Clear.{held_networks_are_clear}
+use Rattle.store.proofs.ClearNetworks.{held_networks_are_clear}
 use Rattle.store.proofs.laws.held_networks_are_clear.Goals as goal
 
 pub returns : goal.returns

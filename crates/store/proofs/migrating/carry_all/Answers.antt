@@ -4,12 +4,12 @@ use Rattle.sqlite.specs.Held.{state}
 use Rattle.sqlite.specs.State.{HasCleanDisk, Survives}
 use Rattle.sqlite.proofs.Callers.{survives_begin}
 use Rattle.sqlite.proofs.StateLemmas.{survives_then}
-use Rattle.office_tables.specs.Statements.{IsOfficeWith}
-use Rattle.store_carry.specs.FormSchema.{schema_of}
-use Rattle.store_carry.specs.declared.forms.Form.{Form}
-use Rattle.store_carry.specs.declared.forms.Form.TheVariants.{Foreign}
+use Rattle.store_tables.specs.Statements.{IsOfficeWith}
+use Rattle.store_migrate.specs.FormSchema.{schema_of}
+use Rattle.store_migrate.specs.declared.forms.SchemaForm.{SchemaForm}
+use Rattle.store_migrate.specs.declared.forms.SchemaForm.TheVariants.{Foreign}
 use Rattle.store.specs.Opening.{MayCarry}
-use Rattle.store.proofs.InForm.{carried_as}
+use Rattle.store.proofs.TablesInForm.{carried_as}
 use Rattle.store.proofs.migrating.carry_all.Goals as goal
 
 pub returns-clause-survives : goal.returns-clause-survives
@@ -19,10 +19,15 @@ returns-clause-survives g c =
     let end = c.commit.new.self.0 in
     let same : end ≡ c.conn-2-1.given.0 = search rules in
     let begun = c.transaction-tx.ensures.begun in
-    let inside = survives_begin g.S.Store c.args.conn.now last (λ _. ⊥) (rw begun at c.carry.ensures.survives) in
-    let carried = λ (clean : HasCleanDisk (state g.S.Store end)) (form : Form) (known : form ≢ Foreign) (was : IsOfficeWith (schema_of form) old.now).
+    let inside = survives_begin g.S.Store c.args.conn.now last (λ _. ⊥) (rw begun at c.carry.ensures.frame.survives) in
+    let carried = λ (clean : HasCleanDisk (state g.S.Store end)) (form : SchemaForm) (known : form ≢ Foreign)
+    (was : IsOfficeWith (schema_of form) old.now).
     let clean_last : HasCleanDisk last = omega (arith, c.commit.ensures.survives.clean, clean) in
-    carried_as c.form_of-form.result form (state g.S.Store (record c.args.conn.now { in_transaction = true })) last (c.form_of-form.ensures.known form known was.schema_is) (rw begun at (c.in_ok-carry.ensures.office clean_last)) (rw begun at (c.in_ok-carry.ensures.held clean_last)) was in
+    carried_as c.form_of-form.result form (state g.S.Store (record c.args.conn.now { in_transaction = true })) last
+    (c.form_of-form.ensures.known form known was.schema_is)
+    (rw begun at (c.in_ok-carry.ensures.frame.office clean_last))
+    (rw begun at (c.in_ok-carry.ensures.held clean_last)) was in
     subst (λ v. Survives old (state g.S.Store v) (MayCarry old.now)) same
-    (survives_then old last (state g.S.Store end) (λ _. ⊥) (λ db. db ≡ last.now.trees) (MayCarry old.now) (λ clean db none. absurd none)
-    (λ clean db is form known was. (last.now, carried clean form known was, is)) inside c.commit.ensures.survives)
+    (survives_then old last (state g.S.Store end) (λ _. ⊥) (λ db. db ≡ last.now.trees) (MayCarry old.now)
+    (λ clean db never. absurd never)
+    (λ clean db same form known was. (last.now, carried clean form known was, same)) inside c.commit.ensures.survives)

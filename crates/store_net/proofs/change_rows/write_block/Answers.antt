@@ -8,7 +8,13 @@ pub returns-clause-written : goal.returns-clause-written
 returns-clause-written g c clean office =
     let numbers = c.numbers-numbers in
     on_ok_weaker c.set_block.result (λ made net own. (
-      record { net = c.as_bytes.result; form = c.from.result; first = numbers.result.first; last = numbers.result.last; team = c.as_bytes-2.result },
+      record {
+        net = c.as_bytes.result;
+        form = c.from.result;
+        first = numbers.result.first;
+        last = numbers.result.last;
+        team = c.as_bytes-2.result;
+      },
       record {
         net = c.as_bytes.ensures.bytes;
         form = c.from.ensures ∙ c.number.ensures.number ∙ ap form_number c.form.ensures.form;

@@ -7,7 +7,14 @@ pub returns-clause-written : goal.returns-clause-written
 returns-clause-written g c clean office =
     let head = c.args.head.now in
     on_ok_weaker c.set_net.result (λ made net. (
-      record { name = c.as_bytes.result; kind = c.from.result; reviews = c.from-2.result; phase = c.from-3.result; submitter = c.submitter_text.result; frame = c.deref.result },
+      record {
+        name = c.as_bytes.result;
+        kind = c.from.result;
+        reviews = c.from-2.result;
+        phase = c.from-3.result;
+        submitter = c.submitter_text.result;
+        frame = c.deref.result;
+      },
       record {
         net = c.as_bytes.ensures.bytes;
         kind = c.from.ensures ∙ c.number.ensures.number;

@@ -3,16 +3,18 @@ use Rattle.sqlite.specs.Held.{state}
 use Rattle.office_facts.specs.Excerpt.{AreFacts}
 use Rattle.office_facts.specs.FactsOf.{facts_in}
 use Rattle.office_facts.specs.Scope as scope
-use Rattle.office_tables.specs.Tables.{tables_of}
+use Rattle.store_tables.specs.Tables.{tables_of}
 use Rattle.store_net.proofs.Excerpts.{none_there, one_there}
 use Rattle.store_net.proofs.excerpt.head_excerpt.Goals as goal
 
 pub returns-in_default-clause-found : goal.returns-in_default-clause-found
 returns-in_default-clause-found g c clean office net at team =
-    none_there (λ n e. AreFacts team n scope.Head (facts_in e)) c.args.name.now (tables_of (state g.S.Store c.args.tx.now.conn.now).now.trees) net
+    none_there (λ n e. AreFacts team n scope.Head (facts_in e)) c.args.name.now
+    (tables_of (state g.S.Store c.args.tx.now.conn.now).now.trees) net
     (λ other h. sym c.in_default.is ∙ c.in_ok-head.ensures.found clean office other h) at
 
 pub returns-clause-found : goal.returns-clause-found
 returns-clause-found g c clean office net at team =
-    one_there (λ n e. AreFacts team n scope.Head (facts_in e)) c.args.name.now (tables_of (state g.S.Store c.args.tx.now.conn.now).now.trees) net c.in-Some.head _
+    one_there (λ n e. AreFacts team n scope.Head (facts_in e)) c.args.name.now
+    (tables_of (state g.S.Store c.args.tx.now.conn.now).now.trees) net c.in-Some.head _
     (λ other h. sym c.in-Some.is ∙ c.in_ok-head.ensures.found clean office other h) (λ n parts same. same) at

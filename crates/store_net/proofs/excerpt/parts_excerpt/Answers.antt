@@ -4,7 +4,7 @@ use Rattle.sqlite.specs.State.{HasCleanDisk}
 use Rattle.office_facts.specs.Excerpt.{AreFacts}
 use Rattle.office_facts.specs.FactsOf.{facts_in}
 use Rattle.office_facts.specs.Scope as scope
-use Rattle.office_tables.specs.Tables.{IsOffice, tables_of}
+use Rattle.store_tables.specs.Tables.{IsOffice, tables_of}
 use Rattle.store_net.specs.Parts.{HasBlocks}
 use Rattle.store_net.proofs.Excerpts.{none_there, one_there}
 use Rattle.store_net.proofs.Whole.{read_before}
@@ -12,7 +12,8 @@ use Rattle.store_net.proofs.excerpt.parts_excerpt.Goals as goal
 
 pub returns-in_default-clause-found : goal.returns-in_default-clause-found
 returns-in_default-clause-found g c clean office net at team =
-    none_there (λ n e. AreFacts team n scope.Parts (facts_in e)) c.args.name.now (tables_of (state g.S.Store c.args.tx.now.conn.now).now.trees) net
+    none_there (λ n e. AreFacts team n scope.Parts (facts_in e)) c.args.name.now
+    (tables_of (state g.S.Store c.args.tx.now.conn.now).now.trees) net
     (λ other h. sym c.in_default.is ∙ c.in_ok-head.ensures.found clean office other h) at
 
 pub returns-clause-found : goal.returns-clause-found
@@ -20,9 +21,11 @@ returns-clause-found g c clean office net at team =
     let name = c.args.name.now in
     let s0 = state g.S.Store c.args.tx.now.conn.now in
     let s1 = state g.S.Store c.head_of.new.tx.conn.now in
-    let clean1 : HasCleanDisk s1 = omega (arith, c.blocks_of.ensures.survives.clean, clean) in
-    let now1 : s1.now ≡ s0.now = (c.in_ok-head.ensures.same clean1 office).0.now_is in
+    let clean1 : HasCleanDisk s1 = omega (arith, c.blocks_of.ensures.frame.survives.clean, clean) in
+    let now1 : s1.now ≡ s0.now = (c.in_ok-head.ensures.frame.same clean1 office).0.now_is in
     let office1 : IsOffice s1.now = subst IsOffice (sym now1) office in
-    let blocks = read_before (HasBlocks name) c.in_ok-blocks.blocks s1.now s0.now now1 (c.in_ok-blocks.ensures.found clean office1) in
+    let blocks = read_before (HasBlocks name) c.in_ok-blocks.blocks s1.now s0.now now1
+    (c.in_ok-blocks.ensures.found clean office1) in
     one_there (λ n e. AreFacts team n scope.Parts (facts_in e)) name (tables_of s0.now.trees) net c.in-Some.head _
-    (λ other h. sym c.in-Some.is ∙ c.in_ok-head.ensures.found clean1 office other h) (λ n parts same. (same, blocks n.blocks parts.blocks)) at
+    (λ other h. sym c.in-Some.is ∙ c.in_ok-head.ensures.found clean1 office other h)
+    (λ n parts same. (same, blocks n.blocks parts.blocks)) at

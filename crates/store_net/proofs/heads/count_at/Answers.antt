@@ -1,8 +1,8 @@
 use Rattle.std.proofs.Common.{◌≡◌, ◌∙◌, filter, length}
 use Rattle.std.proofs.lemmas.Result.{IfOk-weaker}
 use Rattle.sqlite.specs.Held.{state}
-use Rattle.office_tables.specs.Tables.{tables_of}
-use Rattle.office_rows.specs.Rows.{is_of_net}
+use Rattle.store_tables.specs.Tables.{tables_of}
+use Rattle.store_statements.specs.Rows.{is_of_net}
 use Rattle.store_net.proofs.HeadsShown.{rows_counted}
 use Rattle.store_net.proofs.heads.count_at.Goals as goal
 
@@ -12,4 +12,5 @@ returns-clause-found g c clean office =
     let t = tables_of (state g.S.Store c.args.tx.now.conn.now).now.trees in
     let many = length (filter (is_of_net name) t.msg) in
     IfOk-weaker c.count_shown.result (λ n. n ≡ many) _ (λ n is live h. is ∙ rows_counted name t live h)
-    (c.count_shown.ensures many (c.deref.ensures.value ∙ (rw c.as_bytes.ensures.bytes at (c.in_ok-rows.ensures.found clean office))))
+    (c.count_shown.ensures many
+    (c.deref.ensures.value ∙ (rw c.as_bytes.ensures.bytes at (c.in_ok-rows.ensures.found clean office))))

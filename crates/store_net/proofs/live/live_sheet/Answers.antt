@@ -1,9 +1,9 @@
 use Rattle.std.proofs.Common.{◌≡◌, ◌+◌, ◌++◌, [], List, IsPermutation, append-nil, drop, sym, ap, subst, ◌∙◌}
 use Rattle.std.proofs.Math.ListN.{drop_of_length-le}
-use Rattle.catalogue.specs.Keyed.{put}
-use Rattle.catalogue.specs.Messages.{by_number}
-use Rattle.catalogue.specs.declared.message.Message.{Message}
-use Rattle.catalogue.specs.declared.sheet.Sheet.{Sheet}
+use Rattle.base.specs.Keyed.{put}
+use Rattle.dbc_sheet.specs.Messages.{by_number}
+use Rattle.dbc_sheet.specs.declared.message.Message.{Message}
+use Rattle.dbc_sheet.specs.declared.sheet.Sheet.{Sheet}
 use Rattle.office_types.specs.State.{live_messages}
 use Rattle.office_types.specs.declared.state.LiveMessage.{LiveMessage}
 use Rattle.store_net.proofs.LiveSheet.{next_put, sheet_is}
@@ -19,9 +19,12 @@ loop-one-preserved c =
     let new = c.add_message.new.sheet in
     let ok : new ≡ record old { messages = put by_number message old.messages } = c.in_ok-add_message.ensures.ok in
     record {
-      all = subst (λ (l : List Message). IsPermutation (live_messages live) (l ++ live_messages (drop (index + 1) live))) (sym (ap (λ (s : Sheet). s.messages) ok))
-          (next_put live old.messages index c.one-item.result message c.loop-one-test.true c.one-item.is c.in_ok-duplicate.ensures c.in_ok-add_message.ensures.absent c.loop-one.invariant.all);
-      rest = ok ∙ ap (λ (s : Sheet). record s { messages = put by_number message old.messages }) c.loop-one.invariant.rest
+      all = subst (λ (l : List Message). IsPermutation (live_messages live)
+          (l ++ live_messages (drop (index + 1) live))) (sym (ap (λ (s : Sheet). s.messages) ok))
+          (next_put live old.messages index c.one-item.result message c.loop-one-test.true c.one-item.is
+          c.in_ok-duplicate.ensures c.in_ok-add_message.ensures.absent c.loop-one.invariant.all);
+      rest = ok ∙ ap (λ (s : Sheet). record s { messages = put by_number message old.messages })
+          c.loop-one.invariant.rest
           ∙ sym (ap (λ (s : Sheet). record start { messages = s.messages }) ok);
     }
 
@@ -30,7 +33,8 @@ returns c sorted =
     let live = c.args.live.now in
     let sheet = c.loop-one.sheet in
     let ended : drop c.loop-one.one-index live ≡ [] = drop_of_length-le live c.loop-one-test.false in
-    let all = subst (λ (l : List LiveMessage). IsPermutation (live_messages live) (sheet.messages ++ live_messages l)) ended c.loop-one.invariant.all in
+    let all = subst (λ (l : List LiveMessage). IsPermutation (live_messages live) (sheet.messages ++ live_messages l))
+    ended c.loop-one.invariant.all in
     sheet_is c.args.head.frame sheet live sorted c.messages-ascending.ensures.together
     (subst (λ (l : List Message). IsPermutation (live_messages live) l) (append-nil sheet.messages) all)
     (c.loop-one.invariant.rest ∙ ap (λ (s : Sheet). record s { messages = sheet.messages }) c.frame_of-sheet.ensures)

@@ -1,4 +1,5 @@
-use Rattle.std.proofs.Common.{◌≡◌, ◌∷◌, ◌++◌, [], ◌≤◌, ◌+◌, List, length, map, take, sym, ap, subst, ◌∙◌, arith, add-one, take_all}
+use Rattle.std.proofs.Common.{◌≡◌, ◌∷◌, ◌++◌, [], ◌≤◌, ◌+◌, List, length, map, take, sym, ap, subst, ◌∙◌, arith}
+use Rattle.std.proofs.Common.{add-one, take_all}
 use Rattle.std.proofs.lemmas.List.{map-append}
 use Rattle.can_id.specs.Ident.{dbc_number}
 use Rattle.sqlite.specs.Effect.{Database}
@@ -7,10 +8,10 @@ use Rattle.sqlite.specs.State.{HasCleanDisk}
 use Rattle.sqlite.proofs.Callers.{unchanged_then}
 use Rattle.sqlite.proofs.InsideLemmas.{keeps_then}
 use Rattle.office_types.specs.declared.state.LiveMessage.{LiveMessage}
-use Rattle.office_tables.specs.Tables.{IsOffice, tables_of}
+use Rattle.store_tables.specs.Tables.{IsOffice, tables_of}
 use Rattle.store_rows.specs.Live.{AreSignalsOf, live_rows}
 use Rattle.store_rows.specs.SignalShowing.{ShowsLive}
-use Rattle.store_net.specs.Detail.{live_in}
+use Rattle.store_net.specs.SignalParts.{live_in}
 use Rattle.store_net.proofs.EachMessage.{count_shown, shown_next}
 use Rattle.store_net.proofs.Whole.{nothing_left}
 use Rattle.store_net.proofs.live_list.each_with_signals.Goals as goal
@@ -26,23 +27,31 @@ loop-row-preserved g c =
     let i = c.loop-row.invariant in
     let w = c.in_ok-message.ensures in
     let made = c.in_ok-message.message in
-    let early : HasCleanDisk now → HasCleanDisk mid = λ clean. omega (arith, w.survives.clean, clean) in
-    let office : HasCleanDisk now → IsOffice old.now → IsOffice mid.now = λ clean was. subst IsOffice (sym (i.now_is (early clean) was)) was in
+    let early : HasCleanDisk now → HasCleanDisk mid = λ clean. omega (arith, w.frame.survives.clean, clean) in
+    let office : HasCleanDisk now → IsOffice old.now → IsOffice mid.now =
+    λ clean was. subst IsOffice (sym (i.now_is (early clean) was)) was in
     record {
-      same_reference = w.same_reference ∙ i.same_reference;
+      same_reference = w.frame.same_reference ∙ i.same_reference;
       now_is = λ clean was. w.unchanged clean (office clean was) ∙ i.now_is (early clean) was;
-      same = λ clean was is_open. unchanged_then old mid now (i.same (early clean) was is_open) (w.same clean (office clean was) (i.same (early clean) was is_open).0.is_open);
-      kept = λ clean was. keeps_then old mid now (i.kept (early clean) was) (w.kept clean (office clean was));
-      survives = nothing_left old mid now i.survives w.survives;
+      same = λ clean was is_open. unchanged_then old mid now (i.same (early clean) was is_open)
+          (w.frame.same clean (office clean was) (i.same (early clean) was is_open).0.is_open);
+      kept = λ clean was. keeps_then old mid now (i.kept (early clean) was) (w.frame.kept clean (office clean was));
+      survives = nothing_left old mid now i.survives w.frame.survives;
       reported = λ clean was live shown all.
-          let n = shown_next ShowsLive (λ (m : LiveMessage). AreSignalsOf net (dbc_number m.message.ident) (live_rows net (tables_of old.now.trees)) m.message.signals) live rows at c.row-item.result shown all
+          let n = shown_next ShowsLive
+          (λ (m : LiveMessage). AreSignalsOf net (dbc_number m.message.ident)
+          (live_rows net (tables_of old.now.trees)) m.message.signals) live rows at c.row-item.result shown all
           c.loop-row-test.true c.row-item.is in
-          let own = subst (λ (d : Database). AreSignalsOf net (dbc_number n.item.message.ident) (live_rows net (tables_of d.trees)) n.item.message.signals) (sym (i.now_is (early clean) was)) n.holds in
+          let own = subst (λ (d : Database). AreSignalsOf net (dbc_number n.item.message.ident)
+          (live_rows net (tables_of d.trees)) n.item.message.signals) (sym (i.now_is (early clean) was))
+          n.holds in
           let f = live_in c.args.detail in
           let is : made ≡ f n.item = w.found clean (office clean was) n.item n.shown own in
           let next : take (at + 1) live ≡ take at live ++ n.item ∷ [] = rw add-one n.next in
-          c.in_ok-push.ensures.items ∙ ap (λ (l : List LiveMessage). l ++ made ∷ []) (i.reported (early clean) was live shown all)
-          ∙ ap (λ (m : LiveMessage). map f (take at live) ++ m ∷ []) is ∙ sym (map-append f (take at live) (n.item ∷ [])) ∙ ap (map f) (sym next);
+          c.in_ok-push.ensures.items
+          ∙ ap (λ (l : List LiveMessage). l ++ made ∷ []) (i.reported (early clean) was live shown all)
+          ∙ ap (λ (m : LiveMessage). map f (take at live) ++ m ∷ []) is
+          ∙ sym (map-append f (take at live) (n.item ∷ [])) ∙ ap (map f) (sym next);
     }
 
 pub returns-clause-found : goal.returns-clause-found

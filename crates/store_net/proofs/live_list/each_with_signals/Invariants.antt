@@ -5,11 +5,11 @@ use Rattle.can_id.specs.Ident.{dbc_number}
 use Rattle.sqlite.specs.Held.{state}
 use Rattle.sqlite.specs.State.{HasCleanDisk, IsUnchanged, KeepsCommit, Survives}
 use Rattle.office_types.specs.declared.state.LiveMessage.{LiveMessage}
-use Rattle.office_tables.specs.Tables.{IsOffice, tables_of}
+use Rattle.store_tables.specs.Tables.{IsOffice, tables_of}
 use Rattle.store_rows.specs.Listed.{AreShown}
 use Rattle.store_rows.specs.Live.{AreSignalsOf, live_rows}
 use Rattle.store_rows.specs.SignalShowing.{ShowsLive}
-use Rattle.store_net.specs.Detail.{live_in}
+use Rattle.store_net.specs.SignalParts.{live_in}
 use Rattle.store_net.proofs.live_list.each_with_signals.Given as goal
 
 abbrev pub invariant-loop-row : goal.invariant-loop-row
@@ -23,6 +23,7 @@ invariant-loop-row g l =
       kept : HasCleanDisk now → IsOffice old.now → KeepsCommit old now;
       survives : Survives old now (λ _. ⊥);
       reported : HasCleanDisk now → IsOffice old.now → (live : List LiveMessage) → AreShown ShowsLive live l.rows
-          → AllByRecursion (λ (m : LiveMessage). AreSignalsOf l.net (dbc_number m.message.ident) (live_rows l.net (tables_of old.now.trees)) m.message.signals) live
+          → AllByRecursion (λ (m : LiveMessage). AreSignalsOf l.net (dbc_number m.message.ident)
+          (live_rows l.net (tables_of old.now.trees)) m.message.signals) live
           → l.messages.items ≡ map (live_in l.detail) (take l.row-index live);
     }

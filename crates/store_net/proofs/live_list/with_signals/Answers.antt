@@ -2,11 +2,11 @@ use Rattle.std.proofs.Common.{◌≡◌, subst}
 use Rattle.std.proofs.lemmas.Result.{IfOk-weaker}
 use Rattle.sqlite.specs.Held.{state}
 use Rattle.can_id.specs.Ident.{dbc_number}
-use Rattle.office_tables.specs.Tables.{tables_of}
+use Rattle.store_tables.specs.Tables.{tables_of}
 use Rattle.sqlite.specs.Order.{column}
 use Rattle.store_rows.specs.Live.{AreSignalsOf, live_rows}
 use Rattle.store_rows.proofs.Values.{one_number}
-use Rattle.store_net.specs.Detail.{live_in}
+use Rattle.store_net.specs.SignalParts.{live_in}
 use Rattle.store_net.proofs.Bare.{live_shown}
 use Rattle.store_net.proofs.live_list.with_signals.Goals as goal
 
@@ -19,7 +19,10 @@ returns-clause-found g c clean office =
     let detail = c.args.detail in
     IfOk-weaker c.live_message_of.result _ _
     (λ made one other shown own. (
-    let same : dbc_number other.message.ident ≡ number = one_number (column c.args.row.now 0) (dbc_number other.message.ident) number shown.number c.in_ok-number.ensures in
+    let same : dbc_number other.message.ident ≡ number =
+    one_number (column c.args.row.now 0) (dbc_number other.message.ident) number shown.number
+    c.in_ok-number.ensures in
     one (live_in detail other) (live_shown detail other c.args.row.now shown)
-    (c.in_ok-signals.ensures.found clean office other.message.signals (subst (λ n. AreSignalsOf net n (live_rows net t) other.message.signals) same own))))
+    (c.in_ok-signals.ensures.found clean office other.message.signals
+    (subst (λ n. AreSignalsOf net n (live_rows net t) other.message.signals) same own))))
     c.live_message_of.ensures

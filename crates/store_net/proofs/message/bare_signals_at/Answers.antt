@@ -1,11 +1,11 @@
 use Rattle.std.proofs.Common.{◌∙◌, [], map, refl, sym, subst, ap}
 use Rattle.std.proofs.lemmas.Result.{IfOk-weaker}
 use Rattle.sqlite.specs.Held.{state}
-use Rattle.office_tables.specs.Tables.{tables_of}
+use Rattle.store_tables.specs.Tables.{tables_of}
 use Rattle.store_rows.specs.Listed.{AreShown}
 use Rattle.store_rows.specs.SignalShowing.{ShowsPart, ShowsReceiver, ShowsValueText}
 use Rattle.store_rows.proofs.LiveRows.{places_ascend, sigs_are_shown}
-use Rattle.store_net.specs.Detail.{bare_signal}
+use Rattle.store_net.specs.SignalParts.{bare_signal}
 use Rattle.store_net.proofs.Bare.{bare_ascend, bare_placed, bare_shown, bare_signals, no_parts}
 use Rattle.store_net.proofs.message.bare_signals_at.Goals as goal
 
@@ -18,7 +18,8 @@ returns-clause-found g c clean office =
     IfOk-weaker c.signals_of.result _ _
     (λ signals one others h. (
     let shown = sigs_are_shown net number t others sigs h (c.in_ok-sigs.ensures.found clean office) in
-    one (map bare_placed h.placed) (bare_ascend h.placed (places_ascend net number t others h)) (rw c.deref.ensures.value (bare_shown h.placed sigs shown))
+    one (map bare_placed h.placed) (bare_ascend h.placed (places_ascend net number t others h))
+    (rw c.deref.ensures.value (bare_shown h.placed sigs shown))
     (subst (λ l. AreShown (ShowsPart ShowsReceiver) l []) (sym (no_parts (λ s. s.receivers) h.placed (λ s. refl))) tt)
     (subst (λ l. AreShown (ShowsPart ShowsValueText) l []) (sym (no_parts (λ s. s.values) h.placed (λ s. refl))) tt)
     ∙ bare_signals h.placed ∙ ap (map bare_signal) h.are))

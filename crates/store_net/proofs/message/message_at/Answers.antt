@@ -2,8 +2,8 @@ use Rattle.std.proofs.Common.{◌≡◌, ◌∙◌, List, ap, sym, subst, arith,
 use Rattle.sqlite.specs.Effect.{Database}
 use Rattle.sqlite.specs.Held.{state}
 use Rattle.sqlite.specs.State.{HasCleanDisk}
-use Rattle.catalogue.specs.declared.signal.Signal.{Signal}
-use Rattle.office_tables.specs.Tables.{IsOffice, tables_of}
+use Rattle.dbc_sheet.specs.declared.signal.Signal.{Signal}
+use Rattle.store_tables.specs.Tables.{IsOffice, tables_of}
 use Rattle.store_rows.specs.Live.{AreSignalsOf, live_rows}
 use Rattle.store_net.proofs.OneMessage.{none_named, one_message}
 use Rattle.store_net.proofs.message.message_at.Goals as goal
@@ -20,14 +20,16 @@ returns-clause-found g c clean office live h =
     let name = c.args.name.now in
     let s0 = state g.S.Store c.args.tx.now.conn.now in
     let s1 = state g.S.Store c.select_msg_named.new.tx.conn.now in
-    let clean1 : HasCleanDisk s1 = omega (arith, c.signals_at.ensures.survives.clean) in
-    let now1 : s1.now ≡ s0.now = (c.in_ok-rows.ensures.same clean1 office).0.now_is in
+    let clean1 : HasCleanDisk s1 = omega (arith, c.signals_at.ensures.frame.survives.clean) in
+    let now1 : s1.now ≡ s0.now = (c.in_ok-rows.ensures.frame.same clean1 office).0.now_is in
     let office1 : IsOffice s1.now = subst IsOffice (sym now1) office in
     let signals = c.in_ok-signals-in-Some.signals in
     let number = c.in_ok-number-in-Some.number in
     let read1 = rw c.as_bytes-in-Some.ensures.bytes at (c.in_ok-signals-in-Some.ensures.found clean office1) in
-    let read = subst (λ (d : Database). (others : List Signal) → AreSignalsOf name number (live_rows name (tables_of d.trees)) others → signals ≡ others) now1 read1 in
+    let read = subst (λ (d : Database). (others : List Signal)
+    → AreSignalsOf name number (live_rows name (tables_of d.trees)) others → signals ≡ others) now1 read1 in
     one_message name (tables_of s0.now.trees) live c.args.message.now c.in_ok-rows.rows.items h
     (rw (c.as_bytes.ensures.bytes, c.as_bytes-2.ensures.bytes) at (c.in_ok-rows.ensures.found clean1 office))
     c.in-Some.row.now number signals c.in_ok-live_message_of-in-Some.field-0
-    (c.in-Some.ensures.value ∙ ap (λ l. slice_get l 0) c.deref.ensures.value) c.in_ok-number-in-Some.ensures read c.in_ok-live_message_of-in-Some.ensures
+    (c.in-Some.ensures.value ∙ ap (λ l. slice_get l 0) c.deref.ensures.value) c.in_ok-number-in-Some.ensures read
+    c.in_ok-live_message_of-in-Some.ensures

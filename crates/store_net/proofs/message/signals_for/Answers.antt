@@ -1,8 +1,10 @@
 use Rattle.std.proofs.Common.{◌≡◌, sym, subst}
 use Rattle.std.proofs.lemmas.Result.{IfOk-weaker}
-use Rattle.store_net.specs.Detail.{signals_in}
+use Rattle.store_net.specs.SignalParts.{signals_in}
 use Rattle.store_net.proofs.message.signals_for.Goals as goal
 
-pub returns-in-Whole-clause-found : goal.returns-in-Whole-clause-found
-returns-in-Whole-clause-found g c clean office =
-    IfOk-weaker c.signals_at.result _ _ (λ signals one others are. subst (λ detail. signals ≡ signals_in detail others) (sym c.in-Whole.is) (one others are)) (c.signals_at.ensures.found clean office)
+pub returns-in-All-clause-found : goal.returns-in-All-clause-found
+returns-in-All-clause-found g c clean office =
+    IfOk-weaker c.signals_at.result _ _
+    (λ signals one others are. subst (λ detail. signals ≡ signals_in detail others) (sym c.in-All.is)
+    (one others are)) (c.signals_at.ensures.found clean office)

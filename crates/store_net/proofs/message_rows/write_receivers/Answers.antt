@@ -1,14 +1,14 @@
-use Rattle.std.proofs.Common.{◌≡◌, ◌∙◌, ◌∷◌, ◌++◌, [], List, ◌<◌, ◌+◌, take, length, sym, ap, arith, append_assoc, length-take}
+use Rattle.std.proofs.Common.{◌≡◌, ◌∙◌, ◌∷◌, ◌++◌, [], List, ◌<◌, ◌+◌, take, length, sym, ap, arith, append_assoc}
+use Rattle.std.proofs.Common.{length-take}
 use Rattle.std.proofs.lemmas.List.{take_more}
 use Rattle.sqlite.specs.Held.{state}
 use Rattle.sqlite.specs.Order.{Row}
 use Rattle.sqlite.specs.State.{HasCleanDisk}
-use Rattle.sqlite.proofs.InsideLemmas.{keeps_then}
-use Rattle.sqlite.proofs.StateLemmas.{survives_then}
-use Rattle.office_tables.specs.Tables.{Tables, tables_of}
+use Rattle.store_tables.specs.Tables.{Tables, tables_of}
 use Rattle.store_rows.specs.Live.{receiver_values}
 use Rattle.store_rows.specs.LiveWritten.{receiver_rows}
 use Rattle.store_net.proofs.ReceiverRows.{rows_push}
+use Rattle.store_net.proofs.Frames.{edits_end, ends_and_stays, writes_then}
 use Rattle.store_net.proofs.message_rows.write_receivers.Goals as goal
 
 pub loop-name-preserved : goal.loop-name-preserved
@@ -22,32 +22,36 @@ loop-name-preserved g c =
     let receivers = c.args.receivers.now in
     let at = c.loop-name.name-index in
     let item = c.name-item.result in
-    let seat = c.loop-name.seat in
+    let seat = c.loop-name.index in
     let bytes = c.as_bytes.result.now in
     let i = c.loop-name.invariant in
     let w = c.in_ok-insert_receiver.ensures in
     let within : at < length receivers = c.loop-name-test.true in
-    let done : take (at + 1) receivers ≡ take at receivers ++ item ∷ [] = rw (take_more receivers at item within, ← c.name-item.is) in
-    let early : HasCleanDisk now → HasCleanDisk mid = λ clean. omega (arith, w.survives.clean, clean) in
+    let done : take (at + 1) receivers ≡ take at receivers ++ item ∷ [] =
+    rw (take_more receivers at item within, ← c.name-item.is) in
+    let early : HasCleanDisk now → HasCleanDisk mid = λ clean. omega (arith, w.frame.survives.clean, clean) in
     let so_far = take at receivers in
     let taken = length-take at receivers in
     let counted : at ≡ 0 + length so_far = omega (arith, taken, within) in
-    let row_is : receiver_values net number place seat bytes ≡ receiver_values net number place (0 + length so_far) item =
-    ap (λ n. receiver_values net number place n bytes) (i.counted ∙ counted) ∙ ap (receiver_values net number place (0 + length so_far)) c.as_bytes.ensures.bytes in
+    let row_is : receiver_values net number place seat bytes ≡ receiver_values net number place (0 + length so_far)
+    item =
+    ap (λ n. receiver_values net number place n bytes) (i.counted ∙ counted)
+    ∙ ap (receiver_values net number place (0 + length so_far)) c.as_bytes.ensures.bytes in
     let before = tables_of old.now.trees in
-    let rows_are : (before.receiver ++ receiver_rows net number place 0 so_far) ++ receiver_values net number place seat bytes ∷ [] ≡ before.receiver ++ receiver_rows net number place 0 (take (at + 1) receivers) =
-    append_assoc before.receiver (receiver_rows net number place 0 so_far) (receiver_values net number place seat bytes ∷ [])
+    let rows_are : (before.receiver ++ receiver_rows net number place 0 so_far) ++ receiver_values net number place seat
+    bytes ∷ [] ≡ before.receiver ++ receiver_rows net number place 0 (take (at + 1) receivers) =
+    append_assoc before.receiver (receiver_rows net number place 0 so_far)
+    (receiver_values net number place seat bytes ∷ [])
     ∙ ap (λ (r : Row). before.receiver ++ (receiver_rows net number place 0 so_far ++ r ∷ [])) row_is
-    ∙ ap (λ (l : List Row). before.receiver ++ l) (sym (rows_push net number place 0 so_far item) ∙ ap (receiver_rows net number place 0) (sym done)) in
+    ∙ ap (λ (l : List Row). before.receiver ++ l)
+    (sym (rows_push net number place 0 so_far item) ∙ ap (receiver_rows net number place 0) (sym done)) in
     record {
-      counted = c.in_ok-seat.ensures ∙ ap (λ n. n + 1) i.counted;
-      same_reference = w.same_reference ∙ i.same_reference;
-      kept = λ clean. keeps_then old mid now (i.kept (early clean)) (w.kept clean);
-      survives = survives_then old mid now (λ _. ⊥) (λ _. ⊥) (λ _. ⊥) (λ _ db none. none) (λ _ db none. none) i.survives w.survives;
-      office = λ clean was. (w.added clean (i.office (early clean) was)).office;
-      inside = λ clean was mode. (w.added clean (i.office (early clean) was)).inside;
+      counted = c.in_ok-index.ensures ∙ ap (λ n. n + 1) i.counted;
+      frame = writes_then g.S.Store c.args.tx.now c.loop-name.tx c.insert_receiver.new.tx _ i.frame
+          (ends_and_stays _ _ _ _ (edits_end _ _ _ _ w.frame w.added));
       written = λ clean was.
-          (w.added clean (i.office (early clean) was)).tables_are
-          ∙ ap (λ (t : Tables). record t { receiver = t.receiver ++ receiver_values net number place seat bytes ∷ [] }) (i.written (early clean) was)
+          (w.added clean (i.frame.office (early clean) was)).tables_are
+          ∙ ap (λ (t : Tables). record t { receiver = t.receiver ++ receiver_values net number place seat bytes ∷ [] })
+          (i.written (early clean) was)
           ∙ ap (λ (l : List Row). record before { receiver = l }) rows_are;
     }

@@ -3,12 +3,11 @@ use Rattle.std.specs.List.{AllByRecursion}
 use Rattle.std.proofs.lemmas.List.{take_more}
 use Rattle.sqlite.specs.Held.{state}
 use Rattle.sqlite.specs.State.{HasCleanDisk}
-use Rattle.sqlite.proofs.InsideLemmas.{keeps_then}
-use Rattle.sqlite.proofs.StateLemmas.{survives_then}
-use Rattle.office_tables.specs.Tables.{tables_of}
+use Rattle.store_tables.specs.Tables.{tables_of}
 use Rattle.store_rows.specs.LiveWritten.{IsSignal, placed_from, with_signal, with_signals}
 use Rattle.store_rows.proofs.SeatRows.{all_append}
 use Rattle.store_net.proofs.ReceiverRows.{signals_push}
+use Rattle.store_net.proofs.Frames.{ends_and_stays, writes_then}
 use Rattle.store_net.proofs.message_rows.write_signals.Goals as goal
 
 pub loop-signal-preserved : goal.loop-signal-preserved
@@ -24,24 +23,24 @@ loop-signal-preserved g c =
     let i = c.loop-signal.invariant in
     let w = c.in_ok-write_signal.ensures in
     let within : at < length signals = c.loop-signal-test.true in
-    let done : take (at + 1) signals ≡ take at signals ++ item ∷ [] = rw (take_more signals at item within, ← c.signal-item.is) in
-    let early : HasCleanDisk now → HasCleanDisk mid = λ clean. omega (arith, w.survives.clean, clean) in
+    let done : take (at + 1) signals ≡ take at signals ++ item ∷ [] =
+    rw (take_more signals at item within, ← c.signal-item.is) in
+    let early : HasCleanDisk now → HasCleanDisk mid = λ clean. omega (arith, w.frame.survives.clean, clean) in
     let so_far = take at signals in
     let taken = length-take at signals in
     let counted : at ≡ 0 + length so_far = omega (arith, taken, within) in
     let before = tables_of old.now.trees in
     record {
       counted = c.in_ok-place.ensures ∙ ap (λ n. n + 1) i.counted;
-      signals = subst (AllByRecursion IsSignal) (sym done) (all_append IsSignal so_far (item ∷ []) i.signals (w.signal, tt));
-      same_reference = w.same_reference ∙ i.same_reference;
-      kept = λ clean. keeps_then old mid now (i.kept (early clean)) (w.kept clean);
-      survives = survives_then old mid now (λ _. ⊥) (λ _. ⊥) (λ _. ⊥) (λ _ db none. none) (λ _ db none. none) i.survives w.survives;
-      office = λ clean was. w.office clean (i.office (early clean) was);
-      inside = λ clean was mode. w.inside clean (i.office (early clean) was);
+      signals = subst (AllByRecursion IsSignal) (sym done)
+          (all_append IsSignal so_far (item ∷ []) i.signals (w.signal, tt));
+      frame = writes_then g.S.Store c.args.tx.now c.loop-signal.tx c.write_signal.new.tx _ i.frame
+          (ends_and_stays _ _ _ _ w.frame);
       written = λ clean was.
-          w.written clean (i.office (early clean) was)
+          w.written clean (i.frame.office (early clean) was)
           ∙ ap (with_signal net number c.loop-signal.place item) (i.written (early clean) was)
-          ∙ ap (λ n. with_signal net number n item (with_signals net number (placed_from 0 so_far) before)) (i.counted ∙ counted)
+          ∙ ap (λ n. with_signal net number n item (with_signals net number (placed_from 0 so_far) before))
+          (i.counted ∙ counted)
           ∙ sym (signals_push net number 0 so_far item before)
           ∙ ap (λ l. with_signals net number (placed_from 0 l) before) (sym done);
     }

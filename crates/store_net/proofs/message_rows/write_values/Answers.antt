@@ -1,7 +1,8 @@
-use Rattle.std.proofs.Common.{ℕ, pos, ◌≡◌, ◌∙◌, ◌∷◌, ◌++◌, [], List, ◌<◌, ◌+◌, take, length, sym, ap, subst, arith, append_assoc, length-take}
+use Rattle.std.proofs.Common.{ℕ, pos, ◌≡◌, ◌∙◌, ◌∷◌, ◌++◌, [], List, ◌<◌, ◌+◌, take, length, sym, ap, subst, arith}
+use Rattle.std.proofs.Common.{append_assoc, length-take}
 use Rattle.std.proofs.lemmas.List.{take_more}
 use Rattle.std.specs.List.{AllByRecursion}
-use Rattle.catalogue.specs.declared.value_texts.ValueText.{ValueText}
+use Rattle.dbc_sheet.specs.declared.value_texts.ValueText.{ValueText}
 use Rattle.decimal.specs.Number.{IsDecimal}
 use Rattle.decimal.specs.Printing.{text_of}
 use Rattle.sqlite.specs.declared.types.Value.TheVariants.{Int, Text, Blob}
@@ -9,12 +10,11 @@ use Rattle.store_rows.proofs.SeatRows.{all_append}
 use Rattle.sqlite.specs.Held.{state}
 use Rattle.sqlite.specs.Order.{Row}
 use Rattle.sqlite.specs.State.{HasCleanDisk}
-use Rattle.sqlite.proofs.InsideLemmas.{keeps_then}
-use Rattle.sqlite.proofs.StateLemmas.{survives_then}
-use Rattle.office_tables.specs.Tables.{Tables, tables_of}
+use Rattle.store_tables.specs.Tables.{Tables, tables_of}
 use Rattle.store_rows.specs.Live.{sigvalue_values}
 use Rattle.store_rows.specs.LiveWritten.{value_rows}
 use Rattle.store_net.proofs.ReceiverRows.{values_push}
+use Rattle.store_net.proofs.Frames.{edits_end, ends_and_stays, writes_then}
 use Rattle.store_net.proofs.message_rows.write_values.Goals as goal
 
 pub loop-entry-preserved : goal.loop-entry-preserved
@@ -28,12 +28,13 @@ loop-entry-preserved g c =
     let values = c.args.values.now in
     let at = c.loop-entry.entry-index in
     let item = c.entry-item.result in
-    let seat = c.loop-entry.seat in
+    let seat = c.loop-entry.index in
     let i = c.loop-entry.invariant in
     let w = c.in_ok-insert_sigvalue.ensures in
     let within : at < length values = c.loop-entry-test.true in
-    let done : take (at + 1) values ≡ take at values ++ item ∷ [] = rw (take_more values at item within, ← c.entry-item.is) in
-    let early : HasCleanDisk now → HasCleanDisk mid = λ clean. omega (arith, w.survives.clean, clean) in
+    let done : take (at + 1) values ≡ take at values ++ item ∷ [] =
+    rw (take_more values at item within, ← c.entry-item.is) in
+    let early : HasCleanDisk now → HasCleanDisk mid = λ clean. omega (arith, w.frame.survives.clean, clean) in
     let so_far = take at values in
     let taken = length-take at values in
     let counted : at ≡ 0 + length so_far = omega (arith, taken, within) in
@@ -44,23 +45,26 @@ loop-entry-preserved g c =
     let row : Row = Text net ∷ Int (pos number) ∷ Int (pos place) ∷ Int (pos seat) ∷ Text v ∷ Blob w2 ∷ [] in
     let row_is : row ≡ sigvalue_values net number place (0 + length so_far) item =
     ap (λ n. Text net ∷ Int (pos number) ∷ Int (pos place) ∷ Int (pos n) ∷ Text v ∷ Blob w2 ∷ []) (i.counted ∙ counted)
-    ∙ ap (λ (x : List ℕ). Text net ∷ Int (pos number) ∷ Int (pos place) ∷ Int (pos (0 + length so_far)) ∷ Text x ∷ Blob w2 ∷ []) text_is
-    ∙ ap (λ (x : List ℕ). Text net ∷ Int (pos number) ∷ Int (pos place) ∷ Int (pos (0 + length so_far)) ∷ Text (text_of item.value) ∷ Blob x ∷ []) c.as_bytes.ensures.bytes in
+    ∙ ap (λ (x : List ℕ). Text net ∷ Int (pos number) ∷ Int (pos place) ∷ Int (pos (0 + length so_far)) ∷ Text x
+    ∷ Blob w2 ∷ []) text_is
+    ∙ ap (λ (x : List ℕ). Text net ∷ Int (pos number) ∷ Int (pos place) ∷ Int (pos (0 + length so_far))
+    ∷ Text (text_of item.value) ∷ Blob x ∷ []) c.as_bytes.ensures.bytes in
     let before = tables_of old.now.trees in
-    let rows_are : (before.sigvalue ++ value_rows net number place 0 so_far) ++ row ∷ [] ≡ before.sigvalue ++ value_rows net number place 0 (take (at + 1) values) =
+    let rows_are : (before.sigvalue ++ value_rows net number place 0 so_far) ++ row ∷ [] ≡ before.sigvalue
+    ++ value_rows net number place 0 (take (at + 1) values) =
     append_assoc before.sigvalue (value_rows net number place 0 so_far) (row ∷ [])
     ∙ ap (λ (r : Row). before.sigvalue ++ (value_rows net number place 0 so_far ++ r ∷ [])) row_is
-    ∙ ap (λ (l : List Row). before.sigvalue ++ l) (sym (values_push net number place 0 so_far item) ∙ ap (value_rows net number place 0) (sym done)) in
+    ∙ ap (λ (l : List Row). before.sigvalue ++ l)
+    (sym (values_push net number place 0 so_far item) ∙ ap (value_rows net number place 0) (sym done)) in
     record {
-      counted = c.in_ok-seat.ensures ∙ ap (λ n. n + 1) i.counted;
-      decimals = subst (AllByRecursion (λ (x : ValueText). IsDecimal x.value)) (sym done) (all_append (λ (x : ValueText). IsDecimal x.value) so_far (item ∷ []) i.decimals (c.decimal_text.ensures.decimal, tt));
-      same_reference = w.same_reference ∙ i.same_reference;
-      kept = λ clean. keeps_then old mid now (i.kept (early clean)) (w.kept clean);
-      survives = survives_then old mid now (λ _. ⊥) (λ _. ⊥) (λ _. ⊥) (λ _ db none. none) (λ _ db none. none) i.survives w.survives;
-      office = λ clean was. (w.added clean (i.office (early clean) was)).office;
-      inside = λ clean was mode. (w.added clean (i.office (early clean) was)).inside;
+      counted = c.in_ok-index.ensures ∙ ap (λ n. n + 1) i.counted;
+      decimals = subst (AllByRecursion (λ (x : ValueText). IsDecimal x.value)) (sym done)
+          (all_append (λ (x : ValueText). IsDecimal x.value) so_far (item ∷ []) i.decimals
+          (c.decimal_text.ensures.decimal, tt));
+      frame = writes_then g.S.Store c.args.tx.now c.loop-entry.tx c.insert_sigvalue.new.tx _ i.frame
+          (ends_and_stays _ _ _ _ (edits_end _ _ _ _ w.frame w.added));
       written = λ clean was.
-          (w.added clean (i.office (early clean) was)).tables_are
+          (w.added clean (i.frame.office (early clean) was)).tables_are
           ∙ ap (λ (t : Tables). record t { sigvalue = t.sigvalue ++ row ∷ [] }) (i.written (early clean) was)
           ∙ ap (λ (l : List Row). record before { sigvalue = l }) rows_are;
     }

@@ -5,7 +5,7 @@ use Rattle.sqlite.specs.State.{HasCleanDisk}
 use Rattle.sqlite.proofs.Callers.{unchanged_then}
 use Rattle.sqlite.proofs.InsideLemmas.{keeps_then}
 use Rattle.office_types.specs.declared.state.Net.{Net}
-use Rattle.office_tables.specs.Tables.{IsOffice, tables_of}
+use Rattle.store_tables.specs.Tables.{IsOffice, tables_of}
 use Rattle.store_rows.specs.NetIn.{IsNetAt}
 use Rattle.store_net.proofs.Names.{lines_more, lines_whole}
 use Rattle.store_net.proofs.Whole.{nothing_left}
@@ -20,21 +20,28 @@ loop-name-preserved g c =
     let at = c.loop-name.name-index in
     let i = c.loop-name.invariant in
     let w = c.in_ok-line.ensures in
-    let early : HasCleanDisk now → HasCleanDisk mid = λ clean. omega (arith, w.survives.clean, clean) in
-    let office : HasCleanDisk now → IsOffice old.now → IsOffice mid.now = λ clean was. subst IsOffice (sym (i.now_is (early clean) was)) was in
+    let early : HasCleanDisk now → HasCleanDisk mid = λ clean. omega (arith, w.frame.survives.clean, clean) in
+    let office : HasCleanDisk now → IsOffice old.now → IsOffice mid.now =
+    λ clean was. subst IsOffice (sym (i.now_is (early clean) was)) was in
     record {
-      same_reference = w.same_reference ∙ i.same_reference;
-      now_is = λ clean was. (w.same clean (office clean was)).0.now_is ∙ i.now_is (early clean) was;
-      same = λ clean was is_open. unchanged_then old mid now (i.same (early clean) was is_open) (w.same clean (office clean was));
-      kept = λ clean was. keeps_then old mid now (i.kept (early clean) was) (w.kept clean (office clean was));
-      survives = nothing_left old mid now i.survives w.survives;
+      same_reference = w.frame.same_reference ∙ i.same_reference;
+      now_is = λ clean was. (w.frame.same clean (office clean was)).0.now_is ∙ i.now_is (early clean) was;
+      same = λ clean was is_open. unchanged_then old mid now (i.same (early clean) was is_open)
+          (w.frame.same clean (office clean was));
+      kept = λ clean was. keeps_then old mid now (i.kept (early clean) was) (w.frame.kept clean (office clean was));
+      survives = nothing_left old mid now i.survives w.frame.survives;
       reported = λ clean was nets there same.
-          lines_more (tables_of old.now.trees) names nets at c.name-item.result c.loop-name.text.items c.in_ok-line.line.items c.extend_from_slice.new.self.items same there
+          lines_more (tables_of old.now.trees) names nets at c.name-item.result c.loop-name.text.items
+          c.in_ok-line.line.items c.extend_from_slice.new.self.items same there
           c.loop-name-test.true c.name-item.is (i.reported (early clean) was nets there same)
-          (λ (net : Net) here. w.found clean (office clean was) net (subst (λ (d : Database). IsNetAt c.name-item.result (tables_of d.trees) (Some net)) (sym (i.now_is (early clean) was)) here))
-          (c.in_ok-extend_from_slice.ensures.items ∙ ap (λ (v : List ℕ). c.loop-name.text.items ++ v) c.deref.ensures.value);
+          (λ (net : Net) here. w.found clean (office clean was) net
+          (subst (λ (d : Database). IsNetAt c.name-item.result (tables_of d.trees) (Some net))
+          (sym (i.now_is (early clean) was)) here))
+          (c.in_ok-extend_from_slice.ensures.items
+          ∙ ap (λ (v : List ℕ). c.loop-name.text.items ++ v) c.deref.ensures.value);
     }
 
 pub returns-clause-found : goal.returns-clause-found
 returns-clause-found g c clean office nets there same =
-    lines_whole c.args.names.now nets c.loop-name.name-index c.loop-name.text.items same c.loop-name-test.false (c.loop-name.invariant.reported clean office nets there same)
+    lines_whole c.args.names.now nets c.loop-name.name-index c.loop-name.text.items same c.loop-name-test.false
+    (c.loop-name.invariant.reported clean office nets there same)

@@ -4,8 +4,8 @@ use Rattle.std.specs.List.{AllByRecursion}
 use Rattle.sqlite.specs.Held.{state}
 use Rattle.sqlite.specs.State.{HasCleanDisk, IsUnchanged, KeepsCommit, Survives}
 use Rattle.office_types.specs.declared.state.Net.{Net}
-use Rattle.office_tables.specs.Tables.{IsOffice, tables_of}
-use Rattle.views.specs.NetList.{nets_text}
+use Rattle.store_tables.specs.Tables.{IsOffice, tables_of}
+use Rattle.office_views.specs.NetList.{nets_text}
 use Rattle.store_rows.specs.NetIn.{IsNetAt}
 use Rattle.store_net.proofs.nets.lines_at.Given as goal
 
@@ -19,6 +19,7 @@ invariant-loop-name g l =
       same : HasCleanDisk now → IsOffice old.now → IsTrue old.is_open → IsUnchanged old now;
       kept : HasCleanDisk now → IsOffice old.now → KeepsCommit old now;
       survives : Survives old now (λ _. ⊥);
-      reported : HasCleanDisk now → IsOffice old.now → (nets : List Net) → AllByRecursion (λ (net : Net). IsNetAt net.name (tables_of old.now.trees) (Some net)) nets
+      reported : HasCleanDisk now → IsOffice old.now → (nets : List Net)
+          → AllByRecursion (λ (net : Net). IsNetAt net.name (tables_of old.now.trees) (Some net)) nets
           → l.names ≡ map (λ (net : Net). net.name) nets → l.text.items ≡ nets_text (take l.name-index nets);
     }

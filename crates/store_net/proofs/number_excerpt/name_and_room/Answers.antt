@@ -1,13 +1,13 @@
-use Rattle.std.proofs.Common.{◌≡◌, ◌∙◌, List, length, refl, sym, subst, arith}
+use Rattle.std.proofs.Common.{◌≡◌, ◌∙◌, List, length, refl, sym, subst, arith, rules}
 use Rattle.std.specs.Prelude.{nat_le}
 use Rattle.sqlite.specs.Effect.{Database}
 use Rattle.sqlite.specs.Held.{state}
 use Rattle.sqlite.specs.State.{HasCleanDisk}
-use Rattle.catalogue.specs.Limits.{message_limit}
-use Rattle.catalogue.specs.Named.{has_name}
+use Rattle.dbc_words.specs.Limits.{message_limit}
+use Rattle.dbc_words.specs.Named.{has_name}
 use Rattle.office_types.specs.declared.state.LiveMessage.{LiveMessage}
 use Rattle.office_rules.specs.Facts.{live_name}
-use Rattle.office_tables.specs.Tables.{IsOffice, tables_of}
+use Rattle.store_tables.specs.Tables.{IsOffice, tables_of}
 use Rattle.store_rows.specs.Live.{AreLiveRows, live_rows}
 use Rattle.store_net.specs.Excerpts.{HasNameAndRoom}
 use Rattle.store_net.specs.Parts.{HasBlocks}
@@ -17,7 +17,8 @@ use Rattle.store_net.proofs.number_excerpt.name_and_room.Goals as goal
 
 pub returns-in_default-clause-found : goal.returns-in_default-clause-found
 returns-in_default-clause-found g c clean office net at =
-    none_there (HasNameAndRoom c.args.message.now) c.args.name.now (tables_of (state g.S.Store c.args.tx.now.conn.now).now.trees) net
+    none_there (HasNameAndRoom c.args.message.now) c.args.name.now
+    (tables_of (state g.S.Store c.args.tx.now.conn.now).now.trees) net
     (λ other h. sym c.in_default.is ∙ c.in_ok-head.ensures.found clean office other h) at
 
 pub returns-clause-found : goal.returns-clause-found
@@ -28,19 +29,24 @@ returns-clause-found g c clean office net at =
     let s1 = state g.S.Store c.head_of.new.tx.conn.now in
     let s2 = state g.S.Store c.blocks_of.new.tx.conn.now in
     let s3 = state g.S.Store c.is_named_at.new.tx.conn.now in
-    let clean3 : HasCleanDisk s3 = omega (arith, c.is_full_at.ensures.survives.clean, clean) in
-    let clean2 : HasCleanDisk s2 = omega (arith, c.is_named_at.ensures.survives.clean, clean3) in
-    let clean1 : HasCleanDisk s1 = omega (arith, c.blocks_of.ensures.survives.clean, clean2) in
-    let now1 : s1.now ≡ s0.now = (c.in_ok-head.ensures.same clean1 office).0.now_is in
+    let clean3 : HasCleanDisk s3 = omega (arith, c.is_full_at.ensures.frame.survives.clean, clean) in
+    let clean2 : HasCleanDisk s2 = omega (arith, c.is_named_at.ensures.frame.survives.clean, clean3) in
+    let clean1 : HasCleanDisk s1 = omega (arith, c.blocks_of.ensures.frame.survives.clean, clean2) in
+    let now1 : s1.now ≡ s0.now = (c.in_ok-head.ensures.frame.same clean1 office).0.now_is in
     let office1 : IsOffice s1.now = subst IsOffice (sym now1) office in
-    let now2 : s2.now ≡ s0.now = (c.in_ok-blocks.ensures.same clean2 office1).0.now_is ∙ now1 in
+    let now2 : s2.now ≡ s0.now = (c.in_ok-blocks.ensures.frame.same clean2 office1).0.now_is ∙ now1 in
     let office2 : IsOffice s2.now = subst IsOffice (sym now2) office in
-    let now3 : s3.now ≡ s0.now = (c.in_ok-named.ensures.same clean3 office2).0.now_is ∙ now2 in
+    let now3 : s3.now ≡ s0.now = (c.in_ok-named.ensures.frame.same clean3 office2).0.now_is ∙ now2 in
     let office3 : IsOffice s3.now = subst IsOffice (sym now3) office in
-    let blocks = read_before (HasBlocks name) c.in_ok-blocks.blocks s1.now s0.now now1 (c.in_ok-blocks.ensures.found clean2 office1) in
-    let named = subst (λ (d : Database). (live : List LiveMessage) → AreLiveRows name (live_rows name (tables_of d.trees)) live → c.in_ok-named.named ≡ has_name live_name live message) now2
+    let blocks = read_before (HasBlocks name) c.in_ok-blocks.blocks s1.now s0.now now1
+    (c.in_ok-blocks.ensures.found clean2 office1) in
+    let named = subst (λ (d : Database). (live : List LiveMessage)
+    → AreLiveRows name (live_rows name (tables_of d.trees)) live
+    → c.in_ok-named.named ≡ has_name live_name live message) now2
     (c.in_ok-named.ensures.found clean3 office2) in
-    let full = subst (λ (d : Database). (live : List LiveMessage) → AreLiveRows name (live_rows name (tables_of d.trees)) live → c.in_ok-full.full ≡ nat_le message_limit (length live)) now3
+    let full = subst (λ (d : Database). (live : List LiveMessage)
+    → AreLiveRows name (live_rows name (tables_of d.trees)) live
+    → c.in_ok-full.full ≡ nat_le message_limit (length live)) now3
     (c.in_ok-full.ensures.found clean office3) in
     one_there (HasNameAndRoom message) name (tables_of s0.now.trees) net c.in-Some.head _
     (λ other h. sym c.in-Some.is ∙ c.in_ok-head.ensures.found clean1 office other h)
@@ -53,6 +59,13 @@ returns-clause-found g c clean office net at =
       want_held = refl;
     }) at
 
-pub returns-clause-survives : goal.returns-clause-survives
-returns-clause-survives g c =
-    nothing_left _ _ _ c.head_of.ensures.survives (nothing_left _ _ _ c.blocks_of.ensures.survives (nothing_left _ _ _ c.is_named_at.ensures.survives c.is_full_at.ensures.survives))
+pub returns-clause-frame : goal.returns-clause-frame
+returns-clause-frame g c = record {
+  same_reference = search rules;
+  same = search rules;
+  kept = search rules;
+  survives =
+      nothing_left _ _ _ c.head_of.ensures.frame.survives
+      (nothing_left _ _ _ c.blocks_of.ensures.frame.survives
+      (nothing_left _ _ _ c.is_named_at.ensures.frame.survives c.is_full_at.ensures.frame.survives));
+}

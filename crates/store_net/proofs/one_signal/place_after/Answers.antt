@@ -11,5 +11,6 @@ pub returns-in_ok-number_at-in-Some : goal.returns-in_ok-number_at-in-Some
 returns-in_ok-number_at-in-Some c =
     IfOk-weaker c.number_above.result _ _
     (λ k is net number t selected. subst (IsAfter net number t) (sym is)
-    (last_shown net number t c.args.rows.now selected c.in-Some.row.now c.in_ok-number_at-in-Some.field-0 c.in-Some.ensures.value c.in_ok-number_at-in-Some.ensures))
+    (last_shown net number t c.args.rows.now selected c.in-Some.row.now c.in_ok-number_at-in-Some.field-0
+    c.in-Some.ensures.value c.in_ok-number_at-in-Some.ensures))
     c.number_above.ensures

@@ -2,12 +2,11 @@ use Rattle.std.proofs.Common.{◌≡◌, ◌∙◌, ◌∷◌, ◌++◌, [], ◌
 use Rattle.std.proofs.lemmas.List.{take_more}
 use Rattle.sqlite.specs.Held.{state}
 use Rattle.sqlite.specs.State.{HasCleanDisk}
-use Rattle.sqlite.proofs.InsideLemmas.{keeps_then}
-use Rattle.sqlite.proofs.StateLemmas.{survives_then}
-use Rattle.office_tables.specs.Tables.{tables_of}
+use Rattle.store_tables.specs.Tables.{tables_of}
 use Rattle.store_rows.specs.LiveWritten.{without_place, without_places}
 use Rattle.store_net.specs.Places.{number_in, places_shown}
 use Rattle.store_net.proofs.SignalPlaces.{places_removed}
+use Rattle.store_net.proofs.Frames.{edits_end, ends_and_stays, writes_then}
 use Rattle.store_net.proofs.one_signal.remove_shown.Goals as goal
 
 pub loop-row-preserved : goal.loop-row-preserved
@@ -25,17 +24,16 @@ loop-row-preserved g c =
     let w = c.in_ok-remove_place.ensures in
     let within : at < length rows = c.loop-row-test.true in
     let done : take (at + 1) rows ≡ take at rows ++ row ∷ [] = rw (take_more rows at row within, ← c.row-item.is) in
-    let early : HasCleanDisk now → HasCleanDisk mid = λ clean. omega (arith, w.survives.clean, clean) in
+    let early : HasCleanDisk now → HasCleanDisk mid = λ clean. omega (arith, w.frame.survives.clean, clean) in
     let before = tables_of old.now.trees in
     record {
-      same_reference = w.same_reference ∙ i.same_reference;
-      kept = λ clean. keeps_then old mid now (i.kept (early clean)) (w.kept clean);
-      survives = survives_then old mid now (λ _. ⊥) (λ _. ⊥) (λ _. ⊥) (λ _ db none. none) (λ _ db none. none) i.survives w.survives;
-      office = λ clean was. (w.removed clean (i.office (early clean) was)).office;
-      inside = λ clean was mode. (w.removed clean (i.office (early clean) was)).inside;
+      frame = writes_then g.S.Store c.args.tx.now c.loop-row.tx c.remove_place.new.tx _ i.frame
+          (ends_and_stays _ _ _ _ (edits_end _ _ _ _ w.frame w.removed));
       removed = λ clean was.
-          (w.removed clean (i.office (early clean) was)).tables_are
+          (w.removed clean (i.frame.office (early clean) was)).tables_are
           ∙ ap (without_place net number place) (i.removed (early clean) was)
-          ∙ ap (λ n. without_place net number n (without_places net number (places_shown (take at rows)) before)) (sym (ap number_in c.in_ok-place.ensures))
-          ∙ sym (ap (λ l. without_places net number (places_shown l) before) done ∙ places_removed net number (take at rows) row before);
+          ∙ ap (λ n. without_place net number n (without_places net number (places_shown (take at rows)) before))
+          (sym (ap number_in c.in_ok-place.ensures))
+          ∙ sym (ap (λ l. without_places net number (places_shown l) before) done
+          ∙ places_removed net number (take at rows) row before);
     }

@@ -1,10 +1,11 @@
 use Rattle.std.proofs.Common.{◌≡◌, take}
-use Rattle.std.specs.Prelude.{IsTrue}
 use Rattle.sqlite.specs.Held.{state}
-use Rattle.sqlite.specs.State.{HasCleanDisk, KeepsCommit, Survives}
-use Rattle.office_tables.specs.Tables.{IsOffice, tables_of}
+use Rattle.sqlite.specs.State.{HasCleanDisk}
+use Rattle.store_tables.specs.Frames.{WritesAndStaysIn}
+use Rattle.store_tables.specs.Tables.{IsOffice, tables_of}
 use Rattle.store_rows.specs.LiveWritten.{without_places}
 use Rattle.store_net.specs.Places.{places_shown}
+use Rattle.store_net.proofs.Frames.{going}
 use Rattle.store_net.proofs.one_signal.remove_shown.Given as goal
 
 abbrev pub invariant-loop-row : goal.invariant-loop-row
@@ -12,11 +13,8 @@ invariant-loop-row g l =
     let old = state g.S.Store l.fn.tx.conn.now in
     let now = state g.S.Store l.tx.conn.now in
     record {
-      same_reference : l.tx.conn.ghost_name ≡ l.fn.tx.conn.ghost_name;
-      kept : HasCleanDisk now → KeepsCommit old now;
-      survives : Survives old now (λ _. ⊥);
-      office : HasCleanDisk now → IsOffice old.now → IsOffice now.now;
-      inside : HasCleanDisk now → IsOffice old.now → IsTrue old.in_transaction → IsTrue now.in_transaction;
+      frame : WritesAndStaysIn g.S.Store l.fn.tx l.tx going;
       removed : HasCleanDisk now → IsOffice old.now
-          → tables_of now.now.trees ≡ without_places l.net l.number (places_shown (take l.row-index l.rows)) (tables_of old.now.trees);
+          → tables_of now.now.trees ≡ without_places l.net l.number (places_shown (take l.row-index l.rows))
+          (tables_of old.now.trees);
     }

@@ -1,13 +1,13 @@
 use Rattle.std.proofs.Common.{◌≡◌, ◌∙◌, [], ◌∷◌, ◌++◌, ap, arith}
 use Rattle.std.proofs.lemmas.Result.{on_ok_weaker}
-use Rattle.catalogue.specs.declared.signal.Signal.{Signal}
+use Rattle.dbc_sheet.specs.declared.signal.Signal.{Signal}
 use Rattle.sqlite.specs.Held.{state}
 use Rattle.sqlite.specs.Order.{column}
 use Rattle.sqlite.specs.State.{HasCleanDisk}
-use Rattle.office_tables.specs.Tables.{Tables, tables_of}
+use Rattle.store_tables.specs.Tables.{Tables, tables_of}
 use Rattle.store_rows.specs.Live.{sig_values}
 use Rattle.store_rows.proofs.Values.{one_number}
-use Rattle.store_net.specs.Detail.{bare_signal}
+use Rattle.store_net.specs.SignalParts.{bare_signal}
 use Rattle.store_net.proofs.Bare.{one_shown}
 use Rattle.store_net.proofs.SetSignals.{one_numbered}
 use Rattle.store_net.proofs.one_signal.set_row_spn.Goals as goal
@@ -15,7 +15,7 @@ use Rattle.store_net.proofs.one_signal.set_row_spn.Goals as goal
 pub returns-clause-written : goal.returns-clause-written
 returns-clause-written g c clean office =
     let s1 = state g.S.Store c.delete_sig_at.new.tx.conn.now in
-    let clean1 : HasCleanDisk s1 = omega (arith, c.write_sig.ensures.survives.clean, clean) in
+    let clean1 : HasCleanDisk s1 = omega (arith, c.write_sig.ensures.frame.survives.clean, clean) in
     let gone = c.in_ok-delete_sig_at.ensures.removed clean1 office in
     let t = tables_of (state g.S.Store c.args.tx.now.conn.now).now.trees in
     let net = c.args.net.now in
@@ -27,10 +27,13 @@ returns-clause-written g c clean office =
     let row = sig_values net number place (record signal { spn = given }) in
     on_ok_weaker c.write_sig.result (λ made q shows.
     let same : place ≡ q.0 = one_number (column c.args.row.now 0) place q.0 c.in_ok-place.ensures shows.place in
-    let signal_is : signal ≡ bare_signal q.1 = c.in_ok-signal.ensures (bare_signal q.1) (one_shown q c.args.row.now shows).signal c.new.ensures c.empty.ensures in
+    let signal_is : signal ≡ bare_signal q.1 =
+    c.in_ok-signal.ensures (bare_signal q.1) (one_shown q c.args.row.now shows).signal c.new.ensures
+    c.empty.ensures in
     let row_is : row ≡ sig_values net number q.0 (record q.1 { spn = n }) =
     ap (λ (s : Signal). sig_values net number place (record s { spn = given })) signal_is
     ∙ ap (λ k. sig_values net number place (record q.1 { spn = k })) c.spn-signal.ensures
     ∙ ap (λ k. sig_values net number k (record q.1 { spn = n })) same in
-    made.tables_are ∙ ap (λ (u : Tables). record u { sig = u.sig ++ row ∷ [] }) gone.tables_are ∙ one_numbered net number n q place row t same row_is)
+    made.tables_are ∙ ap (λ (u : Tables). record u { sig = u.sig ++ row ∷ [] }) gone.tables_are
+    ∙ one_numbered net number n q place row t same row_is)
     (c.write_sig.ensures.written clean gone.office)

@@ -3,7 +3,7 @@ use Rattle.std.specs.Prelude.{IsTrue}
 use Rattle.sqlite.specs.Held.{state}
 use Rattle.sqlite.specs.State.{HasCleanDisk, IsUnchanged, KeepsCommit, Survives}
 use Rattle.can_id.specs.declared.ident.Ident.{Ident}
-use Rattle.office_tables.specs.Tables.{IsOffice, tables_of}
+use Rattle.store_tables.specs.Tables.{IsOffice, tables_of}
 use Rattle.store_net.specs.Numbers.{HasTaken, idents_inside}
 use Rattle.store_net.proofs.ranges.idents_inside_at.Given as goal
 
@@ -17,6 +17,7 @@ invariant-loop-block g l =
       same : HasCleanDisk now → IsOffice old.now → IsTrue old.is_open → IsUnchanged old now;
       kept : HasCleanDisk now → IsOffice old.now → KeepsCommit old now;
       survives : Survives old now (λ _. ⊥);
-      read : HasCleanDisk now → IsOffice old.now → (idents : List Ident) → HasTaken l.table l.name (tables_of old.now.trees) idents
+      read : HasCleanDisk now → IsOffice old.now → (idents : List Ident)
+          → HasTaken l.table l.name (tables_of old.now.trees) idents
           → l.idents.items ≡ idents_inside l.form (take l.block-index l.blocks) idents;
     }

@@ -4,7 +4,7 @@ use Rattle.sqlite.specs.Held.{state}
 use Rattle.can_id.specs.Ident.{ident_of}
 use Rattle.can_id.specs.declared.ident.Ident.{Ident}
 use Rattle.office_rules.specs.Facts.{same_ident}
-use Rattle.office_tables.specs.Tables.{tables_of}
+use Rattle.store_tables.specs.Tables.{tables_of}
 use Rattle.store_net.specs.Numbers.{idents_between}
 use Rattle.store_net.proofs.Between.{taken_are_identifiers}
 use Rattle.store_net.proofs.Inside.{wanted_taken}
@@ -16,4 +16,6 @@ returns-clause-found g c clean office idents has =
     let test = λ (l : List Ident). list_any (λ i. same_ident i wanted) l in
     c.has_ident.ensures ∙ ap test (c.as_slice.ensures ∙ c.in_ok-idents.ensures.found clean office idents has)
     ∙ ap (λ (n : ℕ). test (idents_between n n idents)) c.dbc_of-number_of_dbc.ensures
-    ∙ wanted_taken c.args.form c.args.number idents (taken_are_identifiers c.args.table c.args.name.now (tables_of (state g.S.Store c.args.tx.now.conn.now).now.trees) idents has)
+    ∙ wanted_taken c.args.form c.args.number idents
+    (taken_are_identifiers c.args.table c.args.name.now (tables_of (state g.S.Store c.args.tx.now.conn.now).now.trees)
+    idents has)

@@ -1,21 +1,24 @@
 use Rattle.std.proofs.Common.{◌≡◌, ◌∙◌, sym, subst, arith}
 use Rattle.sqlite.specs.Held.{state}
 use Rattle.sqlite.specs.State.{HasCleanDisk}
-use Rattle.office_tables.specs.Tables.{IsOffice, tables_of}
+use Rattle.store_tables.specs.Tables.{IsOffice, tables_of}
 use Rattle.store_net.specs.Parts.{HasReleases}
 use Rattle.store_net.proofs.Whole.{none_if_unreleased, read_before, with_its_releases}
 use Rattle.store_net.proofs.reading.net_at.Goals as goal
 
 pub returns-in_default-clause-found : goal.returns-in_default-clause-found
-returns-in_default-clause-found g c clean office net at = none_if_unreleased net (sym c.in_default.is ∙ c.in_ok-net.ensures.found clean office net at)
+returns-in_default-clause-found g c clean office net at =
+    none_if_unreleased net (sym c.in_default.is ∙ c.in_ok-net.ensures.found clean office net at)
 
 pub returns-clause-found : goal.returns-clause-found
 returns-clause-found g c clean office net at =
     let name = c.args.name.now in
     let s0 = state g.S.Store c.args.tx.now.conn.now in
     let s1 = state g.S.Store c.unreleased_net_at.new.tx.conn.now in
-    let clean1 : HasCleanDisk s1 = omega (arith, c.releases_of.ensures.survives.clean) in
-    let now1 : s1.now ≡ s0.now = (c.in_ok-net.ensures.same clean1 office).0.now_is in
+    let clean1 : HasCleanDisk s1 = omega (arith, c.releases_of.ensures.frame.survives.clean) in
+    let now1 : s1.now ≡ s0.now = (c.in_ok-net.ensures.frame.same clean1 office).0.now_is in
     let office1 : IsOffice s1.now = subst IsOffice (sym now1) office in
-    with_its_releases name (tables_of s0.now.trees) net c.in-Some.net c.in_ok-net-2.field-0 at (sym c.in-Some.is ∙ c.in_ok-net.ensures.found clean1 office net at)
-    (read_before (HasReleases name) c.in_ok-net-2.field-0 s1.now s0.now now1 (c.in_ok-net-2.ensures.found clean office1))
+    with_its_releases name (tables_of s0.now.trees) net c.in-Some.net c.in_ok-net-2.field-0 at
+    (sym c.in-Some.is ∙ c.in_ok-net.ensures.found clean1 office net at)
+    (read_before (HasReleases name) c.in_ok-net-2.field-0 s1.now s0.now now1
+    (c.in_ok-net-2.ensures.found clean office1))

@@ -1,8 +1,8 @@
 use Rattle.std.proofs.Common.{◌≡◌, List, Some, sym, ap, ◌∙◌}
 use Rattle.can_id.specs.Ident.{dbc_number}
-use Rattle.catalogue.specs.Messages.{has_number}
-use Rattle.catalogue.specs.declared.message.Message.{Message}
-use Rattle.catalogue.specs.declared.sheet.Sheet.{Sheet}
+use Rattle.dbc_sheet.specs.Messages.{has_number}
+use Rattle.dbc_sheet.specs.declared.message.Message.{Message}
+use Rattle.dbc_sheet.specs.declared.sheet.Sheet.{Sheet}
 use Rattle.store_net.proofs.release.body_has.Goals as goal
 
 same_sheet : (read sheet : Sheet) → Some read ≡ Some sheet → read ≡ sheet
@@ -12,4 +12,6 @@ pub returns-in-Some : goal.returns-in-Some
 returns-in-Some c sheet reads =
     c.has_ident.ensures
     ∙ ap (λ (messages : List Message). has_number messages (dbc_number c.args.ident))
-    (c.messages.ensures.messages ∙ ap (λ (s : Sheet). s.messages) (same_sheet c.in-Some.sheet sheet (sym c.in-Some.is ∙ c.in_ok-sheet.ensures.found sheet reads)))
+    (c.messages.ensures.messages
+    ∙ ap (λ (s : Sheet). s.messages)
+    (same_sheet c.in-Some.sheet sheet (sym c.in-Some.is ∙ c.in_ok-sheet.ensures.found sheet reads)))

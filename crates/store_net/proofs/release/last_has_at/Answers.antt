@@ -3,7 +3,7 @@ use Rattle.std.proofs.lemmas.Result.{IfOk-weaker}
 use Rattle.sqlite.specs.Effect.{Database}
 use Rattle.sqlite.specs.Held.{state}
 use Rattle.sqlite.specs.State.{HasCleanDisk}
-use Rattle.office_tables.specs.Tables.{IsOffice, tables_of}
+use Rattle.store_tables.specs.Tables.{IsOffice, tables_of}
 use Rattle.store_rows.specs.NetIn.{IsNetAt}
 use Rattle.store_net.proofs.LastRelease.{has_last}
 use Rattle.store_net.proofs.release.last_has_at.Goals as goal
@@ -12,8 +12,8 @@ pub returns-in-Ok-clause-found : goal.returns-in-Ok-clause-found
 returns-in-Ok-clause-found g c clean office =
     let s0 = state g.S.Store c.args.tx.now.conn.now in
     let s1 = state g.S.Store c.release_count.new.tx.conn.now in
-    let clean1 : HasCleanDisk s1 = omega (arith, c.release_has_at.ensures.survives.clean, clean) in
-    let now1 : s1.now ≡ s0.now = (c.in_ok-count.ensures.same clean1 office).0.now_is in
+    let clean1 : HasCleanDisk s1 = omega (arith, c.release_has_at.ensures.frame.survives.clean, clean) in
+    let now1 : s1.now ≡ s0.now = (c.in_ok-count.ensures.frame.same clean1 office).0.now_is in
     let office1 : IsOffice s1.now = subst IsOffice (sym now1) office in
     let number : c.in-Ok.number ≡ c.in_ok-count.count = search rules in
     IfOk-weaker c.release_has_at.result _ _

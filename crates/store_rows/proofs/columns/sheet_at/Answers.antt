@@ -6,4 +6,5 @@ use Rattle.store_rows.proofs.columns.sheet_at.Goals as goal
 pub returns-in-Some : goal.returns-in-Some
 returns-in-Some c text other is reads =
     let same = one_blob _ text c.in_ok-text.text.now is c.in_ok-text.ensures in
-    one_sheet c.in-Some.sheet other (sym c.in-Some.is ∙ c.in_ok-sheet.ensures.found other (subst (λ t. Reads t other) same reads))
+    one_sheet c.in-Some.sheet other
+    (sym c.in-Some.is ∙ c.in_ok-sheet.ensures.found other (subst (λ t. Reads t other) same reads))

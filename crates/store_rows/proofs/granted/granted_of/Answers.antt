@@ -1,4 +1,5 @@
-use Rattle.std.proofs.Common.{◌≡◌, ◌∷◌, ◌++◌, ◌+◌, ◌<◌, [], true, false, filter, length, take, sym, ap, subst, ◌∙◌, append-nil}
+use Rattle.std.proofs.Common.{◌≡◌, ◌∷◌, ◌++◌, ◌+◌, ◌<◌, [], true, false, filter, length, take, sym, ap, subst, ◌∙◌}
+use Rattle.std.proofs.Common.{append-nil}
 use Rattle.std.proofs.lemmas.List.{take_more}
 use Rattle.store_rows.specs.Listed.{AreShown}
 use Rattle.store_rows.specs.Showing.{ShowsBlock, is_own}
@@ -19,11 +20,15 @@ loop-row-preserved c others shown =
     elim c.if-branch.branch [
       | then-branch+in_ok-from_row+in_ok-push w ↦
           let own : is_own item ≡ true = sym c.in_ok-is_own.ensures ∙ w.if-branch.true in
-          let parts = shown_push ShowsBlock (filter is_own (take at rows)) item others (subst (AreShown ShowsBlock others) (ap (filter is_own) next ∙ own_last (take at rows) item true own) shown) in
-          w.items-is ∙ w.in_ok-push.ensures.ok ∙ ap (λ l. l ++ w.in_ok-from_row.field-0 ∷ []) (c.loop-row.invariant parts.0 parts.3)
+          let parts = shown_push ShowsBlock (filter is_own (take at rows)) item others
+          (subst (AreShown ShowsBlock others) (ap (filter is_own) next ∙ own_last (take at rows) item true own)
+          shown) in
+          w.items-is ∙ w.in_ok-push.ensures.ok
+          ∙ ap (λ l. l ++ w.in_ok-from_row.field-0 ∷ []) (c.loop-row.invariant parts.0 parts.3)
           ∙ ap (λ x. parts.0 ++ x ∷ []) (w.in_ok-from_row.ensures parts.1 parts.4) ∙ sym parts.2
       | else-branch w ↦
           let other : is_own item ≡ false = sym c.in_ok-is_own.ensures ∙ w.if-branch.false in
           w.items-is ∙ c.loop-row.invariant others
-          (subst (AreShown ShowsBlock others) (ap (filter is_own) next ∙ own_last (take at rows) item false other ∙ append-nil (filter is_own (take at rows))) shown)
+          (subst (AreShown ShowsBlock others) (ap (filter is_own) next ∙ own_last (take at rows) item false other
+          ∙ append-nil (filter is_own (take at rows))) shown)
     ]

@@ -14,5 +14,7 @@ loop-row-preserved g c others shown =
     let item = c.row-item.result in
     let within : at < length rows = c.loop-row-test.true in
     let next : take (at + 1) rows ≡ take at rows ++ item ∷ [] = rw (take_more rows at item within, ← c.row-item.is) in
-    let parts = shown_push g.T.FromRow.shows (take at rows) item others (subst (AreShown g.T.FromRow.shows others) next shown) in
-    c.in_ok-push.ensures.ok ∙ ap (λ l. l ++ c.in_ok-from_row.field-0 ∷ []) (c.loop-row.invariant parts.0 parts.3) ∙ ap (λ x. parts.0 ++ x ∷ []) (c.in_ok-from_row.ensures parts.1 parts.4) ∙ sym parts.2
+    let parts = shown_push g.T.FromRow.shows (take at rows) item others
+    (subst (AreShown g.T.FromRow.shows others) next shown) in
+    c.in_ok-push.ensures.ok ∙ ap (λ l. l ++ c.in_ok-from_row.field-0 ∷ []) (c.loop-row.invariant parts.0 parts.3)
+    ∙ ap (λ x. parts.0 ++ x ∷ []) (c.in_ok-from_row.ensures parts.1 parts.4) ∙ sym parts.2

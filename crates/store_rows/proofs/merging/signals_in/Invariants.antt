@@ -1,5 +1,5 @@
 use Rattle.std.proofs.Common.{ℕ, List, drop}
-use Rattle.catalogue.specs.declared.signal.Signal.{Signal}
+use Rattle.dbc_sheet.specs.declared.signal.Signal.{Signal}
 use Rattle.store_rows.specs.Listed.{AreShown}
 use Rattle.store_rows.specs.Live.{parts_of}
 use Rattle.store_rows.specs.SignalShowing.{PlacesAscend, ShowsPart, ShowsPlaced, ShowsReceiver, ShowsValueText}
@@ -8,5 +8,6 @@ use Rattle.store_rows.proofs.merging.signals_in.Given as goal
 
 abbrev pub invariant-loop-row : goal.invariant-loop-row
 invariant-loop-row l = (placed : List (ℕ × Signal)) → PlacesAscend placed → AreShown ShowsPlaced placed l.sigs
-    → AreShown (ShowsPart ShowsReceiver) (parts_of receivers_in placed) l.receivers → AreShown (ShowsPart ShowsValueText) (parts_of values_in placed) l.values
+    → AreShown (ShowsPart ShowsReceiver) (parts_of receivers_in placed) l.receivers
+    → AreShown (ShowsPart ShowsValueText) (parts_of values_in placed) l.values
     → AreLeft placed l.signals.items (drop l.row-index l.sigs) l.names l.texts

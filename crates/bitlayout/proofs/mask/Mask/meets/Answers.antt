@@ -5,12 +5,15 @@ use Rattle.bitlayout.proofs.mask.Mask.meets.Goals as goal
 
 pub returns-then-have_common : goal.returns-then-have_common
 returns-then-have_common c = (
-  λ _. rw (← c.self.view_is, ← c.other.view_is) (both_from_word c.self.inside.words c.other.inside.words c.loop-index.index c.self.invariant.count c.other.invariant.count (c.have_common.ensures.0 c.if-have_common.true)),
+  λ _. rw (← c.self.view_is, ← c.other.view_is)
+      (both_from_word c.self.inside.words c.other.inside.words c.loop-index.index c.self.invariant.count
+      c.other.invariant.count (c.have_common.ensures.0 c.if-have_common.true)),
   λ _. refl,
 )
 
 pub loop-index-preserved : goal.loop-index-preserved
-loop-index-preserved c = none_in_word c.self.inside.words c.other.inside.words c.loop-index.index (iff_false c.have_common.ensures c.if-have_common.false) c.loop-index.invariant
+loop-index-preserved c = none_in_word c.self.inside.words c.other.inside.words c.loop-index.index
+    (iff_false c.have_common.ensures c.if-have_common.false) c.loop-index.invariant
 
 pub returns : goal.returns
 returns c = rw (← c.self.view_is, ← c.other.view_is) (

@@ -5,4 +5,5 @@ use Rattle.bitlayout.proofs.mask.Mask.meets.Given as goal
 
 -- no position in the words so far is in both
 abbrev pub invariant-loop-index : goal.invariant-loop-index
-invariant-loop-index l = (q : ℕ) → q < 64 * l.index → Has (positions_of l.self-inside.words) q → Has (positions_of l.other-inside.words) q → ⊥
+invariant-loop-index l = (q : ℕ) → q < 64 * l.index → Has (positions_of l.self-inside.words) q
+    → Has (positions_of l.other-inside.words) q → ⊥

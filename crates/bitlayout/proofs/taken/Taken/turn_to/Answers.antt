@@ -10,8 +10,10 @@ returns-after-from-self-clause-taken c =
     let value = c.args.value in
     let now = c.if-from-self.self in
     elim c.if-from-self.branch [
-      | then-from-self w ↦ taken_turned old now places value w.add_under.new.mask c.requires w.add_under.ensures w.self-is
+      | then-from-self w ↦ taken_turned old now places value w.add_under.new.mask c.requires w.add_under.ensures
+          w.self-is
       | else-from-self w ↦
-          let more = covers_no_more old.always value places (λ some. let below = c.requires.values value some in absurd (omega (arith, c.from.ensures, w.if-from-self))) in
+          let more = covers_no_more old.always value places (λ some. let below = c.requires.values value some in
+          absurd (omega (arith, c.from.ensures, w.if-from-self))) in
           taken_turned old now places value old.always c.requires more w.self-is
     ]

@@ -7,4 +7,5 @@ pub returns-clause-value : goal.returns-clause-value
 returns-clause-value c = grind (arith, packed_group, page_bit_below)
 
 pub returns-clause-pgn : goal.returns-clause-pgn
-returns-clause-pgn c = rw (returns-clause-value c) (c.args.self, record { ranges = rw c.self.view_is at c.self.invariant; pgn = refl })
+returns-clause-pgn c = rw (returns-clause-value c)
+    (c.args.self, record { ranges = rw c.self.view_is at c.self.invariant; pgn = refl })

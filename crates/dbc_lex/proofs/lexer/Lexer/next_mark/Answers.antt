@@ -10,10 +10,13 @@ returns-in-Some-clause-some c =
     let source = c.self.inside.source.now in
     let start = c.in-Some.start in
     let first = mark_token source start c.in-Some.ensures.within c.in-Some.ensures.kind in
-    let e = token_read source c.self.inside.at start c.in-Some.ensures.is (record { kind = Mark; start = start; end = start + 1; text = slice_range source start (start + 1) }) (omega (arith, c.in-Some.ensures.is)) first in
+    let e = token_read source c.self.inside.at start c.in-Some.ensures.is
+    (record { kind = Mark; start = start; end = start + 1; text = slice_range source start (start + 1) })
+    (omega (arith, c.in-Some.ensures.is)) first in
     rw (← c.self.view_is) (ap (λ (l : Lexed). l.tokens) e, ap (λ (l : Lexed). l.fault) e)
 
 pub returns-in-Some-clause-mark : goal.returns-in-Some-clause-mark
 returns-in-Some-clause-mark c =
-    let text = mark_text c.self.inside.source.now c.in-Some.start c.args.mark c.in-Some.ensures.within c.in-Some.ensures.mark in
+    let text = mark_text c.self.inside.source.now c.in-Some.start c.args.mark c.in-Some.ensures.within
+    c.in-Some.ensures.mark in
     rw text (search rules)

@@ -8,17 +8,21 @@ pub returns-in-Ok-Some : goal.returns-in-Ok-Some
 returns-in-Ok-Some c =
     let first = rw c.in-Ok-Some.field-0-is at c.in-Ok-Some.ensures.first in
     let within = rw c.in-Ok-Some.field-0-is at c.in-Ok-Some.ensures.within in
-    let e = token_read c.self.inside.source.now c.self.inside.at c.first_after_gap-start.result.0 c.first_after_gap-start.ensures.is (token_of c.in-Ok-Some.token) (omega (arith, within, c.first_after_gap-start.ensures.is)) first in
+    let e = token_read c.self.inside.source.now c.self.inside.at c.first_after_gap-start.result.0
+    c.first_after_gap-start.ensures.is (token_of c.in-Ok-Some.token)
+    (omega (arith, within, c.first_after_gap-start.ensures.is)) first in
     rw (← c.self.view_is) (ap (λ (l : Lexed). l.tokens) e, ap (λ (l : Lexed). l.fault) e)
 
 pub returns-in-Ok-None : goal.returns-in-Ok-None
 returns-in-Ok-None c =
     let first = rw c.in-Ok-None.field-0-is at c.in-Ok-None.ensures.first in
-    let e = none_read c.self.inside.source.now c.self.inside.at c.first_after_gap-start.result.0 c.first_after_gap-start.ensures.is first in
+    let e = none_read c.self.inside.source.now c.self.inside.at c.first_after_gap-start.result.0
+    c.first_after_gap-start.ensures.is first in
     (sym c.self.view_is ∙ e, refl)
 
 pub returns-in-Err : goal.returns-in-Err
 returns-in-Err c =
     let (cause, first, is) = c.in-Err.ensures.first in
-    let e = fault_read c.self.inside.source.now c.self.inside.at c.first_after_gap-start.result.0 c.first_after_gap-start.ensures.is cause first in
+    let e = fault_read c.self.inside.source.now c.self.inside.at c.first_after_gap-start.result.0
+    c.first_after_gap-start.ensures.is cause first in
     (cause, sym c.self.view_is ∙ e, is, refl)

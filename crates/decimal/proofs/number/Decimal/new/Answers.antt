@@ -1,4 +1,5 @@
-use Rattle.std.proofs.Common.{◌≡◌, ◌<◌, ◌^◌, ℤ, ◌≤ℤ◌, ◌<ℤ◌, ◌+ℤ◌, ◌-ℤ◌, ◌*ℤ◌, pos, negsuc, arith, refl, unsigned_abs, to_z, of_z}
+use Rattle.std.proofs.Common.{◌≡◌, ◌<◌, ◌^◌, ℤ, ◌≤ℤ◌, ◌<ℤ◌, ◌+ℤ◌, ◌-ℤ◌, ◌*ℤ◌, pos, negsuc, arith, refl, unsigned_abs}
+use Rattle.std.proofs.Common.{to_z, of_z}
 use Rattle.std.specs.Int.{Width, w64, w128}
 use Rattle.std.proofs.lemmas.Int.{ints}
 use Rattle.decimal.specs.Words.{of_words, high_word, low_word}
@@ -27,7 +28,8 @@ Fits w z = to_z w (of_z w z) ≡ z
 
 -- each step of the code is exact
 steps_fit : (z : ℤ) → unsigned_abs z < 10 ^ 36
-    → Fits w128 z × Fits w128 (high_word z) × Fits w128 (high_word z *ℤ pos (2 ^ 64)) × Fits w128 (z -ℤ high_word z *ℤ pos (2 ^ 64)) × Fits w64 (high_word z)
+    → Fits w128 z × Fits w128 (high_word z) × Fits w128 (high_word z *ℤ pos (2 ^ 64))
+    × Fits w128 (z -ℤ high_word z *ℤ pos (2 ^ 64)) × Fits w64 (high_word z)
 steps_fit z small =
     let low = high_word_low z in
     let high = high_word_high z in (

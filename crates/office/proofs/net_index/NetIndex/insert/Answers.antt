@@ -1,8 +1,8 @@
 use Rattle.std.proofs.Common.{◌∙◌, ◌||◌, Some, cond, refl, sym, ap}
 use Rattle.std.specs.BTreeMap.{get}
 use Rattle.std.specs.Ordering.{is_eq}
+use Rattle.base.specs.Keyed.{text_cmp}
 use Rattle.can_id.specs.Ident.{dbc_number}
-use Rattle.catalogue.specs.Keyed.{text_cmp}
 use Rattle.office_types.specs.Free.{is_taken}
 use Rattle.office.specs.Indexed.{indexed_numbers, has_form_and_number}
 use Rattle.office.specs.declared.net_index.NetIndex.{NetIndex}
@@ -21,7 +21,8 @@ returns c = λ net at m name ident is t.
     ap (λ ns. get text_cmp ns q) c.add_number.ensures.names
     ∙ c.in-Ok-None.ensures.updates.0 q
     ∙ ap (λ v. cond (is_eq (text_cmp v q)) (Some k) (get text_cmp old.names q)) (sym name)
-    ∙ ap (λ v. cond (is_eq (text_cmp m.message.name q)) (Some v) (get text_cmp old.names q)) (c.to_dbc.ensures.number ∙ ap dbc_number (sym ident)))
+    ∙ ap (λ v. cond (is_eq (text_cmp m.message.name q)) (Some v) (get text_cmp old.names q))
+    (c.to_dbc.ensures.number ∙ ap dbc_number (sym ident)))
     (λ form n.
     added form n
     ∙ ap (λ ns. has_form_and_number form n c.args.ident.now || is_taken n ns) (numbers_apart mid old refl refl form)

@@ -1,6 +1,6 @@
 use Rattle.std.proofs.Common.{◌∙◌, ◌&&◌, not, refl, ap}
 use Rattle.std.specs.BTreeMap.{get}
-use Rattle.catalogue.specs.Keyed.{text_cmp}
+use Rattle.base.specs.Keyed.{text_cmp}
 use Rattle.office_types.specs.Free.{is_taken}
 use Rattle.office.specs.Indexed.{has_form_and_number}
 use Rattle.office.specs.declared.net_index.NetIndex.{NetIndex}
@@ -14,4 +14,5 @@ returns c = λ net at gone is.
     let ident = c.args.ident.now in
     index-removed net at c.args.name.now ident gone old c.remove_number.new.self is
     (λ q. ap (λ ns. get text_cmp ns q) c.remove_number.ensures.names ∙ c.remove.ensures.updates.0 q)
-    (λ form n. c.remove_number.ensures.numbers form n ∙ ap (λ ns. not (has_form_and_number form n ident) && is_taken n ns) (numbers_apart mid old refl refl form))
+    (λ form n. c.remove_number.ensures.numbers form n
+    ∙ ap (λ ns. not (has_form_and_number form n ident) && is_taken n ns) (numbers_apart mid old refl refl form))

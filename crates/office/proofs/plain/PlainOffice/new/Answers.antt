@@ -9,7 +9,8 @@ use Rattle.office.proofs.plain.PlainOffice.new.Goals as goal
 
 pub invariant_of-result : goal.invariant_of-result
 invariant_of-result c = (
-  subst (λ (p : List Net × List SpnBlock × List ℕ). IsOffice (record { nets = p.0; book = record { blocks = p.1; used = p.2 } }))
+  subst (λ (p : List Net × List SpnBlock × List ℕ). IsOffice
+      (record { nets = p.0; book = record { blocks = p.1; used = p.2 } }))
       (λ i. (sym c.new.ensures.items i, sym c.new-3.ensures i, sym c.new-4.ensures i)) offices_are_kept.opening_is,
   subst (λ (xs : List (Option NetIndex)). AreIndexes xs c.new.result.items) (sym c.new-2.ensures.items) tt,
 )

@@ -1,6 +1,6 @@
 use Rattle.std.proofs.Common.{◌∙◌, ap, subst}
 use Rattle.std.specs.List.{insert}
-use Rattle.catalogue.specs.Ascending.{IsAt}
+use Rattle.base.specs.Ascending.{IsAt}
 use Rattle.office_types.specs.Free.{is_taken}
 use Rattle.office_facts.proofs.NumberSets.{itself, taken-again, taken-insert}
 use Rattle.office_facts.proofs.number_set.NumberSet.add.Goals as goal
@@ -16,4 +16,5 @@ pub returns-in_ok-insert-in-Err-clause-ok : goal.returns-in_ok-insert-in-Err-cla
 returns-in_ok-insert-in-Err-clause-ok c = λ m.
     let n = c.args.number in
     let i = c.in-Err.index in
-    ap (is_taken m) (c.in_ok-insert-in-Err.ensures.items ∙ ap (λ xs. insert xs i n) c.self.view_is) ∙ taken-insert c.args.self.now n i m
+    ap (is_taken m) (c.in_ok-insert-in-Err.ensures.items ∙ ap (λ xs. insert xs i n) c.self.view_is)
+    ∙ taken-insert c.args.self.now n i m

@@ -15,5 +15,6 @@ returns-in-Ok g c = λ test of_number.
 
 pub returns-in-Err : goal.returns-in-Err
 returns-in-Err g c = λ test of_number.
-    sym (gap_passes (number_by g.T.Identified.ident_of) test c.args.number of_number c.self.inside.things.now c.in-Err.field-0 c.in-Err.ensures.absent)
+    sym (gap_passes (number_by g.T.Identified.ident_of) test c.args.number of_number c.self.inside.things.now
+    c.in-Err.field-0 c.in-Err.ensures.absent)
     ∙ ap (list_any test) c.self.view_is

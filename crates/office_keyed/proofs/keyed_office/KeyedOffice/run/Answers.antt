@@ -8,7 +8,8 @@ loop-arrival-init c = run_none c.args.self.now c.args.answers.now.items
 
 pub loop-arrival-preserved : goal.loop-arrival-preserved
 loop-arrival-preserved c =
-    run_more c.args.self.now c.loop-arrival.self c.arrive.new.self c.args.arrivals.now c.loop-arrival.arrival-index c.arrival-item.result
+    run_more c.args.self.now c.loop-arrival.self c.arrive.new.self c.args.arrivals.now c.loop-arrival.arrival-index
+    c.arrival-item.result
     c.args.answers.now.items c.loop-arrival.answers.items c.push_reserved.new.self.items c.in_ok-answer.answer
     c.loop-arrival-test.true c.arrival-item.is c.loop-arrival.invariant c.in_ok-answer.ensures.held
     (c.push_reserved.ensures.items ∙ ap (λ (l : List Answer). l ++ c.in_ok-answer.answer ∷ []) c.reserve.ensures.items)

@@ -5,4 +5,5 @@ use Rattle.office_types.proofs.reply.LaterDisplay.fmt.Given as goal
 
 abbrev pub invariant-loop-part : goal.invariant-loop-part
 invariant-loop-part g l =
-    IsPlainFormatter l.initial.f → HasWritten g.W.Write.write_str_gives l.initial.f (later_text (take l.part-index l.part-items)) l.f
+    IsPlainFormatter l.initial.f
+    → HasWritten g.W.Write.write_str_gives l.initial.f (later_text (take l.part-index l.part-items)) l.f

@@ -1,77 +1,100 @@
-use Rattle.std.proofs.Common.{[], inl, inr, not, sym, ap, subst, ◌∙◌}
+use Rattle.std.proofs.Common.{[], inl, inr, not, refl, sym, ap, subst, ◌∙◌, rules}
 use Rattle.sqlite.specs.Effect.{Database}
 use Rattle.sqlite.specs.Held.{state}
-use Rattle.office_tables.specs.Schema.{schema_13, schema_9}
-use Rattle.store_carry.specs.FormSchema.{schema_of}
-use Rattle.store_carry.specs.declared.forms.Form.TheVariants.{Rows}
+use Rattle.store_tables.specs.Schema.{schema_13, schema_9}
+use Rattle.store_migrate.specs.FormSchema.{schema_of}
+use Rattle.store_migrate.specs.declared.forms.SchemaForm.TheVariants.{Rows}
 use Rattle.store.specs.Holding.{Keeps}
-use Rattle.store.proofs.InForm.{completed, left_in_form, office_in_form, older_in_form, older_not_second, schema_in_form, with_form}
-use Rattle.store.proofs.Opened.{new_holding, new_keeps}
+use Rattle.store.specs.Opening.{HasOffice}
+use Rattle.store.proofs.TablesInForm.{completed, left_in_form, office_in_form, schema_in_form, with_form}
+use Rattle.store.proofs.OpenedTables.{never_opened_9, new_holding, new_keeps}
 use Rattle.store.proofs.stored_office.StoredOffice.open.Goals as goal
 
-pub returns-in-Ok-clause-made : goal.returns-in-Ok-clause-made
-returns-in-Ok-clause-made g c clean none =
+pub returns-in-Ok-clause-opened : goal.returns-in-Ok-clause-opened
+returns-in-Ok-clause-opened g c =
+    let old = state g.S.Store c.args.conn in
     let now = state g.S.Store c.make_ready.new.conn in
-    let made = c.in-Ok.ensures.made clean none.schema in (
-      new_holding now made.0 made.2,
-      λ db left. subst (Keeps []) (sym (c.leaves_committed-in-Ok.ensures made.2 db left ∙ ap (λ (d : Database). d.trees) made.1)) (new_keeps now.now made.0),
-    )
+    let ready = c.in-Ok.ensures.ready in
+    let schema_of_office = λ (office : HasOffice old).
+    c.knows_tables.ensures office.is_open (schema_of office.form) office.sound in
+    record {
+      working = refl;
+      taken = search rules;
+      tables = search rules;
+      second = λ clean office. ready.second clean (schema_in_form old office (schema_of_office office));
+      made = λ clean no_table.
+          let made = ready.made clean no_table.schema in (
+            new_holding now made.0 made.2,
+            λ db left.
+                let committed = c.leaves_committed-in-Ok.ensures made.2 db left in
+                subst (Keeps []) (sym (committed ∙ ap (λ (d : Database). d.trees) made.1))
+                (new_keeps now.now made.0),
+          );
+      same = search rules;
+      grown = λ clean tables.
+          ready.grown clean (with_form Rows old tables (c.knows_tables.ensures tables.is_open schema_13 tables.sound));
+      bodies = λ clean tables.
+          never_opened_9 old.now.schema (c.knows_tables.ensures tables.is_open schema_9 tables.sound)
+          (ready.taken clean);
+      completed = λ clean h holding.
+          let office = office_in_form h old holding in
+          let schema = schema_of_office office in
+          let autocommit = c.is_autocommit-settled.ensures in
+          let settled = sym (autocommit.settled (autocommit.value ∙ ap not c.requires) holding.is_open) in
+          let second = ready.second clean (schema_in_form old office schema) in
+          (completed h old now holding schema settled second (ready.same clean) (ready.grown clean)).0;
+    }
 
-pub returns-in-Err-clause-unmade : goal.returns-in-Err-clause-unmade
-returns-in-Err-clause-unmade g c clean none db left = elim ((c.make_ready.ensures.new_survives none.schema).crash clean db left) [
-  | inl was ↦ inl (c.leaves_committed.ensures none.is_open db was)
-  | inr made ↦ inr (subst (Keeps []) (sym made.2) (new_keeps made.0 made.1))
-]
-
-pub returns-in-Ok-clause-second : goal.returns-in-Ok-clause-second
-returns-in-Ok-clause-second g c clean office =
-    c.in-Ok.ensures.second clean (schema_in_form (state g.S.Store c.args.conn) office (c.knows_tables.ensures office.is_open (schema_of office.form) office.sound))
-
-pub returns-in-Ok-clause-completed : goal.returns-in-Ok-clause-completed
-returns-in-Ok-clause-completed g c clean h holding =
+pub returns-in-Err-clause-opened : goal.returns-in-Err-clause-opened
+returns-in-Err-clause-opened g c =
     let old = state g.S.Store c.args.conn in
-    let office = office_in_form h old holding in
-    let schema = c.knows_tables.ensures office.is_open (schema_of office.form) office.sound in
-    let settled = sym (c.is_autocommit-settled.ensures.settled (c.is_autocommit-settled.ensures.value ∙ ap not c.requires) holding.is_open) in
-    let second = c.in-Ok.ensures.second clean (schema_in_form old office schema) in
-    (completed h old (state g.S.Store c.make_ready.new.conn) holding schema settled second (c.in-Ok.ensures.same clean) (c.in-Ok.ensures.grown clean)).0
+    let unready = c.in-Err.ensures.unready in
+    let schema_of_office = λ (office : HasOffice old).
+    c.knows_tables.ensures office.is_open (schema_of office.form) office.sound in
+    record {
+      settled = search rules;
+      back = search rules;
+      named = search rules;
+      unmade = λ clean no_table db left.
+          let made = c.make_ready.ensures.new_survives no_table.schema in
+          elim (made.crash clean db left) [
+            | inl was ↦ inl (c.leaves_committed.ensures no_table.is_open db was)
+            | inr made ↦ inr (subst (Keeps []) (sym made.2) (new_keeps made.0 made.1))
+          ];
+      older = λ clean office. unready.older clean (schema_in_form old office (schema_of_office office));
+      newer = λ clean office. unready.newer clean (schema_in_form old office (schema_of_office office));
+    }
 
-pub returns-in-Ok-clause-grown : goal.returns-in-Ok-clause-grown
-returns-in-Ok-clause-grown g c clean tables =
-    c.in-Ok.ensures.grown clean (with_form Rows (state g.S.Store c.args.conn) tables (c.knows_tables.ensures tables.is_open schema_13 tables.sound))
-
-pub returns-in-Ok-clause-bodies : goal.returns-in-Ok-clause-bodies
-returns-in-Ok-clause-bodies g c clean tables = c.in-Ok.ensures.bodies clean (c.knows_tables.ensures tables.is_open schema_9 tables.sound)
-
-pub returns-in-Ok-clause-survives_in_form : goal.returns-in-Ok-clause-survives_in_form
-returns-in-Ok-clause-survives_in_form g c office =
-    c.make_ready.ensures.survives (schema_in_form (state g.S.Store c.args.conn) office (c.knows_tables.ensures office.is_open (schema_of office.form) office.sound))
-
-pub returns-in-Err-clause-survives_in_form : goal.returns-in-Err-clause-survives_in_form
-returns-in-Err-clause-survives_in_form g c office =
-    c.make_ready.ensures.survives (schema_in_form (state g.S.Store c.args.conn) office (c.knows_tables.ensures office.is_open (schema_of office.form) office.sound))
-
-pub returns-in-Ok-clause-unmigrated : goal.returns-in-Ok-clause-unmigrated
-returns-in-Ok-clause-unmigrated g c clean h holding =
+pub returns-in-Ok-clause-left : goal.returns-in-Ok-clause-left
+returns-in-Ok-clause-left g c =
     let old = state g.S.Store c.args.conn in
-    let office = office_in_form h old (older_in_form h old holding) in
-    let schema = c.knows_tables.ensures office.is_open (schema_of office.form) office.sound in
-    older_not_second holding.keeps.0 h old.now.trees holding.keeps.1 (c.in-Ok.ensures.second clean (schema_in_form old office schema))
+    let schema_of_office = λ (office : HasOffice old).
+    c.knows_tables.ensures office.is_open (schema_of office.form) office.sound in
+    record {
+      nothing_new = search rules;
+      completes = λ office. c.make_ready.ensures.survives (schema_in_form old office (schema_of_office office));
+      held = search rules;
+      in_form = λ clean h holding.
+          let office = office_in_form h old holding in
+          let schema = schema_of_office office in
+          left_in_form h old (state g.S.Store c.make_ready.new.conn) holding schema
+          (λ db was. c.leaves_committed.ensures holding.is_open db was)
+          (c.make_ready.ensures.survives (schema_in_form old office schema)) clean;
+    }
 
-pub returns-in-Ok-clause-left_in_form : goal.returns-in-Ok-clause-left_in_form
-returns-in-Ok-clause-left_in_form g c h holding clean =
+pub returns-in-Err-clause-left : goal.returns-in-Err-clause-left
+returns-in-Err-clause-left g c =
     let old = state g.S.Store c.args.conn in
-    let office = office_in_form h old holding in
-    let schema = c.knows_tables.ensures office.is_open (schema_of office.form) office.sound in
-    left_in_form h old (state g.S.Store c.make_ready.new.conn) holding schema (λ db was. c.leaves_committed.ensures holding.is_open db was) (c.make_ready.ensures.survives (schema_in_form old office schema)) clean
-
-pub returns-in-Err-clause-newer : goal.returns-in-Err-clause-newer
-returns-in-Err-clause-newer g c clean office =
-    c.in-Err.ensures.newer clean (schema_in_form (state g.S.Store c.args.conn) office (c.knows_tables.ensures office.is_open (schema_of office.form) office.sound))
-
-pub returns-in-Err-clause-left_in_form : goal.returns-in-Err-clause-left_in_form
-returns-in-Err-clause-left_in_form g c h holding clean =
-    let old = state g.S.Store c.args.conn in
-    let office = office_in_form h old holding in
-    let schema = c.knows_tables.ensures office.is_open (schema_of office.form) office.sound in
-    left_in_form h old (state g.S.Store c.make_ready.new.conn) holding schema (λ db was. c.leaves_committed.ensures holding.is_open db was) (c.make_ready.ensures.survives (schema_in_form old office schema)) clean
+    let schema_of_office = λ (office : HasOffice old).
+    c.knows_tables.ensures office.is_open (schema_of office.form) office.sound in
+    record {
+      nothing_new = search rules;
+      completes = λ office. c.make_ready.ensures.survives (schema_in_form old office (schema_of_office office));
+      held = search rules;
+      in_form = λ clean h holding.
+          let office = office_in_form h old holding in
+          let schema = schema_of_office office in
+          left_in_form h old (state g.S.Store c.make_ready.new.conn) holding schema
+          (λ db was. c.leaves_committed.ensures holding.is_open db was)
+          (c.make_ready.ensures.survives (schema_in_form old office schema)) clean;
+    }

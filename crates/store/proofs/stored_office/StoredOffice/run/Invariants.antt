@@ -6,10 +6,10 @@ use Rattle.sqlite.specs.State.{HasCleanDisk}
 use Rattle.sqlite_trees.specs.View.{doubt}
 use Rattle.office_history.specs.History.{Answered}
 use Rattle.store.specs.Holding.{Holding}
-use Rattle.store.specs.Headline.{HasRun}
+use Rattle.store.specs.Headline.{HasRunOnTables}
 use Rattle.store.specs.Opening.{HasTables}
 use Rattle.store.specs.Running.{FailsBy, IsNoProfile, answered_of}
-use Rattle.store.proofs.Ran.{IsAsBefore, IsSame, Repeats}
+use Rattle.store.proofs.ListOfArrivals.{IsAsBefore, IsSame, Repeats}
 use Rattle.store.proofs.stored_office.StoredOffice.run.Given as goal
 
 abbrev pub invariant-loop-arrival : goal.invariant-loop-arrival
@@ -24,6 +24,9 @@ invariant-loop-arrival g l =
       named : All IsNoProfile l.results.items;
       clean : doubt old.is_clean ≤ doubt now.is_clean;
       lost_same : HasCleanDisk now → HasTables old → All IsErr l.results.items → IsAsBefore l.self.failed old now;
-      repeated : HasCleanDisk now → (h : List Answered) → Holding h old → All (Repeats h) (answered_of (take l.arrival-index l.arrivals) l.results.items) → IsTrue now.is_open → IsSame old now;
-      ran : HasCleanDisk now → (h : List Answered) → Holding h old → HasRun h (take l.arrival-index l.arrivals) l.results.items l.self.failed now;
+      repeated : HasCleanDisk now → (h : List Answered) → Holding h old
+          → All (Repeats h) (answered_of (take l.arrival-index l.arrivals) l.results.items) → IsTrue now.is_open
+          → IsSame old now;
+      ran : HasCleanDisk now → (h : List Answered) → Holding h old
+          → HasRunOnTables h (take l.arrival-index l.arrivals) l.results.items l.self.failed now;
     }

@@ -1,5 +1,5 @@
 use Rattle.std.proofs.Common.{sym, subst, ◌∙◌}
-use Rattle.office_bodies.specs.Body.{IsBody}
+use Rattle.store_bodies.specs.Body.{IsBody}
 use Rattle.store_rows.proofs.Values.{one_blob, one_text, one_message, whole_message}
 use Rattle.store_rows.proofs.from_row.LiveMessageFromRow.from_row.Goals as goal
 

@@ -11,8 +11,11 @@ returns-in-Err-clause-goes_on g c =
     let lost = c.nothing_answered.result in
     let arrivals = c.args.arrivals.now in
     let was = known_of c.args.self.now.conn in
-    subst (λ d. InDatabase was (known_of d.conn) c.args._path.now (answered_with arrivals lost.answers.items) lost.lost) (sym c.in-Err.ensures.err)
-    (none_reported was c.args._path.now (answered_with arrivals lost.answers.items) lost.lost (ap (answered_with arrivals) c.nothing_answered.ensures.answers ∙ reported_none arrivals) (rw c.nothing_answered.ensures.lost refl))
+    subst (λ d. InDatabase was (known_of d.conn) c.args._path.now (answered_with arrivals lost.answers.items) lost.lost)
+    (sym c.in-Err.ensures.err)
+    (none_reported was c.args._path.now (answered_with arrivals lost.answers.items) lost.lost
+    (ap (answered_with arrivals) c.nothing_answered.ensures.answers ∙ reported_none arrivals)
+    (rw c.nothing_answered.ensures.lost refl))
 
 pub returns-in-Ok-clause-goes_on : goal.returns-in-Ok-clause-goes_on
 returns-in-Ok-clause-goes_on g c =
@@ -21,10 +24,12 @@ returns-in-Ok-clause-goes_on g c =
     let end = c.answer_on-reported.result.1 in
     let ran = c.answer_on-reported.ensures in
     if_ok _ c.answer_on-reported.result.0 (λ reported was.
-    reported_in (known_of c.args.self.now.conn) (known_of (Some end)) path _ _ (λ clean h holds. c.in-Ok.ensures.held path h holds) (λ clean new. c.in-Ok.ensures.none path new) ran.clean
-    (λ sound. (memory_is_clean end, refl)) (λ sound h holding. holding) (answered_with arrivals reported.answers.items) reported.lost
-    (λ clean opened h holding. ok_of _ _ reported was (ran.held clean opened h holding))
-    (λ clean opened h begins. elim (ok_of _ _ reported was (ran.begun clean opened h begins)) [
+    reported_in (known_of c.args.self.now.conn) (known_of (Some end)) path _ _
+    (λ clean h holds. c.in-Ok.ensures.held path h holds) (λ clean new. c.in-Ok.ensures.none path new) ran.clean
+    (λ sound. (memory_is_clean end, refl)) (λ sound h holding. holding) (answered_with arrivals reported.answers.items)
+    reported.lost
+    (λ clean h holding is_open. ok_of _ _ reported was (ran.held clean h holding is_open))
+    (λ clean h begins is_open. elim (ok_of _ _ reported was (ran.begun clean h begins is_open)) [
       | inl holding ↦ inl holding
       | inr none ↦ inr (none.0, ap (answered_with arrivals) none.1 ∙ reported_none arrivals)
     ]))

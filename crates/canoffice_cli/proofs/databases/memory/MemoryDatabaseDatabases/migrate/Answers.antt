@@ -9,6 +9,9 @@ returns g c =
     let path = c.args._path.now in
     let end = c.migrate_on-done.result.1 in
     let migrated = c.migrate_on-done.ensures in
-    migrated_at (known_of c.args.self.now.conn) (known_of (Some end)) path _ _ (λ clean h holds. c.in_ok-conn.ensures.held path h holds) (λ clean new. c.in_ok-conn.ensures.none path new) migrated.clean
-    (λ sound. (memory_is_clean end, refl)) (λ sound h holding. holding) (λ clean h holds. c.in_ok-conn.ensures.in_form path h holds) (λ sound h holding. holding)
+    migrated_at (known_of c.args.self.now.conn) (known_of (Some end)) path _ _
+    (λ clean h holds. c.in_ok-conn.ensures.held path h holds) (λ clean new. c.in_ok-conn.ensures.none path new)
+    migrated.clean
+    (λ sound. (memory_is_clean end, refl)) (λ sound h holding. holding)
+    (λ clean h holds. c.in_ok-conn.ensures.in_form path h holds) (λ sound h holding. holding)
     c.migrate_on-done.result.0 migrated.carried migrated.left migrated.held migrated.made

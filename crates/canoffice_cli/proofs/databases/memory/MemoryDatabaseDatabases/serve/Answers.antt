@@ -4,7 +4,8 @@ use Rattle.canoffice_cli.proofs.databases.memory.MemoryDatabaseDatabases.serve.G
 
 pub returns : goal.returns
 returns c = record {
-  goes_on = λ h holds sound. ([], zero-le, subst ((known_of c.args.self.now.conn).holds c.args._path.now) (sym (append-nil h)) holds);
+  goes_on = λ h holds sound.
+      ([], zero-le, subst ((known_of c.args.self.now.conn).holds c.args._path.now) (sym (append-nil h)) holds);
   made = λ new sound. inr new;
   unheard = λ is h holds sound. holds;
 }

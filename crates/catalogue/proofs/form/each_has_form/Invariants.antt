@@ -1,5 +1,0 @@
-use Rattle.std.proofs.Common.{All, take}
-use Rattle.catalogue.proofs.form.each_has_form.Given as goal
-
-abbrev pub invariant-loop-item : goal.invariant-loop-item
-invariant-loop-item g l = All g.T.Formed.form (take l.item-index l.items)

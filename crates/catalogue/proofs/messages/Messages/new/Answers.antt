@@ -1,5 +1,0 @@
-use Rattle.catalogue.proofs.MessageRules.{none_indexed}
-use Rattle.catalogue.proofs.messages.Messages.new.Goals as goal
-
-pub invariant_of-result : goal.invariant_of-result
-invariant_of-result c = none_indexed c.new.result c.new-2.result c.new.ensures c.new-2.ensures

@@ -1,9 +1,0 @@
-use Rattle.std.proofs.Common.{◌≤◌, ◌-◌, length, take}
-use Rattle.catalogue.specs.Named.{AreNamedApart}
-use Rattle.catalogue.proofs.name_index.are_apart.Given as goal
-
-abbrev pub invariant-loop-seen : goal.invariant-loop-seen
-invariant-loop-seen g l = record { within : l.seen ≤ length l.things; apart : AreNamedApart g.T.Named.name_of (take l.seen l.things) }
-
-abbrev pub decreases-loop-seen : goal.decreases-loop-seen
-decreases-loop-seen g l = length l.things - l.seen

@@ -1,6 +1,0 @@
-use Rattle.std.proofs.Common.{take}
-use Rattle.catalogue.specs.Named.{HasNamesOf}
-use Rattle.catalogue.proofs.name_index.names_of.Given as goal
-
-abbrev pub invariant-loop-thing : goal.invariant-loop-thing
-invariant-loop-thing g l = HasNamesOf g.T.Named.name_of (take l.thing-index l.things) l.names

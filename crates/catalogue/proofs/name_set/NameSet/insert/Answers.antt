@@ -1,7 +1,0 @@
-use Rattle.std.proofs.Common.{◌∙◌}
-use Rattle.catalogue.specs.Named.{holds_name}
-use Rattle.catalogue.proofs.NameSets.{with_name}
-use Rattle.catalogue.proofs.name_set.NameSet.insert.Goals as goal
-
-pub returns-clause-ok : goal.returns-clause-ok
-returns-clause-ok c = λ n. c.in_ok-insert.ensures.updates.0 n ∙ with_name c.args.name n (holds_name c.args.self.now n)

@@ -1,7 +1,0 @@
-use Rattle.std.proofs.Common.{◌∙◌}
-use Rattle.catalogue.specs.Named.{holds_name}
-use Rattle.catalogue.proofs.NameSets.{without_name}
-use Rattle.catalogue.proofs.name_set.NameSet.remove.Goals as goal
-
-pub returns : goal.returns
-returns c = λ n. c.remove.ensures.updates.0 n ∙ without_name c.args.name.now n (holds_name c.args.self.now n)

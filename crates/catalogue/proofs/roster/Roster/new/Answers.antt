@@ -1,5 +1,0 @@
-use Rattle.catalogue.proofs.Rosters.{empty_roster}
-use Rattle.catalogue.proofs.roster.Roster.new.Goals as goal
-
-pub invariant_of-result : goal.invariant_of-result
-invariant_of-result g c = empty_roster g.T.Named.name_of c.new.result.items c.new.ensures.items

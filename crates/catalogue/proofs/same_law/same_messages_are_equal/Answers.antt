@@ -1,5 +1,0 @@
-use Rattle.catalogue.proofs.SameMessages.{same_is_equal}
-use Rattle.catalogue.proofs.same_law.same_messages_are_equal.Goals as goal
-
-pub returns : goal.returns
-returns c = same_is_equal

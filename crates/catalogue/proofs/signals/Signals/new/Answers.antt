@@ -1,5 +1,0 @@
-use Rattle.catalogue.proofs.Multiplexors.{none_known}
-use Rattle.catalogue.proofs.signals.Signals.new.Goals as goal
-
-pub invariant_of-result : goal.invariant_of-result
-invariant_of-result c = none_known c.new.result c.new.ensures

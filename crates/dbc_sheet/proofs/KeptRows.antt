@@ -1,0 +1,8 @@
+-- Rows of receivers that are seen as a list, computed.
+use Rattle.std.proofs.Common.{◌≡◌, [], ◌∷◌, map, refl}
+use Rattle.std.specs.Prelude.{codes}
+use Rattle.dbc_sheet.specs.Receivers.{names_in}
+use Rattle.dbc_sheet.specs.declared.receivers.Listed.TheVariants.{Nothing, One}
+
+few_receivers : map names_in (Nothing ∷ One (codes "Dash") ∷ []) ≡ [] ∷ (codes "Dash" ∷ []) ∷ []
+few_receivers = refl

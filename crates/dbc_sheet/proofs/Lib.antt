@@ -1,0 +1,7 @@
+mod SameMessages
+pub mod Multiplexors
+mod Clearness
+mod MessageRules
+mod SheetRows
+mod KeptRows
+mod ChangeRows

@@ -1,0 +1,9 @@
+pub mod Changing
+pub mod Fault
+pub mod Indicator
+pub mod Keyword
+pub mod Limits
+pub mod Name
+pub mod Named
+pub mod Text
+pub mod ValueType

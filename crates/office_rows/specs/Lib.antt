@@ -1,3 +1,0 @@
-pub mod Mux
-pub mod Rows
-pub mod Shown

@@ -1,6 +1,0 @@
-use Rattle.std.proofs.Common.{◌≡◌, map, take}
-use Rattle.office_tables.specs.Comparing.{every_index, index_of}
-use Rattle.office_tables.proofs.comparing.are_indexes.Given as goal
-
-abbrev pub invariant-loop-at : goal.invariant-loop-at
-invariant-loop-at l = take l.at l.indexes ≡ take l.at (map index_of every_index)

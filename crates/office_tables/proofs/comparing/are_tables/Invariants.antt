@@ -1,6 +1,0 @@
-use Rattle.std.proofs.Common.{◌≡◌, map, take}
-use Rattle.office_tables.specs.Comparing.{every_table, table_of}
-use Rattle.office_tables.proofs.comparing.are_tables.Given as goal
-
-abbrev pub invariant-loop-at : goal.invariant-loop-at
-invariant-loop-at l = take l.at l.tables ≡ take l.at (map table_of every_table)

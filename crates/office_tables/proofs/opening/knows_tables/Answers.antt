@@ -1,5 +1,0 @@
-use Rattle.office_tables.proofs.OneSchema.{sound_once}
-use Rattle.office_tables.proofs.opening.knows_tables.Goals as goal
-
-pub returns : goal.returns
-returns g c is_open schema sound = sound_once _ schema _ (c.schema-schema.ensures.live is_open).0 sound

@@ -1,5 +1,0 @@
-pub mod Schema
-pub mod Tables
-pub mod Statements
-pub mod Selected
-pub mod Comparing

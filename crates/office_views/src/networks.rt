@@ -1,0 +1,48 @@
+//! The line of a network.
+ghost use Rattle.std.specs.Prelude.{◌≡◌, IfOk};
+ghost use Rattle.office_views.specs.NetList.{kind_word, line_of, phase_word};
+
+use office_types::{Head, NetKind, NetName, Phase};
+use std::alloc::{AllocError, Global};
+
+/// The word for a network's kind.
+fn kind_word(kind: NetKind) -> &'static [u8]
+    ensures { result.now ≡ kind_word kind }
+{
+    match kind {
+        NetKind::Can => b"can",
+        NetKind::J1939 => b"j1939",
+    }
+}
+
+/// The word for whether a network is being changed or reviewed.
+fn phase_word(phase: &Phase) -> &'static [u8]
+    ensures { result.now ≡ phase_word phase.now }
+{
+    match phase {
+        Phase::Draft => b"draft",
+        Phase::Review { .. } => b"review",
+    }
+}
+
+/// The line of the network of this name and head, with this many releases: `truck can draft 0` and LF. The error is out
+/// of memory.
+pub fn net_line(
+    alloc: Global,
+    name: &NetName,
+    head: &Head,
+    releases: usize,
+) -> Result<Vec<u8>, AllocError>
+    ensures { IfOk result (λ line. line.items ≡ line_of name.now head.now releases) }
+{
+    let count = format!(in alloc; "{releases}")?;
+    let mut line = Vec::from_slice(alloc, name.as_bytes())?;
+    line.push(b' ')?;
+    line.extend_from_slice(kind_word(head.kind))?;
+    line.push(b' ')?;
+    line.extend_from_slice(phase_word(&head.phase))?;
+    line.push(b' ')?;
+    line.extend_from_slice(count.as_bytes())?;
+    line.push(b'\n')?;
+    Ok(line)
+}

@@ -1,0 +1,81 @@
+-- Tables as an office is opened on them.
+use Rattle.std.proofs.Common.{◌≡◌, ◌⊎◌, ℕ, [], None, refl, sym, ap, subst, inl, inr, length, ◌∙◌, arith}
+use Rattle.std.specs.Prelude.{IsTrue}
+use Rattle.std.proofs.lemmas.List.Elements.{All-nil}
+use Rattle.std.proofs.lemmas.List.Sorted.{IsPermutation-refl}
+use Rattle.sqlite.specs.Effect.{Database}
+use Rattle.sqlite.specs.Schema.{Schema}
+use Rattle.sqlite.specs.State.{State}
+use Rattle.store_tables.specs.Schema.{IsOfficeSchema, no_schema, office_schema, schema_13, schema_9}
+use Rattle.office_rules.specs.Step.{opening}
+use Rattle.office_history.specs.Laws.{IsInRange}
+use Rattle.office_history.proofs.Histories.{histories_grow}
+use Rattle.store_tables.specs.Tables.{no_rows}
+use Rattle.store_rows.proofs.Fresh.{no_net}
+use Rattle.store_rows.proofs.Changes.{same_net}
+use Rattle.store_rows.proofs.Listing.{none_listed}
+use Rattle.store_net.proofs.Kept.{none_kept}
+use Rattle.store.specs.Holds.{Holds}
+use Rattle.store.specs.Holding.{Holding, Keeps}
+use Rattle.store.specs.Opening.{IsNew, MayOpen, new_tables}
+
+-- no table is not those of an office, and those of one time aren't those of another
+pub apart_9 : no_schema ≡ schema_9 → ⊥
+unfolding schema_9
+apart_9 same = let tables = ap (λ (s : Schema). s.tables) same in cc
+
+pub apart_13 : no_schema ≡ schema_13 → ⊥
+unfolding schema_13
+apart_13 same = let tables = ap (λ (s : Schema). s.tables) same in cc
+
+pub apart : no_schema ≡ office_schema → ⊥
+unfolding office_schema
+apart same = let tables = ap (λ (s : Schema). s.tables) same in cc
+
+pub none_of_office : (s : Schema) → s ≡ no_schema → IsOfficeSchema s → ⊥
+none_of_office s no_table office = elim office [
+  | inl nine ↦ apart_9 (sym no_table ∙ nine)
+  | inr rest ↦ elim rest [ inl thirteen ↦ apart_13 (sym no_table ∙ thirteen) | inr all ↦ apart (sym no_table ∙ all) ]
+]
+
+nine_or_13 : schema_9 ≡ schema_13 → ⊥
+unfolding schema_9 schema_13
+nine_or_13 same =
+    let counts : ◌≡◌ {A = ℕ} 9 13 = ap (λ (s : Schema). length s.tables) same in omega (arith, counts)
+
+nine_or_all : schema_9 ≡ office_schema → ⊥
+unfolding schema_9 office_schema
+nine_or_all same =
+    let counts : ◌≡◌ {A = ℕ} 9 14 = ap (λ (s : Schema). length s.tables) same in omega (arith, counts)
+
+-- tables with live messages as bodies are never completed, and never opened
+pub never_completed_9 : (s : Schema) → s ≡ schema_9 → (s ≡ schema_13) ⊎ (s ≡ office_schema) → ⊥
+never_completed_9 s nine (inl thirteen) = nine_or_13 (sym nine ∙ thirteen)
+never_completed_9 s nine (inr all) = nine_or_all (sym nine ∙ all)
+
+pub never_opened_9 : (s : Schema) → s ≡ schema_9 → MayOpen s → ⊥
+never_opened_9 s nine (inl no_table) = apart_9 (sym no_table ∙ nine)
+never_opened_9 s nine (inr later) = never_completed_9 s nine later
+
+-- tables that were just made hold the empty history
+new_hold : Holds [] new_tables
+new_hold = record {
+  holds = record {
+    office = opening;
+    legal = histories_grow.begins;
+    in_range = All-nil IsInRange;
+    book = record { blocks = none_listed; used = none_listed };
+    nets = λ name. same_net name no_rows new_tables None (record { rest = refl; live = refl }) (no_net name);
+    replies = none_kept;
+    parts = IsPermutation-refl [];
+    profile = refl;
+  };
+  emptied = refl;
+  under = tt;
+}
+
+pub new_keeps : (db : Database) → IsNew db → Keeps [] db.trees
+new_keeps db new = record { office = new.office.trees; holds = subst (Holds []) (sym new.tables_are) new_hold }
+
+pub new_holding : (s : State) → IsNew s.now → IsTrue s.is_open → Holding [] s
+new_holding s new is_open = record { is_open = is_open; keeps = new_keeps s.now new }

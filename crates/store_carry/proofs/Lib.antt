@@ -1,7 +1,0 @@
-pub mod AllCarried
-mod NetsCarried
-mod LiveAdded
-mod Grown
-pub mod Formed
-pub mod ProfileRows
-mod Examples

@@ -1,0 +1,21 @@
+use Rattle.std.proofs.Common.{sym, subst}
+use Rattle.std.proofs.lemmas.Result.{on_ok_weaker}
+use Rattle.sqlite.specs.Held.{state}
+use Rattle.office_rules.specs.Profile.{One}
+use Rattle.store_tables.proofs.Changing.{named_rows}
+use Rattle.store_migrate.specs.Forms.{HoldsAsRows}
+use Rattle.store_migrate.proofs.growing.carry.Goals as goal
+
+pub returns-in-Bodies-Bodies-clause-held : goal.returns-in-Bodies-Bodies-clause-held
+returns-in-Bodies-Bodies-clause-held g c clean = rw c.in-Bodies-Bodies.is-1 (c.carry_bodies.ensures.held clean)
+
+pub returns-in-First-Rows-clause-held : goal.returns-in-First-Rows-clause-held
+returns-in-First-Rows-clause-held g c clean = rw c.in-First-Rows.is-1 (c.carry_rows.ensures.held clean)
+
+pub returns-in-First-All-clause-held : goal.returns-in-First-All-clause-held
+returns-in-First-All-clause-held g c clean =
+    let trees = (state g.S.Store c.args.tx.now.conn.now).now.trees in
+    rw c.in-First-All.is-1 (λ was. on_ok_weaker c.renew_profile.result
+    (λ held h at. held h (subst (HoldsAsRows One h) (sym (named_rows trees)) at))
+    (c.renew_profile.ensures.held clean
+    (record { schema = was.schema_is; trees = record { sound = was.sound; numbered = was.numbered } })))

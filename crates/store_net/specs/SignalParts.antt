@@ -1,0 +1,18 @@
+-- Live messages as far as they are read.
+use Rattle.std.specs.Prelude.{List, [], map}
+use Rattle.dbc_sheet.specs.declared.signal.Signal.{Signal}
+use Rattle.office_types.specs.declared.state.LiveMessage.{LiveMessage}
+use Rattle.store_net.specs.declared.signal_parts.SignalParts.{SignalParts}
+use Rattle.store_net.specs.declared.signal_parts.SignalParts.TheVariants.{All, RowOnly}
+
+abbrev pub bare_signal : Signal → Signal
+bare_signal s = record s { receivers = []; values = [] }
+
+-- signals whole, or all but their receivers and value texts
+abbrev pub signals_in : SignalParts → List Signal → List Signal
+signals_in All signals = signals
+signals_in RowOnly signals = map bare_signal signals
+
+-- the message with them
+abbrev pub live_in : SignalParts → LiveMessage → LiveMessage
+live_in detail m = record m { message = record m.message { signals = signals_in detail m.message.signals } }

@@ -1,0 +1,10 @@
+//! How much is read of the signals of live messages.
+
+/// How much is read of signals.
+#[derive(Clone, Copy, Debug, PartialEq, Eq)]
+pub enum SignalParts {
+    /// All of them.
+    All,
+    /// All but receivers and value texts.
+    RowOnly,
+}

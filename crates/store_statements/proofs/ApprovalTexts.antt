@@ -1,0 +1,157 @@
+-- What the texts on `approval` make of it, and show of it.
+use Rattle.std.proofs.Common.{◌≡◌, ℕ, List, [], ◌∷◌, ◌++◌, codes, false, not, Err, Result, refl, ap, ◌∙◌}
+use Rattle.std.specs.Prelude.{IfOk, IsTrue, filter, length}
+use Rattle.sqlite.specs.declared.types.Value.TheVariants.{Null, Int, Text}
+use Rattle.sqlite.specs.declared.error.Error.{Error}
+use Rattle.sqlite.specs.declared.error.Error.TheVariants.{SqliteFailure}
+use Rattle.sqlite.specs.declared.error.ErrorCode.TheVariants.{TransactionState}
+use Rattle.sqlite.specs.Order.{Row}
+use Rattle.sqlite.specs.Term.{Term, lit, col}
+use Rattle.sqlite.specs.Tree.{Trees, put_row}
+use Rattle.sqlite.specs.Schema.{Schema}
+use Rattle.sqlite.specs.Source.TheVariants.{Values}
+use Rattle.sqlite.specs.Command.TheVariants.{Insert, Delete}
+use Rattle.sqlite.specs.Edit.{edit_of, edited, next_rowid}
+use Rattle.sqlite.specs.Rowids.TheVariants.{Chosen}
+use Rattle.sqlite.specs.Effect.{value_rows}
+use Rattle.sqlite.specs.Rows.{stamped}
+use Rattle.sqlite_value.specs.declared.keys.Key.{Key}
+use Rattle.sqlite_value.proofs.OrderLemmas.{then-Equal}
+use Rattle.sqlite_tied.specs.Compute.{everything}
+use Rattle.sqlite.specs.Listing.{understood}
+use Rattle.sqlite.specs.State.{State, ExecutesInside, Shown}
+use Rattle.sqlite.proofs.Callers.{IsPlain, command_of}
+use Rattle.store_tables.specs.Schema.{office_schema}
+use Rattle.store_tables.specs.Tables.{tables_of, values, IsOffice}
+use Rattle.store_tables.specs.Statements.{Makes}
+use Rattle.store_tables.specs.Selected.{IsSelected}
+use Rattle.store_tables.proofs.Columns.{cast_null, column_is}
+use Rattle.store_tables.proofs.Changing.{appends, makes, removes}
+use Rattle.store_tables.proofs.Keeping.{plain_in}
+use Rattle.store_tables.proofs.TableIndices.{approval, approval_there, approval_only}
+use Rattle.store_tables.proofs.Selecting.{query}
+use Rattle.store_tables.proofs.Finding.{ascending, IsSelect, Means, finds}
+use Rattle.store_statements.specs.Rows.{approval_row, has_two_texts, is_of_net}
+use Rattle.store_statements.specs.Shown.{approvals_order, approvals_shown}
+use Rattle.store_statements.proofs.Requested.{net_requested, one_test, texts_requested, two_tests}
+
+-- ---- insert_approval
+
+abbrev insert_text : List ℕ
+insert_text = codes "INSERT INTO approval VALUES (?1, ?2)"
+
+abbrev insert_terms : List Term
+insert_terms = lit Null ∷ col 0 0 ∷ col 0 1 ∷ []
+
+insert_is : command_of (understood office_schema insert_text) ≡ Insert 6 (Values insert_terms 3)
+unfolding understood everything office_schema
+insert_is = refl
+
+insert_plain : IsPlain (understood office_schema insert_text)
+unfolding understood everything office_schema
+insert_plain = (refl, refl)
+
+put : (net : List ℕ) (team : List ℕ) (db : Trees)
+    → edited db (edit_of db approval [] Chosen 0
+    (value_rows (stamped approval (approval_row net team)) 3 1 insert_terms))
+    ≡ put_row (Int (next_rowid (db 11)) ∷ approval_row net team) (db 11)
+put net team db = rw cast_null refl
+
+pub inserts : (net : List ℕ) (team : List ℕ) (old new : State) (r : Result ℕ Error) → IsOffice old.now
+    → (old.in_transaction ≡ false → r ≡ Err (SqliteFailure TransactionState))
+    → (IsTrue old.in_transaction → ExecutesInside 0 insert_text (approval_row net team) old new r)
+    → IfOk r (λ rows. Makes (λ t. record t { approval = t.approval ++ approval_row net team ∷ [] }) old new
+    × (rows ≡ 1))
+unfolding office_schema
+inserts net team old new r office ended ran =
+    makes insert_text (approval_row net team) _ 1 old new r
+    (appends 6 approval approval_there approval_only insert_text (approval_row net team) insert_terms 3 insert_is
+    insert_plain (approval_row net team) refl (λ db. refl) (λ db shaped. put net team db) old new office) ended ran
+
+-- ---- delete_approval
+
+abbrev delete_approval_text : List ℕ
+delete_approval_text = codes "DELETE FROM approval WHERE net = ?1 AND team = ?2"
+
+delete_approval_is : (params : Row) → command_of (understood office_schema delete_approval_text)
+    ≡ Delete 6 (record { lets = []; body = query 11 two_tests (col 1 0 ∷ []) [] params })
+unfolding understood everything office_schema
+delete_approval_is params = refl
+
+delete_approval_plain : IsPlain (understood office_schema delete_approval_text)
+unfolding understood everything office_schema
+delete_approval_plain = (refl, refl)
+
+pub delete_approvals : (net : List ℕ) (team : List ℕ) (old new : State) (r : Result ℕ Error) → IsOffice old.now
+    → (old.in_transaction ≡ false → r ≡ Err (SqliteFailure TransactionState))
+    → (IsTrue old.in_transaction → ExecutesInside 0 delete_approval_text (Text net ∷ Text team ∷ []) old new r)
+    → IfOk r (λ rows. Makes (λ t. record t { approval = filter (λ row. not (has_two_texts net team row)) t.approval })
+    old new × (rows ≡ length (filter (has_two_texts net team) (tables_of old.now.trees).approval)))
+unfolding office_schema
+delete_approvals net team old new r office ended ran =
+    makes delete_approval_text (Text net ∷ Text team ∷ []) _ _ old new r
+    (removes 6 approval approval_there approval_only delete_approval_text (Text net ∷ Text team ∷ []) two_tests
+    (delete_approval_is (Text net ∷ Text team ∷ [])) delete_approval_plain (has_two_texts net team)
+    (texts_requested net team) approval_there old new office) ended ran
+
+-- ---- delete_approvals
+
+abbrev delete_approvals_text : List ℕ
+delete_approvals_text = codes "DELETE FROM approval WHERE net = ?1"
+
+delete_approvals_is : (params : Row) → command_of (understood office_schema delete_approvals_text)
+    ≡ Delete 6 (record { lets = []; body = query 11 one_test (col 1 0 ∷ []) [] params })
+unfolding understood everything office_schema
+delete_approvals_is params = refl
+
+delete_approvals_plain : IsPlain (understood office_schema delete_approvals_text)
+unfolding understood everything office_schema
+delete_approvals_plain = (refl, refl)
+
+pub delete_approvalss : (net : List ℕ) (old new : State) (r : Result ℕ Error) → IsOffice old.now
+    → (old.in_transaction ≡ false → r ≡ Err (SqliteFailure TransactionState))
+    → (IsTrue old.in_transaction → ExecutesInside 0 delete_approvals_text (Text net ∷ []) old new r)
+    → IfOk r (λ rows. Makes (λ t. record t { approval = filter (λ row. not (is_of_net net row)) t.approval }) old new
+    × (rows ≡ length (filter (is_of_net net) (tables_of old.now.trees).approval)))
+unfolding office_schema
+delete_approvalss net old new r office ended ran =
+    makes delete_approvals_text (Text net ∷ []) _ _ old new r
+    (removes 6 approval approval_there approval_only delete_approvals_text (Text net ∷ []) one_test
+    (delete_approvals_is (Text net ∷ [])) delete_approvals_plain (is_of_net net) (net_requested net) approval_there
+    old new office) ended ran
+
+-- ---- select_approvals
+
+abbrev pub approvals_text : List ℕ
+approvals_text = codes "SELECT team FROM approval WHERE net = ?1 ORDER BY team"
+
+abbrev approvals_columns : List Term
+approvals_columns = col 1 2 ∷ []
+
+abbrev approvals_by : List (Term × Key)
+approvals_by = (col 1 2, ascending) ∷ []
+
+approvals_selects : (params : Row) → IsSelect office_schema approvals_text 11 one_test approvals_columns approvals_by
+    (codes "team" ∷ []) params
+unfolding understood everything office_schema
+approvals_selects params = record { command = refl; listing = refl; plain = (refl, refl) }
+
+approvals_means : (net : List ℕ) → Means values 11 one_test approvals_columns approvals_by (Text net ∷ [])
+    (is_of_net net) approvals_shown approvals_order
+approvals_means net = record {
+  tests_same = net_requested net;
+  shows_same = λ r. ap (λ v. v ∷ []) (column_is r 1);
+  orders_same = λ x y. then-Equal _ ∙ rw (column_is x 1, column_is y 1) refl;
+}
+
+pub approvals_found : {X : Type 0} (rows_of : X → List Row) (net : List ℕ) (old new : State) (r : Result X Error)
+    → old.now.schema ≡ office_schema
+    → IfOk r (λ x. Shown approvals_text (Text net ∷ []) old new (rows_of x))
+    → IfOk r (λ x. IsSelected (is_of_net net) approvals_shown approvals_order (tables_of old.now.trees).approval
+    (rows_of x))
+approvals_found rows_of net = finds office_schema approvals_text 11 one_test approvals_columns approvals_by _
+    (Text net ∷ []) (approvals_selects (Text net ∷ [])) values (is_of_net net) approvals_shown approvals_order
+    (approvals_means net) rows_of
+
+pub approvals_plain : (s : Schema) → s ≡ office_schema → IsPlain (understood s approvals_text)
+approvals_plain = plain_in approvals_text (approvals_selects []).plain

@@ -1,0 +1,179 @@
+-- What the texts on `frozen` make of it, and show of it.
+use Rattle.std.proofs.Common.{◌≡◌, ℕ, pos, List, [], ◌∷◌, ◌++◌, codes, false, Err, Result, refl, ap, ◌∙◌}
+use Rattle.std.specs.Prelude.{IfOk, IsTrue}
+use Rattle.sqlite.specs.declared.types.Value.TheVariants.{Null, Int, Text}
+use Rattle.sqlite.specs.declared.error.Error.{Error}
+use Rattle.sqlite.specs.declared.error.Error.TheVariants.{SqliteFailure}
+use Rattle.sqlite.specs.declared.error.ErrorCode.TheVariants.{TransactionState}
+use Rattle.sqlite.specs.Order.{Row}
+use Rattle.sqlite.specs.Term.{Term, lit, col}
+use Rattle.sqlite.specs.Tree.{Trees, put_row}
+use Rattle.sqlite.specs.Schema.{Schema}
+use Rattle.sqlite.specs.Source.TheVariants.{Values}
+use Rattle.sqlite.specs.Command.TheVariants.{Insert}
+use Rattle.sqlite.specs.Edit.{edit_of, edited, next_rowid}
+use Rattle.sqlite.specs.Rowids.TheVariants.{Chosen}
+use Rattle.sqlite.specs.Effect.{value_rows}
+use Rattle.sqlite.specs.Rows.{stamped}
+use Rattle.sqlite_value.specs.declared.keys.Key.{Key}
+use Rattle.sqlite_value.proofs.OrderLemmas.{then-Equal}
+use Rattle.sqlite_tied.specs.Compute.{everything}
+use Rattle.sqlite.specs.Listing.{understood}
+use Rattle.sqlite.specs.State.{State, ExecutesInside, Shown}
+use Rattle.sqlite.proofs.Callers.{IsPlain, command_of}
+use Rattle.store_tables.specs.Schema.{office_schema}
+use Rattle.store_tables.specs.Tables.{tables_of, values, IsOffice}
+use Rattle.store_tables.specs.Statements.{Makes}
+use Rattle.store_tables.specs.Selected.{IsSelected}
+use Rattle.store_tables.proofs.Columns.{cast_null, cast_number, column_is}
+use Rattle.store_tables.proofs.Changing.{appends, makes}
+use Rattle.store_tables.proofs.Keeping.{plain_in}
+use Rattle.store_tables.proofs.TableIndices.{frozen, frozen_there, frozen_only}
+use Rattle.store_tables.proofs.Finding.{ascending, IsSelect, Means, finds}
+use Rattle.store_statements.specs.declared.row.FrozenRow.{FrozenRow}
+use Rattle.store_statements.specs.Rows.{frozen_row, has_net_and_number, is_of_net}
+use Rattle.store_statements.specs.Shown.{release_numbers_order, release_numbers_shown, release_order, release_shown}
+use Rattle.store_statements.specs.Shown.{releases_order, releases_shown}
+use Rattle.store_statements.proofs.Requested.{net_requested, numbered_requested, one_test, two_tests}
+
+-- ---- insert_frozen
+
+abbrev insert_text : List ℕ
+insert_text = codes "INSERT INTO frozen VALUES (?1, ?2, ?3)"
+
+abbrev insert_terms : List Term
+insert_terms = lit Null ∷ col 0 0 ∷ col 0 1 ∷ col 0 2 ∷ []
+
+insert_is : command_of (understood office_schema insert_text) ≡ Insert 7 (Values insert_terms 4)
+unfolding understood everything office_schema
+insert_is = refl
+
+insert_plain : IsPlain (understood office_schema insert_text)
+unfolding understood everything office_schema
+insert_plain = (refl, refl)
+
+put : (row : FrozenRow) (db : Trees)
+    → edited db (edit_of db frozen [] Chosen 0 (value_rows (stamped frozen (frozen_row row)) 4 1 insert_terms))
+    ≡ put_row (Int (next_rowid (db 13)) ∷ frozen_row row) (db 13)
+put row db = rw (cast_null, cast_number row.number) refl
+
+pub inserts : (row : FrozenRow) (old new : State) (r : Result ℕ Error) → IsOffice old.now
+    → (old.in_transaction ≡ false → r ≡ Err (SqliteFailure TransactionState))
+    → (IsTrue old.in_transaction → ExecutesInside 0 insert_text (frozen_row row) old new r)
+    → IfOk r (λ rows. Makes (λ t. record t { frozen = t.frozen ++ frozen_row row ∷ [] }) old new × (rows ≡ 1))
+unfolding office_schema
+inserts row old new r office ended ran =
+    makes insert_text (frozen_row row) _ 1 old new r
+    (appends 7 frozen frozen_there frozen_only insert_text (frozen_row row) insert_terms 4 insert_is insert_plain
+    (frozen_row row) refl (λ db. refl) (λ db shaped. put row db) old new office) ended ran
+
+-- ---- select_releases
+
+abbrev pub releases_text : List ℕ
+releases_text = codes "SELECT number, body FROM frozen WHERE net = ?1 ORDER BY number"
+
+abbrev releases_columns : List Term
+releases_columns = col 1 2 ∷ col 1 3 ∷ []
+
+abbrev releases_by : List (Term × Key)
+releases_by = (col 1 2, ascending) ∷ []
+
+releases_selects : (params : Row) → IsSelect office_schema releases_text 13 one_test releases_columns releases_by
+    (codes "number" ∷ codes "body" ∷ []) params
+unfolding understood everything office_schema
+releases_selects params = record { command = refl; listing = refl; plain = (refl, refl) }
+
+releases_means : (net : List ℕ) → Means values 13 one_test releases_columns releases_by (Text net ∷ []) (is_of_net net)
+    releases_shown releases_order
+releases_means net = record {
+  tests_same = net_requested net;
+  shows_same = λ r. rw (column_is r 1, column_is r 2) refl;
+  orders_same = λ x y. then-Equal _ ∙ rw (column_is x 1, column_is y 1) refl;
+}
+
+pub releases_found : {X : Type 0} (rows_of : X → List Row) (net : List ℕ) (old new : State) (r : Result X Error)
+    → old.now.schema ≡ office_schema
+    → IfOk r (λ x. Shown releases_text (Text net ∷ []) old new (rows_of x))
+    → IfOk r (λ x. IsSelected (is_of_net net) releases_shown releases_order (tables_of old.now.trees).frozen
+    (rows_of x))
+releases_found rows_of net = finds office_schema releases_text 13 one_test releases_columns releases_by _
+    (Text net ∷ []) (releases_selects (Text net ∷ [])) values (is_of_net net) releases_shown releases_order
+    (releases_means net) rows_of
+
+pub releases_plain : (s : Schema) → s ≡ office_schema → IsPlain (understood s releases_text)
+releases_plain = plain_in releases_text (releases_selects []).plain
+
+-- ---- select_release_numbers
+
+abbrev pub release_numbers_text : List ℕ
+release_numbers_text = codes "SELECT number FROM frozen WHERE net = ?1 ORDER BY number"
+
+abbrev release_numbers_columns : List Term
+release_numbers_columns = col 1 2 ∷ []
+
+abbrev release_numbers_by : List (Term × Key)
+release_numbers_by = (col 1 2, ascending) ∷ []
+
+release_numbers_selects : (params : Row)
+    → IsSelect office_schema release_numbers_text 13 one_test release_numbers_columns release_numbers_by
+    (codes "number" ∷ []) params
+unfolding understood everything office_schema
+release_numbers_selects params = record { command = refl; listing = refl; plain = (refl, refl) }
+
+release_numbers_means : (net : List ℕ)
+    → Means values 13 one_test release_numbers_columns release_numbers_by (Text net ∷ []) (is_of_net net)
+    release_numbers_shown release_numbers_order
+release_numbers_means net = record {
+  tests_same = net_requested net;
+  shows_same = λ r. ap (λ v. v ∷ []) (column_is r 1);
+  orders_same = λ x y. then-Equal _ ∙ rw (column_is x 1, column_is y 1) refl;
+}
+
+pub release_numbers_found : {X : Type 0} (rows_of : X → List Row) (net : List ℕ) (old new : State) (r : Result X Error)
+    → old.now.schema ≡ office_schema
+    → IfOk r (λ x. Shown release_numbers_text (Text net ∷ []) old new (rows_of x))
+    → IfOk r (λ x. IsSelected (is_of_net net) release_numbers_shown release_numbers_order
+    (tables_of old.now.trees).frozen (rows_of x))
+release_numbers_found rows_of net = finds office_schema release_numbers_text 13 one_test release_numbers_columns
+    release_numbers_by _ (Text net ∷ []) (release_numbers_selects (Text net ∷ [])) values (is_of_net net)
+    release_numbers_shown release_numbers_order (release_numbers_means net) rows_of
+
+pub release_numbers_plain : (s : Schema) → s ≡ office_schema → IsPlain (understood s release_numbers_text)
+release_numbers_plain = plain_in release_numbers_text (release_numbers_selects []).plain
+
+-- ---- select_release
+
+abbrev pub release_text : List ℕ
+release_text = codes "SELECT body FROM frozen WHERE net = ?1 AND number = ?2 ORDER BY number"
+
+abbrev release_columns : List Term
+release_columns = col 1 3 ∷ []
+
+abbrev release_by : List (Term × Key)
+release_by = (col 1 2, ascending) ∷ []
+
+release_selects : (params : Row) → IsSelect office_schema release_text 13 two_tests release_columns release_by
+    (codes "body" ∷ []) params
+unfolding understood everything office_schema
+release_selects params = record { command = refl; listing = refl; plain = (refl, refl) }
+
+release_means : (net : List ℕ) (number : ℕ)
+    → Means values 13 two_tests release_columns release_by (Text net ∷ Int (pos number) ∷ [])
+    (has_net_and_number net number) release_shown release_order
+release_means net number = record {
+  tests_same = numbered_requested net number;
+  shows_same = λ r. ap (λ v. v ∷ []) (column_is r 2);
+  orders_same = λ x y. then-Equal _ ∙ rw (column_is x 1, column_is y 1) refl;
+}
+
+pub release_found : {X : Type 0} (rows_of : X → List Row) (net : List ℕ) (number : ℕ) (old new : State)
+    (r : Result X Error) → old.now.schema ≡ office_schema
+    → IfOk r (λ x. Shown release_text (Text net ∷ Int (pos number) ∷ []) old new (rows_of x))
+    → IfOk r (λ x. IsSelected (has_net_and_number net number) release_shown release_order
+    (tables_of old.now.trees).frozen (rows_of x))
+release_found rows_of net number = finds office_schema release_text 13 two_tests release_columns release_by _
+    (Text net ∷ Int (pos number) ∷ []) (release_selects (Text net ∷ Int (pos number) ∷ [])) values
+    (has_net_and_number net number) release_shown release_order (release_means net number) rows_of
+
+pub release_plain : (s : Schema) → s ≡ office_schema → IsPlain (understood s release_text)
+release_plain = plain_in release_text (release_selects []).plain

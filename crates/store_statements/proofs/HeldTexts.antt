@@ -1,0 +1,160 @@
+-- What the texts on `held` make of it, and show of it.
+use Rattle.std.proofs.Common.{◌≡◌, ℕ, pos, List, [], ◌∷◌, ◌++◌, codes, false, not, Err, Result, refl, ap, ◌∙◌}
+use Rattle.std.specs.Prelude.{IfOk, IsTrue, filter, length}
+use Rattle.sqlite.specs.declared.types.Value.TheVariants.{Null, Int, Text}
+use Rattle.sqlite.specs.declared.error.Error.{Error}
+use Rattle.sqlite.specs.declared.error.Error.TheVariants.{SqliteFailure}
+use Rattle.sqlite.specs.declared.error.ErrorCode.TheVariants.{TransactionState}
+use Rattle.sqlite.specs.Order.{Row}
+use Rattle.sqlite.specs.Term.{Term, lit, col}
+use Rattle.sqlite.specs.Tree.{Trees, put_row}
+use Rattle.sqlite.specs.Schema.{Schema}
+use Rattle.sqlite.specs.Source.TheVariants.{Values}
+use Rattle.sqlite.specs.Command.TheVariants.{Insert, Delete}
+use Rattle.sqlite.specs.Edit.{edit_of, edited, next_rowid}
+use Rattle.sqlite.specs.Rowids.TheVariants.{Chosen}
+use Rattle.sqlite.specs.Effect.{value_rows}
+use Rattle.sqlite.specs.Rows.{stamped}
+use Rattle.sqlite_value.specs.declared.keys.Key.{Key}
+use Rattle.sqlite_value.proofs.OrderLemmas.{then-Equal}
+use Rattle.sqlite_tied.specs.Compute.{everything}
+use Rattle.sqlite.specs.Listing.{understood}
+use Rattle.sqlite.specs.State.{State, ExecutesInside, Shown}
+use Rattle.sqlite.proofs.Callers.{IsPlain, command_of}
+use Rattle.store_tables.specs.Schema.{office_schema}
+use Rattle.store_tables.specs.Tables.{tables_of, values, IsOffice}
+use Rattle.store_tables.specs.Statements.{Makes}
+use Rattle.store_tables.specs.Selected.{IsSelected}
+use Rattle.store_tables.proofs.Columns.{cast_null, cast_number, column_is}
+use Rattle.store_tables.proofs.Changing.{appends, makes, removes}
+use Rattle.store_tables.proofs.Keeping.{plain_in}
+use Rattle.store_tables.proofs.TableIndices.{held, held_there, held_only}
+use Rattle.store_tables.proofs.Selecting.{query}
+use Rattle.store_tables.proofs.Finding.{ascending, IsSelect, Means, finds}
+use Rattle.store_statements.specs.Rows.{has_net_and_number, has_number_between, held_row, is_of_net}
+use Rattle.store_statements.specs.Shown.{held_order, held_shown}
+use Rattle.store_statements.proofs.Requested.{net_requested, numbered_requested, one_test, range_requested, range_tests}
+use Rattle.store_statements.proofs.Requested.{two_tests}
+
+-- ---- insert_held
+
+abbrev insert_text : List ℕ
+insert_text = codes "INSERT INTO held VALUES (?1, ?2)"
+
+abbrev insert_terms : List Term
+insert_terms = lit Null ∷ col 0 0 ∷ col 0 1 ∷ []
+
+insert_is : command_of (understood office_schema insert_text) ≡ Insert 4 (Values insert_terms 3)
+unfolding understood everything office_schema
+insert_is = refl
+
+insert_plain : IsPlain (understood office_schema insert_text)
+unfolding understood everything office_schema
+insert_plain = (refl, refl)
+
+put : (net : List ℕ) (number : ℕ) (db : Trees)
+    → edited db (edit_of db held [] Chosen 0 (value_rows (stamped held (held_row net number)) 3 1 insert_terms))
+    ≡ put_row (Int (next_rowid (db 8)) ∷ held_row net number) (db 8)
+put net number db = rw (cast_null, cast_number number) refl
+
+pub inserts : (net : List ℕ) (number : ℕ) (old new : State) (r : Result ℕ Error) → IsOffice old.now
+    → (old.in_transaction ≡ false → r ≡ Err (SqliteFailure TransactionState))
+    → (IsTrue old.in_transaction → ExecutesInside 0 insert_text (held_row net number) old new r)
+    → IfOk r (λ rows. Makes (λ t. record t { held = t.held ++ held_row net number ∷ [] }) old new × (rows ≡ 1))
+unfolding office_schema
+inserts net number old new r office ended ran =
+    makes insert_text (held_row net number) _ 1 old new r
+    (appends 4 held held_there held_only insert_text (held_row net number) insert_terms 3 insert_is insert_plain
+    (held_row net number) refl (λ db. refl) (λ db shaped. put net number db) old new office) ended ran
+
+-- ---- delete_held
+
+abbrev delete_held_text : List ℕ
+delete_held_text = codes "DELETE FROM held WHERE net = ?1 AND number = ?2"
+
+delete_held_is : (params : Row) → command_of (understood office_schema delete_held_text)
+    ≡ Delete 4 (record { lets = []; body = query 8 two_tests (col 1 0 ∷ []) [] params })
+unfolding understood everything office_schema
+delete_held_is params = refl
+
+delete_held_plain : IsPlain (understood office_schema delete_held_text)
+unfolding understood everything office_schema
+delete_held_plain = (refl, refl)
+
+pub delete_helds : (net : List ℕ) (number : ℕ) (old new : State) (r : Result ℕ Error) → IsOffice old.now
+    → (old.in_transaction ≡ false → r ≡ Err (SqliteFailure TransactionState))
+    → (IsTrue old.in_transaction → ExecutesInside 0 delete_held_text (Text net ∷ Int (pos number) ∷ []) old new r)
+    → IfOk r (λ rows. Makes (λ t. record t { held = filter (λ row. not (has_net_and_number net number row)) t.held })
+    old new × (rows ≡ length (filter (has_net_and_number net number) (tables_of old.now.trees).held)))
+unfolding office_schema
+delete_helds net number old new r office ended ran =
+    makes delete_held_text (Text net ∷ Int (pos number) ∷ []) _ _ old new r
+    (removes 4 held held_there held_only delete_held_text (Text net ∷ Int (pos number) ∷ []) two_tests
+    (delete_held_is (Text net ∷ Int (pos number) ∷ [])) delete_held_plain (has_net_and_number net number)
+    (numbered_requested net number) held_there old new office) ended ran
+
+-- ---- select_held
+
+abbrev pub held_text : List ℕ
+held_text = codes "SELECT number FROM held WHERE net = ?1 ORDER BY number"
+
+abbrev held_columns : List Term
+held_columns = col 1 2 ∷ []
+
+abbrev held_by : List (Term × Key)
+held_by = (col 1 2, ascending) ∷ []
+
+held_selects : (params : Row) → IsSelect office_schema held_text 8 one_test held_columns held_by (codes "number" ∷ [])
+    params
+unfolding understood everything office_schema
+held_selects params = record { command = refl; listing = refl; plain = (refl, refl) }
+
+held_means : (net : List ℕ) → Means values 8 one_test held_columns held_by (Text net ∷ []) (is_of_net net) held_shown
+    held_order
+held_means net = record {
+  tests_same = net_requested net;
+  shows_same = λ r. ap (λ v. v ∷ []) (column_is r 1);
+  orders_same = λ x y. then-Equal _ ∙ rw (column_is x 1, column_is y 1) refl;
+}
+
+pub held_found : {X : Type 0} (rows_of : X → List Row) (net : List ℕ) (old new : State) (r : Result X Error)
+    → old.now.schema ≡ office_schema
+    → IfOk r (λ x. Shown held_text (Text net ∷ []) old new (rows_of x))
+    → IfOk r (λ x. IsSelected (is_of_net net) held_shown held_order (tables_of old.now.trees).held (rows_of x))
+held_found rows_of net = finds office_schema held_text 8 one_test held_columns held_by _ (Text net ∷ [])
+    (held_selects (Text net ∷ [])) values (is_of_net net) held_shown held_order (held_means net) rows_of
+
+pub held_plain : (s : Schema) → s ≡ office_schema → IsPlain (understood s held_text)
+held_plain = plain_in held_text (held_selects []).plain
+
+-- ---- select_held_numbers
+
+abbrev pub held_numbers_text : List ℕ
+held_numbers_text = codes "SELECT number FROM held WHERE net = ?1 AND number >= ?2 AND number <= ?3 ORDER BY number"
+
+held_numbers_selects : (params : Row) → IsSelect office_schema held_numbers_text 8 range_tests held_columns held_by
+    (codes "number" ∷ []) params
+unfolding understood everything office_schema
+held_numbers_selects params = record { command = refl; listing = refl; plain = (refl, refl) }
+
+held_numbers_means : (net : List ℕ) (first last : ℕ)
+    → Means values 8 range_tests held_columns held_by (Text net ∷ Int (pos first) ∷ Int (pos last) ∷ [])
+    (has_number_between net first last) held_shown held_order
+held_numbers_means net first last = record {
+  tests_same = range_requested net first last;
+  shows_same = λ r. ap (λ v. v ∷ []) (column_is r 1);
+  orders_same = λ x y. then-Equal _ ∙ rw (column_is x 1, column_is y 1) refl;
+}
+
+pub held_numbers_found : {X : Type 0} (rows_of : X → List Row) (net : List ℕ) (first last : ℕ) (old new : State)
+    (r : Result X Error) → old.now.schema ≡ office_schema
+    → IfOk r (λ x. Shown held_numbers_text (Text net ∷ Int (pos first) ∷ Int (pos last) ∷ []) old new (rows_of x))
+    → IfOk r (λ x. IsSelected (has_number_between net first last) held_shown held_order (tables_of old.now.trees).held
+    (rows_of x))
+held_numbers_found rows_of net first last = finds office_schema held_numbers_text 8 range_tests held_columns held_by _
+    (Text net ∷ Int (pos first) ∷ Int (pos last) ∷ [])
+    (held_numbers_selects (Text net ∷ Int (pos first) ∷ Int (pos last) ∷ [])) values (has_number_between net first last)
+    held_shown held_order (held_numbers_means net first last) rows_of
+
+pub held_numbers_plain : (s : Schema) → s ≡ office_schema → IsPlain (understood s held_numbers_text)
+held_numbers_plain = plain_in held_numbers_text (held_numbers_selects []).plain

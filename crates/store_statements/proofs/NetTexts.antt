@@ -1,0 +1,161 @@
+-- What the texts on `net` make of it, and show of it.
+use Rattle.std.proofs.Common.{◌≡◌, ℕ, List, [], ◌∷◌, ◌++◌, codes, false, not, Err, Result, refl, ap, ◌∙◌}
+use Rattle.std.specs.Prelude.{IfOk, IsTrue, filter, length}
+use Rattle.sqlite.specs.declared.types.Value.TheVariants.{Null, Int, Text}
+use Rattle.sqlite.specs.declared.error.Error.{Error}
+use Rattle.sqlite.specs.declared.error.Error.TheVariants.{SqliteFailure}
+use Rattle.sqlite.specs.declared.error.ErrorCode.TheVariants.{TransactionState}
+use Rattle.sqlite.specs.Order.{Row}
+use Rattle.sqlite.specs.Term.{Term, lit, col}
+use Rattle.sqlite.specs.Tree.{Trees, put_row}
+use Rattle.sqlite.specs.Schema.{Schema}
+use Rattle.sqlite.specs.Source.TheVariants.{Values}
+use Rattle.sqlite.specs.Command.TheVariants.{Insert, Delete}
+use Rattle.sqlite.specs.Edit.{edit_of, edited, next_rowid}
+use Rattle.sqlite.specs.Rowids.TheVariants.{Chosen}
+use Rattle.sqlite.specs.Effect.{value_rows}
+use Rattle.sqlite.specs.Rows.{stamped}
+use Rattle.sqlite_value.specs.declared.keys.Key.{Key}
+use Rattle.sqlite_value.proofs.OrderLemmas.{then-Equal}
+use Rattle.sqlite_tied.specs.Compute.{everything}
+use Rattle.sqlite.specs.Listing.{understood}
+use Rattle.sqlite.specs.State.{State, ExecutesInside, Shown}
+use Rattle.sqlite.proofs.Callers.{IsPlain, command_of}
+use Rattle.store_tables.specs.Schema.{office_schema}
+use Rattle.store_tables.specs.Tables.{tables_of, values, IsOffice}
+use Rattle.store_tables.specs.Statements.{Makes}
+use Rattle.store_tables.specs.Selected.{IsSelected}
+use Rattle.store_tables.proofs.Columns.{cast_null, cast_number, column_is}
+use Rattle.store_tables.proofs.Changing.{appends, makes, removes}
+use Rattle.store_tables.proofs.Keeping.{plain_in}
+use Rattle.store_tables.proofs.TableIndices.{net, net_there, net_only}
+use Rattle.store_tables.proofs.Selecting.{query}
+use Rattle.store_tables.proofs.Finding.{ascending, IsSelect, Means, finds}
+use Rattle.store_statements.specs.declared.row.NetRow.{NetRow}
+use Rattle.store_statements.specs.Rows.{is_any, is_of_net, net_row}
+use Rattle.store_statements.specs.Shown.{net_names_order, net_names_shown, net_order, net_shown}
+use Rattle.store_statements.proofs.Requested.{net_requested, one_test}
+
+-- ---- insert_net
+
+abbrev insert_text : List ℕ
+insert_text = codes "INSERT INTO net VALUES (?1, ?2, ?3, ?4, ?5, ?6)"
+
+abbrev insert_terms : List Term
+insert_terms = lit Null ∷ col 0 0 ∷ col 0 1 ∷ col 0 2 ∷ col 0 3 ∷ col 0 4 ∷ col 0 5 ∷ []
+
+insert_is : command_of (understood office_schema insert_text) ≡ Insert 1 (Values insert_terms 7)
+unfolding understood everything office_schema
+insert_is = refl
+
+insert_plain : IsPlain (understood office_schema insert_text)
+unfolding understood everything office_schema
+insert_plain = (refl, refl)
+
+put : (row : NetRow) (db : Trees)
+    → edited db (edit_of db net [] Chosen 0 (value_rows (stamped net (net_row row)) 7 1 insert_terms))
+    ≡ put_row (Int (next_rowid (db 1)) ∷ net_row row) (db 1)
+put row db = rw (cast_null, cast_number row.kind, cast_number row.reviews, cast_number row.phase) refl
+
+pub inserts : (row : NetRow) (old new : State) (r : Result ℕ Error) → IsOffice old.now
+    → (old.in_transaction ≡ false → r ≡ Err (SqliteFailure TransactionState))
+    → (IsTrue old.in_transaction → ExecutesInside 0 insert_text (net_row row) old new r)
+    → IfOk r (λ rows. Makes (λ t. record t { net = t.net ++ net_row row ∷ [] }) old new × (rows ≡ 1))
+unfolding office_schema
+inserts row old new r office ended ran =
+    makes insert_text (net_row row) _ 1 old new r
+    (appends 1 net net_there net_only insert_text (net_row row) insert_terms 7 insert_is insert_plain (net_row row) refl
+    (λ db. refl) (λ db shaped. put row db) old new office) ended ran
+
+-- ---- delete_net
+
+abbrev delete_net_text : List ℕ
+delete_net_text = codes "DELETE FROM net WHERE name = ?1"
+
+delete_net_is : (params : Row) → command_of (understood office_schema delete_net_text)
+    ≡ Delete 1 (record { lets = []; body = query 1 one_test (col 1 0 ∷ []) [] params })
+unfolding understood everything office_schema
+delete_net_is params = refl
+
+delete_net_plain : IsPlain (understood office_schema delete_net_text)
+unfolding understood everything office_schema
+delete_net_plain = (refl, refl)
+
+pub delete_nets : (name : List ℕ) (old new : State) (r : Result ℕ Error) → IsOffice old.now
+    → (old.in_transaction ≡ false → r ≡ Err (SqliteFailure TransactionState))
+    → (IsTrue old.in_transaction → ExecutesInside 0 delete_net_text (Text name ∷ []) old new r)
+    → IfOk r (λ rows. Makes (λ t. record t { net = filter (λ row. not (is_of_net name row)) t.net }) old new
+    × (rows ≡ length (filter (is_of_net name) (tables_of old.now.trees).net)))
+unfolding office_schema
+delete_nets name old new r office ended ran =
+    makes delete_net_text (Text name ∷ []) _ _ old new r
+    (removes 1 net net_there net_only delete_net_text (Text name ∷ []) one_test (delete_net_is (Text name ∷ []))
+    delete_net_plain (is_of_net name) (net_requested name) net_there old new office) ended ran
+
+-- ---- select_net_names
+
+abbrev pub net_names_text : List ℕ
+net_names_text = codes "SELECT name FROM net ORDER BY name"
+
+abbrev net_names_columns : List Term
+net_names_columns = col 1 1 ∷ []
+
+abbrev net_names_by : List (Term × Key)
+net_names_by = (col 1 1, ascending) ∷ []
+
+net_names_selects : (params : Row) → IsSelect office_schema net_names_text 1 [] net_names_columns net_names_by
+    (codes "name" ∷ []) params
+unfolding understood everything office_schema
+net_names_selects params = record { command = refl; listing = refl; plain = (refl, refl) }
+
+net_names_means : Means values 1 [] net_names_columns net_names_by [] is_any net_names_shown net_names_order
+net_names_means = record {
+  tests_same = λ r. refl;
+  shows_same = λ r. ap (λ v. v ∷ []) (column_is r 0);
+  orders_same = λ x y. then-Equal _ ∙ rw (column_is x 0, column_is y 0) refl;
+}
+
+pub net_names_found : {X : Type 0} (rows_of : X → List Row) (old new : State) (r : Result X Error)
+    → old.now.schema ≡ office_schema
+    → IfOk r (λ x. Shown net_names_text [] old new (rows_of x))
+    → IfOk r (λ x. IsSelected is_any net_names_shown net_names_order (tables_of old.now.trees).net (rows_of x))
+net_names_found rows_of = finds office_schema net_names_text 1 [] net_names_columns net_names_by _ []
+    (net_names_selects []) values is_any net_names_shown net_names_order net_names_means rows_of
+
+pub net_names_plain : (s : Schema) → s ≡ office_schema → IsPlain (understood s net_names_text)
+net_names_plain = plain_in net_names_text (net_names_selects []).plain
+
+-- ---- select_net
+
+abbrev pub net_text : List ℕ
+net_text = codes "SELECT kind, reviews, phase, submitter, frame FROM net WHERE name = ?1 ORDER BY name"
+
+abbrev net_columns : List Term
+net_columns = col 1 2 ∷ col 1 3 ∷ col 1 4 ∷ col 1 5 ∷ col 1 6 ∷ []
+
+abbrev net_by : List (Term × Key)
+net_by = (col 1 1, ascending) ∷ []
+
+net_selects : (params : Row)
+    → IsSelect office_schema net_text 1 one_test net_columns net_by
+    (codes "kind" ∷ codes "reviews" ∷ codes "phase" ∷ codes "submitter" ∷ codes "frame" ∷ []) params
+unfolding understood everything office_schema
+net_selects params = record { command = refl; listing = refl; plain = (refl, refl) }
+
+net_means : (name : List ℕ) → Means values 1 one_test net_columns net_by (Text name ∷ []) (is_of_net name) net_shown
+    net_order
+net_means name = record {
+  tests_same = net_requested name;
+  shows_same = λ r. rw (column_is r 1, column_is r 2, column_is r 3, column_is r 4, column_is r 5) refl;
+  orders_same = λ x y. then-Equal _ ∙ rw (column_is x 0, column_is y 0) refl;
+}
+
+pub net_found : {X : Type 0} (rows_of : X → List Row) (name : List ℕ) (old new : State) (r : Result X Error)
+    → old.now.schema ≡ office_schema
+    → IfOk r (λ x. Shown net_text (Text name ∷ []) old new (rows_of x))
+    → IfOk r (λ x. IsSelected (is_of_net name) net_shown net_order (tables_of old.now.trees).net (rows_of x))
+net_found rows_of name = finds office_schema net_text 1 one_test net_columns net_by _ (Text name ∷ [])
+    (net_selects (Text name ∷ [])) values (is_of_net name) net_shown net_order (net_means name) rows_of
+
+pub net_plain : (s : Schema) → s ≡ office_schema → IsPlain (understood s net_text)
+net_plain = plain_in net_text (net_selects []).plain

@@ -1,0 +1,153 @@
+-- What the texts on `profile` make of it, and show of it.
+use Rattle.std.proofs.Common.{◌≡◌, ◌∙◌, inl, inr, ℕ, pos, List, [], ◌∷◌, codes, false, Ok, Err, Result, refl, sym, ap}
+use Rattle.std.proofs.Common.{subst}
+use Rattle.std.specs.Prelude.{IfOk, IsTrue, length}
+use Rattle.sqlite.specs.declared.types.Value.TheVariants.{Null, Int}
+use Rattle.sqlite.specs.declared.error.Error.{Error}
+use Rattle.sqlite.specs.declared.error.Error.TheVariants.{SqliteFailure}
+use Rattle.sqlite.specs.declared.error.ErrorCode.TheVariants.{TransactionState}
+use Rattle.sqlite.specs.Order.{Row}
+use Rattle.sqlite.specs.Term.{Term, lit, col}
+use Rattle.sqlite.specs.Tree.{Trees, put_row}
+use Rattle.sqlite.specs.Schema.{Schema}
+use Rattle.sqlite.specs.Source.TheVariants.{Values}
+use Rattle.sqlite.specs.Command.TheVariants.{Insert, Delete}
+use Rattle.sqlite.specs.Edit.{edit_of, edited}
+use Rattle.sqlite.specs.Rowids.TheVariants.{Chosen}
+use Rattle.sqlite.specs.Effect.{value_rows}
+use Rattle.sqlite.specs.Rows.{stamped}
+use Rattle.sqlite_value.specs.declared.keys.Key.{Key}
+use Rattle.sqlite_value.proofs.OrderLemmas.{then-Equal}
+use Rattle.sqlite_tied.specs.Compute.{everything}
+use Rattle.sqlite.specs.Listing.{understood}
+use Rattle.sqlite.specs.State.{State, Executes, ExecutesInside, Shown}
+use Rattle.sqlite.proofs.Callers.{IsPlain, command_of}
+use Rattle.store_tables.specs.Schema.{IsOfficeSchema, office_schema, schema_9, schema_13}
+use Rattle.store_tables.specs.Tables.{tables_of, keyed_values, IsOffice}
+use Rattle.store_tables.specs.Statements.{Makes}
+use Rattle.store_tables.specs.Selected.{IsSelected}
+use Rattle.store_tables.proofs.Columns.{cast_null, cast_number, keyed_column_is}
+use Rattle.store_tables.proofs.Changing.{makes, puts, removes}
+use Rattle.store_tables.proofs.TableIndices.{profile, profile_there, profile_only}
+use Rattle.store_tables.proofs.Selecting.{query}
+use Rattle.store_tables.proofs.Finding.{ascending, IsSelect, Means, finds}
+use Rattle.store_statements.specs.Rows.{is_any, mark_row}
+use Rattle.store_statements.specs.Shown.{profile_order, profile_shown}
+use Rattle.store_statements.proofs.Requested.{all_wanted, none_left}
+
+-- ---- insert_profile
+
+abbrev insert_text : List ℕ
+insert_text = codes "INSERT INTO profile VALUES (?1, ?2)"
+
+abbrev insert_terms : List Term
+insert_terms = col 0 0 ∷ lit Null ∷ col 0 1 ∷ []
+
+insert_is : command_of (understood office_schema insert_text) ≡ Insert 0 (Values insert_terms 3)
+unfolding understood everything office_schema
+insert_is = refl
+
+insert_plain : IsPlain (understood office_schema insert_text)
+unfolding understood everything office_schema
+insert_plain = (refl, refl)
+
+put : (one number : ℕ) (db : Trees)
+    → edited db (edit_of db profile [] Chosen 0 (value_rows (stamped profile (mark_row one number)) 3 1 insert_terms))
+    ≡ put_row (Int (pos one) ∷ Null ∷ Int (pos number) ∷ []) (db 0)
+put one number db = rw (cast_null, cast_number one, cast_number number) refl
+
+pub inserts : (one number : ℕ) (old new : State) (r : Result ℕ Error) → IsOffice old.now
+    → (old.in_transaction ≡ false → r ≡ Err (SqliteFailure TransactionState))
+    → (IsTrue old.in_transaction → ExecutesInside 0 insert_text (mark_row one number) old new r)
+    → IfOk r (λ rows. Makes (λ t. record t { profile = put_row (mark_row one number) t.profile }) old new
+    × (rows ≡ 1))
+unfolding office_schema
+inserts one number old new r office ended ran =
+    makes insert_text (mark_row one number) _ 1 old new r
+    (puts 0 profile profile_there profile_only insert_text (mark_row one number) insert_terms 3 insert_is insert_plain
+    (pos one) (Int (pos number) ∷ []) refl (λ db. refl) (put one number) old new office) ended ran
+
+-- ---- clear_profile
+
+abbrev clear_text : List ℕ
+clear_text = codes "DELETE FROM profile"
+
+clear_is : command_of (understood office_schema clear_text)
+    ≡ Delete 0 (record { lets = []; body = query 0 [] (col 1 0 ∷ []) [] [] })
+unfolding understood everything office_schema
+clear_is = refl
+
+clear_plain : IsPlain (understood office_schema clear_text)
+unfolding understood everything office_schema
+clear_plain = (refl, refl)
+
+pub clears : (old new : State) (r : Result ℕ Error) → IsOffice old.now
+    → (old.in_transaction ≡ false → r ≡ Err (SqliteFailure TransactionState))
+    → (IsTrue old.in_transaction → ExecutesInside 0 clear_text [] old new r)
+    → IfOk r (λ rows. Makes (λ t. record t { profile = [] }) old new
+    × (rows ≡ length (tables_of old.now.trees).profile))
+unfolding office_schema
+clears old new r office ended ran = makes clear_text [] _ _ old new r does ended ran
+  where
+    does : (count : ℕ) → Executes clear_text [] old new (Ok count)
+        → IsOffice new.now × (tables_of new.now.trees ≡ record (tables_of old.now.trees) { profile = [] })
+        × (count ≡ length (tables_of old.now.trees).profile)
+    does count h =
+        let rows = (tables_of old.now.trees).profile in
+        let it = removes 0 profile profile_there profile_only clear_text [] [] clear_is clear_plain is_any (λ r. refl)
+        profile_there old new office count h in (
+          it.0,
+          it.1 ∙ ap (λ (l : List Row). record (tables_of old.now.trees) { profile = l }) (none_left rows),
+          it.2
+              ∙ ap (λ l. length l) (all_wanted rows),
+        )
+
+-- ---- select_profile
+
+abbrev pub profile_text : List ℕ
+profile_text = codes "SELECT one, number FROM profile ORDER BY one"
+
+abbrev profile_columns : List Term
+profile_columns = col 1 0 ∷ col 1 2 ∷ []
+
+abbrev profile_by : List (Term × Key)
+profile_by = (col 1 0, ascending) ∷ []
+
+abbrev IsSelectIn : Schema → Type 0
+IsSelectIn schema = IsSelect schema profile_text 0 [] profile_columns profile_by (codes "one" ∷ codes "number" ∷ []) []
+
+selects_9 : IsSelectIn schema_9
+unfolding understood everything schema_9
+selects_9 = record { command = refl; listing = refl; plain = (refl, refl) }
+
+selects_13 : IsSelectIn schema_13
+unfolding understood everything schema_13
+selects_13 = record { command = refl; listing = refl; plain = (refl, refl) }
+
+selects_all : IsSelectIn office_schema
+unfolding understood everything office_schema
+selects_all = record { command = refl; listing = refl; plain = (refl, refl) }
+
+-- the profile is the first table of an office of any time
+profile_selects : (schema : Schema) → IsOfficeSchema schema → IsSelectIn schema
+profile_selects schema (inl is) = subst IsSelectIn (sym is) selects_9
+profile_selects schema (inr (inl is)) = subst IsSelectIn (sym is) selects_13
+profile_selects schema (inr (inr is)) = subst IsSelectIn (sym is) selects_all
+
+profile_means : Means keyed_values 0 [] profile_columns profile_by [] is_any profile_shown profile_order
+profile_means = record {
+  tests_same = λ r. refl;
+  shows_same = λ r. rw (keyed_column_is r 0) refl;
+  orders_same = λ x y. then-Equal _;
+}
+
+pub profile_found : {X : Type 0} (rows_of : X → List Row) (old new : State) (r : Result X Error)
+    → IsOfficeSchema old.now.schema
+    → IfOk r (λ x. Shown profile_text [] old new (rows_of x))
+    → IfOk r (λ x. IsSelected is_any profile_shown profile_order (tables_of old.now.trees).profile (rows_of x))
+profile_found rows_of old new r known =
+    finds old.now.schema profile_text 0 [] profile_columns profile_by _ [] (profile_selects old.now.schema known)
+    keyed_values is_any profile_shown profile_order profile_means rows_of old new r refl
+
+pub profile_plain : (s : Schema) → IsOfficeSchema s → IsPlain (understood s profile_text)
+profile_plain s known = (profile_selects s known).plain

@@ -1,0 +1,106 @@
+-- What the texts on `reply` make of it, and show of it.
+use Rattle.std.proofs.Common.{◌≡◌, ℕ, List, [], ◌∷◌, ◌++◌, codes, false, Err, Result, refl, ◌∙◌}
+use Rattle.std.specs.Prelude.{IfOk, IsTrue}
+use Rattle.sqlite.specs.declared.types.Value.TheVariants.{Null, Int, Text}
+use Rattle.sqlite.specs.declared.error.Error.{Error}
+use Rattle.sqlite.specs.declared.error.Error.TheVariants.{SqliteFailure}
+use Rattle.sqlite.specs.declared.error.ErrorCode.TheVariants.{TransactionState}
+use Rattle.sqlite.specs.Order.{Row}
+use Rattle.sqlite.specs.Term.{Term, lit, col}
+use Rattle.sqlite.specs.Tree.{Trees, put_row}
+use Rattle.sqlite.specs.Schema.{Schema}
+use Rattle.sqlite.specs.Source.TheVariants.{Values}
+use Rattle.sqlite.specs.Command.TheVariants.{Insert}
+use Rattle.sqlite.specs.Edit.{edit_of, edited, next_rowid}
+use Rattle.sqlite.specs.Rowids.TheVariants.{Chosen}
+use Rattle.sqlite.specs.Effect.{value_rows}
+use Rattle.sqlite.specs.Rows.{stamped}
+use Rattle.sqlite_value.specs.declared.keys.Key.{Key}
+use Rattle.sqlite_value.proofs.OrderLemmas.{then-Equal}
+use Rattle.sqlite_tied.specs.Compute.{everything}
+use Rattle.sqlite.specs.Listing.{understood}
+use Rattle.sqlite.specs.State.{State, ExecutesInside, Shown}
+use Rattle.sqlite.proofs.Callers.{IsPlain, command_of}
+use Rattle.store_tables.specs.Schema.{office_schema}
+use Rattle.store_tables.specs.Tables.{tables_of, values, IsOffice}
+use Rattle.store_tables.specs.Statements.{Makes}
+use Rattle.store_tables.specs.Selected.{IsSelected}
+use Rattle.store_tables.proofs.Columns.{cast_null, cast_number, column_is}
+use Rattle.store_tables.proofs.Changing.{appends, makes}
+use Rattle.store_tables.proofs.Keeping.{plain_in}
+use Rattle.store_tables.proofs.TableIndices.{reply, reply_there, reply_only}
+use Rattle.store_tables.proofs.Finding.{ascending, IsSelect, Means, finds}
+use Rattle.store_statements.specs.declared.row.ReplyRow.{ReplyRow}
+use Rattle.store_statements.specs.Rows.{has_two_texts, reply_row}
+use Rattle.store_statements.specs.Shown.{reply_order, reply_shown}
+use Rattle.store_statements.proofs.Requested.{texts_requested, two_tests}
+
+-- ---- insert_reply
+
+abbrev insert_text : List ℕ
+insert_text = codes "INSERT INTO reply VALUES (?1, ?2, ?3, ?4, ?5, ?6, ?7)"
+
+abbrev insert_terms : List Term
+insert_terms = lit Null ∷ col 0 0 ∷ col 0 1 ∷ col 0 2 ∷ col 0 3 ∷ col 0 4 ∷ col 0 5 ∷ col 0 6 ∷ []
+
+insert_is : command_of (understood office_schema insert_text) ≡ Insert 8 (Values insert_terms 8)
+unfolding understood everything office_schema
+insert_is = refl
+
+insert_plain : IsPlain (understood office_schema insert_text)
+unfolding understood everything office_schema
+insert_plain = (refl, refl)
+
+put : (row : ReplyRow) (db : Trees)
+    → edited db (edit_of db reply [] Chosen 0 (value_rows (stamped reply (reply_row row)) 8 1 insert_terms))
+    ≡ put_row (Int (next_rowid (db 15)) ∷ reply_row row) (db 15)
+put row db = rw (cast_null, cast_number row.kind, cast_number row.a, cast_number row.b, cast_number row.c) refl
+
+pub inserts : (row : ReplyRow) (old new : State) (r : Result ℕ Error) → IsOffice old.now
+    → (old.in_transaction ≡ false → r ≡ Err (SqliteFailure TransactionState))
+    → (IsTrue old.in_transaction → ExecutesInside 0 insert_text (reply_row row) old new r)
+    → IfOk r (λ rows. Makes (λ t. record t { reply = t.reply ++ reply_row row ∷ [] }) old new × (rows ≡ 1))
+unfolding office_schema
+inserts row old new r office ended ran =
+    makes insert_text (reply_row row) _ 1 old new r
+    (appends 8 reply reply_there reply_only insert_text (reply_row row) insert_terms 8 insert_is insert_plain
+    (reply_row row) refl (λ db. refl) (λ db shaped. put row db) old new office) ended ran
+
+-- ---- select_reply
+
+abbrev pub reply_text : List ℕ
+reply_text = codes "SELECT content, kind, a, b, c FROM reply WHERE team = ?1 AND key = ?2 ORDER BY key"
+
+abbrev reply_columns : List Term
+reply_columns = col 1 3 ∷ col 1 4 ∷ col 1 5 ∷ col 1 6 ∷ col 1 7 ∷ []
+
+abbrev reply_by : List (Term × Key)
+reply_by = (col 1 2, ascending) ∷ []
+
+reply_selects : (params : Row)
+    → IsSelect office_schema reply_text 15 two_tests reply_columns reply_by
+    (codes "content" ∷ codes "kind" ∷ codes "a" ∷ codes "b" ∷ codes "c" ∷ []) params
+unfolding understood everything office_schema
+reply_selects params = record { command = refl; listing = refl; plain = (refl, refl) }
+
+reply_means : (team : List ℕ) (key : List ℕ)
+    → Means values 15 two_tests reply_columns reply_by (Text team ∷ Text key ∷ []) (has_two_texts team key) reply_shown
+    reply_order
+reply_means team key = record {
+  tests_same = texts_requested team key;
+  shows_same = λ r. rw (column_is r 2, column_is r 3, column_is r 4, column_is r 5, column_is r 6) refl;
+  orders_same = λ x y. then-Equal _ ∙ rw (column_is x 1, column_is y 1) refl;
+}
+
+pub reply_found : {X : Type 0} (rows_of : X → List Row) (team : List ℕ) (key : List ℕ) (old new : State)
+    (r : Result X Error) → old.now.schema ≡ office_schema
+    → IfOk r (λ x. Shown reply_text (Text team ∷ Text key ∷ []) old new (rows_of x))
+    → IfOk r (λ x. IsSelected (has_two_texts team key) reply_shown reply_order (tables_of old.now.trees).reply
+    (rows_of x))
+reply_found rows_of team key =
+    finds office_schema reply_text 15 two_tests reply_columns reply_by _ (Text team ∷ Text key ∷ [])
+    (reply_selects (Text team ∷ Text key ∷ [])) values (has_two_texts team key) reply_shown reply_order
+    (reply_means team key) rows_of
+
+pub reply_plain : (s : Schema) → s ≡ office_schema → IsPlain (understood s reply_text)
+reply_plain = plain_in reply_text (reply_selects []).plain

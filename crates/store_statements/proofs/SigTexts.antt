@@ -1,0 +1,285 @@
+-- What the texts on `sig` make of it, and show of it.
+use Rattle.std.proofs.Common.{◌≡◌, ℕ, pos, List, [], ◌∷◌, ◌++◌, codes, false, not, Err, Result, refl, ◌∙◌}
+use Rattle.std.specs.Prelude.{IfOk, IsTrue, filter, length}
+use Rattle.sqlite.specs.declared.types.Value.TheVariants.{Null, Int, Text}
+use Rattle.sqlite.specs.declared.error.Error.{Error}
+use Rattle.sqlite.specs.declared.error.Error.TheVariants.{SqliteFailure}
+use Rattle.sqlite.specs.declared.error.ErrorCode.TheVariants.{TransactionState}
+use Rattle.sqlite.specs.Order.{Row}
+use Rattle.sqlite.specs.Term.{Term, lit, col}
+use Rattle.sqlite.specs.Tree.{Trees, put_row}
+use Rattle.sqlite.specs.Schema.{Schema}
+use Rattle.sqlite.specs.Source.TheVariants.{Values}
+use Rattle.sqlite.specs.Command.TheVariants.{Insert, Delete}
+use Rattle.sqlite.specs.Edit.{edit_of, edited, next_rowid}
+use Rattle.sqlite.specs.Rowids.TheVariants.{Chosen}
+use Rattle.sqlite.specs.Effect.{value_rows}
+use Rattle.sqlite.specs.Rows.{stamped}
+use Rattle.sqlite_value.specs.declared.keys.Key.{Key}
+use Rattle.sqlite_value.proofs.OrderLemmas.{then-Equal}
+use Rattle.sqlite_tied.specs.Compute.{everything}
+use Rattle.sqlite.specs.Listing.{understood}
+use Rattle.sqlite.specs.State.{State, ExecutesInside, Shown}
+use Rattle.sqlite.proofs.Callers.{IsPlain, command_of}
+use Rattle.store_tables.specs.Schema.{office_schema}
+use Rattle.store_tables.specs.Tables.{tables_of, values, IsOffice}
+use Rattle.store_tables.specs.Statements.{Makes}
+use Rattle.store_tables.specs.Selected.{IsFirstSelected, IsSelected}
+use Rattle.store_tables.proofs.Columns.{cast_int, cast_null, cast_number, column_is}
+use Rattle.store_tables.proofs.Changing.{appends, makes, removes}
+use Rattle.store_tables.proofs.Keeping.{plain_in}
+use Rattle.store_tables.proofs.TableIndices.{sig, sig_there, sig_only}
+use Rattle.store_tables.proofs.Selecting.{query}
+use Rattle.store_tables.proofs.Finding.{ascending, IsSelect, Means, finds}
+use Rattle.store_tables.proofs.TopRow.{IsTopSelect, descending, tops}
+use Rattle.store_statements.specs.declared.row.SigRow.{SigRow}
+use Rattle.store_statements.specs.Mux.{mux_number}
+use Rattle.store_statements.specs.Rows.{has_name_of, has_net_and_number, has_place_of, is_of_net, sig_row}
+use Rattle.store_statements.specs.Shown.{last_place_order, last_place_shown, sigs_order, sigs_shown}
+use Rattle.store_statements.proofs.Requested.{net_requested, numbered_requested, one_test, place_requested}
+use Rattle.store_statements.proofs.Requested.{signal_requested, signal_tests, three_tests, two_tests}
+use Rattle.store_tables.proofs.Counting.{IsCountSelect, counts}
+use Rattle.sqlite_sql.specs.Aggregate.{count}
+
+-- ---- insert_sig
+
+abbrev pub insert_text : List ℕ
+insert_text = codes "INSERT INTO sig VALUES (?1, ?2, ?3, ?4, ?5, ?6, ?7, ?8, ?9, ?10, ?11, ?12, ?13, ?14, ?15, ?16, ?17)"
+
+abbrev insert_terms : List Term
+insert_terms = lit Null ∷ col 0 0 ∷ col 0 1 ∷ col 0 2 ∷ col 0 3 ∷ col 0 4 ∷ col 0 5 ∷ col 0 6 ∷ col 0 7 ∷ col 0 8
+    ∷ col 0 9 ∷ col 0 10 ∷ col 0 11 ∷ col 0 12 ∷ col 0 13 ∷ col 0 14 ∷ col 0 15 ∷ col 0 16 ∷ []
+
+insert_is : command_of (understood office_schema insert_text) ≡ Insert 10 (Values insert_terms 18)
+unfolding understood everything office_schema
+insert_is = refl
+
+insert_plain : IsPlain (understood office_schema insert_text)
+unfolding understood everything office_schema
+insert_plain = (refl, refl)
+
+put : (row : SigRow) (db : Trees)
+    → edited db (edit_of db sig [] Chosen 0 (value_rows (stamped sig (sig_row row)) 18 1 insert_terms))
+    ≡ put_row (Int (next_rowid (db 20)) ∷ sig_row row) (db 20)
+put row db = rw (
+  cast_null,
+  cast_number row.number,
+  cast_number row.place,
+  cast_number row.start,
+  cast_number row.size,
+  cast_number row.motorola,
+  cast_number row.signed,
+  cast_number row.spn,
+  cast_number row.value_type,
+  cast_int (mux_number row.mux),
+) refl
+
+pub inserts : (row : SigRow) (old new : State) (r : Result ℕ Error) → IsOffice old.now
+    → (old.in_transaction ≡ false → r ≡ Err (SqliteFailure TransactionState))
+    → (IsTrue old.in_transaction → ExecutesInside 0 insert_text (sig_row row) old new r)
+    → IfOk r (λ rows. Makes (λ t. record t { sig = t.sig ++ sig_row row ∷ [] }) old new × (rows ≡ 1))
+unfolding office_schema
+inserts row old new r office ended ran =
+    makes insert_text (sig_row row) _ 1 old new r
+    (appends 10 sig sig_there sig_only insert_text (sig_row row) insert_terms 18 insert_is insert_plain (sig_row row)
+    refl (λ db. refl) (λ db shaped. put row db) old new office) ended ran
+
+-- ---- delete_sigs
+
+abbrev delete_text : List ℕ
+delete_text = codes "DELETE FROM sig WHERE net = ?1 AND number = ?2"
+
+delete_is : (params : Row) → command_of (understood office_schema delete_text)
+    ≡ Delete 10 (record { lets = []; body = query 20 two_tests (col 1 0 ∷ []) [] params })
+unfolding understood everything office_schema
+delete_is params = refl
+
+delete_plain : IsPlain (understood office_schema delete_text)
+unfolding understood everything office_schema
+delete_plain = (refl, refl)
+
+pub deletes : (net : List ℕ) (number : ℕ) (old new : State) (r : Result ℕ Error) → IsOffice old.now
+    → (old.in_transaction ≡ false → r ≡ Err (SqliteFailure TransactionState))
+    → (IsTrue old.in_transaction → ExecutesInside 0 delete_text (Text net ∷ Int (pos number) ∷ []) old new r)
+    → IfOk r (λ rows. Makes (λ t. record t { sig = filter (λ row. not (has_net_and_number net number row)) t.sig }) old
+    new × (rows ≡ length (filter (has_net_and_number net number) (tables_of old.now.trees).sig)))
+unfolding office_schema
+deletes net number old new r office ended ran =
+    makes delete_text (Text net ∷ Int (pos number) ∷ []) _ _ old new r
+    (removes 10 sig sig_there sig_only delete_text (Text net ∷ Int (pos number) ∷ []) two_tests
+    (delete_is (Text net ∷ Int (pos number) ∷ [])) delete_plain (has_net_and_number net number)
+    (numbered_requested net number) sig_there old new office) ended ran
+
+-- ---- delete_sig_at
+
+abbrev delete_at_text : List ℕ
+delete_at_text = codes "DELETE FROM sig WHERE net = ?1 AND number = ?2 AND place = ?3"
+
+delete_at_is : (params : Row) → command_of (understood office_schema delete_at_text)
+    ≡ Delete 10 (record { lets = []; body = query 20 three_tests (col 1 0 ∷ []) [] params })
+unfolding understood everything office_schema
+delete_at_is params = refl
+
+delete_at_plain : IsPlain (understood office_schema delete_at_text)
+unfolding understood everything office_schema
+delete_at_plain = (refl, refl)
+
+pub deletes_at : (net : List ℕ) (number place : ℕ) (old new : State) (r : Result ℕ Error) → IsOffice old.now
+    → (old.in_transaction ≡ false → r ≡ Err (SqliteFailure TransactionState))
+    → (IsTrue old.in_transaction → ExecutesInside 0 delete_at_text (Text net ∷ Int (pos number) ∷ Int (pos place) ∷ [])
+    old new r)
+    → IfOk r (λ rows. Makes (λ t. record t { sig = filter (λ row. not (has_place_of net number place row)) t.sig }) old
+    new × (rows ≡ length (filter (has_place_of net number place) (tables_of old.now.trees).sig)))
+unfolding office_schema
+deletes_at net number place old new r office ended ran =
+    makes delete_at_text (Text net ∷ Int (pos number) ∷ Int (pos place) ∷ []) _ _ old new r
+    (removes 10 sig sig_there sig_only delete_at_text (Text net ∷ Int (pos number) ∷ Int (pos place) ∷ []) three_tests
+    (delete_at_is (Text net ∷ Int (pos number) ∷ Int (pos place) ∷ [])) delete_at_plain
+    (has_place_of net number place) (place_requested net number place) sig_there old new office) ended ran
+
+-- ---- select_sigs
+
+abbrev pub sigs_text : List ℕ
+sigs_text = codes "SELECT place, name, start, size, motorola, signed, mux, factor, shift, least, most, unit, comment, spn, label FROM sig WHERE net = ?1 AND number = ?2 ORDER BY place"
+
+abbrev sigs_columns : List Term
+sigs_columns = col 1 3 ∷ col 1 4 ∷ col 1 5 ∷ col 1 6 ∷ col 1 7 ∷ col 1 8 ∷ col 1 9 ∷ col 1 10 ∷ col 1 11 ∷ col 1 12
+    ∷ col 1 13 ∷ col 1 14 ∷ col 1 15 ∷ col 1 16 ∷ col 1 17 ∷ []
+
+abbrev sigs_by : List (Term × Key)
+sigs_by = (col 1 3, ascending) ∷ []
+
+sigs_selects : (params : Row)
+    → IsSelect office_schema sigs_text 20 two_tests sigs_columns sigs_by
+    (codes "place" ∷ codes "name" ∷ codes "start" ∷ codes "size" ∷ codes "motorola" ∷ codes "signed" ∷ codes "mux"
+    ∷ codes "factor" ∷ codes "shift" ∷ codes "least" ∷ codes "most" ∷ codes "unit" ∷ codes "comment" ∷ codes "spn"
+    ∷ codes "label" ∷ []) params
+unfolding understood everything office_schema
+sigs_selects params = record { command = refl; listing = refl; plain = (refl, refl) }
+
+sigs_means : (net : List ℕ) (number : ℕ)
+    → Means values 20 two_tests sigs_columns sigs_by (Text net ∷ Int (pos number) ∷ []) (has_net_and_number net number)
+    sigs_shown sigs_order
+sigs_means net number = record {
+  tests_same = numbered_requested net number;
+  shows_same = λ r. rw (
+    column_is r 2,
+    column_is r 3,
+    column_is r 4,
+    column_is r 5,
+    column_is r 6,
+    column_is r 7,
+    column_is r 8,
+    column_is r 9,
+    column_is r 10,
+    column_is r 11,
+    column_is r 12,
+    column_is r 13,
+    column_is r 14,
+    column_is r 15,
+    column_is r 16,
+  ) refl;
+  orders_same = λ x y. then-Equal _ ∙ rw (column_is x 2, column_is y 2) refl;
+}
+
+pub sigs_found : {X : Type 0} (rows_of : X → List Row) (net : List ℕ) (number : ℕ) (old new : State)
+    (r : Result X Error) → old.now.schema ≡ office_schema
+    → IfOk r (λ x. Shown sigs_text (Text net ∷ Int (pos number) ∷ []) old new (rows_of x))
+    → IfOk r (λ x. IsSelected (has_net_and_number net number) sigs_shown sigs_order (tables_of old.now.trees).sig
+    (rows_of x))
+sigs_found rows_of net number =
+    finds office_schema sigs_text 20 two_tests sigs_columns sigs_by _ (Text net ∷ Int (pos number) ∷ [])
+    (sigs_selects (Text net ∷ Int (pos number) ∷ [])) values (has_net_and_number net number) sigs_shown sigs_order
+    (sigs_means net number) rows_of
+
+pub sigs_plain : (s : Schema) → s ≡ office_schema → IsPlain (understood s sigs_text)
+sigs_plain = plain_in sigs_text (sigs_selects []).plain
+
+-- ---- select_sigs_named
+
+abbrev pub named_text : List ℕ
+named_text = codes "SELECT place, name, start, size, motorola, signed, mux, factor, shift, least, most, unit, comment, spn, label FROM sig WHERE net = ?1 AND number = ?2 AND name = ?3 ORDER BY place"
+
+named_selects : (params : Row) → IsSelect office_schema named_text 20 signal_tests sigs_columns sigs_by
+    (codes "place" ∷ codes "name" ∷ codes "start" ∷ codes "size" ∷ codes "motorola" ∷ codes "signed" ∷ codes "mux"
+    ∷ codes "factor" ∷ codes "shift" ∷ codes "least" ∷ codes "most" ∷ codes "unit" ∷ codes "comment" ∷ codes "spn"
+    ∷ codes "label" ∷ []) params
+unfolding understood everything office_schema
+named_selects params = record { command = refl; listing = refl; plain = (refl, refl) }
+
+named_means : (net : List ℕ) (number : ℕ) (name : List ℕ)
+    → Means values 20 signal_tests sigs_columns sigs_by (Text net ∷ Int (pos number) ∷ Text name ∷ [])
+    (has_name_of net number name) sigs_shown sigs_order
+named_means net number name = record {
+  tests_same = signal_requested net number name;
+  shows_same = (sigs_means net number).shows_same;
+  orders_same = (sigs_means net number).orders_same;
+}
+
+pub named_found : {X : Type 0} (rows_of : X → List Row) (net : List ℕ) (number : ℕ) (name : List ℕ) (old new : State)
+    (r : Result X Error) → old.now.schema ≡ office_schema
+    → IfOk r (λ x. Shown named_text (Text net ∷ Int (pos number) ∷ Text name ∷ []) old new (rows_of x))
+    → IfOk r (λ x. IsSelected (has_name_of net number name) sigs_shown sigs_order (tables_of old.now.trees).sig
+    (rows_of x))
+named_found rows_of net number name =
+    finds office_schema named_text 20 signal_tests sigs_columns sigs_by _ (Text net ∷ Int (pos number) ∷ Text name ∷ [])
+    (named_selects (Text net ∷ Int (pos number) ∷ Text name ∷ [])) values (has_name_of net number name) sigs_shown
+    sigs_order (named_means net number name) rows_of
+
+pub named_plain : (s : Schema) → s ≡ office_schema → IsPlain (understood s named_text)
+named_plain = plain_in named_text (named_selects []).plain
+
+-- ---- select_last_place
+
+abbrev pub last_place_text : List ℕ
+last_place_text = codes "SELECT place FROM sig WHERE net = ?1 AND number = ?2 ORDER BY place DESC LIMIT 1"
+
+abbrev last_place_by : List (Term × Key)
+last_place_by = (col 1 3, descending) ∷ []
+
+last_place_selects : (params : Row)
+    → IsTopSelect last_place_text 20 two_tests (col 1 3 ∷ []) last_place_by (codes "place" ∷ []) params
+unfolding understood everything office_schema
+last_place_selects params = record { command = refl; listing = refl; plain = (refl, refl) }
+
+last_place_means : (net : List ℕ) (number : ℕ)
+    → Means values 20 two_tests (col 1 3 ∷ []) last_place_by (Text net ∷ Int (pos number) ∷ [])
+    (has_net_and_number net number) last_place_shown last_place_order
+last_place_means net number = record {
+  tests_same = numbered_requested net number;
+  shows_same = λ r. rw (column_is r 2) refl;
+  orders_same = λ x y. then-Equal _ ∙ rw (column_is x 2, column_is y 2) refl;
+}
+
+pub last_place_found : {X : Type 0} (rows_of : X → List Row) (net : List ℕ) (number : ℕ) (old new : State)
+    (r : Result X Error) → old.now.schema ≡ office_schema
+    → IfOk r (λ x. Shown last_place_text (Text net ∷ Int (pos number) ∷ []) old new (rows_of x))
+    → IfOk r (λ x. IsFirstSelected (has_net_and_number net number) last_place_shown last_place_order
+    (tables_of old.now.trees).sig (rows_of x))
+last_place_found rows_of net number =
+    tops last_place_text 20 two_tests (col 1 3 ∷ []) last_place_by (codes "place" ∷ [])
+    (Text net ∷ Int (pos number) ∷ [])
+    (last_place_selects (Text net ∷ Int (pos number) ∷ [])) values (has_net_and_number net number) last_place_shown
+    last_place_order (last_place_means net number) rows_of
+
+pub last_place_plain : (s : Schema) → s ≡ office_schema → IsPlain (understood s last_place_text)
+last_place_plain = plain_in last_place_text (last_place_selects []).plain
+
+-- ---- count_sigs
+
+abbrev pub count_text : List ℕ
+count_text = codes "SELECT count(*) FROM sig WHERE net = ?1"
+
+count_selects : (params : Row) → IsCountSelect count_text 20 one_test params
+unfolding understood everything office_schema
+count_selects params = record { command = refl; listing = refl; plain = (refl, refl) }
+
+pub counted_sigs : {X : Type 0} (rows_of : X → List Row) (net : List ℕ) (old new : State) (r : Result X Error)
+    → old.now.schema ≡ office_schema
+    → IfOk r (λ x. Shown count_text (Text net ∷ []) old new (rows_of x))
+    → IfOk r (λ x. rows_of x ≡ (count (length (filter (is_of_net net) (tables_of old.now.trees).sig)) ∷ []) ∷ [])
+counted_sigs rows_of net = counts count_text 20 one_test (Text net ∷ []) (count_selects (Text net ∷ [])) (is_of_net net)
+    (net_requested net) rows_of
+
+pub count_plain : (s : Schema) → s ≡ office_schema → IsPlain (understood s count_text)
+count_plain = plain_in count_text (count_selects []).plain

@@ -1,0 +1,185 @@
+-- What the texts on `sigvalue` make of it, and show of it.
+use Rattle.std.proofs.Common.{◌≡◌, ℕ, pos, List, [], ◌∷◌, ◌++◌, codes, false, not, Err, Result, ap, refl, ◌∙◌}
+use Rattle.std.specs.Ordering.{ordering_then}
+use Rattle.std.specs.Prelude.{IfOk, IsTrue, filter, length}
+use Rattle.sqlite.specs.declared.types.Value.TheVariants.{Null, Int, Text}
+use Rattle.sqlite.specs.declared.error.Error.{Error}
+use Rattle.sqlite.specs.declared.error.Error.TheVariants.{SqliteFailure}
+use Rattle.sqlite.specs.declared.error.ErrorCode.TheVariants.{TransactionState}
+use Rattle.sqlite.specs.Order.{Row, column, value_cmp}
+use Rattle.sqlite.specs.Term.{Term, lit, col}
+use Rattle.sqlite.specs.Tree.{Trees, put_row}
+use Rattle.sqlite.specs.Schema.{Schema}
+use Rattle.sqlite.specs.Source.TheVariants.{Values}
+use Rattle.sqlite.specs.Command.TheVariants.{Insert, Delete}
+use Rattle.sqlite.specs.Edit.{edit_of, edited, next_rowid}
+use Rattle.sqlite.specs.Rowids.TheVariants.{Chosen}
+use Rattle.sqlite.specs.Effect.{value_rows}
+use Rattle.sqlite.specs.Rows.{stamped}
+use Rattle.sqlite_value.specs.declared.keys.Key.{Key}
+use Rattle.sqlite_value.proofs.OrderLemmas.{then-Equal}
+use Rattle.sqlite_tied.specs.Compute.{everything}
+use Rattle.sqlite.specs.Listing.{understood}
+use Rattle.sqlite.specs.State.{State, ExecutesInside, Shown}
+use Rattle.sqlite.proofs.Callers.{IsPlain, command_of}
+use Rattle.store_tables.specs.Schema.{office_schema}
+use Rattle.store_tables.specs.Tables.{tables_of, values, IsOffice}
+use Rattle.store_tables.specs.Statements.{Makes}
+use Rattle.store_tables.specs.Selected.{IsSelected}
+use Rattle.store_tables.proofs.Columns.{cast_null, cast_number, column_is}
+use Rattle.store_tables.proofs.Changing.{appends, makes, removes}
+use Rattle.store_tables.proofs.Keeping.{plain_in}
+use Rattle.store_tables.proofs.TableIndices.{sigvalue, sigvalue_there, sigvalue_only}
+use Rattle.store_tables.proofs.Selecting.{query}
+use Rattle.store_tables.proofs.Finding.{ascending, IsSelect, Means, finds}
+use Rattle.store_statements.specs.declared.row.SigValueRow.{SigValueRow}
+use Rattle.store_statements.specs.Rows.{has_net_and_number, has_place_of, is_of_net, sigvalue_row}
+use Rattle.store_statements.specs.Shown.{sigvalues_order, sigvalues_shown}
+use Rattle.store_statements.proofs.Requested.{net_requested, numbered_requested, one_test, place_requested, three_tests}
+use Rattle.store_statements.proofs.Requested.{two_tests}
+use Rattle.store_tables.proofs.Counting.{IsCountSelect, counts}
+use Rattle.sqlite_sql.specs.Aggregate.{count}
+
+-- ---- insert_sigvalue
+
+abbrev insert_text : List ℕ
+insert_text = codes "INSERT INTO sigvalue VALUES (?1, ?2, ?3, ?4, ?5, ?6)"
+
+abbrev insert_terms : List Term
+insert_terms = lit Null ∷ col 0 0 ∷ col 0 1 ∷ col 0 2 ∷ col 0 3 ∷ col 0 4 ∷ col 0 5 ∷ []
+
+insert_is : command_of (understood office_schema insert_text) ≡ Insert 12 (Values insert_terms 7)
+unfolding understood everything office_schema
+insert_is = refl
+
+insert_plain : IsPlain (understood office_schema insert_text)
+unfolding understood everything office_schema
+insert_plain = (refl, refl)
+
+put : (row : SigValueRow) (db : Trees)
+    → edited db (edit_of db sigvalue [] Chosen 0 (value_rows (stamped sigvalue (sigvalue_row row)) 7 1 insert_terms))
+    ≡ put_row (Int (next_rowid (db 25)) ∷ sigvalue_row row) (db 25)
+put row db = rw (cast_null, cast_number row.number, cast_number row.place, cast_number row.index) refl
+
+pub inserts : (row : SigValueRow) (old new : State) (r : Result ℕ Error) → IsOffice old.now
+    → (old.in_transaction ≡ false → r ≡ Err (SqliteFailure TransactionState))
+    → (IsTrue old.in_transaction → ExecutesInside 0 insert_text (sigvalue_row row) old new r)
+    → IfOk r (λ rows. Makes (λ t. record t { sigvalue = t.sigvalue ++ sigvalue_row row ∷ [] }) old new × (rows ≡ 1))
+unfolding office_schema
+inserts row old new r office ended ran =
+    makes insert_text (sigvalue_row row) _ 1 old new r
+    (appends 12 sigvalue sigvalue_there sigvalue_only insert_text (sigvalue_row row) insert_terms 7 insert_is
+    insert_plain (sigvalue_row row) refl (λ db. refl) (λ db shaped. put row db) old new office) ended ran
+
+-- ---- delete_sigvalues
+
+abbrev delete_text : List ℕ
+delete_text = codes "DELETE FROM sigvalue WHERE net = ?1 AND number = ?2"
+
+delete_is : (params : Row) → command_of (understood office_schema delete_text)
+    ≡ Delete 12 (record { lets = []; body = query 25 two_tests (col 1 0 ∷ []) [] params })
+unfolding understood everything office_schema
+delete_is params = refl
+
+delete_plain : IsPlain (understood office_schema delete_text)
+unfolding understood everything office_schema
+delete_plain = (refl, refl)
+
+pub deletes : (net : List ℕ) (number : ℕ) (old new : State) (r : Result ℕ Error) → IsOffice old.now
+    → (old.in_transaction ≡ false → r ≡ Err (SqliteFailure TransactionState))
+    → (IsTrue old.in_transaction → ExecutesInside 0 delete_text (Text net ∷ Int (pos number) ∷ []) old new r)
+    → IfOk r (λ rows. Makes (λ t. record t
+    { sigvalue = filter (λ row. not (has_net_and_number net number row)) t.sigvalue }) old new
+    × (rows ≡ length (filter (has_net_and_number net number) (tables_of old.now.trees).sigvalue)))
+unfolding office_schema
+deletes net number old new r office ended ran =
+    makes delete_text (Text net ∷ Int (pos number) ∷ []) _ _ old new r
+    (removes 12 sigvalue sigvalue_there sigvalue_only delete_text (Text net ∷ Int (pos number) ∷ []) two_tests
+    (delete_is (Text net ∷ Int (pos number) ∷ [])) delete_plain (has_net_and_number net number)
+    (numbered_requested net number) sigvalue_there old new office) ended ran
+
+-- ---- delete_sigvalues_at
+
+abbrev delete_at_text : List ℕ
+delete_at_text = codes "DELETE FROM sigvalue WHERE net = ?1 AND number = ?2 AND place = ?3"
+
+delete_at_is : (params : Row) → command_of (understood office_schema delete_at_text)
+    ≡ Delete 12 (record { lets = []; body = query 25 three_tests (col 1 0 ∷ []) [] params })
+unfolding understood everything office_schema
+delete_at_is params = refl
+
+delete_at_plain : IsPlain (understood office_schema delete_at_text)
+unfolding understood everything office_schema
+delete_at_plain = (refl, refl)
+
+pub deletes_at : (net : List ℕ) (number place : ℕ) (old new : State) (r : Result ℕ Error) → IsOffice old.now
+    → (old.in_transaction ≡ false → r ≡ Err (SqliteFailure TransactionState))
+    → (IsTrue old.in_transaction → ExecutesInside 0 delete_at_text (Text net ∷ Int (pos number) ∷ Int (pos place) ∷ [])
+    old new r)
+    → IfOk r (λ rows. Makes (λ t. record t
+    { sigvalue = filter (λ row. not (has_place_of net number place row)) t.sigvalue }) old new
+    × (rows ≡ length (filter (has_place_of net number place) (tables_of old.now.trees).sigvalue)))
+unfolding office_schema
+deletes_at net number place old new r office ended ran =
+    makes delete_at_text (Text net ∷ Int (pos number) ∷ Int (pos place) ∷ []) _ _ old new r
+    (removes 12 sigvalue sigvalue_there sigvalue_only delete_at_text
+    (Text net ∷ Int (pos number) ∷ Int (pos place) ∷ []) three_tests
+    (delete_at_is (Text net ∷ Int (pos number) ∷ Int (pos place) ∷ [])) delete_at_plain
+    (has_place_of net number place) (place_requested net number place) sigvalue_there old new office) ended ran
+
+-- ---- select_sigvalues
+
+abbrev pub sigvalues_text : List ℕ
+sigvalues_text = codes "SELECT place, value, words FROM sigvalue WHERE net = ?1 AND number = ?2 ORDER BY place, seat"
+
+abbrev sigvalues_columns : List Term
+sigvalues_columns = col 1 3 ∷ col 1 5 ∷ col 1 6 ∷ []
+
+abbrev sigvalues_by : List (Term × Key)
+sigvalues_by = (col 1 3, ascending) ∷ (col 1 4, ascending) ∷ []
+
+sigvalues_selects : (params : Row) → IsSelect office_schema sigvalues_text 25 two_tests sigvalues_columns sigvalues_by
+    (codes "place" ∷ codes "value" ∷ codes "words" ∷ []) params
+unfolding understood everything office_schema
+sigvalues_selects params = record { command = refl; listing = refl; plain = (refl, refl) }
+
+sigvalues_means : (net : List ℕ) (number : ℕ)
+    → Means values 25 two_tests sigvalues_columns sigvalues_by (Text net ∷ Int (pos number) ∷ [])
+    (has_net_and_number net number) sigvalues_shown sigvalues_order
+sigvalues_means net number = record {
+  tests_same = numbered_requested net number;
+  shows_same = λ r. rw (column_is r 2, column_is r 4, column_is r 5) refl;
+  orders_same = λ x y. ap (ordering_then (value_cmp (column x 3) (column y 3))) (then-Equal _)
+      ∙ rw (column_is x 2, column_is y 2, column_is x 3, column_is y 3) refl;
+}
+
+pub sigvalues_found : {X : Type 0} (rows_of : X → List Row) (net : List ℕ) (number : ℕ) (old new : State)
+    (r : Result X Error) → old.now.schema ≡ office_schema
+    → IfOk r (λ x. Shown sigvalues_text (Text net ∷ Int (pos number) ∷ []) old new (rows_of x))
+    → IfOk r (λ x. IsSelected (has_net_and_number net number) sigvalues_shown sigvalues_order
+    (tables_of old.now.trees).sigvalue (rows_of x))
+sigvalues_found rows_of net number = finds office_schema sigvalues_text 25 two_tests sigvalues_columns sigvalues_by _
+    (Text net ∷ Int (pos number) ∷ []) (sigvalues_selects (Text net ∷ Int (pos number) ∷ [])) values
+    (has_net_and_number net number) sigvalues_shown sigvalues_order (sigvalues_means net number) rows_of
+
+pub sigvalues_plain : (s : Schema) → s ≡ office_schema → IsPlain (understood s sigvalues_text)
+sigvalues_plain = plain_in sigvalues_text (sigvalues_selects []).plain
+
+-- ---- count_sigvalues
+
+abbrev pub count_text : List ℕ
+count_text = codes "SELECT count(*) FROM sigvalue WHERE net = ?1"
+
+count_selects : (params : Row) → IsCountSelect count_text 25 one_test params
+unfolding understood everything office_schema
+count_selects params = record { command = refl; listing = refl; plain = (refl, refl) }
+
+pub counted_sigvalues : {X : Type 0} (rows_of : X → List Row) (net : List ℕ) (old new : State) (r : Result X Error)
+    → old.now.schema ≡ office_schema
+    → IfOk r (λ x. Shown count_text (Text net ∷ []) old new (rows_of x))
+    → IfOk r (λ x. rows_of x ≡ (count (length (filter (is_of_net net) (tables_of old.now.trees).sigvalue)) ∷ []) ∷ [])
+counted_sigvalues rows_of net = counts count_text 25 one_test (Text net ∷ []) (count_selects (Text net ∷ []))
+    (is_of_net net) (net_requested net) rows_of
+
+pub count_plain : (s : Schema) → s ≡ office_schema → IsPlain (understood s count_text)
+count_plain = plain_in count_text (count_selects []).plain

@@ -1,0 +1,125 @@
+-- What the texts on `spn` make of it, and show of it.
+use Rattle.std.proofs.Common.{◌≡◌, ℕ, pos, List, [], ◌∷◌, codes, false, not, Err, Result, refl}
+use Rattle.std.specs.Prelude.{IfOk, IsTrue, filter, length}
+use Rattle.sqlite.specs.declared.types.Value.TheVariants.{Null, Int}
+use Rattle.sqlite.specs.declared.error.Error.{Error}
+use Rattle.sqlite.specs.declared.error.Error.TheVariants.{SqliteFailure}
+use Rattle.sqlite.specs.declared.error.ErrorCode.TheVariants.{TransactionState}
+use Rattle.sqlite.specs.Order.{Row}
+use Rattle.sqlite.specs.Term.{Term, lit, col}
+use Rattle.sqlite.specs.Tree.{Trees, put_row}
+use Rattle.sqlite.specs.Schema.{Schema}
+use Rattle.sqlite.specs.Source.TheVariants.{Values}
+use Rattle.sqlite.specs.Command.TheVariants.{Insert, Delete}
+use Rattle.sqlite.specs.Edit.{edit_of, edited}
+use Rattle.sqlite.specs.Rowids.TheVariants.{Chosen}
+use Rattle.sqlite.specs.Effect.{value_rows}
+use Rattle.sqlite.specs.Rows.{stamped}
+use Rattle.sqlite_value.specs.declared.keys.Key.{Key}
+use Rattle.sqlite_value.proofs.OrderLemmas.{then-Equal}
+use Rattle.sqlite_tied.specs.Compute.{everything}
+use Rattle.sqlite.specs.Listing.{understood}
+use Rattle.sqlite.specs.State.{State, ExecutesInside, Shown}
+use Rattle.sqlite.proofs.Callers.{IsPlain, command_of}
+use Rattle.store_tables.specs.Schema.{office_schema}
+use Rattle.store_tables.specs.Tables.{tables_of, keyed_values, IsOffice}
+use Rattle.store_tables.specs.Statements.{Makes}
+use Rattle.store_tables.specs.Selected.{IsSelected}
+use Rattle.store_tables.proofs.Columns.{cast_null, cast_number}
+use Rattle.store_tables.proofs.Changing.{makes, puts, removes}
+use Rattle.store_tables.proofs.Keeping.{plain_in}
+use Rattle.store_tables.proofs.TableIndices.{spn, spn_there, spn_only}
+use Rattle.store_tables.proofs.Selecting.{query}
+use Rattle.store_tables.proofs.Finding.{ascending, IsSelect, Means, finds}
+use Rattle.store_statements.specs.Rows.{is_any, is_number, spn_row}
+use Rattle.store_statements.specs.Shown.{spns_order, spns_shown}
+use Rattle.store_statements.proofs.Requested.{key_test, number_requested_alone}
+
+-- ---- insert_spn
+
+abbrev insert_text : List ℕ
+insert_text = codes "INSERT INTO spn VALUES (?1)"
+
+abbrev insert_terms : List Term
+insert_terms = col 0 0 ∷ lit Null ∷ []
+
+insert_is : command_of (understood office_schema insert_text) ≡ Insert 5 (Values insert_terms 2)
+unfolding understood everything office_schema
+insert_is = refl
+
+insert_plain : IsPlain (understood office_schema insert_text)
+unfolding understood everything office_schema
+insert_plain = (refl, refl)
+
+put : (number : ℕ) (db : Trees)
+    → edited db (edit_of db spn [] Chosen 0 (value_rows (stamped spn (spn_row number)) 2 1 insert_terms))
+    ≡ put_row (Int (pos number) ∷ Null ∷ []) (db 10)
+put number db = rw (cast_null, cast_number number) refl
+
+pub inserts : (number : ℕ) (old new : State) (r : Result ℕ Error) → IsOffice old.now
+    → (old.in_transaction ≡ false → r ≡ Err (SqliteFailure TransactionState))
+    → (IsTrue old.in_transaction → ExecutesInside 0 insert_text (spn_row number) old new r)
+    → IfOk r (λ rows. Makes (λ t. record t { spn = put_row (spn_row number) t.spn }) old new × (rows ≡ 1))
+unfolding office_schema
+inserts number old new r office ended ran =
+    makes insert_text (spn_row number) _ 1 old new r
+    (puts 5 spn spn_there spn_only insert_text (spn_row number) insert_terms 2 insert_is insert_plain (pos number) []
+    refl (λ db. refl) (put number) old new office) ended ran
+
+-- ---- delete_spn
+
+abbrev delete_spn_text : List ℕ
+delete_spn_text = codes "DELETE FROM spn WHERE number = ?1"
+
+delete_spn_is : (params : Row) → command_of (understood office_schema delete_spn_text)
+    ≡ Delete 5 (record { lets = []; body = query 10 key_test (col 1 0 ∷ []) [] params })
+unfolding understood everything office_schema
+delete_spn_is params = refl
+
+delete_spn_plain : IsPlain (understood office_schema delete_spn_text)
+unfolding understood everything office_schema
+delete_spn_plain = (refl, refl)
+
+pub delete_spns : (number : ℕ) (old new : State) (r : Result ℕ Error) → IsOffice old.now
+    → (old.in_transaction ≡ false → r ≡ Err (SqliteFailure TransactionState))
+    → (IsTrue old.in_transaction → ExecutesInside 0 delete_spn_text (Int (pos number) ∷ []) old new r)
+    → IfOk r (λ rows. Makes (λ t. record t { spn = filter (λ row. not (is_number number row)) t.spn }) old new
+    × (rows ≡ length (filter (is_number number) (tables_of old.now.trees).spn)))
+unfolding office_schema
+delete_spns number old new r office ended ran =
+    makes delete_spn_text (Int (pos number) ∷ []) _ _ old new r
+    (removes 5 spn spn_there spn_only delete_spn_text (Int (pos number) ∷ []) key_test
+    (delete_spn_is (Int (pos number) ∷ [])) delete_spn_plain (is_number number) (number_requested_alone number)
+    spn_there old new office) ended ran
+
+-- ---- select_spns
+
+abbrev pub spns_text : List ℕ
+spns_text = codes "SELECT number FROM spn ORDER BY number"
+
+abbrev spns_columns : List Term
+spns_columns = col 1 0 ∷ []
+
+abbrev spns_by : List (Term × Key)
+spns_by = (col 1 0, ascending) ∷ []
+
+spns_selects : (params : Row) → IsSelect office_schema spns_text 10 [] spns_columns spns_by (codes "number" ∷ []) params
+unfolding understood everything office_schema
+spns_selects params = record { command = refl; listing = refl; plain = (refl, refl) }
+
+spns_means : Means keyed_values 10 [] spns_columns spns_by [] is_any spns_shown spns_order
+spns_means = record {
+  tests_same = λ r. refl;
+  shows_same = λ r. refl;
+  orders_same = λ x y. then-Equal _;
+}
+
+pub spns_found : {X : Type 0} (rows_of : X → List Row) (old new : State) (r : Result X Error)
+    → old.now.schema ≡ office_schema
+    → IfOk r (λ x. Shown spns_text [] old new (rows_of x))
+    → IfOk r (λ x. IsSelected is_any spns_shown spns_order (tables_of old.now.trees).spn (rows_of x))
+spns_found rows_of = finds office_schema spns_text 10 [] spns_columns spns_by _ [] (spns_selects []) keyed_values is_any
+    spns_shown spns_order spns_means rows_of
+
+pub spns_plain : (s : Schema) → s ≡ office_schema → IsPlain (understood s spns_text)
+spns_plain = plain_in spns_text (spns_selects []).plain

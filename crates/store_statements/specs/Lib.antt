@@ -1,0 +1,4 @@
+pub mod Mux
+pub mod Rows
+pub mod Shown
+pub mod Alone

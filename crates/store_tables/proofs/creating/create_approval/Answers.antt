@@ -1,0 +1,16 @@
+use Rattle.sqlite.specs.Held.{state}
+use Rattle.store_tables.specs.Schema.{schema_6, approval}
+use Rattle.store_tables.proofs.Making.{makes_approval, counts, approval_text, approval_defined}
+use Rattle.store_tables.proofs.creating.create_approval.Goals as goal
+
+pub returns-clause-made : goal.returns-clause-made
+returns-clause-made g c clean made =
+    makes_approval (state g.S.Store c.args.tx.now.conn.now) (state g.S.Store c.execute.new.self.conn.now)
+    c.execute.result made.empty.schema_is made.empty.empty (λ no. (c.execute.ensures.ended no).0)
+    (c.execute.ensures.runs clean)
+
+pub returns-clause-rows : goal.returns-clause-rows
+returns-clause-rows g c clean made =
+    counts schema_6 approval_text approval approval_defined (state g.S.Store c.args.tx.now.conn.now)
+    (state g.S.Store c.execute.new.self.conn.now) c.execute.result made.empty.schema_is made.empty.empty
+    (λ no. (c.execute.ensures.ended no).0) (c.execute.ensures.runs clean)

@@ -1,0 +1,16 @@
+use Rattle.sqlite.specs.Held.{state}
+use Rattle.store_tables.specs.Schema.{schema_2, message}
+use Rattle.store_tables.proofs.Making.{makes_message, counts, message_text, message_defined}
+use Rattle.store_tables.proofs.creating.create_message.Goals as goal
+
+pub returns-clause-made : goal.returns-clause-made
+returns-clause-made g c clean made =
+    makes_message (state g.S.Store c.args.tx.now.conn.now) (state g.S.Store c.execute.new.self.conn.now)
+    c.execute.result made.empty.schema_is made.empty.empty (λ no. (c.execute.ensures.ended no).0)
+    (c.execute.ensures.runs clean)
+
+pub returns-clause-rows : goal.returns-clause-rows
+returns-clause-rows g c clean made =
+    counts schema_2 message_text message message_defined (state g.S.Store c.args.tx.now.conn.now)
+    (state g.S.Store c.execute.new.self.conn.now) c.execute.result made.empty.schema_is made.empty.empty
+    (λ no. (c.execute.ensures.ended no).0) (c.execute.ensures.runs clean)

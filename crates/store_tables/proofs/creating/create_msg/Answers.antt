@@ -1,0 +1,21 @@
+use Rattle.sqlite.specs.Held.{state}
+use Rattle.store_tables.specs.Schema.{schema_9, msg}
+use Rattle.store_tables.proofs.Growing.{grows_msg}
+use Rattle.store_tables.proofs.Making.{makes_msg, counts, msg_text, msg_defined}
+use Rattle.store_tables.proofs.creating.create_msg.Goals as goal
+
+pub returns-clause-made : goal.returns-clause-made
+returns-clause-made g c clean made =
+    makes_msg (state g.S.Store c.args.tx.now.conn.now) (state g.S.Store c.execute.new.self.conn.now) c.execute.result
+    made.empty.schema_is made.empty.empty (λ no. (c.execute.ensures.ended no).0) (c.execute.ensures.runs clean)
+
+pub returns-clause-rows : goal.returns-clause-rows
+returns-clause-rows g c clean made =
+    counts schema_9 msg_text msg msg_defined (state g.S.Store c.args.tx.now.conn.now)
+    (state g.S.Store c.execute.new.self.conn.now) c.execute.result made.empty.schema_is made.empty.empty
+    (λ no. (c.execute.ensures.ended no).0) (c.execute.ensures.runs clean)
+
+pub returns-clause-grown : goal.returns-clause-grown
+returns-clause-grown g c clean was =
+    grows_msg (state g.S.Store c.args.tx.now.conn.now) (state g.S.Store c.execute.new.self.conn.now) c.execute.result
+    was (λ no. (c.execute.ensures.ended no).0) (c.execute.ensures.runs clean)

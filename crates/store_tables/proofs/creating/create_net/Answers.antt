@@ -1,0 +1,15 @@
+use Rattle.sqlite.specs.Held.{state}
+use Rattle.store_tables.specs.Schema.{schema_1, net}
+use Rattle.store_tables.proofs.Making.{makes_net, counts, net_text, net_defined}
+use Rattle.store_tables.proofs.creating.create_net.Goals as goal
+
+pub returns-clause-made : goal.returns-clause-made
+returns-clause-made g c clean made =
+    makes_net (state g.S.Store c.args.tx.now.conn.now) (state g.S.Store c.execute.new.self.conn.now) c.execute.result
+    made.empty.schema_is made.empty.empty (λ no. (c.execute.ensures.ended no).0) (c.execute.ensures.runs clean)
+
+pub returns-clause-rows : goal.returns-clause-rows
+returns-clause-rows g c clean made =
+    counts schema_1 net_text net net_defined (state g.S.Store c.args.tx.now.conn.now)
+    (state g.S.Store c.execute.new.self.conn.now) c.execute.result made.empty.schema_is made.empty.empty
+    (λ no. (c.execute.ensures.ended no).0) (c.execute.ensures.runs clean)

@@ -1,0 +1,6 @@
+pub mod Schema
+pub mod Tables
+pub mod Statements
+pub mod Selected
+pub mod Comparing
+pub mod Frames

@@ -1,6 +1,0 @@
-use Rattle.std.proofs.Common.{take}
-use Rattle.views.specs.Held.{IsHeldBy}
-use Rattle.views.proofs.text.held_by.Given as goal
-
-abbrev pub invariant-loop-signal : goal.invariant-loop-signal
-invariant-loop-signal l = IsHeldBy (record { some = l.some; several = l.several }) (take l.signal-index l.signals)
